@@ -1,0 +1,127 @@
+-- The image format, version 1: a header of 24 bytes, the code, the data, and then nothing. Numbers are u32, the lowest byte first.
+--     0 `CYI1`   4 version   8 entry   12 code length C   16 data length D   20 arena pages   24 C bytes of code, D bytes of data
+use Rattle.std.specs.Prelude.{◌≡◌, ◌≢◌, ℕ, ◌+◌, ◌*◌, ◌/◌, ◌%◌, ◌^◌, ◌<◌, ◌≤◌, ◌⊎◌, List, [], ◌∷◌, ◌++◌, length, take, drop, slice_index}
+
+-- what an image is made of: the entry's offset in the code, the code, the data, and the pages of the arena
+pub record Contents : Type 0 where
+  pub entry : ℕ
+  pub code : List ℕ
+  pub statics : List ℕ
+  pub pages : ℕ
+
+-- the four bytes of a number, the lowest first
+abbrev pub u32_bytes : ℕ → List ℕ
+u32_bytes n = n % 2 ^ 8 ∷ n / 2 ^ 8 % 2 ^ 8 ∷ n / 2 ^ 16 % 2 ^ 8 ∷ n / 2 ^ 24 ∷ []
+
+-- `CYI1`
+abbrev pub magic : List ℕ
+magic = 67 ∷ 89 ∷ 73 ∷ 49 ∷ []
+
+abbrev pub header_length : ℕ
+header_length = 24
+
+abbrev pub code_limit : ℕ
+code_limit = 1048576
+
+abbrev pub data_limit : ℕ
+data_limit = 1048576
+
+abbrev pub page_limit : ℕ
+page_limit = 4096
+
+-- Limits: there is code, in whole words, at most a megabyte of it and of data, and 1 to 4,096 pages; the entry is a word of the code.
+pub record Fits (parts : Contents) : Type 0 where
+  pub some_code : 0 < length parts.code
+  pub code_within : length parts.code ≤ code_limit
+  pub whole_words : length parts.code % 4 ≡ 0
+  pub data_within : length parts.statics ≤ data_limit
+  pub some_pages : 0 < parts.pages
+  pub pages_within : parts.pages ≤ page_limit
+  pub entry_aligned : parts.entry % 4 ≡ 0
+  pub entry_within : parts.entry < length parts.code
+
+-- The bytes are an image of these parts: the fields one after the other, within the limits.
+pub record IsImage (bytes : List ℕ) (parts : Contents) : Type 0 where
+  pub laid : bytes ≡ magic ++ u32_bytes 1 ++ u32_bytes parts.entry ++ u32_bytes (length parts.code) ++ u32_bytes (length parts.statics) ++ u32_bytes parts.pages ++ parts.code ++ parts.statics
+  pub fits : Fits parts
+
+-- the number in the four bytes from an offset on
+abbrev pub field : List ℕ → ℕ → ℕ
+field bytes at = slice_index bytes at + slice_index bytes (at + 1) * 2 ^ 8 + slice_index bytes (at + 2) * 2 ^ 16 + slice_index bytes (at + 3) * 2 ^ 24
+
+abbrev pub version_field : List ℕ → ℕ
+version_field bytes = field bytes 4
+
+abbrev pub entry_field : List ℕ → ℕ
+entry_field bytes = field bytes 8
+
+abbrev pub code_field : List ℕ → ℕ
+code_field bytes = field bytes 12
+
+abbrev pub data_field : List ℕ → ℕ
+data_field bytes = field bytes 16
+
+abbrev pub pages_field : List ℕ → ℕ
+pages_field bytes = field bytes 20
+
+-- the parts that bytes have, if they are an image
+abbrev pub parts_of : List ℕ → Contents
+parts_of bytes = record {
+  entry = entry_field bytes;
+  code = take (code_field bytes) (drop header_length bytes);
+  statics = drop (header_length + code_field bytes) bytes;
+  pages = pages_field bytes;
+}
+
+-- The refusals, in the order in which they are looked for. Sums are whole numbers, which do not wrap.
+
+-- Short: no whole header, or fewer bytes than it speaks of
+abbrev pub IsShort : List ℕ → Type 0
+IsShort bytes = (length bytes < header_length) ⊎ (length bytes < header_length + code_field bytes + data_field bytes)
+
+-- Magic: other first bytes
+abbrev pub HasOtherMagic : List ℕ → Type 0
+HasOtherMagic bytes = take 4 bytes ≢ magic
+
+-- Version: not 1
+abbrev pub HasOtherVersion : List ℕ → Type 0
+HasOtherVersion bytes = version_field bytes ≢ 1
+
+-- Limit: no code, too much or a part of a word of it; too much data; no page or too many
+abbrev pub IsPastLimit : List ℕ → Type 0
+IsPastLimit bytes =
+    (code_field bytes ≡ 0) ⊎ (code_limit < code_field bytes) ⊎ (code_field bytes % 4 ≢ 0) ⊎ (data_limit < data_field bytes) ⊎ (pages_field bytes ≡ 0) ⊎
+    (page_limit < pages_field bytes)
+
+-- Entry: no multiple of 4, or not in the code
+abbrev pub HasBadEntry : List ℕ → Type 0
+HasBadEntry bytes = (entry_field bytes % 4 ≢ 0) ⊎ (code_field bytes ≤ entry_field bytes)
+
+-- Trailing: bytes after the data
+abbrev pub HasTrailing : List ℕ → Type 0
+HasTrailing bytes = header_length + code_field bytes + data_field bytes < length bytes
+
+-- each refusal applies where none before it does
+abbrev pub RefusedAsMagic : List ℕ → Type 0
+RefusedAsMagic bytes = ¬ IsShort bytes × HasOtherMagic bytes
+
+abbrev pub RefusedAsVersion : List ℕ → Type 0
+RefusedAsVersion bytes = ¬ IsShort bytes × ¬ HasOtherMagic bytes × HasOtherVersion bytes
+
+abbrev pub RefusedAsLimit : List ℕ → Type 0
+RefusedAsLimit bytes = ¬ IsShort bytes × ¬ HasOtherMagic bytes × ¬ HasOtherVersion bytes × IsPastLimit bytes
+
+abbrev pub RefusedAsEntry : List ℕ → Type 0
+RefusedAsEntry bytes = ¬ IsShort bytes × ¬ HasOtherMagic bytes × ¬ HasOtherVersion bytes × ¬ IsPastLimit bytes × HasBadEntry bytes
+
+abbrev pub RefusedAsTrailing : List ℕ → Type 0
+RefusedAsTrailing bytes =
+    ¬ IsShort bytes × ¬ HasOtherMagic bytes × ¬ HasOtherVersion bytes × ¬ IsPastLimit bytes × ¬ HasBadEntry bytes × HasTrailing bytes
+
+-- an image has one text
+abbrev pub HasOneText : Type 0
+HasOneText = (bytes other : List ℕ) → (parts : Contents) → IsImage bytes parts → IsImage other parts → bytes ≡ other
+
+-- a text is an image of one thing
+abbrev pub HasOneMeaning : Type 0
+HasOneMeaning = (bytes : List ℕ) → (parts other : Contents) → IsImage bytes parts → IsImage bytes other → parts ≡ other

@@ -1,0 +1,69 @@
+// An image that was loaded.
+
+ghost use Rattle.std.specs.Prelude.{◌≡◌};
+ghost use Rattle.cyc_image.specs.Format.{Fits};
+
+use std::marker::Model;
+
+/// An image: its parts are within the limits.
+#[derive(Debug, Drop)]
+pub struct Image {
+    pub(crate) entry: u32,
+    pub(crate) code: Vec<u8>,
+    pub(crate) statics: Vec<u8>,
+    pub(crate) pages: u32,
+}
+
+impl Model for Image {
+    ghost use Rattle.cyc_image.specs.Format.{Contents, Fits};
+
+    ghost Value = { Contents };
+
+    ghost view = { λ i. record {
+      entry = i.entry;
+      code = i.code.items;
+      statics = i.statics.items;
+      pages = i.pages;
+    } };
+
+    ghost invariant = { λ i. Fits record {
+      entry = i.entry;
+      code = i.code.items;
+      statics = i.statics.items;
+      pages = i.pages;
+    } };
+}
+
+impl Image {
+    /// Where a run begins: an offset in the code, in bytes, a multiple of 4 below the code's length.
+    pub fn entry(&self) -> u32
+        ensures entry { result ≡ self.now.entry }
+        ensures fits { Fits self.now }
+    {
+        self.entry
+    }
+
+    /// The code's bytes: 4 to 1,048,576 of them, in whole words of 4.
+    pub fn code(&self) -> &[u8]
+        ensures code { result.now ≡ self.now.code }
+        ensures fits { Fits self.now }
+    {
+        &self.code
+    }
+
+    /// The data's bytes: at most 1,048,576 of them.
+    pub fn statics(&self) -> &[u8]
+        ensures statics { result.now ≡ self.now.statics }
+        ensures fits { Fits self.now }
+    {
+        &self.statics
+    }
+
+    /// The pages of the arena, of 4,096 bytes each: 1 to 4,096 of them.
+    pub fn pages(&self) -> u32
+        ensures pages { result ≡ self.now.pages }
+        ensures fits { Fits self.now }
+    {
+        self.pages
+    }
+}

@@ -1,0 +1,23 @@
+//! The image format: writing and loading.
+//!
+//! `write` gives the bytes of an image's parts, and `load` accepts exactly the bytes that are an
+//! image of some parts, within the limits, and gives those parts. Each refusal comes exactly where
+//! it is the first that applies. `one_text` and `one_meaning` are laws of the format, which is in
+//! specs/Format.antt. Stands on std, and on `byteorder` for the fields.
+#![tactic(auto)]
+
+mod checks;
+mod fault;
+mod image;
+mod laws;
+mod layout;
+mod loading;
+mod parts;
+#[cfg(test)]
+mod tests;
+
+pub use fault::ImageFault;
+pub use image::Image;
+pub use laws::{one_meaning, one_text};
+pub use loading::load;
+pub use parts::{Parts, write};

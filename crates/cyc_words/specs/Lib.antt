@@ -1,0 +1,5 @@
+pub mod Words
+pub mod Devices
+pub mod Counting
+pub mod Faults
+pub mod Events

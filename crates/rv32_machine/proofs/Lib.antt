@@ -1,0 +1,5 @@
+pub mod Bytes
+pub mod Moves
+pub mod Starts
+pub mod Stores
+pub mod Writes

@@ -1,0 +1,67 @@
+// Where an address lies.
+
+ghost use Rattle.std.specs.Prelude.{◌≡◌, ◌≤◌, ◌-◌, ◌^◌, Some, None, if◌then◌else◌};
+ghost use Rattle.rv32_machine.specs.State.{is_within};
+ghost use Rattle.rv32_machine.specs.Places.{Locates};
+
+/// Where the code begins.
+pub const CODE_BASE: u32 = 0x0001_0000;
+
+/// Where the data begins.
+pub const DATA_BASE: u32 = 0x0020_0000;
+
+/// Where the stack begins.
+pub const STACK_BASE: u32 = 0x0040_0000;
+
+/// Where the stack ends.
+pub const STACK_END: u32 = 0x0050_0000;
+
+/// The stack's length in bytes.
+pub const STACK_LENGTH: usize = 0x0010_0000;
+
+/// An offset in an area.
+#[derive(Clone, Copy)]
+pub enum Place {
+    /// In the code.
+    Code(usize),
+    /// In the data.
+    Statics(usize),
+    /// In the stack.
+    Stack(usize),
+}
+
+// the offset in the area of this base and length, where so many bytes from an address on lie in it
+fn offset_in(base: u32, length: usize, at: u32, width: usize) -> Option<usize>
+    requires length { length ≤ 2 ^ 20 }
+    requires width { width ≤ 4 }
+    ensures { result ≡ (if is_within base length at width then Some (at - base) else None) }
+{
+    if at < base {
+        return None;
+    }
+    let offset = (at - base) as usize;
+    if offset + width <= length {
+        Some(offset)
+    } else {
+        None
+    }
+}
+
+/// The place of so many bytes from an address on, where they lie in one area.
+pub fn locate(code: usize, statics: usize, at: u32, width: usize) -> Option<Place>
+    requires code { code ≤ 2 ^ 20 }
+    requires statics { statics ≤ 2 ^ 20 }
+    requires width { width ≤ 4 }
+    ensures { Locates record { code = code; statics = statics } at width result }
+{
+    if let Some(offset) = offset_in(STACK_BASE, STACK_LENGTH, at, width) {
+        return Some(Place::Stack(offset));
+    }
+    if let Some(offset) = offset_in(DATA_BASE, statics, at, width) {
+        return Some(Place::Statics(offset));
+    }
+    if let Some(offset) = offset_in(CODE_BASE, code, at, width) {
+        return Some(Place::Code(offset));
+    }
+    None
+}

@@ -1,0 +1,24 @@
+//! The machine: RV32IM with the memory map and the calls of docs/MACHINE.md.
+//!
+//! `Machine::new` makes the arrays for an image; `step` executes one instruction, as the instruction
+//! table of specs/Step.antt says, and takes no memory; `give` answers a `getchar`. Stands on `rv32_isa`, `cyc_words` and
+//! `cyc_image`.
+#![tactic(auto)]
+
+mod access;
+mod areas;
+mod calls;
+mod decoded;
+mod event;
+mod execute;
+mod machine;
+mod memory;
+mod motion;
+mod phase;
+mod registers;
+#[cfg(test)]
+mod tests;
+
+pub use cyc_words::{Kind, MachineFault};
+pub use event::Event;
+pub use machine::Machine;

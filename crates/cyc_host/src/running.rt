@@ -1,0 +1,72 @@
+// The loop of a run.
+
+ghost use Rattle.std.specs.Prelude.{◌≡◌, ◌≢◌, ◌≤◌, ◌⊎◌};
+ghost use Rattle.cyc_host.specs.Failures.{HasFailed};
+
+use crate::ending::Ending;
+use crate::transfer::{GATHERED_BYTES, flush, put, read};
+use arrayvec::ArrayVec;
+use cyc_words::{Input, Output};
+use rv32_machine::{Event, Machine};
+
+/// Writes what is gathered, at an ending. A failed write takes the ending's place.
+fn finish<W: Output>(
+    gathered: &mut ArrayVec<u8, GATHERED_BYTES>,
+    writer: &mut W,
+    ending: Ending,
+) -> Ending
+    requires { ending ≢ Ending.WriteFault }
+    ensures same { (result ≡ ending) ⊎ (result ≡ Ending.WriteFault) }
+    ensures grows { W.fault_count writer.old ≤ W.fault_count writer.new }
+    ensures failed { result ≡ Ending.WriteFault → HasFailed (W.fault_count writer.old) (W.fault_count writer.new) }
+{
+    match flush(gathered, writer) {
+        Ok(()) => ending,
+        Err(_) => Ending::WriteFault,
+    }
+}
+
+/// Runs a machine for at most so many steps.
+///
+/// Output is written when 4,096 bytes are gathered, before each read and at each ending. `WriteFault` comes in place of any
+/// other ending, where a write failed or took no byte; `ReadFault` where a read failed. A byte that is asked for at the last
+/// step is still answered. Takes no memory.
+pub fn run<R: Input, W: Output>(
+    machine: &mut Machine,
+    reader: &mut R,
+    writer: &mut W,
+    steps: u64,
+) -> Ending
+    // each device's fault comes only where a call of that device failed
+    ensures read_fault { result ≡ Ending.ReadFault → HasFailed (R.fault_count reader.old) (R.fault_count reader.new) }
+    ensures write_fault { result ≡ Ending.WriteFault → HasFailed (W.fault_count writer.old) (W.fault_count writer.new) }
+{
+    let mut gathered = ArrayVec::new();
+    let mut is_over = false;
+    'steps: for _ in 0..steps {
+        match machine.step() {
+            Event::Next => {}
+            Event::Put(byte) => {
+                if put(&mut gathered, writer, byte).is_err() {
+                    return Ending::WriteFault;
+                }
+            }
+            Event::Get => {
+                if flush(&mut gathered, writer).is_err() {
+                    return Ending::WriteFault;
+                }
+                match read(reader, &mut is_over) {
+                    Ok(answer) => {
+                        machine.give(answer);
+                    }
+                    Err(_) => return Ending::ReadFault,
+                }
+            }
+            Event::Ended(status) => return finish(&mut gathered, writer, Ending::Ended(status)),
+            Event::Raised(kind) => return finish(&mut gathered, writer, Ending::Raised(kind)),
+            Event::Exhausted => return finish(&mut gathered, writer, Ending::Exhausted),
+            Event::Fault(fault) => return finish(&mut gathered, writer, Ending::Fault(fault)),
+        }
+    }
+    finish(&mut gathered, writer, Ending::StepLimit)
+}

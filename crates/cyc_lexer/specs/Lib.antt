@@ -1,0 +1,7 @@
+pub mod Bytes
+pub mod Spelling
+pub mod Lexing
+pub mod Places
+pub mod Reading
+pub mod Faults
+pub mod Tokens

@@ -1,0 +1,45 @@
+use Rattle.std.proofs.Common.{◌≤◌, length, ◌+◌, ◌*◌}
+use Rattle.cyc_parser.specs.Levels.{levels_from}
+use Rattle.cyc_parser.proofs.expression.+expression.Given as goal
+
+abbrev pub decreases-expression : goal.decreases-expression
+decreases-expression l = 64 * l.depth
+
+abbrev pub decreases-chain : goal.decreases-chain
+decreases-chain l = 64 * l.depth + 11 + 4 * levels_from l.level
+
+abbrev pub decreases-links : goal.decreases-links
+decreases-links l = 64 * l.depth + 10 + 4 * levels_from l.level
+
+abbrev pub decreases-operand : goal.decreases-operand
+decreases-operand l = 64 * l.depth + 9 + 4 * levels_from l.level
+
+abbrev pub decreases-unary : goal.decreases-unary
+decreases-unary l = 64 * l.depth + 8
+
+abbrev pub decreases-prefixed : goal.decreases-prefixed
+decreases-prefixed l = 64 * l.depth + 20
+
+abbrev pub decreases-primary : goal.decreases-primary
+decreases-primary l = 64 * l.depth + 20
+
+abbrev pub decreases-call : goal.decreases-call
+decreases-call l = 64 * l.depth + 18
+
+abbrev pub decreases-grouped : goal.decreases-grouped
+decreases-grouped l = 64 * l.depth + 18
+
+abbrev pub decreases-arguments : goal.decreases-arguments
+decreases-arguments l = 64 * l.depth + 16
+
+abbrev pub invariant-arguments-more : goal.invariant-arguments-more
+invariant-arguments-more l = length l.cursor ≤ length l.fn.cursor
+
+abbrev pub decreases-arguments-more : goal.decreases-arguments-more
+decreases-arguments-more l = length l.cursor
+
+abbrev pub invariant-links-links : goal.invariant-links-links
+invariant-links-links l = length l.cursor ≤ length l.fn.cursor
+
+abbrev pub decreases-links-links : goal.decreases-links-links
+decreases-links-links l = length l.cursor

@@ -1,0 +1,125 @@
+// The tokens that are left to read.
+
+ghost use Rattle.std.specs.Prelude.{◌≡◌, ◌<◌, ◌≤◌, OnOk, OnErr, OnSome, List, length, map, drop};
+ghost use Rattle.cyc_lexer.specs.Tokens.{token_tree};
+
+use crate::fault::ParseFault;
+use cyc_lexer::{Keyword, Sign, Token, TokenKind};
+use cyc_tree::{END_OF_TEXT, Name};
+use std::alloc::Global;
+use std::marker::Model;
+
+/// The tokens that are left to read. A contract sees them as their list.
+#[derive(Drop)]
+pub struct Cursor<'t, 'a> {
+    tokens: &'t [Token<'a>],
+    next: usize,
+}
+
+impl<'t, 'a> Model for Cursor<'t, 'a> {
+    ghost use Rattle.std.specs.Prelude.{List, map, drop};
+    ghost use Rattle.cyc_lexer.specs.Lexing.{Token as PureToken};
+    ghost use Rattle.cyc_lexer.specs.Tokens.{token_tree};
+
+    ghost Value = { List PureToken };
+
+    ghost view = { λ c. map token_tree (drop c.next c.tokens.now) };
+}
+
+impl<'t, 'a> Cursor<'t, 'a> {
+    /// All of the tokens.
+    pub fn new(tokens: &'t [Token<'a>]) -> Self
+        ensures { result ≡ map token_tree tokens.entry.now }
+    {
+        Cursor { tokens, next: 0 }
+    }
+
+    /// The next token's kind.
+    pub fn kind(&self) -> Option<TokenKind>
+        ensures { OnSome result (0 < length self.now) }
+    {
+        match self.tokens.get(self.next) {
+            Some(token) => Some(token.kind),
+            None => None,
+        }
+    }
+
+    /// The place of the next token, or the end of the text.
+    pub fn place(&self) -> u32 {
+        match self.tokens.get(self.next) {
+            Some(token) => token.at,
+            None => END_OF_TEXT,
+        }
+    }
+
+    /// The fault that the next token is out of order.
+    pub fn unexpected(&self) -> ParseFault {
+        ParseFault::Parse(self.place())
+    }
+
+    /// Whether the next token is this sign.
+    pub fn is_sign(&self, sign: Sign) -> bool {
+        self.kind() == Some(TokenKind::Sign(sign))
+    }
+
+    /// Whether the next token is this keyword.
+    pub fn is_keyword(&self, keyword: Keyword) -> bool {
+        self.kind() == Some(TokenKind::Keyword(keyword))
+    }
+
+    /// Reads the next token, of any kind. Where there is none, the fault is at the end of the text.
+    pub fn read(&mut self) -> Result<Token<'a>, ParseFault>
+        ensures ok { OnOk result (length self.new < length self.old) }
+        ensures err { OnErr result (self.new ≡ self.old) }
+    {
+        match self.tokens.get(self.next) {
+            Some(token) => {
+                let token = *token;
+                self.next += 1;
+                Ok(token)
+            }
+            None => Err(ParseFault::Parse(END_OF_TEXT)),
+        }
+    }
+
+    /// Reads the next token, which has to be of this kind, and answers its place.
+    fn read_kind(&mut self, kind: TokenKind) -> Result<u32, ParseFault>
+        ensures ok { OnOk result (length self.new < length self.old) }
+        ensures err { OnErr result (self.new ≡ self.old) }
+    {
+        if self.kind() == Some(kind) {
+            Ok(self.read()?.at)
+        } else {
+            Err(self.unexpected())
+        }
+    }
+
+    /// Reads the next token, which has to be this sign, and answers its place.
+    pub fn sign(&mut self, sign: Sign) -> Result<u32, ParseFault>
+        ensures ok { OnOk result (length self.new < length self.old) }
+        ensures err { OnErr result (self.new ≡ self.old) }
+    {
+        self.read_kind(TokenKind::Sign(sign))
+    }
+
+    /// Reads the next token, which has to be this keyword, and answers its place.
+    pub fn keyword(&mut self, keyword: Keyword) -> Result<u32, ParseFault>
+        ensures ok { OnOk result (length self.new < length self.old) }
+        ensures err { OnErr result (self.new ≡ self.old) }
+    {
+        self.read_kind(TokenKind::Keyword(keyword))
+    }
+
+    /// Reads the next token, which has to be a name.
+    pub fn name(&mut self, alloc: Global) -> Result<Name, ParseFault>
+        ensures ok { OnOk result (length self.new < length self.old) }
+        ensures err { OnErr result (length self.new ≤ length self.old) }
+    {
+        if self.kind() != Some(TokenKind::Identifier) {
+            return Err(self.unexpected());
+        }
+        let token = self.read()?;
+        let text = token.text.to_vec(alloc)?;
+        Ok(Name { at: token.at, text })
+    }
+}

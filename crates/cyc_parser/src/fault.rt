@@ -1,0 +1,40 @@
+// Why tokens are no program.
+
+use std::alloc::{AllocError, AllocFailed};
+use std::error::Error;
+use std::fmt;
+
+/// Why `parse` refuses tokens. Places are offsets in the text; the end of the text is 4,294,967,295.
+#[derive(Clone, Copy, PartialEq, Eq, Debug)]
+pub enum ParseFault {
+    /// The first token with which the tokens so far begin no program, or the end of the text.
+    Parse(u32),
+    /// The first token that over 256 phrases contain.
+    TooDeep(u32),
+    /// No host memory is left.
+    Memory,
+}
+
+impl fmt::Display for ParseFault {
+    fn fmt<W: fmt::Write>(&self, f: &mut fmt::Formatter<W>) -> fmt::Result {
+        match self {
+            ParseFault::Parse(_) => write!(f, "Parse"),
+            ParseFault::TooDeep(_) => write!(f, "TooDeep"),
+            ParseFault::Memory => write!(f, "out of memory"),
+        }
+    }
+}
+
+impl Error for ParseFault {}
+
+impl From<AllocError> for ParseFault {
+    fn from(_error: AllocError) -> ParseFault {
+        ParseFault::Memory
+    }
+}
+
+impl<T: Drop> From<AllocFailed<T>> for ParseFault {
+    fn from(_error: AllocFailed<T>) -> ParseFault {
+        ParseFault::Memory
+    }
+}

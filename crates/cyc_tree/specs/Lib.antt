@@ -1,0 +1,5 @@
+pub mod Tree
+pub mod View
+pub mod Places
+pub mod StoredNames
+pub mod Stored

@@ -1,0 +1,141 @@
+// The items of a program.
+
+ghost use Rattle.std.specs.Prelude.{◌≡◌};
+ghost use Rattle.cyc_tree.specs.View.{program_tree};
+
+use crate::name::{Name, RegionName, TypeName};
+use crate::statement::BlockItem;
+use std::marker::Model;
+
+/// The end of the text, as a place.
+pub const END_OF_TEXT: u32 = u32::MAX;
+
+/// A member of a struct or a union, or a parameter of a function.
+#[derive(Drop)]
+pub struct Member {
+    pub of: TypeName,
+    pub name: Name,
+}
+
+/// A struct or a tagged union: its tag, its region parameters and its members, in order.
+#[derive(Drop)]
+pub struct Structure {
+    /// The place of its first token.
+    pub at: u32,
+    pub tag: Name,
+    pub regions: Vec<RegionName>,
+    pub members: Vec<Member>,
+}
+
+/// A constant. The first number is the place of its first token.
+#[derive(Drop)]
+pub enum Constant {
+    /// A number, and whether it has the suffix `u`.
+    Number(u32, u32, bool),
+    /// A number after `-`, and whether it has the suffix `u`.
+    Negative(u32, u32, bool),
+    Character(u32, u8),
+    /// A string's bytes, without the final 0.
+    Text(u32, Vec<u8>),
+    /// `NULL`
+    Null(u32),
+}
+
+/// What a global begins with.
+#[derive(Drop)]
+pub enum Initial {
+    /// The beginning of its type.
+    None,
+    /// An array of so many elements.
+    Array(u32),
+    Constant(Constant),
+}
+
+/// A global variable or array.
+#[derive(Drop)]
+pub struct Global {
+    pub of: TypeName,
+    pub name: Name,
+    pub initial: Initial,
+}
+
+/// A bound of a function: the first region outlives the second.
+#[derive(PartialEq, Eq, Debug, Drop)]
+pub struct Bound {
+    pub longer: RegionName,
+    pub shorter: RegionName,
+}
+
+/// A function of the program.
+#[derive(Drop)]
+pub struct Function {
+    pub result: TypeName,
+    pub name: Name,
+    pub parameters: Vec<Member>,
+    /// The effect, where one is written.
+    pub effect: Option<Vec<RegionName>>,
+    pub bounds: Vec<Bound>,
+    pub body: Vec<BlockItem>,
+    /// The place of the closing brace.
+    pub end: u32,
+}
+
+/// An item of a program.
+#[derive(Drop)]
+pub enum Item {
+    Struct(Structure),
+    Union(Structure),
+    Global(Global),
+    Function(Function),
+}
+
+impl Item {
+    ghost use Rattle.cyc_tree.specs.View.{program_item_tree};
+    ghost use Rattle.cyc_tree.specs.Places.{item_place};
+
+    /// The place of its first token.
+    pub fn place(&self) -> u32
+        ensures { result ≡ item_place (program_item_tree self.now) }
+    {
+        match self {
+            Item::Struct(structure) | Item::Union(structure) => structure.at,
+            Item::Global(global) => global.of.at,
+            Item::Function(function) => function.result.at,
+        }
+    }
+}
+
+/// A program: its items, in order. A contract sees it as the pure tree of its items.
+#[derive(Drop)]
+pub struct Program {
+    items: Vec<Item>,
+}
+
+impl Model for Program {
+    ghost use Rattle.cyc_tree.specs.Tree.{Program as Tree};
+    ghost use Rattle.cyc_tree.specs.Stored.{coded_program};
+
+    ghost Value = { Tree };
+
+    ghost coded = { coded_program };
+
+    ghost use Rattle.cyc_tree.specs.View.{program_tree};
+
+    ghost view = { λ p. program_tree p.items.items };
+}
+
+impl Program {
+    /// The program of these items.
+    pub fn new(items: Vec<Item>) -> Self
+        ensures { result ≡ program_tree items.items }
+    {
+        Program { items }
+    }
+
+    /// The program's items, in order.
+    pub fn items(&self) -> &[Item]
+        ensures { program_tree result.now ≡ self.now }
+    {
+        self.items.as_slice()
+    }
+}

@@ -1,0 +1,130 @@
+// Statements, and the declarations among them.
+
+ghost use Rattle.std.specs.Prelude.{◌≡◌};
+
+use crate::expression::Expression;
+use crate::name::{Name, RegionName, TypeName};
+
+/// What a local begins with.
+#[derive(Drop)]
+pub enum Initializer {
+    /// The beginning of its type.
+    None,
+    /// An array of so many elements.
+    Array(u32),
+    /// A value.
+    Value(Expression),
+}
+
+/// A declaration in a block. A number that comes first is the place of its first token.
+#[derive(Drop)]
+pub enum Declaration {
+    /// A local variable or array.
+    Local(TypeName, Name, Initializer),
+    /// `` region<`r> h; ``: the region and its handle.
+    Region(u32, RegionName, Name),
+    /// `` region<`r> h = open(k); ``: the region, its handle and the key.
+    Open(u32, RegionName, Name, Name),
+    /// `` let alias<`r> T x = p; ``: the region, the type, the alias and the pointer.
+    Alias(u32, RegionName, TypeName, Name, Name),
+    /// `` let NewDynamicRegion{<`r> k} = new_ukey(); ``: the region and its key.
+    NewKey(u32, RegionName, Name),
+}
+
+/// A statement. A number that comes first is the place of its first token.
+#[cycle(statement)]
+#[derive(Drop)]
+pub enum Statement {
+    /// `;`
+    Empty(u32),
+    /// A block.
+    Block(u32, Vec<BlockItem>),
+    /// An expression that is evaluated and discarded.
+    Run(Expression),
+    /// `:=:` between two places.
+    Exchange(Expression, Expression),
+    /// An `if` with no `else`.
+    If(u32, Expression, Box<Statement>),
+    /// An `if` with its `else`.
+    IfElse(u32, Expression, Box<Statement>, Box<Statement>),
+    While(u32, Expression, Box<Statement>),
+    /// A `switch` on a union's place, with its clauses.
+    Switch(u32, Expression, Vec<Clause>),
+    Break(u32),
+    Continue(u32),
+    /// A `return` with its result, where it has one.
+    Return(u32, Option<Expression>),
+    /// `ufree` of a local.
+    FreeUnique(u32, Name),
+    /// `free_ukey` of a local.
+    FreeKey(u32, Name),
+}
+
+/// What stands in a block.
+#[cycle(statement)]
+#[derive(Drop)]
+pub enum BlockItem {
+    Declare(Declaration),
+    Execute(Statement),
+}
+
+/// Which members a clause takes.
+#[derive(PartialEq, Eq, Debug, Drop)]
+pub enum Pattern {
+    /// A member, whose value the name stands for.
+    Case(Name, Name),
+    /// All members that no other clause names.
+    Default,
+}
+
+/// A clause of a `switch`: where it stands, its pattern, and what it does.
+#[cycle(statement)]
+#[derive(Drop)]
+pub struct Clause {
+    pub at: u32,
+    pub pattern: Pattern,
+    pub body: Vec<BlockItem>,
+}
+
+impl Declaration {
+    ghost use Rattle.cyc_tree.specs.View.{declaration_tree};
+    ghost use Rattle.cyc_tree.specs.Places.{declaration_place};
+
+    /// The place of its first token.
+    pub fn place(&self) -> u32
+        ensures { result ≡ declaration_place (declaration_tree self.now) }
+    {
+        match self {
+            Declaration::Local(of, _, _) => of.at,
+            Declaration::Region(at, _, _)
+            | Declaration::Open(at, _, _, _)
+            | Declaration::Alias(at, _, _, _, _)
+            | Declaration::NewKey(at, _, _) => *at,
+        }
+    }
+}
+
+impl Statement {
+    ghost use Rattle.cyc_tree.specs.View.{statement_tree};
+    ghost use Rattle.cyc_tree.specs.Places.{statement_place};
+
+    /// The place of its first token.
+    pub fn place(&self) -> u32
+        ensures { result ≡ statement_place (statement_tree self.now) }
+    {
+        match self {
+            Statement::Empty(at)
+            | Statement::Block(at, _)
+            | Statement::If(at, _, _)
+            | Statement::IfElse(at, _, _, _)
+            | Statement::While(at, _, _)
+            | Statement::Switch(at, _, _)
+            | Statement::Break(at)
+            | Statement::Continue(at)
+            | Statement::Return(at, _)
+            | Statement::FreeUnique(at, _)
+            | Statement::FreeKey(at, _) => *at,
+            Statement::Run(first) | Statement::Exchange(first, _) => first.place(),
+        }
+    }
+}

@@ -1,0 +1,1 @@
+pub use Rattle.region_types.specs.Faults

@@ -1,0 +1,57 @@
+// A program whose effects were looked at.
+
+ghost use Rattle.std.specs.Prelude.{◌≡◌, ◌↔◌, Some, None, Err, IfOk};
+ghost use Rattle.region_types.specs.Faults.{first_fault};
+ghost use Rattle.region_types.specs.declared.fault.Fault.{Fault as Broken_fault};
+
+use crate::fault::CheckFault;
+use cyc_tree::Program;
+use region_types::Typed;
+use std::alloc::Global;
+use std::marker::Model;
+
+/// A program without a fault of names, types, regions and effects. A contract sees it as the program.
+#[derive(Drop)]
+pub struct Effected<'p> {
+    program: &'p Program,
+}
+
+impl<'p> Model for Effected<'p> {
+    ghost use Rattle.std.specs.Prelude.{◌≡◌, None};
+    ghost use Rattle.cyc_tree.specs.Tree.{Program as Tree};
+    ghost use Rattle.cyc_tree.specs.Stored.{coded_program};
+    ghost use Rattle.region_types.specs.Faults.{first_fault};
+
+    ghost Value = { Tree };
+
+    ghost coded = { coded_program };
+
+    ghost view = { λ e. e.program.now };
+
+    ghost invariant = { λ e. first_fault e.program.now ≡ None };
+}
+
+impl<'p> Effected<'p> {
+    /// The program.
+    pub fn program(&self) -> &'p Program
+        ensures same { result.now ≡ self.now }
+        ensures faultless { first_fault self.now ≡ None }
+    {
+        self.program
+    }
+}
+
+/// Looks at a program's regions and effects. Takes no memory as yet, so that `Memory` doesn't come.
+pub fn effects<'p>(_alloc: Global, typed: Typed<'p>) -> Result<Effected<'p>, CheckFault>
+    // a program without a fault is answered as it is
+    ensures ok { IfOk result (λ e. (e ≡ typed.entry) × (first_fault typed.entry ≡ None)) }
+    // a fault is the program's first, and a program with one is refused with it
+    ensures broken { (f : Broken_fault) → (result ≡ Err (CheckFault.Broken f)) ↔ (first_fault typed.entry ≡ Some f) }
+{
+    match typed.fault() {
+        Some(fault) => Err(CheckFault::Broken(fault)),
+        None => Ok(Effected {
+            program: typed.program(),
+        }),
+    }
+}

@@ -1,0 +1,54 @@
+// A program whose types were looked at.
+
+ghost use Rattle.std.specs.Prelude.{◌≡◌};
+ghost use Rattle.region_types.specs.Faults.{first_fault};
+
+use crate::fault::Fault;
+use cyc_tree::Program;
+use std::marker::Model;
+
+/// A program, with its first fault of names and types. A contract sees it as the program.
+#[derive(Drop)]
+pub struct Typed<'p> {
+    program: &'p Program,
+    fault: Option<Fault>,
+}
+
+impl<'p> Model for Typed<'p> {
+    ghost use Rattle.std.specs.Prelude.{◌≡◌};
+    ghost use Rattle.cyc_tree.specs.Tree.{Program as Tree};
+    ghost use Rattle.cyc_tree.specs.Stored.{coded_program};
+    ghost use Rattle.region_types.specs.Faults.{first_fault};
+
+    ghost Value = { Tree };
+
+    ghost coded = { coded_program };
+
+    ghost view = { λ t. t.program.now };
+
+    ghost invariant = { λ t. t.fault ≡ first_fault t.program.now };
+}
+
+impl<'p> Typed<'p> {
+    /// A program whose first fault this is.
+    pub(crate) fn new(program: &'p Program, fault: Option<Fault>) -> Self
+        requires { fault ≡ first_fault program.now }
+        ensures { result ≡ program.entry.now }
+    {
+        Typed { program, fault }
+    }
+
+    /// The program.
+    pub fn program(&self) -> &'p Program
+        ensures { result.now ≡ self.now }
+    {
+        self.program
+    }
+
+    /// The program's earliest fault of names and types; at one place, the one of the lowest number.
+    pub fn fault(&self) -> Option<Fault>
+        ensures { result ≡ first_fault self.now }
+    {
+        self.fault
+    }
+}

@@ -1,0 +1,2 @@
+pub mod Accepted
+pub use Rattle.region_types.specs.Faults

@@ -1,0 +1,11 @@
+//! Unique pointers, and the programs that are accepted.
+//!
+//! `flow` answers the earliest fault of flow, or the program as `Checked`: nothing in it breaks a
+//! rule. No form that flow is judged for is brought yet, so this layer finds no fault. Stands on `effect_check`.
+#![tactic(auto)]
+
+mod checked;
+mod fault;
+
+pub use checked::{Checked, flow};
+pub use fault::FlowFault;

@@ -1,0 +1,90 @@
+// From a text to an image.
+
+ghost use Rattle.std.specs.Prelude.{◌≡◌, ◌≤◌, IfOk};
+ghost use Rattle.cycc_driver.specs.Outcome.{IsCode, IsProgramImage};
+
+use crate::fault::{CompileFault, Place, of_checking, of_flow, of_lexing, of_parsing};
+use cyc_image::{Parts, write};
+use cyc_lexer::tokens;
+use cyc_parser::parse;
+use cyc_tree::Program;
+use effect_check::effects;
+use lower_checks::lower;
+use region_types::typed;
+use rv32_layout::{Code, LayoutFault, place};
+use rv32_select::select;
+use std::alloc::Global;
+use unique_flow::{Checked, flow};
+
+/// The program that a text spells.
+fn parsed(alloc: Global, text: &[u8]) -> Result<Program, CompileFault> {
+    let tokens = match tokens(alloc, text) {
+        Ok(tokens) => tokens,
+        Err(fault) => return Err(of_lexing(text, fault)),
+    };
+    match parse(alloc, &tokens) {
+        Ok(program) => Ok(program),
+        Err(fault) => Err(of_parsing(text, fault)),
+    }
+}
+
+/// The program of a text, where it is accepted.
+fn checked<'p>(
+    alloc: Global,
+    text: &[u8],
+    program: &'p Program,
+) -> Result<Checked<'p>, CompileFault>
+    ensures { IfOk result (λ c. c ≡ program.entry.now) }
+{
+    let typed = typed(alloc, program)?;
+    let effected = match effects(alloc, typed) {
+        Ok(effected) => effected,
+        Err(fault) => return Err(of_checking(text, fault)),
+    };
+    match flow(alloc, effected) {
+        Ok(checked) => Ok(checked),
+        Err(fault) => Err(of_flow(text, fault)),
+    }
+}
+
+/// Whether a text is accepted. Refuses it with the first fault of the first phase that has one: the
+/// tokens, the grammar, names and types, and flow. `Memory` comes where no host memory is left.
+pub fn check(alloc: Global, text: &[u8]) -> Result<(), CompileFault> {
+    let program = parsed(alloc, text)?;
+    checked(alloc, text, &program)?;
+    Ok(())
+}
+
+/// The code of an accepted program.
+fn code_of(alloc: Global, checked: &Checked<'_>) -> Result<Code, CompileFault>
+    ensures { IfOk result (λ code. IsCode code.bytes.items) }
+{
+    let core = lower(alloc, checked)?;
+    let labelled = select(alloc, &core)?;
+    match place(alloc, &labelled) {
+        Ok(code) => Ok(code),
+        Err(LayoutFault::TooLarge) => Err(CompileFault::TooLarge(Place { line: 1, column: 1 })),
+        Err(LayoutFault::Memory) => Err(CompileFault::Memory),
+    }
+}
+
+/// The image of an accepted text, for a machine whose arena has so many pages of 4,096 bytes.
+///
+/// Refuses what `check` refuses, with the same fault; a text whose code is over 1,048,576 bytes, with
+/// `TooLarge` at line 1, column 1; and with `Memory` where no host memory is left.
+pub fn compile(alloc: Global, text: &[u8], pages: u32) -> Result<Vec<u8>, CompileFault>
+    requires some { 1 ≤ pages }
+    requires within { pages ≤ 4096 }
+    ensures { IfOk result (λ bytes. IsProgramImage pages bytes.items) }
+{
+    let program = parsed(alloc, text)?;
+    let checked = checked(alloc, text, &program)?;
+    let code = code_of(alloc, &checked)?;
+    let parts = Parts {
+        entry: 0,
+        code: &code.bytes,
+        statics: &[],
+        pages,
+    };
+    Ok(write(alloc, &parts)?)
+}

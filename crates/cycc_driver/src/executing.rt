@@ -1,0 +1,42 @@
+// Runs of a text.
+
+ghost use Rattle.std.specs.Prelude.{◌≤◌};
+
+use crate::compiling::compile;
+use crate::fault::CompileFault;
+use cyc_host::{Ending, run};
+use cyc_image::{ImageFault, load};
+use cyc_words::{Input, Output};
+use rv32_machine::Machine;
+use std::alloc::Global;
+
+/// What a run may use: the arena's pages, of 4,096 bytes each, and the number of steps.
+#[derive(Clone, Copy, PartialEq, Eq, Debug)]
+pub struct Limits {
+    pub pages: u32,
+    pub steps: u64,
+}
+
+/// Compiles a text and runs its image.
+///
+/// Refuses what `compile` refuses, before anything is read or written, and with `Memory` also where
+/// no host memory is left for the machine. Otherwise answers how the run ended.
+pub fn execute<R: Input, W: Output>(
+    alloc: Global,
+    text: &[u8],
+    reader: &mut R,
+    writer: &mut W,
+    limits: Limits,
+) -> Result<Ending, CompileFault>
+    requires some { 1 ≤ limits.pages }
+    requires within { limits.pages ≤ 4096 }
+{
+    let bytes = compile(alloc, text, limits.pages)?;
+    let image = match load(alloc, &bytes) {
+        Ok(image) => image,
+        Err(ImageFault::Memory) => return Err(CompileFault::Memory),
+        Err(_) => unreachable!(),
+    };
+    let mut machine = Machine::new(alloc, &image)?;
+    Ok(run(&mut machine, reader, writer, limits.steps))
+}

@@ -1,0 +1,19 @@
+//! The compiler: from a text to an image, and to what it does.
+//!
+//! `check` says whether a text is accepted, `compile` gives its image, and `execute` runs it between a
+//! reader and a writer. Each refuses with the first fault of the first phase that has one, by line and column.
+//! Stands on all layers.
+#![tactic(auto)]
+
+mod compiling;
+mod executing;
+mod fault;
+
+pub use compiling::{check, compile};
+pub use cyc_host::{Ending, run};
+pub use cyc_image::{Image, ImageFault, load};
+pub use cyc_words::{Counted, Input, Kind, MachineFault, Output};
+pub use executing::{Limits, execute};
+pub use fault::{CompileFault, Place};
+pub use rv32_isa::{Instr, decode};
+pub use rv32_machine::{Event, Machine};

@@ -1,0 +1,22 @@
+// Exit statuses.
+
+/// The run ended with status 0, or the command succeeded.
+pub const SUCCESS: u8 = 0;
+/// The run ended with another status.
+pub const ENDED: u8 = 1;
+/// A check of the source failed at run time.
+pub const RAISED: u8 = 2;
+/// The store or the stack had no room.
+pub const EXHAUSTED: u8 = 3;
+/// The given number of steps was made.
+pub const STEP_LIMIT: u8 = 4;
+/// The machine stopped at a fault.
+pub const MACHINE_FAULT: u8 = 5;
+/// A file, the input or the output failed.
+pub const FILE_FAULT: u8 = 6;
+/// No host memory is left.
+pub const MEMORY: u8 = 7;
+/// The source was refused.
+pub const REFUSED: u8 = 8;
+/// The words of the command line are out of order.
+pub const USAGE: u8 = 9;

@@ -17,6 +17,28 @@ pub enum Binary {
     Divide,
     /// What the division of signed numbers leaves; by zero the first.
     Remainder,
+    /// The bits of both.
+    And,
+    /// The bits of either.
+    Or,
+    /// The bits of one and not of the other.
+    Xor,
+    /// The first shifted to the left by the second modulo 32.
+    ShiftLeft,
+    /// The first shifted to the right by the second modulo 32, filled with its sign.
+    ShiftRight,
+    /// 1 where both are equal, else 0.
+    Equal,
+    /// 0 where both are equal, else 1.
+    NotEqual,
+    /// 1 where the first is below the second, both signed, else 0.
+    Less,
+    /// 1 where the first is at most the second, both signed, else 0.
+    LessEqual,
+    /// 1 where the first is above the second, both signed, else 0.
+    Greater,
+    /// 1 where the first is at least the second, both signed, else 0.
+    GreaterEqual,
 }
 
 /// What a function does, one after the other.
@@ -34,10 +56,10 @@ pub enum Operation {
     Return(Cell),
 }
 
-/// A function: how many cells it has, numbered from 0, and what it does.
+/// A function: the last of its cells, which are numbered from 0, and what it does.
 #[derive(Drop)]
 pub struct Function {
-    pub cells: usize,
+    pub last: Cell,
     pub body: Vec<Operation>,
 }
 

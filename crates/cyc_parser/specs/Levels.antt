@@ -1,9 +1,15 @@
 -- Levels of binary operators.
 use Rattle.std.specs.Prelude.{ℕ}
 use Rattle.cyc_parser.specs.declared.operator.Level.{Level}
-use Rattle.cyc_parser.specs.declared.operator.Level.TheVariants.{Sum, Term}
+use Rattle.cyc_parser.specs.declared.operator.Level.TheVariants.{BitOr, BitXor, BitAnd, Equality, Relation, Shift, Sum, Term}
 
 -- how many levels there are from one on, itself among them, to the one that binds most
 abbrev pub levels_from : Level → ℕ
+levels_from BitOr = 8
+levels_from BitXor = 7
+levels_from BitAnd = 6
+levels_from Equality = 5
+levels_from Relation = 4
+levels_from Shift = 3
 levels_from Sum = 2
 levels_from Term = 1

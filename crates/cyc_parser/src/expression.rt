@@ -4,21 +4,25 @@ ghost use Rattle.std.specs.Prelude.{◌≡◌, ◌<◌, ◌≤◌, OnOk, OnErr, 
 
 use crate::cursor::Cursor;
 use crate::fault::ParseFault;
-use crate::operator::{Level, operator_of, prefix_of, tighter};
+use crate::operator::{LOOSEST, Level, operator_of, prefix_of, tighter};
 use cyc_lexer::{Sign, TokenKind};
 use cyc_tree::{Expression, Link, Prefix};
 use std::alloc::Global;
 
 /// Whether a token of this kind begins a unary expression.
 pub fn begins_unary(kind: Option<TokenKind>) -> bool {
+    match kind {
+        Some(TokenKind::Sign(Sign::LeftParenthesis)) => true,
+        Some(kind) => prefix_of(kind).is_some() || begins_primary(kind),
+        None => false,
+    }
+}
+
+/// Whether a token of this kind, other than a parenthesis, begins a primary expression.
+fn begins_primary(kind: TokenKind) -> bool {
     matches!(
         kind,
-        Some(
-            TokenKind::Number(_, _)
-                | TokenKind::Character(_)
-                | TokenKind::Identifier
-                | TokenKind::Sign(Sign::Minus | Sign::LeftParenthesis)
-        )
+        TokenKind::Number(_, _) | TokenKind::Character(_) | TokenKind::Identifier
     )
 }
 
@@ -43,7 +47,7 @@ pub fn expression(
     if depth == 0 {
         Err(too_deep(cursor))
     } else {
-        chain(alloc, depth - 1, Level::Sum, cursor)
+        chain(alloc, depth - 1, LOOSEST, cursor)
     }
 }
 

@@ -9,36 +9,65 @@ use cyc_tree::{Operator, Prefix};
 /// A level of binary operators, from the one that binds least.
 #[derive(Clone, Copy, PartialEq, Eq, Debug)]
 pub enum Level {
+    BitOr,
+    BitXor,
+    BitAnd,
+    Equality,
+    Relation,
+    Shift,
     Sum,
     Term,
 }
+
+/// The level whose operators bind least.
+pub const LOOSEST: Level = Level::BitOr;
 
 /// The level whose operators bind next more, or none where the operands are unary.
 pub fn tighter(level: Level) -> Option<Level>
     ensures { IfSome result (λ next. levels_from next + 1 ≡ levels_from level) }
 {
     match level {
+        Level::BitOr => Some(Level::BitXor),
+        Level::BitXor => Some(Level::BitAnd),
+        Level::BitAnd => Some(Level::Equality),
+        Level::Equality => Some(Level::Relation),
+        Level::Relation => Some(Level::Shift),
+        Level::Shift => Some(Level::Sum),
         Level::Sum => Some(Level::Term),
         Level::Term => None,
     }
 }
 
-/// The operator of a sign at a level.
-fn operator(level: Level, sign: Sign) -> Option<Operator> {
-    match (level, sign) {
-        (Level::Sum, Sign::Plus) => Some(Operator::Add),
-        (Level::Sum, Sign::Minus) => Some(Operator::Subtract),
-        (Level::Term, Sign::Star) => Some(Operator::Multiply),
-        (Level::Term, Sign::Slash) => Some(Operator::Divide),
-        (Level::Term, Sign::Percent) => Some(Operator::Remainder),
+/// The level and the operator of a sign between operands.
+fn operator(sign: Sign) -> Option<(Level, Operator)> {
+    match sign {
+        Sign::Or => Some((Level::BitOr, Operator::BitOr)),
+        Sign::Xor => Some((Level::BitXor, Operator::BitXor)),
+        Sign::And => Some((Level::BitAnd, Operator::BitAnd)),
+        Sign::EqualEqual => Some((Level::Equality, Operator::Equal)),
+        Sign::NotEqual => Some((Level::Equality, Operator::NotEqual)),
+        Sign::Less => Some((Level::Relation, Operator::Less)),
+        Sign::LessEqual => Some((Level::Relation, Operator::LessEqual)),
+        Sign::Greater => Some((Level::Relation, Operator::Greater)),
+        Sign::GreaterEqual => Some((Level::Relation, Operator::GreaterEqual)),
+        Sign::ShiftLeft => Some((Level::Shift, Operator::ShiftLeft)),
+        Sign::ShiftRight => Some((Level::Shift, Operator::ShiftRight)),
+        Sign::Plus => Some((Level::Sum, Operator::Add)),
+        Sign::Minus => Some((Level::Sum, Operator::Subtract)),
+        Sign::Star => Some((Level::Term, Operator::Multiply)),
+        Sign::Slash => Some((Level::Term, Operator::Divide)),
+        Sign::Percent => Some((Level::Term, Operator::Remainder)),
         _ => None,
     }
 }
 
 /// The operator of a level that a token of this kind is.
 pub fn operator_of(kind: TokenKind, level: Level) -> Option<Operator> {
-    match kind {
-        TokenKind::Sign(sign) => operator(level, sign),
+    let TokenKind::Sign(sign) = kind else {
+        return None;
+    };
+    match operator(sign) {
+        Some((found, operator)) if found == level => Some(operator),
         _ => None,
     }
 }
@@ -47,6 +76,10 @@ pub fn operator_of(kind: TokenKind, level: Level) -> Option<Operator> {
 pub fn prefix_of(kind: TokenKind) -> Option<Prefix> {
     match kind {
         TokenKind::Sign(Sign::Minus) => Some(Prefix::Negate),
+        TokenKind::Sign(Sign::Not) => Some(Prefix::Not),
+        TokenKind::Sign(Sign::Tilde) => Some(Prefix::Complement),
+        TokenKind::Sign(Sign::Star) => Some(Prefix::Dereference),
+        TokenKind::Sign(Sign::And) => Some(Prefix::AddressOf),
         _ => None,
     }
 }

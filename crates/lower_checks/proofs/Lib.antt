@@ -1,3 +1,4 @@
 pub mod Parts
 pub mod Shape
 pub mod Sizes
+pub mod LastCells

@@ -1,15 +1,14 @@
 -- What a phrase without a fault says of its parts, and a list of the code's links or items as its next one and the others.
-use Rattle.std.proofs.Common.{◌≡◌, ℕ, ◌+◌, ◌<◌, ◌≤◌, arith, append_assoc, List, [], ◌∷◌, ◌++◌, Bool, true, false, ◌&&◌, refl, sym, ap, ◌∙◌, map, length, drop, get_or}
-use Rattle.std.specs.Prelude.{Option, Some, None, if◌then◌else◌}
+use Rattle.std.proofs.Common.{◌≡◌, ℕ, ◌+◌, ◌<◌, ◌≤◌, arith, append_assoc, List, [], ◌∷◌, ◌++◌, refl, sym, ap, ◌∙◌, map, length, drop, get_or}
+use Rattle.std.specs.Prelude.{Option, Some, None}
 use Rattle.std.proofs.lemmas.List.{drop_more}
 use Rattle.std.specs.declared.boxed.Box.{Box}
 use Rattle.std.specs.declared.vec.Vec.{Vec}
 use Rattle.std.specs.declared.alloc.Global.{Global}
 use Rattle.cyc_core.specs.declared.operation.Operation.{Operation}
-use Rattle.cyc_core.specs.declared.operation.Operation.TheVariants.{Constant, Binary}
-use Rattle.cyc_core.specs.declared.operation.Binary.TheVariants as binary
 use Rattle.cyc_tree.specs.declared.name.Name.{Name}
 use Rattle.cyc_tree.specs.declared.expression.Prefix.{Prefix}
+use Rattle.cyc_tree.specs.declared.expression.Prefix.TheVariants as prefix
 use Rattle.cyc_tree.specs.declared.expression.Expression as code
 use Rattle.cyc_tree.specs.declared.expression.Expression.TheVariants as form
 use Rattle.cyc_tree.specs.declared.expression.Link as code_link
@@ -18,12 +17,11 @@ use Rattle.cyc_tree.specs.declared.statement.BlockItem as code_item
 use Rattle.cyc_tree.specs.declared.statement.BlockItem.TheVariants as item_form
 use Rattle.cyc_tree.specs.Tree.{Expression, Links, MoreLinks, Execute}
 use Rattle.cyc_tree.specs.View.{expression_tree, expressions_of, link_tree, links_of, statement_tree, item_tree, items_of}
-use Rattle.cyc_tree.specs.Places.{expression_place}
 use Rattle.cyc_tree.proofs.Forms.{prefixed_tree, call_tree, chain_tree, link_parts}
 use Rattle.cyc_tree.proofs.StatementForms.{execute_tree}
 use Rattle.region_types.specs.declared.fault.Fault.{Fault}
-use Rattle.region_types.specs.Faults.{mistyped, are_arithmetic, parameters_of, count_of, called, expression_faults, expressions_faults, links_faults}
-use Rattle.lower_checks.specs.Lowered.{cell, expression_code, links_code}
+use Rattle.region_types.specs.Faults.{parameters_of, count_of, called, expression_faults, expressions_faults, links_faults}
+use Rattle.lower_checks.specs.Lowered.{prefixed_by, expression_code, links_code}
 
 -- two lists that are empty together
 pub nothing_first : (xs ys : List Fault) → xs ++ ys ≡ [] → xs ≡ []
@@ -34,28 +32,32 @@ pub nothing_after : (xs ys : List Fault) → xs ++ ys ≡ [] → ys ≡ []
 nothing_after [] ys h = h
 nothing_after (x ∷ xs) ys h = cc
 
-pub both_true : (a b : Bool) → (a && b) ≡ true → (a ≡ true) × (b ≡ true)
-both_true true b h = (refl, h)
-both_true false b h = absurd (cc)
-
 -- a chain without a fault
 pub record Faultless (first : Expression) (others : Links) : Type 0 where
-  pub arithmetic : are_arithmetic others ≡ true
   pub head : expression_faults first ≡ []
   pub rest : links_faults others ≡ []
 
-chosen : (b : Bool) (xs ys : List Fault) (at : ℕ) → (if b then xs ++ ys else mistyped at) ≡ [] → (b ≡ true) × (xs ≡ []) × (ys ≡ [])
-chosen true xs ys at h = (refl, nothing_first xs ys h, nothing_after xs ys h)
-chosen false xs ys at h = absurd (cc)
-
 chain_faultless : (first : Expression) (others : Links) → expression_faults (Expression.Chain first others) ≡ [] → Faultless first others
-chain_faultless first others h =
-    let all = chosen (are_arithmetic others) (expression_faults first) (links_faults others) (expression_place first) h in
-    record { arithmetic = all.0; head = all.1; rest = all.2 }
+chain_faultless first others h = record {
+  head = nothing_first (expression_faults first) (links_faults others) h;
+  rest = nothing_after (expression_faults first) (links_faults others) h;
+}
 
 pub chain_parts : (e : code.Expression) (first : Box code.Expression Global) (others : Vec code_link.Link Global) → e ≡ form.Chain first others → expression_faults (expression_tree e) ≡ [] → Faultless (expression_tree first.value) (links_of (map link_tree others.items))
 chain_parts e first others is h =
     chain_faultless (expression_tree first.value) (links_of (map link_tree others.items)) (ap expression_faults (sym (chain_tree first others)) ∙ ap (λ x. expression_faults (expression_tree x)) (sym is) ∙ h)
+
+-- a prefix operator and its operand without a fault
+operand_faultless : (at : ℕ) (operator : Prefix) (operand : Expression) → expression_faults (Expression.Prefixed at operator operand) ≡ [] → expression_faults operand ≡ []
+operand_faultless at prefix.Negate operand h = h
+operand_faultless at prefix.Not operand h = h
+operand_faultless at prefix.Complement operand h = h
+operand_faultless at prefix.Dereference operand h = absurd (cc)
+operand_faultless at prefix.AddressOf operand h = absurd (cc)
+
+pub prefixed_faultless : (e : code.Expression) (at : ℕ) (operator : Prefix) (operand : Box code.Expression Global) → e ≡ form.Prefixed at operator operand → expression_faults (expression_tree e) ≡ [] → expression_faults (expression_tree operand.value) ≡ []
+prefixed_faultless e at operator operand is h =
+    operand_faultless at operator (expression_tree operand.value) (ap expression_faults (sym (prefixed_tree at operator operand)) ∙ ap (λ x. expression_faults (expression_tree x)) (sym is) ∙ h)
 
 -- a call without a fault
 called_faultless : (at : ℕ) (o : Option ℕ) (given : ℕ) (inner : List Fault) → called at o given inner ≡ [] → inner ≡ []
@@ -80,7 +82,7 @@ pub appended : (a b c d : List Operation) → ((a ++ b) ++ c) ++ d ≡ a ++ ((b 
 appended a b c d = simp append_assoc
 
 -- the code of a negation, and of a chain
-pub prefixed_code : (e : code.Expression) (at : ℕ) (operator : Prefix) (operand : Box code.Expression Global) (d : ℕ) → e ≡ form.Prefixed at operator operand → expression_code (expression_tree e) d ≡ (Constant (cell d) 0 ∷ []) ++ expression_code (expression_tree operand.value) (d + 1) ++ (Binary binary.Subtract (cell d) (cell d) (cell (d + 1)) ∷ [])
+pub prefixed_code : (e : code.Expression) (at : ℕ) (operator : Prefix) (operand : Box code.Expression Global) (d : ℕ) → e ≡ form.Prefixed at operator operand → expression_code (expression_tree e) d ≡ prefixed_by operator d (expression_code (expression_tree operand.value) (d + 1))
 prefixed_code e at operator operand d is =
     ap (λ x. expression_code (expression_tree x) d) is ∙ ap (λ t. expression_code t d) (prefixed_tree at operator operand)
 

@@ -1,8 +1,9 @@
 // Statements and programs.
 
-ghost use Rattle.std.specs.Prelude.{◌≡◌, ◌++◌, [], OnOk, IfOk, map};
+ghost use Rattle.std.specs.Prelude.{◌≡◌, ◌≤◌, ◌++◌, [], OnOk, IfOk, map};
 ghost use Rattle.cyc_tree.specs.View.{statement_tree, item_tree, items_of, function_tree};
 ghost use Rattle.region_types.specs.Faults.{statement_faults, block_faults};
+ghost use Rattle.cyc_core.specs.Cells.{IsUpTo, AreUpTo};
 ghost use Rattle.lower_checks.specs.Lowered.{statement_code, block_code, main_code, program_code};
 
 use crate::expression::lower_expression;
@@ -42,43 +43,57 @@ fn lower_block(operations: &mut Vec<Operation>, items: &[BlockItem]) -> Result<(
     Ok(())
 }
 
-/// How many cells operations need: one more than the highest that they name.
-fn cells_of(operations: &[Operation]) -> usize {
-    let mut cells = 1usize;
-    'each: for operation in operations {
-        let Cell(highest) = match operation {
-            Operation::Constant(to, _) | Operation::Getchar(to) | Operation::Return(to) => *to,
-            Operation::Putchar(to, from) => higher(*to, *from),
-            Operation::Binary(_, to, left, right) => higher(*to, higher(*left, *right)),
-        };
-        cells = cells.max(highest.saturating_add(1));
+/// The last cell that an operation names.
+fn last_of(operation: Operation) -> Cell
+    ensures { IsUpTo result.0 operation }
+{
+    match operation {
+        Operation::Constant(to, _) | Operation::Getchar(to) | Operation::Return(to) => to,
+        Operation::Putchar(to, from) => later(to, from),
+        Operation::Binary(_, to, left, right) => later(to, later(left, right)),
     }
-    cells
 }
 
 /// The cell of the higher number.
-fn higher(one: Cell, other: Cell) -> Cell {
+fn later(one: Cell, other: Cell) -> Cell
+    ensures first { one.0 ≤ result.0 }
+    ensures second { other.0 ≤ result.0 }
+{
     if one.0 < other.0 { other } else { one }
+}
+
+/// The last cell that operations name.
+fn last_cell(operations: &[Operation]) -> Cell
+    ensures { AreUpTo result.0 operations.now }
+{
+    let mut last = Cell(0);
+    'each: for operation in operations {
+        last = later(last, last_of(*operation));
+    }
+    last
 }
 
 /// Lowers `main`: what its statements do, and the end, which returns 0.
 fn lower_main(alloc: Global, function: &Function) -> Result<Core, AllocError>
     requires { block_faults (function_tree function.now).body ≡ [] }
-    ensures { IfOk result (λ core. core.main.body.items ≡ main_code (function_tree function.now)) }
+    ensures code { IfOk result (λ core. core.main.body.items ≡ main_code (function_tree function.now)) }
+    ensures cells { IfOk result (λ core. AreUpTo core.main.last.0 core.main.body.items) }
 {
     let mut body = Vec::new(alloc);
     lower_block(&mut body, &function.body)?;
     body.push(Operation::Constant(Cell(0), 0))?;
     body.push(Operation::Return(Cell(0)))?;
-    let cells = cells_of(&body);
+    let last = last_cell(&body);
     Ok(Core {
-        main: Lowered { cells, body },
+        main: Lowered { last, body },
     })
 }
 
 /// The Core of a checked program. Fails only where no host memory is left.
 pub fn lower(alloc: Global, checked: &Checked<'_>) -> Result<Core, AllocError>
-    ensures { IfOk result (λ core. core.main.body.items ≡ program_code checked.now) }
+    ensures code { IfOk result (λ core. core.main.body.items ≡ program_code checked.now) }
+    // the function has all cells that its operations name
+    ensures cells { IfOk result (λ core. AreUpTo core.main.last.0 core.main.body.items) }
 {
     let [item] = checked.program().items() else {
         unreachable!()

@@ -10,10 +10,10 @@ use Rattle.cyc_tree.specs.declared.expression.Expression as code
 use Rattle.cyc_tree.specs.declared.expression.Expression.TheVariants as form
 use Rattle.cyc_tree.specs.declared.expression.Link as code_link
 use Rattle.cyc_tree.specs.View.{OneItem, expression_tree, expressions_of, link_tree, links_of, items_of}
-use Rattle.cyc_tree.specs.Places.{expression_place, declaration_place}
+use Rattle.cyc_tree.specs.Places.{declaration_place}
 use Rattle.cyc_tree.proofs.Forms.{chain_tree, link_parts}
 use Rattle.region_types.specs.declared.fault.Fault.{Fault}
-use Rattle.region_types.specs.Faults.{sooner_of, earliest, mistyped, are_arithmetic, called, counted, count_of, expression_faults, links_faults, statement_faults, block_faults}
+use Rattle.region_types.specs.Faults.{sooner_of, earliest, mistyped, called, counted, count_of, expression_faults, links_faults, statement_faults, block_faults}
 use Rattle.region_types.proofs.Order.{sooner_assoc, earliest_append}
 
 -- what was found before an item, at it and after it
@@ -30,13 +30,12 @@ one_more before after own xs i x found fault h is_item is_own e =
 pub links_more : (l : code_link.Link) (ls : List code_link.Link) → links_faults (links_of (map link_tree (l ∷ ls))) ≡ expression_faults (expression_tree l.operand) ++ links_faults (links_of (map link_tree ls))
 links_more l ls = ap (λ p. links_faults (links_of (p ∷ map link_tree ls))) (link_parts l)
 
--- a chain of arithmetic
-pub chain_fault : (first : Box code.Expression Global) (others : Vec code_link.Link Global) → are_arithmetic (links_of (map link_tree others.items)) ≡ true → sooner_of (earliest (expression_faults (expression_tree first.value))) (earliest (links_faults (links_of (map link_tree others.items)))) ≡ earliest (expression_faults (expression_tree (form.Chain first others)))
-chain_fault first others h =
+-- a chain: its first operand, and the others
+pub chain_fault : (first : Box code.Expression Global) (others : Vec code_link.Link Global) → sooner_of (earliest (expression_faults (expression_tree first.value))) (earliest (links_faults (links_of (map link_tree others.items)))) ≡ earliest (expression_faults (expression_tree (form.Chain first others)))
+chain_fault first others =
     let head = expression_faults (expression_tree first.value) in
     let rest = links_faults (links_of (map link_tree others.items)) in
     sym (earliest_append head rest)
-    ∙ ap (λ b. earliest (if b then head ++ rest else mistyped (expression_place (expression_tree first.value)))) (sym h)
     ∙ ap (λ e. earliest (expression_faults e)) (sym (chain_tree first others))
 
 -- how many arguments there are

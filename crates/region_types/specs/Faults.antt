@@ -1,10 +1,8 @@
 -- The faults of a program: each phrase that breaks a rule of names or types, with the rule and the place.
--- Brought so far is a straight-line `main`: arithmetic on numbers and characters, and calls of `getchar` and `putchar`. A form that isn't
+-- Brought so far is a straight-line `main`: operators on numbers and characters but for `&&` and `||`, and calls of `getchar` and `putchar`. A form that isn't
 -- brought is the fault Typing at its first token, and its parts aren't judged. A phrase with a part at fault isn't judged either.
 use Rattle.std.specs.Prelude.{ℕ, ◌+◌, ◌*◌, List, [], ◌∷◌, ◌++◌, Bool, true, false, ◌||◌, ◌&&◌, nat_eq, nat_lt, if◌then◌else◌, Option, Some, None, codes}
 use Rattle.std.specs.Str.{bytes_eq}
-use Rattle.cyc_tree.specs.declared.expression.Operator.{Operator}
-use Rattle.cyc_tree.specs.declared.expression.Operator.TheVariants.{BitOr, BitXor, BitAnd, Equal, NotEqual, Less, LessEqual, Greater, GreaterEqual, ShiftLeft, ShiftRight, Add, Subtract, Multiply, Divide, Remainder}
 use Rattle.cyc_tree.specs.declared.expression.Prefix.TheVariants.{Negate, Not, Complement, Dereference, AddressOf}
 use Rattle.cyc_tree.specs.Tree as tree
 use Rattle.cyc_tree.specs.Tree.{Expression, Expressions, NoExpressions, MoreExpressions, Links, NoLinks, MoreLinks, Statement, BlockItems, NoItems, Declare, Execute, Item, Program}
@@ -69,28 +67,6 @@ parameters_of name = (if bytes_eq name (codes "getchar") then Some 0 else (if by
 abbrev pub greatest_int : ℕ
 greatest_int = 2147483647
 
-abbrev pub is_arithmetic : Operator → Bool
-is_arithmetic BitOr = false
-is_arithmetic BitXor = false
-is_arithmetic BitAnd = false
-is_arithmetic Equal = false
-is_arithmetic NotEqual = false
-is_arithmetic Less = false
-is_arithmetic LessEqual = false
-is_arithmetic Greater = false
-is_arithmetic GreaterEqual = false
-is_arithmetic ShiftLeft = false
-is_arithmetic ShiftRight = false
-is_arithmetic Add = true
-is_arithmetic Subtract = true
-is_arithmetic Multiply = true
-is_arithmetic Divide = true
-is_arithmetic Remainder = true
-
-abbrev pub are_arithmetic : Links → Bool
-are_arithmetic NoLinks = true
-are_arithmetic (MoreLinks operator operand others) = is_arithmetic operator && are_arithmetic others
-
 abbrev pub count_of : Expressions → ℕ
 count_of NoExpressions = 0
 count_of (MoreExpressions first others) = 1 + count_of others
@@ -121,14 +97,13 @@ abbrev mutual
   expression_faults (Expression.Grouped at inner) = expression_faults inner
   expression_faults (Expression.Suffixed primary _) = mistyped (expression_place primary)
   expression_faults (Expression.Prefixed at Negate operand) = expression_faults operand
-  expression_faults (Expression.Prefixed at Not operand) = mistyped at
-  expression_faults (Expression.Prefixed at Complement operand) = mistyped at
+  expression_faults (Expression.Prefixed at Not operand) = expression_faults operand
+  expression_faults (Expression.Prefixed at Complement operand) = expression_faults operand
   expression_faults (Expression.Prefixed at Dereference operand) = mistyped at
   expression_faults (Expression.Prefixed at AddressOf operand) = mistyped at
   expression_faults (Expression.New at made) = mistyped at
   expression_faults (Expression.NewIn at handle made) = mistyped at
-  expression_faults (Expression.Chain first others) =
-      (if are_arithmetic others then expression_faults first ++ links_faults others else mistyped (expression_place first))
+  expression_faults (Expression.Chain first others) = expression_faults first ++ links_faults others
   expression_faults (Expression.AllOf first others) = mistyped (expression_place first)
   expression_faults (Expression.AnyOf first others) = mistyped (expression_place first)
   expression_faults (Expression.Assign place value) = mistyped (expression_place place)

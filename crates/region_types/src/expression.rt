@@ -2,10 +2,10 @@
 
 ghost use Rattle.std.specs.Prelude.{◌≡◌, map, length};
 ghost use Rattle.cyc_tree.specs.View.{expression_tree, expressions_of, link_tree, links_of, name_tree};
-ghost use Rattle.region_types.specs.Faults.{named, mistyped, parameters_of, is_arithmetic, are_arithmetic, called, count_of, earliest, expression_faults, expressions_faults, links_faults};
+ghost use Rattle.region_types.specs.Faults.{named, mistyped, parameters_of, called, count_of, earliest, expression_faults, expressions_faults, links_faults};
 
 use crate::fault::{Fault, FaultKind, sooner};
-use cyc_tree::{Expression, Link, Name, Operator, Prefix};
+use cyc_tree::{Expression, Link, Name, Prefix};
 
 /// The greatest number without suffix that is an `int`.
 const GREATEST_INT: u32 = 2147483647;
@@ -43,30 +43,6 @@ fn parameters(name: &[u8]) -> Option<usize>
     }
 }
 
-fn is_arithmetic(operator: Operator) -> bool
-    ensures { result ≡ is_arithmetic operator }
-{
-    matches!(
-        operator,
-        Operator::Add
-            | Operator::Subtract
-            | Operator::Multiply
-            | Operator::Divide
-            | Operator::Remainder
-    )
-}
-
-fn are_arithmetic(links: &[Link]) -> bool
-    ensures { result ≡ are_arithmetic (links_of (map link_tree links.now)) }
-{
-    for link in links {
-        if !is_arithmetic(link.operator) {
-            return false;
-        }
-    }
-    true
-}
-
 /// The first fault of an expression.
 #[cycle(expression)]
 pub fn expression_fault(expression: &Expression) -> Option<Fault>
@@ -83,14 +59,10 @@ pub fn expression_fault(expression: &Expression) -> Option<Fault>
         Expression::Character(_, _) => None,
         Expression::Call(name, arguments) => call_fault(name, arguments),
         Expression::Grouped(_, inner) => expression_fault(inner),
-        Expression::Prefixed(_, Prefix::Negate, operand) => expression_fault(operand),
-        Expression::Chain(first, links) => {
-            if are_arithmetic(links) {
-                sooner(expression_fault(first), links_fault(links))
-            } else {
-                mistyped(first.place())
-            }
-        }
+        Expression::Prefixed(_, Prefix::Negate | Prefix::Not | Prefix::Complement, operand) => {
+            expression_fault(operand)
+        },
+        Expression::Chain(first, links) => sooner(expression_fault(first), links_fault(links)),
         other => mistyped(other.place()),
     }
 }

@@ -1,8 +1,8 @@
 //! The machine: RV32IM with the memory map and the calls of docs/MACHINE.md.
 //!
-//! `Machine::new` makes the arrays for an image; `step` executes one instruction, as the instruction
-//! table of specs/Step.antt says, and takes no memory; `give` answers a `getchar`. Stands on `rv32_isa`, `cyc_words` and
-//! `cyc_image`.
+//! `Machine::new` makes the arrays for an image and decodes its code. `step` executes one
+//! instruction, for every instruction and every fault as specs/Step.antt says, and takes no memory.
+//! `give` answers a `getchar`. Stands on `rv32_isa`, `cyc_words` and `cyc_image`.
 #![tactic(auto)]
 
 mod access;

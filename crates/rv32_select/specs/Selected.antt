@@ -1,8 +1,8 @@
 -- The instructions that each operation of Core becomes. A cell's slot is four bytes above the stack pointer for each cell below it.
-use Rattle.std.specs.Prelude.{ℕ, ℤ, ◌+◌, ◌-◌, ◌*◌, ◌/◌, ◌%◌, ◌^◌, List, [], ◌∷◌, ◌++◌, Bool, ◌||◌, nat_lt, nat_le, if◌then◌else◌}
+use Rattle.std.specs.Prelude.{ℕ, ℤ, pos, ◌+◌, ◌-◌, ◌*◌, ◌/◌, ◌%◌, ◌^◌, List, [], ◌∷◌, ◌++◌, Bool, true, false, ◌||◌, nat_lt, nat_le, if◌then◌else◌}
 use Rattle.rv32_isa.specs.Numbers.{signed}
 use Rattle.rv32_isa.specs.declared.instruction.Instr.{Instr}
-use Rattle.rv32_isa.specs.declared.instruction.Instr.TheVariants.{Lui, Addi, Lw, Sw, Add, Sub, Mul, Div, Rem, Ecall}
+use Rattle.rv32_isa.specs.declared.instruction.Instr.TheVariants.{Lui, Lw, Sw, Addi, Sltiu, Xori, Add, Sub, Sll, Slt, Sltu, Xor, Sra, Or, And, Ecall, Mul, Div, Rem}
 use Rattle.cyc_core.specs.declared.operation.Binary as core_binary
 use Rattle.cyc_core.specs.declared.operation.Binary.TheVariants as binary
 use Rattle.cyc_core.specs.declared.operation.Cell.{Cell}
@@ -81,12 +81,55 @@ save_code from offset =
 
 -- ---- operations
 
-abbrev pub instruction_of : core_binary.Binary → Instr
-instruction_of binary.Add = Add result_register result_register operand_register
-instruction_of binary.Subtract = Sub result_register result_register operand_register
-instruction_of binary.Multiply = Mul result_register result_register operand_register
-instruction_of binary.Divide = Div result_register result_register operand_register
-instruction_of binary.Remainder = Rem result_register result_register operand_register
+-- an instruction on the two operands, into the first one's register
+abbrev pub applied : (ℕ → ℕ → ℕ → Instr) → Line
+applied instr = Plain (instr result_register result_register operand_register)
+
+-- the same with the operands the other way
+abbrev pub swapped : (ℕ → ℕ → ℕ → Instr) → Line
+swapped instr = Plain (instr result_register operand_register result_register)
+
+-- 1 for 0 and 0 for 1
+abbrev pub inverted : Line
+inverted = Plain (Xori result_register result_register (pos 1))
+
+-- what an operation does to the two operands
+abbrev pub binary_code : core_binary.Binary → List Line
+binary_code binary.Add = applied Add ∷ []
+binary_code binary.Subtract = applied Sub ∷ []
+binary_code binary.Multiply = applied Mul ∷ []
+binary_code binary.Divide = applied Div ∷ []
+binary_code binary.Remainder = applied Rem ∷ []
+binary_code binary.And = applied And ∷ []
+binary_code binary.Or = applied Or ∷ []
+binary_code binary.Xor = applied Xor ∷ []
+binary_code binary.ShiftLeft = applied Sll ∷ []
+binary_code binary.ShiftRight = applied Sra ∷ []
+binary_code binary.Equal = applied Sub ∷ Plain (Sltiu result_register result_register (pos 1)) ∷ []
+binary_code binary.NotEqual = applied Sub ∷ Plain (Sltu result_register zero_register result_register) ∷ []
+binary_code binary.Less = applied Slt ∷ []
+binary_code binary.LessEqual = swapped Slt ∷ inverted ∷ []
+binary_code binary.Greater = swapped Slt ∷ []
+binary_code binary.GreaterEqual = applied Slt ∷ inverted ∷ []
+
+-- the comparisons that take two instructions
+abbrev pub takes_two : core_binary.Binary → Bool
+takes_two binary.Add = false
+takes_two binary.Subtract = false
+takes_two binary.Multiply = false
+takes_two binary.Divide = false
+takes_two binary.Remainder = false
+takes_two binary.And = false
+takes_two binary.Or = false
+takes_two binary.Xor = false
+takes_two binary.ShiftLeft = false
+takes_two binary.ShiftRight = false
+takes_two binary.Equal = true
+takes_two binary.NotEqual = true
+takes_two binary.Less = false
+takes_two binary.LessEqual = true
+takes_two binary.Greater = false
+takes_two binary.GreaterEqual = true
 
 -- a call of the environment: 0 exits, 1 writes a byte, 2 reads one
 abbrev pub call_code : ℕ → List Line
@@ -95,7 +138,7 @@ call_code number = constant_code number_register number ++ (Plain Ecall ∷ [])
 abbrev pub operation_code : Operation → List Line
 operation_code (Constant to word) = constant_code result_register word ++ save_code result_register (slot_of to)
 operation_code (Binary operation to left right) =
-    load_code result_register (slot_of left) ++ load_code operand_register (slot_of right) ++ (Plain (instruction_of operation) ∷ []) ++
+    load_code result_register (slot_of left) ++ load_code operand_register (slot_of right) ++ binary_code operation ++
     save_code result_register (slot_of to)
 operation_code (Getchar to) = call_code 2 ++ save_code argument_register (slot_of to)
 operation_code (Putchar to from) =
@@ -106,10 +149,10 @@ abbrev pub operations_code : List Operation → List Line
 operations_code [] = []
 operations_code (o ∷ os) = operation_code o ++ operations_code os
 
--- the bytes of a frame of so many cells, rounded up to 16
-abbrev pub frame_bytes : ℕ → ℕ
-frame_bytes cells = (cells % 2 ^ 29 * 4 + 15) / 16 * 16
+-- the bytes of a frame with the slots up to the last cell's, rounded up to 16
+abbrev pub frame_bytes : Cell → ℕ
+frame_bytes last = (slot_of last + 19) / 16 * 16
 
 -- `main`: its frame, and then what it does
-abbrev pub main_code : ℕ → List Operation → List Line
-main_code cells operations = stack_move_code ((2 ^ 32 - frame_bytes cells) % 2 ^ 32) ++ operations_code operations
+abbrev pub main_code : Cell → List Operation → List Line
+main_code last operations = stack_move_code ((2 ^ 32 - frame_bytes last) % 2 ^ 32) ++ operations_code operations

@@ -37,6 +37,9 @@ fn refusals_have_their_places(rt: HostRuntime) -> Result<(), Fail> {
         ),
         (b"int main() { return 1u; }", b"IN:1:21: Type\n"),
         (b"int main() { return 2147483648; }", b"IN:1:21: Type\n"),
+        (b"int main() { return 1 + *2; }", b"IN:1:25: Type\n"),
+        (b"int main() { return &3; }", b"IN:1:21: Type\n"),
+        (b"int main() { return 1 && 2; }", b"IN:1:23: Parse\n"),
         (b"int f() { }\nint main() { }", b"IN:1:1: Type\n"),
         (b"int main() { }\nint main() { }", b"IN:2:5: Name\n"),
         (

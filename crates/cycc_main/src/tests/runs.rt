@@ -93,6 +93,53 @@ fn operators_have_their_values(rt: HostRuntime) -> Result<(), Fail> {
 }
 
 #[test]
+fn other_operators_have_their_values(rt: HostRuntime) -> Result<(), Fail> {
+    let alloc = rt.alloc();
+    for (source, status) in [
+        (
+            b"int main() { return 7 & 3 | 8; }".as_slice(),
+            b"ended 11\n".as_slice(),
+        ),
+        (b"int main() { return 6 ^ 3; }", b"ended 5\n"),
+        (b"int main() { return 1 | 2 ^ 3 & 2; }", b"ended 1\n"),
+        (b"int main() { return 6 & 5 == 5; }", b"ended 0\n"),
+        (b"int main() { return 1 << 4 + 1; }", b"ended 32\n"),
+        (b"int main() { return 1 << 33; }", b"ended 2\n"),
+        (b"int main() { return 1 << 31; }", b"ended -2147483648\n"),
+        (b"int main() { return -16 >> 2; }", b"ended -4\n"),
+        (b"int main() { return -1 >> 32; }", b"ended -1\n"),
+        (b"int main() { return -1 >> 31; }", b"ended -1\n"),
+        (b"int main() { return 1 < 2 == 1; }", b"ended 1\n"),
+        (b"int main() { return 3 > 2 > 1; }", b"ended 0\n"),
+        (
+            b"int main() { return (2 <= 2) * 2 + (3 >= 4); }",
+            b"ended 2\n",
+        ),
+        (
+            b"int main() { return (2 <= 1) * 2 + (4 >= 4); }",
+            b"ended 1\n",
+        ),
+        (b"int main() { return 5 == 5 != 0; }", b"ended 1\n"),
+        (b"int main() { return 5 != 5; }", b"ended 0\n"),
+        (b"int main() { return -2147483647 - 1 < 0; }", b"ended 1\n"),
+        (b"int main() { return -1 > 2147483647; }", b"ended 0\n"),
+        (b"int main() { return -1 <= 0; }", b"ended 1\n"),
+        (b"int main() { return !0 + !7; }", b"ended 1\n"),
+        (b"int main() { return !!-3; }", b"ended 1\n"),
+        (b"int main() { return ~5; }", b"ended -6\n"),
+        (b"int main() { return -~0; }", b"ended 1\n"),
+        (
+            b"int main() { return 'a' <= 'z' & 'a' >= 'A'; }",
+            b"ended 1\n",
+        ),
+    ] {
+        let ran = run(alloc, source, &[])?;
+        assert_eq!(rt; ran.said.as_slice(), status, "{:?}", source);
+    }
+    Ok(())
+}
+
+#[test]
 fn input_comes_in_order_and_ends(rt: HostRuntime) -> Result<(), Fail> {
     let alloc = rt.alloc();
     let source =

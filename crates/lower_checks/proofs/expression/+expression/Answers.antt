@@ -1,12 +1,11 @@
-use Rattle.std.proofs.Common.{◌≡◌, ◌+◌, ◌++◌, [], ◌∷◌, true, map, drop, rules, arith, sym, ap, ◌∙◌, append_assoc}
+use Rattle.std.proofs.Common.{◌≡◌, ◌+◌, ◌++◌, [], ◌∷◌, map, drop, rules, arith, sym, ap, ◌∙◌, append_assoc}
 use Rattle.std.proofs.lemmas.Result.{on_ok_weaker}
-use Rattle.cyc_core.specs.declared.operation.Operation.TheVariants.{Constant, Binary}
-use Rattle.cyc_core.specs.declared.operation.Binary.TheVariants as binary
+use Rattle.cyc_core.specs.declared.operation.Operation.TheVariants.{Binary}
 use Rattle.cyc_tree.specs.View.{expression_tree, expressions_of, link_tree, links_of}
-use Rattle.region_types.specs.Faults.{is_arithmetic, expression_faults, links_faults, expressions_faults, are_arithmetic}
+use Rattle.region_types.specs.Faults.{expression_faults, links_faults, expressions_faults}
 use Rattle.lower_checks.specs.Lowered.{cell, binary_of, expression_code, links_code}
 use Rattle.lower_checks.proofs.Sizes.{expression_size, arguments_size, links_size, call_size, chain_size, first_smaller}
-use Rattle.lower_checks.proofs.Parts.{nothing_first, nothing_after, both_true, call_faultless, first_faultless, chain_parts, prefixed_code, chain_code, next_link, appended}
+use Rattle.lower_checks.proofs.Parts.{nothing_first, nothing_after, call_faultless, first_faultless, chain_parts, chain_code, next_link, appended}
 use Rattle.lower_checks.proofs.expression.+expression.Goals as goal
 
 pub lower_call-lower_expression-requires : goal.lower_call-lower_expression-requires
@@ -27,23 +26,9 @@ pub lower_expression-lower_links-requires : goal.lower_expression-lower_links-re
 lower_expression-lower_links-requires t c =
     let all = chain_parts c.args.expression.now c.in-Chain.first c.in-Chain.links c.in-Chain.is c.requires.faultless in
     let faultless : links_faults (links_of (map link_tree c.deref-in-Chain-2.result.now)) ≡ [] = cc (all.rest, c.deref-in-Chain-2.ensures.value) in
-    let arithmetic : are_arithmetic (links_of (map link_tree c.deref-in-Chain-2.result.now)) ≡ true = cc (all.arithmetic, c.deref-in-Chain-2.ensures.value) in
     let size = chain_size c.args.expression.now c.in-Chain.first c.in-Chain.links c.in-Chain.is in
     let same = ap (λ l. links_size (links_of (map link_tree l))) c.deref-in-Chain-2.ensures.value in
-    (omega arith, (faultless, (arithmetic, c.in_ok-lower_expression-in-Chain.ensures.grows)))
-
-pub lower_expression-returns-in_ok-push-in-Prefixed-default-Negate-default-2-clause-code : goal.lower_expression-returns-in_ok-push-in-Prefixed-default-Negate-default-2-clause-code
-lower_expression-returns-in_ok-push-in-Prefixed-default-Negate-default-2-clause-code t c =
-    let base = c.args.operations.now.items in
-    let d = c.args.cell in
-    let operand = expression_code (expression_tree c.in-Prefixed-default-Negate-default.operand.value) (d + 1) in
-    let zero_first = Constant (cell d) 0 ∷ [] in
-    let last = Binary binary.Subtract (cell d) (cell d) (cell (d + 1)) ∷ [] in
-    let code = prefixed_code c.args.expression.now c.in-Prefixed-default-Negate-default.field-0 c.in-Prefixed-default-Negate-default.field-1 c.in-Prefixed-default-Negate-default.operand d c.in-Prefixed-default-Negate-default.is in
-    let one : c.push-in-Prefixed-default-Negate-default.new.self.items ≡ base ++ zero_first = c.in_ok-push-in-Prefixed-default-Negate-default.ensures.items in
-    let two : c.lower_expression-in-Prefixed-default-Negate-default.new.operations.items ≡ (base ++ zero_first) ++ operand = cc (one, c.in_ok-lower_expression-in-Prefixed-default-Negate-default.ensures.code, c.deref-in-Prefixed-default-Negate-default.ensures) in
-    let three : c.push-in-Prefixed-default-Negate-default-2.new.self.items ≡ ((base ++ zero_first) ++ operand) ++ last = cc (two, c.in_ok-push-in-Prefixed-default-Negate-default-2.ensures.items) in
-    three ∙ appended base zero_first operand last ∙ ap (λ l. base ++ l) (sym code)
+    (omega arith, (faultless, c.in_ok-lower_expression-in-Chain.ensures.grows))
 
 pub lower_expression-returns-in_ok-lower_expression-in-Chain-clause-code : goal.lower_expression-returns-in_ok-lower_expression-in-Chain-clause-code
 lower_expression-returns-in_ok-lower_expression-in-Chain-clause-code t c =
@@ -68,13 +53,6 @@ lower_links-lower_expression-requires t c =
     let smaller = ap links_size next in
     (omega arith, (own, omega arith))
 
-pub lower_links-binary-requires : goal.lower_links-binary-requires
-lower_links-binary-requires t c =
-    let l = c.link-item.result in
-    let next = next_link c.args.links.now c.each.link-index l c.each-test.true c.link-item.is in
-    let rest = links_of (map link_tree (drop (c.each.link-index + 1) c.args.links.now)) in
-    (both_true (is_arithmetic l.operator) (are_arithmetic rest) (ap are_arithmetic (sym next) ∙ c.each.invariant.arithmetic)).0
-
 pub lower_links-each-preserved : goal.lower_links-each-preserved
 lower_links-each-preserved t c =
     let l = c.link-item.result in
@@ -92,7 +70,6 @@ lower_links-each-preserved t c =
           ∙ ap (λ x. base ++ links_code x d) (sym next)
           ∙ c.each.invariant.code;
       faultless = nothing_after (expression_faults (expression_tree l.operand)) (links_faults rest) (ap links_faults (sym next) ∙ c.each.invariant.faultless);
-      arithmetic = (both_true (is_arithmetic l.operator) (are_arithmetic rest) (ap are_arithmetic (sym next) ∙ c.each.invariant.arithmetic)).1;
       size = omega (arith, ap links_size next, c.each.invariant.size);
       grows = search rules;
     }

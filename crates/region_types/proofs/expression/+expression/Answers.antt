@@ -3,7 +3,7 @@ use Rattle.cyc_tree.specs.declared.expression.Expression as code
 use Rattle.cyc_tree.specs.declared.expression.Link as code_link
 use Rattle.std.specs.Prelude.{Some, is_some}
 use Rattle.cyc_tree.specs.View.{expression_tree, expressions_of, link_tree, links_of}
-use Rattle.region_types.specs.Faults.{are_arithmetic, parameters_of, count_of, earliest, sooner_of, expression_faults, expressions_faults, links_faults}
+use Rattle.region_types.specs.Faults.{parameters_of, count_of, earliest, sooner_of, expression_faults, expressions_faults, links_faults}
 use Rattle.region_types.proofs.Steps.{one_more, links_more, chain_fault, count_all, called_inner, called_own}
 use Rattle.region_types.proofs.expression.+expression.Goals as goal
 
@@ -28,11 +28,10 @@ call_fault-returns-else-wanted-arguments t c =
     let none : is_some (earliest (expressions_faults given)) ≡ false = cc in
     c.mistyped.ensures ∙ called_own name.at c.in-Some.wanted (count_of given) (parameters_of name.text.items) (expressions_faults given) known none (λ e. c.if-wanted-arguments.false.1 (e ∙ count_all es))
 
-pub expression_fault-returns-then-are_arithmetic : goal.expression_fault-returns-then-are_arithmetic
-expression_fault-returns-then-are_arithmetic t c =
-    let is : are_arithmetic (links_of (map link_tree c.in-Chain.links.items)) ≡ true = cc (c.deref-in-Chain.ensures.value) in
-    let e = chain_fault c.in-Chain.first c.in-Chain.links is in
-    cc (c.deref-then-are_arithmetic.ensures, c.deref-then-are_arithmetic-2.ensures.value)
+pub expression_fault-returns-in-Chain : goal.expression_fault-returns-in-Chain
+expression_fault-returns-in-Chain t c =
+    let e = chain_fault c.in-Chain.first c.in-Chain.links in
+    cc (c.deref-in-Chain.ensures, c.deref-in-Chain-2.ensures.value)
 
 pub expressions_fault-each-preserved : goal.expressions_fault-each-preserved
 expressions_fault-each-preserved t c =

@@ -72,6 +72,7 @@ fn parser<'a>(alloc: Global) -> Result<Parser<'a>, AllocError> {
         .arg(steps(alloc))?
         .arg(ending(alloc))?;
     Parser::new(alloc, "cycc")
+        .bin_name("cycc")?
         .about("Checks, compiles and runs a source in a safe C with regions")
         .subcommand_required(true)
         .subcommand(check)?

@@ -1,1 +1,3 @@
 pub mod Failures
+pub mod Transfers
+pub mod Hosted

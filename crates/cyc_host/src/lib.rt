@@ -1,11 +1,14 @@
 //! Runs a machine between a reader and a writer.
 //!
 //! `run` steps a machine, gathers its output and writes it when 4,096 bytes are gathered, before each read and at each
-//! ending, and reads a byte where the machine asks for one. Stands on `rv32_machine`, `cyc_words` and `arrayvec`.
+//! ending, and reads a byte where the machine asks for one. Stands on `rv32_machine`, `cyc_words` and `arrayvec`; its tests and
+//! proofs also on `rv32_isa` and `cyc_image`.
 #![tactic(auto)]
 
 mod ending;
 mod running;
+#[cfg(test)]
+mod tests;
 mod transfer;
 
 pub use ending::Ending;

@@ -1,7 +1,10 @@
 // The loop of a run.
 
-ghost use Rattle.std.specs.Prelude.{◌≡◌, ◌≢◌, ◌≤◌, ◌⊎◌};
+ghost use Rattle.std.specs.Prelude.{◌≡◌, ◌≢◌, ◌<◌, ◌≤◌, ◌⊎◌};
+ghost use Rattle.rv32_machine.specs.Arrays.{lengths_of, state_of};
+ghost use Rattle.rv32_machine.specs.State.{Runs};
 ghost use Rattle.cyc_host.specs.Failures.{HasFailed};
+ghost use Rattle.cyc_host.specs.Hosted.{IsHosted, IsHostedToTheEnd, Written};
 
 use crate::ending::Ending;
 use crate::transfer::{GATHERED_BYTES, flush, put, read};
@@ -17,6 +20,7 @@ fn finish<W: Output>(
 ) -> Ending
     requires { ending ≢ Ending.WriteFault }
     ensures same { (result ≡ ending) ⊎ (result ≡ Ending.WriteFault) }
+    ensures written { Written result (W.contents writer.old) (W.contents writer.new) gathered.old.items }
     ensures grows { W.fault_count writer.old ≤ W.fault_count writer.new }
     ensures failed { result ≡ Ending.WriteFault → HasFailed (W.fault_count writer.old) (W.fault_count writer.new) }
 {
@@ -37,6 +41,15 @@ pub fn run<R: Input, W: Output>(
     writer: &mut W,
     steps: u64,
 ) -> Ending
+    // what is written is the output of the machine's run on the bytes that the reader gave, and the ending is the machine's
+    ensures hosted { IsHosted result (lengths_of machine.old) steps (state_of machine.old) (state_of machine.new)
+        (R.remaining reader.old) (R.remaining reader.new) (W.contents writer.old) (W.contents writer.new) }
+    // the machine is told of the input's end only where the reader is at its end
+    ensures at_end { IsHostedToTheEnd result (lengths_of machine.old) steps (state_of machine.old) (state_of machine.new)
+        (R.remaining reader.old) (R.remaining reader.new) (W.contents writer.old) (W.contents writer.new) }
+    // at the step limit the machine runs on
+    ensures goes_on { result ≡ Ending.StepLimit → 0 < steps → (state_of machine.new).mode ≡ Runs }
+    ensures lengths { lengths_of machine.new ≡ lengths_of machine.old }
     // each device's fault comes only where a call of that device failed
     ensures read_fault { result ≡ Ending.ReadFault → HasFailed (R.fault_count reader.old) (R.fault_count reader.new) }
     ensures write_fault { result ≡ Ending.WriteFault → HasFailed (W.fault_count writer.old) (W.fault_count writer.new) }

@@ -1,0 +1,328 @@
+// Runs of short images that were assembled by hand, with readers and writers that stumble.
+
+use super::*;
+use arrayvec::ArrayVec;
+use cyc_image::{Parts, load, write};
+use cyc_words::{Counted, Input, Kind, MachineFault, Output};
+use rv32_isa::decode;
+use rv32_machine::Machine;
+use std::alloc::Global;
+use std::io;
+use std::io::{Error, ErrorKind, Read, Write};
+use std::test::Fail;
+
+// gives one byte at a call and the end after the last one; fails at the call of that number
+#[derive(Drop)]
+struct Script {
+    bytes: &'static [u8],
+    calls: u16,
+    fails_at: u16,
+}
+
+impl Script {
+    fn new(bytes: &'static [u8], fails_at: u16) -> Counted<Script> {
+        Counted::new(Script {
+            bytes,
+            calls: 0,
+            fails_at,
+        })
+    }
+}
+
+impl Read for Script {
+    fn read(&mut self, buffer: &mut [u8]) -> io::Result<usize> {
+        self.calls = self.calls.saturating_add(1);
+        if self.calls == self.fails_at {
+            return Err(Error::from(ErrorKind::Other));
+        }
+        if buffer.is_empty() || self.bytes.is_empty() {
+            return Ok(0);
+        }
+        buffer[0] = self.bytes[0];
+        self.bytes = &self.bytes[1..];
+        Ok(1)
+    }
+}
+
+// what a writer does at the call at which it stumbles
+#[derive(Clone, Copy, PartialEq, Eq, Debug)]
+enum Stumble {
+    TakesNothing,
+    Fails,
+}
+
+// keeps what it takes, so many bytes at a call at most; stumbles at the call of that number
+#[derive(Drop)]
+struct Tape {
+    written: ArrayVec<u8, 8192>,
+    most: usize,
+    calls: u16,
+    stumbles_at: u16,
+    stumble: Stumble,
+}
+
+impl Tape {
+    fn new(most: usize, stumbles_at: u16, stumble: Stumble) -> Counted<Tape> {
+        Counted::new(Tape {
+            written: ArrayVec::new(),
+            most,
+            calls: 0,
+            stumbles_at,
+            stumble,
+        })
+    }
+
+    // one that takes all and never stumbles
+    fn plain() -> Counted<Tape> {
+        Tape::new(8192, 0, Stumble::Fails)
+    }
+}
+
+impl Write for Tape {
+    fn write(&mut self, bytes: &[u8]) -> io::Result<usize> {
+        self.calls = self.calls.saturating_add(1);
+        if self.calls == self.stumbles_at {
+            return match self.stumble {
+                Stumble::TakesNothing => Ok(0),
+                Stumble::Fails => Err(Error::from(ErrorKind::Other)),
+            };
+        }
+        let taken = bytes.len().min(self.most);
+        for byte in &bytes[..taken] {
+            let _ = self.written.try_push(*byte);
+        }
+        Ok(taken)
+    }
+
+    fn flush(&mut self) -> io::Result<()> {
+        Ok(())
+    }
+}
+
+type Word = (u32, &'static str);
+
+// the machine of an image of one page with these words, at its first instruction
+fn machine_of(alloc: Global, words: &[Word]) -> Result<Machine, Fail> {
+    let mut code = Vec::new(alloc);
+    for (word, _) in words {
+        code.extend_from_slice(&word.to_le_bytes())?;
+    }
+    let parts = Parts {
+        entry: 0,
+        code: &code,
+        statics: b"",
+        pages: 1,
+    };
+    if !parts.fits() {
+        return Err(Fail::from("the parts do not fit"));
+    }
+    let bytes = write(alloc, &parts)?;
+    let image = load(alloc, &bytes)?;
+    Ok(Machine::new(alloc, &image)?)
+}
+
+// puts out each byte that it gets, in six steps, and ends with 0 at the end of the input
+const ECHO: [Word; 9] = [
+    (0x0020_0893, "addi x17, x0, 2"),
+    (0x0000_0073, "ecall"),
+    (0x0005_4863, "blt x10, x0, 16"),
+    (0x0010_0893, "addi x17, x0, 1"),
+    (0x0000_0073, "ecall"),
+    (0xFEDF_F06F, "jal x0, -20"),
+    (0x0000_0893, "addi x17, x0, 0"),
+    (0x0000_0513, "addi x10, x0, 0"),
+    (0x0000_0073, "ecall"),
+];
+
+// gets twice, and ends with what the second getchar answered
+const TWICE: [Word; 5] = [
+    (0x0020_0893, "addi x17, x0, 2"),
+    (0x0000_0073, "ecall"),
+    (0x0000_0073, "ecall"),
+    (0x0000_0893, "addi x17, x0, 0"),
+    (0x0000_0073, "ecall"),
+];
+
+// puts out A, and raises
+const RAISES: [Word; 6] = [
+    (0x0410_0513, "addi x10, x0, 65"),
+    (0x0010_0893, "addi x17, x0, 1"),
+    (0x0000_0073, "ecall"),
+    (0x0020_0513, "addi x10, x0, 2"),
+    (0x0030_0893, "addi x17, x0, 3"),
+    (0x0000_0073, "ecall"),
+];
+
+const FIVE: Word = (0x0050_0293, "addi x5, x0, 5");
+
+const PAGE: Word = (0x0000_12B7, "lui x5, 1");
+
+const LESS: Word = (0xFFF2_8293, "addi x5, x5, -1");
+
+const SAME: Word = (0x0002_8293, "addi x5, x5, 0");
+
+const MORE: Word = (0x0012_8293, "addi x5, x5, 1");
+
+// puts out A so many times, as two instructions leave in x5, and ends with 65
+fn prints(first: Word, second: Word) -> [Word; 9] {
+    [
+        (0x0010_0893, "addi x17, x0, 1"),
+        (0x0410_0513, "addi x10, x0, 65"),
+        first,
+        second,
+        (0x0000_0073, "ecall"),
+        LESS,
+        (0xFE02_9CE3, "bne x5, x0, -8"),
+        (0x0000_0893, "addi x17, x0, 0"),
+        (0x0000_0073, "ecall"),
+    ]
+}
+
+// fails where an assembler reads another word for one of the texts
+fn check_texts(alloc: Global, words: &[Word]) -> Result<(), Fail> {
+    for (word, text) in words {
+        let instr = decode(*word).ok_or("no instruction")?;
+        let display = format!(in alloc; "{instr}")?;
+        if display.as_str() != *text {
+            return Err(Fail::from("another text"));
+        }
+    }
+    Ok(())
+}
+
+#[test]
+fn the_words_are_what_their_texts_say(rt: HostRuntime) -> Result<(), Fail> {
+    check_texts(rt.alloc(), &ECHO)?;
+    check_texts(rt.alloc(), &TWICE)?;
+    check_texts(rt.alloc(), &RAISES)?;
+    check_texts(rt.alloc(), &prints(FIVE, SAME))?;
+    check_texts(rt.alloc(), &prints(PAGE, MORE))
+}
+
+#[test]
+fn an_echo_writes_what_it_reads(rt: HostRuntime) -> Result<(), Fail> {
+    let mut machine = machine_of(rt.alloc(), &ECHO)?;
+    let mut reader = Script::new(b"hello", 0);
+    let mut writer = Tape::plain();
+    let ending = run(&mut machine, &mut reader, &mut writer, 1000);
+    assert_eq!(rt; ending, Ending::Ended(0));
+    assert_eq!(rt; writer.get_ref().written.as_slice(), b"hello".as_slice());
+    assert_eq!(rt; (reader.get_ref().calls, writer.get_ref().calls), (6, 5));
+    Ok(())
+}
+
+#[test]
+fn after_the_end_nothing_is_read(rt: HostRuntime) -> Result<(), Fail> {
+    let mut machine = machine_of(rt.alloc(), &TWICE)?;
+    let mut reader = Script::new(b"", 0);
+    let ending = run(&mut machine, &mut reader, &mut Tape::plain(), 1000);
+    assert_eq!(rt; ending, Ending::Ended(-1));
+    assert_eq!(rt; reader.get_ref().calls, 1);
+    Ok(())
+}
+
+#[test]
+fn a_run_goes_on_after_a_failed_read(rt: HostRuntime) -> Result<(), Fail> {
+    let mut machine = machine_of(rt.alloc(), &ECHO)?;
+    let mut reader = Script::new(b"hello", 3);
+    let mut writer = Tape::plain();
+    let first = run(&mut machine, &mut reader, &mut writer, 1000);
+    assert_eq!(rt; first, Ending::ReadFault);
+    assert_eq!(rt; writer.get_ref().written.as_slice(), b"he".as_slice());
+    let second = run(&mut machine, &mut reader, &mut writer, 1000);
+    assert_eq!(rt; second, Ending::Ended(0));
+    assert_eq!(rt; writer.get_ref().written.as_slice(), b"hello".as_slice());
+    assert_eq!(rt; (reader.faults(), writer.faults()), (1, 0));
+    Ok(())
+}
+
+#[test]
+fn a_run_goes_on_after_each_step(rt: HostRuntime) -> Result<(), Fail> {
+    let mut machine = machine_of(rt.alloc(), &ECHO)?;
+    let mut reader = Script::new(b"hi", 0);
+    let mut writer = Tape::plain();
+    assert_eq!(rt;
+        run(&mut machine, &mut reader, &mut writer, 0),
+        Ending::StepLimit
+    );
+    // the byte that is asked for at the last step is answered
+    assert_eq!(rt;
+        run(&mut machine, &mut reader, &mut writer, 2),
+        Ending::StepLimit
+    );
+    assert_eq!(rt; (machine.pc(), machine.reg(10)), (0x0001_0008, 104));
+    for _ in 0..15 {
+        let ending = run(&mut machine, &mut reader, &mut writer, 1);
+        assert_eq!(rt; ending, Ending::StepLimit);
+    }
+    for _ in 0..2 {
+        let ending = run(&mut machine, &mut reader, &mut writer, 1);
+        assert_eq!(rt; ending, Ending::Ended(0));
+    }
+    assert_eq!(rt; writer.get_ref().written.as_slice(), b"hi".as_slice());
+    Ok(())
+}
+
+#[test]
+fn a_writer_may_take_one_byte_at_a_call(rt: HostRuntime) -> Result<(), Fail> {
+    let mut machine = machine_of(rt.alloc(), &prints(FIVE, SAME))?;
+    let mut writer = Tape::new(1, 0, Stumble::Fails);
+    let ending = run(&mut machine, &mut Script::new(b"", 0), &mut writer, 1000);
+    assert_eq!(rt; ending, Ending::Ended(65));
+    assert_eq!(rt; writer.get_ref().written.as_slice(), b"AAAAA".as_slice());
+    assert_eq!(rt; writer.get_ref().calls, 5);
+    Ok(())
+}
+
+#[test]
+fn a_failed_write_takes_the_place_of_an_ending(rt: HostRuntime) -> Result<(), Fail> {
+    for stumble in [Stumble::TakesNothing, Stumble::Fails] {
+        let mut machine = machine_of(rt.alloc(), &prints(FIVE, SAME))?;
+        let mut writer = Tape::new(1, 3, stumble);
+        let ending = run(&mut machine, &mut Script::new(b"", 0), &mut writer, 1000);
+        assert_eq!(rt; ending, Ending::WriteFault);
+        assert_eq!(rt; writer.get_ref().written.as_slice(), b"AA".as_slice());
+        assert_eq!(rt; writer.faults(), 1);
+
+        // before a read: the reader isn't asked for the second byte
+        let mut echo = machine_of(rt.alloc(), &ECHO)?;
+        let mut reader = Script::new(b"hello", 0);
+        let mut other = Tape::new(1, 1, stumble);
+        let second = run(&mut echo, &mut reader, &mut other, 1000);
+        assert_eq!(rt; second, Ending::WriteFault);
+        assert_eq!(rt; reader.get_ref().calls, 1);
+    }
+    Ok(())
+}
+
+#[test]
+fn what_is_gathered_is_written_at_each_ending(rt: HostRuntime) -> Result<(), Fail> {
+    let mut writer = Tape::plain();
+    let mut raises = machine_of(rt.alloc(), &RAISES)?;
+    let raised = run(&mut raises, &mut Script::new(b"", 0), &mut writer, 1000);
+    assert_eq!(rt; raised, Ending::Raised(Kind::ArrayBounds));
+    assert_eq!(rt; writer.get_ref().written.as_slice(), b"A".as_slice());
+    let mut stops = machine_of(rt.alloc(), &RAISES[..3])?;
+    let fault = run(&mut stops, &mut Script::new(b"", 0), &mut writer, 1000);
+    assert_eq!(rt; fault, Ending::Fault(MachineFault::Access));
+    assert_eq!(rt; writer.get_ref().written.as_slice(), b"AA".as_slice());
+    Ok(())
+}
+
+#[test]
+fn output_is_written_at_the_4096th_byte(rt: HostRuntime) -> Result<(), Fail> {
+    // how many bytes are still to be put out, this one among them, when the first write fails; and how many writes there are
+    for (second, left, writes) in [(LESS, 0, 1), (SAME, 1, 1), (MORE, 2, 2)] {
+        let words = prints(PAGE, second);
+        let mut machine = machine_of(rt.alloc(), &words)?;
+        let mut torn = Tape::new(8192, 1, Stumble::Fails);
+        let fault = run(&mut machine, &mut Script::new(b"", 0), &mut torn, 100_000);
+        assert_eq!(rt; (fault, machine.reg(5)), (Ending::WriteFault, left));
+        let mut again = machine_of(rt.alloc(), &words)?;
+        let mut tape = Tape::plain();
+        let whole = run(&mut again, &mut Script::new(b"", 0), &mut tape, 100_000);
+        assert_eq!(rt; (whole, tape.get_ref().calls), (Ending::Ended(65), writes));
+        assert_eq!(rt; tape.get_ref().written.len() as u32 + 1, 4096 + left);
+    }
+    Ok(())
+}

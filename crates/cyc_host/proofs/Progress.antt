@@ -60,24 +60,24 @@ pub record Progress (n : Lengths) (old : State) (count : ℕ) (is_over : Bool) (
   pub at_end : is_over ≡ true → IsAtEnd reader_new
   pub ran : (more : List ℕ) → (is_over ≡ true → more ≡ []) → run_steps n count (from old (input ++ more)) ≡ record { state = now; input = more; events = events }
 
-module _ {n : Lengths} {old : State} {ro wo : Option (List ℕ)} where
+module _ {n : Lengths} {old : State} {reader_old writer_old : Option (List ℕ)} where
   -- nothing has been done
-  pub begun : Progress n old 0 false old ro ro wo wo []
+  pub begun : Progress n old 0 false old reader_old reader_old writer_old writer_old []
   begun = record {
     input = [];
     events = [];
     written = [];
-    consumed = Consumes-nil ro;
-    appended = Appends-nil wo;
+    consumed = Consumes-nil reader_old;
+    appended = Appends-nil writer_old;
     shows = refl;
     told = λ (k, below, is). absurd (omega arith);
     at_end = λ over. absurd (cc);
     ran = λ more end. refl;
   }
 
-  module _ {count : ℕ} {is_over : Bool} {now : State} {r w : Option (List ℕ)} {gathered : List ℕ} where
+  module _ {count : ℕ} {is_over : Bool} {now : State} {reader writer : Option (List ℕ)} {gathered : List ℕ} where
     -- a step that shows nothing
-    pub went_on : Progress n old count is_over now ro r wo w gathered → (new : State) → IsStep n now new Nothing → Progress n old (count + 1) is_over new ro r wo w gathered
+    pub went_on : Progress n old count is_over now reader_old reader writer_old writer gathered → (new : State) → IsStep n now new Nothing → Progress n old (count + 1) is_over new reader_old reader writer_old writer gathered
     went_on p new x = record {
       input = p.input;
       events = p.events;
@@ -91,7 +91,7 @@ module _ {n : Lengths} {old : State} {ro wo : Option (List ℕ)} where
     }
 
     -- a step that stops
-    pub stopped_at : Progress n old count is_over now ro r wo w gathered → (new : State) (why : Stop) → IsStep n now new (Stops why) → Progress n old (count + 1) is_over new ro r wo w gathered
+    pub stopped_at : Progress n old count is_over now reader_old reader writer_old writer gathered → (new : State) (why : Stop) → IsStep n now new (Stops why) → Progress n old (count + 1) is_over new reader_old reader writer_old writer gathered
     stopped_at p new why x = record {
       input = p.input;
       events = p.events;
@@ -105,7 +105,7 @@ module _ {n : Lengths} {old : State} {ro wo : Option (List ℕ)} where
     }
 
     -- a step that gives a byte, which is gathered
-    pub put_one : Progress n old count is_over now ro r wo w gathered → (new : State) (byte : ℕ) → IsStep n now new (Writes byte) → Progress n old (count + 1) is_over new ro r wo w (gathered ++ byte ∷ [])
+    pub put_one : Progress n old count is_over now reader_old reader writer_old writer gathered → (new : State) (byte : ℕ) → IsStep n now new (Writes byte) → Progress n old (count + 1) is_over new reader_old reader writer_old writer (gathered ++ byte ∷ [])
     put_one p new byte x = record {
       input = p.input;
       events = p.events ++ ByteWritten byte ∷ [];
@@ -120,8 +120,8 @@ module _ {n : Lengths} {old : State} {ro wo : Option (List ℕ)} where
     }
 
     -- some of what is gathered is written
-    pub wrote : Progress n old count is_over now ro r wo w gathered → (writer : Option (List ℕ)) (rest : List ℕ) → WritesBut w writer gathered rest → Progress n old count is_over now ro r wo writer rest
-    wrote p writer rest x = record {
+    pub wrote : Progress n old count is_over now reader_old reader writer_old writer gathered → (writer_next : Option (List ℕ)) (rest : List ℕ) → WritesBut writer writer_next gathered rest → Progress n old count is_over now reader_old reader writer_old writer_next rest
+    wrote p writer_next rest x = record {
       input = p.input;
       events = p.events;
       written = p.written ++ x.written;
@@ -134,8 +134,8 @@ module _ {n : Lengths} {old : State} {ro wo : Option (List ℕ)} where
     }
 
     -- a read took nothing
-    pub kept : Progress n old count is_over now ro r wo w gathered → (reader : Option (List ℕ)) → Keeps r reader → is_over ≡ false → Progress n old count is_over now ro reader wo w gathered
-    kept p reader keeps open' = record {
+    pub kept : Progress n old count is_over now reader_old reader writer_old writer gathered → (reader_next : Option (List ℕ)) → Keeps reader reader_next → is_over ≡ false → Progress n old count is_over now reader_old reader_next writer_old writer gathered
+    kept p reader_next keeps was_open = record {
       input = p.input;
       events = p.events;
       written = p.written;
@@ -148,9 +148,9 @@ module _ {n : Lengths} {old : State} {ro wo : Option (List ℕ)} where
     }
 
     -- a byte was wanted, and the answer is given
-    pub answered : Progress n old count is_over now ro r wo w gathered → (waiting new : State) (reader : Option (List ℕ)) (will_be : Bool) (answer : Option ℕ) → IsStep n now waiting Asks → Answers r reader is_over will_be answer
-        → new ≡ given answer waiting → Progress n old (count + 1) will_be new ro reader wo w gathered
-    answered p waiting new reader will_be None x (consumes, ended, end) e = record {
+    pub answered : Progress n old count is_over now reader_old reader writer_old writer gathered → (waiting new : State) (reader_next : Option (List ℕ)) (will_be : Bool) (answer : Option ℕ) → IsStep n now waiting Asks → Answers reader reader_next is_over will_be answer
+        → new ≡ given answer waiting → Progress n old (count + 1) will_be new reader_old reader_next writer_old writer gathered
+    answered p waiting new reader_next will_be None x (consumes, ended, end) e = record {
       input = p.input;
       events = p.events ++ ByteRead None ∷ [];
       written = p.written;
@@ -166,7 +166,7 @@ module _ {n : Lengths} {old : State} {ro wo : Option (List ℕ)} where
           (one_more_step n count _ _ (p.ran [] (λ _. refl)) ∙ after_ask (record { state = now; input = []; events = p.events }) _ x.shows
           ∙ ap (λ (s : State). record { state = s; input = []; events = p.events ++ ByteRead None ∷ [] }) (ap (given None) (sym x.state) ∙ sym e));
     }
-    answered p waiting new reader will_be (Some byte) x (consumes, before, after) e = record {
+    answered p waiting new reader_next will_be (Some byte) x (consumes, before, after) e = record {
       input = p.input ++ byte ∷ [];
       events = p.events ++ ByteRead (Some byte) ∷ [];
       written = p.written;
@@ -182,9 +182,9 @@ module _ {n : Lengths} {old : State} {ro wo : Option (List ℕ)} where
     }
 
     -- the run at its end
-    pub hosted : Progress n old count is_over now ro r wo w gathered → (why : Ending) (limit : ℕ) (final : State) (writer : Option (List ℕ)) → count ≤ limit → Written why w writer gathered
-        → EndsAs why n limit count now final → IsHostedToTheEnd why n limit old final ro r wo writer
-    hosted p why limit final writer within rest ends =
+    pub hosted : Progress n old count is_over now reader_old reader writer_old writer gathered → (why : Ending) (limit : ℕ) (final : State) (writer_next : Option (List ℕ)) → count ≤ limit → Written why writer writer_next gathered
+        → EndsAs why n limit count now final → IsHostedToTheEnd why n limit old final reader_old reader writer_old writer_next
+    hosted p why limit final writer_next within rest ends =
         let whole : run_steps n count (from old p.input) ≡ record { state = now; input = []; events = p.events } =
         ap (λ l. run_steps n count (from old l)) (sym (append-nil p.input)) ∙ p.ran [] (λ _. refl) in
         record {
@@ -194,7 +194,7 @@ module _ {n : Lengths} {old : State} {ro wo : Option (List ℕ)} where
             within = within;
             given = p.consumed;
             taken = ap (λ (x : Run). x.input) whole;
-            written = subst (Written why wo writer) (sym (ap (λ (x : Run). output x.events) whole ∙ p.shows)) (written-then why _ _ _ _ _ p.appended rest);
+            written = subst (Written why writer_old writer_next) (sym (ap (λ (x : Run). output x.events) whole ∙ p.shows)) (written-then why _ _ _ _ _ p.appended rest);
             ends = subst (λ (s : State). EndsAs why n limit count s final) (sym (ap (λ (x : Run). x.state) whole)) ends;
           };
           at_end = λ has. p.at_end (p.told (subst (λ (es : List Event). Contains es (ByteRead None)) (ap (λ (x : Run). x.events) whole) has));

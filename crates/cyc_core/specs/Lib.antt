@@ -1,1 +1,4 @@
+pub mod Tree
+pub mod Stored
+pub mod View
 pub mod Cells

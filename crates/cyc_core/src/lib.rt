@@ -1,9 +1,14 @@
 //! Core: the lowered language.
 //!
-//! A function is a list of operations over numbered cells, each of a word. Every operation of the
-//! source is written out: no types, no names, no nesting. docs/CORE.md has them, one line each. Stands on std alone.
+//! A function is a tree of statements over numbered cells, each of a word. Every operation of the source is
+//! written out: no types, no names, no nested expressions. docs/CORE.md has them, one line each. Contracts see a
+//! `Body` as the list of its statements' pure trees. Stands on std alone.
 #![tactic(auto)]
 
+mod body;
 mod operation;
+mod statement;
 
-pub use operation::{Binary, Cell, Core, Function, Operation};
+pub use body::Body;
+pub use operation::{Binary, Cell, Operation};
+pub use statement::{Core, Function, Statement};

@@ -1,4 +1,7 @@
-// The lowered language.
+// Cells, and the operations on them.
+
+ghost use Rattle.std.specs.Prelude.{◌≤◌};
+ghost use Rattle.cyc_core.specs.Cells.{NamesUpTo};
 
 /// A cell of a function: a word, named by its number.
 #[derive(Clone, Copy, PartialEq, Eq, Debug)]
@@ -41,31 +44,40 @@ pub enum Binary {
     GreaterEqual,
 }
 
-/// What a function does, one after the other.
+/// What is done to cells in one go.
 #[derive(Clone, Copy, PartialEq, Eq, Debug)]
 pub enum Operation {
     /// The cell gets the word.
     Constant(Cell, u32),
+    /// The first cell gets the second's word.
+    Move(Cell, Cell),
     /// The first cell gets the operation's result on the two others.
     Binary(Binary, Cell, Cell, Cell),
     /// The cell gets the next byte of the input, or -1 at its end.
     Getchar(Cell),
     /// The second cell's low byte is written, and the first cell gets it.
     Putchar(Cell, Cell),
-    /// The function returns the cell's word. Nothing after it is done.
-    Return(Cell),
 }
 
-/// A function: the last of its cells, which are numbered from 0, and what it does.
-#[derive(Drop)]
-pub struct Function {
-    pub last: Cell,
-    pub body: Vec<Operation>,
+impl Operation {
+    /// The last cell that the operation names.
+    pub fn last(self) -> Cell
+        ensures { NamesUpTo result.0 self }
+    {
+        match self {
+            Operation::Constant(to, _) | Operation::Getchar(to) => to,
+            Operation::Move(to, from) | Operation::Putchar(to, from) => to.later(from),
+            Operation::Binary(_, to, left, right) => to.later(left.later(right)),
+        }
+    }
 }
 
-/// A lowered program.
-#[derive(Drop)]
-pub struct Core {
-    /// What the program begins with.
-    pub main: Function,
+impl Cell {
+    /// The cell of the higher number.
+    pub fn later(self, other: Cell) -> Cell
+        ensures first { self.0 ≤ result.0 }
+        ensures second { other.0 ≤ result.0 }
+    {
+        if self.0 < other.0 { other } else { self }
+    }
 }

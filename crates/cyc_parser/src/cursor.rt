@@ -5,7 +5,7 @@ ghost use Rattle.cyc_lexer.specs.Tokens.{token_tree};
 
 use crate::fault::ParseFault;
 use cyc_lexer::{Keyword, Sign, Token, TokenKind};
-use cyc_tree::{END_OF_TEXT, Name};
+use cyc_tree::{END_OF_TEXT, Name, RegionName};
 use std::alloc::Global;
 use std::marker::Model;
 
@@ -67,6 +67,11 @@ impl<'t, 'a> Cursor<'t, 'a> {
         self.kind() == Some(TokenKind::Keyword(keyword))
     }
 
+    /// Whether the next token is a region name.
+    pub fn is_region(&self) -> bool {
+        self.kind() == Some(TokenKind::Region)
+    }
+
     /// Reads the next token, of any kind. Where there is none, the fault is at the end of the text.
     pub fn read(&mut self) -> Result<Token<'a>, ParseFault>
         ensures ok { OnOk result (length self.new < length self.old) }
@@ -121,5 +126,37 @@ impl<'t, 'a> Cursor<'t, 'a> {
         let token = self.read()?;
         let text = token.text.to_vec(alloc)?;
         Ok(Name { at: token.at, text })
+    }
+
+    /// Reads the next token, which has to be a region name.
+    pub fn region(&mut self, alloc: Global) -> Result<RegionName, ParseFault>
+        ensures ok { OnOk result (length self.new < length self.old) }
+        ensures err { OnErr result (length self.new ≤ length self.old) }
+    {
+        if !self.is_region() {
+            return Err(self.unexpected());
+        }
+        let token = self.read()?;
+        match token.text {
+            b"`H" => Ok(RegionName::Heap(token.at)),
+            b"`U" => Ok(RegionName::Unique(token.at)),
+            spelling => {
+                let text = spelling.strip_prefix(b"`").unwrap_or(spelling);
+                let text = text.to_vec(alloc)?;
+                Ok(RegionName::Named(Name { at: token.at, text }))
+            }
+        }
+    }
+
+    /// Reads the next token, which has to be a number, and answers its value.
+    pub fn number(&mut self) -> Result<u32, ParseFault>
+        ensures ok { OnOk result (length self.new < length self.old) }
+        ensures err { OnErr result (self.new ≡ self.old) }
+    {
+        let Some(TokenKind::Number(value, _)) = self.kind() else {
+            return Err(self.unexpected());
+        };
+        self.read()?;
+        Ok(value)
     }
 }

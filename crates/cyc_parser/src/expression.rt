@@ -47,7 +47,74 @@ pub fn expression(
     if depth == 0 {
         Err(too_deep(cursor))
     } else {
-        chain(alloc, depth - 1, LOOSEST, cursor)
+        assignment(alloc, depth - 1, cursor)
+    }
+}
+
+/// Whether what was read where an expression may begin is a unary expression.
+fn is_unary(expression: &Expression) -> bool {
+    !matches!(
+        expression,
+        Expression::Chain(_, _)
+            | Expression::AllOf(_, _)
+            | Expression::AnyOf(_, _)
+            | Expression::Assign(_, _)
+    )
+}
+
+/// Reads operands of `||`, or a unary expression and what is assigned to it.
+#[cycle(expression)]
+fn assignment(
+    alloc: Global,
+    depth: u32,
+    cursor: &mut Cursor<'_, '_>,
+) -> Result<Expression, ParseFault>
+    ensures { OnOk result (length cursor.new < length cursor.old) }
+{
+    let first = any_of(alloc, depth, cursor)?;
+    if is_unary(&first) && cursor.is_sign(Sign::Assign) {
+        cursor.sign(Sign::Assign)?;
+        let value = expression(alloc, depth, cursor)?;
+        let place = Box::new(alloc, first)?;
+        Ok(Expression::Assign(place, Box::new(alloc, value)?))
+    } else {
+        Ok(first)
+    }
+}
+
+/// Reads operands of `||`.
+#[cycle(expression)]
+fn any_of(alloc: Global, depth: u32, cursor: &mut Cursor<'_, '_>) -> Result<Expression, ParseFault>
+    ensures { OnOk result (length cursor.new < length cursor.old) }
+{
+    let first = all_of(alloc, depth, cursor)?;
+    let mut others = Vec::new(alloc);
+    'others: while cursor.is_sign(Sign::OrOr) {
+        cursor.sign(Sign::OrOr)?;
+        others.push(all_of(alloc, depth, cursor)?)?;
+    }
+    if others.is_empty() {
+        Ok(first)
+    } else {
+        Ok(Expression::AnyOf(Box::new(alloc, first)?, others))
+    }
+}
+
+/// Reads operands of `&&`.
+#[cycle(expression)]
+fn all_of(alloc: Global, depth: u32, cursor: &mut Cursor<'_, '_>) -> Result<Expression, ParseFault>
+    ensures { OnOk result (length cursor.new < length cursor.old) }
+{
+    let first = chain(alloc, depth, LOOSEST, cursor)?;
+    let mut others = Vec::new(alloc);
+    'others: while cursor.is_sign(Sign::AndAnd) {
+        cursor.sign(Sign::AndAnd)?;
+        others.push(chain(alloc, depth, LOOSEST, cursor)?)?;
+    }
+    if others.is_empty() {
+        Ok(first)
+    } else {
+        Ok(Expression::AllOf(Box::new(alloc, first)?, others))
     }
 }
 
@@ -166,33 +233,45 @@ fn primary(
             let token = cursor.read()?;
             Ok(Expression::Character(token.at, byte))
         }
-        TokenKind::Identifier => call(alloc, depth, cursor),
-        TokenKind::Sign(Sign::LeftParenthesis) => grouped(alloc, depth, cursor),
+        TokenKind::Identifier => named(alloc, depth, cursor),
+        TokenKind::Sign(Sign::LeftParenthesis) => {
+            let at = cursor.place();
+            let inner = parenthesized(alloc, depth, cursor)?;
+            Ok(Expression::Grouped(at, Box::new(alloc, inner)?))
+        }
         _ => Err(cursor.unexpected()),
     }
 }
 
-/// Reads an expression in parentheses.
+/// Reads an expression in parentheses, and answers it without them.
 #[cycle(expression)]
-fn grouped(alloc: Global, depth: u32, cursor: &mut Cursor<'_, '_>) -> Result<Expression, ParseFault>
+pub fn parenthesized(
+    alloc: Global,
+    depth: u32,
+    cursor: &mut Cursor<'_, '_>,
+) -> Result<Expression, ParseFault>
     ensures { OnOk result (length cursor.new < length cursor.old) }
 {
-    let at = cursor.sign(Sign::LeftParenthesis)?;
+    cursor.sign(Sign::LeftParenthesis)?;
     let inner = expression(alloc, depth, cursor)?;
     cursor.sign(Sign::RightParenthesis)?;
-    Ok(Expression::Grouped(at, Box::new(alloc, inner)?))
+    Ok(inner)
 }
 
-/// Reads a call: a name and its arguments.
+/// Reads a variable, or a call: a name and its arguments.
 #[cycle(expression)]
-fn call(alloc: Global, depth: u32, cursor: &mut Cursor<'_, '_>) -> Result<Expression, ParseFault>
+fn named(alloc: Global, depth: u32, cursor: &mut Cursor<'_, '_>) -> Result<Expression, ParseFault>
     ensures { OnOk result (length cursor.new < length cursor.old) }
 {
     let name = cursor.name(alloc)?;
-    cursor.sign(Sign::LeftParenthesis)?;
-    let arguments = arguments(alloc, depth, cursor)?;
-    cursor.sign(Sign::RightParenthesis)?;
-    Ok(Expression::Call(name, arguments))
+    if cursor.is_sign(Sign::LeftParenthesis) {
+        cursor.sign(Sign::LeftParenthesis)?;
+        let arguments = arguments(alloc, depth, cursor)?;
+        cursor.sign(Sign::RightParenthesis)?;
+        Ok(Expression::Call(name, arguments))
+    } else {
+        Ok(Expression::Variable(name))
+    }
 }
 
 /// Reads the arguments of a call, up to the closing parenthesis.

@@ -5,11 +5,13 @@
 #![tactic(auto)]
 
 mod cursor;
+mod declaration;
 mod expression;
 mod fault;
 mod item;
 mod operator;
 mod statement;
+mod type_name;
 
 pub use fault::ParseFault;
 pub use item::{NESTING_LIMIT, parse};

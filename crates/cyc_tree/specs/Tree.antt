@@ -107,6 +107,14 @@ pub data Declaration : Type 0 where
   Alias : (at : ℕ) (region : RegionName) (of : TypeName) (alias pointer : Name) → Declaration
   NewKey : (at : ℕ) (region : RegionName) (key : Name) → Declaration
 
+-- the local that a declaration declares
+abbrev pub local_of : Declaration → Name
+local_of (Local of name initializer) = name
+local_of (Region at region handle) = handle
+local_of (Open at region handle key) = handle
+local_of (Alias at region of alias pointer) = alias
+local_of (NewKey at region key) = key
+
 -- which members a clause takes: one, whose value the name stands for, or all that no other clause names
 pub data Pattern : Type 0 where
   Case : (member name : Name) → Pattern

@@ -87,7 +87,8 @@ pub struct Clause {
 }
 
 impl Declaration {
-    ghost use Rattle.cyc_tree.specs.View.{declaration_tree};
+    ghost use Rattle.cyc_tree.specs.Tree.{local_of};
+    ghost use Rattle.cyc_tree.specs.View.{declaration_tree, name_tree};
     ghost use Rattle.cyc_tree.specs.Places.{declaration_place};
 
     /// The place of its first token.
@@ -100,6 +101,19 @@ impl Declaration {
             | Declaration::Open(at, _, _, _)
             | Declaration::Alias(at, _, _, _, _)
             | Declaration::NewKey(at, _, _) => *at,
+        }
+    }
+
+    /// The local that it declares.
+    pub fn local(&self) -> &Name
+        ensures { name_tree result.now ≡ local_of (declaration_tree self.now) }
+    {
+        match self {
+            Declaration::Local(_, name, _)
+            | Declaration::Region(_, _, name)
+            | Declaration::Open(_, _, name, _)
+            | Declaration::Alias(_, _, _, name, _)
+            | Declaration::NewKey(_, _, name) => name,
         }
     }
 }

@@ -1,4 +1,8 @@
-//! Types: their cells, sizes and alignment.
+//! What is known of a program's names and types.
 //!
-//! While all values are of type `int`, there is nothing to lay out, and this layer has no calls. Stands on `cyc_tree`.
+//! As yet the locals that are visible at a point, `Scope`: the last of a name is the one that it means. Stands on `cyc_tree`.
 #![tactic(auto)]
+
+mod scope;
+
+pub use scope::Scope;

@@ -1,7 +1,7 @@
 // From a text to an image.
 
 ghost use Rattle.std.specs.Prelude.{◌≡◌, ◌≤◌, IfOk};
-ghost use Rattle.cycc_driver.specs.Outcome.{IsCode, IsProgramImage};
+ghost use Rattle.cycc_driver.specs.Outcome.{IsCode, IsCodeOf, IsProgramImage};
 
 use crate::fault::{CompileFault, Place, of_checking, of_flow, of_lexing, of_parsing};
 use cyc_image::{Parts, write};
@@ -57,7 +57,8 @@ pub fn check(alloc: Global, text: &[u8]) -> Result<(), CompileFault> {
 
 /// The code of an accepted program.
 fn code_of(alloc: Global, checked: &Checked<'_>) -> Result<Code, CompileFault>
-    ensures { IfOk result (λ code. IsCode code.bytes.items) }
+    ensures code { IfOk result (λ code. IsCode code.bytes.items) }
+    ensures program { IfOk result (λ code. IsCodeOf checked.now code.bytes.items) }
 {
     let core = lower(alloc, checked)?;
     let labelled = select(alloc, &core)?;
@@ -65,6 +66,8 @@ fn code_of(alloc: Global, checked: &Checked<'_>) -> Result<Code, CompileFault>
         Ok(code) => Ok(code),
         Err(LayoutFault::TooLarge) => Err(CompileFault::TooLarge(Place { line: 1, column: 1 })),
         Err(LayoutFault::Memory) => Err(CompileFault::Memory),
+        // the code begins with the move of the stack pointer
+        Err(LayoutFault::TooFar) => unreachable!(),
     }
 }
 

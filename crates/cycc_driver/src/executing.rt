@@ -1,6 +1,7 @@
 // Runs of a text.
 
-ghost use Rattle.std.specs.Prelude.{◌≤◌};
+ghost use Rattle.std.specs.Prelude.{◌≤◌, IfOk};
+ghost use Rattle.cycc_driver.specs.Outcome.{IsProgramRun};
 
 use crate::compiling::compile;
 use crate::fault::CompileFault;
@@ -30,6 +31,9 @@ pub fn execute<R: Input, W: Output>(
 ) -> Result<Ending, CompileFault>
     requires some { 1 ≤ limits.pages }
     requires within { limits.pages ≤ 4096 }
+    // what is written is the output of a run of the image, on the bytes that the reader gave, and the ending is that run's
+    ensures { IfOk result (λ ending. IsProgramRun limits.pages limits.steps ending
+        (R.remaining reader.old) (R.remaining reader.new) (W.contents writer.old) (W.contents writer.new)) }
 {
     let bytes = compile(alloc, text, limits.pages)?;
     let image = match load(alloc, &bytes) {

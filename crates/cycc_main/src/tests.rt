@@ -1,6 +1,7 @@
 // Whole commands, with what they write, say and answer.
 
 mod images;
+mod loops;
 mod refusals;
 mod runs;
 mod usage;

@@ -1,4 +1,1 @@
-pub mod Parts
 pub mod Shape
-pub mod Sizes
-pub mod LastCells

@@ -1,15 +1,21 @@
--- An accepted program is one item, the function `main`, whose body has no fault.
-use Rattle.std.proofs.Common.{◌≡◌, ℕ, ◌≤◌, List, [], ◌∷◌, Bool, true, false, ◌||◌, refl, sym, ap, ◌∙◌, arith, length, get_or}
+-- An accepted program is one item, the function `main`.
+use Rattle.std.proofs.Common.{◌≡◌, ℕ, List, [], ◌∷◌, ◌++◌, Bool, true, false, ◌||◌, refl, sym, ap, ◌∙◌, length}
 use Rattle.std.specs.Prelude.{Option, Some, None, if◌then◌else◌}
-use Rattle.cyc_tree.specs.declared.item.Function.{Function}
 use Rattle.cyc_tree.specs.declared.item.Item as code_item
-use Rattle.cyc_tree.specs.declared.item.Item.TheVariants as item_form
 use Rattle.cyc_tree.specs.Tree as tree
 use Rattle.cyc_tree.specs.Tree.{Item}
-use Rattle.cyc_tree.specs.View.{function_tree, program_item_tree, program_tree}
+use Rattle.cyc_tree.specs.View.{program_item_tree, program_tree}
 use Rattle.region_types.specs.declared.fault.Fault.{Fault}
-use Rattle.region_types.specs.Faults.{sooner_of, earliest, named, mistyped, is_main, block_faults, has_main_form, main_faults, defines_main, item_faults, items_faults, first_fault}
-use Rattle.lower_checks.proofs.Parts.{nothing_first, nothing_after}
+use Rattle.region_types.specs.Faults.{sooner_of, earliest, named, mistyped, is_main, main_faults, defines_main, item_faults, items_faults, first_fault}
+
+-- two lists that are empty together
+nothing_first : (xs ys : List Fault) → xs ++ ys ≡ [] → xs ≡ []
+nothing_first [] ys h = refl
+nothing_first (x ∷ xs) ys h = cc
+
+nothing_after : (xs ys : List Fault) → xs ++ ys ≡ [] → ys ≡ []
+nothing_after [] ys h = h
+nothing_after (x ∷ xs) ys h = cc
 
 some_sooner : (f : Fault) (o : Option Fault) → sooner_of (Some f) o ≡ None → ⊥
 some_sooner f None h = cc
@@ -46,14 +52,6 @@ item_main (tree.UnionItem u) h = cc
 item_main (tree.GlobalItem g) h = cc
 item_main (tree.FunctionItem f) h = (main_first (is_main f.name.text) f.result.at f h).0
 
-formed : (b : Bool) (at : ℕ) (fs : List Fault) → (if b then fs else mistyped at) ≡ [] → fs ≡ []
-formed true at fs h = h
-formed false at fs h = cc
-
-item_body : (f : tree.Function) → item_faults false (tree.FunctionItem f) ≡ [] → block_faults f.body ≡ []
-item_body f h =
-    formed (has_main_form f) f.name.at (block_faults f.body) (main_first (is_main f.name.text) f.result.at f h).1
-
 pub one_item : (items : List code_item.Item) → first_fault (program_tree items) ≡ None → length items ≡ 1
 one_item [] h = absurd (let e = none_at_all (items_faults false []) h in cc)
 one_item (i ∷ []) h = refl
@@ -65,12 +63,3 @@ one_item (i ∷ j ∷ others) h =
     let after = nothing_after (item_faults false first) (items_faults (false || defines_main first) rest) all in
     let none = none_after rest (ap (λ b. items_faults b rest) (sym seen) ∙ after) in
     absurd (cc)
-
-pub main_body : (items : List code_item.Item) (i : code_item.Item) (f : Function) → 1 ≤ length items → i ≡ get_or items 0 i → i ≡ item_form.Function f → first_fault (program_tree items) ≡ None → block_faults (function_tree f).body ≡ []
-main_body [] i f h at is none = absurd (omega arith)
-main_body (x ∷ others) i f h at is none =
-    let first = program_item_tree x in
-    let rest = program_tree others in
-    let all = none_at_all (items_faults false (first ∷ rest)) none in
-    let own = nothing_first (item_faults false first) (items_faults (false || defines_main first) rest) all in
-    item_body (function_tree f) (ap (λ y. item_faults false (program_item_tree y)) (sym is ∙ at) ∙ own)

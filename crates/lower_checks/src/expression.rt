@@ -1,13 +1,13 @@
 // Expressions.
 
-ghost use Rattle.std.specs.Prelude.{◌≡◌, ◌+◌, ◌<◌, ◌≤◌, ◌++◌, [], OnOk, length, vec_len, map};
-ghost use Rattle.cyc_tree.specs.View.{expression_tree, expressions_of, link_tree, links_of};
-ghost use Rattle.region_types.specs.Faults.{expression_faults, expressions_faults, links_faults};
-ghost use Rattle.lower_checks.specs.Lowered.{binary_of, prefix_word, prefix_operation, prefixed_by, expression_code, links_code, arguments_code};
+ghost use Rattle.std.specs.Prelude.{◌≡◌, ◌+◌, ◌++◌, OnOk, IfOk, map};
+ghost use Rattle.cyc_tree.specs.View.{expression_tree, expressions_of, link_tree, links_of, name_tree};
+ghost use Rattle.lower_checks.specs.Lowered.{binary_of, prefix_word, prefix_operation, prefixed_by, cell_of, place_cell, truth_code, expression_code, links_code, all_code, any_code, arguments_code};
 
-use cyc_core::{Binary, Cell, Operation};
-use cyc_tree::{Expression, Link, Operator, Prefix};
-use std::alloc::AllocError;
+use cyc_core::{Binary, Body, Cell, Operation};
+use cyc_tree::{Expression, Link, Name, Operator, Prefix};
+use cyc_types::Scope;
+use std::alloc::{AllocError, Global};
 
 /// The operation of a binary operator.
 fn binary(operator: Operator) -> Binary
@@ -45,77 +45,168 @@ fn prefixed(operator: Prefix) -> (u32, Binary)
     }
 }
 
+/// The number of the cell after one. A frame of 2^64 cells is want of memory.
+fn after(cell: usize) -> Result<usize, AllocError>
+    ensures { IfOk result (λ next. next ≡ cell + 1) }
+{
+    match cell.checked_add(1) {
+        Some(next) => Ok(next),
+        None => Err(AllocError),
+    }
+}
+
+/// The cell of a local.
+fn cell_of(scope: &Scope<'_>, name: &Name) -> Cell
+    ensures { result ≡ cell_of scope.now (name_tree name.now) }
+{
+    match scope.position(&name.text) {
+        Some(position) => Cell(position),
+        None => Cell(0),
+    }
+}
+
+/// The cell of what is assigned to.
+fn place_cell(scope: &Scope<'_>, place: &Expression) -> Cell
+    ensures { result ≡ place_cell scope.now (expression_tree place.now) }
+{
+    match place {
+        Expression::Variable(name) => cell_of(scope, name),
+        Expression::Grouped(_, inner) => place_cell(scope, inner),
+        _ => Cell(0),
+    }
+}
+
+/// Appends what makes 1 of a word that isn't 0.
+fn lower_truth(body: &mut Body, cell: usize) -> Result<(), AllocError>
+    ensures { OnOk result (body.new ≡ body.old ++ truth_code cell) }
+{
+    let (to, zero) = (Cell(cell), Cell(after(cell)?));
+    body.push_operation(Operation::Constant(zero, 0))?;
+    body.push_operation(Operation::Binary(Binary::NotEqual, to, to, zero))
+}
+
 /// Appends what leaves an expression's value in a cell.
 #[cycle(expression)]
 pub fn lower_expression(
-    operations: &mut Vec<Operation>,
+    alloc: Global,
+    body: &mut Body,
+    scope: &Scope<'_>,
     expression: &Expression,
     cell: usize,
 ) -> Result<(), AllocError>
-    requires faultless { expression_faults (expression_tree expression.now) ≡ [] }
-    requires within { cell ≤ vec_len operations.old }
-    ensures code { OnOk result (operations.new.items ≡ operations.old.items ++ expression_code (expression_tree expression.now) cell) }
-    ensures grows { OnOk result (cell < vec_len operations.new) }
+    ensures { OnOk result (body.new ≡ body.old ++ expression_code scope.now (expression_tree expression.now) cell) }
 {
+    let to = Cell(cell);
     match expression {
-        Expression::Number(_, value, _) => {
-            operations.push(Operation::Constant(Cell(cell), *value))?;
-            Ok(())
-        }
+        Expression::Number(_, value, _) => body.push_operation(Operation::Constant(to, *value)),
         Expression::Character(_, byte) => {
-            operations.push(Operation::Constant(Cell(cell), u32::from(*byte)))?;
-            Ok(())
+            body.push_operation(Operation::Constant(to, u32::from(*byte)))
         }
-        Expression::Grouped(_, inner) => lower_expression(operations, inner, cell),
+        Expression::Variable(name) => {
+            body.push_operation(Operation::Move(to, cell_of(scope, name)))
+        }
+        Expression::Grouped(_, inner) => lower_expression(alloc, body, scope, inner, cell),
         Expression::Prefixed(_, operator, operand) => {
-            lower_prefixed(operations, *operator, operand, cell)
+            lower_prefixed(alloc, body, scope, *operator, operand, cell)
         }
         Expression::Chain(first, links) => {
-            lower_expression(operations, first, cell)?;
-            lower_links(operations, links, cell)
+            lower_expression(alloc, body, scope, first, cell)?;
+            lower_links(alloc, body, scope, links, cell)
         }
-        Expression::Call(_, arguments) => lower_call(operations, arguments, cell),
-        _ => unreachable!(),
+        Expression::AllOf(first, others) => {
+            lower_expression(alloc, body, scope, first, cell)?;
+            lower_all(alloc, body, scope, others, cell)?;
+            lower_truth(body, cell)
+        }
+        Expression::AnyOf(first, others) => {
+            lower_expression(alloc, body, scope, first, cell)?;
+            lower_any(alloc, body, scope, others, cell)?;
+            lower_truth(body, cell)
+        }
+        Expression::Assign(place, value) => {
+            lower_expression(alloc, body, scope, value, cell)?;
+            body.push_operation(Operation::Move(place_cell(scope, place), to))
+        }
+        Expression::Call(_, arguments) => lower_call(alloc, body, scope, arguments, cell),
+        // no accepted program has another form as yet
+        _ => Ok(()),
     }
 }
 
 /// Appends what applies a prefix operator to its operand, and leaves the result in a cell.
 #[cycle(expression)]
 fn lower_prefixed(
-    operations: &mut Vec<Operation>,
+    alloc: Global,
+    body: &mut Body,
+    scope: &Scope<'_>,
     operator: Prefix,
     operand: &Expression,
     cell: usize,
 ) -> Result<(), AllocError>
-    requires faultless { expression_faults (expression_tree operand.now) ≡ [] }
-    requires within { cell ≤ vec_len operations.old }
-    ensures code { OnOk result (operations.new.items ≡ operations.old.items ++ prefixed_by operator cell (expression_code (expression_tree operand.now) (cell + 1))) }
-    ensures grows { OnOk result (cell < vec_len operations.new) }
+    ensures { OnOk result (body.new ≡ body.old ++ prefixed_by operator cell (expression_code scope.now (expression_tree operand.now) (cell + 1))) }
 {
     let (word, operation) = prefixed(operator);
-    operations.push(Operation::Constant(Cell(cell), word))?;
-    lower_expression(operations, operand, cell + 1)?;
-    let (to, right) = (Cell(cell), Cell(cell + 1));
-    operations.push(Operation::Binary(operation, to, to, right))?;
-    Ok(())
+    let next = after(cell)?;
+    let (to, right) = (Cell(cell), Cell(next));
+    body.push_operation(Operation::Constant(to, word))?;
+    lower_expression(alloc, body, scope, operand, next)?;
+    body.push_operation(Operation::Binary(operation, to, to, right))
 }
 
 /// Appends what applies the operators of a chain to the value in a cell.
 #[cycle(expression)]
 fn lower_links(
-    operations: &mut Vec<Operation>,
+    alloc: Global,
+    body: &mut Body,
+    scope: &Scope<'_>,
     links: &[Link],
     cell: usize,
 ) -> Result<(), AllocError>
-    requires faultless { links_faults (links_of (map link_tree links.now)) ≡ [] }
-    requires within { cell < vec_len operations.old }
-    ensures code { OnOk result (operations.new.items ≡ operations.old.items ++ links_code (links_of (map link_tree links.now)) cell) }
-    ensures grows { OnOk result (cell < vec_len operations.new) }
+    ensures { OnOk result (body.new ≡ body.old ++ links_code scope.now (links_of (map link_tree links.now)) cell) }
 {
+    let next = after(cell)?;
+    let (to, right) = (Cell(cell), Cell(next));
     'each: for link in links {
-        lower_expression(operations, &link.operand, cell + 1)?;
-        let (to, right) = (Cell(cell), Cell(cell + 1));
-        operations.push(Operation::Binary(binary(link.operator), to, to, right))?;
+        lower_expression(alloc, body, scope, &link.operand, next)?;
+        body.push_operation(Operation::Binary(binary(link.operator), to, to, right))?;
+    }
+    Ok(())
+}
+
+/// Appends what evaluates the operands of `&&` after the first, each where those before it were not 0.
+#[cycle(expression)]
+fn lower_all(
+    alloc: Global,
+    body: &mut Body,
+    scope: &Scope<'_>,
+    operands: &[Expression],
+    cell: usize,
+) -> Result<(), AllocError>
+    ensures { OnOk result (body.new ≡ body.old ++ all_code scope.now (expressions_of (map expression_tree operands.now)) cell) }
+{
+    'each: for operand in operands {
+        let mut these = Body::new(alloc);
+        lower_expression(alloc, &mut these, scope, operand, cell)?;
+        body.push_if(Cell(cell), these, Body::new(alloc))?;
+    }
+    Ok(())
+}
+
+/// Appends what evaluates the operands of `||` after the first, each where those before it were 0.
+#[cycle(expression)]
+fn lower_any(
+    alloc: Global,
+    body: &mut Body,
+    scope: &Scope<'_>,
+    operands: &[Expression],
+    cell: usize,
+) -> Result<(), AllocError>
+    ensures { OnOk result (body.new ≡ body.old ++ any_code scope.now (expressions_of (map expression_tree operands.now)) cell) }
+{
+    'each: for operand in operands {
+        let mut those = Body::new(alloc);
+        lower_expression(alloc, &mut those, scope, operand, cell)?;
+        body.push_if(Cell(cell), Body::new(alloc), those)?;
     }
     Ok(())
 }
@@ -123,23 +214,20 @@ fn lower_links(
 /// Appends what calls `getchar`, which takes no argument, or `putchar`, which takes one.
 #[cycle(expression)]
 fn lower_call(
-    operations: &mut Vec<Operation>,
+    alloc: Global,
+    body: &mut Body,
+    scope: &Scope<'_>,
     arguments: &[Expression],
     cell: usize,
 ) -> Result<(), AllocError>
-    requires faultless { expressions_faults (expressions_of (map expression_tree arguments.now)) ≡ [] }
-    requires within { cell ≤ vec_len operations.old }
-    ensures code { OnOk result (operations.new.items ≡ operations.old.items ++ arguments_code (expressions_of (map expression_tree arguments.now)) cell) }
-    ensures grows { OnOk result (cell < vec_len operations.new) }
+    ensures { OnOk result (body.new ≡ body.old ++ arguments_code scope.now (expressions_of (map expression_tree arguments.now)) cell) }
 {
+    let to = Cell(cell);
     match arguments {
-        [] => {
-            operations.push(Operation::Getchar(Cell(cell)))?;
-        }
+        [] => body.push_operation(Operation::Getchar(to)),
         [argument, ..] => {
-            lower_expression(operations, argument, cell)?;
-            operations.push(Operation::Putchar(Cell(cell), Cell(cell)))?;
+            lower_expression(alloc, body, scope, argument, cell)?;
+            body.push_operation(Operation::Putchar(to, to))
         }
     }
-    Ok(())
 }

@@ -1,2 +1,3 @@
 pub mod Order
 pub mod Steps
+pub mod StatementSteps

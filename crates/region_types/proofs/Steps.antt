@@ -1,6 +1,6 @@
 -- The first fault of a list, an item at a time, and of a call and a chain from those of their parts.
 use Rattle.std.proofs.Common.{◌≡◌, ℕ, ◌+◌, ◌<◌, List, [], ◌∷◌, ◌++◌, true, false, ◌⊎◌, inl, inr, nat_eq, eq-eqb, refl, sym, ap, ◌∙◌, arith, map, length, drop, get_or}
-use Rattle.std.specs.Prelude.{Option, Some, None, is_some, if◌then◌else◌}
+use Rattle.std.specs.Prelude.{Option, Some, None, if◌then◌else◌}
 use Rattle.std.proofs.lemmas.List.{drop_more}
 use Rattle.std.proofs.lemmas.Bool.Decides.{nat_tests}
 use Rattle.std.specs.declared.boxed.Box.{Box}
@@ -11,9 +11,10 @@ use Rattle.cyc_tree.specs.declared.expression.Expression.TheVariants as form
 use Rattle.cyc_tree.specs.declared.expression.Link as code_link
 use Rattle.cyc_tree.specs.View.{OneItem, expression_tree, expressions_of, link_tree, links_of, items_of}
 use Rattle.cyc_tree.specs.Places.{declaration_place}
-use Rattle.cyc_tree.proofs.Forms.{chain_tree, link_parts}
+use Rattle.cyc_tree.proofs.Forms.{chain_tree, all_of_tree, any_of_tree, assign_tree, link_parts}
 use Rattle.region_types.specs.declared.fault.Fault.{Fault}
-use Rattle.region_types.specs.Faults.{sooner_of, earliest, mistyped, called, counted, count_of, expression_faults, links_faults, statement_faults, block_faults}
+use Rattle.cyc_types.specs.Scope.{Locals}
+use Rattle.region_types.specs.Faults.{sooner_of, earliest, own_after, first_or, place_faults, count_of, expression_faults, expressions_faults, links_faults}
 use Rattle.region_types.proofs.Order.{sooner_assoc, earliest_append}
 
 -- what was found before an item, at it and after it
@@ -27,54 +28,47 @@ one_more before after own xs i x found fault h is_item is_own e =
     ∙ ap (λ l. sooner_of found (earliest (before l))) (sym next)
 
 -- one link and those after it
-pub links_more : (l : code_link.Link) (ls : List code_link.Link) → links_faults (links_of (map link_tree (l ∷ ls))) ≡ expression_faults (expression_tree l.operand) ++ links_faults (links_of (map link_tree ls))
-links_more l ls = ap (λ p. links_faults (links_of (p ∷ map link_tree ls))) (link_parts l)
+pub links_more : (scope : Locals) (l : code_link.Link) (ls : List code_link.Link) → links_faults scope (links_of (map link_tree (l ∷ ls))) ≡ expression_faults scope (expression_tree l.operand) ++ links_faults scope (links_of (map link_tree ls))
+links_more scope l ls = ap (λ p. links_faults scope (links_of (p ∷ map link_tree ls))) (link_parts l)
 
 -- a chain: its first operand, and the others
-pub chain_fault : (first : Box code.Expression Global) (others : Vec code_link.Link Global) → sooner_of (earliest (expression_faults (expression_tree first.value))) (earliest (links_faults (links_of (map link_tree others.items)))) ≡ earliest (expression_faults (expression_tree (form.Chain first others)))
-chain_fault first others =
-    let head = expression_faults (expression_tree first.value) in
-    let rest = links_faults (links_of (map link_tree others.items)) in
+pub chain_fault : (scope : Locals) (first : Box code.Expression Global) (others : Vec code_link.Link Global) → sooner_of (earliest (expression_faults scope (expression_tree first.value))) (earliest (links_faults scope (links_of (map link_tree others.items)))) ≡ earliest (expression_faults scope (expression_tree (form.Chain first others)))
+chain_fault scope first others =
+    let head = expression_faults scope (expression_tree first.value) in
+    let rest = links_faults scope (links_of (map link_tree others.items)) in
     sym (earliest_append head rest)
-    ∙ ap (λ e. earliest (expression_faults e)) (sym (chain_tree first others))
+    ∙ ap (λ e. earliest (expression_faults scope e)) (sym (chain_tree first others))
+
+-- the same of `&&` and of `||`
+pub all_of_fault : (scope : Locals) (first : Box code.Expression Global) (others : Vec code.Expression Global) → sooner_of (earliest (expression_faults scope (expression_tree first.value))) (earliest (expressions_faults scope (expressions_of (map expression_tree others.items)))) ≡ earliest (expression_faults scope (expression_tree (form.AllOf first others)))
+all_of_fault scope first others =
+    sym (earliest_append (expression_faults scope (expression_tree first.value)) (expressions_faults scope (expressions_of (map expression_tree others.items))))
+    ∙ ap (λ e. earliest (expression_faults scope e)) (sym (all_of_tree first others))
+
+pub any_of_fault : (scope : Locals) (first : Box code.Expression Global) (others : Vec code.Expression Global) → sooner_of (earliest (expression_faults scope (expression_tree first.value))) (earliest (expressions_faults scope (expressions_of (map expression_tree others.items)))) ≡ earliest (expression_faults scope (expression_tree (form.AnyOf first others)))
+any_of_fault scope first others =
+    sym (earliest_append (expression_faults scope (expression_tree first.value)) (expressions_faults scope (expressions_of (map expression_tree others.items))))
+    ∙ ap (λ e. earliest (expression_faults scope e)) (sym (any_of_tree first others))
+
+-- a phrase: its parts' first fault, or its own
+pub own_first : (own inner : List Fault) → first_or (earliest inner) (earliest own) ≡ earliest (own_after own inner)
+own_first own [] = refl
+own_first own (f ∷ fs) = some_first (earliest fs)
+  where
+    some_first : (o : Option Fault) → first_or (sooner_of (Some f) o) (earliest own) ≡ sooner_of (Some f) o
+    some_first None = refl
+    some_first (Some g) = refl
+
+-- an assignment
+pub assign_fault : (scope : Locals) (place value : Box code.Expression Global) → first_or (sooner_of (earliest (expression_faults scope (expression_tree place.value))) (earliest (expression_faults scope (expression_tree value.value)))) (earliest (place_faults (expression_tree place.value))) ≡ earliest (expression_faults scope (expression_tree (form.Assign place value)))
+assign_fault scope place value =
+    let left = expression_faults scope (expression_tree place.value) in
+    let right = expression_faults scope (expression_tree value.value) in
+    ap (λ o. first_or o (earliest (place_faults (expression_tree place.value)))) (sym (earliest_append left right))
+    ∙ own_first (place_faults (expression_tree place.value)) (left ++ right)
+    ∙ ap (λ e. earliest (expression_faults scope e)) (sym (assign_tree place value))
 
 -- how many arguments there are
 pub count_all : (es : List code.Expression) → count_of (expressions_of (map expression_tree es)) ≡ length es
 count_all [] = refl
 count_all (e ∷ es) = omega (arith, count_all es)
-
-some_first : (f : Fault) (o : Option Fault) → is_some (sooner_of (Some f) o) ≡ true
-some_first f None = refl
-some_first f (Some g) = refl
-
--- a call whose arguments are at fault, or of the right count
-counted_inner : (at wanted given : ℕ) (fs : List Fault) → (is_some (earliest fs) ≡ true) ⊎ (wanted ≡ given) → earliest fs ≡ earliest (counted at wanted given fs)
-counted_inner at wanted given [] (inl h) = cc
-counted_inner at wanted given [] (inr h) =
-    ap (λ b. earliest (if b then [] else mistyped at)) (sym (eq-eqb wanted given h))
-counted_inner at wanted given (f ∷ fs) h = refl
-
--- a call of a wrong count of arguments
-counted_own : (at wanted given : ℕ) (fs : List Fault) → is_some (earliest fs) ≡ false → (wanted ≡ given → ⊥) → earliest (mistyped at) ≡ earliest (counted at wanted given fs)
-counted_own at wanted given [] h ne =
-    let e : nat_eq wanted given ≡ false = grind (arith, nat_tests) in
-    ap (λ b. earliest (if b then [] else mistyped at)) (sym e)
-counted_own at wanted given (f ∷ fs) h ne = let s = some_first f (earliest fs) in cc
-
--- the same, of a function that is looked up
-pub called_inner : (at wanted given : ℕ) (o : Option ℕ) (fs : List Fault) → o ≡ Some wanted → (is_some (earliest fs) ≡ true) ⊎ (wanted ≡ given) → earliest fs ≡ earliest (called at o given fs)
-called_inner at wanted given o fs e h =
-    counted_inner at wanted given fs h ∙ ap (λ p. earliest (called at p given fs)) (sym e)
-
-pub called_own : (at wanted given : ℕ) (o : Option ℕ) (fs : List Fault) → o ≡ Some wanted → is_some (earliest fs) ≡ false → (wanted ≡ given → ⊥) → earliest (mistyped at) ≡ earliest (called at o given fs)
-called_own at wanted given o fs e h ne =
-    counted_own at wanted given fs h ne ∙ ap (λ p. earliest (called at p given fs)) (sym e)
-
--- the faults of an item of a block
-abbrev pub item_own : OneItem → List Fault
-item_own (OneItem.Declare d) = mistyped (declaration_place d)
-item_own (OneItem.Execute s) = statement_faults s
-
-pub block_more : (i : OneItem) (rest : List OneItem) → block_faults (items_of (i ∷ rest)) ≡ item_own i ++ block_faults (items_of rest)
-block_more (OneItem.Declare d) rest = refl
-block_more (OneItem.Execute s) rest = refl

@@ -1,12 +1,15 @@
 -- The faults of a program: each phrase that breaks a rule of names or types, with the rule and the place.
--- Brought so far is a straight-line `main`: operators on numbers and characters but for `&&` and `||`, and calls of `getchar` and `putchar`. A form that isn't
--- brought is the fault Typing at its first token, and its parts aren't judged. A phrase with a part at fault isn't judged either.
-use Rattle.std.specs.Prelude.{ℕ, ◌+◌, ◌*◌, List, [], ◌∷◌, ◌++◌, Bool, true, false, ◌||◌, ◌&&◌, nat_eq, nat_lt, if◌then◌else◌, Option, Some, None, codes}
+-- Brought so far is `main` alone: locals of type `int`, all operators on integers, calls of `getchar` and `putchar`, and all statements but those on unions, unique
+-- pointers and keys. A form that isn't brought is the fault Typing at its first token, and its parts aren't judged. A phrase with a part at fault isn't judged either.
+-- A local whose declaration is at fault is a local all the same. Its uses stand after that fault, so what they are judged to be leaves the first fault as it is.
+use Rattle.std.specs.Prelude.{ℕ, ◌+◌, ◌*◌, List, [], ◌∷◌, ◌++◌, Bool, true, false, ◌||◌, ◌&&◌, nat_eq, nat_le, nat_lt, length, if◌then◌else◌, Option, Some, None, is_some, codes}
 use Rattle.std.specs.Str.{bytes_eq}
 use Rattle.cyc_tree.specs.declared.expression.Prefix.TheVariants.{Negate, Not, Complement, Dereference, AddressOf}
 use Rattle.cyc_tree.specs.Tree as tree
 use Rattle.cyc_tree.specs.Tree.{Expression, Expressions, NoExpressions, MoreExpressions, Links, NoLinks, MoreLinks, Statement, BlockItems, NoItems, Declare, Execute, Item, Program}
-use Rattle.cyc_tree.specs.Places.{expression_place, declaration_place, end_of_text}
+use Rattle.cyc_tree.specs.Tree.{Declaration, Unset, Elements, Value, local_of}
+use Rattle.cyc_tree.specs.Places.{expression_place, end_of_text}
+use Rattle.cyc_types.specs.Scope.{Locals, position_of}
 use Rattle.region_types.specs.declared.fault.Fault.{Fault}
 use Rattle.region_types.specs.declared.fault.FaultKind.{FaultKind}
 use Rattle.region_types.specs.declared.fault.FaultKind.TheVariants as kind
@@ -61,6 +64,20 @@ is_main name = bytes_eq name (codes "main")
 abbrev pub parameters_of : List ℕ → Option ℕ
 parameters_of name = (if bytes_eq name (codes "getchar") then Some 0 else (if bytes_eq name (codes "putchar") then Some 1 else None))
 
+-- a name that is used as a variable: a local; else a function, which is of another kind, or unknown
+abbrev pub variable_faults : Locals → tree.Name → List Fault
+variable_faults scope name =
+    (if is_some (position_of scope name.text) then [] else
+    (if is_main name.text || is_some (parameters_of name.text) then mistyped name.at else named name.at))
+
+-- a second local of a name in a block, which the locals after the first `outer` ones are of
+abbrev pub second_faults : Locals → ℕ → tree.Name → List Fault
+second_faults scope outer name = of_first (position_of scope name.text)
+  where
+    of_first : Option ℕ → List Fault
+    of_first None = []
+    of_first (Some position) = (if nat_le outer position then named name.at else [])
+
 -- ---- expressions
 
 -- a number without suffix is an `int` up to the greatest of these
@@ -71,85 +88,82 @@ abbrev pub count_of : Expressions → ℕ
 count_of NoExpressions = 0
 count_of (MoreExpressions first others) = 1 + count_of others
 
--- a call's own fault, where its arguments have none: a wrong count of them
-abbrev pub counted : ℕ → ℕ → ℕ → List Fault → List Fault
-counted at wanted given [] = (if nat_eq wanted given then [] else mistyped at)
-counted at wanted given (f ∷ fs) = f ∷ fs
+-- a phrase's own fault, where its parts have none
+abbrev pub own_after : List Fault → List Fault → List Fault
+own_after own [] = own
+own_after own (f ∷ fs) = f ∷ fs
 
--- a name that is unknown, or a call of a known function
+-- the first fault of a phrase: that of its parts, or else its own
+abbrev pub first_or : Option Fault → Option Fault → Option Fault
+first_or (Some f) own = Some f
+first_or None own = own
+
+-- a wrong count of arguments
+abbrev pub count_faults : ℕ → ℕ → ℕ → List Fault
+count_faults at wanted given = (if nat_eq wanted given then [] else mistyped at)
+
+-- a call, of the function with so many parameters or of an unknown one: a wrong count of arguments is the call's own fault
 abbrev pub called : ℕ → Option ℕ → ℕ → List Fault → List Fault
 called at None given inner = named at ++ inner
-called at (Some wanted) given inner = counted at wanted given inner
+called at (Some wanted) given inner = own_after (count_faults at wanted given) inner
+
+-- a call by a name: a local is of another kind
+abbrev pub call_faults : Locals → tree.Name → ℕ → List Fault → List Fault
+call_faults scope name given inner =
+    (if is_some (position_of scope name.text) then mistyped name.at ++ inner else called name.at (parameters_of name.text) given inner)
+
+-- what can be assigned to: a variable, in parentheses too
+abbrev pub is_place : Expression → Bool
+is_place (Expression.Variable name) = true
+is_place (Expression.Grouped at inner) = is_place inner
+is_place _ = false
+
+-- an assignment to anything else
+abbrev pub place_faults : Expression → List Fault
+place_faults place = (if is_place place then [] else mistyped (expression_place place))
 
 abbrev mutual
-  pub expression_faults : Expression → List Fault
-  expression_faults (Expression.Number at value suffix) = (if suffix || nat_lt greatest_int value then mistyped at else [])
-  expression_faults (Expression.Character at byte) = []
-  expression_faults (Expression.Text at bytes) = mistyped at
-  expression_faults (Expression.Null at) = mistyped at
-  expression_faults (Expression.HeapRegion at) = mistyped at
-  expression_faults (Expression.UniqueRegion at) = mistyped at
-  expression_faults (Expression.Variable name) = mistyped name.at
-  expression_faults (Expression.Call name arguments) =
-      called name.at (parameters_of name.text) (count_of arguments) (expressions_faults arguments)
-  expression_faults (Expression.MakeUnion tag member value) = mistyped tag.at
-  expression_faults (Expression.NumElts at operand) = mistyped at
-  expression_faults (Expression.Grouped at inner) = expression_faults inner
-  expression_faults (Expression.Suffixed primary _) = mistyped (expression_place primary)
-  expression_faults (Expression.Prefixed at Negate operand) = expression_faults operand
-  expression_faults (Expression.Prefixed at Not operand) = expression_faults operand
-  expression_faults (Expression.Prefixed at Complement operand) = expression_faults operand
-  expression_faults (Expression.Prefixed at Dereference operand) = mistyped at
-  expression_faults (Expression.Prefixed at AddressOf operand) = mistyped at
-  expression_faults (Expression.New at made) = mistyped at
-  expression_faults (Expression.NewIn at handle made) = mistyped at
-  expression_faults (Expression.Chain first others) = expression_faults first ++ links_faults others
-  expression_faults (Expression.AllOf first others) = mistyped (expression_place first)
-  expression_faults (Expression.AnyOf first others) = mistyped (expression_place first)
-  expression_faults (Expression.Assign place value) = mistyped (expression_place place)
+  pub expression_faults : Locals → Expression → List Fault
+  expression_faults scope (Expression.Number at value suffix) = (if suffix || nat_lt greatest_int value then mistyped at else [])
+  expression_faults scope (Expression.Character at byte) = []
+  expression_faults scope (Expression.Text at bytes) = mistyped at
+  expression_faults scope (Expression.Null at) = mistyped at
+  expression_faults scope (Expression.HeapRegion at) = mistyped at
+  expression_faults scope (Expression.UniqueRegion at) = mistyped at
+  expression_faults scope (Expression.Variable name) = variable_faults scope name
+  expression_faults scope (Expression.Call name arguments) =
+      call_faults scope name (count_of arguments) (expressions_faults scope arguments)
+  expression_faults scope (Expression.MakeUnion tag member value) = mistyped tag.at
+  expression_faults scope (Expression.NumElts at operand) = mistyped at
+  expression_faults scope (Expression.Grouped at inner) = expression_faults scope inner
+  expression_faults scope (Expression.Suffixed primary _) = mistyped (expression_place primary)
+  expression_faults scope (Expression.Prefixed at Negate operand) = expression_faults scope operand
+  expression_faults scope (Expression.Prefixed at Not operand) = expression_faults scope operand
+  expression_faults scope (Expression.Prefixed at Complement operand) = expression_faults scope operand
+  expression_faults scope (Expression.Prefixed at Dereference operand) = mistyped at
+  expression_faults scope (Expression.Prefixed at AddressOf operand) = mistyped at
+  expression_faults scope (Expression.New at made) = mistyped at
+  expression_faults scope (Expression.NewIn at handle made) = mistyped at
+  expression_faults scope (Expression.Chain first others) = expression_faults scope first ++ links_faults scope others
+  expression_faults scope (Expression.AllOf first others) = expression_faults scope first ++ expressions_faults scope others
+  expression_faults scope (Expression.AnyOf first others) = expression_faults scope first ++ expressions_faults scope others
+  expression_faults scope (Expression.Assign place value) =
+      own_after (place_faults place) (expression_faults scope place ++ expression_faults scope value)
 
-  pub expressions_faults : Expressions → List Fault
-  expressions_faults NoExpressions = []
-  expressions_faults (MoreExpressions first others) = expression_faults first ++ expressions_faults others
+  pub expressions_faults : Locals → Expressions → List Fault
+  expressions_faults scope NoExpressions = []
+  expressions_faults scope (MoreExpressions first others) = expression_faults scope first ++ expressions_faults scope others
 
-  pub links_faults : Links → List Fault
-  links_faults NoLinks = []
-  links_faults (MoreLinks operator operand others) = expression_faults operand ++ links_faults others
+  pub links_faults : Locals → Links → List Fault
+  links_faults scope NoLinks = []
+  links_faults scope (MoreLinks operator operand others) = expression_faults scope operand ++ links_faults scope others
 
--- ---- statements
-
-abbrev pub statement_faults : Statement → List Fault
-statement_faults (Statement.Empty at) = []
-statement_faults (Statement.Block at items) = mistyped at
-statement_faults (Statement.Run value) = expression_faults value
-statement_faults (Statement.Exchange left right) = mistyped (expression_place left)
-statement_faults (Statement.If at condition body) = mistyped at
-statement_faults (Statement.IfElse at condition body otherwise) = mistyped at
-statement_faults (Statement.While at condition body) = mistyped at
-statement_faults (Statement.Switch at place _) = mistyped at
-statement_faults (Statement.Break at) = mistyped at
-statement_faults (Statement.Continue at) = mistyped at
-statement_faults (Statement.Return at None) = mistyped at
-statement_faults (Statement.Return at (Some value)) = expression_faults value
-statement_faults (Statement.FreeUnique at pointer) = mistyped at
-statement_faults (Statement.FreeKey at key) = mistyped at
-
-abbrev pub block_faults : BlockItems → List Fault
-block_faults NoItems = []
-block_faults (Declare declaration others) = mistyped (declaration_place declaration) ++ block_faults others
-block_faults (Execute statement others) = statement_faults statement ++ block_faults others
-
--- ---- items
+-- ---- types
 
 -- a list with no items
 abbrev pub no_items : {A : Type 0} → List A → Bool
 no_items [] = true
 no_items (x ∷ xs) = false
-
--- an effect that isn't written
-abbrev pub no_effect : Option (List tree.RegionName) → Bool
-no_effect None = true
-no_effect (Some regions) = false
 
 -- the base `int`
 abbrev pub is_int : tree.Base → Bool
@@ -166,13 +180,67 @@ is_int (tree.Key region) = false
 abbrev pub is_plain_int : tree.TypeName → Bool
 is_plain_int t = is_int t.base && no_items t.pointers
 
+-- ---- declarations and statements
+
+-- a local's initializer, in the scope before it; arrays aren't brought
+abbrev pub local_faults : Locals → ℕ → tree.Name → tree.Initializer → ℕ → List Fault
+local_faults scope outer name Unset at = second_faults scope outer name
+local_faults scope outer name (Elements count) at = mistyped at
+local_faults scope outer name (Value value) at = second_faults scope outer name ++ expression_faults scope value
+
+abbrev pub declaration_faults : Locals → ℕ → Declaration → List Fault
+declaration_faults scope outer (tree.Local of name initializer) =
+    (if is_plain_int of then local_faults scope outer name initializer of.at else mistyped of.at)
+declaration_faults scope outer (tree.Region at region handle) = mistyped at
+declaration_faults scope outer (tree.Open at region handle key) = mistyped at
+declaration_faults scope outer (tree.Alias at region of alias pointer) = mistyped at
+declaration_faults scope outer (tree.NewKey at region key) = mistyped at
+
+-- a `break` or `continue` needs a loop around it
+abbrev pub loop_faults : Bool → ℕ → List Fault
+loop_faults in_loop at = (if in_loop then [] else mistyped at)
+
+-- a statement, among these locals, in a loop or not
+abbrev mutual
+  pub statement_faults : Locals → Bool → Statement → List Fault
+  statement_faults scope in_loop (Statement.Empty at) = []
+  statement_faults scope in_loop (Statement.Block at items) = block_faults scope (length scope) in_loop items
+  statement_faults scope in_loop (Statement.Run value) = expression_faults scope value
+  statement_faults scope in_loop (Statement.Exchange left right) = mistyped (expression_place left)
+  statement_faults scope in_loop (Statement.If at condition body) = expression_faults scope condition ++ statement_faults scope in_loop body
+  statement_faults scope in_loop (Statement.IfElse at condition body otherwise) =
+      expression_faults scope condition ++ statement_faults scope in_loop body ++ statement_faults scope in_loop otherwise
+  statement_faults scope in_loop (Statement.While at condition body) = expression_faults scope condition ++ statement_faults scope true body
+  statement_faults scope in_loop (Statement.Switch at place _) = mistyped at
+  statement_faults scope in_loop (Statement.Break at) = loop_faults in_loop at
+  statement_faults scope in_loop (Statement.Continue at) = loop_faults in_loop at
+  statement_faults scope in_loop (Statement.Return at None) = mistyped at
+  statement_faults scope in_loop (Statement.Return at (Some value)) = expression_faults scope value
+  statement_faults scope in_loop (Statement.FreeUnique at pointer) = mistyped at
+  statement_faults scope in_loop (Statement.FreeKey at key) = mistyped at
+
+  -- The items of a block: a local is visible after its declaration. The locals after the first `outer` ones are the block's own.
+  pub block_faults : (scope : Locals) (outer : ℕ) (in_loop : Bool) → BlockItems → List Fault
+  block_faults scope outer in_loop NoItems = []
+  block_faults scope outer in_loop (Declare declaration others) =
+      declaration_faults scope outer declaration ++ block_faults (scope ++ (local_of declaration).text ∷ []) outer in_loop others
+  block_faults scope outer in_loop (Execute statement others) =
+      statement_faults scope in_loop statement ++ block_faults scope outer in_loop others
+
+-- ---- items
+
+-- an effect that isn't written
+abbrev pub no_effect : Option (List tree.RegionName) → Bool
+no_effect None = true
+no_effect (Some regions) = false
+
 -- `int main()`: the type `int` alone, and no parameters, effect or bounds
 abbrev pub has_main_form : tree.Function → Bool
 has_main_form f = is_plain_int f.result && no_items f.parameters && no_effect f.effect && no_items f.bounds
 
 -- `main`: its form, at its name, and its body
 abbrev pub main_faults : tree.Function → List Fault
-main_faults f = (if has_main_form f then block_faults f.body else mistyped f.name.at)
+main_faults f = (if has_main_form f then block_faults [] 0 false f.body else mistyped f.name.at)
 
 -- a function of the name `main`
 abbrev pub defines_main : Item → Bool

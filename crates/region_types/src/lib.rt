@@ -9,6 +9,7 @@ mod expression;
 mod fault;
 mod item;
 mod program;
+mod statement;
 
 pub use fault::{Fault, FaultKind, sooner};
 pub use item::typed;

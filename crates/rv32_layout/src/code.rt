@@ -1,15 +1,15 @@
 // Placed code.
 
-ghost use Rattle.std.specs.Prelude.{◌≡◌, ◌≤◌, ◌<◌, ◌*◌, ◌↔◌, Err, IfOk, vec_len};
-ghost use Rattle.rv32_layout.specs.Placed.{code_limit, word_bytes, IsLine, ArePlaced};
+ghost use Rattle.std.specs.Prelude.{◌≡◌, ◌≤◌, ◌<◌, ◌↔◌, Err, IfOk, vec_len};
+ghost use Rattle.rv32_layout.specs.Placed.{code_limit, code_length, ArePlaced};
+ghost use Rattle.rv32_layout.specs.Reach.{IsTooFar};
 
 use crate::fault::LayoutFault;
-use rv32_isa::encode;
-use rv32_select::{Labelled, Line};
+use crate::length::length;
+use crate::reach::is_first_jump_to_end;
+use crate::words::words;
+use rv32_select::Labelled;
 use std::alloc::Global;
-
-/// The greatest length of code, in bytes.
-const CODE_LIMIT: usize = 1048576;
 
 /// The code's bytes. It begins at the first.
 #[derive(Drop)]
@@ -17,34 +17,22 @@ pub struct Code {
     pub bytes: Vec<u8>,
 }
 
-/// The bytes of a word, the lowest first.
-fn word_bytes(word: u32) -> [u8; 4]
-    ensures { result ≡ word_bytes word }
-{
-    word.to_le_bytes()
-}
-
-/// The bytes of a line.
-fn line_bytes(line: Line) -> [u8; 4]
-    ensures { IsLine line result }
-{
-    let Line::Plain(instruction) = line;
-    word_bytes(encode(instruction))
-}
-
-/// The code of the lines, each at the place that its number gives.
+/// The code of the lines, each behind those before it, with each jump going to where its label stands: at the first
+/// line that places it, or behind all lines where none does. An `Err` is `TooLarge` or `TooFar` exactly where that is
+/// what the lines are, and else `Memory`.
 pub fn place(alloc: Global, labelled: &Labelled) -> Result<Code, LayoutFault>
     ensures placed { IfOk result (λ code. ArePlaced labelled.now.lines.items code.bytes.items) }
-    ensures words { IfOk result (λ code. vec_len code.bytes ≡ 4 * vec_len labelled.now.lines) }
+    ensures length { IfOk result (λ code. vec_len code.bytes ≡ code_length labelled.now.lines.items) }
     ensures within { IfOk result (λ code. vec_len code.bytes ≤ code_limit) }
-    ensures too_large { (result ≡ Err LayoutFault.TooLarge) ↔ (code_limit < 4 * vec_len labelled.now.lines) }
+    ensures too_large { (result ≡ Err LayoutFault.TooLarge) ↔ (code_limit < code_length labelled.now.lines.items) }
+    ensures too_far { (result ≡ Err LayoutFault.TooFar) ↔ IsTooFar labelled.now.lines.items }
 {
-    if labelled.lines.len() > CODE_LIMIT / 4 {
+    if length(labelled).is_none() {
         return Err(LayoutFault::TooLarge);
     }
-    let mut bytes = Vec::new(alloc);
-    'each: for line in &labelled.lines {
-        bytes.extend_from_slice(&line_bytes(*line))?;
+    if is_first_jump_to_end(labelled) {
+        return Err(LayoutFault::TooFar);
     }
+    let bytes = words(alloc, labelled)?;
     Ok(Code { bytes })
 }

@@ -10,6 +10,8 @@ use std::alloc::AllocError;
 pub enum LayoutFault {
     /// The code would be over 1,048,576 bytes.
     TooLarge,
+    /// The first instruction is a jump to the end of code of 1,048,576 bytes: two bytes further than a jump goes.
+    TooFar,
     /// No host memory is left.
     Memory,
 }

@@ -1,11 +1,18 @@
 //! From instructions with labels to code.
 //!
-//! `place` gives each line its word; the code is refused as too large exactly where it is over 1,048,576 bytes.
-//! Stands on `rv32_select` and `rv32_isa`.
+//! `place` gives each line its words, and each jump its offset from where its label stands. The code is refused as too
+//! large exactly where it is over 1,048,576 bytes, and as too far exactly where it is of that length and begins with a
+//! jump to its end. Stands on `rv32_select`, `rv32_isa` and `indexmap`.
 #![tactic(auto)]
 
 mod code;
 mod fault;
+mod length;
+mod places;
+mod reach;
+#[cfg(test)]
+mod tests;
+mod words;
 
 pub use code::{Code, place};
 pub use fault::LayoutFault;

@@ -7,9 +7,10 @@ use Rattle.cyc_core.specs.declared.operation.Binary as core_binary
 use Rattle.cyc_core.specs.declared.operation.Binary.TheVariants as binary
 use Rattle.cyc_core.specs.declared.operation.Cell.{Cell}
 use Rattle.cyc_core.specs.declared.operation.Operation.{Operation}
-use Rattle.cyc_core.specs.declared.operation.Operation.TheVariants.{Constant, Binary, Getchar, Putchar, Return}
+use Rattle.cyc_core.specs.declared.operation.Operation.TheVariants.{Constant, Move, Binary, Getchar, Putchar}
+use Rattle.cyc_core.specs.Tree.{Statement, Statements, Do, If, While, Break, Continue, Return, NoStatements, MoreStatements}
 use Rattle.rv32_select.specs.declared.labelled.Line.{Line}
-use Rattle.rv32_select.specs.declared.labelled.Line.TheVariants.{Plain}
+use Rattle.rv32_select.specs.declared.labelled.Line.TheVariants.{Plain, Label, Jump, JumpIfZero}
 
 -- ---- registers
 
@@ -137,22 +138,58 @@ call_code number = constant_code number_register number ++ (Plain Ecall ∷ [])
 
 abbrev pub operation_code : Operation → List Line
 operation_code (Constant to word) = constant_code result_register word ++ save_code result_register (slot_of to)
+operation_code (Move to from) = load_code result_register (slot_of from) ++ save_code result_register (slot_of to)
 operation_code (Binary operation to left right) =
     load_code result_register (slot_of left) ++ load_code operand_register (slot_of right) ++ binary_code operation ++
     save_code result_register (slot_of to)
 operation_code (Getchar to) = call_code 2 ++ save_code argument_register (slot_of to)
 operation_code (Putchar to from) =
     load_code argument_register (slot_of from) ++ call_code 1 ++ save_code argument_register (slot_of to)
-operation_code (Return from) = load_code argument_register (slot_of from) ++ call_code 0
 
-abbrev pub operations_code : List Operation → List Line
-operations_code [] = []
-operations_code (o ∷ os) = operation_code o ++ operations_code os
+-- ---- statements
+
+-- how many labels the code of a statement places
+abbrev mutual
+  pub labels_in : Statement → ℕ
+  labels_in (Do operation) = 0
+  labels_in (If cell these those) = labels_of these + labels_of those + 2
+  labels_in (While test cell body) = labels_of test + labels_of body + 2
+  labels_in Break = 0
+  labels_in Continue = 0
+  labels_in (Return cell) = 0
+
+  pub labels_of : Statements → ℕ
+  labels_of NoStatements = 0
+  labels_of (MoreStatements s ss) = labels_in s + labels_of ss
+
+-- what goes on where a cell isn't 0, and at a label where it is
+abbrev pub test_code : Cell → ℕ → List Line
+test_code cell label = load_code result_register (slot_of cell) ++ (JumpIfZero result_register label ∷ [])
+
+-- The code of a statement. The labels that it places are numbered from `next` on; a `break` goes to the label `out`, and a `continue` to `again`.
+-- A choice: the test, the first statements and a jump over the others; a label, the others, and a label.
+-- A loop: a label, its test, its body and a jump back; and a label behind it.
+abbrev mutual
+  pub statement_code : (next out again : ℕ) → Statement → List Line
+  statement_code next out again (Do operation) = operation_code operation
+  statement_code next out again (If cell these those) = let behind = next + 1 + labels_of these in
+      test_code cell next ++ statements_code (next + 1) out again these ++ (Jump behind ∷ Label next ∷ []) ++
+      statements_code (behind + 1) out again those ++ (Label behind ∷ [])
+  statement_code next out again (While test cell body) = let behind = next + 1 + labels_of test in
+      (Label next ∷ []) ++ statements_code (next + 1) out again test ++ test_code cell behind ++
+      statements_code (behind + 1) behind next body ++ (Jump next ∷ Label behind ∷ [])
+  statement_code next out again Break = Jump out ∷ []
+  statement_code next out again Continue = Jump again ∷ []
+  statement_code next out again (Return cell) = load_code argument_register (slot_of cell) ++ call_code 0
+
+  pub statements_code : (next out again : ℕ) → Statements → List Line
+  statements_code next out again NoStatements = []
+  statements_code next out again (MoreStatements s ss) = statement_code next out again s ++ statements_code (next + labels_in s) out again ss
 
 -- the bytes of a frame with the slots up to the last cell's, rounded up to 16
 abbrev pub frame_bytes : Cell → ℕ
 frame_bytes last = (slot_of last + 19) / 16 * 16
 
--- `main`: its frame, and then what it does
-abbrev pub main_code : Cell → List Operation → List Line
-main_code last operations = stack_move_code ((2 ^ 32 - frame_bytes last) % 2 ^ 32) ++ operations_code operations
+-- `main`: its frame, then what it does, and the label 0, where a `break` or `continue` outside of all loops would go
+abbrev pub main_code : Cell → Statements → List Line
+main_code last body = stack_move_code ((2 ^ 32 - frame_bytes last) % 2 ^ 32) ++ statements_code 1 0 0 body ++ (Label 0 ∷ [])

@@ -1,6 +1,6 @@
 // Instructions for single steps.
 
-ghost use Rattle.std.specs.Prelude.{◌≡◌, ◌<◌, [], ◌∷◌, ◌++◌, OnOk};
+ghost use Rattle.std.specs.Prelude.{◌≡◌, ◌+◌, ◌<◌, [], ◌∷◌, ◌++◌, length, vec_len, OnOk};
 ghost use Rattle.rv32_select.specs.declared.labelled.Line.TheVariants.{Plain};
 ghost use Rattle.rv32_isa.specs.declared.instruction.Instr.TheVariants.{Lui, Add};
 ghost use Rattle.rv32_select.specs.Selected.{upper_of, lower_of, is_short, constant_code, stack_move_code, load_code, save_code, call_code};
@@ -23,6 +23,14 @@ pub fn put(lines: &mut Vec<Line>, instruction: Instr) -> Result<(), AllocError>
 {
     lines.push(Line::Plain(instruction))?;
     Ok(())
+}
+
+/// Appends lines.
+pub fn put_lines(lines: &mut Vec<Line>, more: &[Line]) -> Result<(), AllocError>
+    ensures code { OnOk result (lines.new.items ≡ lines.old.items ++ more.now) }
+    ensures grows { OnOk result (vec_len lines.new ≡ vec_len lines.old + length more.now) }
+{
+    lines.extend_from_slice(more)
 }
 
 /// The upper 20 bits of a word, for LUI: one more where the lower 12 are negative.

@@ -1,12 +1,15 @@
 //! From Core to instructions with labels.
 //!
 //! Each cell of a function has a slot of its frame, four bytes above the stack pointer for each cell below it. An
-//! operation loads its cells into registers, works there, and saves the result. Stands on `cyc_core` and `rv32_isa`.
+//! operation loads its cells into registers, works there, and saves the result. A choice and a loop are jumps to
+//! labels. The lines are those of `main_code` in specs/Selected.antt. Stands on `cyc_core` and `rv32_isa`.
 #![tactic(auto)]
 
 mod emit;
 mod function;
 mod labelled;
+mod operation;
+mod statement;
 
 pub use function::select;
 pub use labelled::{Labelled, Line};

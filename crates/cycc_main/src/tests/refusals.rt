@@ -39,7 +39,7 @@ fn refusals_have_their_places(rt: HostRuntime) -> Result<(), Fail> {
         (b"int main() { return 2147483648; }", b"IN:1:21: Type\n"),
         (b"int main() { return 1 + *2; }", b"IN:1:25: Type\n"),
         (b"int main() { return &3; }", b"IN:1:21: Type\n"),
-        (b"int main() { return 1 && 2; }", b"IN:1:23: Parse\n"),
+        (b"int main() { return 1 && ; }", b"IN:1:26: Parse\n"),
         (b"int f() { }\nint main() { }", b"IN:1:1: Type\n"),
         (b"int main() { }\nint main() { }", b"IN:2:5: Name\n"),
         (
@@ -58,6 +58,48 @@ fn refusals_have_their_places(rt: HostRuntime) -> Result<(), Fail> {
         assert_eq!(rt; compiled.said.as_slice(), said);
         assert_eq!(rt; compiled.status, 8);
         assert!(rt; compiled.image.is_none());
+    }
+    Ok(())
+}
+
+const LOCALS_AND_LOOPS: &str = "\
+IN:1:14: Name | int main() { x = 1; int x; }
+IN:1:22: Name | int main() { int x = x; }
+IN:1:25: Name | int main() { int x; int x; }
+IN:1:36: Name | int main() { int x; { int x; } int x; }
+IN:1:25: Name | int main() { { int x; } x = 1; }
+IN:1:22: Name | int main() { int x = y + z; x = 1; }
+IN:1:25: Name | int main() { int x; int x = y; }
+IN:1:14: Type | int main() { break; }
+IN:1:21: Type | int main() { if (1) continue; }
+IN:1:28: Type | int main() { while (0) { } break; }
+IN:1:14: Type | int main() { 1 = 2; }
+IN:1:21: Type | int main() { int x; -x = 2; }
+IN:1:21: Type | int main() { int x; (x = 1) = 2; }
+IN:1:30: Name | int main() { int x; x = (3 = y); }
+IN:1:14: Type | int main() { getchar() = 2; }
+IN:1:14: Type | int main() { getchar = 2; }
+IN:1:21: Type | int main() { return main; }
+IN:1:27: Type | int main() { int getchar; getchar(); }
+IN:1:34: Parse | int main() { int a; int b; a + b = 2; }
+IN:1:21: Parse | int main() { if (1) int x; }
+IN:1:14: Parse | int main() { else ; }
+IN:1:21: Parse | int main() { while () ; }
+IN:1:14: Type | int main() { return; }
+IN:1:14: Type | int main() { char c; }
+IN:1:14: Type | int main() { int a[3]; }
+IN:1:14: Type | int main() { int *p; }";
+
+#[test]
+fn locals_and_loops_have_their_refusals(rt: HostRuntime) -> Result<(), Fail> {
+    let alloc = rt.alloc();
+    for line in LOCALS_AND_LOOPS.lines() {
+        let (said, source) = line.split_once(" | ").ok_or("no place")?;
+        let said = format!(in alloc; "{said}\n")?;
+        let checked = check(alloc, source.as_bytes())?;
+        assert_eq!(rt; checked.said.as_slice(), said.as_bytes(), "{source}");
+        assert_eq!(rt; checked.status, 8);
+        assert!(rt; checked.output.is_empty());
     }
     Ok(())
 }

@@ -5,6 +5,27 @@ use Rattle.cyc_parser.proofs.expression.+expression.Given as goal
 abbrev pub decreases-expression : goal.decreases-expression
 decreases-expression l = 64 * l.depth
 
+abbrev pub decreases-assignment : goal.decreases-assignment
+decreases-assignment l = 64 * l.depth + 63
+
+abbrev pub decreases-any_of : goal.decreases-any_of
+decreases-any_of l = 64 * l.depth + 62
+
+abbrev pub invariant-any_of-others : goal.invariant-any_of-others
+invariant-any_of-others l = length l.cursor ≤ length l.initial.cursor
+
+abbrev pub decreases-any_of-others : goal.decreases-any_of-others
+decreases-any_of-others l = length l.cursor
+
+abbrev pub decreases-all_of : goal.decreases-all_of
+decreases-all_of l = 64 * l.depth + 61
+
+abbrev pub invariant-all_of-others : goal.invariant-all_of-others
+invariant-all_of-others l = length l.cursor ≤ length l.initial.cursor
+
+abbrev pub decreases-all_of-others : goal.decreases-all_of-others
+decreases-all_of-others l = length l.cursor
+
 abbrev pub decreases-chain : goal.decreases-chain
 decreases-chain l = 64 * l.depth + 11 + 4 * levels_from l.level
 
@@ -23,11 +44,11 @@ decreases-prefixed l = 64 * l.depth + 20
 abbrev pub decreases-primary : goal.decreases-primary
 decreases-primary l = 64 * l.depth + 20
 
-abbrev pub decreases-call : goal.decreases-call
-decreases-call l = 64 * l.depth + 18
+abbrev pub decreases-named : goal.decreases-named
+decreases-named l = 64 * l.depth + 18
 
-abbrev pub decreases-grouped : goal.decreases-grouped
-decreases-grouped l = 64 * l.depth + 18
+abbrev pub decreases-parenthesized : goal.decreases-parenthesized
+decreases-parenthesized l = 64 * l.depth + 18
 
 abbrev pub decreases-arguments : goal.decreases-arguments
 decreases-arguments l = 64 * l.depth + 16

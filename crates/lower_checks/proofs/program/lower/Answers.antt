@@ -1,13 +1,9 @@
 use Rattle.std.proofs.Common.{ap, ◌∙◌, rules}
 use Rattle.region_types.specs.Faults.{first_fault}
-use Rattle.lower_checks.proofs.Shape.{one_item, main_body}
+use Rattle.lower_checks.proofs.Shape.{one_item}
 use Rattle.lower_checks.proofs.program.lower.Goals as goal
 
 pub unreachable-requires : goal.unreachable-requires
 unreachable-requires c =
     let one = one_item c.items.result.now (ap first_fault (c.items.ensures ∙ c.program.ensures.same) ∙ c.program.ensures.accepted) in
     search rules
-
-pub lower_main-requires : goal.lower_main-requires
-lower_main-requires c =
-    main_body c.items.result.now c.item-item.result c.in-Function.function c.in-len1.len_at_least c.item-item.is c.in-Function.is (ap first_fault (c.items.ensures ∙ c.program.ensures.same) ∙ c.program.ensures.accepted)

@@ -1,0 +1,175 @@
+// Types, and the regions that they name.
+
+ghost use Rattle.std.specs.Prelude.{◌<◌, ◌≤◌, OnOk, length};
+
+use crate::cursor::Cursor;
+use crate::fault::ParseFault;
+use cyc_lexer::{Keyword, Sign, TokenKind};
+use cyc_tree::{Base, Pointer, RegionName, TypeName};
+use std::alloc::Global;
+
+/// Whether a token of this kind begins a type.
+pub fn begins_type(kind: Option<TokenKind>) -> bool {
+    let Some(TokenKind::Keyword(keyword)) = kind else {
+        return false;
+    };
+    matches!(
+        keyword,
+        Keyword::Int
+            | Keyword::Unsigned
+            | Keyword::Char
+            | Keyword::Void
+            | Keyword::Struct
+            | Keyword::Union
+            | Keyword::RegionT
+            | Keyword::UregionKeyT
+    )
+}
+
+/// Reads a type.
+pub fn type_name(alloc: Global, cursor: &mut Cursor<'_, '_>) -> Result<TypeName, ParseFault>
+    ensures { OnOk result (length cursor.new < length cursor.old) }
+{
+    let at = cursor.place();
+    let base = base(alloc, cursor)?;
+    pointed(alloc, at, base, cursor)
+}
+
+/// Reads what a type begins with.
+fn base(alloc: Global, cursor: &mut Cursor<'_, '_>) -> Result<Base, ParseFault>
+    ensures { OnOk result (length cursor.new < length cursor.old) }
+{
+    if !begins_type(cursor.kind()) {
+        return Err(cursor.unexpected());
+    }
+    let token = cursor.read()?;
+    match token.kind {
+        TokenKind::Keyword(Keyword::Unsigned) => unsigned(cursor),
+        TokenKind::Keyword(Keyword::Char) => Ok(Base::Char),
+        TokenKind::Keyword(Keyword::Void) => Ok(Base::Void),
+        TokenKind::Keyword(Keyword::Struct) => {
+            let tag = cursor.name(alloc)?;
+            Ok(Base::Struct(tag, region_list(alloc, cursor)?))
+        }
+        TokenKind::Keyword(Keyword::Union) => {
+            let tag = cursor.name(alloc)?;
+            Ok(Base::Union(tag, region_list(alloc, cursor)?))
+        }
+        TokenKind::Keyword(Keyword::RegionT) => Ok(Base::Handle(one_region(alloc, cursor)?)),
+        TokenKind::Keyword(Keyword::UregionKeyT) => Ok(Base::Key(one_region(alloc, cursor)?)),
+        _ => Ok(Base::Int),
+    }
+}
+
+/// Reads the `int` that may stand after `unsigned`.
+fn unsigned(cursor: &mut Cursor<'_, '_>) -> Result<Base, ParseFault>
+    ensures { OnOk result (length cursor.new ≤ length cursor.old) }
+{
+    if cursor.is_keyword(Keyword::Int) {
+        cursor.read()?;
+    }
+    Ok(Base::Unsigned)
+}
+
+/// Reads the pointers to a base, as far as they go. The place is the base's.
+pub fn pointed(
+    alloc: Global,
+    at: u32,
+    base: Base,
+    cursor: &mut Cursor<'_, '_>,
+) -> Result<TypeName, ParseFault>
+    ensures { OnOk result (length cursor.new ≤ length cursor.old) }
+{
+    let mut pointers = Vec::new(alloc);
+    'pointers: while begins_pointer(cursor) {
+        pointers.push(pointer(alloc, cursor)?)?;
+    }
+    Ok(TypeName { at, base, pointers })
+}
+
+/// Whether a pointer's sign is next.
+fn begins_pointer(cursor: &Cursor<'_, '_>) -> bool {
+    cursor.is_sign(Sign::Star) || cursor.is_sign(Sign::At) || cursor.is_sign(Sign::Question)
+}
+
+/// Reads a pointer: its sign, and the region that may stand after it.
+fn pointer(alloc: Global, cursor: &mut Cursor<'_, '_>) -> Result<Pointer, ParseFault>
+    ensures { OnOk result (length cursor.new < length cursor.old) }
+{
+    let sign = pointer_sign(cursor)?;
+    let region = if cursor.is_region() {
+        Some(cursor.region(alloc)?)
+    } else {
+        None
+    };
+    Ok(Pointer { sign, region })
+}
+
+/// Reads a pointer's sign.
+fn pointer_sign(cursor: &mut Cursor<'_, '_>) -> Result<cyc_tree::Sign, ParseFault>
+    ensures { OnOk result (length cursor.new < length cursor.old) }
+{
+    if cursor.is_sign(Sign::At) {
+        cursor.read()?;
+        Ok(cyc_tree::Sign::NotNull)
+    } else if cursor.is_sign(Sign::Question) {
+        cursor.read()?;
+        Ok(cyc_tree::Sign::Fat)
+    } else {
+        cursor.sign(Sign::Star)?;
+        qualified(cursor)
+    }
+}
+
+/// Reads the word that may stand after `*`, and answers the sign that the two make.
+fn qualified(cursor: &mut Cursor<'_, '_>) -> Result<cyc_tree::Sign, ParseFault>
+    ensures { OnOk result (length cursor.new ≤ length cursor.old) }
+{
+    let sign = match cursor.kind() {
+        Some(TokenKind::Sign(Sign::NotNull)) => cyc_tree::Sign::NotNull,
+        Some(TokenKind::Sign(Sign::FatSign)) => cyc_tree::Sign::Fat,
+        Some(TokenKind::Sign(Sign::Thin)) => cyc_tree::Sign::Nullable,
+        _ => return Ok(cyc_tree::Sign::Nullable),
+    };
+    cursor.read()?;
+    Ok(sign)
+}
+
+/// Reads a region name in angle brackets.
+pub fn one_region(alloc: Global, cursor: &mut Cursor<'_, '_>) -> Result<RegionName, ParseFault>
+    ensures { OnOk result (length cursor.new < length cursor.old) }
+{
+    cursor.sign(Sign::Less)?;
+    let region = cursor.region(alloc)?;
+    cursor.sign(Sign::Greater)?;
+    Ok(region)
+}
+
+/// Reads the region names in angle brackets that may stand after a tag.
+pub fn region_list(
+    alloc: Global,
+    cursor: &mut Cursor<'_, '_>,
+) -> Result<Vec<RegionName>, ParseFault>
+    ensures { OnOk result (length cursor.new ≤ length cursor.old) }
+{
+    if !cursor.is_sign(Sign::Less) {
+        return Ok(Vec::new(alloc));
+    }
+    cursor.sign(Sign::Less)?;
+    let regions = regions(alloc, cursor)?;
+    cursor.sign(Sign::Greater)?;
+    Ok(regions)
+}
+
+/// Reads region names with commas between them, of which there is one at least.
+pub fn regions(alloc: Global, cursor: &mut Cursor<'_, '_>) -> Result<Vec<RegionName>, ParseFault>
+    ensures { OnOk result (length cursor.new < length cursor.old) }
+{
+    let mut regions = Vec::new(alloc);
+    regions.push(cursor.region(alloc)?)?;
+    'more: while cursor.is_sign(Sign::Comma) {
+        cursor.sign(Sign::Comma)?;
+        regions.push(cursor.region(alloc)?)?;
+    }
+    Ok(regions)
+}

@@ -1,5 +1,5 @@
 -- Levels of binary operators.
-use Rattle.std.specs.Prelude.{ℕ}
+use Rattle.std.specs.Prelude.{ℕ, Option, Some, None}
 use Rattle.cyc_parser.specs.declared.operator.Level.{Level}
 use Rattle.cyc_parser.specs.declared.operator.Level.TheVariants.{BitOr, BitXor, BitAnd, Equality, Relation, Shift, Sum, Term}
 
@@ -13,3 +13,8 @@ levels_from Relation = 4
 levels_from Shift = 3
 levels_from Sum = 2
 levels_from Term = 1
+
+-- the same from a level that may be none, where the operands are unary
+abbrev pub levels_left : Option Level → ℕ
+levels_left None = 0
+levels_left (Some level) = levels_from level

@@ -3,7 +3,7 @@
 ghost use Rattle.std.specs.Prelude.{◌≡◌, ◌<◌, ◌≤◌, OnOk, OnErr, OnSome, List, length, map, drop};
 ghost use Rattle.cyc_lexer.specs.Tokens.{token_tree};
 
-use crate::fault::ParseFault;
+use crate::fault::{ParseFault, Parsed};
 use cyc_lexer::{Keyword, Sign, Token, TokenKind};
 use cyc_tree::{END_OF_TEXT, Name, RegionName};
 use std::alloc::Global;
@@ -57,6 +57,15 @@ impl<'t, 'a> Cursor<'t, 'a> {
         ParseFault::Parse(self.place())
     }
 
+    /// The fault where a phrase would nest too deep, given whether the next token begins such a phrase.
+    pub fn too_deep(&self, begins: bool) -> ParseFault {
+        if begins {
+            ParseFault::TooDeep(self.place())
+        } else {
+            self.unexpected()
+        }
+    }
+
     /// Whether the next token is this sign.
     pub fn is_sign(&self, sign: Sign) -> bool {
         self.kind() == Some(TokenKind::Sign(sign))
@@ -73,7 +82,7 @@ impl<'t, 'a> Cursor<'t, 'a> {
     }
 
     /// Reads the next token, of any kind. Where there is none, the fault is at the end of the text.
-    pub fn read(&mut self) -> Result<Token<'a>, ParseFault>
+    pub fn read(&mut self) -> Parsed<Token<'a>>
         ensures ok { OnOk result (length self.new < length self.old) }
         ensures err { OnErr result (self.new ≡ self.old) }
     {
@@ -88,7 +97,7 @@ impl<'t, 'a> Cursor<'t, 'a> {
     }
 
     /// Reads the next token, which has to be of this kind, and answers its place.
-    fn read_kind(&mut self, kind: TokenKind) -> Result<u32, ParseFault>
+    fn read_kind(&mut self, kind: TokenKind) -> Parsed<u32>
         ensures ok { OnOk result (length self.new < length self.old) }
         ensures err { OnErr result (self.new ≡ self.old) }
     {
@@ -100,7 +109,7 @@ impl<'t, 'a> Cursor<'t, 'a> {
     }
 
     /// Reads the next token, which has to be this sign, and answers its place.
-    pub fn sign(&mut self, sign: Sign) -> Result<u32, ParseFault>
+    pub fn sign(&mut self, sign: Sign) -> Parsed<u32>
         ensures ok { OnOk result (length self.new < length self.old) }
         ensures err { OnErr result (self.new ≡ self.old) }
     {
@@ -108,7 +117,7 @@ impl<'t, 'a> Cursor<'t, 'a> {
     }
 
     /// Reads the next token, which has to be this keyword, and answers its place.
-    pub fn keyword(&mut self, keyword: Keyword) -> Result<u32, ParseFault>
+    pub fn keyword(&mut self, keyword: Keyword) -> Parsed<u32>
         ensures ok { OnOk result (length self.new < length self.old) }
         ensures err { OnErr result (self.new ≡ self.old) }
     {
@@ -116,7 +125,7 @@ impl<'t, 'a> Cursor<'t, 'a> {
     }
 
     /// Reads the next token, which has to be a name.
-    pub fn name(&mut self, alloc: Global) -> Result<Name, ParseFault>
+    pub fn name(&mut self, alloc: Global) -> Parsed<Name>
         ensures ok { OnOk result (length self.new < length self.old) }
         ensures err { OnErr result (length self.new ≤ length self.old) }
     {
@@ -129,7 +138,7 @@ impl<'t, 'a> Cursor<'t, 'a> {
     }
 
     /// Reads the next token, which has to be a region name.
-    pub fn region(&mut self, alloc: Global) -> Result<RegionName, ParseFault>
+    pub fn region(&mut self, alloc: Global) -> Parsed<RegionName>
         ensures ok { OnOk result (length self.new < length self.old) }
         ensures err { OnErr result (length self.new ≤ length self.old) }
     {
@@ -148,15 +157,15 @@ impl<'t, 'a> Cursor<'t, 'a> {
         }
     }
 
-    /// Reads the next token, which has to be a number, and answers its value.
-    pub fn number(&mut self) -> Result<u32, ParseFault>
+    /// Reads the next token, which has to be a number, and answers its value and whether it has the suffix.
+    pub fn number(&mut self) -> Parsed<(u32, bool)>
         ensures ok { OnOk result (length self.new < length self.old) }
         ensures err { OnErr result (self.new ≡ self.old) }
     {
-        let Some(TokenKind::Number(value, _)) = self.kind() else {
+        let Some(TokenKind::Number(value, suffix)) = self.kind() else {
             return Err(self.unexpected());
         };
         self.read()?;
-        Ok(value)
+        Ok((value, suffix))
     }
 }

@@ -4,23 +4,28 @@ ghost use Rattle.std.specs.Prelude.{◌<◌, ◌≤◌, OnOk, length};
 
 use crate::cursor::Cursor;
 use crate::expression::expression;
-use crate::fault::ParseFault;
-use crate::type_name::{begins_type, type_name};
-use cyc_lexer::{Sign, TokenKind};
-use cyc_tree::{Declaration, Initializer};
+use crate::fault::Parsed;
+use crate::literal::element_count;
+use crate::type_name::{one_region, type_name};
+use cyc_lexer::{Keyword, Sign};
+use cyc_tree::{Declaration, Initializer, Name};
 use std::alloc::Global;
 
-/// Whether a token of this kind begins a declaration.
-pub fn begins_declaration(kind: Option<TokenKind>) -> bool {
-    begins_type(kind)
+/// Reads a declaration, whose expression has at most `depth` phrases in one another.
+pub fn declaration(alloc: Global, depth: u32, cursor: &mut Cursor<'_, '_>) -> Parsed<Declaration>
+    ensures { OnOk result (length cursor.new < length cursor.old) }
+{
+    if cursor.is_keyword(Keyword::Region) {
+        region(alloc, cursor)
+    } else if cursor.is_keyword(Keyword::Let) {
+        binding(alloc, cursor)
+    } else {
+        local(alloc, depth, cursor)
+    }
 }
 
-/// Reads a declaration, whose expression has at most `depth` phrases in one another.
-pub fn declaration(
-    alloc: Global,
-    depth: u32,
-    cursor: &mut Cursor<'_, '_>,
-) -> Result<Declaration, ParseFault>
+/// Reads the declaration of a local variable or array.
+fn local(alloc: Global, depth: u32, cursor: &mut Cursor<'_, '_>) -> Parsed<Declaration>
     ensures { OnOk result (length cursor.new < length cursor.old) }
 {
     let of = type_name(alloc, cursor)?;
@@ -31,11 +36,7 @@ pub fn declaration(
 }
 
 /// Reads what a local begins with, where that is written.
-fn initializer(
-    alloc: Global,
-    depth: u32,
-    cursor: &mut Cursor<'_, '_>,
-) -> Result<Initializer, ParseFault>
+fn initializer(alloc: Global, depth: u32, cursor: &mut Cursor<'_, '_>) -> Parsed<Initializer>
     ensures { OnOk result (length cursor.new ≤ length cursor.old) }
 {
     if cursor.is_sign(Sign::Assign) {
@@ -48,12 +49,75 @@ fn initializer(
     }
 }
 
-/// Reads the count of an array's elements, in brackets.
-pub fn element_count(cursor: &mut Cursor<'_, '_>) -> Result<u32, ParseFault>
+/// Reads the declaration of a region: a new one, or one that a key opens.
+fn region(alloc: Global, cursor: &mut Cursor<'_, '_>) -> Parsed<Declaration>
     ensures { OnOk result (length cursor.new < length cursor.old) }
 {
-    cursor.sign(Sign::LeftBracket)?;
-    let count = cursor.number()?;
-    cursor.sign(Sign::RightBracket)?;
-    Ok(count)
+    let at = cursor.keyword(Keyword::Region)?;
+    let region = one_region(alloc, cursor)?;
+    let handle = cursor.name(alloc)?;
+    if cursor.is_sign(Sign::Assign) {
+        cursor.sign(Sign::Assign)?;
+        cursor.keyword(Keyword::Open)?;
+        let key = parenthesized_name(alloc, cursor)?;
+        cursor.sign(Sign::Semicolon)?;
+        Ok(Declaration::Open(at, region, handle, key))
+    } else {
+        cursor.sign(Sign::Semicolon)?;
+        Ok(Declaration::Region(at, region, handle))
+    }
+}
+
+/// Reads a declaration that begins with `let`.
+fn binding(alloc: Global, cursor: &mut Cursor<'_, '_>) -> Parsed<Declaration>
+    ensures { OnOk result (length cursor.new < length cursor.old) }
+{
+    let at = cursor.keyword(Keyword::Let)?;
+    if cursor.is_keyword(Keyword::Alias) {
+        alias(alloc, at, cursor)
+    } else {
+        new_key(alloc, at, cursor)
+    }
+}
+
+/// Reads the declaration of an alias from `alias` on. The place is that of its `let`.
+fn alias(alloc: Global, at: u32, cursor: &mut Cursor<'_, '_>) -> Parsed<Declaration>
+    ensures { OnOk result (length cursor.new < length cursor.old) }
+{
+    cursor.keyword(Keyword::Alias)?;
+    let region = one_region(alloc, cursor)?;
+    let of = type_name(alloc, cursor)?;
+    let name = cursor.name(alloc)?;
+    cursor.sign(Sign::Assign)?;
+    let pointer = cursor.name(alloc)?;
+    cursor.sign(Sign::Semicolon)?;
+    Ok(Declaration::Alias(at, region, of, name, pointer))
+}
+
+/// Reads the declaration of a dynamic region's key from `NewDynamicRegion` on. The place is that of its
+/// `let`.
+fn new_key(alloc: Global, at: u32, cursor: &mut Cursor<'_, '_>) -> Parsed<Declaration>
+    ensures { OnOk result (length cursor.new < length cursor.old) }
+{
+    cursor.keyword(Keyword::NewDynamicRegion)?;
+    cursor.sign(Sign::LeftBrace)?;
+    let region = one_region(alloc, cursor)?;
+    let key = cursor.name(alloc)?;
+    cursor.sign(Sign::RightBrace)?;
+    cursor.sign(Sign::Assign)?;
+    cursor.keyword(Keyword::NewUkey)?;
+    cursor.sign(Sign::LeftParenthesis)?;
+    cursor.sign(Sign::RightParenthesis)?;
+    cursor.sign(Sign::Semicolon)?;
+    Ok(Declaration::NewKey(at, region, key))
+}
+
+/// Reads a name in parentheses.
+pub fn parenthesized_name(alloc: Global, cursor: &mut Cursor<'_, '_>) -> Parsed<Name>
+    ensures { OnOk result (length cursor.new < length cursor.old) }
+{
+    cursor.sign(Sign::LeftParenthesis)?;
+    let name = cursor.name(alloc)?;
+    cursor.sign(Sign::RightParenthesis)?;
+    Ok(name)
 }

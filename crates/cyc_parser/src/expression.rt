@@ -1,51 +1,23 @@
 // Expressions.
 
-ghost use Rattle.std.specs.Prelude.{◌≡◌, ◌<◌, ◌≤◌, OnOk, OnErr, length};
+ghost use Rattle.std.specs.Prelude.{◌<◌, ◌≤◌, OnOk, length};
 
 use crate::cursor::Cursor;
-use crate::fault::ParseFault;
+use crate::fault::Parsed;
+use crate::first::{begins_suffix, begins_unary};
+use crate::literal::literal;
 use crate::operator::{LOOSEST, Level, operator_of, prefix_of, tighter};
-use cyc_lexer::{Sign, TokenKind};
-use cyc_tree::{Expression, Link, Prefix};
+use cyc_lexer::{Keyword, Sign, TokenKind};
+use cyc_tree::{Expression, Link, Made, Name, Operator, Prefix, Suffix};
 use std::alloc::Global;
-
-/// Whether a token of this kind begins a unary expression.
-pub fn begins_unary(kind: Option<TokenKind>) -> bool {
-    match kind {
-        Some(TokenKind::Sign(Sign::LeftParenthesis)) => true,
-        Some(kind) => prefix_of(kind).is_some() || begins_primary(kind),
-        None => false,
-    }
-}
-
-/// Whether a token of this kind, other than a parenthesis, begins a primary expression.
-fn begins_primary(kind: TokenKind) -> bool {
-    matches!(
-        kind,
-        TokenKind::Number(_, _) | TokenKind::Character(_) | TokenKind::Identifier
-    )
-}
-
-/// What is answered where an expression would nest too deep.
-fn too_deep(cursor: &Cursor<'_, '_>) -> ParseFault {
-    if begins_unary(cursor.kind()) {
-        ParseFault::TooDeep(cursor.place())
-    } else {
-        cursor.unexpected()
-    }
-}
 
 /// Reads an expression, with at most `depth` phrases in one another.
 #[cycle(expression)]
-pub fn expression(
-    alloc: Global,
-    depth: u32,
-    cursor: &mut Cursor<'_, '_>,
-) -> Result<Expression, ParseFault>
+pub fn expression(alloc: Global, depth: u32, cursor: &mut Cursor<'_, '_>) -> Parsed<Expression>
     ensures { OnOk result (length cursor.new < length cursor.old) }
 {
     if depth == 0 {
-        Err(too_deep(cursor))
+        Err(cursor.too_deep(begins_unary(cursor.kind())))
     } else {
         assignment(alloc, depth - 1, cursor)
     }
@@ -64,11 +36,7 @@ fn is_unary(expression: &Expression) -> bool {
 
 /// Reads operands of `||`, or a unary expression and what is assigned to it.
 #[cycle(expression)]
-fn assignment(
-    alloc: Global,
-    depth: u32,
-    cursor: &mut Cursor<'_, '_>,
-) -> Result<Expression, ParseFault>
+fn assignment(alloc: Global, depth: u32, cursor: &mut Cursor<'_, '_>) -> Parsed<Expression>
     ensures { OnOk result (length cursor.new < length cursor.old) }
 {
     let first = any_of(alloc, depth, cursor)?;
@@ -84,7 +52,7 @@ fn assignment(
 
 /// Reads operands of `||`.
 #[cycle(expression)]
-fn any_of(alloc: Global, depth: u32, cursor: &mut Cursor<'_, '_>) -> Result<Expression, ParseFault>
+fn any_of(alloc: Global, depth: u32, cursor: &mut Cursor<'_, '_>) -> Parsed<Expression>
     ensures { OnOk result (length cursor.new < length cursor.old) }
 {
     let first = all_of(alloc, depth, cursor)?;
@@ -102,14 +70,14 @@ fn any_of(alloc: Global, depth: u32, cursor: &mut Cursor<'_, '_>) -> Result<Expr
 
 /// Reads operands of `&&`.
 #[cycle(expression)]
-fn all_of(alloc: Global, depth: u32, cursor: &mut Cursor<'_, '_>) -> Result<Expression, ParseFault>
+fn all_of(alloc: Global, depth: u32, cursor: &mut Cursor<'_, '_>) -> Parsed<Expression>
     ensures { OnOk result (length cursor.new < length cursor.old) }
 {
-    let first = chain(alloc, depth, LOOSEST, cursor)?;
+    let first = chain(alloc, depth, Some(LOOSEST), cursor)?;
     let mut others = Vec::new(alloc);
     'others: while cursor.is_sign(Sign::AndAnd) {
         cursor.sign(Sign::AndAnd)?;
-        others.push(chain(alloc, depth, LOOSEST, cursor)?)?;
+        others.push(chain(alloc, depth, Some(LOOSEST), cursor)?)?;
     }
     if others.is_empty() {
         Ok(first)
@@ -118,18 +86,26 @@ fn all_of(alloc: Global, depth: u32, cursor: &mut Cursor<'_, '_>) -> Result<Expr
     }
 }
 
-/// Reads operands of a level, with its operators between them.
+/// Reads operands of a level, with its operators between them. With no level, reads a unary expression.
 #[cycle(expression)]
 fn chain(
     alloc: Global,
     depth: u32,
-    level: Level,
+    level: Option<Level>,
     cursor: &mut Cursor<'_, '_>,
-) -> Result<Expression, ParseFault>
+) -> Parsed<Expression>
     ensures { OnOk result (length cursor.new < length cursor.old) }
 {
-    let first = operand(alloc, depth, level, cursor)?;
+    let Some(level) = level else {
+        return unary(alloc, depth, cursor);
+    };
+    let first = chain(alloc, depth, tighter(level), cursor)?;
     let links = links(alloc, depth, level, cursor)?;
+    linked(alloc, first, links)
+}
+
+/// An operand with the operators and operands after it, where there are such.
+fn linked(alloc: Global, first: Expression, links: Vec<Link>) -> Parsed<Expression> {
     if links.is_empty() {
         Ok(first)
     } else {
@@ -138,60 +114,50 @@ fn chain(
 }
 
 /// The operator of a level that stands next.
-fn next_operator(cursor: &Cursor<'_, '_>, level: Level) -> Option<cyc_tree::Operator> {
-    match cursor.kind() {
-        Some(kind) => operator_of(kind, level),
-        None => None,
-    }
+fn next_operator(cursor: &Cursor<'_, '_>, level: Level) -> Option<Operator> {
+    operator_of(cursor.kind()?, level)
 }
 
 /// Reads the operators of a level, each with its right operand, as far as they go.
 #[cycle(expression)]
-fn links(
-    alloc: Global,
-    depth: u32,
-    level: Level,
-    cursor: &mut Cursor<'_, '_>,
-) -> Result<Vec<Link>, ParseFault>
+fn links(alloc: Global, depth: u32, level: Level, cursor: &mut Cursor<'_, '_>) -> Parsed<Vec<Link>>
     ensures { OnOk result (length cursor.new ≤ length cursor.old) }
 {
     let mut links = Vec::new(alloc);
     'links: while let Some(operator) = next_operator(cursor, level) {
         cursor.read()?;
-        let operand = operand(alloc, depth, level, cursor)?;
+        let operand = chain(alloc, depth, tighter(level), cursor)?;
         links.push(Link { operator, operand })?;
     }
     Ok(links)
 }
 
-/// Reads an operand of a level.
-#[cycle(expression)]
-fn operand(
-    alloc: Global,
-    depth: u32,
-    level: Level,
-    cursor: &mut Cursor<'_, '_>,
-) -> Result<Expression, ParseFault>
-    ensures { OnOk result (length cursor.new < length cursor.old) }
-{
-    match tighter(level) {
-        Some(level) => chain(alloc, depth, level, cursor),
-        None => unary(alloc, depth, cursor),
-    }
-}
-
 /// Reads a unary expression, with at most `depth` phrases in one another.
 #[cycle(expression)]
-fn unary(alloc: Global, depth: u32, cursor: &mut Cursor<'_, '_>) -> Result<Expression, ParseFault>
+fn unary(alloc: Global, depth: u32, cursor: &mut Cursor<'_, '_>) -> Parsed<Expression>
     ensures { OnOk result (length cursor.new < length cursor.old) }
 {
     if depth == 0 {
-        return Err(too_deep(cursor));
+        Err(cursor.too_deep(begins_unary(cursor.kind())))
+    } else {
+        operation(alloc, depth - 1, cursor)
     }
+}
+
+/// Reads a unary expression. The phrases in it have at most `depth` in one another.
+#[cycle(expression)]
+fn operation(alloc: Global, depth: u32, cursor: &mut Cursor<'_, '_>) -> Parsed<Expression>
+    ensures { OnOk result (length cursor.new < length cursor.old) }
+{
     match cursor.kind() {
+        Some(TokenKind::Keyword(Keyword::New)) => {
+            let at = cursor.keyword(Keyword::New)?;
+            Ok(Expression::New(at, made(alloc, depth, cursor)?))
+        }
+        Some(TokenKind::Keyword(Keyword::Rnew)) => made_in(alloc, depth, cursor),
         Some(kind) => match prefix_of(kind) {
-            Some(prefix) => prefixed(alloc, depth - 1, prefix, cursor),
-            None => primary(alloc, depth - 1, kind, cursor),
+            Some(prefix) => prefixed(alloc, depth, prefix, cursor),
+            None => postfix(alloc, depth, cursor),
         },
         None => Err(cursor.unexpected()),
     }
@@ -204,7 +170,7 @@ fn prefixed(
     depth: u32,
     prefix: Prefix,
     cursor: &mut Cursor<'_, '_>,
-) -> Result<Expression, ParseFault>
+) -> Parsed<Expression>
     ensures { OnOk result (length cursor.new < length cursor.old) }
 {
     let sign = cursor.read()?;
@@ -213,43 +179,86 @@ fn prefixed(
     Ok(Expression::Prefixed(sign.at, prefix, operand))
 }
 
-/// Reads a literal, a name with what it is applied to, or an expression in parentheses. The next token is of
-/// the kind given.
+/// Reads `rnew`, its handle and what it makes.
 #[cycle(expression)]
-fn primary(
-    alloc: Global,
-    depth: u32,
-    kind: TokenKind,
-    cursor: &mut Cursor<'_, '_>,
-) -> Result<Expression, ParseFault>
+fn made_in(alloc: Global, depth: u32, cursor: &mut Cursor<'_, '_>) -> Parsed<Expression>
     ensures { OnOk result (length cursor.new < length cursor.old) }
 {
-    match kind {
-        TokenKind::Number(value, suffix) => {
-            let token = cursor.read()?;
-            Ok(Expression::Number(token.at, value, suffix))
-        }
-        TokenKind::Character(byte) => {
-            let token = cursor.read()?;
-            Ok(Expression::Character(token.at, byte))
-        }
-        TokenKind::Identifier => named(alloc, depth, cursor),
-        TokenKind::Sign(Sign::LeftParenthesis) => {
-            let at = cursor.place();
-            let inner = parenthesized(alloc, depth, cursor)?;
-            Ok(Expression::Grouped(at, Box::new(alloc, inner)?))
-        }
-        _ => Err(cursor.unexpected()),
+    let at = cursor.keyword(Keyword::Rnew)?;
+    let handle = parenthesized(alloc, depth, cursor)?;
+    let made = made(alloc, depth, cursor)?;
+    Ok(Expression::NewIn(at, Box::new(alloc, handle)?, made))
+}
+
+/// Reads what `new` or `rnew` makes.
+#[cycle(expression)]
+fn made(alloc: Global, depth: u32, cursor: &mut Cursor<'_, '_>) -> Parsed<Made>
+    ensures { OnOk result (length cursor.new < length cursor.old) }
+{
+    if cursor.is_sign(Sign::LeftBrace) {
+        array(alloc, depth, cursor)
+    } else {
+        let value = unary(alloc, depth, cursor)?;
+        Ok(Made::One(Box::new(alloc, value)?))
+    }
+}
+
+/// Reads an array that is made: the index's name, the count and the element.
+#[cycle(expression)]
+fn array(alloc: Global, depth: u32, cursor: &mut Cursor<'_, '_>) -> Parsed<Made>
+    ensures { OnOk result (length cursor.new < length cursor.old) }
+{
+    cursor.sign(Sign::LeftBrace)?;
+    cursor.keyword(Keyword::For)?;
+    let index = cursor.name(alloc)?;
+    cursor.sign(Sign::Less)?;
+    let count = expression(alloc, depth, cursor)?;
+    cursor.sign(Sign::Colon)?;
+    let element = expression(alloc, depth, cursor)?;
+    cursor.sign(Sign::RightBrace)?;
+    let count = Box::new(alloc, count)?;
+    Ok(Made::Array(index, count, Box::new(alloc, element)?))
+}
+
+/// Reads a primary expression and its suffixes.
+#[cycle(expression)]
+fn postfix(alloc: Global, depth: u32, cursor: &mut Cursor<'_, '_>) -> Parsed<Expression>
+    ensures { OnOk result (length cursor.new < length cursor.old) }
+{
+    let (first, member) = if cursor.kind() == Some(TokenKind::Identifier) {
+        named(alloc, depth, cursor)?
+    } else {
+        (primary(alloc, depth, cursor)?, None)
+    };
+    let suffixes = suffixes(alloc, depth, member, cursor)?;
+    if suffixes.is_empty() {
+        Ok(first)
+    } else {
+        Ok(Expression::Suffixed(Box::new(alloc, first)?, suffixes))
+    }
+}
+
+/// Reads a primary expression that begins with no name.
+#[cycle(expression)]
+fn primary(alloc: Global, depth: u32, cursor: &mut Cursor<'_, '_>) -> Parsed<Expression>
+    ensures { OnOk result (length cursor.new < length cursor.old) }
+{
+    if cursor.is_sign(Sign::LeftParenthesis) {
+        let at = cursor.place();
+        let inner = parenthesized(alloc, depth, cursor)?;
+        Ok(Expression::Grouped(at, Box::new(alloc, inner)?))
+    } else if cursor.is_keyword(Keyword::Numelts) {
+        let at = cursor.keyword(Keyword::Numelts)?;
+        let operand = parenthesized(alloc, depth, cursor)?;
+        Ok(Expression::NumElts(at, Box::new(alloc, operand)?))
+    } else {
+        literal(alloc, cursor)
     }
 }
 
 /// Reads an expression in parentheses, and answers it without them.
 #[cycle(expression)]
-pub fn parenthesized(
-    alloc: Global,
-    depth: u32,
-    cursor: &mut Cursor<'_, '_>,
-) -> Result<Expression, ParseFault>
+pub fn parenthesized(alloc: Global, depth: u32, cursor: &mut Cursor<'_, '_>) -> Parsed<Expression>
     ensures { OnOk result (length cursor.new < length cursor.old) }
 {
     cursor.sign(Sign::LeftParenthesis)?;
@@ -258,39 +267,89 @@ pub fn parenthesized(
     Ok(inner)
 }
 
-/// Reads a variable, or a call: a name and its arguments.
+/// Reads a variable, a call, or the making of a union value. After a variable, a `.` and a member are
+/// read too, since only what follows tells it from a union's tag.
 #[cycle(expression)]
-fn named(alloc: Global, depth: u32, cursor: &mut Cursor<'_, '_>) -> Result<Expression, ParseFault>
+fn named(
+    alloc: Global,
+    depth: u32,
+    cursor: &mut Cursor<'_, '_>,
+) -> Parsed<(Expression, Option<Name>)>
     ensures { OnOk result (length cursor.new < length cursor.old) }
 {
     let name = cursor.name(alloc)?;
     if cursor.is_sign(Sign::LeftParenthesis) {
-        cursor.sign(Sign::LeftParenthesis)?;
         let arguments = arguments(alloc, depth, cursor)?;
-        cursor.sign(Sign::RightParenthesis)?;
-        Ok(Expression::Call(name, arguments))
+        return Ok((Expression::Call(name, arguments), None));
+    }
+    if !cursor.is_sign(Sign::Dot) {
+        return Ok((Expression::Variable(name), None));
+    }
+    cursor.sign(Sign::Dot)?;
+    let member = cursor.name(alloc)?;
+    if cursor.is_sign(Sign::LeftParenthesis) {
+        let value = parenthesized(alloc, depth, cursor)?;
+        let value = Box::new(alloc, value)?;
+        Ok((Expression::MakeUnion(name, member, value), None))
     } else {
-        Ok(Expression::Variable(name))
+        Ok((Expression::Variable(name), Some(member)))
     }
 }
 
-/// Reads the arguments of a call, up to the closing parenthesis.
+/// Reads the arguments of a call, with their parentheses.
 #[cycle(expression)]
-fn arguments(
-    alloc: Global,
-    depth: u32,
-    cursor: &mut Cursor<'_, '_>,
-) -> Result<Vec<Expression>, ParseFault>
-    ensures { OnOk result (length cursor.new ≤ length cursor.old) }
+fn arguments(alloc: Global, depth: u32, cursor: &mut Cursor<'_, '_>) -> Parsed<Vec<Expression>>
+    ensures { OnOk result (length cursor.new < length cursor.old) }
 {
     let mut arguments = Vec::new(alloc);
-    if cursor.is_sign(Sign::RightParenthesis) {
-        return Ok(arguments);
-    }
-    arguments.push(expression(alloc, depth, cursor)?)?;
-    'more: while cursor.is_sign(Sign::Comma) {
-        cursor.sign(Sign::Comma)?;
+    cursor.sign(Sign::LeftParenthesis)?;
+    if !cursor.is_sign(Sign::RightParenthesis) {
         arguments.push(expression(alloc, depth, cursor)?)?;
+        'more: while cursor.is_sign(Sign::Comma) {
+            cursor.sign(Sign::Comma)?;
+            arguments.push(expression(alloc, depth, cursor)?)?;
+        }
     }
+    cursor.sign(Sign::RightParenthesis)?;
     Ok(arguments)
+}
+
+/// Reads the suffixes of a primary expression, as far as they go. The first may have been read: the member
+/// that it names.
+#[cycle(expression)]
+fn suffixes(
+    alloc: Global,
+    depth: u32,
+    member: Option<Name>,
+    cursor: &mut Cursor<'_, '_>,
+) -> Parsed<Vec<Suffix>>
+    ensures { OnOk result (length cursor.new ≤ length cursor.old) }
+{
+    let mut suffixes = Vec::new(alloc);
+    if let Some(member) = member {
+        suffixes.push(Suffix::Dot(member))?;
+    }
+    'more: while begins_suffix(cursor.kind()) {
+        suffixes.push(suffix(alloc, depth, cursor)?)?;
+    }
+    Ok(suffixes)
+}
+
+/// Reads a suffix of a primary expression.
+#[cycle(expression)]
+fn suffix(alloc: Global, depth: u32, cursor: &mut Cursor<'_, '_>) -> Parsed<Suffix>
+    ensures { OnOk result (length cursor.new < length cursor.old) }
+{
+    if cursor.is_sign(Sign::LeftBracket) {
+        cursor.sign(Sign::LeftBracket)?;
+        let index = expression(alloc, depth, cursor)?;
+        cursor.sign(Sign::RightBracket)?;
+        Ok(Suffix::Index(Box::new(alloc, index)?))
+    } else if cursor.is_sign(Sign::Dot) {
+        cursor.sign(Sign::Dot)?;
+        Ok(Suffix::Dot(cursor.name(alloc)?))
+    } else {
+        cursor.sign(Sign::Arrow)?;
+        Ok(Suffix::Arrow(cursor.name(alloc)?))
+    }
 }

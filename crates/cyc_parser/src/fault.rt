@@ -15,6 +15,9 @@ pub enum ParseFault {
     Memory,
 }
 
+/// What reading a phrase gives: its tree, or why there is none.
+pub type Parsed<T> = Result<T, ParseFault>;
+
 impl fmt::Display for ParseFault {
     fn fmt<W: fmt::Write>(&self, f: &mut fmt::Formatter<W>) -> fmt::Result {
         match self {

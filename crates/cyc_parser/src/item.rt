@@ -1,42 +1,121 @@
 // Items and programs.
 
-ghost use Rattle.std.specs.Prelude.{◌<◌, OnOk, length};
+ghost use Rattle.std.specs.Prelude.{◌<◌, ◌≤◌, OnOk, length};
 
 use crate::cursor::Cursor;
-use crate::fault::ParseFault;
-use crate::statement::block_items;
+use crate::fault::{ParseFault, Parsed};
+use crate::first::begins_type;
+use crate::function::function;
+use crate::literal::{constant, element_count};
+use crate::type_name::{pointed, region_list, type_name, typed_name};
 use cyc_lexer::{Keyword, Sign, Token};
-use cyc_tree::{Base, Function, Item, Program, TypeName};
+use cyc_tree::{Base, Initial, Item, Member, Program, Structure, TypeName};
 use std::alloc::Global;
 
-/// The most statements, expressions and unary expressions that may contain a token.
-pub const NESTING_LIMIT: u32 = 256;
-
-/// Reads a function: its result's type, its name and its body.
-fn function(alloc: Global, cursor: &mut Cursor<'_, '_>) -> Result<Function, ParseFault>
+/// Reads an item.
+fn item(alloc: Global, cursor: &mut Cursor<'_, '_>) -> Parsed<Item>
     ensures { OnOk result (length cursor.new < length cursor.old) }
 {
-    let at = cursor.keyword(Keyword::Int)?;
-    let name = cursor.name(alloc)?;
-    cursor.sign(Sign::LeftParenthesis)?;
-    cursor.sign(Sign::RightParenthesis)?;
-    cursor.sign(Sign::LeftBrace)?;
-    let body = block_items(alloc, NESTING_LIMIT, cursor)?;
-    let end = cursor.sign(Sign::RightBrace)?;
-    let result = TypeName {
+    if cursor.is_sign(Sign::Tagged) {
+        Ok(Item::Union(tagged_union(alloc, cursor)?))
+    } else if cursor.is_keyword(Keyword::Struct) {
+        struct_or_typed(alloc, cursor)
+    } else {
+        let of = type_name(alloc, cursor)?;
+        typed(alloc, of, cursor)
+    }
+}
+
+/// Reads a struct, or a global or a function whose type begins with one. What follows the tag and its
+/// regions tells which it is.
+fn struct_or_typed(alloc: Global, cursor: &mut Cursor<'_, '_>) -> Parsed<Item>
+    ensures { OnOk result (length cursor.new < length cursor.old) }
+{
+    let at = cursor.keyword(Keyword::Struct)?;
+    let tag = cursor.name(alloc)?;
+    let regions = region_list(alloc, cursor)?;
+    if cursor.is_sign(Sign::LeftBrace) {
+        let members = members(alloc, cursor)?;
+        Ok(Item::Struct(Structure {
+            at,
+            tag,
+            regions,
+            members,
+        }))
+    } else {
+        let of = pointed(alloc, at, Base::Struct(tag, regions), cursor)?;
+        typed(alloc, of, cursor)
+    }
+}
+
+/// Reads a tagged union.
+fn tagged_union(alloc: Global, cursor: &mut Cursor<'_, '_>) -> Parsed<Structure>
+    ensures { OnOk result (length cursor.new < length cursor.old) }
+{
+    let at = cursor.sign(Sign::Tagged)?;
+    cursor.keyword(Keyword::Union)?;
+    let tag = cursor.name(alloc)?;
+    let regions = region_list(alloc, cursor)?;
+    let members = members(alloc, cursor)?;
+    Ok(Structure {
         at,
-        base: Base::Int,
-        pointers: Vec::new(alloc),
-    };
-    Ok(Function {
-        result,
-        name,
-        parameters: Vec::new(alloc),
-        effect: None,
-        bounds: Vec::new(alloc),
-        body,
-        end,
+        tag,
+        regions,
+        members,
     })
+}
+
+/// Reads the members of a struct or a union, of which there is one at least, in braces, and the semicolon
+/// that stands after them.
+fn members(alloc: Global, cursor: &mut Cursor<'_, '_>) -> Parsed<Vec<Member>>
+    ensures { OnOk result (length cursor.new < length cursor.old) }
+{
+    let mut members = Vec::new(alloc);
+    cursor.sign(Sign::LeftBrace)?;
+    members.push(member(alloc, cursor)?)?;
+    'more: while begins_type(cursor.kind()) {
+        members.push(member(alloc, cursor)?)?;
+    }
+    cursor.sign(Sign::RightBrace)?;
+    cursor.sign(Sign::Semicolon)?;
+    Ok(members)
+}
+
+/// Reads a member, with its semicolon.
+fn member(alloc: Global, cursor: &mut Cursor<'_, '_>) -> Parsed<Member>
+    ensures { OnOk result (length cursor.new < length cursor.old) }
+{
+    let member = typed_name(alloc, cursor)?;
+    cursor.sign(Sign::Semicolon)?;
+    Ok(member)
+}
+
+/// Reads a global or a function from its name on, given its type.
+fn typed(alloc: Global, of: TypeName, cursor: &mut Cursor<'_, '_>) -> Parsed<Item>
+    ensures { OnOk result (length cursor.new < length cursor.old) }
+{
+    let name = cursor.name(alloc)?;
+    if cursor.is_sign(Sign::LeftParenthesis) {
+        Ok(Item::Function(function(alloc, of, name, cursor)?))
+    } else {
+        let initial = initial(alloc, cursor)?;
+        cursor.sign(Sign::Semicolon)?;
+        Ok(Item::Global(cyc_tree::Global { of, name, initial }))
+    }
+}
+
+/// Reads what a global begins with, where that is written.
+fn initial(alloc: Global, cursor: &mut Cursor<'_, '_>) -> Parsed<Initial>
+    ensures { OnOk result (length cursor.new ≤ length cursor.old) }
+{
+    if cursor.is_sign(Sign::Assign) {
+        cursor.sign(Sign::Assign)?;
+        Ok(Initial::Constant(constant(alloc, cursor)?))
+    } else if cursor.is_sign(Sign::LeftBracket) {
+        Ok(Initial::Array(element_count(cursor)?))
+    } else {
+        Ok(Initial::None)
+    }
 }
 
 /// The program that the tokens spell.
@@ -47,9 +126,9 @@ fn function(alloc: Global, cursor: &mut Cursor<'_, '_>) -> Result<Function, Pars
 pub fn parse(alloc: Global, tokens: &[Token<'_>]) -> Result<Program, ParseFault> {
     let mut cursor = Cursor::new(tokens);
     let mut items = Vec::new(alloc);
-    items.push(Item::Function(function(alloc, &mut cursor)?))?;
+    items.push(item(alloc, &mut cursor)?)?;
     'items: while cursor.kind().is_some() {
-        items.push(Item::Function(function(alloc, &mut cursor)?))?;
+        items.push(item(alloc, &mut cursor)?)?;
     }
     Ok(Program::new(items))
 }

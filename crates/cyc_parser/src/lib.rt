@@ -8,10 +8,16 @@ mod cursor;
 mod declaration;
 mod expression;
 mod fault;
+mod first;
+mod function;
 mod item;
+mod literal;
 mod operator;
 mod statement;
+#[cfg(test)]
+mod tests;
 mod type_name;
 
 pub use fault::ParseFault;
-pub use item::{NESTING_LIMIT, parse};
+pub use function::NESTING_LIMIT;
+pub use item::parse;

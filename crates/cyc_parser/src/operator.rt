@@ -1,7 +1,7 @@
 // The levels of binary operators.
 
-ghost use Rattle.std.specs.Prelude.{◌≡◌, ◌+◌, IfSome};
-ghost use Rattle.cyc_parser.specs.Levels.{levels_from};
+ghost use Rattle.std.specs.Prelude.{◌≡◌, ◌+◌};
+ghost use Rattle.cyc_parser.specs.Levels.{levels_from, levels_left};
 
 use cyc_lexer::{Sign, TokenKind};
 use cyc_tree::{Operator, Prefix};
@@ -24,7 +24,7 @@ pub const LOOSEST: Level = Level::BitOr;
 
 /// The level whose operators bind next more, or none where the operands are unary.
 pub fn tighter(level: Level) -> Option<Level>
-    ensures { IfSome result (λ next. levels_from next + 1 ≡ levels_from level) }
+    ensures { levels_left result + 1 ≡ levels_from level }
 {
     match level {
         Level::BitOr => Some(Level::BitXor),

@@ -3,50 +3,21 @@
 ghost use Rattle.std.specs.Prelude.{◌<◌, ◌≤◌, OnOk, length};
 
 use crate::cursor::Cursor;
-use crate::declaration::{begins_declaration, declaration};
-use crate::expression::{begins_unary, expression, parenthesized};
-use crate::fault::ParseFault;
+use crate::declaration::{declaration, parenthesized_name};
+use crate::expression::{expression, parenthesized};
+use crate::fault::Parsed;
+use crate::first::{begins_clause, begins_declaration, begins_statement};
 use cyc_lexer::{Keyword, Sign, TokenKind};
-use cyc_tree::{BlockItem, Statement};
+use cyc_tree::{BlockItem, Clause, Name, Pattern, Statement};
 use std::alloc::Global;
-
-/// Whether a token of this kind begins a statement.
-fn begins_statement(kind: Option<TokenKind>) -> bool {
-    match kind {
-        Some(TokenKind::Keyword(keyword)) => begins_control(keyword) || begins_unary(kind),
-        Some(TokenKind::Sign(Sign::Semicolon | Sign::LeftBrace)) => true,
-        _ => begins_unary(kind),
-    }
-}
-
-/// Whether the keyword begins a statement that is no expression.
-fn begins_control(keyword: Keyword) -> bool {
-    matches!(
-        keyword,
-        Keyword::If | Keyword::While | Keyword::Break | Keyword::Continue | Keyword::Return
-    )
-}
-
-/// What is answered where a statement would nest too deep.
-fn too_deep(cursor: &Cursor<'_, '_>) -> ParseFault {
-    if begins_statement(cursor.kind()) {
-        ParseFault::TooDeep(cursor.place())
-    } else {
-        cursor.unexpected()
-    }
-}
 
 /// Reads a statement, with at most `depth` phrases in one another.
 #[cycle(statement)]
-fn statement(
-    alloc: Global,
-    depth: u32,
-    cursor: &mut Cursor<'_, '_>,
-) -> Result<Statement, ParseFault>
+fn statement(alloc: Global, depth: u32, cursor: &mut Cursor<'_, '_>) -> Parsed<Statement>
     ensures { OnOk result (length cursor.new < length cursor.old) }
 {
     if depth == 0 {
-        Err(too_deep(cursor))
+        Err(cursor.too_deep(begins_statement(cursor.kind())))
     } else {
         compound(alloc, depth - 1, cursor)
     }
@@ -54,20 +25,21 @@ fn statement(
 
 /// Reads a statement. Those in it have at most `depth` phrases in one another.
 #[cycle(statement)]
-fn compound(alloc: Global, depth: u32, cursor: &mut Cursor<'_, '_>) -> Result<Statement, ParseFault>
+fn compound(alloc: Global, depth: u32, cursor: &mut Cursor<'_, '_>) -> Parsed<Statement>
     ensures { OnOk result (length cursor.new < length cursor.old) }
 {
     match cursor.kind() {
         Some(TokenKind::Sign(Sign::LeftBrace)) => block(alloc, depth, cursor),
         Some(TokenKind::Keyword(Keyword::If)) => conditional(alloc, depth, cursor),
         Some(TokenKind::Keyword(Keyword::While)) => repeated(alloc, depth, cursor),
+        Some(TokenKind::Keyword(Keyword::Switch)) => switch(alloc, depth, cursor),
         _ => simple(alloc, depth, cursor),
     }
 }
 
 /// Reads a block.
 #[cycle(statement)]
-fn block(alloc: Global, depth: u32, cursor: &mut Cursor<'_, '_>) -> Result<Statement, ParseFault>
+fn block(alloc: Global, depth: u32, cursor: &mut Cursor<'_, '_>) -> Parsed<Statement>
     ensures { OnOk result (length cursor.new < length cursor.old) }
 {
     let at = cursor.sign(Sign::LeftBrace)?;
@@ -78,11 +50,7 @@ fn block(alloc: Global, depth: u32, cursor: &mut Cursor<'_, '_>) -> Result<State
 
 /// Reads declarations and statements, as far as they go.
 #[cycle(statement)]
-pub fn block_items(
-    alloc: Global,
-    depth: u32,
-    cursor: &mut Cursor<'_, '_>,
-) -> Result<Vec<BlockItem>, ParseFault>
+pub fn block_items(alloc: Global, depth: u32, cursor: &mut Cursor<'_, '_>) -> Parsed<Vec<BlockItem>>
     ensures { OnOk result (length cursor.new ≤ length cursor.old) }
 {
     let mut items = Vec::new(alloc);
@@ -99,11 +67,7 @@ pub fn block_items(
 
 /// Reads an `if`, and the `else` that may stand after its statement.
 #[cycle(statement)]
-fn conditional(
-    alloc: Global,
-    depth: u32,
-    cursor: &mut Cursor<'_, '_>,
-) -> Result<Statement, ParseFault>
+fn conditional(alloc: Global, depth: u32, cursor: &mut Cursor<'_, '_>) -> Parsed<Statement>
     ensures { OnOk result (length cursor.new < length cursor.old) }
 {
     let at = cursor.keyword(Keyword::If)?;
@@ -122,7 +86,7 @@ fn conditional(
 
 /// Reads a `while`.
 #[cycle(statement)]
-fn repeated(alloc: Global, depth: u32, cursor: &mut Cursor<'_, '_>) -> Result<Statement, ParseFault>
+fn repeated(alloc: Global, depth: u32, cursor: &mut Cursor<'_, '_>) -> Parsed<Statement>
     ensures { OnOk result (length cursor.new < length cursor.old) }
 {
     let at = cursor.keyword(Keyword::While)?;
@@ -131,8 +95,64 @@ fn repeated(alloc: Global, depth: u32, cursor: &mut Cursor<'_, '_>) -> Result<St
     Ok(Statement::While(at, condition, Box::new(alloc, body)?))
 }
 
+/// Reads a `switch`.
+#[cycle(statement)]
+fn switch(alloc: Global, depth: u32, cursor: &mut Cursor<'_, '_>) -> Parsed<Statement>
+    ensures { OnOk result (length cursor.new < length cursor.old) }
+{
+    let at = cursor.keyword(Keyword::Switch)?;
+    let place = parenthesized(alloc, depth, cursor)?;
+    cursor.sign(Sign::LeftBrace)?;
+    let clauses = clauses(alloc, depth, cursor)?;
+    cursor.sign(Sign::RightBrace)?;
+    Ok(Statement::Switch(at, place, clauses))
+}
+
+/// Reads the clauses of a `switch`, of which there is one at least.
+#[cycle(statement)]
+fn clauses(alloc: Global, depth: u32, cursor: &mut Cursor<'_, '_>) -> Parsed<Vec<Clause>>
+    ensures { OnOk result (length cursor.new < length cursor.old) }
+{
+    let mut clauses = Vec::new(alloc);
+    clauses.push(clause(alloc, depth, cursor)?)?;
+    'more: while begins_clause(cursor.kind()) {
+        clauses.push(clause(alloc, depth, cursor)?)?;
+    }
+    Ok(clauses)
+}
+
+/// Reads a clause of a `switch`.
+#[cycle(statement)]
+fn clause(alloc: Global, depth: u32, cursor: &mut Cursor<'_, '_>) -> Parsed<Clause>
+    ensures { OnOk result (length cursor.new < length cursor.old) }
+{
+    let at = cursor.place();
+    let pattern = pattern(alloc, cursor)?;
+    cursor.sign(Sign::Colon)?;
+    let body = block_items(alloc, depth, cursor)?;
+    Ok(Clause { at, pattern, body })
+}
+
+/// Reads which members a clause takes.
+fn pattern(alloc: Global, cursor: &mut Cursor<'_, '_>) -> Parsed<Pattern>
+    ensures { OnOk result (length cursor.new < length cursor.old) }
+{
+    if cursor.is_keyword(Keyword::Default) {
+        cursor.keyword(Keyword::Default)?;
+        return Ok(Pattern::Default);
+    }
+    cursor.keyword(Keyword::Case)?;
+    cursor.sign(Sign::LeftBrace)?;
+    cursor.sign(Sign::Dot)?;
+    let member = cursor.name(alloc)?;
+    cursor.sign(Sign::Assign)?;
+    let name = cursor.name(alloc)?;
+    cursor.sign(Sign::RightBrace)?;
+    Ok(Pattern::Case(member, name))
+}
+
 /// Reads a statement that holds no other.
-fn simple(alloc: Global, depth: u32, cursor: &mut Cursor<'_, '_>) -> Result<Statement, ParseFault>
+fn simple(alloc: Global, depth: u32, cursor: &mut Cursor<'_, '_>) -> Parsed<Statement>
     ensures { OnOk result (length cursor.new < length cursor.old) }
 {
     match cursor.kind() {
@@ -142,12 +162,20 @@ fn simple(alloc: Global, depth: u32, cursor: &mut Cursor<'_, '_>) -> Result<Stat
         Some(TokenKind::Keyword(Keyword::Break)) => Ok(Statement::Break(word(cursor)?)),
         Some(TokenKind::Keyword(Keyword::Continue)) => Ok(Statement::Continue(word(cursor)?)),
         Some(TokenKind::Keyword(Keyword::Return)) => returned(alloc, depth, cursor),
+        Some(TokenKind::Keyword(Keyword::Ufree)) => {
+            let (at, pointer) = freed(alloc, cursor)?;
+            Ok(Statement::FreeUnique(at, pointer))
+        }
+        Some(TokenKind::Keyword(Keyword::FreeUkey)) => {
+            let (at, key) = freed(alloc, cursor)?;
+            Ok(Statement::FreeKey(at, key))
+        }
         _ => run(alloc, depth, cursor),
     }
 }
 
 /// Reads a statement of one word, and answers its place.
-fn word(cursor: &mut Cursor<'_, '_>) -> Result<u32, ParseFault>
+fn word(cursor: &mut Cursor<'_, '_>) -> Parsed<u32>
     ensures { OnOk result (length cursor.new < length cursor.old) }
 {
     let word = cursor.read()?;
@@ -155,8 +183,18 @@ fn word(cursor: &mut Cursor<'_, '_>) -> Result<u32, ParseFault>
     Ok(word.at)
 }
 
+/// Reads a statement of one word and a name in parentheses, and answers its place and the name.
+fn freed(alloc: Global, cursor: &mut Cursor<'_, '_>) -> Parsed<(u32, Name)>
+    ensures { OnOk result (length cursor.new < length cursor.old) }
+{
+    let word = cursor.read()?;
+    let name = parenthesized_name(alloc, cursor)?;
+    cursor.sign(Sign::Semicolon)?;
+    Ok((word.at, name))
+}
+
 /// Reads a `return`, with its result where it has one.
-fn returned(alloc: Global, depth: u32, cursor: &mut Cursor<'_, '_>) -> Result<Statement, ParseFault>
+fn returned(alloc: Global, depth: u32, cursor: &mut Cursor<'_, '_>) -> Parsed<Statement>
     ensures { OnOk result (length cursor.new < length cursor.old) }
 {
     let at = cursor.keyword(Keyword::Return)?;
@@ -169,11 +207,18 @@ fn returned(alloc: Global, depth: u32, cursor: &mut Cursor<'_, '_>) -> Result<St
     Ok(Statement::Return(at, value))
 }
 
-/// Reads an expression as a statement.
-fn run(alloc: Global, depth: u32, cursor: &mut Cursor<'_, '_>) -> Result<Statement, ParseFault>
+/// Reads an expression that is evaluated, or two between which values are exchanged.
+fn run(alloc: Global, depth: u32, cursor: &mut Cursor<'_, '_>) -> Parsed<Statement>
     ensures { OnOk result (length cursor.new < length cursor.old) }
 {
-    let value = expression(alloc, depth, cursor)?;
-    cursor.sign(Sign::Semicolon)?;
-    Ok(Statement::Run(value))
+    let first = expression(alloc, depth, cursor)?;
+    if cursor.is_sign(Sign::Exchange) {
+        cursor.sign(Sign::Exchange)?;
+        let second = expression(alloc, depth, cursor)?;
+        cursor.sign(Sign::Semicolon)?;
+        Ok(Statement::Exchange(first, second))
+    } else {
+        cursor.sign(Sign::Semicolon)?;
+        Ok(Statement::Run(first))
+    }
 }

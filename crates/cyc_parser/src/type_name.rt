@@ -3,31 +3,14 @@
 ghost use Rattle.std.specs.Prelude.{◌<◌, ◌≤◌, OnOk, length};
 
 use crate::cursor::Cursor;
-use crate::fault::ParseFault;
+use crate::fault::{ParseFault, Parsed};
+use crate::first::begins_pointer;
 use cyc_lexer::{Keyword, Sign, TokenKind};
-use cyc_tree::{Base, Pointer, RegionName, TypeName};
+use cyc_tree::{Base, Member, Pointer, RegionName, TypeName};
 use std::alloc::Global;
 
-/// Whether a token of this kind begins a type.
-pub fn begins_type(kind: Option<TokenKind>) -> bool {
-    let Some(TokenKind::Keyword(keyword)) = kind else {
-        return false;
-    };
-    matches!(
-        keyword,
-        Keyword::Int
-            | Keyword::Unsigned
-            | Keyword::Char
-            | Keyword::Void
-            | Keyword::Struct
-            | Keyword::Union
-            | Keyword::RegionT
-            | Keyword::UregionKeyT
-    )
-}
-
 /// Reads a type.
-pub fn type_name(alloc: Global, cursor: &mut Cursor<'_, '_>) -> Result<TypeName, ParseFault>
+pub fn type_name(alloc: Global, cursor: &mut Cursor<'_, '_>) -> Parsed<TypeName>
     ensures { OnOk result (length cursor.new < length cursor.old) }
 {
     let at = cursor.place();
@@ -35,16 +18,28 @@ pub fn type_name(alloc: Global, cursor: &mut Cursor<'_, '_>) -> Result<TypeName,
     pointed(alloc, at, base, cursor)
 }
 
-/// Reads what a type begins with.
-fn base(alloc: Global, cursor: &mut Cursor<'_, '_>) -> Result<Base, ParseFault>
+/// Reads a type and a name: a parameter, or a member without its semicolon.
+pub fn typed_name(alloc: Global, cursor: &mut Cursor<'_, '_>) -> Parsed<Member>
     ensures { OnOk result (length cursor.new < length cursor.old) }
 {
-    if !begins_type(cursor.kind()) {
-        return Err(cursor.unexpected());
-    }
+    let of = type_name(alloc, cursor)?;
+    let name = cursor.name(alloc)?;
+    Ok(Member { of, name })
+}
+
+/// Reads what a type begins with.
+fn base(alloc: Global, cursor: &mut Cursor<'_, '_>) -> Parsed<Base>
+    ensures { OnOk result (length cursor.new < length cursor.old) }
+{
     let token = cursor.read()?;
     match token.kind {
-        TokenKind::Keyword(Keyword::Unsigned) => unsigned(cursor),
+        TokenKind::Keyword(Keyword::Int) => Ok(Base::Int),
+        TokenKind::Keyword(Keyword::Unsigned) => {
+            if cursor.is_keyword(Keyword::Int) {
+                cursor.read()?;
+            }
+            Ok(Base::Unsigned)
+        }
         TokenKind::Keyword(Keyword::Char) => Ok(Base::Char),
         TokenKind::Keyword(Keyword::Void) => Ok(Base::Void),
         TokenKind::Keyword(Keyword::Struct) => {
@@ -57,43 +52,23 @@ fn base(alloc: Global, cursor: &mut Cursor<'_, '_>) -> Result<Base, ParseFault>
         }
         TokenKind::Keyword(Keyword::RegionT) => Ok(Base::Handle(one_region(alloc, cursor)?)),
         TokenKind::Keyword(Keyword::UregionKeyT) => Ok(Base::Key(one_region(alloc, cursor)?)),
-        _ => Ok(Base::Int),
+        _ => Err(ParseFault::Parse(token.at)),
     }
-}
-
-/// Reads the `int` that may stand after `unsigned`.
-fn unsigned(cursor: &mut Cursor<'_, '_>) -> Result<Base, ParseFault>
-    ensures { OnOk result (length cursor.new ≤ length cursor.old) }
-{
-    if cursor.is_keyword(Keyword::Int) {
-        cursor.read()?;
-    }
-    Ok(Base::Unsigned)
 }
 
 /// Reads the pointers to a base, as far as they go. The place is the base's.
-pub fn pointed(
-    alloc: Global,
-    at: u32,
-    base: Base,
-    cursor: &mut Cursor<'_, '_>,
-) -> Result<TypeName, ParseFault>
+pub fn pointed(alloc: Global, at: u32, base: Base, cursor: &mut Cursor<'_, '_>) -> Parsed<TypeName>
     ensures { OnOk result (length cursor.new ≤ length cursor.old) }
 {
     let mut pointers = Vec::new(alloc);
-    'pointers: while begins_pointer(cursor) {
+    'pointers: while begins_pointer(cursor.kind()) {
         pointers.push(pointer(alloc, cursor)?)?;
     }
     Ok(TypeName { at, base, pointers })
 }
 
-/// Whether a pointer's sign is next.
-fn begins_pointer(cursor: &Cursor<'_, '_>) -> bool {
-    cursor.is_sign(Sign::Star) || cursor.is_sign(Sign::At) || cursor.is_sign(Sign::Question)
-}
-
 /// Reads a pointer: its sign, and the region that may stand after it.
-fn pointer(alloc: Global, cursor: &mut Cursor<'_, '_>) -> Result<Pointer, ParseFault>
+fn pointer(alloc: Global, cursor: &mut Cursor<'_, '_>) -> Parsed<Pointer>
     ensures { OnOk result (length cursor.new < length cursor.old) }
 {
     let sign = pointer_sign(cursor)?;
@@ -106,23 +81,20 @@ fn pointer(alloc: Global, cursor: &mut Cursor<'_, '_>) -> Result<Pointer, ParseF
 }
 
 /// Reads a pointer's sign.
-fn pointer_sign(cursor: &mut Cursor<'_, '_>) -> Result<cyc_tree::Sign, ParseFault>
+fn pointer_sign(cursor: &mut Cursor<'_, '_>) -> Parsed<cyc_tree::Sign>
     ensures { OnOk result (length cursor.new < length cursor.old) }
 {
-    if cursor.is_sign(Sign::At) {
-        cursor.read()?;
-        Ok(cyc_tree::Sign::NotNull)
-    } else if cursor.is_sign(Sign::Question) {
-        cursor.read()?;
-        Ok(cyc_tree::Sign::Fat)
-    } else {
-        cursor.sign(Sign::Star)?;
-        qualified(cursor)
+    let token = cursor.read()?;
+    match token.kind {
+        TokenKind::Sign(Sign::Star) => qualified(cursor),
+        TokenKind::Sign(Sign::At) => Ok(cyc_tree::Sign::NotNull),
+        TokenKind::Sign(Sign::Question) => Ok(cyc_tree::Sign::Fat),
+        _ => Err(ParseFault::Parse(token.at)),
     }
 }
 
 /// Reads the word that may stand after `*`, and answers the sign that the two make.
-fn qualified(cursor: &mut Cursor<'_, '_>) -> Result<cyc_tree::Sign, ParseFault>
+fn qualified(cursor: &mut Cursor<'_, '_>) -> Parsed<cyc_tree::Sign>
     ensures { OnOk result (length cursor.new ≤ length cursor.old) }
 {
     let sign = match cursor.kind() {
@@ -136,7 +108,7 @@ fn qualified(cursor: &mut Cursor<'_, '_>) -> Result<cyc_tree::Sign, ParseFault>
 }
 
 /// Reads a region name in angle brackets.
-pub fn one_region(alloc: Global, cursor: &mut Cursor<'_, '_>) -> Result<RegionName, ParseFault>
+pub fn one_region(alloc: Global, cursor: &mut Cursor<'_, '_>) -> Parsed<RegionName>
     ensures { OnOk result (length cursor.new < length cursor.old) }
 {
     cursor.sign(Sign::Less)?;
@@ -146,10 +118,7 @@ pub fn one_region(alloc: Global, cursor: &mut Cursor<'_, '_>) -> Result<RegionNa
 }
 
 /// Reads the region names in angle brackets that may stand after a tag.
-pub fn region_list(
-    alloc: Global,
-    cursor: &mut Cursor<'_, '_>,
-) -> Result<Vec<RegionName>, ParseFault>
+pub fn region_list(alloc: Global, cursor: &mut Cursor<'_, '_>) -> Parsed<Vec<RegionName>>
     ensures { OnOk result (length cursor.new ≤ length cursor.old) }
 {
     if !cursor.is_sign(Sign::Less) {
@@ -162,7 +131,7 @@ pub fn region_list(
 }
 
 /// Reads region names with commas between them, of which there is one at least.
-pub fn regions(alloc: Global, cursor: &mut Cursor<'_, '_>) -> Result<Vec<RegionName>, ParseFault>
+pub fn regions(alloc: Global, cursor: &mut Cursor<'_, '_>) -> Parsed<Vec<RegionName>>
     ensures { OnOk result (length cursor.new < length cursor.old) }
 {
     let mut regions = Vec::new(alloc);

@@ -57,6 +57,11 @@ fn faults_stop_before_the_instruction(rt: HostRuntime) -> Result<(), Fail> {
             MachineFault::BadCall,
             BASE + 8,
         ),
+        (
+            [0x00D0_0893, 0x0010_0513, 0x0000_0073].as_slice(),
+            MachineFault::BadCall,
+            BASE + 8,
+        ),
     ] {
         let mut machine = machine_of(rt.alloc(), words, b"")?;
         for _ in 0..2 {

@@ -110,6 +110,7 @@ fn nesting_is_bounded(rt: HostRuntime) -> Result<(), Fail> {
     for (depth, said) in [
         (126, b"ended 1\n".as_slice()),
         (127, b"IN:1:148: TooDeep\n"),
+        (200, b"IN:1:148: TooDeep\n"),
         (20000, b"IN:1:148: TooDeep\n"),
     ] {
         let mut source = Vec::new(alloc);

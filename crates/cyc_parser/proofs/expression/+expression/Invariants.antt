@@ -1,5 +1,5 @@
 use Rattle.std.proofs.Common.{◌≤◌, length, ◌+◌, ◌*◌}
-use Rattle.cyc_parser.specs.Levels.{levels_from}
+use Rattle.cyc_parser.specs.Levels.{levels_from, levels_left}
 use Rattle.cyc_parser.proofs.expression.+expression.Given as goal
 
 abbrev pub decreases-expression : goal.decreases-expression
@@ -27,40 +27,64 @@ abbrev pub decreases-all_of-others : goal.decreases-all_of-others
 decreases-all_of-others l = length l.cursor
 
 abbrev pub decreases-chain : goal.decreases-chain
-decreases-chain l = 64 * l.depth + 11 + 4 * levels_from l.level
+decreases-chain l = 64 * l.depth + 10 + 4 * levels_left l.level
 
 abbrev pub decreases-links : goal.decreases-links
-decreases-links l = 64 * l.depth + 10 + 4 * levels_from l.level
-
-abbrev pub decreases-operand : goal.decreases-operand
-decreases-operand l = 64 * l.depth + 9 + 4 * levels_from l.level
-
-abbrev pub decreases-unary : goal.decreases-unary
-decreases-unary l = 64 * l.depth + 8
-
-abbrev pub decreases-prefixed : goal.decreases-prefixed
-decreases-prefixed l = 64 * l.depth + 20
-
-abbrev pub decreases-primary : goal.decreases-primary
-decreases-primary l = 64 * l.depth + 20
-
-abbrev pub decreases-named : goal.decreases-named
-decreases-named l = 64 * l.depth + 18
-
-abbrev pub decreases-parenthesized : goal.decreases-parenthesized
-decreases-parenthesized l = 64 * l.depth + 18
-
-abbrev pub decreases-arguments : goal.decreases-arguments
-decreases-arguments l = 64 * l.depth + 16
-
-abbrev pub invariant-arguments-more : goal.invariant-arguments-more
-invariant-arguments-more l = length l.cursor ≤ length l.fn.cursor
-
-abbrev pub decreases-arguments-more : goal.decreases-arguments-more
-decreases-arguments-more l = length l.cursor
+decreases-links l = 64 * l.depth + 9 + 4 * levels_from l.level
 
 abbrev pub invariant-links-links : goal.invariant-links-links
 invariant-links-links l = length l.cursor ≤ length l.fn.cursor
 
 abbrev pub decreases-links-links : goal.decreases-links-links
 decreases-links-links l = length l.cursor
+
+abbrev pub decreases-unary : goal.decreases-unary
+decreases-unary l = 64 * l.depth + 8
+
+abbrev pub decreases-operation : goal.decreases-operation
+decreases-operation l = 64 * l.depth + 40
+
+abbrev pub decreases-prefixed : goal.decreases-prefixed
+decreases-prefixed l = 64 * l.depth + 30
+
+abbrev pub decreases-made_in : goal.decreases-made_in
+decreases-made_in l = 64 * l.depth + 32
+
+abbrev pub decreases-made : goal.decreases-made
+decreases-made l = 64 * l.depth + 31
+
+abbrev pub decreases-array : goal.decreases-array
+decreases-array l = 64 * l.depth + 30
+
+abbrev pub decreases-postfix : goal.decreases-postfix
+decreases-postfix l = 64 * l.depth + 30
+
+abbrev pub decreases-primary : goal.decreases-primary
+decreases-primary l = 64 * l.depth + 20
+
+abbrev pub decreases-parenthesized : goal.decreases-parenthesized
+decreases-parenthesized l = 64 * l.depth + 10
+
+abbrev pub decreases-named : goal.decreases-named
+decreases-named l = 64 * l.depth + 20
+
+abbrev pub decreases-arguments : goal.decreases-arguments
+decreases-arguments l = 64 * l.depth + 10
+
+abbrev pub invariant-arguments-more : goal.invariant-arguments-more
+invariant-arguments-more l = length l.cursor ≤ length l.initial.cursor
+
+abbrev pub decreases-arguments-more : goal.decreases-arguments-more
+decreases-arguments-more l = length l.cursor
+
+abbrev pub decreases-suffixes : goal.decreases-suffixes
+decreases-suffixes l = 64 * l.depth + 20
+
+abbrev pub invariant-suffixes-more : goal.invariant-suffixes-more
+invariant-suffixes-more l = length l.cursor ≤ length l.fn.cursor
+
+abbrev pub decreases-suffixes-more : goal.decreases-suffixes-more
+decreases-suffixes-more l = length l.cursor
+
+abbrev pub decreases-suffix : goal.decreases-suffix
+decreases-suffix l = 64 * l.depth + 10

@@ -2,16 +2,16 @@ use Rattle.std.proofs.Common.{◌≤◌, length, ◌+◌, ◌*◌}
 use Rattle.cyc_parser.proofs.statement.+statement.Given as goal
 
 abbrev pub decreases-statement : goal.decreases-statement
-decreases-statement l = 4 * l.depth
+decreases-statement l = 8 * l.depth
 
 abbrev pub decreases-compound : goal.decreases-compound
-decreases-compound l = 4 * l.depth + 3
+decreases-compound l = 8 * l.depth + 7
 
 abbrev pub decreases-block : goal.decreases-block
-decreases-block l = 4 * l.depth + 2
+decreases-block l = 8 * l.depth + 6
 
 abbrev pub decreases-block_items : goal.decreases-block_items
-decreases-block_items l = 4 * l.depth + 1
+decreases-block_items l = 8 * l.depth + 1
 
 abbrev pub invariant-block_items-items : goal.invariant-block_items-items
 invariant-block_items-items l = length l.cursor ≤ length l.fn.cursor
@@ -20,7 +20,22 @@ abbrev pub decreases-block_items-items : goal.decreases-block_items-items
 decreases-block_items-items l = length l.cursor
 
 abbrev pub decreases-conditional : goal.decreases-conditional
-decreases-conditional l = 4 * l.depth + 2
+decreases-conditional l = 8 * l.depth + 6
 
 abbrev pub decreases-repeated : goal.decreases-repeated
-decreases-repeated l = 4 * l.depth + 2
+decreases-repeated l = 8 * l.depth + 6
+
+abbrev pub decreases-switch : goal.decreases-switch
+decreases-switch l = 8 * l.depth + 6
+
+abbrev pub decreases-clauses : goal.decreases-clauses
+decreases-clauses l = 8 * l.depth + 5
+
+abbrev pub invariant-clauses-more : goal.invariant-clauses-more
+invariant-clauses-more l = length l.cursor ≤ length l.initial.cursor
+
+abbrev pub decreases-clauses-more : goal.decreases-clauses-more
+decreases-clauses-more l = length l.cursor
+
+abbrev pub decreases-clause : goal.decreases-clause
+decreases-clause l = 8 * l.depth + 4

@@ -1,0 +1,87 @@
+// Which tokens begin a phrase.
+
+use crate::operator::prefix_of;
+use cyc_lexer::{Keyword, Sign, TokenKind};
+
+/// Whether a token of this kind begins a type.
+pub fn begins_type(kind: Option<TokenKind>) -> bool {
+    let Some(TokenKind::Keyword(keyword)) = kind else {
+        return false;
+    };
+    match keyword {
+        Keyword::Int | Keyword::Unsigned | Keyword::Char | Keyword::Void => true,
+        Keyword::Struct | Keyword::Union | Keyword::RegionT | Keyword::UregionKeyT => true,
+        _ => false,
+    }
+}
+
+/// Whether a token of this kind begins a declaration in a block.
+pub fn begins_declaration(kind: Option<TokenKind>) -> bool {
+    match kind {
+        Some(TokenKind::Keyword(Keyword::Region | Keyword::Let)) => true,
+        _ => begins_type(kind),
+    }
+}
+
+/// Whether a token of this kind begins a statement.
+pub fn begins_statement(kind: Option<TokenKind>) -> bool {
+    match kind {
+        Some(TokenKind::Sign(Sign::Semicolon | Sign::LeftBrace)) => true,
+        Some(TokenKind::Keyword(keyword)) if begins_control(keyword) => true,
+        _ => begins_unary(kind),
+    }
+}
+
+/// Whether the keyword begins a statement that begins with no expression.
+fn begins_control(keyword: Keyword) -> bool {
+    match keyword {
+        Keyword::If | Keyword::While | Keyword::Switch => true,
+        Keyword::Break | Keyword::Continue | Keyword::Return => true,
+        Keyword::Ufree | Keyword::FreeUkey => true,
+        _ => false,
+    }
+}
+
+/// Whether a token of this kind begins a unary expression.
+pub fn begins_unary(kind: Option<TokenKind>) -> bool {
+    match kind {
+        Some(TokenKind::Keyword(Keyword::New | Keyword::Rnew)) => true,
+        Some(kind) => prefix_of(kind).is_some() || begins_primary(kind),
+        None => false,
+    }
+}
+
+/// Whether a token of this kind begins a primary expression.
+fn begins_primary(kind: TokenKind) -> bool {
+    match kind {
+        TokenKind::Number(_, _) | TokenKind::Character(_) | TokenKind::Text => true,
+        TokenKind::Identifier | TokenKind::Sign(Sign::LeftParenthesis) => true,
+        TokenKind::Keyword(Keyword::Null | Keyword::Numelts) => true,
+        TokenKind::Keyword(Keyword::HeapRegion | Keyword::UniqueRegion) => true,
+        _ => false,
+    }
+}
+
+/// Whether a token of this kind begins a suffix of a primary expression.
+pub fn begins_suffix(kind: Option<TokenKind>) -> bool {
+    let Some(TokenKind::Sign(sign)) = kind else {
+        return false;
+    };
+    matches!(sign, Sign::LeftBracket | Sign::Dot | Sign::Arrow)
+}
+
+/// Whether a token of this kind begins a pointer's sign.
+pub fn begins_pointer(kind: Option<TokenKind>) -> bool {
+    let Some(TokenKind::Sign(sign)) = kind else {
+        return false;
+    };
+    matches!(sign, Sign::Star | Sign::At | Sign::Question)
+}
+
+/// Whether a token of this kind begins a clause of a `switch`.
+pub fn begins_clause(kind: Option<TokenKind>) -> bool {
+    let Some(TokenKind::Keyword(keyword)) = kind else {
+        return false;
+    };
+    matches!(keyword, Keyword::Case | Keyword::Default)
+}

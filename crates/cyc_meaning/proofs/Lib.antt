@@ -1,0 +1,9 @@
+pub mod Fuel
+pub mod Trees
+pub mod Endless
+pub mod IntegerSamples
+pub mod PointerSamples
+pub mod RegionSamples
+pub mod KeySamples
+pub mod UniqueSamples
+pub mod Cases

@@ -12,8 +12,8 @@ use Rattle.cyc_meaning.specs.Programs.{source}
 use Rattle.cyc_meaning.proofs.Trees.{named, variable, number, pointer, typed, ◌▸◌, ◌▹◌, function, gives}
 
 -- int main() { let NewDynamicRegion{<`r> k} = new_ukey(); int *`r p = NULL; { region<`r> h = open(k); p = rnew(h) 5; } free_ukey(k); int *`r q = new 6; if (q == NULL) return 1; return 0; }
-abbrev key_row : Program
-key_row =
+abbrev key_opened_and_freed : Program
+key_opened_and_freed =
     tree.FunctionItem (function (typed tree.Int []) (named "main") [] (
     (tree.NewKey 0 (tree.Named (named "r")) (named "k")) ▹
     (tree.Local (typed tree.Int ((pointer Nullable (Some (tree.Named (named "r")))) ∷ [])) (named "p") (Initializer.Value (Expression.Null 0))) ▹
@@ -27,8 +27,8 @@ key_row =
     (Statement.Return 0 (Some (number 0))) ▸
     NoItems)) ∷ []
 
-key_row_runs : source key_row [] 0 ≡ gives (Called (codes "main") ∷ Visible (KeyNew 1) ∷ Visible (KeyOpen 1) ∷ Visible (RegionAlloc 1 4) ∷ Visible (KeyClose 1) ∷ Visible (KeyFree 1) ∷ Visible (RegionAlloc 0 4) ∷ Returned (codes "main") ∷ []) (SourceEnding.Ended 0)
-key_row_runs = refl
+key_opened_and_freed_runs : source key_opened_and_freed [] 0 ≡ gives (Called (codes "main") ∷ Visible (KeyNew 1) ∷ Visible (KeyOpen 1) ∷ Visible (RegionAlloc 1 4) ∷ Visible (KeyClose 1) ∷ Visible (KeyFree 1) ∷ Visible (RegionAlloc 0 4) ∷ Returned (codes "main") ∷ []) (SourceEnding.Ended 0)
+key_opened_and_freed_runs = refl
 
 -- int main() { let NewDynamicRegion{<`r> k} = new_ukey(); int *`r p = NULL; { region<`r> h = open(k); p = rnew(h) 5; } free_ukey(k); int *`r q = new 6; if (q == NULL) return 1; if (q == p) return 2; return 0; }
 abbrev key_dead_comparison : Program

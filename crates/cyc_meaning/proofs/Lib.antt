@@ -6,4 +6,6 @@ pub mod PointerSamples
 pub mod RegionSamples
 pub mod KeySamples
 pub mod UniqueSamples
+pub mod OrderSamples
 pub mod Cases
+pub mod PlainExpressions

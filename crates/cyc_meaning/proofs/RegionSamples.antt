@@ -225,3 +225,50 @@ arrays_in_arrays =
 
 arrays_in_arrays_runs : source arrays_in_arrays [] 5 ≡ gives (Called (codes "main") ∷ Visible (RegionAlloc 0 24) ∷ Visible (RegionAlloc 0 4) ∷ Visible (RegionAlloc 0 8) ∷ Returned (codes "main") ∷ []) (SourceEnding.Ended 22)
 arrays_in_arrays_runs = refl
+
+-- struct S { char c; int x; char d; }; struct T { char a; char b; char c; }; @tagged union U { char a; int ? p; }; @tagged union V { char a; }; struct W { char c; union U u; }; int main() { new S('a', 1, 'b'); new {for i < 2 : T('a', 'b', 'c')}; new U.a('x'); new V.a('x'); new W('c', U.p(NULL)); new heap_region; return 0; }
+abbrev sizes : Program
+sizes =
+    tree.StructItem (record { at = 0; tag = (named "S"); regions = []; members = ((record { of = (typed tree.Char []); name = (named "c") }) ∷ (record { of = (typed tree.Int []); name = (named "x") }) ∷ (record { of = (typed tree.Char []); name = (named "d") }) ∷ []) }) ∷
+    tree.StructItem (record { at = 0; tag = (named "T"); regions = []; members = ((record { of = (typed tree.Char []); name = (named "a") }) ∷ (record { of = (typed tree.Char []); name = (named "b") }) ∷ (record { of = (typed tree.Char []); name = (named "c") }) ∷ []) }) ∷
+    tree.UnionItem (record { at = 0; tag = (named "U"); regions = []; members = ((record { of = (typed tree.Char []); name = (named "a") }) ∷ (record { of = (typed tree.Int ((pointer Fat None) ∷ [])); name = (named "p") }) ∷ []) }) ∷
+    tree.UnionItem (record { at = 0; tag = (named "V"); regions = []; members = ((record { of = (typed tree.Char []); name = (named "a") }) ∷ []) }) ∷
+    tree.StructItem (record { at = 0; tag = (named "W"); regions = []; members = ((record { of = (typed tree.Char []); name = (named "c") }) ∷ (record { of = (typed (tree.Union (named "U") []) []); name = (named "u") }) ∷ []) }) ∷
+    tree.FunctionItem (function (typed tree.Int []) (named "main") [] (
+    (Statement.Run (Expression.New 0 (One (Expression.Call (named "S") (MoreExpressions (Expression.Character 0 97) (MoreExpressions (number 1) (MoreExpressions (Expression.Character 0 98) NoExpressions))))))) ▸
+    (Statement.Run (Expression.New 0 (Array (named "i") (number 2) (Expression.Call (named "T") (MoreExpressions (Expression.Character 0 97) (MoreExpressions (Expression.Character 0 98) (MoreExpressions (Expression.Character 0 99) NoExpressions))))))) ▸
+    (Statement.Run (Expression.New 0 (One (Expression.MakeUnion (named "U") (named "a") (Expression.Character 0 120))))) ▸
+    (Statement.Run (Expression.New 0 (One (Expression.MakeUnion (named "V") (named "a") (Expression.Character 0 120))))) ▸
+    (Statement.Run (Expression.New 0 (One (Expression.Call (named "W") (MoreExpressions (Expression.Character 0 99) (MoreExpressions (Expression.MakeUnion (named "U") (named "p") (Expression.Null 0)) NoExpressions)))))) ▸
+    (Statement.Run (Expression.New 0 (One (Expression.HeapRegion 0)))) ▸
+    (Statement.Return 0 (Some (number 0))) ▸
+    NoItems)) ∷ []
+
+sizes_runs : source sizes [] 2 ≡ gives (Called (codes "main") ∷ Visible (RegionAlloc 0 12) ∷ Visible (RegionAlloc 0 6) ∷ Visible (RegionAlloc 0 16) ∷ Visible (RegionAlloc 0 8) ∷ Visible (RegionAlloc 0 20) ∷ Visible (RegionAlloc 0 4) ∷ Returned (codes "main") ∷ []) (SourceEnding.Ended 0)
+sizes_runs = refl
+
+-- int main() { char c = 200; return *new (c + c); }
+abbrev characters_become_ints : Program
+characters_become_ints =
+    tree.FunctionItem (function (typed tree.Int []) (named "main") [] (
+    (tree.Local (typed tree.Char []) (named "c") (Initializer.Value (number 200))) ▹
+    (Statement.Return 0 (Some (Expression.Prefixed 0 Dereference (Expression.New 0 (One (Expression.Grouped 0 (Expression.Chain (variable "c") (MoreLinks Add (variable "c") NoLinks)))))))) ▸
+    NoItems)) ∷ []
+
+characters_become_ints_runs : source characters_become_ints [] 0 ≡ gives (Called (codes "main") ∷ Visible (RegionAlloc 0 4) ∷ Returned (codes "main") ∷ []) (SourceEnding.Ended 400)
+characters_become_ints_runs = refl
+
+-- int main() { region_t<`H> x = heap_region; { region<`r> h; x = h; } return *rnew(x) 5; }
+abbrev dead_handle : Program
+dead_handle =
+    tree.FunctionItem (function (typed tree.Int []) (named "main") [] (
+    (tree.Local (typed (tree.Handle (tree.Heap 0)) []) (named "x") (Initializer.Value (Expression.HeapRegion 0))) ▹
+    (Statement.Block 0 (
+    (tree.Region 0 (tree.Named (named "r")) (named "h")) ▹
+    (Statement.Run (Expression.Assign (variable "x") (variable "h"))) ▸
+    NoItems)) ▸
+    (Statement.Return 0 (Some (Expression.Prefixed 0 Dereference (Expression.NewIn 0 (variable "x") (One (number 5)))))) ▸
+    NoItems)) ∷ []
+
+dead_handle_runs : source dead_handle [] 0 ≡ gives (Called (codes "main") ∷ Visible (RegionNew 1) ∷ Visible (RegionFree 1) ∷ []) SourceEnding.Stuck
+dead_handle_runs = refl

@@ -2,7 +2,7 @@
 use Rattle.std.proofs.Common.{◌≡◌, Some, None, [], ◌∷◌, refl}
 use Rattle.std.specs.Prelude.{codes}
 use Rattle.cyc_tree.specs.declared.name.Sign.TheVariants.{Nullable, NotNull}
-use Rattle.cyc_tree.specs.declared.expression.Operator.TheVariants.{Less, Add}
+use Rattle.cyc_tree.specs.declared.expression.Operator.TheVariants.{Equal, Less, Add}
 use Rattle.cyc_tree.specs.declared.expression.Prefix.TheVariants.{Dereference}
 use Rattle.cyc_tree.specs.Tree as tree
 use Rattle.cyc_tree.specs.Tree.{Expression, NoExpressions, MoreExpressions, NoLinks, MoreLinks, NoSuffixes, Index, Dot, Arrow, One, Array, Initializer, Case, Default, Statement, NoItems, NoClauses, MoreClauses, Constant, Initial, Program}
@@ -209,3 +209,58 @@ moved_into_a_call =
 
 moved_into_a_call_runs : source moved_into_a_call [] 1 ≡ gives (Called (codes "main") ∷ Visible (UniqueAlloc 1 4) ∷ Called (codes "g") ∷ Visible (UniqueFree 1) ∷ Returned (codes "g") ∷ []) SourceEnding.Stuck
 moved_into_a_call_runs = refl
+
+-- int main() { int *p = rnew(unique_region) 3; int *q = p; return *p; }
+abbrev moved_by_its_making : Program
+moved_by_its_making =
+    tree.FunctionItem (function (typed tree.Int []) (named "main") [] (
+    (tree.Local (typed tree.Int ((pointer Nullable None) ∷ [])) (named "p") (Initializer.Value (Expression.NewIn 0 (Expression.UniqueRegion 0) (One (number 3))))) ▹
+    (tree.Local (typed tree.Int ((pointer Nullable None) ∷ [])) (named "q") (Initializer.Value (variable "p"))) ▹
+    (Statement.Return 0 (Some (Expression.Prefixed 0 Dereference (variable "p")))) ▸
+    NoItems)) ∷ []
+
+moved_by_its_making_runs : source moved_by_its_making [] 0 ≡ gives (Called (codes "main") ∷ Visible (UniqueAlloc 1 4) ∷ []) SourceEnding.Stuck
+moved_by_its_making_runs = refl
+
+-- int main() { int *`U p = rnew(unique_region) 3; ufree(p); return p == NULL; }
+abbrev freed_and_tested : Program
+freed_and_tested =
+    tree.FunctionItem (function (typed tree.Int []) (named "main") [] (
+    (tree.Local (typed tree.Int ((pointer Nullable (Some (tree.Unique 0))) ∷ [])) (named "p") (Initializer.Value (Expression.NewIn 0 (Expression.UniqueRegion 0) (One (number 3))))) ▹
+    (Statement.FreeUnique 0 (named "p")) ▸
+    (Statement.Return 0 (Some (Expression.Chain (variable "p") (MoreLinks Equal (Expression.Null 0) NoLinks)))) ▸
+    NoItems)) ∷ []
+
+freed_and_tested_runs : source freed_and_tested [] 0 ≡ gives (Called (codes "main") ∷ Visible (UniqueAlloc 1 4) ∷ Visible (UniqueFree 1) ∷ []) SourceEnding.Stuck
+freed_and_tested_runs = refl
+
+-- int main() { int *`U p = rnew(unique_region) 3; let alias<`r> int *`r x = p; p = NULL; return 0; }
+abbrev lent_and_assigned : Program
+lent_and_assigned =
+    tree.FunctionItem (function (typed tree.Int []) (named "main") [] (
+    (tree.Local (typed tree.Int ((pointer Nullable (Some (tree.Unique 0))) ∷ [])) (named "p") (Initializer.Value (Expression.NewIn 0 (Expression.UniqueRegion 0) (One (number 3))))) ▹
+    (tree.Alias 0 (tree.Named (named "r")) (typed tree.Int ((pointer Nullable (Some (tree.Named (named "r")))) ∷ [])) (named "x") (named "p")) ▹
+    (Statement.Run (Expression.Assign (variable "p") (Expression.Null 0))) ▸
+    (Statement.Return 0 (Some (number 0))) ▸
+    NoItems)) ∷ []
+
+lent_and_assigned_runs : source lent_and_assigned [] 0 ≡ gives (Called (codes "main") ∷ Visible (UniqueAlloc 1 4) ∷ []) SourceEnding.Stuck
+lent_and_assigned_runs = refl
+
+-- int main() { int *`U p = rnew(unique_region) 3; int *`H s = NULL; { let alias<`r> int *`r x = p; s = x; } ufree(p); ufree(s); return 0; }
+abbrev freed_twice : Program
+freed_twice =
+    tree.FunctionItem (function (typed tree.Int []) (named "main") [] (
+    (tree.Local (typed tree.Int ((pointer Nullable (Some (tree.Unique 0))) ∷ [])) (named "p") (Initializer.Value (Expression.NewIn 0 (Expression.UniqueRegion 0) (One (number 3))))) ▹
+    (tree.Local (typed tree.Int ((pointer Nullable (Some (tree.Heap 0))) ∷ [])) (named "s") (Initializer.Value (Expression.Null 0))) ▹
+    (Statement.Block 0 (
+    (tree.Alias 0 (tree.Named (named "r")) (typed tree.Int ((pointer Nullable (Some (tree.Named (named "r")))) ∷ [])) (named "x") (named "p")) ▹
+    (Statement.Run (Expression.Assign (variable "s") (variable "x"))) ▸
+    NoItems)) ▸
+    (Statement.FreeUnique 0 (named "p")) ▸
+    (Statement.FreeUnique 0 (named "s")) ▸
+    (Statement.Return 0 (Some (number 0))) ▸
+    NoItems)) ∷ []
+
+freed_twice_runs : source freed_twice [] 0 ≡ gives (Called (codes "main") ∷ Visible (UniqueAlloc 1 4) ∷ Visible (UniqueFree 1) ∷ []) SourceEnding.Stuck
+freed_twice_runs = refl

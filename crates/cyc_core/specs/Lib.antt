@@ -2,3 +2,4 @@ pub mod Tree
 pub mod Stored
 pub mod View
 pub mod Cells
+pub mod Meaning

@@ -1,7 +1,7 @@
 //! Runs a machine between a reader and a writer.
 //!
 //! `run` steps a machine, gathers its output and writes it when 4,096 bytes are gathered, before each read and at each
-//! ending, and reads a byte where the machine asks for one. Stands on `rv32_machine`, `cyc_words` and `arrayvec`; its tests and
+//! ending, and reads a byte where the machine asks for one. `put`, `flush` and `read` are these transfers by themselves. Stands on `rv32_machine`, `cyc_words` and `arrayvec`; its tests and
 //! proofs also on `rv32_isa` and `cyc_image`.
 #![tactic(auto)]
 
@@ -13,3 +13,4 @@ mod transfer;
 
 pub use ending::Ending;
 pub use running::run;
+pub use transfer::{GATHERED_BYTES, ReadFailed, WriteFailed, flush, put, read};

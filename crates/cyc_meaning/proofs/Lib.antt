@@ -7,5 +7,11 @@ pub mod RegionSamples
 pub mod KeySamples
 pub mod UniqueSamples
 pub mod OrderSamples
+pub mod MixedSamples
+pub mod FormSamples
+pub mod CallSamples
+pub mod ConversionSamples
+pub mod BeginningSamples
+pub mod StuckSamples
 pub mod Cases
 pub mod PlainExpressions

@@ -1,6 +1,6 @@
 // The locals that are visible at a point.
 
-ghost use Rattle.std.specs.Prelude.{◌≡◌, ◌≤◌, ◌<◌, ◌++◌, ◌∷◌, [], OnOk, IfSome, length, take};
+ghost use Rattle.std.specs.Prelude.{◌≡◌, ◌≤◌, ◌<◌, ◌++◌, ◌∷◌, [], OnOk, OnErr, IfSome, length, take};
 ghost use Rattle.cyc_types.specs.Scope.{position_of};
 
 use cyc_tree::Name;
@@ -39,9 +39,10 @@ impl<'p> Scope<'p> {
         self.locals.len()
     }
 
-    /// Declares a local. Fails only where no host memory is left.
+    /// Declares a local. Fails only where no host memory is left, and then no local is added.
     pub fn declare(&mut self, local: &'p Name) -> Result<(), AllocError>
-        ensures { OnOk result (self.new ≡ self.old ++ local.entry.now.text.items ∷ []) }
+        ensures declared { OnOk result (self.new ≡ self.old ++ local.entry.now.text.items ∷ []) }
+        ensures kept { OnErr result (self.new ≡ self.old) }
     {
         self.locals.push(local)?;
         Ok(())

@@ -17,7 +17,7 @@ use std::alloc::Global;
 use unique_flow::{Checked, flow};
 
 /// The program that a text spells.
-fn parsed(alloc: Global, text: &[u8]) -> Result<Program, CompileFault> {
+pub(crate) fn parsed(alloc: Global, text: &[u8]) -> Result<Program, CompileFault> {
     let tokens = match tokens(alloc, text) {
         Ok(tokens) => tokens,
         Err(fault) => return Err(of_lexing(text, fault)),
@@ -29,7 +29,7 @@ fn parsed(alloc: Global, text: &[u8]) -> Result<Program, CompileFault> {
 }
 
 /// The program of a text, where it is accepted.
-fn checked<'p>(
+pub(crate) fn checked<'p>(
     alloc: Global,
     text: &[u8],
     program: &'p Program,

@@ -1,11 +1,12 @@
 //! The compiler: from a text to an image, and to what it does.
 //!
-//! `check` says whether a text is accepted, `compile` gives its image, and `execute` runs it between a
-//! reader and a writer. Each refuses with the first fault of the first phase that has one, by line and column.
+//! `check` says whether a text is accepted, `compile` gives its image, `execute` runs it between a
+//! reader and a writer, and `evaluate` runs it by the meaning of its source. Each refuses with the first fault of the first phase that has one, by line and column.
 //! Stands on all layers.
 #![tactic(auto)]
 
 mod compiling;
+mod evaluating;
 mod executing;
 mod fault;
 
@@ -13,7 +14,9 @@ pub use compiling::{check, compile};
 pub use cyc_host::{Ending, run};
 pub use cyc_image::{Image, ImageFault, load};
 pub use cyc_words::{Counted, Input, Kind, MachineFault, Output};
+pub use evaluating::evaluate;
 pub use executing::{Limits, execute};
 pub use fault::{CompileFault, Place};
 pub use rv32_isa::{Instr, decode};
 pub use rv32_machine::{Event, Machine};
+pub use source_eval::EvalEnding;

@@ -2,9 +2,9 @@
 
 use crate::command::Command;
 use crate::images::{dump, exec};
-use crate::lines::{ended, printed, refused};
+use crate::lines::{ended, evaluated, printed, refused};
 use crate::status::SUCCESS;
-use cycc_driver::{Input, Limits, Output, check, compile, execute};
+use cycc_driver::{Input, Limits, Output, check, compile, evaluate, execute};
 use std::alloc::{AllocError, Global};
 use std::io::Write;
 
@@ -60,6 +60,17 @@ pub fn answer_of<R: Input, W: Output, E: Write>(
             };
             let status = match execute(alloc, file, reader, writer, limits) {
                 Ok(ending) => ended(alloc, ending, None, *shows_ending, faults)?,
+                Err(fault) => refused(alloc, input, fault, faults)?,
+            };
+            Ok(plain(status))
+        }
+        Command::Eval {
+            input,
+            fuel,
+            shows_ending,
+        } => {
+            let status = match evaluate(alloc, file, reader, writer, *fuel) {
+                Ok(ending) => evaluated(alloc, ending, *shows_ending, faults)?,
                 Err(fault) => refused(alloc, input, fault, faults)?,
             };
             Ok(plain(status))

@@ -74,6 +74,12 @@ pub enum Command<'a> {
         steps: u64,
         shows_ending: bool,
     },
+    /// Runs a source by its meaning.
+    Eval {
+        input: &'a str,
+        fuel: u64,
+        shows_ending: bool,
+    },
     /// Runs an image.
     Exec {
         input: &'a str,
@@ -93,6 +99,7 @@ impl<'a> Command<'a> {
             Command::Check { input }
             | Command::Compile { input, .. }
             | Command::Run { input, .. }
+            | Command::Eval { input, .. }
             | Command::Exec { input, .. }
             | Command::Dump { input } => input,
         }
@@ -101,7 +108,10 @@ impl<'a> Command<'a> {
     /// The most bytes of the file that are read: one more than a text, or the longest image, may have.
     pub fn longest_file(&self) -> u64 {
         match self {
-            Command::Check { .. } | Command::Compile { .. } | Command::Run { .. } => SOURCE_BYTES,
+            Command::Check { .. }
+            | Command::Compile { .. }
+            | Command::Run { .. }
+            | Command::Eval { .. } => SOURCE_BYTES,
             Command::Exec { .. } | Command::Dump { .. } => IMAGE_BYTES,
         }
     }

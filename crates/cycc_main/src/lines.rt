@@ -3,7 +3,7 @@
 use crate::status::{
     ENDED, EXHAUSTED, FILE_FAULT, MACHINE_FAULT, MEMORY, RAISED, REFUSED, STEP_LIMIT, SUCCESS,
 };
-use cycc_driver::{CompileFault, Ending, ImageFault};
+use cycc_driver::{CompileFault, Ending, EvalEnding, ImageFault};
 use std::alloc::{AllocError, Global};
 use std::io::Write;
 
@@ -91,6 +91,28 @@ pub fn ended<E: Write>(
         say(faults, line_of(alloc, ending, pc)?.as_str());
     }
     Ok(status)
+}
+
+/// Says how an evaluation ended, as `ended` does: fuel that is used up is the step limit.
+pub fn evaluated<E: Write>(
+    alloc: Global,
+    ending: EvalEnding,
+    shows_ending: bool,
+    faults: &mut E,
+) -> Result<u8, AllocError> {
+    let same = match ending {
+        EvalEnding::Ended(status) => Ending::Ended(status),
+        EvalEnding::Raised(kind) => Ending::Raised(kind),
+        EvalEnding::Running => Ending::StepLimit,
+        EvalEnding::ReadFault => Ending::ReadFault,
+        EvalEnding::WriteFault => Ending::WriteFault,
+        EvalEnding::HostMemory => return Ok(out_of_memory(faults)),
+        EvalEnding::Stuck => {
+            say(faults, "stuck");
+            return Ok(MACHINE_FAULT);
+        }
+    };
+    ended(alloc, same, None, shows_ending, faults)
 }
 
 /// The status of what was printed on standard output: a failed write is said.

@@ -8,9 +8,9 @@ pub const ENDED: u8 = 1;
 pub const RAISED: u8 = 2;
 /// The store or the stack had no room.
 pub const EXHAUSTED: u8 = 3;
-/// The given number of steps was made.
+/// The given number of steps was made, or the units of fuel are used up.
 pub const STEP_LIMIT: u8 = 4;
-/// The machine stopped at a fault.
+/// The machine stopped at a fault, or an evaluation was stuck.
 pub const MACHINE_FAULT: u8 = 5;
 /// A file, the input or the output failed.
 pub const FILE_FAULT: u8 = 6;

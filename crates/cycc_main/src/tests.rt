@@ -62,6 +62,16 @@ pub fn run(alloc: Global, source: &[u8], input: &[u8]) -> Result<Outcome, AllocE
     outcome_of(alloc, &run_command(4294967295, true), source, input)
 }
 
+/// The outcome of `eval IN --ending` on an input, with so many units of fuel.
+pub fn eval(alloc: Global, source: &[u8], input: &[u8], fuel: u64) -> Result<Outcome, AllocError> {
+    let command = Command::Eval {
+        input: "IN",
+        fuel,
+        shows_ending: true,
+    };
+    outcome_of(alloc, &command, source, input)
+}
+
 /// The outcome of `check IN`.
 pub fn check(alloc: Global, source: &[u8]) -> Result<Outcome, AllocError> {
     outcome_of(alloc, &Command::Check { input: "IN" }, source, &[])

@@ -78,8 +78,18 @@ fn parser<'a>(alloc: Global) -> Result<Parser<'a>, AllocError> {
         .subcommand(check)?
         .subcommand(compile)?
         .subcommand(run)?
+        .subcommand(eval_parser(alloc)?)?
         .subcommand(exec_parser(alloc)?)?
         .subcommand(dump_parser(alloc)?)
+}
+
+/// `eval` and its words.
+fn eval_parser<'a>(alloc: Global) -> Result<Parser<'a>, AllocError> {
+    Parser::new(alloc, "eval")
+        .about("Runs a source by its meaning")
+        .arg(input(alloc))?
+        .arg(steps(alloc).help("The most units of fuel: turns of loops, and calls"))?
+        .arg(ending(alloc))
 }
 
 /// `exec` and its words.
@@ -123,6 +133,11 @@ fn read<'a>(name: &str, matches: &ArgMatches<'a>) -> Option<Command<'a>> {
             input: matches.get_str("IN")?,
             pages: pages_of(matches)?,
             steps: steps_of(matches),
+            shows_ending: matches.get_flag("ending"),
+        }),
+        "eval" => Some(Command::Eval {
+            input: matches.get_str("IN")?,
+            fuel: steps_of(matches),
             shows_ending: matches.get_flag("ending"),
         }),
         "exec" => Some(Command::Exec {

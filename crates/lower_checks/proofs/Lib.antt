@@ -1,1 +1,16 @@
+pub mod Relations
 pub mod Shape
+pub mod SameRuns
+pub mod SameOperators
+pub mod SameLocals
+pub mod SameExpressions
+pub mod SameTests
+pub mod SameWrites
+pub mod SameMemory
+pub mod NoFaults
+pub mod SameCalls
+pub mod EachExpression
+pub mod SameStatements
+pub mod SameDeclarations
+pub mod EachStatement
+pub mod SameProgram

@@ -22,7 +22,7 @@ some_sooner f None h = cc
 some_sooner f (Some g) h = cc
 
 -- no first fault, no fault
-none_at_all : (fs : List Fault) → earliest fs ≡ None → fs ≡ []
+pub none_at_all : (fs : List Fault) → earliest fs ≡ None → fs ≡ []
 none_at_all [] h = refl
 none_at_all (f ∷ fs) h = absurd (some_sooner f (earliest fs) h)
 
@@ -37,12 +37,12 @@ second_fault (tree.UnionItem u) h = cc
 second_fault (tree.GlobalItem g) h = cc
 second_fault (tree.FunctionItem f) h = second_named (is_main f.name.text) f.name.at f.result.at h
 
-none_after : (others : List Item) → items_faults true others ≡ [] → others ≡ []
+pub none_after : (others : List Item) → items_faults true others ≡ [] → others ≡ []
 none_after [] h = refl
 none_after (i ∷ others) h = absurd (second_fault i (nothing_first (item_faults true i) (items_faults (true || defines_main i) others) h))
 
 -- an item without a fault is `main`, with a body without a fault
-main_first : (b : Bool) (at : ℕ) (f : tree.Function) → (if b then main_faults f else mistyped at) ≡ [] → (b ≡ true) × (main_faults f ≡ [])
+pub main_first : (b : Bool) (at : ℕ) (f : tree.Function) → (if b then main_faults f else mistyped at) ≡ [] → (b ≡ true) × (main_faults f ≡ [])
 main_first true at f h = (refl, h)
 main_first false at f h = absurd (cc)
 

@@ -1,6 +1,6 @@
 -- What a checked program is lowered to. The locals that are visible have the first cells, in the order of their declarations. An expression leaves its value in the
 -- cell that is given, and uses the cells above it, which are free again afterwards.
-use Rattle.std.specs.Prelude.{ℕ, ◌+◌, List, [], ◌∷◌, ◌++◌, Option, Some, None, length}
+use Rattle.std.specs.Prelude.{ℕ, ◌+◌, ◌%◌, List, [], ◌∷◌, ◌++◌, Option, Some, None, length}
 use Rattle.cyc_tree.specs.declared.expression.Operator.{Operator}
 use Rattle.cyc_tree.specs.declared.expression.Operator.TheVariants as operator
 use Rattle.cyc_tree.specs.declared.expression.Prefix.{Prefix}
@@ -77,7 +77,7 @@ truth_code d = Do (Constant (cell (d + 1)) 0) ∷ Do (Binary binary.NotEqual (ce
 abbrev mutual
   pub expression_code : Locals → Expression → ℕ → List Statement
   expression_code scope (Expression.Number at value suffix) d = Do (Constant (cell d) value) ∷ []
-  expression_code scope (Expression.Character at byte) d = Do (Constant (cell d) byte) ∷ []
+  expression_code scope (Expression.Character at byte) d = Do (Constant (cell d) (byte % 256)) ∷ []
   expression_code scope (Expression.Variable name) d = Do (Move (cell d) (cell_of scope name)) ∷ []
   expression_code scope (Expression.Grouped at inner) d = expression_code scope inner d
   expression_code scope (Expression.Prefixed at operator operand) d = prefixed_by operator d (expression_code scope operand (d + 1))

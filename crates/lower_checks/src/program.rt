@@ -3,6 +3,8 @@
 ghost use Rattle.std.specs.Prelude.{◌≡◌, IfOk};
 ghost use Rattle.cyc_tree.specs.View.{function_tree};
 ghost use Rattle.cyc_core.specs.Cells.{AreUpTo};
+ghost use Rattle.lower_checks.specs.Agreeing.{DoesAsSource};
+ghost use Rattle.unique_flow.specs.Accepted.{IsAccepted};
 ghost use Rattle.lower_checks.specs.Lowered.{main_code, program_code};
 
 use crate::statement::lower_block;
@@ -28,10 +30,10 @@ fn lower_main(alloc: Global, function: &Function) -> Result<Core, AllocError>
     })
 }
 
-/// The Core of a checked program. Fails only where no host memory is left.
-pub fn lower(alloc: Global, checked: &Checked<'_>) -> Result<Core, AllocError>
+/// Lowers the one function of a checked program.
+fn lower_program(alloc: Global, checked: &Checked<'_>) -> Result<Core, AllocError>
+    ensures accepted { IsAccepted checked.now }
     ensures code { IfOk result (λ core. core.main.body ≡ program_code checked.now) }
-    // the function has all cells that its operations name
     ensures cells { IfOk result (λ core. AreUpTo core.main.last.0 core.main.body) }
 {
     let [item] = checked.program().items() else {
@@ -41,4 +43,15 @@ pub fn lower(alloc: Global, checked: &Checked<'_>) -> Result<Core, AllocError>
         unreachable!()
     };
     lower_main(alloc, function)
+}
+
+/// The Core of a checked program. Fails only where no host memory is left.
+pub fn lower(alloc: Global, checked: &Checked<'_>) -> Result<Core, AllocError>
+    ensures code { IfOk result (λ core. core.main.body ≡ program_code checked.now) }
+    // the function does what the program does, on each input and with each amount of fuel
+    ensures meaning { IfOk result (λ core. DoesAsSource checked.now core.main.body) }
+    // the function has all cells that its operations name
+    ensures cells { IfOk result (λ core. AreUpTo core.main.last.0 core.main.body) }
+{
+    lower_program(alloc, checked)
 }

@@ -1,6 +1,6 @@
 // Programs with locals and loops. What they write and end with was worked out by hand.
 
-use super::{outcome_of, run, run_command};
+use super::{eval, outcome_of, run, run_command};
 use std::alloc::Global;
 use std::process::Abort;
 use std::test::Fail;
@@ -13,6 +13,9 @@ fn echo_writes_what_it_reads(rt: HostRuntime) -> Result<(), Fail> {
         let ran = run(alloc, source, input)?;
         assert_eq!(rt; ran.output.as_slice(), input);
         assert_eq!(rt; ran.said.as_slice(), b"ended 0\n".as_slice());
+        let evaluated = eval(alloc, source, input, 1000)?;
+        assert_eq!(rt; evaluated.output.as_slice(), input);
+        assert_eq!(rt; evaluated.said.as_slice(), b"ended 0\n".as_slice());
     }
     Ok(())
 }
@@ -32,7 +35,29 @@ fn an_endless_loop_meets_its_limit(rt: HostRuntime) -> Result<(), Fail> {
     Ok(())
 }
 
-// Runs each program of a table. A line is how a program ends, what it writes, and the program, parted by ` | `.
+#[test]
+fn turns_and_calls_take_fuel(rt: HostRuntime) -> Result<(), Fail> {
+    let alloc = rt.alloc();
+    let source =
+        b"int main() { int i = 0; while (i < 3) { putchar(65 + i); i = i + 1; } return 9; }";
+    for (fuel, output, said, status) in [
+        (0u64, b"".as_slice(), b"step limit\n".as_slice(), 4u8),
+        (2, b"A", b"step limit\n", 4),
+        (5, b"AB", b"step limit\n", 4),
+        (6, b"ABC", b"ended 9\n", 1),
+        (7, b"ABC", b"ended 9\n", 1),
+    ] {
+        let ran = eval(alloc, source, b"", fuel)?;
+        assert_eq!(rt; ran.output.as_slice(), output, "{fuel} units");
+        assert_eq!(rt; ran.said.as_slice(), said, "{fuel} units");
+        assert_eq!(rt; ran.status, status, "{fuel} units");
+    }
+    let endless = eval(alloc, b"int main() { while (1) ; }", b"", 1000)?;
+    assert_eq!(rt; endless.said.as_slice(), b"step limit\n".as_slice());
+    Ok(())
+}
+
+// Runs each program of a table, compiled and by its meaning. A line is how a program ends, what it writes, and the program, parted by ` | `.
 fn run_all(rt: &impl Abort, alloc: Global, table: &str) -> Result<(), Fail> {
     for line in table.lines() {
         let (ending, rest) = line.split_once(" | ").ok_or("no ending")?;
@@ -41,6 +66,9 @@ fn run_all(rt: &impl Abort, alloc: Global, table: &str) -> Result<(), Fail> {
         let said = format!(in alloc; "{ending}\n")?;
         assert_eq!(rt; ran.output.as_slice(), output.as_bytes(), "{source}");
         assert_eq!(rt; ran.said.as_slice(), said.as_bytes(), "{source}");
+        let evaluated = eval(alloc, source.as_bytes(), &[], 4294967295)?;
+        assert_eq!(rt; evaluated.output.as_slice(), output.as_bytes(), "{source}");
+        assert_eq!(rt; evaluated.said.as_slice(), said.as_bytes(), "{source}");
     }
     Ok(())
 }

@@ -45,7 +45,7 @@ block_fault-each-preserved t c =
     let outer = c.len-outer.result in
     let in_loop = c.args.in_loop in
     let own : c.match-item.fault ≡ earliest (item_own c.each.scope outer in_loop (item_tree item)) = elim c.match-item.branch [ block_fault-in-Declare+in_ok-declare-in-Declare w ↦ w.fault-is ∙ w.declaration_fault-fault.ensures ∙ ap (λ i. earliest (item_own c.each.scope outer in_loop i)) (sym (declare_tree w.in-Declare.declaration) ∙ ap item_tree (sym w.in-Declare.is)) | block_fault-in-Execute+in_ok-fault-in-Execute w ↦ w.fault-is ∙ w.in_ok-fault-in-Execute.ensures.fault ∙ ap (λ i. earliest (item_own c.each.scope outer in_loop i)) (sym (execute_tree w.in-Execute.statement) ∙ ap item_tree (sym w.in-Execute.is)) ] in
-    let after : c.match-item.scope ≡ scope_after c.each.scope (item_tree item) = elim c.match-item.branch [ block_fault-in-Declare+in_ok-declare-in-Declare w ↦ w.scope-is ∙ w.in_ok-declare-in-Declare.ensures ∙ ap (λ n. c.each.scope ++ n.text ∷ []) w.local.ensures ∙ ap (scope_after c.each.scope) (sym (declare_tree w.in-Declare.declaration) ∙ ap item_tree (sym w.in-Declare.is)) | block_fault-in-Execute+in_ok-fault-in-Execute w ↦ w.scope-is ∙ w.in_ok-fault-in-Execute.ensures.scope ∙ ap (scope_after c.each.scope) (sym (execute_tree w.in-Execute.statement) ∙ ap item_tree (sym w.in-Execute.is)) ] in
+    let after : c.match-item.scope ≡ scope_after c.each.scope (item_tree item) = elim c.match-item.branch [ block_fault-in-Declare+in_ok-declare-in-Declare w ↦ w.scope-is ∙ w.in_ok-declare-in-Declare.ensures.declared ∙ ap (λ n. c.each.scope ++ n.text ∷ []) w.local.ensures ∙ ap (scope_after c.each.scope) (sym (declare_tree w.in-Declare.declaration) ∙ ap item_tree (sym w.in-Declare.is)) | block_fault-in-Execute+in_ok-fault-in-Execute w ↦ w.scope-is ∙ w.in_ok-fault-in-Execute.ensures.scope ∙ ap (scope_after c.each.scope) (sym (execute_tree w.in-Execute.statement) ∙ ap item_tree (sym w.in-Execute.is)) ] in
     record {
       found = ap (λ o. sooner_of o (earliest (block_faults c.match-item.scope outer in_loop (items_of (map item_tree (drop (c.each.item-index + 1) c.args.items.now)))))) c.sooner-found.ensures
           ∙ block_more c.each.scope c.match-item.scope outer in_loop c.args.items.now c.each.item-index item c.each.found c.match-item.fault c.each-test.true c.item-item.is own after

@@ -1,0 +1,15 @@
+pub mod Looked
+pub mod Moves
+pub mod StatementMoves
+pub mod HeldLocals
+pub mod MemoryMoves
+pub mod Arrivals
+pub mod EnterMoves
+pub mod TakeMoves
+pub mod Progress
+pub mod Accepted
+pub mod Beginning
+pub mod Stages
+pub mod Endings
+pub mod Mains
+pub mod Answered

@@ -62,6 +62,19 @@ fn words_are_read(rt: HostRuntime) -> Result<(), Fail> {
 }
 
 #[test]
+fn eval_takes_fuel(rt: HostRuntime) -> Result<(), Fail> {
+    let alloc = rt.alloc();
+    let words = ["cycc", "eval", "i", "--steps", "7", "--ending"];
+    let eval = Command::Eval {
+        input: "i",
+        fuel: 7,
+        shows_ending: true,
+    };
+    assert!(rt; command_of(alloc, words.as_slice()).ok() == Some(eval));
+    Ok(())
+}
+
+#[test]
 fn other_words_are_usage(rt: HostRuntime) -> Result<(), Fail> {
     let alloc = rt.alloc();
     for words in [
@@ -82,7 +95,7 @@ fn other_words_are_usage(rt: HostRuntime) -> Result<(), Fail> {
         ["cycc", "exec"].as_slice(),
         ["cycc", "exec", "a", "--pages", "1"].as_slice(),
         ["cycc", "dump", "a", "b"].as_slice(),
-        ["cycc", "eval", "a"].as_slice(),
+        ["cycc", "eval", "a", "--pages", "1"].as_slice(),
         ["cycc", "hello"].as_slice(),
     ] {
         let error = command_of(alloc, words).err().ok_or("taken")?;

@@ -1,5 +1,5 @@
 -- Statements that name no cell after one name none after a later one, and with one more statement.
-use Rattle.std.proofs.Common.{◌≡◌, ℕ, ◌≤◌, List, [], ◌∷◌, ◌++◌, arith}
+use Rattle.std.proofs.Common.{ℕ, ◌≤◌, List, [], ◌∷◌, ◌++◌, arith}
 use Rattle.cyc_core.specs.declared.operation.Operation.{Operation}
 use Rattle.cyc_core.specs.declared.operation.Operation.TheVariants as operation
 use Rattle.cyc_core.specs.Tree.{Statement, Statements, Do, If, While, Break, Continue, Return, NoStatements, MoreStatements, statements_of}
@@ -32,3 +32,8 @@ more n (x ∷ xs) s p q = (p.0, more n xs s p.1 q)
 pub one_more : (m k n : ℕ) (ss : List Statement) (s : Statement) → m ≤ n → k ≤ n → AreUpTo m ss → IsUpTo k s → AreUpTo n (ss ++ s ∷ [])
 one_more m k n ss s h g p q =
     more n ss s (all_later m n (statements_of ss) h p) (one_later k n s g q)
+
+-- what holds of all holds of those before the last, and of the last
+pub but_last : (m : ℕ) (ss : List Statement) (s : Statement) → AreUpTo m (ss ++ s ∷ []) → AreUpTo m ss × IsUpTo m s
+but_last m [] s p = (tt, p.0)
+but_last m (x ∷ xs) s p = let rest = but_last m xs s p.1 in ((p.0, rest.0), rest.1)

@@ -3,3 +3,4 @@ pub mod Stored
 pub mod View
 pub mod Cells
 pub mod Meaning
+pub mod Orderly

@@ -1,5 +1,4 @@
 -- The pure tree of the code's statements.
-use Rattle.std.specs.Prelude.{List, map}
 use Rattle.cyc_core.specs.declared.statement.Statement as code
 use Rattle.cyc_core.specs.declared.statement.Statement.TheOpen.{Statement-F}
 use Rattle.cyc_core.specs.declared.statement.Statement.TheFolds.{fold-Statement}

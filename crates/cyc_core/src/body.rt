@@ -1,10 +1,10 @@
 // Statements, one after the other.
 
-ghost use Rattle.std.specs.Prelude.{◌≡◌, ◌++◌, [], ◌∷◌, OnOk, map};
+ghost use Rattle.std.specs.Prelude.{◌≡◌, ℕ, ◌≤◌, ◌++◌, [], ◌∷◌, OnOk, map};
 ghost use Rattle.cyc_core.specs.Tree as tree;
 ghost use Rattle.cyc_core.specs.Tree.{statements_of};
 ghost use Rattle.cyc_core.specs.View.{statement_tree};
-ghost use Rattle.cyc_core.specs.Cells.{AreUpTo, IsUpTo};
+ghost use Rattle.cyc_core.specs.Cells.{AreUpTo, IsUpTo, IsLeastFor};
 
 use crate::operation::{Cell, Operation};
 use crate::statement::Statement;
@@ -22,7 +22,7 @@ impl Model for Body {
     ghost use Rattle.std.specs.Prelude.{List, map};
     ghost use Rattle.cyc_core.specs.Tree.{Statement as Tree};
     ghost use Rattle.cyc_core.specs.View.{statement_tree};
-    ghost use Rattle.cyc_core.specs.Cells.{AreUpTo};
+    ghost use Rattle.cyc_core.specs.Cells.{IsLastOf};
     ghost use Rattle.cyc_core.specs.Stored.{coded_body};
 
     ghost Value = { List Tree };
@@ -31,7 +31,7 @@ impl Model for Body {
 
     ghost view = { λ b. map statement_tree b.statements.items };
 
-    ghost invariant = { λ b. AreUpTo b.last.0 (map statement_tree b.statements.items) };
+    ghost invariant = { λ b. IsLastOf b.last.0 (map statement_tree b.statements.items) };
 }
 
 impl Body {
@@ -52,16 +52,18 @@ impl Body {
         self.statements.as_slice()
     }
 
-    /// A cell, after which the statements name none.
+    /// The last cell that the statements name, or the first where they name none.
     pub fn last(&self) -> Cell
-        ensures { AreUpTo result.0 self.now }
+        ensures all { AreUpTo result.0 self.now }
+        ensures least { IsLeastFor result.0 self.now }
     {
         self.last
     }
 
-    // one more statement, which names no cell after this one
+    // one more statement, of which this is the last cell, or the first where it names none
     fn push(&mut self, statement: Statement, last: Cell) -> Result<(), AllocError>
-        requires { IsUpTo last.0 (statement_tree statement) }
+        requires all { IsUpTo last.0 (statement_tree statement) }
+        requires least { (m : ℕ) → IsUpTo m (statement_tree statement) → last.0 ≤ m }
         ensures { OnOk result (self.new ≡ self.old ++ statement_tree statement ∷ []) }
     {
         self.statements.push(statement)?;

@@ -1,6 +1,6 @@
 // Cells, and the operations on them.
 
-ghost use Rattle.std.specs.Prelude.{◌≤◌};
+ghost use Rattle.std.specs.Prelude.{ℕ, ◌≤◌};
 ghost use Rattle.cyc_core.specs.Cells.{NamesUpTo};
 
 /// A cell of a function: a word, named by its number.
@@ -62,7 +62,8 @@ pub enum Operation {
 impl Operation {
     /// The last cell that the operation names.
     pub fn last(self) -> Cell
-        ensures { NamesUpTo result.0 self }
+        ensures all { NamesUpTo result.0 self }
+        ensures least { (m : ℕ) → NamesUpTo m self → result.0 ≤ m }
     {
         match self {
             Operation::Constant(to, _) | Operation::Getchar(to) => to,
@@ -77,6 +78,7 @@ impl Cell {
     pub fn later(self, other: Cell) -> Cell
         ensures first { self.0 ≤ result.0 }
         ensures second { other.0 ≤ result.0 }
+        ensures least { (m : ℕ) → self.0 ≤ m → other.0 ≤ m → result.0 ≤ m }
     {
         if self.0 < other.0 { other } else { self }
     }

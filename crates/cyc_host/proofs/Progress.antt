@@ -1,5 +1,5 @@
 -- How far a run has come: what it took, what it wrote and what it has gathered.
-use Rattle.std.proofs.Common.{◌≡◌, ℕ, ◌+◌, ◌≤◌, ◌⊎◌, Bool, true, false, List, [], ◌∷◌, ◌++◌, Option, Some, None, refl, sym, ap, ◌∙◌, subst, inl, inr, append_assoc, append-nil, arith}
+use Rattle.std.proofs.Common.{◌≡◌, ℕ, ◌+◌, ◌<◌, ◌≤◌, ◌⊎◌, Bool, true, false, List, [], ◌∷◌, ◌++◌, Option, Some, None, IfSome, refl, sym, ap, ◌∙◌, subst, inl, inr, append_assoc, append-nil, arith}
 use Rattle.std.specs.List.{Contains}
 use Rattle.std.proofs.lemmas.List.Elements.{Contains-push_cases}
 use Rattle.std.specs.Io.KnownBytes.{Appends, Consumes, Keeps, IsAtEnd}
@@ -7,9 +7,9 @@ use Rattle.std.proofs.KnownBytes.{Appends-nil, Appends-trans, Consumes-nil, Cons
 use Rattle.cyc_words.specs.Events.{Event, ByteRead, ByteWritten, output}
 use Rattle.rv32_machine.specs.State.{State, Lengths, Stop, Over, Runs}
 use Rattle.rv32_machine.specs.Step.{Shown, Nothing, Writes, Asks, Stops, step, given}
-use Rattle.rv32_machine.specs.Run.{Run, run_steps}
+use Rattle.rv32_machine.specs.Run.{AreBytes, Run, run_steps, from}
 use Rattle.cyc_host.specs.Transfers.{WritesBut, Answers}
-use Rattle.cyc_host.specs.Hosted.{IsHostedToTheEnd, EndsAs, Written, from}
+use Rattle.cyc_host.specs.Hosted.{IsHostedToTheEnd, EndsAs, Written}
 use Rattle.cyc_host.specs.declared.ending.Ending.{Ending}
 use Rattle.cyc_host.specs.declared.ending.Ending.TheVariants as ending
 use Rattle.cyc_host.proofs.Written.{written-then}
@@ -48,12 +48,18 @@ all_written old new bytes p = record { written = bytes; appended = p; split = sy
 told_before : {P : Type 0} (events : List Event) (last x : Event) → (Contains events x → P) → (last ≡ x → P) → Contains (events ++ last ∷ []) x → P
 told_before events last x early late has = elim (Contains-push_cases events last x has) [ inl there ↦ early there | inr same ↦ late same ]
 
+-- bytes, and one more
+AreBytes-push : (bytes : List ℕ) (byte : ℕ) → AreBytes bytes → byte < 256 → AreBytes (bytes ++ byte ∷ [])
+AreBytes-push [] byte all below = (below, tt)
+AreBytes-push (first ∷ rest) byte (fits, all) below = (fits, AreBytes-push rest byte all below)
+
 -- A run of so many steps has taken these bytes and no more, whatever else follows them; after the end nothing follows.
 pub record Progress (n : Lengths) (old : State) (count : ℕ) (is_over : Bool) (now : State) (reader_old reader_new writer_old writer_new : Option (List ℕ)) (gathered : List ℕ) : Type 0 where
   pub input : List ℕ
   pub events : List Event
   pub written : List ℕ
   pub consumed : Consumes reader_old reader_new input
+  pub bytes : AreBytes input
   pub appended : Appends writer_old writer_new written
   pub shows : output events ≡ written ++ gathered
   pub told : Contains events (ByteRead None) → is_over ≡ true
@@ -68,6 +74,7 @@ module _ {n : Lengths} {old : State} {reader_old writer_old : Option (List ℕ)}
     events = [];
     written = [];
     consumed = Consumes-nil reader_old;
+    bytes = tt;
     appended = Appends-nil writer_old;
     shows = refl;
     told = λ (k, below, is). absurd (omega arith);
@@ -83,6 +90,7 @@ module _ {n : Lengths} {old : State} {reader_old writer_old : Option (List ℕ)}
       events = p.events;
       written = p.written;
       consumed = p.consumed;
+      bytes = p.bytes;
       appended = p.appended;
       shows = p.shows;
       told = p.told;
@@ -97,6 +105,7 @@ module _ {n : Lengths} {old : State} {reader_old writer_old : Option (List ℕ)}
       events = p.events;
       written = p.written;
       consumed = p.consumed;
+      bytes = p.bytes;
       appended = p.appended;
       shows = p.shows;
       told = p.told;
@@ -111,6 +120,7 @@ module _ {n : Lengths} {old : State} {reader_old writer_old : Option (List ℕ)}
       events = p.events ++ ByteWritten byte ∷ [];
       written = p.written;
       consumed = p.consumed;
+      bytes = p.bytes;
       appended = p.appended;
       shows = output-append p.events (ByteWritten byte ∷ []) ∙ ap (λ l. l ++ byte ∷ []) p.shows ∙ append_assoc p.written gathered (byte ∷ []);
       told = λ has. told_before p.events _ _ p.told (λ same. (cc)) has;
@@ -126,6 +136,7 @@ module _ {n : Lengths} {old : State} {reader_old writer_old : Option (List ℕ)}
       events = p.events;
       written = p.written ++ x.written;
       consumed = p.consumed;
+      bytes = p.bytes;
       appended = Appends-trans _ _ _ _ _ p.appended x.appended;
       shows = p.shows ∙ ap (λ l. p.written ++ l) x.split ∙ sym (append_assoc p.written x.written rest);
       told = p.told;
@@ -140,6 +151,7 @@ module _ {n : Lengths} {old : State} {reader_old writer_old : Option (List ℕ)}
       events = p.events;
       written = p.written;
       consumed = Consumes-kept _ _ _ _ p.consumed keeps;
+      bytes = p.bytes;
       appended = p.appended;
       shows = p.shows;
       told = p.told;
@@ -149,12 +161,13 @@ module _ {n : Lengths} {old : State} {reader_old writer_old : Option (List ℕ)}
 
     -- a byte was wanted, and the answer is given
     pub answered : Progress n old count is_over now reader_old reader writer_old writer gathered → (waiting new : State) (reader_next : Option (List ℕ)) (will_be : Bool) (answer : Option ℕ) → IsStep n now waiting Asks → Answers reader reader_next is_over will_be answer
-        → new ≡ given answer waiting → Progress n old (count + 1) will_be new reader_old reader_next writer_old writer gathered
-    answered p waiting new reader_next will_be None x (consumes, ended, end) e = record {
+        → IfSome answer (λ byte. byte < 256) → new ≡ given answer waiting → Progress n old (count + 1) will_be new reader_old reader_next writer_old writer gathered
+    answered p waiting new reader_next will_be None x (consumes, ended, end) below e = record {
       input = p.input;
       events = p.events ++ ByteRead None ∷ [];
       written = p.written;
       consumed = subst (Consumes _ _) (append-nil p.input) (Consumes-trans _ _ _ _ _ p.consumed consumes);
+      bytes = p.bytes;
       appended = p.appended;
       shows = output-append p.events (ByteRead None ∷ []) ∙ append-nil (output p.events) ∙ p.shows;
       told = λ has. ended;
@@ -166,11 +179,12 @@ module _ {n : Lengths} {old : State} {reader_old writer_old : Option (List ℕ)}
           (one_more_step n count _ _ (p.ran [] (λ _. refl)) ∙ after_ask (record { state = now; input = []; events = p.events }) _ x.shows
           ∙ ap (λ (s : State). record { state = s; input = []; events = p.events ++ ByteRead None ∷ [] }) (ap (given None) (sym x.state) ∙ sym e));
     }
-    answered p waiting new reader_next will_be (Some byte) x (consumes, before, after) e = record {
+    answered p waiting new reader_next will_be (Some byte) x (consumes, before, after) below e = record {
       input = p.input ++ byte ∷ [];
       events = p.events ++ ByteRead (Some byte) ∷ [];
       written = p.written;
       consumed = Consumes-trans _ _ _ _ _ p.consumed consumes;
+      bytes = AreBytes-push p.input byte p.bytes below;
       appended = p.appended;
       shows = output-append p.events (ByteRead (Some byte) ∷ []) ∙ append-nil (output p.events) ∙ p.shows;
       told = λ has. absurd (let was : is_over ≡ true = told_before p.events _ _ p.told (λ same. (cc)) has in cc);
@@ -193,6 +207,7 @@ module _ {n : Lengths} {old : State} {reader_old writer_old : Option (List ℕ)}
             count = count;
             within = within;
             given = p.consumed;
+            bytes = p.bytes;
             taken = ap (λ (x : Run). x.input) whole;
             written = subst (Written why writer_old writer_next) (sym (ap (λ (x : Run). output x.events) whole ∙ p.shows)) (written-then why _ _ _ _ _ p.appended rest);
             ends = subst (λ (s : State). EndsAs why n limit count s final) (sym (ap (λ (x : Run). x.state) whole)) ends;

@@ -5,13 +5,9 @@ use Rattle.cyc_words.specs.Events.{output, ByteRead}
 use Rattle.cyc_words.specs.Words.{word}
 use Rattle.rv32_machine.specs.State.{State, Lengths, Stop, Over}
 use Rattle.rv32_machine.specs.Step.{step, Asks}
-use Rattle.rv32_machine.specs.Run.{Run, run_steps}
+use Rattle.rv32_machine.specs.Run.{AreBytes, run_steps, from}
 use Rattle.cyc_host.specs.declared.ending.Ending.{Ending}
 use Rattle.cyc_host.specs.declared.ending.Ending.TheVariants as ending
-
--- a machine in a state, with an input, that has shown nothing yet
-abbrev pub from : State → List ℕ → Run
-from state input = record { state = state; input = input; events = [] }
 
 -- The bytes that a run has written reach the writer: all of them, or where a write failed a prefix of them.
 abbrev pub Written : Ending → Option (List ℕ) → Option (List ℕ) → List ℕ → Type 0
@@ -40,6 +36,7 @@ pub record IsHosted (why : Ending) (n : Lengths) (limit : ℕ) (old new : State)
   pub count : ℕ
   pub within : count ≤ limit
   pub given : Consumes reader_old reader_new input
+  pub bytes : AreBytes input
   pub taken : (run_steps n count (from old input)).input ≡ []
   pub written : Written why writer_old writer_new (output (run_steps n count (from old input)).events)
   pub ends : EndsAs why n limit count (run_steps n count (from old input)).state new

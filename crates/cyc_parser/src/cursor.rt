@@ -1,7 +1,11 @@
 // The tokens that are left to read.
 
-ghost use Rattle.std.specs.Prelude.{◌≡◌, ◌<◌, ◌≤◌, OnOk, OnErr, OnSome, List, length, map, drop};
+ghost use Rattle.std.specs.Prelude.{◌≡◌, ◌∷◌, ◌<◌, ◌≤◌, ◌↔◌, ℕ, Some, IsTrue, IfOk, OnOk, OnErr, OnSome, List, length, map, drop};
 ghost use Rattle.cyc_lexer.specs.Tokens.{token_tree};
+ghost use Rattle.cyc_lexer.specs.declared.token.TokenKind.TheVariants as kind;
+ghost use Rattle.cyc_tree.specs.View.{name_tree, region_tree};
+ghost use Rattle.cyc_parser.specs.Phrases.{IsOne, KeywordAt, SignAt, IsName, IsRegion};
+ghost use Rattle.cyc_parser.specs.Reading.{next_kind, next_place};
 
 use crate::fault::{ParseFault, Parsed};
 use cyc_lexer::{Keyword, Sign, Token, TokenKind};
@@ -36,7 +40,8 @@ impl<'t, 'a> Cursor<'t, 'a> {
 
     /// The next token's kind.
     pub fn kind(&self) -> Option<TokenKind>
-        ensures { OnSome result (0 < length self.now) }
+        ensures next { result ≡ next_kind self.now }
+        ensures some { OnSome result (0 < length self.now) }
     {
         match self.tokens.get(self.next) {
             Some(token) => Some(token.kind),
@@ -45,7 +50,9 @@ impl<'t, 'a> Cursor<'t, 'a> {
     }
 
     /// The place of the next token, or the end of the text.
-    pub fn place(&self) -> u32 {
+    pub fn place(&self) -> u32
+        ensures { result ≡ next_place self.now }
+    {
         match self.tokens.get(self.next) {
             Some(token) => token.at,
             None => END_OF_TEXT,
@@ -67,22 +74,29 @@ impl<'t, 'a> Cursor<'t, 'a> {
     }
 
     /// Whether the next token is this sign.
-    pub fn is_sign(&self, sign: Sign) -> bool {
+    pub fn is_sign(&self, sign: Sign) -> bool
+        ensures { IsTrue result ↔ (next_kind self.now ≡ Some (kind.Sign sign)) }
+    {
         self.kind() == Some(TokenKind::Sign(sign))
     }
 
     /// Whether the next token is this keyword.
-    pub fn is_keyword(&self, keyword: Keyword) -> bool {
+    pub fn is_keyword(&self, keyword: Keyword) -> bool
+        ensures { IsTrue result ↔ (next_kind self.now ≡ Some (kind.Keyword keyword)) }
+    {
         self.kind() == Some(TokenKind::Keyword(keyword))
     }
 
     /// Whether the next token is a region name.
-    pub fn is_region(&self) -> bool {
+    pub fn is_region(&self) -> bool
+        ensures { IsTrue result ↔ (next_kind self.now ≡ Some kind.Region) }
+    {
         self.kind() == Some(TokenKind::Region)
     }
 
     /// Reads the next token, of any kind. Where there is none, the fault is at the end of the text.
     pub fn read(&mut self) -> Parsed<Token<'a>>
+        ensures token { IfOk result (λ token. self.old ≡ token_tree token ∷ self.new) }
         ensures ok { OnOk result (length self.new < length self.old) }
         ensures err { OnErr result (self.new ≡ self.old) }
     {
@@ -96,36 +110,35 @@ impl<'t, 'a> Cursor<'t, 'a> {
         }
     }
 
-    /// Reads the next token, which has to be of this kind, and answers its place.
-    fn read_kind(&mut self, kind: TokenKind) -> Parsed<u32>
+    /// Reads the next token, which has to be this sign, and answers its place.
+    pub fn sign(&mut self, sign: Sign) -> Parsed<u32>
+        ensures token { IfOk result (λ at. SignAt sign at self.old self.new) }
         ensures ok { OnOk result (length self.new < length self.old) }
         ensures err { OnErr result (self.new ≡ self.old) }
     {
-        if self.kind() == Some(kind) {
+        if self.is_sign(sign) {
             Ok(self.read()?.at)
         } else {
             Err(self.unexpected())
         }
     }
 
-    /// Reads the next token, which has to be this sign, and answers its place.
-    pub fn sign(&mut self, sign: Sign) -> Parsed<u32>
-        ensures ok { OnOk result (length self.new < length self.old) }
-        ensures err { OnErr result (self.new ≡ self.old) }
-    {
-        self.read_kind(TokenKind::Sign(sign))
-    }
-
     /// Reads the next token, which has to be this keyword, and answers its place.
     pub fn keyword(&mut self, keyword: Keyword) -> Parsed<u32>
+        ensures token { IfOk result (λ at. KeywordAt keyword at self.old self.new) }
         ensures ok { OnOk result (length self.new < length self.old) }
         ensures err { OnErr result (self.new ≡ self.old) }
     {
-        self.read_kind(TokenKind::Keyword(keyword))
+        if self.is_keyword(keyword) {
+            Ok(self.read()?.at)
+        } else {
+            Err(self.unexpected())
+        }
     }
 
     /// Reads the next token, which has to be a name.
     pub fn name(&mut self, alloc: Global) -> Parsed<Name>
+        ensures token { IfOk result (λ name. IsName (name_tree name) self.old self.new) }
         ensures ok { OnOk result (length self.new < length self.old) }
         ensures err { OnErr result (length self.new ≤ length self.old) }
     {
@@ -139,6 +152,7 @@ impl<'t, 'a> Cursor<'t, 'a> {
 
     /// Reads the next token, which has to be a region name.
     pub fn region(&mut self, alloc: Global) -> Parsed<RegionName>
+        ensures token { IfOk result (λ region. IsRegion (region_tree region) self.old self.new) }
         ensures ok { OnOk result (length self.new < length self.old) }
         ensures err { OnErr result (length self.new ≤ length self.old) }
     {
@@ -159,6 +173,7 @@ impl<'t, 'a> Cursor<'t, 'a> {
 
     /// Reads the next token, which has to be a number, and answers its value and whether it has the suffix.
     pub fn number(&mut self) -> Parsed<(u32, bool)>
+        ensures token { IfOk result (λ number. (at : ℕ) × IsOne (kind.Number number.0 number.1) at self.old self.new) }
         ensures ok { OnOk result (length self.new < length self.old) }
         ensures err { OnErr result (self.new ≡ self.old) }
     {

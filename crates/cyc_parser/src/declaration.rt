@@ -1,6 +1,10 @@
 // Declarations in blocks.
 
-ghost use Rattle.std.specs.Prelude.{◌<◌, ◌≤◌, OnOk, length};
+ghost use Rattle.std.specs.Prelude.{ℕ, ◌<◌, ◌≤◌, IfOk, OnOk, length};
+ghost use Rattle.cyc_lexer.specs.declared.token.Keyword.TheVariants as word;
+ghost use Rattle.cyc_tree.specs.View.{name_tree, initializer_tree, declaration_tree};
+ghost use Rattle.cyc_parser.specs.Phrases.{Tokens, KeywordAt};
+ghost use Rattle.cyc_parser.specs.StatementGrammar.{IsInitializer, IsNameInParentheses, IsDeclaration};
 
 use crate::cursor::Cursor;
 use crate::expression::expression;
@@ -13,7 +17,8 @@ use std::alloc::Global;
 
 /// Reads a declaration, whose expression has at most `depth` phrases in one another.
 pub fn declaration(alloc: Global, depth: u32, cursor: &mut Cursor<'_, '_>) -> Parsed<Declaration>
-    ensures { OnOk result (length cursor.new < length cursor.old) }
+    ensures phrase { IfOk result (λ d. IsDeclaration (declaration_tree d) cursor.old cursor.new) }
+    ensures shorter { OnOk result (length cursor.new < length cursor.old) }
 {
     if cursor.is_keyword(Keyword::Region) {
         region(alloc, cursor)
@@ -26,7 +31,8 @@ pub fn declaration(alloc: Global, depth: u32, cursor: &mut Cursor<'_, '_>) -> Pa
 
 /// Reads the declaration of a local variable or array.
 fn local(alloc: Global, depth: u32, cursor: &mut Cursor<'_, '_>) -> Parsed<Declaration>
-    ensures { OnOk result (length cursor.new < length cursor.old) }
+    ensures phrase { IfOk result (λ d. IsDeclaration (declaration_tree d) cursor.old cursor.new) }
+    ensures shorter { OnOk result (length cursor.new < length cursor.old) }
 {
     let of = type_name(alloc, cursor)?;
     let name = cursor.name(alloc)?;
@@ -37,7 +43,8 @@ fn local(alloc: Global, depth: u32, cursor: &mut Cursor<'_, '_>) -> Parsed<Decla
 
 /// Reads what a local begins with, where that is written.
 fn initializer(alloc: Global, depth: u32, cursor: &mut Cursor<'_, '_>) -> Parsed<Initializer>
-    ensures { OnOk result (length cursor.new ≤ length cursor.old) }
+    ensures phrase { IfOk result (λ i. IsInitializer (initializer_tree i) cursor.old cursor.new) }
+    ensures shorter { OnOk result (length cursor.new ≤ length cursor.old) }
 {
     if cursor.is_sign(Sign::Assign) {
         cursor.sign(Sign::Assign)?;
@@ -51,7 +58,8 @@ fn initializer(alloc: Global, depth: u32, cursor: &mut Cursor<'_, '_>) -> Parsed
 
 /// Reads the declaration of a region: a new one, or one that a key opens.
 fn region(alloc: Global, cursor: &mut Cursor<'_, '_>) -> Parsed<Declaration>
-    ensures { OnOk result (length cursor.new < length cursor.old) }
+    ensures phrase { IfOk result (λ d. IsDeclaration (declaration_tree d) cursor.old cursor.new) }
+    ensures shorter { OnOk result (length cursor.new < length cursor.old) }
 {
     let at = cursor.keyword(Keyword::Region)?;
     let region = one_region(alloc, cursor)?;
@@ -70,7 +78,8 @@ fn region(alloc: Global, cursor: &mut Cursor<'_, '_>) -> Parsed<Declaration>
 
 /// Reads a declaration that begins with `let`.
 fn binding(alloc: Global, cursor: &mut Cursor<'_, '_>) -> Parsed<Declaration>
-    ensures { OnOk result (length cursor.new < length cursor.old) }
+    ensures phrase { IfOk result (λ d. IsDeclaration (declaration_tree d) cursor.old cursor.new) }
+    ensures shorter { OnOk result (length cursor.new < length cursor.old) }
 {
     let at = cursor.keyword(Keyword::Let)?;
     if cursor.is_keyword(Keyword::Alias) {
@@ -82,7 +91,8 @@ fn binding(alloc: Global, cursor: &mut Cursor<'_, '_>) -> Parsed<Declaration>
 
 /// Reads the declaration of an alias from `alias` on. The place is that of its `let`.
 fn alias(alloc: Global, at: u32, cursor: &mut Cursor<'_, '_>) -> Parsed<Declaration>
-    ensures { OnOk result (length cursor.new < length cursor.old) }
+    ensures phrase { (from : Tokens) → KeywordAt word.Let at from cursor.old → IfOk result (λ d. IsDeclaration (declaration_tree d) from cursor.new) }
+    ensures shorter { OnOk result (length cursor.new < length cursor.old) }
 {
     cursor.keyword(Keyword::Alias)?;
     let region = one_region(alloc, cursor)?;
@@ -97,7 +107,8 @@ fn alias(alloc: Global, at: u32, cursor: &mut Cursor<'_, '_>) -> Parsed<Declarat
 /// Reads the declaration of a dynamic region's key from `NewDynamicRegion` on. The place is that of its
 /// `let`.
 fn new_key(alloc: Global, at: u32, cursor: &mut Cursor<'_, '_>) -> Parsed<Declaration>
-    ensures { OnOk result (length cursor.new < length cursor.old) }
+    ensures phrase { (from : Tokens) → KeywordAt word.Let at from cursor.old → IfOk result (λ d. IsDeclaration (declaration_tree d) from cursor.new) }
+    ensures shorter { OnOk result (length cursor.new < length cursor.old) }
 {
     cursor.keyword(Keyword::NewDynamicRegion)?;
     cursor.sign(Sign::LeftBrace)?;
@@ -114,7 +125,8 @@ fn new_key(alloc: Global, at: u32, cursor: &mut Cursor<'_, '_>) -> Parsed<Declar
 
 /// Reads a name in parentheses.
 pub fn parenthesized_name(alloc: Global, cursor: &mut Cursor<'_, '_>) -> Parsed<Name>
-    ensures { OnOk result (length cursor.new < length cursor.old) }
+    ensures phrase { IfOk result (λ name. IsNameInParentheses (name_tree name) cursor.old cursor.new) }
+    ensures shorter { OnOk result (length cursor.new < length cursor.old) }
 {
     cursor.sign(Sign::LeftParenthesis)?;
     let name = cursor.name(alloc)?;

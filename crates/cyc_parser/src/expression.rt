@@ -1,6 +1,15 @@
 // Expressions.
 
-ghost use Rattle.std.specs.Prelude.{◌<◌, ◌≤◌, OnOk, length};
+ghost use Rattle.std.specs.Prelude.{◌≡◌, ◌<◌, ◌≤◌, ◌∷◌, [], IsTrue, IfOk, IfSome, OnOk, Some, option_map, map, length};
+ghost use Rattle.cyc_lexer.specs.declared.token.Sign.TheVariants as sign;
+ghost use Rattle.cyc_lexer.specs.declared.token.TokenKind.TheVariants as kind;
+ghost use Rattle.cyc_tree.specs.View.{name_tree, expression_tree, made_tree, suffix_tree, link_tree, expressions_of, links_of, suffixes_of};
+ghost use Rattle.cyc_parser.specs.Phrases.{Tokens, IsSign, InParentheses};
+ghost use Rattle.cyc_parser.specs.Reading.{next_kind};
+ghost use Rattle.cyc_parser.specs.ExpressionGrammar.{IsExpression, AreArguments, AreLinks, AreSuffixes, IsMade};
+ghost use Rattle.cyc_parser.specs.ExpressionGrammar.{binds, level_of, operator_sign, prefix_sign, unary_level, primary_level};
+ghost use Rattle.cyc_parser.specs.Levels.{level_number, number_of};
+ghost use Rattle.cyc_parser.specs.Parts.{MayBeMember, IsWithMember, chained};
 
 use crate::cursor::Cursor;
 use crate::fault::Parsed;
@@ -14,7 +23,8 @@ use std::alloc::Global;
 /// Reads an expression, with at most `depth` phrases in one another.
 #[cycle(expression)]
 pub fn expression(alloc: Global, depth: u32, cursor: &mut Cursor<'_, '_>) -> Parsed<Expression>
-    ensures { OnOk result (length cursor.new < length cursor.old) }
+    ensures phrase { IfOk result (λ e. IsExpression (expression_tree e) cursor.old cursor.new) }
+    ensures shorter { OnOk result (length cursor.new < length cursor.old) }
 {
     if depth == 0 {
         Err(cursor.too_deep(begins_unary(cursor.kind())))
@@ -24,7 +34,9 @@ pub fn expression(alloc: Global, depth: u32, cursor: &mut Cursor<'_, '_>) -> Par
 }
 
 /// Whether what was read where an expression may begin is a unary expression.
-fn is_unary(expression: &Expression) -> bool {
+fn is_unary(expression: &Expression) -> bool
+    ensures { IsTrue result → unary_level ≤ binds (expression_tree expression.now) }
+{
     !matches!(
         expression,
         Expression::Chain(_, _)
@@ -37,7 +49,8 @@ fn is_unary(expression: &Expression) -> bool {
 /// Reads operands of `||`, or a unary expression and what is assigned to it.
 #[cycle(expression)]
 fn assignment(alloc: Global, depth: u32, cursor: &mut Cursor<'_, '_>) -> Parsed<Expression>
-    ensures { OnOk result (length cursor.new < length cursor.old) }
+    ensures phrase { IfOk result (λ e. IsExpression (expression_tree e) cursor.old cursor.new) }
+    ensures shorter { OnOk result (length cursor.new < length cursor.old) }
 {
     let first = any_of(alloc, depth, cursor)?;
     if is_unary(&first) && cursor.is_sign(Sign::Assign) {
@@ -53,7 +66,9 @@ fn assignment(alloc: Global, depth: u32, cursor: &mut Cursor<'_, '_>) -> Parsed<
 /// Reads operands of `||`.
 #[cycle(expression)]
 fn any_of(alloc: Global, depth: u32, cursor: &mut Cursor<'_, '_>) -> Parsed<Expression>
-    ensures { OnOk result (length cursor.new < length cursor.old) }
+    ensures phrase { IfOk result (λ e. IsExpression (expression_tree e) cursor.old cursor.new) }
+    ensures binds { IfOk result (λ e. 1 ≤ binds (expression_tree e)) }
+    ensures shorter { OnOk result (length cursor.new < length cursor.old) }
 {
     let first = all_of(alloc, depth, cursor)?;
     let mut others = Vec::new(alloc);
@@ -71,7 +86,9 @@ fn any_of(alloc: Global, depth: u32, cursor: &mut Cursor<'_, '_>) -> Parsed<Expr
 /// Reads operands of `&&`.
 #[cycle(expression)]
 fn all_of(alloc: Global, depth: u32, cursor: &mut Cursor<'_, '_>) -> Parsed<Expression>
-    ensures { OnOk result (length cursor.new < length cursor.old) }
+    ensures phrase { IfOk result (λ e. IsExpression (expression_tree e) cursor.old cursor.new) }
+    ensures binds { IfOk result (λ e. 2 ≤ binds (expression_tree e)) }
+    ensures shorter { OnOk result (length cursor.new < length cursor.old) }
 {
     let first = chain(alloc, depth, Some(LOOSEST), cursor)?;
     let mut others = Vec::new(alloc);
@@ -94,18 +111,22 @@ fn chain(
     level: Option<Level>,
     cursor: &mut Cursor<'_, '_>,
 ) -> Parsed<Expression>
-    ensures { OnOk result (length cursor.new < length cursor.old) }
+    ensures phrase { IfOk result (λ e. IsExpression (expression_tree e) cursor.old cursor.new) }
+    ensures binds { IfOk result (λ e. level_number level ≤ binds (expression_tree e)) }
+    ensures shorter { OnOk result (length cursor.new < length cursor.old) }
 {
     let Some(level) = level else {
         return unary(alloc, depth, cursor);
     };
     let first = chain(alloc, depth, tighter(level), cursor)?;
     let links = links(alloc, depth, level, cursor)?;
-    linked(alloc, first, links)
+    Ok(linked(alloc, first, links)?)
 }
 
 /// An operand with the operators and operands after it, where there are such.
-fn linked(alloc: Global, first: Expression, links: Vec<Link>) -> Parsed<Expression> {
+fn linked(alloc: Global, first: Expression, links: Vec<Link>) -> Parsed<Expression>
+    ensures { IfOk result (λ e. expression_tree e ≡ chained (expression_tree first) (links_of (map link_tree links.items))) }
+{
     if links.is_empty() {
         Ok(first)
     } else {
@@ -114,14 +135,18 @@ fn linked(alloc: Global, first: Expression, links: Vec<Link>) -> Parsed<Expressi
 }
 
 /// The operator of a level that stands next.
-fn next_operator(cursor: &Cursor<'_, '_>, level: Level) -> Option<Operator> {
+fn next_operator(cursor: &Cursor<'_, '_>, level: Level) -> Option<Operator>
+    ensures sign { IfSome result (λ operator. next_kind cursor.now ≡ Some (kind.Sign (operator_sign operator))) }
+    ensures level { IfSome result (λ operator. level_of operator ≡ number_of level) }
+{
     operator_of(cursor.kind()?, level)
 }
 
 /// Reads the operators of a level, each with its right operand, as far as they go.
 #[cycle(expression)]
 fn links(alloc: Global, depth: u32, level: Level, cursor: &mut Cursor<'_, '_>) -> Parsed<Vec<Link>>
-    ensures { OnOk result (length cursor.new ≤ length cursor.old) }
+    ensures phrase { IfOk result (λ links. AreLinks (number_of level) (links_of (map link_tree links.items)) cursor.old cursor.new) }
+    ensures shorter { OnOk result (length cursor.new ≤ length cursor.old) }
 {
     let mut links = Vec::new(alloc);
     'links: while let Some(operator) = next_operator(cursor, level) {
@@ -135,7 +160,9 @@ fn links(alloc: Global, depth: u32, level: Level, cursor: &mut Cursor<'_, '_>) -
 /// Reads a unary expression, with at most `depth` phrases in one another.
 #[cycle(expression)]
 fn unary(alloc: Global, depth: u32, cursor: &mut Cursor<'_, '_>) -> Parsed<Expression>
-    ensures { OnOk result (length cursor.new < length cursor.old) }
+    ensures phrase { IfOk result (λ e. IsExpression (expression_tree e) cursor.old cursor.new) }
+    ensures binds { IfOk result (λ e. unary_level ≤ binds (expression_tree e)) }
+    ensures shorter { OnOk result (length cursor.new < length cursor.old) }
 {
     if depth == 0 {
         Err(cursor.too_deep(begins_unary(cursor.kind())))
@@ -147,7 +174,9 @@ fn unary(alloc: Global, depth: u32, cursor: &mut Cursor<'_, '_>) -> Parsed<Expre
 /// Reads a unary expression. The phrases in it have at most `depth` in one another.
 #[cycle(expression)]
 fn operation(alloc: Global, depth: u32, cursor: &mut Cursor<'_, '_>) -> Parsed<Expression>
-    ensures { OnOk result (length cursor.new < length cursor.old) }
+    ensures phrase { IfOk result (λ e. IsExpression (expression_tree e) cursor.old cursor.new) }
+    ensures binds { IfOk result (λ e. unary_level ≤ binds (expression_tree e)) }
+    ensures shorter { OnOk result (length cursor.new < length cursor.old) }
 {
     match cursor.kind() {
         Some(TokenKind::Keyword(Keyword::New)) => {
@@ -171,7 +200,10 @@ fn prefixed(
     prefix: Prefix,
     cursor: &mut Cursor<'_, '_>,
 ) -> Parsed<Expression>
-    ensures { OnOk result (length cursor.new < length cursor.old) }
+    requires { next_kind cursor.old ≡ Some (kind.Sign (prefix_sign prefix)) }
+    ensures phrase { IfOk result (λ e. IsExpression (expression_tree e) cursor.old cursor.new) }
+    ensures binds { IfOk result (λ e. unary_level ≤ binds (expression_tree e)) }
+    ensures shorter { OnOk result (length cursor.new < length cursor.old) }
 {
     let sign = cursor.read()?;
     let operand = unary(alloc, depth, cursor)?;
@@ -182,7 +214,9 @@ fn prefixed(
 /// Reads `rnew`, its handle and what it makes.
 #[cycle(expression)]
 fn made_in(alloc: Global, depth: u32, cursor: &mut Cursor<'_, '_>) -> Parsed<Expression>
-    ensures { OnOk result (length cursor.new < length cursor.old) }
+    ensures phrase { IfOk result (λ e. IsExpression (expression_tree e) cursor.old cursor.new) }
+    ensures binds { IfOk result (λ e. unary_level ≤ binds (expression_tree e)) }
+    ensures shorter { OnOk result (length cursor.new < length cursor.old) }
 {
     let at = cursor.keyword(Keyword::Rnew)?;
     let handle = parenthesized(alloc, depth, cursor)?;
@@ -193,7 +227,8 @@ fn made_in(alloc: Global, depth: u32, cursor: &mut Cursor<'_, '_>) -> Parsed<Exp
 /// Reads what `new` or `rnew` makes.
 #[cycle(expression)]
 fn made(alloc: Global, depth: u32, cursor: &mut Cursor<'_, '_>) -> Parsed<Made>
-    ensures { OnOk result (length cursor.new < length cursor.old) }
+    ensures phrase { IfOk result (λ made. IsMade (made_tree made) cursor.old cursor.new) }
+    ensures shorter { OnOk result (length cursor.new < length cursor.old) }
 {
     if cursor.is_sign(Sign::LeftBrace) {
         array(alloc, depth, cursor)
@@ -206,7 +241,8 @@ fn made(alloc: Global, depth: u32, cursor: &mut Cursor<'_, '_>) -> Parsed<Made>
 /// Reads an array that is made: the index's name, the count and the element.
 #[cycle(expression)]
 fn array(alloc: Global, depth: u32, cursor: &mut Cursor<'_, '_>) -> Parsed<Made>
-    ensures { OnOk result (length cursor.new < length cursor.old) }
+    ensures phrase { IfOk result (λ made. IsMade (made_tree made) cursor.old cursor.new) }
+    ensures shorter { OnOk result (length cursor.new < length cursor.old) }
 {
     cursor.sign(Sign::LeftBrace)?;
     cursor.keyword(Keyword::For)?;
@@ -223,7 +259,9 @@ fn array(alloc: Global, depth: u32, cursor: &mut Cursor<'_, '_>) -> Parsed<Made>
 /// Reads a primary expression and its suffixes.
 #[cycle(expression)]
 fn postfix(alloc: Global, depth: u32, cursor: &mut Cursor<'_, '_>) -> Parsed<Expression>
-    ensures { OnOk result (length cursor.new < length cursor.old) }
+    ensures phrase { IfOk result (λ e. IsExpression (expression_tree e) cursor.old cursor.new) }
+    ensures binds { IfOk result (λ e. 12 ≤ binds (expression_tree e)) }
+    ensures shorter { OnOk result (length cursor.new < length cursor.old) }
 {
     let (first, member) = if cursor.kind() == Some(TokenKind::Identifier) {
         named(alloc, depth, cursor)?
@@ -241,7 +279,9 @@ fn postfix(alloc: Global, depth: u32, cursor: &mut Cursor<'_, '_>) -> Parsed<Exp
 /// Reads a primary expression that begins with no name.
 #[cycle(expression)]
 fn primary(alloc: Global, depth: u32, cursor: &mut Cursor<'_, '_>) -> Parsed<Expression>
-    ensures { OnOk result (length cursor.new < length cursor.old) }
+    ensures phrase { IfOk result (λ e. IsExpression (expression_tree e) cursor.old cursor.new) }
+    ensures binds { IfOk result (λ e. primary_level ≤ binds (expression_tree e)) }
+    ensures shorter { OnOk result (length cursor.new < length cursor.old) }
 {
     if cursor.is_sign(Sign::LeftParenthesis) {
         let at = cursor.place();
@@ -259,7 +299,8 @@ fn primary(alloc: Global, depth: u32, cursor: &mut Cursor<'_, '_>) -> Parsed<Exp
 /// Reads an expression in parentheses, and answers it without them.
 #[cycle(expression)]
 pub fn parenthesized(alloc: Global, depth: u32, cursor: &mut Cursor<'_, '_>) -> Parsed<Expression>
-    ensures { OnOk result (length cursor.new < length cursor.old) }
+    ensures phrase { IfOk result (λ e. InParentheses (IsExpression (expression_tree e)) cursor.old cursor.new) }
+    ensures shorter { OnOk result (length cursor.new < length cursor.old) }
 {
     cursor.sign(Sign::LeftParenthesis)?;
     let inner = expression(alloc, depth, cursor)?;
@@ -275,7 +316,9 @@ fn named(
     depth: u32,
     cursor: &mut Cursor<'_, '_>,
 ) -> Parsed<(Expression, Option<Name>)>
-    ensures { OnOk result (length cursor.new < length cursor.old) }
+    ensures phrase { IfOk result (λ e. IsWithMember (expression_tree e.0) (option_map name_tree e.1) cursor.old cursor.new) }
+    ensures binds { IfOk result (λ e. primary_level ≤ binds (expression_tree e.0)) }
+    ensures shorter { OnOk result (length cursor.new < length cursor.old) }
 {
     let name = cursor.name(alloc)?;
     if cursor.is_sign(Sign::LeftParenthesis) {
@@ -299,7 +342,9 @@ fn named(
 /// Reads the arguments of a call, with their parentheses.
 #[cycle(expression)]
 fn arguments(alloc: Global, depth: u32, cursor: &mut Cursor<'_, '_>) -> Parsed<Vec<Expression>>
-    ensures { OnOk result (length cursor.new < length cursor.old) }
+    ensures phrase { IfOk result (λ arguments. (a : Tokens) × IsSign sign.LeftParenthesis cursor.old a
+        × AreArguments (expressions_of (map expression_tree arguments.items)) a cursor.new) }
+    ensures shorter { OnOk result (length cursor.new < length cursor.old) }
 {
     let mut arguments = Vec::new(alloc);
     cursor.sign(Sign::LeftParenthesis)?;
@@ -323,7 +368,9 @@ fn suffixes(
     member: Option<Name>,
     cursor: &mut Cursor<'_, '_>,
 ) -> Parsed<Vec<Suffix>>
-    ensures { OnOk result (length cursor.new ≤ length cursor.old) }
+    ensures phrase { IfOk result (λ suffixes. (from : Tokens) → MayBeMember (option_map name_tree member) from cursor.old
+        → AreSuffixes (suffixes_of (map suffix_tree suffixes.items)) from cursor.new) }
+    ensures shorter { OnOk result (length cursor.new ≤ length cursor.old) }
 {
     let mut suffixes = Vec::new(alloc);
     if let Some(member) = member {
@@ -338,7 +385,8 @@ fn suffixes(
 /// Reads a suffix of a primary expression.
 #[cycle(expression)]
 fn suffix(alloc: Global, depth: u32, cursor: &mut Cursor<'_, '_>) -> Parsed<Suffix>
-    ensures { OnOk result (length cursor.new < length cursor.old) }
+    ensures phrase { IfOk result (λ suffix. AreSuffixes (suffixes_of (suffix_tree suffix ∷ [])) cursor.old cursor.new) }
+    ensures shorter { OnOk result (length cursor.new < length cursor.old) }
 {
     if cursor.is_sign(Sign::LeftBracket) {
         cursor.sign(Sign::LeftBracket)?;

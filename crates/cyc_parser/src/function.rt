@@ -1,6 +1,10 @@
 // Functions.
 
-ghost use Rattle.std.specs.Prelude.{◌<◌, ◌≤◌, OnOk, length};
+ghost use Rattle.std.specs.Prelude.{◌≡◌, ◌<◌, ◌≤◌, IfOk, OnOk, MatchOption, [], length, map, option_map};
+ghost use Rattle.cyc_lexer.specs.declared.token.Keyword.TheVariants as word;
+ghost use Rattle.cyc_tree.specs.View.{name_tree, region_tree, type_tree, member_tree, bound_tree, function_tree};
+ghost use Rattle.cyc_parser.specs.TypeGrammar.{IsTyped};
+ghost use Rattle.cyc_parser.specs.Grammar.{AreParameters, IsEffect, IsBound, AreBounds, IsFunctionRest};
 
 use crate::cursor::Cursor;
 use crate::fault::Parsed;
@@ -21,7 +25,10 @@ pub fn function(
     name: Name,
     cursor: &mut Cursor<'_, '_>,
 ) -> Parsed<Function>
-    ensures { OnOk result (length cursor.new < length cursor.old) }
+    ensures phrase { IfOk result (λ f. IsFunctionRest (function_tree f) cursor.old cursor.new) }
+    ensures result_type { IfOk result (λ f. f.result ≡ result_type) }
+    ensures name { IfOk result (λ f. f.name ≡ name) }
+    ensures shorter { OnOk result (length cursor.new < length cursor.old) }
 {
     cursor.sign(Sign::LeftParenthesis)?;
     let parameters = parameters(alloc, cursor)?;
@@ -44,7 +51,8 @@ pub fn function(
 
 /// Reads the parameters of a function, where it has such. `void` alone says that it has none.
 fn parameters(alloc: Global, cursor: &mut Cursor<'_, '_>) -> Parsed<Vec<Member>>
-    ensures { OnOk result (length cursor.new ≤ length cursor.old) }
+    ensures phrase { IfOk result (λ ms. AreParameters (map member_tree ms.items) cursor.old cursor.new) }
+    ensures shorter { OnOk result (length cursor.new ≤ length cursor.old) }
 {
     let mut parameters = Vec::new(alloc);
     let Some(first) = first_parameter(alloc, cursor)? else {
@@ -61,7 +69,8 @@ fn parameters(alloc: Global, cursor: &mut Cursor<'_, '_>) -> Parsed<Vec<Member>>
 /// Reads the first parameter, where there is one. After `void`, only what follows tells whether it is the
 /// beginning of a parameter.
 fn first_parameter(alloc: Global, cursor: &mut Cursor<'_, '_>) -> Parsed<Option<Member>>
-    ensures { OnOk result (length cursor.new ≤ length cursor.old) }
+    ensures phrase { IfOk result (λ first. MatchOption first (AreParameters [] cursor.old cursor.new) (λ m. IsTyped (member_tree m) cursor.old cursor.new)) }
+    ensures shorter { OnOk result (length cursor.new ≤ length cursor.old) }
 {
     if !begins_type(cursor.kind()) {
         return Ok(None);
@@ -87,7 +96,8 @@ fn ends_parameters(cursor: &Cursor<'_, '_>) -> bool {
 
 /// Reads the effect of a function, where one is written.
 fn effect(alloc: Global, cursor: &mut Cursor<'_, '_>) -> Parsed<Option<Vec<RegionName>>>
-    ensures { OnOk result (length cursor.new ≤ length cursor.old) }
+    ensures phrase { IfOk result (λ effect. IsEffect (option_map (λ regions. map region_tree regions.items) effect) cursor.old cursor.new) }
+    ensures shorter { OnOk result (length cursor.new ≤ length cursor.old) }
 {
     if !cursor.is_sign(Sign::Semicolon) {
         return Ok(None);
@@ -105,7 +115,8 @@ fn effect(alloc: Global, cursor: &mut Cursor<'_, '_>) -> Parsed<Option<Vec<Regio
 
 /// Reads the bounds of a function, where such are written.
 fn bounds(alloc: Global, cursor: &mut Cursor<'_, '_>) -> Parsed<Vec<Bound>>
-    ensures { OnOk result (length cursor.new ≤ length cursor.old) }
+    ensures phrase { IfOk result (λ bs. AreBounds (map bound_tree bs.items) cursor.old cursor.new) }
+    ensures shorter { OnOk result (length cursor.new ≤ length cursor.old) }
 {
     let mut bounds = Vec::new(alloc);
     if !cursor.is_sign(Sign::Colon) {
@@ -122,7 +133,8 @@ fn bounds(alloc: Global, cursor: &mut Cursor<'_, '_>) -> Parsed<Vec<Bound>>
 
 /// Reads a bound: a region that outlives another one.
 fn bound(alloc: Global, cursor: &mut Cursor<'_, '_>) -> Parsed<Bound>
-    ensures { OnOk result (length cursor.new < length cursor.old) }
+    ensures phrase { IfOk result (λ b. IsBound (bound_tree b) cursor.old cursor.new) }
+    ensures shorter { OnOk result (length cursor.new < length cursor.old) }
 {
     let longer = cursor.region(alloc)?;
     cursor.sign(Sign::Greater)?;

@@ -1,6 +1,13 @@
 // Items and programs.
 
-ghost use Rattle.std.specs.Prelude.{◌<◌, ◌≤◌, OnOk, length};
+ghost use Rattle.std.specs.Prelude.{ℕ, ◌<◌, ◌≤◌, IfOk, OnOk, length, map};
+ghost use Rattle.cyc_lexer.specs.Tokens.{token_tree};
+ghost use Rattle.cyc_lexer.specs.declared.token.Sign.TheVariants as sign;
+ghost use Rattle.cyc_tree.specs.Tree.{UnionItem};
+ghost use Rattle.cyc_tree.specs.View.{type_tree, member_tree, structure_tree, initial_tree, program_item_tree};
+ghost use Rattle.cyc_parser.specs.Phrases.{Tokens};
+ghost use Rattle.cyc_parser.specs.TypeGrammar.{IsType};
+ghost use Rattle.cyc_parser.specs.Grammar.{IsMember, AreMembers, IsInitial, IsItem, IsProgram};
 
 use crate::cursor::Cursor;
 use crate::fault::{ParseFault, Parsed};
@@ -14,7 +21,8 @@ use std::alloc::Global;
 
 /// Reads an item.
 fn item(alloc: Global, cursor: &mut Cursor<'_, '_>) -> Parsed<Item>
-    ensures { OnOk result (length cursor.new < length cursor.old) }
+    ensures phrase { IfOk result (λ item. IsItem (program_item_tree item) cursor.old cursor.new) }
+    ensures shorter { OnOk result (length cursor.new < length cursor.old) }
 {
     if cursor.is_sign(Sign::Tagged) {
         Ok(Item::Union(tagged_union(alloc, cursor)?))
@@ -29,7 +37,8 @@ fn item(alloc: Global, cursor: &mut Cursor<'_, '_>) -> Parsed<Item>
 /// Reads a struct, or a global or a function whose type begins with one. What follows the tag and its
 /// regions tells which it is.
 fn struct_or_typed(alloc: Global, cursor: &mut Cursor<'_, '_>) -> Parsed<Item>
-    ensures { OnOk result (length cursor.new < length cursor.old) }
+    ensures phrase { IfOk result (λ item. IsItem (program_item_tree item) cursor.old cursor.new) }
+    ensures shorter { OnOk result (length cursor.new < length cursor.old) }
 {
     let at = cursor.keyword(Keyword::Struct)?;
     let tag = cursor.name(alloc)?;
@@ -50,7 +59,8 @@ fn struct_or_typed(alloc: Global, cursor: &mut Cursor<'_, '_>) -> Parsed<Item>
 
 /// Reads a tagged union.
 fn tagged_union(alloc: Global, cursor: &mut Cursor<'_, '_>) -> Parsed<Structure>
-    ensures { OnOk result (length cursor.new < length cursor.old) }
+    ensures phrase { IfOk result (λ u. IsItem (UnionItem (structure_tree u)) cursor.old cursor.new) }
+    ensures shorter { OnOk result (length cursor.new < length cursor.old) }
 {
     let at = cursor.sign(Sign::Tagged)?;
     cursor.keyword(Keyword::Union)?;
@@ -68,7 +78,8 @@ fn tagged_union(alloc: Global, cursor: &mut Cursor<'_, '_>) -> Parsed<Structure>
 /// Reads the members of a struct or a union, of which there is one at least, in braces, and the semicolon
 /// that stands after them.
 fn members(alloc: Global, cursor: &mut Cursor<'_, '_>) -> Parsed<Vec<Member>>
-    ensures { OnOk result (length cursor.new < length cursor.old) }
+    ensures phrase { IfOk result (λ ms. AreMembers (map member_tree ms.items) cursor.old cursor.new) }
+    ensures shorter { OnOk result (length cursor.new < length cursor.old) }
 {
     let mut members = Vec::new(alloc);
     cursor.sign(Sign::LeftBrace)?;
@@ -83,7 +94,8 @@ fn members(alloc: Global, cursor: &mut Cursor<'_, '_>) -> Parsed<Vec<Member>>
 
 /// Reads a member, with its semicolon.
 fn member(alloc: Global, cursor: &mut Cursor<'_, '_>) -> Parsed<Member>
-    ensures { OnOk result (length cursor.new < length cursor.old) }
+    ensures phrase { IfOk result (λ m. IsMember (member_tree m) cursor.old cursor.new) }
+    ensures shorter { OnOk result (length cursor.new < length cursor.old) }
 {
     let member = typed_name(alloc, cursor)?;
     cursor.sign(Sign::Semicolon)?;
@@ -92,7 +104,8 @@ fn member(alloc: Global, cursor: &mut Cursor<'_, '_>) -> Parsed<Member>
 
 /// Reads a global or a function from its name on, given its type.
 fn typed(alloc: Global, of: TypeName, cursor: &mut Cursor<'_, '_>) -> Parsed<Item>
-    ensures { OnOk result (length cursor.new < length cursor.old) }
+    ensures phrase { (from : Tokens) → IsType (type_tree of) from cursor.old → IfOk result (λ item. IsItem (program_item_tree item) from cursor.new) }
+    ensures shorter { OnOk result (length cursor.new < length cursor.old) }
 {
     let name = cursor.name(alloc)?;
     if cursor.is_sign(Sign::LeftParenthesis) {
@@ -106,7 +119,8 @@ fn typed(alloc: Global, of: TypeName, cursor: &mut Cursor<'_, '_>) -> Parsed<Ite
 
 /// Reads what a global begins with, where that is written.
 fn initial(alloc: Global, cursor: &mut Cursor<'_, '_>) -> Parsed<Initial>
-    ensures { OnOk result (length cursor.new ≤ length cursor.old) }
+    ensures phrase { IfOk result (λ i. IsInitial (initial_tree i) cursor.old cursor.new) }
+    ensures shorter { OnOk result (length cursor.new ≤ length cursor.old) }
 {
     if cursor.is_sign(Sign::Assign) {
         cursor.sign(Sign::Assign)?;
@@ -123,7 +137,9 @@ fn initial(alloc: Global, cursor: &mut Cursor<'_, '_>) -> Parsed<Initial>
 /// Refuses with `Parse` at the first token with which the tokens so far begin no program, or at the
 /// end of the text; with `TooDeep` at the first token that over 256 phrases contain; and with
 /// `Memory` where no host memory is left.
-pub fn parse(alloc: Global, tokens: &[Token<'_>]) -> Result<Program, ParseFault> {
+pub fn parse(alloc: Global, tokens: &[Token<'_>]) -> Result<Program, ParseFault>
+    ensures found { IfOk result (λ program. IsProgram program (map token_tree tokens.entry.now)) }
+{
     let mut cursor = Cursor::new(tokens);
     let mut items = Vec::new(alloc);
     items.push(item(alloc, &mut cursor)?)?;

@@ -1,6 +1,10 @@
 // Literals and constants.
 
-ghost use Rattle.std.specs.Prelude.{◌<◌, OnOk, length};
+ghost use Rattle.std.specs.Prelude.{◌≡◌, ◌<◌, IfOk, OnOk, length};
+ghost use Rattle.cyc_tree.specs.View.{expression_tree, constant_tree};
+ghost use Rattle.cyc_parser.specs.ExpressionGrammar.{primary_level, binds, IsExpression};
+ghost use Rattle.cyc_parser.specs.StatementGrammar.{IsCount};
+ghost use Rattle.cyc_parser.specs.Grammar.{IsConstant};
 
 use crate::cursor::Cursor;
 use crate::fault::{ParseFault, Parsed};
@@ -10,7 +14,9 @@ use std::alloc::Global;
 
 /// Reads a primary expression of one token that is no name.
 pub fn literal(alloc: Global, cursor: &mut Cursor<'_, '_>) -> Parsed<Expression>
-    ensures { OnOk result (length cursor.new < length cursor.old) }
+    ensures phrase { IfOk result (λ e. IsExpression (expression_tree e) cursor.old cursor.new) }
+    ensures primary { IfOk result (λ e. binds (expression_tree e) ≡ primary_level) }
+    ensures shorter { OnOk result (length cursor.new < length cursor.old) }
 {
     let token = cursor.read()?;
     match token.kind {
@@ -26,7 +32,8 @@ pub fn literal(alloc: Global, cursor: &mut Cursor<'_, '_>) -> Parsed<Expression>
 
 /// Reads a constant.
 pub fn constant(alloc: Global, cursor: &mut Cursor<'_, '_>) -> Parsed<Constant>
-    ensures { OnOk result (length cursor.new < length cursor.old) }
+    ensures phrase { IfOk result (λ c. IsConstant (constant_tree c) cursor.old cursor.new) }
+    ensures shorter { OnOk result (length cursor.new < length cursor.old) }
 {
     let token = cursor.read()?;
     match token.kind {
@@ -44,7 +51,8 @@ pub fn constant(alloc: Global, cursor: &mut Cursor<'_, '_>) -> Parsed<Constant>
 
 /// Reads the count of an array's elements, in brackets.
 pub fn element_count(cursor: &mut Cursor<'_, '_>) -> Parsed<u32>
-    ensures { OnOk result (length cursor.new < length cursor.old) }
+    ensures phrase { IfOk result (λ count. IsCount count cursor.old cursor.new) }
+    ensures shorter { OnOk result (length cursor.new < length cursor.old) }
 {
     cursor.sign(Sign::LeftBracket)?;
     let (count, _) = cursor.number()?;

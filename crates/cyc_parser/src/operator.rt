@@ -1,7 +1,9 @@
 // The levels of binary operators.
 
-ghost use Rattle.std.specs.Prelude.{◌≡◌, ◌+◌};
-ghost use Rattle.cyc_parser.specs.Levels.{levels_from, levels_left};
+ghost use Rattle.std.specs.Prelude.{◌≡◌, ◌+◌, Some, IfSome};
+ghost use Rattle.cyc_lexer.specs.declared.token.TokenKind.TheVariants as kind_of;
+ghost use Rattle.cyc_parser.specs.ExpressionGrammar.{level_of, operator_sign, prefix_sign};
+ghost use Rattle.cyc_parser.specs.Levels.{levels_from, levels_left, level_number, number_of};
 
 use cyc_lexer::{Sign, TokenKind};
 use cyc_tree::{Operator, Prefix};
@@ -24,7 +26,8 @@ pub const LOOSEST: Level = Level::BitOr;
 
 /// The level whose operators bind next more, or none where the operands are unary.
 pub fn tighter(level: Level) -> Option<Level>
-    ensures { levels_left result + 1 ≡ levels_from level }
+    ensures fewer { levels_left result + 1 ≡ levels_from level }
+    ensures number { level_number result ≡ number_of level + 1 }
 {
     match level {
         Level::BitOr => Some(Level::BitXor),
@@ -39,7 +42,10 @@ pub fn tighter(level: Level) -> Option<Level>
 }
 
 /// The level and the operator of a sign between operands.
-fn operator(sign: Sign) -> Option<(Level, Operator)> {
+fn operator(sign: Sign) -> Option<(Level, Operator)>
+    ensures sign { IfSome result (λ found. sign ≡ operator_sign found.1) }
+    ensures level { IfSome result (λ found. level_of found.1 ≡ number_of found.0) }
+{
     match sign {
         Sign::Or => Some((Level::BitOr, Operator::BitOr)),
         Sign::Xor => Some((Level::BitXor, Operator::BitXor)),
@@ -62,7 +68,10 @@ fn operator(sign: Sign) -> Option<(Level, Operator)> {
 }
 
 /// The operator of a level that a token of this kind is.
-pub fn operator_of(kind: TokenKind, level: Level) -> Option<Operator> {
+pub fn operator_of(kind: TokenKind, level: Level) -> Option<Operator>
+    ensures sign { IfSome result (λ operator. kind ≡ kind_of.Sign (operator_sign operator)) }
+    ensures level { IfSome result (λ operator. level_of operator ≡ number_of level) }
+{
     let TokenKind::Sign(sign) = kind else {
         return None;
     };
@@ -73,7 +82,9 @@ pub fn operator_of(kind: TokenKind, level: Level) -> Option<Operator> {
 }
 
 /// The prefix operator that a token of this kind is.
-pub fn prefix_of(kind: TokenKind) -> Option<Prefix> {
+pub fn prefix_of(kind: TokenKind) -> Option<Prefix>
+    ensures { IfSome result (λ prefix. kind ≡ kind_of.Sign (prefix_sign prefix)) }
+{
     match kind {
         TokenKind::Sign(Sign::Minus) => Some(Prefix::Negate),
         TokenKind::Sign(Sign::Not) => Some(Prefix::Not),

@@ -1,6 +1,14 @@
 // Statements and blocks.
 
-ghost use Rattle.std.specs.Prelude.{◌<◌, ◌≤◌, OnOk, length};
+ghost use Rattle.std.specs.Prelude.{◌≡◌, ◌<◌, ◌≤◌, ◌∷◌, [], false, Some, IsTrue, IfOk, OnOk, map, length};
+ghost use Rattle.cyc_lexer.specs.declared.token.Keyword.{Keyword as Word};
+ghost use Rattle.cyc_lexer.specs.declared.token.Keyword.TheVariants as word_of;
+ghost use Rattle.cyc_lexer.specs.declared.token.TokenKind.TheVariants as kind;
+ghost use Rattle.cyc_tree.specs.View.{name_tree, statement_tree, item_tree, clause_tree, pattern_tree, items_of, clauses_of};
+ghost use Rattle.cyc_parser.specs.Phrases.{BeginsWith};
+ghost use Rattle.cyc_parser.specs.Reading.{next_kind, next_place};
+ghost use Rattle.cyc_parser.specs.StatementGrammar.{IsStatement, AreItems, AreClauses, IsPattern, ends_open};
+ghost use Rattle.cyc_parser.specs.Parts.{IsWordStatement, IsNameStatement};
 
 use crate::cursor::Cursor;
 use crate::declaration::{declaration, parenthesized_name};
@@ -14,7 +22,9 @@ use std::alloc::Global;
 /// Reads a statement, with at most `depth` phrases in one another.
 #[cycle(statement)]
 fn statement(alloc: Global, depth: u32, cursor: &mut Cursor<'_, '_>) -> Parsed<Statement>
-    ensures { OnOk result (length cursor.new < length cursor.old) }
+    ensures phrase { IfOk result (λ s. IsStatement (statement_tree s) cursor.old cursor.new) }
+    ensures closed { IfOk result (λ s. IsTrue (ends_open (statement_tree s)) → BeginsWith word_of.Else cursor.new → ⊥) }
+    ensures shorter { OnOk result (length cursor.new < length cursor.old) }
 {
     if depth == 0 {
         Err(cursor.too_deep(begins_statement(cursor.kind())))
@@ -26,7 +36,9 @@ fn statement(alloc: Global, depth: u32, cursor: &mut Cursor<'_, '_>) -> Parsed<S
 /// Reads a statement. Those in it have at most `depth` phrases in one another.
 #[cycle(statement)]
 fn compound(alloc: Global, depth: u32, cursor: &mut Cursor<'_, '_>) -> Parsed<Statement>
-    ensures { OnOk result (length cursor.new < length cursor.old) }
+    ensures phrase { IfOk result (λ s. IsStatement (statement_tree s) cursor.old cursor.new) }
+    ensures closed { IfOk result (λ s. IsTrue (ends_open (statement_tree s)) → BeginsWith word_of.Else cursor.new → ⊥) }
+    ensures shorter { OnOk result (length cursor.new < length cursor.old) }
 {
     match cursor.kind() {
         Some(TokenKind::Sign(Sign::LeftBrace)) => block(alloc, depth, cursor),
@@ -40,7 +52,9 @@ fn compound(alloc: Global, depth: u32, cursor: &mut Cursor<'_, '_>) -> Parsed<St
 /// Reads a block.
 #[cycle(statement)]
 fn block(alloc: Global, depth: u32, cursor: &mut Cursor<'_, '_>) -> Parsed<Statement>
-    ensures { OnOk result (length cursor.new < length cursor.old) }
+    ensures phrase { IfOk result (λ s. IsStatement (statement_tree s) cursor.old cursor.new) }
+    ensures closed { IfOk result (λ s. ends_open (statement_tree s) ≡ false) }
+    ensures shorter { OnOk result (length cursor.new < length cursor.old) }
 {
     let at = cursor.sign(Sign::LeftBrace)?;
     let items = block_items(alloc, depth, cursor)?;
@@ -51,7 +65,8 @@ fn block(alloc: Global, depth: u32, cursor: &mut Cursor<'_, '_>) -> Parsed<State
 /// Reads declarations and statements, as far as they go.
 #[cycle(statement)]
 pub fn block_items(alloc: Global, depth: u32, cursor: &mut Cursor<'_, '_>) -> Parsed<Vec<BlockItem>>
-    ensures { OnOk result (length cursor.new ≤ length cursor.old) }
+    ensures phrase { IfOk result (λ items. AreItems (items_of (map item_tree items.items)) cursor.old cursor.new) }
+    ensures shorter { OnOk result (length cursor.new ≤ length cursor.old) }
 {
     let mut items = Vec::new(alloc);
     'items: while begins_declaration(cursor.kind()) || begins_statement(cursor.kind()) {
@@ -68,7 +83,9 @@ pub fn block_items(alloc: Global, depth: u32, cursor: &mut Cursor<'_, '_>) -> Pa
 /// Reads an `if`, and the `else` that may stand after its statement.
 #[cycle(statement)]
 fn conditional(alloc: Global, depth: u32, cursor: &mut Cursor<'_, '_>) -> Parsed<Statement>
-    ensures { OnOk result (length cursor.new < length cursor.old) }
+    ensures phrase { IfOk result (λ s. IsStatement (statement_tree s) cursor.old cursor.new) }
+    ensures closed { IfOk result (λ s. IsTrue (ends_open (statement_tree s)) → BeginsWith word_of.Else cursor.new → ⊥) }
+    ensures shorter { OnOk result (length cursor.new < length cursor.old) }
 {
     let at = cursor.keyword(Keyword::If)?;
     let condition = parenthesized(alloc, depth, cursor)?;
@@ -87,7 +104,9 @@ fn conditional(alloc: Global, depth: u32, cursor: &mut Cursor<'_, '_>) -> Parsed
 /// Reads a `while`.
 #[cycle(statement)]
 fn repeated(alloc: Global, depth: u32, cursor: &mut Cursor<'_, '_>) -> Parsed<Statement>
-    ensures { OnOk result (length cursor.new < length cursor.old) }
+    ensures phrase { IfOk result (λ s. IsStatement (statement_tree s) cursor.old cursor.new) }
+    ensures closed { IfOk result (λ s. IsTrue (ends_open (statement_tree s)) → BeginsWith word_of.Else cursor.new → ⊥) }
+    ensures shorter { OnOk result (length cursor.new < length cursor.old) }
 {
     let at = cursor.keyword(Keyword::While)?;
     let condition = parenthesized(alloc, depth, cursor)?;
@@ -98,7 +117,9 @@ fn repeated(alloc: Global, depth: u32, cursor: &mut Cursor<'_, '_>) -> Parsed<St
 /// Reads a `switch`.
 #[cycle(statement)]
 fn switch(alloc: Global, depth: u32, cursor: &mut Cursor<'_, '_>) -> Parsed<Statement>
-    ensures { OnOk result (length cursor.new < length cursor.old) }
+    ensures phrase { IfOk result (λ s. IsStatement (statement_tree s) cursor.old cursor.new) }
+    ensures closed { IfOk result (λ s. ends_open (statement_tree s) ≡ false) }
+    ensures shorter { OnOk result (length cursor.new < length cursor.old) }
 {
     let at = cursor.keyword(Keyword::Switch)?;
     let place = parenthesized(alloc, depth, cursor)?;
@@ -111,7 +132,9 @@ fn switch(alloc: Global, depth: u32, cursor: &mut Cursor<'_, '_>) -> Parsed<Stat
 /// Reads the clauses of a `switch`, of which there is one at least.
 #[cycle(statement)]
 fn clauses(alloc: Global, depth: u32, cursor: &mut Cursor<'_, '_>) -> Parsed<Vec<Clause>>
-    ensures { OnOk result (length cursor.new < length cursor.old) }
+    ensures some { IfOk result (λ clauses. 0 < length clauses.items) }
+    ensures phrase { IfOk result (λ clauses. AreClauses (clauses_of (map clause_tree clauses.items)) cursor.old cursor.new) }
+    ensures shorter { OnOk result (length cursor.new < length cursor.old) }
 {
     let mut clauses = Vec::new(alloc);
     clauses.push(clause(alloc, depth, cursor)?)?;
@@ -124,7 +147,8 @@ fn clauses(alloc: Global, depth: u32, cursor: &mut Cursor<'_, '_>) -> Parsed<Vec
 /// Reads a clause of a `switch`.
 #[cycle(statement)]
 fn clause(alloc: Global, depth: u32, cursor: &mut Cursor<'_, '_>) -> Parsed<Clause>
-    ensures { OnOk result (length cursor.new < length cursor.old) }
+    ensures phrase { IfOk result (λ clause. AreClauses (clauses_of (clause_tree clause ∷ [])) cursor.old cursor.new) }
+    ensures shorter { OnOk result (length cursor.new < length cursor.old) }
 {
     let at = cursor.place();
     let pattern = pattern(alloc, cursor)?;
@@ -135,7 +159,8 @@ fn clause(alloc: Global, depth: u32, cursor: &mut Cursor<'_, '_>) -> Parsed<Clau
 
 /// Reads which members a clause takes.
 fn pattern(alloc: Global, cursor: &mut Cursor<'_, '_>) -> Parsed<Pattern>
-    ensures { OnOk result (length cursor.new < length cursor.old) }
+    ensures phrase { IfOk result (λ pattern. IsPattern (next_place cursor.old) (pattern_tree pattern) cursor.old cursor.new) }
+    ensures shorter { OnOk result (length cursor.new < length cursor.old) }
 {
     if cursor.is_keyword(Keyword::Default) {
         cursor.keyword(Keyword::Default)?;
@@ -153,7 +178,9 @@ fn pattern(alloc: Global, cursor: &mut Cursor<'_, '_>) -> Parsed<Pattern>
 
 /// Reads a statement that holds no other.
 fn simple(alloc: Global, depth: u32, cursor: &mut Cursor<'_, '_>) -> Parsed<Statement>
-    ensures { OnOk result (length cursor.new < length cursor.old) }
+    ensures phrase { IfOk result (λ s. IsStatement (statement_tree s) cursor.old cursor.new) }
+    ensures closed { IfOk result (λ s. ends_open (statement_tree s) ≡ false) }
+    ensures shorter { OnOk result (length cursor.new < length cursor.old) }
 {
     match cursor.kind() {
         Some(TokenKind::Sign(Sign::Semicolon)) => {
@@ -176,7 +203,8 @@ fn simple(alloc: Global, depth: u32, cursor: &mut Cursor<'_, '_>) -> Parsed<Stat
 
 /// Reads a statement of one word, and answers its place.
 fn word(cursor: &mut Cursor<'_, '_>) -> Parsed<u32>
-    ensures { OnOk result (length cursor.new < length cursor.old) }
+    ensures phrase { IfOk result (λ at. (word : Word) → next_kind cursor.old ≡ Some (kind.Keyword word) → IsWordStatement word at cursor.old cursor.new) }
+    ensures shorter { OnOk result (length cursor.new < length cursor.old) }
 {
     let word = cursor.read()?;
     cursor.sign(Sign::Semicolon)?;
@@ -185,7 +213,9 @@ fn word(cursor: &mut Cursor<'_, '_>) -> Parsed<u32>
 
 /// Reads a statement of one word and a name in parentheses, and answers its place and the name.
 fn freed(alloc: Global, cursor: &mut Cursor<'_, '_>) -> Parsed<(u32, Name)>
-    ensures { OnOk result (length cursor.new < length cursor.old) }
+    ensures phrase { IfOk result (λ freed. (word : Word) → next_kind cursor.old ≡ Some (kind.Keyword word)
+        → IsNameStatement word freed.0 (name_tree freed.1) cursor.old cursor.new) }
+    ensures shorter { OnOk result (length cursor.new < length cursor.old) }
 {
     let word = cursor.read()?;
     let name = parenthesized_name(alloc, cursor)?;
@@ -195,7 +225,9 @@ fn freed(alloc: Global, cursor: &mut Cursor<'_, '_>) -> Parsed<(u32, Name)>
 
 /// Reads a `return`, with its result where it has one.
 fn returned(alloc: Global, depth: u32, cursor: &mut Cursor<'_, '_>) -> Parsed<Statement>
-    ensures { OnOk result (length cursor.new < length cursor.old) }
+    ensures phrase { IfOk result (λ s. IsStatement (statement_tree s) cursor.old cursor.new) }
+    ensures closed { IfOk result (λ s. ends_open (statement_tree s) ≡ false) }
+    ensures shorter { OnOk result (length cursor.new < length cursor.old) }
 {
     let at = cursor.keyword(Keyword::Return)?;
     let value = if cursor.is_sign(Sign::Semicolon) {
@@ -209,7 +241,9 @@ fn returned(alloc: Global, depth: u32, cursor: &mut Cursor<'_, '_>) -> Parsed<St
 
 /// Reads an expression that is evaluated, or two between which values are exchanged.
 fn run(alloc: Global, depth: u32, cursor: &mut Cursor<'_, '_>) -> Parsed<Statement>
-    ensures { OnOk result (length cursor.new < length cursor.old) }
+    ensures phrase { IfOk result (λ s. IsStatement (statement_tree s) cursor.old cursor.new) }
+    ensures closed { IfOk result (λ s. ends_open (statement_tree s) ≡ false) }
+    ensures shorter { OnOk result (length cursor.new < length cursor.old) }
 {
     let first = expression(alloc, depth, cursor)?;
     if cursor.is_sign(Sign::Exchange) {

@@ -1,6 +1,10 @@
 // Types, and the regions that they name.
 
-ghost use Rattle.std.specs.Prelude.{◌<◌, ◌≤◌, OnOk, length};
+ghost use Rattle.std.specs.Prelude.{◌≡◌, ◌<◌, ◌≤◌, IfOk, OnOk, length, map};
+ghost use Rattle.cyc_tree.specs.View.{region_tree, base_tree, pointer_tree, type_tree, member_tree};
+ghost use Rattle.cyc_lexer.specs.declared.token.Sign.TheVariants as sign;
+ghost use Rattle.cyc_parser.specs.Phrases.{Tokens, IsSign, IsRegion, Each, Listed};
+ghost use Rattle.cyc_parser.specs.TypeGrammar.{AreRegions, IsOneRegion, IsBase, IsPointerSign, IsPointer, IsType, IsTyped};
 
 use crate::cursor::Cursor;
 use crate::fault::{ParseFault, Parsed};
@@ -11,7 +15,8 @@ use std::alloc::Global;
 
 /// Reads a type.
 pub fn type_name(alloc: Global, cursor: &mut Cursor<'_, '_>) -> Parsed<TypeName>
-    ensures { OnOk result (length cursor.new < length cursor.old) }
+    ensures phrase { IfOk result (λ t. IsType (type_tree t) cursor.old cursor.new) }
+    ensures shorter { OnOk result (length cursor.new < length cursor.old) }
 {
     let at = cursor.place();
     let base = base(alloc, cursor)?;
@@ -20,7 +25,8 @@ pub fn type_name(alloc: Global, cursor: &mut Cursor<'_, '_>) -> Parsed<TypeName>
 
 /// Reads a type and a name: a parameter, or a member without its semicolon.
 pub fn typed_name(alloc: Global, cursor: &mut Cursor<'_, '_>) -> Parsed<Member>
-    ensures { OnOk result (length cursor.new < length cursor.old) }
+    ensures phrase { IfOk result (λ m. IsTyped (member_tree m) cursor.old cursor.new) }
+    ensures shorter { OnOk result (length cursor.new < length cursor.old) }
 {
     let of = type_name(alloc, cursor)?;
     let name = cursor.name(alloc)?;
@@ -29,7 +35,8 @@ pub fn typed_name(alloc: Global, cursor: &mut Cursor<'_, '_>) -> Parsed<Member>
 
 /// Reads what a type begins with.
 fn base(alloc: Global, cursor: &mut Cursor<'_, '_>) -> Parsed<Base>
-    ensures { OnOk result (length cursor.new < length cursor.old) }
+    ensures phrase { IfOk result (λ b. IsBase (base_tree b) cursor.old cursor.new) }
+    ensures shorter { OnOk result (length cursor.new < length cursor.old) }
 {
     let token = cursor.read()?;
     match token.kind {
@@ -58,7 +65,10 @@ fn base(alloc: Global, cursor: &mut Cursor<'_, '_>) -> Parsed<Base>
 
 /// Reads the pointers to a base, as far as they go. The place is the base's.
 pub fn pointed(alloc: Global, at: u32, base: Base, cursor: &mut Cursor<'_, '_>) -> Parsed<TypeName>
-    ensures { OnOk result (length cursor.new ≤ length cursor.old) }
+    ensures place { IfOk result (λ t. t.at ≡ at) }
+    ensures base { IfOk result (λ t. t.base ≡ base) }
+    ensures phrase { IfOk result (λ t. Each IsPointer (map pointer_tree t.pointers.items) cursor.old cursor.new) }
+    ensures shorter { OnOk result (length cursor.new ≤ length cursor.old) }
 {
     let mut pointers = Vec::new(alloc);
     'pointers: while begins_pointer(cursor.kind()) {
@@ -69,7 +79,8 @@ pub fn pointed(alloc: Global, at: u32, base: Base, cursor: &mut Cursor<'_, '_>) 
 
 /// Reads a pointer: its sign, and the region that may stand after it.
 fn pointer(alloc: Global, cursor: &mut Cursor<'_, '_>) -> Parsed<Pointer>
-    ensures { OnOk result (length cursor.new < length cursor.old) }
+    ensures phrase { IfOk result (λ p. IsPointer (pointer_tree p) cursor.old cursor.new) }
+    ensures shorter { OnOk result (length cursor.new < length cursor.old) }
 {
     let sign = pointer_sign(cursor)?;
     let region = if cursor.is_region() {
@@ -82,7 +93,8 @@ fn pointer(alloc: Global, cursor: &mut Cursor<'_, '_>) -> Parsed<Pointer>
 
 /// Reads a pointer's sign.
 fn pointer_sign(cursor: &mut Cursor<'_, '_>) -> Parsed<cyc_tree::Sign>
-    ensures { OnOk result (length cursor.new < length cursor.old) }
+    ensures phrase { IfOk result (λ sign. IsPointerSign sign cursor.old cursor.new) }
+    ensures shorter { OnOk result (length cursor.new < length cursor.old) }
 {
     let token = cursor.read()?;
     match token.kind {
@@ -95,7 +107,8 @@ fn pointer_sign(cursor: &mut Cursor<'_, '_>) -> Parsed<cyc_tree::Sign>
 
 /// Reads the word that may stand after `*`, and answers the sign that the two make.
 fn qualified(cursor: &mut Cursor<'_, '_>) -> Parsed<cyc_tree::Sign>
-    ensures { OnOk result (length cursor.new ≤ length cursor.old) }
+    ensures phrase { (from : Tokens) → IsSign sign.Star from cursor.old → IfOk result (λ word. IsPointerSign word from cursor.new) }
+    ensures shorter { OnOk result (length cursor.new ≤ length cursor.old) }
 {
     let sign = match cursor.kind() {
         Some(TokenKind::Sign(Sign::NotNull)) => cyc_tree::Sign::NotNull,
@@ -109,7 +122,8 @@ fn qualified(cursor: &mut Cursor<'_, '_>) -> Parsed<cyc_tree::Sign>
 
 /// Reads a region name in angle brackets.
 pub fn one_region(alloc: Global, cursor: &mut Cursor<'_, '_>) -> Parsed<RegionName>
-    ensures { OnOk result (length cursor.new < length cursor.old) }
+    ensures phrase { IfOk result (λ r. IsOneRegion (region_tree r) cursor.old cursor.new) }
+    ensures shorter { OnOk result (length cursor.new < length cursor.old) }
 {
     cursor.sign(Sign::Less)?;
     let region = cursor.region(alloc)?;
@@ -119,7 +133,8 @@ pub fn one_region(alloc: Global, cursor: &mut Cursor<'_, '_>) -> Parsed<RegionNa
 
 /// Reads the region names in angle brackets that may stand after a tag.
 pub fn region_list(alloc: Global, cursor: &mut Cursor<'_, '_>) -> Parsed<Vec<RegionName>>
-    ensures { OnOk result (length cursor.new ≤ length cursor.old) }
+    ensures phrase { IfOk result (λ rs. AreRegions (map region_tree rs.items) cursor.old cursor.new) }
+    ensures shorter { OnOk result (length cursor.new ≤ length cursor.old) }
 {
     if !cursor.is_sign(Sign::Less) {
         return Ok(Vec::new(alloc));
@@ -132,7 +147,8 @@ pub fn region_list(alloc: Global, cursor: &mut Cursor<'_, '_>) -> Parsed<Vec<Reg
 
 /// Reads region names with commas between them, of which there is one at least.
 pub fn regions(alloc: Global, cursor: &mut Cursor<'_, '_>) -> Parsed<Vec<RegionName>>
-    ensures { OnOk result (length cursor.new < length cursor.old) }
+    ensures phrase { IfOk result (λ rs. Listed IsRegion (map region_tree rs.items) cursor.old cursor.new) }
+    ensures shorter { OnOk result (length cursor.new < length cursor.old) }
 {
     let mut regions = Vec::new(alloc);
     regions.push(cursor.region(alloc)?)?;

@@ -1,2 +1,3 @@
 pub mod Forms
 pub mod StatementForms
+pub mod PartForms

@@ -1,5 +1,6 @@
 pub mod Tree
 pub mod View
 pub mod Places
+pub mod Nesting
 pub mod StoredNames
 pub mod Stored

@@ -1,5 +1,5 @@
 -- The code of a program has an instruction: it begins with the move of the stack pointer.
-use Rattle.std.proofs.Common.{ℕ, ◌+◌, ◌-◌, ◌≤◌, ◌<◌, ◌%◌, ◌^◌, List, [], ◌∷◌, ◌++◌, Bool, true, false, arith}
+use Rattle.std.proofs.Common.{◌<◌, List, [], ◌∷◌, ◌++◌, Bool, true, false, arith}
 use Rattle.std.specs.Prelude.{if◌then◌else◌}
 use Rattle.rv32_isa.specs.declared.instruction.Instr.{Instr}
 use Rattle.cyc_core.specs.Tree.{Statements}
@@ -7,7 +7,7 @@ use Rattle.cyc_core.specs.declared.operation.Cell.{Cell}
 use Rattle.rv32_select.specs.declared.labelled.Line.{Line}
 use Rattle.rv32_select.specs.declared.labelled.Line.TheVariants.{Plain}
 use Rattle.rv32_select.specs.Selected.{main_code}
-use Rattle.rv32_layout.specs.Placed.{code_length}
+use Rattle.rv32_select.specs.Lines.{code_length}
 
 begins : (is_short : Bool) (only first second third : Instr) (body end : List Line) → 0 < code_length (((if is_short then Plain only ∷ [] else Plain first ∷ Plain second ∷ Plain third ∷ []) ++ body) ++ end)
 begins true only first second third body end = omega arith

@@ -1,1 +1,11 @@
 pub mod Beginnings
+pub mod Longer
+pub mod Implementing
+pub mod Breaking
+pub mod Shorter
+pub mod ExpressionParts
+pub mod StatementParts
+pub mod ProgramParts
+pub mod CodeBounds
+pub mod Refusing
+pub mod Executions

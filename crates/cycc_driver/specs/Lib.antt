@@ -1,2 +1,5 @@
+pub mod Texts
+pub mod Refusals
+pub mod Refused
 pub mod Outcome
 pub mod Evaluated

@@ -1,24 +1,39 @@
 -- What a compiled text is, and what its run is.
-use Rattle.std.specs.Prelude.{◌≡◌, ℕ, ◌<◌, ◌≤◌, ◌%◌, List, [], length, Option}
-use Rattle.cyc_image.specs.Format.{Contents, IsImage, code_limit}
+use Rattle.std.specs.Prelude.{◌≡◌, ℕ, ◌<◌, ◌≤◌, ◌%◌, List, [], ◌++◌, length, Option, None, Contains}
+use Rattle.std.specs.Io.KnownBytes.{Appends}
+use Rattle.cyc_words.specs.Words.{word}
+use Rattle.cyc_words.specs.Events.{ByteRead, SourceEnding, output, visible}
 use Rattle.cyc_tree.specs.Tree.{Program}
-use Rattle.unique_flow.specs.Accepted.{IsAccepted}
-use Rattle.cyc_core.specs.declared.operation.Cell.{Cell}
-use Rattle.cyc_core.specs.Tree.{statements_of}
-use Rattle.cyc_core.specs.Cells.{AreUpTo}
-use Rattle.lower_checks.specs.Lowered.{program_code}
-use Rattle.rv32_select.specs.Selected.{main_code}
-use Rattle.rv32_layout.specs.Placed.{ArePlaced}
+use Rattle.cyc_meaning.specs.Programs.{source}
+use Rattle.cyc_image.specs.Format.{Contents, IsImage, code_limit}
 use Rattle.rv32_machine.specs.Arrays.{Arrays, IsStart, lengths_of, state_of}
 use Rattle.rv32_machine.specs.State.{State}
+use Rattle.rv32_machine.specs.Run.{AreBytes, run_steps, from}
+use Rattle.rv32_machine.specs.Implements.{Meaning, Implements, Reaches}
 use Rattle.cyc_host.specs.declared.ending.Ending.{Ending}
+use Rattle.cyc_host.specs.declared.ending.Ending.TheVariants as ending
 use Rattle.cyc_host.specs.Hosted.{IsHostedToTheEnd}
+use Rattle.cycc_driver.specs.Texts.{IsAcceptedAs}
 
--- The bytes are the code of the program: its lines, by selection from its Core, each in its place. `last` is a cell after which the Core names none.
-pub record IsCodeOf (program : Program) (bytes : List ℕ) : Type 0 where
-  pub last : Cell
-  pub cells : AreUpTo last.0 (program_code program)
-  pub placed : ArePlaced (main_code last (statements_of (program_code program))) bytes
+-- ---- images
+
+-- what a program does on an input
+abbrev pub source_meaning : Program → List ℕ → Meaning
+source_meaning program input = record { events = λ fuel. visible (source program input fuel).events; ending = λ fuel. (source program input fuel).ending }
+
+-- A machine that starts with these parts of an image does what the program does, on each input of bytes.
+abbrev pub IsImplementedBy : Program → Contents → Type 0
+IsImplementedBy program parts =
+    (start : Arrays) → IsStart parts start → (input : List ℕ) → AreBytes input → Implements (lengths_of start) (state_of start) input (source_meaning program input)
+
+-- The image of an accepted text, with so many pages: it implements the program that the text spells.
+pub record IsTextImage (text : List ℕ) (pages : ℕ) (bytes : List ℕ) : Type 0 where
+  pub program : Program
+  pub accepted : IsAcceptedAs text program
+  pub parts : Contents
+  pub image : IsImage bytes parts
+  pub as_asked : parts.pages ≡ pages
+  pub implemented : IsImplementedBy program parts
 
 -- what `compile` puts into an image as its code: whole words, some, and no more than the limit
 pub record IsCode (bytes : List ℕ) : Type 0 where
@@ -26,28 +41,55 @@ pub record IsCode (bytes : List ℕ) : Type 0 where
   pub within : length bytes ≤ code_limit
   pub whole_words : length bytes % 4 ≡ 0
 
--- Parts of an image that begin with the first instruction of a program's code, with no data, since no form is brought yet that needs data, and so many pages.
-pub record ArePartsOf (program : Program) (pages : ℕ) (parts : Contents) : Type 0 where
-  pub code : IsCodeOf program parts.code
-  pub from_first : parts.entry ≡ 0
-  pub no_data : parts.statics ≡ []
+-- ---- runs
+
+-- some of the program's output on an input was written, from its first byte on
+pub record WritesBeginning (program : Program) (input : List ℕ) (old new : Option (List ℕ)) : Type 0 where
+  pub fuel : ℕ
+  pub bytes : List ℕ
+  pub others : List ℕ
+  pub begins : output (visible (source program input fuel).events) ≡ bytes ++ others
+  pub written : Appends old new bytes
+
+-- all of it was written, and the program ends so
+pub record WritesAll (program : Program) (input : List ℕ) (end : SourceEnding) (old new : Option (List ℕ)) : Type 0 where
+  pub fuel : ℕ
+  pub ends : (source program input fuel).ending ≡ end
+  pub written : Appends old new (output (visible (source program input fuel).events))
+
+-- The run ends as the program does on the input, with its output; or it was stopped before, after a beginning of it. No run ends at a fault, and none is refused
+-- anything.
+abbrev pub EndsAsProgram : Ending → Program → List ℕ → Option (List ℕ) → Option (List ℕ) → Type 0
+EndsAsProgram (ending.Ended status) program input old new = WritesAll program input (SourceEnding.Ended (word status)) old new
+EndsAsProgram (ending.Raised kind) program input old new = WritesAll program input (SourceEnding.Raised kind) old new
+EndsAsProgram ending.Exhausted program input old new = ⊥
+EndsAsProgram (ending.Fault fault) program input old new = ⊥
+EndsAsProgram ending.StepLimit program input old new = WritesBeginning program input old new
+EndsAsProgram ending.ReadFault program input old new = WritesBeginning program input old new
+EndsAsProgram ending.WriteFault program input old new = WritesBeginning program input old new
+
+-- a meaning is over
+abbrev pub IsOver : SourceEnding → Type 0
+IsOver (SourceEnding.Ended status) = Unit {0}
+IsOver (SourceEnding.Raised kind) = Unit {0}
+IsOver SourceEnding.Running = ⊥
+IsOver SourceEnding.Stuck = ⊥
+
+-- A run between a reader and a writer of at most so many steps, of the image of an accepted text from its start on.
+pub record IsTextRun (text : List ℕ) (pages steps : ℕ) (why : Ending) (reader_old reader_new writer_old writer_new : Option (List ℕ)) : Type 0 where
+  pub program : Program
+  pub accepted : IsAcceptedAs text program
+  pub parts : Contents
   pub as_asked : parts.pages ≡ pages
-
--- The image of an accepted program, with so many pages.
-pub record IsProgramImage (pages : ℕ) (bytes : List ℕ) : Type 0 where
-  pub program : Program
-  pub accepted : IsAccepted program
-  pub parts : Contents
-  pub image : IsImage bytes parts
-  pub parts_of : ArePartsOf program pages parts
-
--- A run between a reader and a writer of at most so many steps, of the image of an accepted program from its start on.
-pub record IsProgramRun (pages steps : ℕ) (why : Ending) (reader_old reader_new writer_old writer_new : Option (List ℕ)) : Type 0 where
-  pub program : Program
-  pub accepted : IsAccepted program
-  pub parts : Contents
-  pub parts_of : ArePartsOf program pages parts
+  pub implemented : IsImplementedBy program parts
   pub start : Arrays
   pub starts : IsStart parts start
   pub end : State
   pub hosted : IsHostedToTheEnd why (lengths_of start) steps (state_of start) end reader_old reader_new writer_old writer_new
+  -- what is written, on the bytes that the reader gave, is the program's, and the ending is its
+  pub ends : EndsAsProgram why program hosted.hosted.input writer_old writer_new
+  -- The step limit ends it only where more steps were needed: on each input that begins with what was read, and is that where its end was told, the image comes to
+  -- the program's end by no number of steps up to the limit.
+  pub limit : why ≡ ending.StepLimit → (more : List ℕ) → (Contains (run_steps (lengths_of start) hosted.hosted.count (from (state_of start) hosted.hosted.input)).events (ByteRead None) → more ≡ [])
+      → (fuel count : ℕ) → IsOver (source program (hosted.hosted.input ++ more) fuel).ending
+      → Reaches (run_steps (lengths_of start) count (from (state_of start) (hosted.hosted.input ++ more))) (source_meaning program (hosted.hosted.input ++ more)) fuel → steps < count

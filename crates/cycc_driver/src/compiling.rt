@@ -1,7 +1,13 @@
 // From a text to an image.
 
-ghost use Rattle.std.specs.Prelude.{◌≡◌, ◌≤◌, IfOk};
-ghost use Rattle.cycc_driver.specs.Outcome.{IsCode, IsCodeOf, IsProgramImage};
+ghost use Rattle.std.specs.Prelude.{◌≡◌, ◌≤◌, IfOk, IfErr};
+ghost use Rattle.cyc_tree.specs.Tree.{Program};
+ghost use Rattle.cyc_image.specs.Format.{Contents, Fits};
+ghost use Rattle.unique_flow.specs.Accepted.{IsAccepted};
+ghost use Rattle.cycc_driver.specs.Texts.{IsTextOf, IsAcceptedAs};
+ghost use Rattle.cycc_driver.specs.Refusals.{IsRefusedFor, HasNoImageFor};
+ghost use Rattle.cycc_driver.specs.Refused.{HasNoCodeFor};
+ghost use Rattle.cycc_driver.specs.Outcome.{IsCode, IsImplementedBy, IsTextImage};
 
 use crate::fault::{CompileFault, Place, of_checking, of_flow, of_lexing, of_parsing};
 use cyc_image::{Parts, write};
@@ -17,7 +23,10 @@ use std::alloc::Global;
 use unique_flow::{Checked, flow};
 
 /// The program that a text spells.
-pub(crate) fn parsed(alloc: Global, text: &[u8]) -> Result<Program, CompileFault> {
+pub(crate) fn parsed(alloc: Global, text: &[u8]) -> Result<Program, CompileFault>
+    ensures found { IfOk result (λ program. IsTextOf text.now program) }
+    ensures refused { IfErr result (λ fault. IsRefusedFor fault text.now) }
+{
     let tokens = match tokens(alloc, text) {
         Ok(tokens) => tokens,
         Err(fault) => return Err(of_lexing(text, fault)),
@@ -34,7 +43,9 @@ pub(crate) fn checked<'p>(
     text: &[u8],
     program: &'p Program,
 ) -> Result<Checked<'p>, CompileFault>
-    ensures { IfOk result (λ c. c ≡ program.entry.now) }
+    ensures same { IfOk result (λ c. c ≡ program.entry.now) }
+    ensures accepted { IfOk result (λ _. IsAccepted program.entry.now) }
+    ensures refused { IsTextOf text.now program.entry.now → IfErr result (λ fault. IsRefusedFor fault text.now) }
 {
     let typed = typed(alloc, program)?;
     let effected = match effects(alloc, typed) {
@@ -49,7 +60,12 @@ pub(crate) fn checked<'p>(
 
 /// Whether a text is accepted. Refuses it with the first fault of the first phase that has one: the
 /// tokens, the grammar, names and types, and flow. `Memory` comes where no host memory is left.
-pub fn check(alloc: Global, text: &[u8]) -> Result<(), CompileFault> {
+pub fn check(alloc: Global, text: &[u8]) -> Result<(), CompileFault>
+    // the text spells a program in which no rule is broken
+    ensures accepted { IfOk result (λ _. (program : Program) × IsAcceptedAs text.now program) }
+    // its tokens are none, at the place, or it spells a program whose first fault is this one, at the place
+    ensures refused { IfErr result (λ fault. IsRefusedFor fault text.now) }
+{
     let program = parsed(alloc, text)?;
     checked(alloc, text, &program)?;
     Ok(())
@@ -58,7 +74,9 @@ pub fn check(alloc: Global, text: &[u8]) -> Result<(), CompileFault> {
 /// The code of an accepted program.
 fn code_of(alloc: Global, checked: &Checked<'_>) -> Result<Code, CompileFault>
     ensures code { IfOk result (λ code. IsCode code.bytes.items) }
-    ensures program { IfOk result (λ code. IsCodeOf checked.now code.bytes.items) }
+    // an image with this code implements the program
+    ensures implemented { IfOk result (λ code. (parts : Contents) → parts.code ≡ code.bytes.items → parts.entry ≡ 0 → Fits parts → IsImplementedBy checked.now parts) }
+    ensures refused { IfErr result (λ fault. HasNoCodeFor fault checked.now) }
 {
     let core = lower(alloc, checked)?;
     let labelled = select(alloc, &core)?;
@@ -78,11 +96,17 @@ fn code_of(alloc: Global, checked: &Checked<'_>) -> Result<Code, CompileFault>
 pub fn compile(alloc: Global, text: &[u8], pages: u32) -> Result<Vec<u8>, CompileFault>
     requires some { 1 ≤ pages }
     requires within { pages ≤ 4096 }
-    ensures { IfOk result (λ bytes. IsProgramImage pages bytes.items) }
+    // the image implements the program that the text spells
+    ensures implemented { IfOk result (λ bytes. IsTextImage text.now pages bytes.items) }
+    // the fault is that of `check`, or the code of an accepted text is too large
+    ensures refused { IfErr result (λ fault. HasNoImageFor fault text.now) }
 {
     let program = parsed(alloc, text)?;
     let checked = checked(alloc, text, &program)?;
-    let code = code_of(alloc, &checked)?;
+    let code = match code_of(alloc, &checked) {
+        Ok(code) => code,
+        Err(fault) => return Err(fault),
+    };
     let parts = Parts {
         entry: 0,
         code: &code.bytes,

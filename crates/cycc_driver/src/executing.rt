@@ -1,7 +1,8 @@
 // Runs of a text.
 
-ghost use Rattle.std.specs.Prelude.{◌≤◌, IfOk};
-ghost use Rattle.cycc_driver.specs.Outcome.{IsProgramRun};
+ghost use Rattle.std.specs.Prelude.{◌≤◌, IfOk, IfErr};
+ghost use Rattle.cycc_driver.specs.Refusals.{HasNoImageFor};
+ghost use Rattle.cycc_driver.specs.Outcome.{IsTextRun};
 
 use crate::compiling::compile;
 use crate::fault::CompileFault;
@@ -31,9 +32,11 @@ pub fn execute<R: Input, W: Output>(
 ) -> Result<Ending, CompileFault>
     requires some { 1 ≤ limits.pages }
     requires within { limits.pages ≤ 4096 }
-    // what is written is the output of a run of the image, on the bytes that the reader gave, and the ending is that run's
-    ensures { IfOk result (λ ending. IsProgramRun limits.pages limits.steps ending
+    // what is written is the program's output on the bytes that the reader gave, and the ending is its; or the run was stopped after a beginning of it
+    ensures run { IfOk result (λ ending. IsTextRun text.now limits.pages limits.steps ending
         (R.remaining reader.old) (R.remaining reader.new) (W.contents writer.old) (W.contents writer.new)) }
+    // the fault is that of `compile`
+    ensures refused { IfErr result (λ fault. HasNoImageFor fault text.now) }
 {
     let bytes = compile(alloc, text, limits.pages)?;
     let image = match load(alloc, &bytes) {

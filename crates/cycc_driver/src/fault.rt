@@ -3,6 +3,7 @@
 ghost use Rattle.std.specs.Prelude.{◌≡◌};
 ghost use Rattle.cycc_driver.specs.declared.fault.CompileFault.TheVariants.{Memory};
 ghost use Rattle.cyc_lexer.specs.Places.{line_of, column_of};
+ghost use Rattle.cycc_driver.specs.Refused.{IsOfLexing, IsOfParsing, IsOfChecking};
 
 use cyc_lexer::{LexFault, place_of};
 use cyc_parser::ParseFault;
@@ -131,7 +132,9 @@ impl From<AllocError> for CompileFault {
 }
 
 /// A fault of the tokens, with its place in the text.
-pub fn of_lexing(text: &[u8], fault: LexFault) -> CompileFault {
+pub fn of_lexing(text: &[u8], fault: LexFault) -> CompileFault
+    ensures { IsOfLexing text.now fault result }
+{
     match fault {
         LexFault::Lex(at) => CompileFault::Lex(Place::at(text, at)),
         LexFault::Memory => CompileFault::Memory,
@@ -139,7 +142,9 @@ pub fn of_lexing(text: &[u8], fault: LexFault) -> CompileFault {
 }
 
 /// A fault of the grammar, with its place in the text.
-pub fn of_parsing(text: &[u8], fault: ParseFault) -> CompileFault {
+pub fn of_parsing(text: &[u8], fault: ParseFault) -> CompileFault
+    ensures { IsOfParsing fault result }
+{
     match fault {
         ParseFault::Parse(at) => CompileFault::Parse(Place::at(text, at)),
         ParseFault::TooDeep(at) => CompileFault::TooDeep(Place::at(text, at)),
@@ -148,7 +153,9 @@ pub fn of_parsing(text: &[u8], fault: ParseFault) -> CompileFault {
 }
 
 /// A fault of names, types, regions or effects, with its place in the text.
-pub fn of_checking(text: &[u8], fault: CheckFault) -> CompileFault {
+pub fn of_checking(text: &[u8], fault: CheckFault) -> CompileFault
+    ensures { IsOfChecking text.now fault result }
+{
     match fault {
         CheckFault::Broken(fault) => {
             let place = Place::at(text, fault.at);

@@ -14,3 +14,9 @@ pub mod SameStatements
 pub mod SameDeclarations
 pub mod EachStatement
 pub mod SameProgram
+pub mod NeverStuck
+pub mod InLoops
+pub mod MainAlone
+pub mod InOrder
+pub mod ExpressionCells
+pub mod StatementCells

@@ -6,7 +6,9 @@
 #![tactic(auto)]
 
 mod expression;
+mod laws;
 mod program;
 mod statement;
 
+pub use laws::never_stuck;
 pub use program::lower;

@@ -1,8 +1,10 @@
 // Programs.
 
-ghost use Rattle.std.specs.Prelude.{◌≡◌, IfOk};
+ghost use Rattle.std.specs.Prelude.{◌≡◌, ◌<◌, IfOk};
 ghost use Rattle.cyc_tree.specs.View.{function_tree};
-ghost use Rattle.cyc_core.specs.Cells.{AreUpTo};
+ghost use Rattle.cyc_core.specs.Tree.{statements_of};
+ghost use Rattle.cyc_core.specs.Cells.{AreUpTo, IsLeastFor, operations_of};
+ghost use Rattle.cyc_core.specs.Orderly.{IsNeverStuck};
 ghost use Rattle.lower_checks.specs.Agreeing.{DoesAsSource};
 ghost use Rattle.unique_flow.specs.Accepted.{IsAccepted};
 ghost use Rattle.lower_checks.specs.Lowered.{main_code, program_code};
@@ -18,6 +20,7 @@ use unique_flow::Checked;
 fn lower_main(alloc: Global, function: &Function) -> Result<Core, AllocError>
     ensures code { IfOk result (λ core. core.main.body ≡ main_code (function_tree function.now)) }
     ensures cells { IfOk result (λ core. AreUpTo core.main.last.0 core.main.body) }
+    ensures least { IfOk result (λ core. IsLeastFor core.main.last.0 core.main.body) }
 {
     let mut body = Body::new(alloc);
     let mut scope = Scope::new(alloc);
@@ -35,6 +38,7 @@ fn lower_program(alloc: Global, checked: &Checked<'_>) -> Result<Core, AllocErro
     ensures accepted { IsAccepted checked.now }
     ensures code { IfOk result (λ core. core.main.body ≡ program_code checked.now) }
     ensures cells { IfOk result (λ core. AreUpTo core.main.last.0 core.main.body) }
+    ensures least { IfOk result (λ core. IsLeastFor core.main.last.0 core.main.body) }
 {
     let [item] = checked.program().items() else {
         unreachable!()
@@ -50,8 +54,12 @@ pub fn lower(alloc: Global, checked: &Checked<'_>) -> Result<Core, AllocError>
     ensures code { IfOk result (λ core. core.main.body ≡ program_code checked.now) }
     // the function does what the program does, on each input and with each amount of fuel
     ensures meaning { IfOk result (λ core. DoesAsSource checked.now core.main.body) }
+    // no run of it is out of order
+    ensures never_stuck { IfOk result (λ core. IsNeverStuck (statements_of core.main.body)) }
     // the function has all cells that its operations name
     ensures cells { IfOk result (λ core. AreUpTo core.main.last.0 core.main.body) }
+    // it has no more cells than operations
+    ensures few { IfOk result (λ core. core.main.last.0 < operations_of (statements_of core.main.body)) }
 {
     lower_program(alloc, checked)
 }

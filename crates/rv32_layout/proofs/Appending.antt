@@ -4,7 +4,8 @@ use Rattle.rv32_isa.specs.declared.instruction.Instr.{Instr}
 use Rattle.rv32_isa.specs.declared.instruction.Instr.TheVariants.{Jal, Bne}
 use Rattle.rv32_select.specs.declared.labelled.Line.{Line}
 use Rattle.rv32_select.specs.declared.labelled.Line.TheVariants.{Plain, Label, Jump, JumpIfZero}
-use Rattle.rv32_layout.specs.Placed.{size_of, offset_to, instructions_of, instructions_from, AreWords}
+use Rattle.rv32_layout.specs.Placed.{AreWords}
+use Rattle.rv32_select.specs.Lines.{size_of, offset_to, instructions_of, instructions_from}
 use Rattle.rv32_layout.specs.Placing.{Appends}
 
 pub AreWords-append : (first second : List Instr) (a b : List ℕ) → AreWords first a → AreWords second b → AreWords (first ++ second) (a ++ b)

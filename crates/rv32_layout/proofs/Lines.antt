@@ -4,7 +4,7 @@ use Rattle.std.proofs.lemmas.List.{drop_more}
 use Rattle.std.proofs.lemmas.Bool.Decides.{nat_tests}
 use Rattle.rv32_select.specs.declared.labelled.Line.{Line}
 use Rattle.rv32_select.specs.declared.labelled.Line.TheVariants.{Plain, Label, Jump, JumpIfZero}
-use Rattle.rv32_layout.specs.Placed.{code_length, place_of}
+use Rattle.rv32_select.specs.Lines.{code_length, place_of}
 
 -- the lines from one on
 pub drop_here : (lines : List Line) (i : ℕ) (line : Line) → i < length lines → line ≡ get_or lines i line → drop i lines ≡ line ∷ drop (i + 1) lines

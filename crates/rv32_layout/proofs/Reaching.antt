@@ -3,7 +3,8 @@ use Rattle.std.proofs.Common.{◌≡◌, ℕ, ◌+◌, ◌≤◌, ◌≢◌, ◌
 use Rattle.std.proofs.lemmas.Bool.{cases_lt}
 use Rattle.rv32_select.specs.declared.labelled.Line.{Line}
 use Rattle.rv32_select.specs.declared.labelled.Line.TheVariants.{Plain, Label, Jump, JumpIfZero}
-use Rattle.rv32_layout.specs.Placed.{code_limit, size_of, code_length, place_of}
+use Rattle.rv32_layout.specs.Placed.{code_limit}
+use Rattle.rv32_select.specs.Lines.{size_of, code_length, place_of}
 use Rattle.rv32_layout.specs.Placing.{IsInReach, Reaches}
 use Rattle.rv32_layout.specs.Reach.{first_jump, IsFirstJumpToEnd, IsTooFar}
 use Rattle.rv32_layout.proofs.Lines.{length_is_of_words, place_is_of_words, place-le-length}

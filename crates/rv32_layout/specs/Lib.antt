@@ -1,3 +1,4 @@
 pub mod Placed
 pub mod Placing
 pub mod Reach
+pub mod Holding

@@ -3,7 +3,8 @@
 use Rattle.std.specs.Prelude.{◌≡◌, ℕ, List, [], ◌∷◌, Option, None, Some}
 use Rattle.rv32_select.specs.declared.labelled.Line.{Line}
 use Rattle.rv32_select.specs.declared.labelled.Line.TheVariants.{Plain, Label, Jump, JumpIfZero}
-use Rattle.rv32_layout.specs.Placed.{code_limit, code_length, place_of}
+use Rattle.rv32_layout.specs.Placed.{code_limit}
+use Rattle.rv32_select.specs.Lines.{code_length, place_of}
 
 -- the label of the jump that is the first instruction, if that is a jump
 abbrev pub first_jump : List Line → Option ℕ

@@ -1,8 +1,10 @@
 // Placed code.
 
 ghost use Rattle.std.specs.Prelude.{◌≡◌, ◌≤◌, ◌<◌, ◌↔◌, Err, IfOk, vec_len};
-ghost use Rattle.rv32_layout.specs.Placed.{code_limit, code_length, ArePlaced};
+ghost use Rattle.rv32_layout.specs.Placed.{code_limit, ArePlaced};
+ghost use Rattle.rv32_select.specs.Lines.{code_length, labels_placed, AreOnce};
 ghost use Rattle.rv32_layout.specs.Reach.{IsTooFar};
+ghost use Rattle.rv32_layout.specs.Holding.{BeginsWith};
 
 use crate::fault::LayoutFault;
 use crate::length::length;
@@ -24,6 +26,8 @@ pub fn place(alloc: Global, labelled: &Labelled) -> Result<Code, LayoutFault>
     ensures placed { IfOk result (λ code. ArePlaced labelled.now.lines.items code.bytes.items) }
     ensures length { IfOk result (λ code. vec_len code.bytes ≡ code_length labelled.now.lines.items) }
     ensures within { IfOk result (λ code. vec_len code.bytes ≤ code_limit) }
+    // a machine that starts with the code begins with the lines, where no label is placed twice
+    ensures begins { IfOk result (λ code. AreOnce (labels_placed labelled.now.lines.items) → BeginsWith labelled.now.lines.items code.bytes.items) }
     ensures too_large { (result ≡ Err LayoutFault.TooLarge) ↔ (code_limit < code_length labelled.now.lines.items) }
     ensures too_far { (result ≡ Err LayoutFault.TooFar) ↔ IsTooFar labelled.now.lines.items }
 {

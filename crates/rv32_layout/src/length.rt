@@ -1,7 +1,8 @@
 // How long the code of lines is.
 
 ghost use Rattle.std.specs.Prelude.{◌≡◌, ◌≤◌, ◌<◌, ◌↔◌, None, IfSome};
-ghost use Rattle.rv32_layout.specs.Placed.{code_limit, size_of, code_length};
+ghost use Rattle.rv32_layout.specs.Placed.{code_limit};
+ghost use Rattle.rv32_select.specs.Lines.{size_of, code_length};
 
 use rv32_select::{Labelled, Line};
 

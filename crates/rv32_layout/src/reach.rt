@@ -1,7 +1,8 @@
 // The one jump that would go too far.
 
 ghost use Rattle.std.specs.Prelude.{◌≡◌, ◌≤◌, ◌↔◌, IsTrue};
-ghost use Rattle.rv32_layout.specs.Placed.{code_limit, code_length, place_of};
+ghost use Rattle.rv32_layout.specs.Placed.{code_limit};
+ghost use Rattle.rv32_select.specs.Lines.{code_length, place_of};
 ghost use Rattle.rv32_layout.specs.Reach.{first_jump, IsFirstJumpToEnd};
 
 use crate::length::{CODE_LIMIT, size};

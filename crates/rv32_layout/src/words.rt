@@ -2,7 +2,8 @@
 
 ghost use Rattle.std.specs.Prelude.{◌≡◌, ◌+◌, ◌∷◌, [], pos, ◌≤◌, vec_len, OnOk, IfOk};
 ghost use Rattle.rv32_isa.specs.declared.instruction.Instr.TheVariants.{Jal, Bne};
-ghost use Rattle.rv32_layout.specs.Placed.{code_limit, code_length, place_of, word_bytes, offset_to, instructions_of, ArePlaced};
+ghost use Rattle.rv32_layout.specs.Placed.{code_limit, word_bytes, ArePlaced};
+ghost use Rattle.rv32_select.specs.Lines.{code_length, place_of, offset_to, instructions_of};
 ghost use Rattle.rv32_layout.specs.Placing.{place_in, IsInReach, Reaches, Appends};
 ghost use Rattle.rv32_layout.specs.Reach.{IsFirstJumpToEnd};
 

@@ -3,6 +3,8 @@ pub mod Step
 pub mod Run
 pub mod Arrays
 pub mod Places
+pub mod Audit
+pub mod Implements
 pub use Rattle.cyc_words.specs.Words
 pub use Rattle.cyc_words.specs.Events
 pub use Rattle.rv32_isa.specs.Table

@@ -1,1 +1,3 @@
 pub mod Selected
+pub mod Lines
+pub mod Running

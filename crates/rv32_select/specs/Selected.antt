@@ -137,7 +137,7 @@ abbrev pub call_code : ℕ → List Line
 call_code number = constant_code number_register number ++ (Plain Ecall ∷ [])
 
 abbrev pub operation_code : Operation → List Line
-operation_code (Constant to word) = constant_code result_register word ++ save_code result_register (slot_of to)
+operation_code (Constant to word) = constant_code result_register (word % 2 ^ 32) ++ save_code result_register (slot_of to)
 operation_code (Move to from) = load_code result_register (slot_of from) ++ save_code result_register (slot_of to)
 operation_code (Binary operation to left right) =
     load_code result_register (slot_of left) ++ load_code operand_register (slot_of right) ++ binary_code operation ++

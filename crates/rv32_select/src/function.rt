@@ -1,8 +1,11 @@
 // Instructions for a function.
 
-ghost use Rattle.std.specs.Prelude.{◌≡◌, ◌-◌, ◌%◌, ◌^◌, ◌++◌, IfOk, OnOk};
+ghost use Rattle.std.specs.Prelude.{◌≡◌, ◌+◌, ◌-◌, ◌%◌, ◌^◌, ◌*◌, ◌≤◌, ◌++◌, IfOk, OnOk};
 ghost use Rattle.cyc_core.specs.Tree.{statements_of};
+ghost use Rattle.cyc_core.specs.Cells.{AllUpTo, operations_of, parts_of};
 ghost use Rattle.rv32_select.specs.Selected.{frame_bytes, main_code};
+ghost use Rattle.rv32_select.specs.Running.{DoesAsCore};
+ghost use Rattle.rv32_select.specs.Lines.{code_length, labels_placed, AreOnce};
 
 use crate::emit::{put_lines, put_stack_move};
 use crate::labelled::{Labelled, Line};
@@ -36,8 +39,18 @@ fn put_main(lines: &mut Vec<Line>, function: &Function) -> Result<(), AllocError
 }
 
 /// The instructions of a lowered program. Fails only where no host memory is left.
+#[tactic(auto, using(crate::proofs::Labels::main_labels_once, crate::proofs::LongCodes::main_long, crate::proofs::ShortCodes::main_short, crate::proofs::Whole::does_as_core))]
 pub fn select(alloc: Global, core: &Core) -> Result<Labelled, AllocError>
-    ensures { IfOk result (λ labelled. labelled.lines.items ≡ main_code core.now.main.last (statements_of core.now.main.body)) }
+    ensures code { IfOk result (λ labelled. labelled.lines.items ≡ main_code core.now.main.last (statements_of core.now.main.body)) }
+    // no label is placed twice
+    ensures once { IfOk result (λ labelled. AreOnce (labels_placed labelled.lines.items)) }
+    // a machine that begins with the lines does what the function does, which names no cell after its last
+    ensures meaning { IfOk result (λ labelled. AllUpTo core.now.main.last.0 (statements_of core.now.main.body)
+        → DoesAsCore core.now.main.last (statements_of core.now.main.body) labelled.lines.items) }
+    // each operation takes eight bytes at least
+    ensures long { IfOk result (λ labelled. 8 * operations_of (statements_of core.now.main.body) ≤ code_length labelled.lines.items) }
+    // each statement takes 64 bytes at most, and the frame as many
+    ensures short { IfOk result (λ labelled. code_length labelled.lines.items ≤ 64 * parts_of (statements_of core.now.main.body) + 64) }
 {
     let mut lines = Vec::new(alloc);
     put_main(&mut lines, &core.main)?;

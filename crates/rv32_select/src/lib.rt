@@ -2,7 +2,8 @@
 //!
 //! Each cell of a function has a slot of its frame, four bytes above the stack pointer for each cell below it. An
 //! operation loads its cells into registers, works there, and saves the result. A choice and a loop are jumps to
-//! labels. The lines are those of `main_code` in specs/Selected.antt. Stands on `cyc_core` and `rv32_isa`.
+//! labels. The lines are those of `main_code` in specs/Selected.antt, and a machine that begins with them does what the
+//! Core does. Stands on `cyc_core` and `rv32_isa`, and its promise on the definitions of `rv32_machine`.
 #![tactic(auto)]
 
 mod emit;

@@ -145,7 +145,7 @@ steps-preserved g c =
             writes = omega arith;
             lengths = w.give.ensures.lengths ∙ w.in-Get.ensures.lengths ∙ i.lengths;
             going = inr (runs_at_answer w.in-Ok.answer x w.give.ensures.state);
-            progress = subst (Progress _ _ _ _ _ _ _ _ _) (sym w.flush.ensures.empty) (answered flushed _ _ _ _ _ x w.in-Ok.ensures.answer w.give.ensures.state);
+            progress = subst (Progress _ _ _ _ _ _ _ _ _) (sym w.flush.ensures.empty) (answered flushed _ _ _ _ _ x w.in-Ok.ensures.answer (search rules) w.give.ensures.state);
           })
     ]
 

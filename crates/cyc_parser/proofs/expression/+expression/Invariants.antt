@@ -1,5 +1,11 @@
-use Rattle.std.proofs.Common.{◌≤◌, length, ◌+◌, ◌*◌}
-use Rattle.cyc_parser.specs.Levels.{levels_from, levels_left}
+use Rattle.std.proofs.Common.{◌≤◌, length, map, option_map, ◌+◌, ◌*◌}
+use Rattle.cyc_lexer.specs.declared.token.Sign.TheVariants as sign
+use Rattle.cyc_tree.specs.View.{name_tree, expression_tree, link_tree, suffix_tree, expressions_of, links_of, suffixes_of}
+use Rattle.cyc_parser.specs.ExpressionGrammar.{IsExpression, binds, AreOperands, AreLinks, AreSuffixes}
+use Rattle.cyc_parser.specs.Phrases.{Tokens, IsSign}
+use Rattle.cyc_parser.specs.Levels.{levels_from, levels_left, number_of}
+use Rattle.cyc_parser.specs.Parts.{MayBeMember}
+use Rattle.cyc_parser.proofs.ExpressionLists.{AreListed}
 use Rattle.cyc_parser.proofs.expression.+expression.Given as goal
 
 abbrev pub decreases-expression : goal.decreases-expression
@@ -12,7 +18,12 @@ abbrev pub decreases-any_of : goal.decreases-any_of
 decreases-any_of l = 64 * l.depth + 62
 
 abbrev pub invariant-any_of-others : goal.invariant-any_of-others
-invariant-any_of-others l = length l.cursor ≤ length l.initial.cursor
+invariant-any_of-others l = record {
+  first : IsExpression (expression_tree l.first) l.fn.cursor l.initial.cursor;
+  binds_first : 2 ≤ binds (expression_tree l.first);
+  shorter : length l.cursor ≤ length l.initial.cursor;
+  read : AreOperands sign.OrOr 2 (expressions_of (map expression_tree l.others.items)) l.initial.cursor l.cursor;
+}
 
 abbrev pub decreases-any_of-others : goal.decreases-any_of-others
 decreases-any_of-others l = length l.cursor
@@ -21,7 +32,12 @@ abbrev pub decreases-all_of : goal.decreases-all_of
 decreases-all_of l = 64 * l.depth + 61
 
 abbrev pub invariant-all_of-others : goal.invariant-all_of-others
-invariant-all_of-others l = length l.cursor ≤ length l.initial.cursor
+invariant-all_of-others l = record {
+  first : IsExpression (expression_tree l.first) l.fn.cursor l.initial.cursor;
+  binds_first : 3 ≤ binds (expression_tree l.first);
+  shorter : length l.cursor ≤ length l.initial.cursor;
+  read : AreOperands sign.AndAnd 3 (expressions_of (map expression_tree l.others.items)) l.initial.cursor l.cursor;
+}
 
 abbrev pub decreases-all_of-others : goal.decreases-all_of-others
 decreases-all_of-others l = length l.cursor
@@ -33,7 +49,10 @@ abbrev pub decreases-links : goal.decreases-links
 decreases-links l = 64 * l.depth + 9 + 4 * levels_from l.level
 
 abbrev pub invariant-links-links : goal.invariant-links-links
-invariant-links-links l = length l.cursor ≤ length l.fn.cursor
+invariant-links-links l = record {
+  shorter : length l.cursor ≤ length l.fn.cursor;
+  read : AreLinks (number_of l.level) (links_of (map link_tree l.links.items)) l.fn.cursor l.cursor;
+}
 
 abbrev pub decreases-links-links : goal.decreases-links-links
 decreases-links-links l = length l.cursor
@@ -72,7 +91,10 @@ abbrev pub decreases-arguments : goal.decreases-arguments
 decreases-arguments l = 64 * l.depth + 10
 
 abbrev pub invariant-arguments-more : goal.invariant-arguments-more
-invariant-arguments-more l = length l.cursor ≤ length l.initial.cursor
+invariant-arguments-more l = record {
+  shorter : length l.cursor ≤ length l.initial.cursor;
+  read : (a : Tokens) × IsSign sign.LeftParenthesis l.fn.cursor a × AreListed (expressions_of (map expression_tree l.arguments.items)) a l.cursor;
+}
 
 abbrev pub decreases-arguments-more : goal.decreases-arguments-more
 decreases-arguments-more l = length l.cursor
@@ -81,7 +103,11 @@ abbrev pub decreases-suffixes : goal.decreases-suffixes
 decreases-suffixes l = 64 * l.depth + 20
 
 abbrev pub invariant-suffixes-more : goal.invariant-suffixes-more
-invariant-suffixes-more l = length l.cursor ≤ length l.fn.cursor
+invariant-suffixes-more l = record {
+  shorter : length l.cursor ≤ length l.fn.cursor;
+  read : (from : Tokens) → MayBeMember (option_map name_tree l.fn.member) from l.fn.cursor
+      → AreSuffixes (suffixes_of (map suffix_tree l.suffixes.items)) from l.cursor;
+}
 
 abbrev pub decreases-suffixes-more : goal.decreases-suffixes-more
 decreases-suffixes-more l = length l.cursor

@@ -1,5 +1,6 @@
 use Rattle.std.proofs.Common.{◌≡◌, ◌+◌, ◌≤◌, drop}
-use Rattle.rv32_layout.specs.Placed.{code_limit, code_length}
+use Rattle.rv32_layout.specs.Placed.{code_limit}
+use Rattle.rv32_select.specs.Lines.{code_length}
 use Rattle.rv32_layout.proofs.length.length.Given as goal
 
 abbrev pub invariant-each : goal.invariant-each

@@ -1,6 +1,6 @@
 use Rattle.std.proofs.Common.{◌≡◌, ℕ, ◌+◌, drop, nat_eq, unwrap_or}
 use Rattle.indexmap.specs.IndexMap.{get}
-use Rattle.rv32_layout.specs.Placed.{code_length, place_of}
+use Rattle.rv32_select.specs.Lines.{code_length, place_of}
 use Rattle.rv32_layout.proofs.places.find_places.Given as goal
 
 abbrev pub invariant-each : goal.invariant-each

@@ -1,5 +1,5 @@
 use Rattle.std.proofs.Common.{◌≡◌, ◌+◌, drop}
-use Rattle.rv32_layout.specs.Placed.{code_length, place_of}
+use Rattle.rv32_select.specs.Lines.{code_length, place_of}
 use Rattle.rv32_layout.proofs.reach.place_of.Given as goal
 
 abbrev pub invariant-each : goal.invariant-each

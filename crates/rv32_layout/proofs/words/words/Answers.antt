@@ -1,6 +1,7 @@
 use Rattle.std.proofs.Common.{◌≡◌, ◌<◌, ◌+◌, [], length, drop, arith, refl, sym, ap, subst, ◌∙◌, append-nil, vec_len}
 use Rattle.std.proofs.lemmas.List.{drop_all}
-use Rattle.rv32_layout.specs.Placed.{size_of, code_length, place_of, instructions_from, AreWords, ArePlaced}
+use Rattle.rv32_layout.specs.Placed.{AreWords, ArePlaced}
+use Rattle.rv32_select.specs.Lines.{size_of, code_length, place_of, instructions_from}
 use Rattle.rv32_layout.specs.Placing.{place_in}
 use Rattle.rv32_layout.specs.Reach.{first_jump}
 use Rattle.rv32_layout.proofs.Lines.{drop_here}

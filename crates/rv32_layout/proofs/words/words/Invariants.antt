@@ -1,5 +1,6 @@
 use Rattle.std.proofs.Common.{◌≡◌, ℕ, ◌+◌, List, ◌++◌, drop, vec_len}
-use Rattle.rv32_layout.specs.Placed.{code_length, place_of, instructions_from, AreWords, ArePlaced}
+use Rattle.rv32_layout.specs.Placed.{AreWords, ArePlaced}
+use Rattle.rv32_select.specs.Lines.{code_length, place_of, instructions_from}
 use Rattle.rv32_layout.specs.Reach.{first_jump}
 use Rattle.rv32_layout.proofs.words.words.Given as goal
 

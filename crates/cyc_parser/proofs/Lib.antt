@@ -1,0 +1,10 @@
+pub mod NextToken
+pub mod Vectors
+pub mod ExpressionLists
+pub mod ExpressionForms
+pub mod Chains
+pub mod StatementLists
+pub mod StatementForms
+pub mod ItemParts
+pub mod Listing
+pub mod OneToken

@@ -1,0 +1,29 @@
+-- A program's first fault as that of its text.
+use Rattle.std.proofs.Common.{◌≡◌, ℕ, List, Some, refl, sym, subst}
+use Rattle.cyc_tree.specs.Tree.{Program}
+use Rattle.region_types.specs.Faults.{first_fault}
+use Rattle.region_types.specs.declared.fault.Fault.{Fault}
+use Rattle.region_types.specs.declared.fault.FaultKind.{FaultKind}
+use Rattle.region_types.specs.declared.fault.FaultKind.TheVariants as kind
+use Rattle.effect_check.specs.declared.fault.CheckFault.{CheckFault}
+use Rattle.effect_check.specs.declared.fault.CheckFault.TheVariants as check
+use Rattle.cycc_driver.specs.declared.fault.Place.{Place}
+use Rattle.cycc_driver.specs.declared.fault.CompileFault.{CompileFault}
+use Rattle.cycc_driver.specs.Texts.{IsTextOf}
+use Rattle.cycc_driver.specs.Refusals.{IsBroken, IsRefusedFor}
+use Rattle.cycc_driver.specs.Refused.{form_of, IsOfChecking}
+
+by_kind : (text : List ℕ) (k : FaultKind) (place : Place) → IsBroken text k place → IsRefusedFor (form_of k place) text
+by_kind text kind.Name place broken = broken
+by_kind text kind.Typing place broken = broken
+by_kind text kind.Region place broken = broken
+by_kind text kind.Outlives place broken = broken
+by_kind text kind.Effect place broken = broken
+by_kind text kind.Size place broken = broken
+
+pub broken_text : (text : List ℕ) (program : Program) (why : CheckFault) (f : CompileFault) → ((b : Fault) → why ≡ check.Broken b → first_fault program ≡ Some b)
+    → IsOfChecking text why f → IsTextOf text program → IsRefusedFor f text
+broken_text text program (check.Broken b) f first (place, is, there) spelled =
+    subst (λ (x : CompileFault). IsRefusedFor x text) (sym is)
+    (by_kind text b.kind place (record { program = program; spelled = spelled; at = b.at; first = first b refl; there = there }))
+broken_text text program check.Memory f first is spelled = subst (λ (x : CompileFault). IsRefusedFor x text) (sym is) tt

@@ -1,0 +1,70 @@
+-- The fault of a text that a fault of a layer is, with its place.
+use Rattle.std.specs.Prelude.{◌≡◌, ℕ, ◌<◌, List}
+use Rattle.cyc_lexer.specs.declared.fault.LexFault.{LexFault}
+use Rattle.cyc_lexer.specs.declared.fault.LexFault.TheVariants as lex
+use Rattle.cyc_parser.specs.declared.fault.ParseFault.{ParseFault}
+use Rattle.cyc_parser.specs.declared.fault.ParseFault.TheVariants as parse
+use Rattle.effect_check.specs.declared.fault.CheckFault.{CheckFault}
+use Rattle.effect_check.specs.declared.fault.CheckFault.TheVariants as check
+use Rattle.region_types.specs.declared.fault.FaultKind.{FaultKind}
+use Rattle.region_types.specs.declared.fault.FaultKind.TheVariants as kind
+use Rattle.cycc_driver.specs.declared.fault.Place.{Place}
+use Rattle.cycc_driver.specs.declared.fault.CompileFault.{CompileFault}
+use Rattle.cycc_driver.specs.declared.fault.CompileFault.TheVariants as fault
+use Rattle.cycc_driver.specs.Refusals.{IsPlaceOf}
+use Rattle.cyc_tree.specs.Tree.{Program}
+use Rattle.cyc_core.specs.declared.operation.Cell.{Cell}
+use Rattle.cyc_core.specs.Tree.{statements_of}
+use Rattle.cyc_image.specs.Format.{code_limit}
+use Rattle.lower_checks.specs.Lowered.{program_code}
+use Rattle.rv32_select.specs.Lines.{code_length}
+use Rattle.rv32_select.specs.Selected.{main_code}
+
+-- it is of this form, at the place of an offset
+abbrev pub StandsAt : List ℕ → ℕ → (Place → CompileFault) → CompileFault → Type 0
+StandsAt text at form f = (place : Place) × (f ≡ form place) × IsPlaceOf text at place
+
+abbrev pub IsOfLexing : List ℕ → LexFault → CompileFault → Type 0
+IsOfLexing text (lex.Lex at) f = StandsAt text at fault.Lex f
+IsOfLexing text lex.Memory f = f ≡ fault.Memory
+
+abbrev pub IsOfParsing : ParseFault → CompileFault → Type 0
+IsOfParsing (parse.Parse at) f = (place : Place) × (f ≡ fault.Parse place)
+IsOfParsing (parse.TooDeep at) f = (place : Place) × (f ≡ fault.TooDeep place)
+IsOfParsing parse.Memory f = f ≡ fault.Memory
+
+abbrev pub form_of : FaultKind → Place → CompileFault
+form_of kind.Name = fault.Name
+form_of kind.Typing = fault.Typing
+form_of kind.Region = fault.Region
+form_of kind.Outlives = fault.Outlives
+form_of kind.Effect = fault.Effect
+form_of kind.Size = fault.Size
+
+abbrev pub IsOfChecking : List ℕ → CheckFault → CompileFault → Type 0
+IsOfChecking text (check.Broken broken) f = StandsAt text broken.at (form_of broken.kind) f
+IsOfChecking text check.Memory f = f ≡ fault.Memory
+
+-- the code of the program is over the limit
+pub record HasLongCode (program : Program) (place : Place) : Type 0 where
+  pub last : Cell
+  pub long : code_limit < code_length (main_code last (statements_of (program_code program)))
+  pub line : place.line ≡ 1
+  pub column : place.column ≡ 1
+
+-- why a program has no code: that, or want of memory
+abbrev pub HasNoCodeFor : CompileFault → Program → Type 0
+HasNoCodeFor (fault.Lex place) program = ⊥
+HasNoCodeFor (fault.Parse place) program = ⊥
+HasNoCodeFor (fault.TooDeep place) program = ⊥
+HasNoCodeFor (fault.Name place) program = ⊥
+HasNoCodeFor (fault.Typing place) program = ⊥
+HasNoCodeFor (fault.Region place) program = ⊥
+HasNoCodeFor (fault.Outlives place) program = ⊥
+HasNoCodeFor (fault.Effect place) program = ⊥
+HasNoCodeFor (fault.Consumed place) program = ⊥
+HasNoCodeFor (fault.Lent place) program = ⊥
+HasNoCodeFor (fault.Copy place) program = ⊥
+HasNoCodeFor (fault.Size place) program = ⊥
+HasNoCodeFor (fault.TooLarge place) program = HasLongCode program place
+HasNoCodeFor fault.Memory program = Unit {0}

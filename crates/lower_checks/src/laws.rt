@@ -1,0 +1,15 @@
+// What holds of each checked program.
+
+ghost use Rattle.std.specs.Prelude.{◌≢◌, ℕ, List};
+ghost use Rattle.cyc_words.specs.Events.{SourceEnding};
+ghost use Rattle.cyc_meaning.specs.Programs.{source};
+
+use unique_flow::Checked;
+
+/// No run of a checked program is out of order, on any input and with any amount of fuel. The call does nothing.
+pub fn never_stuck(checked: &Checked<'_>)
+    ensures { (input : List ℕ) (n : ℕ) → (source checked.now input n).ending ≢ SourceEnding.Stuck }
+{
+    // a checked program is an accepted one
+    checked.program();
+}

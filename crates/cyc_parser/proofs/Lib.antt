@@ -8,3 +8,4 @@ pub mod StatementForms
 pub mod ItemParts
 pub mod Listing
 pub mod OneToken
+pub mod Nested

@@ -1,5 +1,5 @@
 -- The grammar of types. A line in quotes is the production that the definition restates.
-use Rattle.std.specs.Prelude.{◌≡◌, ◌⊎◌, ℕ, List, [], ◌∷◌, Option, Some, None}
+use Rattle.std.specs.Prelude.{◌≡◌, ◌⊎◌, List, [], ◌∷◌, Option, Some, None}
 use Rattle.cyc_lexer.specs.declared.token.Keyword.TheVariants as word
 use Rattle.cyc_lexer.specs.declared.token.Sign.{Sign}
 use Rattle.cyc_lexer.specs.declared.token.Sign.TheVariants as sign

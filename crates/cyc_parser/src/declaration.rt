@@ -1,8 +1,9 @@
 // Declarations in blocks.
 
-ghost use Rattle.std.specs.Prelude.{ℕ, ◌<◌, ◌≤◌, IfOk, OnOk, length};
+ghost use Rattle.std.specs.Prelude.{◌≡◌, ℕ, ◌<◌, ◌≤◌, IfOk, OnOk, length};
 ghost use Rattle.cyc_lexer.specs.declared.token.Keyword.TheVariants as word;
 ghost use Rattle.cyc_tree.specs.View.{name_tree, initializer_tree, declaration_tree};
+ghost use Rattle.cyc_tree.specs.Nesting.{initializer_nesting, declaration_nesting};
 ghost use Rattle.cyc_parser.specs.Phrases.{Tokens, KeywordAt};
 ghost use Rattle.cyc_parser.specs.StatementGrammar.{IsInitializer, IsNameInParentheses, IsDeclaration};
 
@@ -18,6 +19,7 @@ use std::alloc::Global;
 /// Reads a declaration, whose expression has at most `depth` phrases in one another.
 pub fn declaration(alloc: Global, depth: u32, cursor: &mut Cursor<'_, '_>) -> Parsed<Declaration>
     ensures phrase { IfOk result (λ d. IsDeclaration (declaration_tree d) cursor.old cursor.new) }
+    ensures nested { IfOk result (λ d. declaration_nesting (declaration_tree d) ≤ depth) }
     ensures shorter { OnOk result (length cursor.new < length cursor.old) }
 {
     if cursor.is_keyword(Keyword::Region) {
@@ -32,6 +34,7 @@ pub fn declaration(alloc: Global, depth: u32, cursor: &mut Cursor<'_, '_>) -> Pa
 /// Reads the declaration of a local variable or array.
 fn local(alloc: Global, depth: u32, cursor: &mut Cursor<'_, '_>) -> Parsed<Declaration>
     ensures phrase { IfOk result (λ d. IsDeclaration (declaration_tree d) cursor.old cursor.new) }
+    ensures nested { IfOk result (λ d. declaration_nesting (declaration_tree d) ≤ depth) }
     ensures shorter { OnOk result (length cursor.new < length cursor.old) }
 {
     let of = type_name(alloc, cursor)?;
@@ -44,6 +47,7 @@ fn local(alloc: Global, depth: u32, cursor: &mut Cursor<'_, '_>) -> Parsed<Decla
 /// Reads what a local begins with, where that is written.
 fn initializer(alloc: Global, depth: u32, cursor: &mut Cursor<'_, '_>) -> Parsed<Initializer>
     ensures phrase { IfOk result (λ i. IsInitializer (initializer_tree i) cursor.old cursor.new) }
+    ensures nested { IfOk result (λ i. initializer_nesting (initializer_tree i) ≤ depth) }
     ensures shorter { OnOk result (length cursor.new ≤ length cursor.old) }
 {
     if cursor.is_sign(Sign::Assign) {
@@ -59,6 +63,7 @@ fn initializer(alloc: Global, depth: u32, cursor: &mut Cursor<'_, '_>) -> Parsed
 /// Reads the declaration of a region: a new one, or one that a key opens.
 fn region(alloc: Global, cursor: &mut Cursor<'_, '_>) -> Parsed<Declaration>
     ensures phrase { IfOk result (λ d. IsDeclaration (declaration_tree d) cursor.old cursor.new) }
+    ensures nested { IfOk result (λ d. declaration_nesting (declaration_tree d) ≡ 0) }
     ensures shorter { OnOk result (length cursor.new < length cursor.old) }
 {
     let at = cursor.keyword(Keyword::Region)?;
@@ -79,6 +84,7 @@ fn region(alloc: Global, cursor: &mut Cursor<'_, '_>) -> Parsed<Declaration>
 /// Reads a declaration that begins with `let`.
 fn binding(alloc: Global, cursor: &mut Cursor<'_, '_>) -> Parsed<Declaration>
     ensures phrase { IfOk result (λ d. IsDeclaration (declaration_tree d) cursor.old cursor.new) }
+    ensures nested { IfOk result (λ d. declaration_nesting (declaration_tree d) ≡ 0) }
     ensures shorter { OnOk result (length cursor.new < length cursor.old) }
 {
     let at = cursor.keyword(Keyword::Let)?;
@@ -92,6 +98,7 @@ fn binding(alloc: Global, cursor: &mut Cursor<'_, '_>) -> Parsed<Declaration>
 /// Reads the declaration of an alias from `alias` on. The place is that of its `let`.
 fn alias(alloc: Global, at: u32, cursor: &mut Cursor<'_, '_>) -> Parsed<Declaration>
     ensures phrase { (from : Tokens) → KeywordAt word.Let at from cursor.old → IfOk result (λ d. IsDeclaration (declaration_tree d) from cursor.new) }
+    ensures nested { IfOk result (λ d. declaration_nesting (declaration_tree d) ≡ 0) }
     ensures shorter { OnOk result (length cursor.new < length cursor.old) }
 {
     cursor.keyword(Keyword::Alias)?;
@@ -108,6 +115,7 @@ fn alias(alloc: Global, at: u32, cursor: &mut Cursor<'_, '_>) -> Parsed<Declarat
 /// `let`.
 fn new_key(alloc: Global, at: u32, cursor: &mut Cursor<'_, '_>) -> Parsed<Declaration>
     ensures phrase { (from : Tokens) → KeywordAt word.Let at from cursor.old → IfOk result (λ d. IsDeclaration (declaration_tree d) from cursor.new) }
+    ensures nested { IfOk result (λ d. declaration_nesting (declaration_tree d) ≡ 0) }
     ensures shorter { OnOk result (length cursor.new < length cursor.old) }
 {
     cursor.keyword(Keyword::NewDynamicRegion)?;

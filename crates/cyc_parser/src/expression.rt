@@ -1,9 +1,10 @@
 // Expressions.
 
-ghost use Rattle.std.specs.Prelude.{◌≡◌, ◌<◌, ◌≤◌, ◌∷◌, [], IsTrue, IfOk, IfSome, OnOk, Some, option_map, map, length};
+ghost use Rattle.std.specs.Prelude.{◌≡◌, ◌+◌, ◌<◌, ◌≤◌, ◌∷◌, [], IsTrue, IfOk, IfSome, OnOk, Some, option_map, map, length};
 ghost use Rattle.cyc_lexer.specs.declared.token.Sign.TheVariants as sign;
 ghost use Rattle.cyc_lexer.specs.declared.token.TokenKind.TheVariants as kind;
 ghost use Rattle.cyc_tree.specs.View.{name_tree, expression_tree, made_tree, suffix_tree, link_tree, expressions_of, links_of, suffixes_of};
+ghost use Rattle.cyc_tree.specs.Nesting.{expression_nesting, inner_nesting, argument_nesting, link_nesting, suffix_nesting, made_nesting};
 ghost use Rattle.cyc_parser.specs.Phrases.{Tokens, IsSign, InParentheses};
 ghost use Rattle.cyc_parser.specs.Reading.{next_kind};
 ghost use Rattle.cyc_parser.specs.ExpressionGrammar.{IsExpression, AreArguments, AreLinks, AreSuffixes, IsMade};
@@ -14,16 +15,18 @@ ghost use Rattle.cyc_parser.specs.Parts.{MayBeMember, IsWithMember, chained};
 use crate::cursor::Cursor;
 use crate::fault::Parsed;
 use crate::first::{begins_suffix, begins_unary};
+use crate::level::{is_unary, linked, next_operator};
 use crate::literal::literal;
-use crate::operator::{LOOSEST, Level, operator_of, prefix_of, tighter};
+use crate::operator::{LOOSEST, Level, prefix_of, tighter};
 use cyc_lexer::{Keyword, Sign, TokenKind};
-use cyc_tree::{Expression, Link, Made, Name, Operator, Prefix, Suffix};
+use cyc_tree::{Expression, Link, Made, Name, Prefix, Suffix};
 use std::alloc::Global;
 
 /// Reads an expression, with at most `depth` phrases in one another.
 #[cycle(expression)]
 pub fn expression(alloc: Global, depth: u32, cursor: &mut Cursor<'_, '_>) -> Parsed<Expression>
     ensures phrase { IfOk result (λ e. IsExpression (expression_tree e) cursor.old cursor.new) }
+    ensures nested { IfOk result (λ e. expression_nesting (expression_tree e) ≤ depth) }
     ensures shorter { OnOk result (length cursor.new < length cursor.old) }
 {
     if depth == 0 {
@@ -33,23 +36,11 @@ pub fn expression(alloc: Global, depth: u32, cursor: &mut Cursor<'_, '_>) -> Par
     }
 }
 
-/// Whether what was read where an expression may begin is a unary expression.
-fn is_unary(expression: &Expression) -> bool
-    ensures { IsTrue result → unary_level ≤ binds (expression_tree expression.now) }
-{
-    !matches!(
-        expression,
-        Expression::Chain(_, _)
-            | Expression::AllOf(_, _)
-            | Expression::AnyOf(_, _)
-            | Expression::Assign(_, _)
-    )
-}
-
 /// Reads operands of `||`, or a unary expression and what is assigned to it.
 #[cycle(expression)]
 fn assignment(alloc: Global, depth: u32, cursor: &mut Cursor<'_, '_>) -> Parsed<Expression>
     ensures phrase { IfOk result (λ e. IsExpression (expression_tree e) cursor.old cursor.new) }
+    ensures nested { IfOk result (λ e. inner_nesting (expression_tree e) ≤ depth) }
     ensures shorter { OnOk result (length cursor.new < length cursor.old) }
 {
     let first = any_of(alloc, depth, cursor)?;
@@ -68,6 +59,7 @@ fn assignment(alloc: Global, depth: u32, cursor: &mut Cursor<'_, '_>) -> Parsed<
 fn any_of(alloc: Global, depth: u32, cursor: &mut Cursor<'_, '_>) -> Parsed<Expression>
     ensures phrase { IfOk result (λ e. IsExpression (expression_tree e) cursor.old cursor.new) }
     ensures binds { IfOk result (λ e. 1 ≤ binds (expression_tree e)) }
+    ensures nested { IfOk result (λ e. inner_nesting (expression_tree e) ≤ depth) }
     ensures shorter { OnOk result (length cursor.new < length cursor.old) }
 {
     let first = all_of(alloc, depth, cursor)?;
@@ -88,6 +80,7 @@ fn any_of(alloc: Global, depth: u32, cursor: &mut Cursor<'_, '_>) -> Parsed<Expr
 fn all_of(alloc: Global, depth: u32, cursor: &mut Cursor<'_, '_>) -> Parsed<Expression>
     ensures phrase { IfOk result (λ e. IsExpression (expression_tree e) cursor.old cursor.new) }
     ensures binds { IfOk result (λ e. 2 ≤ binds (expression_tree e)) }
+    ensures nested { IfOk result (λ e. inner_nesting (expression_tree e) ≤ depth) }
     ensures shorter { OnOk result (length cursor.new < length cursor.old) }
 {
     let first = chain(alloc, depth, Some(LOOSEST), cursor)?;
@@ -113,6 +106,7 @@ fn chain(
 ) -> Parsed<Expression>
     ensures phrase { IfOk result (λ e. IsExpression (expression_tree e) cursor.old cursor.new) }
     ensures binds { IfOk result (λ e. level_number level ≤ binds (expression_tree e)) }
+    ensures nested { IfOk result (λ e. inner_nesting (expression_tree e) ≤ depth) }
     ensures shorter { OnOk result (length cursor.new < length cursor.old) }
 {
     let Some(level) = level else {
@@ -123,29 +117,11 @@ fn chain(
     Ok(linked(alloc, first, links)?)
 }
 
-/// An operand with the operators and operands after it, where there are such.
-fn linked(alloc: Global, first: Expression, links: Vec<Link>) -> Parsed<Expression>
-    ensures { IfOk result (λ e. expression_tree e ≡ chained (expression_tree first) (links_of (map link_tree links.items))) }
-{
-    if links.is_empty() {
-        Ok(first)
-    } else {
-        Ok(Expression::Chain(Box::new(alloc, first)?, links))
-    }
-}
-
-/// The operator of a level that stands next.
-fn next_operator(cursor: &Cursor<'_, '_>, level: Level) -> Option<Operator>
-    ensures sign { IfSome result (λ operator. next_kind cursor.now ≡ Some (kind.Sign (operator_sign operator))) }
-    ensures level { IfSome result (λ operator. level_of operator ≡ number_of level) }
-{
-    operator_of(cursor.kind()?, level)
-}
-
 /// Reads the operators of a level, each with its right operand, as far as they go.
 #[cycle(expression)]
 fn links(alloc: Global, depth: u32, level: Level, cursor: &mut Cursor<'_, '_>) -> Parsed<Vec<Link>>
     ensures phrase { IfOk result (λ links. AreLinks (number_of level) (links_of (map link_tree links.items)) cursor.old cursor.new) }
+    ensures nested { IfOk result (λ links. link_nesting (links_of (map link_tree links.items)) ≤ depth) }
     ensures shorter { OnOk result (length cursor.new ≤ length cursor.old) }
 {
     let mut links = Vec::new(alloc);
@@ -162,6 +138,7 @@ fn links(alloc: Global, depth: u32, level: Level, cursor: &mut Cursor<'_, '_>) -
 fn unary(alloc: Global, depth: u32, cursor: &mut Cursor<'_, '_>) -> Parsed<Expression>
     ensures phrase { IfOk result (λ e. IsExpression (expression_tree e) cursor.old cursor.new) }
     ensures binds { IfOk result (λ e. unary_level ≤ binds (expression_tree e)) }
+    ensures nested { IfOk result (λ e. inner_nesting (expression_tree e) ≤ depth) }
     ensures shorter { OnOk result (length cursor.new < length cursor.old) }
 {
     if depth == 0 {
@@ -176,6 +153,7 @@ fn unary(alloc: Global, depth: u32, cursor: &mut Cursor<'_, '_>) -> Parsed<Expre
 fn operation(alloc: Global, depth: u32, cursor: &mut Cursor<'_, '_>) -> Parsed<Expression>
     ensures phrase { IfOk result (λ e. IsExpression (expression_tree e) cursor.old cursor.new) }
     ensures binds { IfOk result (λ e. unary_level ≤ binds (expression_tree e)) }
+    ensures nested { IfOk result (λ e. inner_nesting (expression_tree e) ≤ depth + 1) }
     ensures shorter { OnOk result (length cursor.new < length cursor.old) }
 {
     match cursor.kind() {
@@ -203,6 +181,7 @@ fn prefixed(
     requires { next_kind cursor.old ≡ Some (kind.Sign (prefix_sign prefix)) }
     ensures phrase { IfOk result (λ e. IsExpression (expression_tree e) cursor.old cursor.new) }
     ensures binds { IfOk result (λ e. unary_level ≤ binds (expression_tree e)) }
+    ensures nested { IfOk result (λ e. inner_nesting (expression_tree e) ≤ depth + 1) }
     ensures shorter { OnOk result (length cursor.new < length cursor.old) }
 {
     let sign = cursor.read()?;
@@ -216,6 +195,7 @@ fn prefixed(
 fn made_in(alloc: Global, depth: u32, cursor: &mut Cursor<'_, '_>) -> Parsed<Expression>
     ensures phrase { IfOk result (λ e. IsExpression (expression_tree e) cursor.old cursor.new) }
     ensures binds { IfOk result (λ e. unary_level ≤ binds (expression_tree e)) }
+    ensures nested { IfOk result (λ e. inner_nesting (expression_tree e) ≤ depth + 1) }
     ensures shorter { OnOk result (length cursor.new < length cursor.old) }
 {
     let at = cursor.keyword(Keyword::Rnew)?;
@@ -228,6 +208,7 @@ fn made_in(alloc: Global, depth: u32, cursor: &mut Cursor<'_, '_>) -> Parsed<Exp
 #[cycle(expression)]
 fn made(alloc: Global, depth: u32, cursor: &mut Cursor<'_, '_>) -> Parsed<Made>
     ensures phrase { IfOk result (λ made. IsMade (made_tree made) cursor.old cursor.new) }
+    ensures nested { IfOk result (λ made. made_nesting (made_tree made) ≤ depth) }
     ensures shorter { OnOk result (length cursor.new < length cursor.old) }
 {
     if cursor.is_sign(Sign::LeftBrace) {
@@ -242,6 +223,7 @@ fn made(alloc: Global, depth: u32, cursor: &mut Cursor<'_, '_>) -> Parsed<Made>
 #[cycle(expression)]
 fn array(alloc: Global, depth: u32, cursor: &mut Cursor<'_, '_>) -> Parsed<Made>
     ensures phrase { IfOk result (λ made. IsMade (made_tree made) cursor.old cursor.new) }
+    ensures nested { IfOk result (λ made. made_nesting (made_tree made) ≤ depth) }
     ensures shorter { OnOk result (length cursor.new < length cursor.old) }
 {
     cursor.sign(Sign::LeftBrace)?;
@@ -261,6 +243,7 @@ fn array(alloc: Global, depth: u32, cursor: &mut Cursor<'_, '_>) -> Parsed<Made>
 fn postfix(alloc: Global, depth: u32, cursor: &mut Cursor<'_, '_>) -> Parsed<Expression>
     ensures phrase { IfOk result (λ e. IsExpression (expression_tree e) cursor.old cursor.new) }
     ensures binds { IfOk result (λ e. 12 ≤ binds (expression_tree e)) }
+    ensures nested { IfOk result (λ e. inner_nesting (expression_tree e) ≤ depth + 1) }
     ensures shorter { OnOk result (length cursor.new < length cursor.old) }
 {
     let (first, member) = if cursor.kind() == Some(TokenKind::Identifier) {
@@ -281,6 +264,7 @@ fn postfix(alloc: Global, depth: u32, cursor: &mut Cursor<'_, '_>) -> Parsed<Exp
 fn primary(alloc: Global, depth: u32, cursor: &mut Cursor<'_, '_>) -> Parsed<Expression>
     ensures phrase { IfOk result (λ e. IsExpression (expression_tree e) cursor.old cursor.new) }
     ensures binds { IfOk result (λ e. primary_level ≤ binds (expression_tree e)) }
+    ensures nested { IfOk result (λ e. inner_nesting (expression_tree e) ≤ depth + 1) }
     ensures shorter { OnOk result (length cursor.new < length cursor.old) }
 {
     if cursor.is_sign(Sign::LeftParenthesis) {
@@ -300,6 +284,7 @@ fn primary(alloc: Global, depth: u32, cursor: &mut Cursor<'_, '_>) -> Parsed<Exp
 #[cycle(expression)]
 pub fn parenthesized(alloc: Global, depth: u32, cursor: &mut Cursor<'_, '_>) -> Parsed<Expression>
     ensures phrase { IfOk result (λ e. InParentheses (IsExpression (expression_tree e)) cursor.old cursor.new) }
+    ensures nested { IfOk result (λ e. expression_nesting (expression_tree e) ≤ depth) }
     ensures shorter { OnOk result (length cursor.new < length cursor.old) }
 {
     cursor.sign(Sign::LeftParenthesis)?;
@@ -318,6 +303,7 @@ fn named(
 ) -> Parsed<(Expression, Option<Name>)>
     ensures phrase { IfOk result (λ e. IsWithMember (expression_tree e.0) (option_map name_tree e.1) cursor.old cursor.new) }
     ensures binds { IfOk result (λ e. primary_level ≤ binds (expression_tree e.0)) }
+    ensures nested { IfOk result (λ e. inner_nesting (expression_tree e.0) ≤ depth + 1) }
     ensures shorter { OnOk result (length cursor.new < length cursor.old) }
 {
     let name = cursor.name(alloc)?;
@@ -344,6 +330,7 @@ fn named(
 fn arguments(alloc: Global, depth: u32, cursor: &mut Cursor<'_, '_>) -> Parsed<Vec<Expression>>
     ensures phrase { IfOk result (λ arguments. (a : Tokens) × IsSign sign.LeftParenthesis cursor.old a
         × AreArguments (expressions_of (map expression_tree arguments.items)) a cursor.new) }
+    ensures nested { IfOk result (λ arguments. argument_nesting (expressions_of (map expression_tree arguments.items)) ≤ depth) }
     ensures shorter { OnOk result (length cursor.new < length cursor.old) }
 {
     let mut arguments = Vec::new(alloc);
@@ -370,6 +357,7 @@ fn suffixes(
 ) -> Parsed<Vec<Suffix>>
     ensures phrase { IfOk result (λ suffixes. (from : Tokens) → MayBeMember (option_map name_tree member) from cursor.old
         → AreSuffixes (suffixes_of (map suffix_tree suffixes.items)) from cursor.new) }
+    ensures nested { IfOk result (λ suffixes. suffix_nesting (suffixes_of (map suffix_tree suffixes.items)) ≤ depth) }
     ensures shorter { OnOk result (length cursor.new ≤ length cursor.old) }
 {
     let mut suffixes = Vec::new(alloc);
@@ -386,6 +374,7 @@ fn suffixes(
 #[cycle(expression)]
 fn suffix(alloc: Global, depth: u32, cursor: &mut Cursor<'_, '_>) -> Parsed<Suffix>
     ensures phrase { IfOk result (λ suffix. AreSuffixes (suffixes_of (suffix_tree suffix ∷ [])) cursor.old cursor.new) }
+    ensures nested { IfOk result (λ suffix. suffix_nesting (suffixes_of (suffix_tree suffix ∷ [])) ≤ depth) }
     ensures shorter { OnOk result (length cursor.new < length cursor.old) }
 {
     if cursor.is_sign(Sign::LeftBracket) {

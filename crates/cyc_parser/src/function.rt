@@ -3,6 +3,7 @@
 ghost use Rattle.std.specs.Prelude.{◌≡◌, ◌<◌, ◌≤◌, IfOk, OnOk, MatchOption, [], length, map, option_map};
 ghost use Rattle.cyc_lexer.specs.declared.token.Keyword.TheVariants as word;
 ghost use Rattle.cyc_tree.specs.View.{name_tree, region_tree, type_tree, member_tree, bound_tree, function_tree};
+ghost use Rattle.cyc_tree.specs.Nesting.{items_nesting, nesting_limit};
 ghost use Rattle.cyc_parser.specs.TypeGrammar.{IsTyped};
 ghost use Rattle.cyc_parser.specs.Grammar.{AreParameters, IsEffect, IsBound, AreBounds, IsFunctionRest};
 
@@ -28,6 +29,7 @@ pub fn function(
     ensures phrase { IfOk result (λ f. IsFunctionRest (function_tree f) cursor.old cursor.new) }
     ensures result_type { IfOk result (λ f. f.result ≡ result_type) }
     ensures name { IfOk result (λ f. f.name ≡ name) }
+    ensures nested { IfOk result (λ f. items_nesting (function_tree f).body ≤ nesting_limit) }
     ensures shorter { OnOk result (length cursor.new < length cursor.old) }
 {
     cursor.sign(Sign::LeftParenthesis)?;

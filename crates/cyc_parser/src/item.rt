@@ -5,6 +5,7 @@ ghost use Rattle.cyc_lexer.specs.Tokens.{token_tree};
 ghost use Rattle.cyc_lexer.specs.declared.token.Sign.TheVariants as sign;
 ghost use Rattle.cyc_tree.specs.Tree.{UnionItem};
 ghost use Rattle.cyc_tree.specs.View.{type_tree, member_tree, structure_tree, initial_tree, program_item_tree};
+ghost use Rattle.cyc_tree.specs.Nesting.{item_nesting, nesting, nesting_limit};
 ghost use Rattle.cyc_parser.specs.Phrases.{Tokens};
 ghost use Rattle.cyc_parser.specs.TypeGrammar.{IsType};
 ghost use Rattle.cyc_parser.specs.Grammar.{IsMember, AreMembers, IsInitial, IsItem, IsProgram};
@@ -22,6 +23,7 @@ use std::alloc::Global;
 /// Reads an item.
 fn item(alloc: Global, cursor: &mut Cursor<'_, '_>) -> Parsed<Item>
     ensures phrase { IfOk result (λ item. IsItem (program_item_tree item) cursor.old cursor.new) }
+    ensures nested { IfOk result (λ item. item_nesting (program_item_tree item) ≤ nesting_limit) }
     ensures shorter { OnOk result (length cursor.new < length cursor.old) }
 {
     if cursor.is_sign(Sign::Tagged) {
@@ -38,6 +40,7 @@ fn item(alloc: Global, cursor: &mut Cursor<'_, '_>) -> Parsed<Item>
 /// regions tells which it is.
 fn struct_or_typed(alloc: Global, cursor: &mut Cursor<'_, '_>) -> Parsed<Item>
     ensures phrase { IfOk result (λ item. IsItem (program_item_tree item) cursor.old cursor.new) }
+    ensures nested { IfOk result (λ item. item_nesting (program_item_tree item) ≤ nesting_limit) }
     ensures shorter { OnOk result (length cursor.new < length cursor.old) }
 {
     let at = cursor.keyword(Keyword::Struct)?;
@@ -105,6 +108,7 @@ fn member(alloc: Global, cursor: &mut Cursor<'_, '_>) -> Parsed<Member>
 /// Reads a global or a function from its name on, given its type.
 fn typed(alloc: Global, of: TypeName, cursor: &mut Cursor<'_, '_>) -> Parsed<Item>
     ensures phrase { (from : Tokens) → IsType (type_tree of) from cursor.old → IfOk result (λ item. IsItem (program_item_tree item) from cursor.new) }
+    ensures nested { IfOk result (λ item. item_nesting (program_item_tree item) ≤ nesting_limit) }
     ensures shorter { OnOk result (length cursor.new < length cursor.old) }
 {
     let name = cursor.name(alloc)?;
@@ -139,6 +143,8 @@ fn initial(alloc: Global, cursor: &mut Cursor<'_, '_>) -> Parsed<Initial>
 /// `Memory` where no host memory is left.
 pub fn parse(alloc: Global, tokens: &[Token<'_>]) -> Result<Program, ParseFault>
     ensures found { IfOk result (λ program. IsProgram program (map token_tree tokens.entry.now)) }
+    // no token of it is in over 256 phrases
+    ensures nested { IfOk result (λ program. nesting program ≤ nesting_limit) }
 {
     let mut cursor = Cursor::new(tokens);
     let mut items = Vec::new(alloc);

@@ -12,6 +12,7 @@ mod fault;
 mod first;
 mod function;
 mod item;
+mod level;
 mod literal;
 mod operator;
 mod statement;

@@ -2,6 +2,7 @@
 
 ghost use Rattle.std.specs.Prelude.{◌≡◌, ◌<◌, IfOk, OnOk, length};
 ghost use Rattle.cyc_tree.specs.View.{expression_tree, constant_tree};
+ghost use Rattle.cyc_tree.specs.Nesting.{inner_nesting};
 ghost use Rattle.cyc_parser.specs.ExpressionGrammar.{primary_level, binds, IsExpression};
 ghost use Rattle.cyc_parser.specs.StatementGrammar.{IsCount};
 ghost use Rattle.cyc_parser.specs.Grammar.{IsConstant};
@@ -16,6 +17,7 @@ use std::alloc::Global;
 pub fn literal(alloc: Global, cursor: &mut Cursor<'_, '_>) -> Parsed<Expression>
     ensures phrase { IfOk result (λ e. IsExpression (expression_tree e) cursor.old cursor.new) }
     ensures primary { IfOk result (λ e. binds (expression_tree e) ≡ primary_level) }
+    ensures nested { IfOk result (λ e. inner_nesting (expression_tree e) ≡ 1) }
     ensures shorter { OnOk result (length cursor.new < length cursor.old) }
 {
     let token = cursor.read()?;

@@ -1,10 +1,11 @@
 // Statements and blocks.
 
-ghost use Rattle.std.specs.Prelude.{◌≡◌, ◌<◌, ◌≤◌, ◌∷◌, [], false, Some, IsTrue, IfOk, OnOk, map, length};
+ghost use Rattle.std.specs.Prelude.{◌≡◌, ◌+◌, ◌<◌, ◌≤◌, ◌∷◌, [], false, Some, IsTrue, IfOk, OnOk, map, length};
 ghost use Rattle.cyc_lexer.specs.declared.token.Keyword.{Keyword as Word};
 ghost use Rattle.cyc_lexer.specs.declared.token.Keyword.TheVariants as word_of;
 ghost use Rattle.cyc_lexer.specs.declared.token.TokenKind.TheVariants as kind;
 ghost use Rattle.cyc_tree.specs.View.{name_tree, statement_tree, item_tree, clause_tree, pattern_tree, items_of, clauses_of};
+ghost use Rattle.cyc_tree.specs.Nesting.{statement_nesting, items_nesting, clauses_nesting};
 ghost use Rattle.cyc_parser.specs.Phrases.{BeginsWith};
 ghost use Rattle.cyc_parser.specs.Reading.{next_kind, next_place};
 ghost use Rattle.cyc_parser.specs.StatementGrammar.{IsStatement, AreItems, AreClauses, IsPattern, ends_open};
@@ -24,6 +25,7 @@ use std::alloc::Global;
 fn statement(alloc: Global, depth: u32, cursor: &mut Cursor<'_, '_>) -> Parsed<Statement>
     ensures phrase { IfOk result (λ s. IsStatement (statement_tree s) cursor.old cursor.new) }
     ensures closed { IfOk result (λ s. IsTrue (ends_open (statement_tree s)) → BeginsWith word_of.Else cursor.new → ⊥) }
+    ensures nested { IfOk result (λ s. statement_nesting (statement_tree s) ≤ depth) }
     ensures shorter { OnOk result (length cursor.new < length cursor.old) }
 {
     if depth == 0 {
@@ -38,6 +40,7 @@ fn statement(alloc: Global, depth: u32, cursor: &mut Cursor<'_, '_>) -> Parsed<S
 fn compound(alloc: Global, depth: u32, cursor: &mut Cursor<'_, '_>) -> Parsed<Statement>
     ensures phrase { IfOk result (λ s. IsStatement (statement_tree s) cursor.old cursor.new) }
     ensures closed { IfOk result (λ s. IsTrue (ends_open (statement_tree s)) → BeginsWith word_of.Else cursor.new → ⊥) }
+    ensures nested { IfOk result (λ s. statement_nesting (statement_tree s) ≤ depth + 1) }
     ensures shorter { OnOk result (length cursor.new < length cursor.old) }
 {
     match cursor.kind() {
@@ -54,6 +57,7 @@ fn compound(alloc: Global, depth: u32, cursor: &mut Cursor<'_, '_>) -> Parsed<St
 fn block(alloc: Global, depth: u32, cursor: &mut Cursor<'_, '_>) -> Parsed<Statement>
     ensures phrase { IfOk result (λ s. IsStatement (statement_tree s) cursor.old cursor.new) }
     ensures closed { IfOk result (λ s. ends_open (statement_tree s) ≡ false) }
+    ensures nested { IfOk result (λ s. statement_nesting (statement_tree s) ≤ depth + 1) }
     ensures shorter { OnOk result (length cursor.new < length cursor.old) }
 {
     let at = cursor.sign(Sign::LeftBrace)?;
@@ -66,6 +70,7 @@ fn block(alloc: Global, depth: u32, cursor: &mut Cursor<'_, '_>) -> Parsed<State
 #[cycle(statement)]
 pub fn block_items(alloc: Global, depth: u32, cursor: &mut Cursor<'_, '_>) -> Parsed<Vec<BlockItem>>
     ensures phrase { IfOk result (λ items. AreItems (items_of (map item_tree items.items)) cursor.old cursor.new) }
+    ensures nested { IfOk result (λ items. items_nesting (items_of (map item_tree items.items)) ≤ depth) }
     ensures shorter { OnOk result (length cursor.new ≤ length cursor.old) }
 {
     let mut items = Vec::new(alloc);
@@ -85,6 +90,7 @@ pub fn block_items(alloc: Global, depth: u32, cursor: &mut Cursor<'_, '_>) -> Pa
 fn conditional(alloc: Global, depth: u32, cursor: &mut Cursor<'_, '_>) -> Parsed<Statement>
     ensures phrase { IfOk result (λ s. IsStatement (statement_tree s) cursor.old cursor.new) }
     ensures closed { IfOk result (λ s. IsTrue (ends_open (statement_tree s)) → BeginsWith word_of.Else cursor.new → ⊥) }
+    ensures nested { IfOk result (λ s. statement_nesting (statement_tree s) ≤ depth + 1) }
     ensures shorter { OnOk result (length cursor.new < length cursor.old) }
 {
     let at = cursor.keyword(Keyword::If)?;
@@ -106,6 +112,7 @@ fn conditional(alloc: Global, depth: u32, cursor: &mut Cursor<'_, '_>) -> Parsed
 fn repeated(alloc: Global, depth: u32, cursor: &mut Cursor<'_, '_>) -> Parsed<Statement>
     ensures phrase { IfOk result (λ s. IsStatement (statement_tree s) cursor.old cursor.new) }
     ensures closed { IfOk result (λ s. IsTrue (ends_open (statement_tree s)) → BeginsWith word_of.Else cursor.new → ⊥) }
+    ensures nested { IfOk result (λ s. statement_nesting (statement_tree s) ≤ depth + 1) }
     ensures shorter { OnOk result (length cursor.new < length cursor.old) }
 {
     let at = cursor.keyword(Keyword::While)?;
@@ -119,6 +126,7 @@ fn repeated(alloc: Global, depth: u32, cursor: &mut Cursor<'_, '_>) -> Parsed<St
 fn switch(alloc: Global, depth: u32, cursor: &mut Cursor<'_, '_>) -> Parsed<Statement>
     ensures phrase { IfOk result (λ s. IsStatement (statement_tree s) cursor.old cursor.new) }
     ensures closed { IfOk result (λ s. ends_open (statement_tree s) ≡ false) }
+    ensures nested { IfOk result (λ s. statement_nesting (statement_tree s) ≤ depth + 1) }
     ensures shorter { OnOk result (length cursor.new < length cursor.old) }
 {
     let at = cursor.keyword(Keyword::Switch)?;
@@ -134,6 +142,7 @@ fn switch(alloc: Global, depth: u32, cursor: &mut Cursor<'_, '_>) -> Parsed<Stat
 fn clauses(alloc: Global, depth: u32, cursor: &mut Cursor<'_, '_>) -> Parsed<Vec<Clause>>
     ensures some { IfOk result (λ clauses. 0 < length clauses.items) }
     ensures phrase { IfOk result (λ clauses. AreClauses (clauses_of (map clause_tree clauses.items)) cursor.old cursor.new) }
+    ensures nested { IfOk result (λ clauses. clauses_nesting (clauses_of (map clause_tree clauses.items)) ≤ depth) }
     ensures shorter { OnOk result (length cursor.new < length cursor.old) }
 {
     let mut clauses = Vec::new(alloc);
@@ -148,6 +157,7 @@ fn clauses(alloc: Global, depth: u32, cursor: &mut Cursor<'_, '_>) -> Parsed<Vec
 #[cycle(statement)]
 fn clause(alloc: Global, depth: u32, cursor: &mut Cursor<'_, '_>) -> Parsed<Clause>
     ensures phrase { IfOk result (λ clause. AreClauses (clauses_of (clause_tree clause ∷ [])) cursor.old cursor.new) }
+    ensures nested { IfOk result (λ clause. clauses_nesting (clauses_of (clause_tree clause ∷ [])) ≤ depth) }
     ensures shorter { OnOk result (length cursor.new < length cursor.old) }
 {
     let at = cursor.place();
@@ -180,6 +190,7 @@ fn pattern(alloc: Global, cursor: &mut Cursor<'_, '_>) -> Parsed<Pattern>
 fn simple(alloc: Global, depth: u32, cursor: &mut Cursor<'_, '_>) -> Parsed<Statement>
     ensures phrase { IfOk result (λ s. IsStatement (statement_tree s) cursor.old cursor.new) }
     ensures closed { IfOk result (λ s. ends_open (statement_tree s) ≡ false) }
+    ensures nested { IfOk result (λ s. statement_nesting (statement_tree s) ≤ depth + 1) }
     ensures shorter { OnOk result (length cursor.new < length cursor.old) }
 {
     match cursor.kind() {
@@ -227,6 +238,7 @@ fn freed(alloc: Global, cursor: &mut Cursor<'_, '_>) -> Parsed<(u32, Name)>
 fn returned(alloc: Global, depth: u32, cursor: &mut Cursor<'_, '_>) -> Parsed<Statement>
     ensures phrase { IfOk result (λ s. IsStatement (statement_tree s) cursor.old cursor.new) }
     ensures closed { IfOk result (λ s. ends_open (statement_tree s) ≡ false) }
+    ensures nested { IfOk result (λ s. statement_nesting (statement_tree s) ≤ depth + 1) }
     ensures shorter { OnOk result (length cursor.new < length cursor.old) }
 {
     let at = cursor.keyword(Keyword::Return)?;
@@ -243,6 +255,7 @@ fn returned(alloc: Global, depth: u32, cursor: &mut Cursor<'_, '_>) -> Parsed<St
 fn run(alloc: Global, depth: u32, cursor: &mut Cursor<'_, '_>) -> Parsed<Statement>
     ensures phrase { IfOk result (λ s. IsStatement (statement_tree s) cursor.old cursor.new) }
     ensures closed { IfOk result (λ s. ends_open (statement_tree s) ≡ false) }
+    ensures nested { IfOk result (λ s. statement_nesting (statement_tree s) ≤ depth + 1) }
     ensures shorter { OnOk result (length cursor.new < length cursor.old) }
 {
     let first = expression(alloc, depth, cursor)?;

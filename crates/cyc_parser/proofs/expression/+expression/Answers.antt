@@ -14,6 +14,7 @@ use Rattle.cyc_parser.proofs.NextToken.{is_one}
 use Rattle.cyc_parser.proofs.ExpressionLists.{operands_more, links_more, suffixes_more, listed_more}
 use Rattle.cyc_parser.proofs.ExpressionForms.{make_union_phrase, array_made}
 use Rattle.cyc_parser.proofs.Chains.{chained_phrase, chained_binds, no_operands, all_of_phrase, any_of_phrase, no_suffixes, suffixed_phrase}
+use Rattle.cyc_parser.proofs.Nested.{operands_nested, links_nested, arguments_nested, suffixes_nested}
 use Rattle.cyc_parser.proofs.expression.+expression.Goals as goal
 use Rattle.cyc_parser.proofs.expression.+expression.Goals.{postfix-then-eq+in_ok-named, postfix-else-eq+in_ok-primary}
 
@@ -23,6 +24,9 @@ pub any_of-others-preserved : goal.any_of-others-preserved
 any_of-others-preserved t c = record {
   first = c.others.invariant.first;
   binds_first = c.others.invariant.binds_first;
+  nested_first = c.others.invariant.nested_first;
+  nested = operands_nested c.args.depth c.others.others.items c.push.new.self.items c.in_ok-all_of.field-0
+      c.in_ok-push.ensures.items c.others.invariant.nested c.in_ok-all_of.ensures.nested;
   shorter = omega (arith, c.in_ok-all_of.ensures.shorter, c.in_ok-sign.ensures.ok);
   read = operands_more sign.OrOr 2 c.others.others.items c.push.new.self.items c.in_ok-all_of.field-0 c.all_of.new.cursor c.others.cursor
       c.sign.new.self c.all_of-in-others.new.cursor
@@ -43,6 +47,9 @@ pub all_of-others-preserved : goal.all_of-others-preserved
 all_of-others-preserved t c = record {
   first = c.others.invariant.first;
   binds_first = c.others.invariant.binds_first;
+  nested_first = c.others.invariant.nested_first;
+  nested = operands_nested c.args.depth c.others.others.items c.push.new.self.items c.in_ok-chain.field-0
+      c.in_ok-push.ensures.items c.others.invariant.nested c.in_ok-chain.ensures.nested;
   shorter = omega (arith, c.in_ok-chain.ensures.shorter, c.in_ok-sign.ensures.ok);
   read = operands_more sign.AndAnd 3 c.others.others.items c.push.new.self.items c.in_ok-chain.field-0 c.chain.new.cursor c.others.cursor
       c.sign.new.self c.chain-in-others.new.cursor
@@ -83,6 +90,9 @@ chain-returns-clause-binds t c =
 
 pub links-links-preserved : goal.links-links-preserved
 links-links-preserved t c = record {
+  nested = links_nested c.args.depth c.links.links.items c.push.new.self.items
+      (record { operator = c.in-Some.operator; operand = c.in_ok-operand.operand })
+      c.in_ok-push.ensures.items c.links.invariant.nested c.in_ok-operand.ensures.nested;
   shorter = omega (arith, c.in_ok-operand.ensures.shorter, c.in_ok-read.ensures.ok);
   read = links_more (number_of c.args.level) c.links.links.items c.push.new.self.items
       (record { operator = c.in-Some.operator; operand = c.in_ok-operand.operand })
@@ -168,6 +178,8 @@ pub arguments-more-preserved : goal.arguments-more-preserved
 arguments-more-preserved t c =
     let before = c.more.invariant.read in
     record {
+      nested = arguments_nested c.args.depth c.more.arguments.items c.push-in-more.new.self.items c.in_ok-expression-2.field-0
+          c.in_ok-push-2.ensures.items c.more.invariant.nested c.in_ok-expression-2.ensures.nested;
       shorter = omega (arith, c.in_ok-expression-2.ensures.shorter, c.in_ok-sign-2.ensures.ok);
       read = (
         before.0,
@@ -180,6 +192,8 @@ arguments-more-preserved t c =
 
 pub suffixes-more-preserved : goal.suffixes-more-preserved
 suffixes-more-preserved t c = record {
+  nested = suffixes_nested c.args.depth c.more.suffixes.items c.push-in-more.new.self.items c.in_ok-suffix.field-0
+      c.in_ok-push-2.ensures.items c.more.invariant.nested c.in_ok-suffix.ensures.nested;
   shorter = omega (arith, c.in_ok-suffix.ensures.shorter);
   read = λ from member. suffixes_more c.more.suffixes.items c.push-in-more.new.self.items c.in_ok-suffix.field-0 from c.more.cursor c.suffix.new.cursor
       c.in_ok-push-2.ensures.items (c.more.invariant.read from member) c.in_ok-suffix.ensures.phrase;

@@ -1,6 +1,7 @@
 use Rattle.std.proofs.Common.{◌≤◌, length, map, option_map, ◌+◌, ◌*◌}
 use Rattle.cyc_lexer.specs.declared.token.Sign.TheVariants as sign
 use Rattle.cyc_tree.specs.View.{name_tree, expression_tree, link_tree, suffix_tree, expressions_of, links_of, suffixes_of}
+use Rattle.cyc_tree.specs.Nesting.{inner_nesting, operand_nesting, argument_nesting, link_nesting, suffix_nesting}
 use Rattle.cyc_parser.specs.ExpressionGrammar.{IsExpression, binds, AreOperands, AreLinks, AreSuffixes}
 use Rattle.cyc_parser.specs.Phrases.{Tokens, IsSign}
 use Rattle.cyc_parser.specs.Levels.{levels_from, levels_left, number_of}
@@ -21,6 +22,8 @@ abbrev pub invariant-any_of-others : goal.invariant-any_of-others
 invariant-any_of-others l = record {
   first : IsExpression (expression_tree l.first) l.fn.cursor l.initial.cursor;
   binds_first : 2 ≤ binds (expression_tree l.first);
+  nested_first : inner_nesting (expression_tree l.first) ≤ l.depth;
+  nested : operand_nesting (expressions_of (map expression_tree l.others.items)) ≤ l.depth;
   shorter : length l.cursor ≤ length l.initial.cursor;
   read : AreOperands sign.OrOr 2 (expressions_of (map expression_tree l.others.items)) l.initial.cursor l.cursor;
 }
@@ -35,6 +38,8 @@ abbrev pub invariant-all_of-others : goal.invariant-all_of-others
 invariant-all_of-others l = record {
   first : IsExpression (expression_tree l.first) l.fn.cursor l.initial.cursor;
   binds_first : 3 ≤ binds (expression_tree l.first);
+  nested_first : inner_nesting (expression_tree l.first) ≤ l.depth;
+  nested : operand_nesting (expressions_of (map expression_tree l.others.items)) ≤ l.depth;
   shorter : length l.cursor ≤ length l.initial.cursor;
   read : AreOperands sign.AndAnd 3 (expressions_of (map expression_tree l.others.items)) l.initial.cursor l.cursor;
 }
@@ -51,6 +56,7 @@ decreases-links l = 64 * l.depth + 9 + 4 * levels_from l.level
 abbrev pub invariant-links-links : goal.invariant-links-links
 invariant-links-links l = record {
   shorter : length l.cursor ≤ length l.fn.cursor;
+  nested : link_nesting (links_of (map link_tree l.links.items)) ≤ l.depth;
   read : AreLinks (number_of l.level) (links_of (map link_tree l.links.items)) l.fn.cursor l.cursor;
 }
 
@@ -93,6 +99,7 @@ decreases-arguments l = 64 * l.depth + 10
 abbrev pub invariant-arguments-more : goal.invariant-arguments-more
 invariant-arguments-more l = record {
   shorter : length l.cursor ≤ length l.initial.cursor;
+  nested : argument_nesting (expressions_of (map expression_tree l.arguments.items)) ≤ l.depth;
   read : (a : Tokens) × IsSign sign.LeftParenthesis l.fn.cursor a × AreListed (expressions_of (map expression_tree l.arguments.items)) a l.cursor;
 }
 
@@ -105,6 +112,7 @@ decreases-suffixes l = 64 * l.depth + 20
 abbrev pub invariant-suffixes-more : goal.invariant-suffixes-more
 invariant-suffixes-more l = record {
   shorter : length l.cursor ≤ length l.fn.cursor;
+  nested : suffix_nesting (suffixes_of (map suffix_tree l.suffixes.items)) ≤ l.depth;
   read : (from : Tokens) → MayBeMember (option_map name_tree l.fn.member) from l.fn.cursor
       → AreSuffixes (suffixes_of (map suffix_tree l.suffixes.items)) from l.cursor;
 }

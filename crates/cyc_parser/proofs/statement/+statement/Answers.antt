@@ -1,9 +1,11 @@
 -- What each function has read is a phrase: the lists between are the cursor's states between the calls.
-use Rattle.std.proofs.Common.{ℕ, ◌<◌, ◌∷◌, [], length, sym, subst, arith}
+use Rattle.std.proofs.Common.{ℕ, ◌<◌, ◌≤◌, ◌∷◌, [], length, sym, subst, arith}
 use Rattle.cyc_tree.specs.View.{item_tree, pattern_tree, items_of}
+use Rattle.cyc_tree.specs.Nesting.{items_nesting}
 use Rattle.cyc_parser.specs.StatementGrammar.{IsPattern, AreItems}
 use Rattle.cyc_parser.proofs.StatementLists.{one_declared, one_executed, items_more, one_clause, clauses_more}
 use Rattle.cyc_parser.proofs.StatementForms.{if_else_phrase, switch_phrase}
+use Rattle.cyc_parser.proofs.Nested.{declared_nested, executed_nested, items_nested, clauses_nested}
 use Rattle.cyc_parser.proofs.statement.+statement.Goals as goal
 use Rattle.cyc_parser.proofs.statement.+statement.Goals.{block_items-then-begins_declaration-2+in_ok-declaration, block_items-else-begins_declaration-2+in_ok-statement}
 
@@ -21,8 +23,17 @@ block_items-items-preserved t c =
       | block_items-then-begins_declaration-2+in_ok-declaration w ↦ rw w.cursor-is w.in_ok-declaration.ensures.shorter
       | block_items-else-begins_declaration-2+in_ok-statement w ↦ rw w.cursor-is w.in_ok-statement.ensures.shorter
     ] in
+    let nested : items_nesting (items_of (item_tree c.if-begins_declaration-2.item ∷ [])) ≤ c.args.depth =
+    elim c.if-begins_declaration-2.branch [
+      | block_items-then-begins_declaration-2+in_ok-declaration w ↦ rw w.item-is (declared_nested c.args.depth w.in_ok-declaration.field-0
+          w.in_ok-declaration.ensures.nested)
+      | block_items-else-begins_declaration-2+in_ok-statement w ↦ rw w.item-is (executed_nested c.args.depth w.in_ok-statement.field-0
+          w.in_ok-statement.ensures.nested)
+    ] in
     record {
       shorter = omega arith;
+      nested = items_nested c.args.depth c.items.items.items c.push.new.self.items c.if-begins_declaration-2.item
+          c.in_ok-push.ensures.items c.items.invariant.nested nested;
       read = items_more c.items.items.items c.push.new.self.items c.if-begins_declaration-2.item c.args.cursor.now c.items.cursor
           c.if-begins_declaration-2.cursor
           c.in_ok-push.ensures.items c.items.invariant.read item;
@@ -52,6 +63,8 @@ pub clauses-more-preserved : goal.clauses-more-preserved
 clauses-more-preserved t c = record {
   shorter = omega (arith, c.in_ok-clause-2.ensures.shorter);
   some = omega (arith, c.in_ok-push-2.ensures.len);
+  nested = clauses_nested c.args.depth c.more.clauses.items c.push-in-more.new.self.items c.in_ok-clause-2.field-0
+      c.in_ok-push-2.ensures.items c.more.invariant.nested c.in_ok-clause-2.ensures.nested;
   read = clauses_more c.more.clauses.items c.push-in-more.new.self.items c.in_ok-clause-2.field-0 c.args.cursor.now c.more.cursor c.clause-in-more.new.cursor
       c.in_ok-push-2.ensures.items c.more.invariant.read c.in_ok-clause-2.ensures.phrase;
 }

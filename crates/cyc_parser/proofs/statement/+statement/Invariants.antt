@@ -1,5 +1,6 @@
 use Rattle.std.proofs.Common.{◌<◌, ◌≤◌, length, map, ◌+◌, ◌*◌}
 use Rattle.cyc_tree.specs.View.{item_tree, clause_tree, items_of, clauses_of}
+use Rattle.cyc_tree.specs.Nesting.{items_nesting, clauses_nesting}
 use Rattle.cyc_parser.specs.StatementGrammar.{AreItems, AreClauses}
 use Rattle.cyc_parser.proofs.statement.+statement.Given as goal
 
@@ -18,6 +19,7 @@ decreases-block_items l = 8 * l.depth + 1
 abbrev pub invariant-block_items-items : goal.invariant-block_items-items
 invariant-block_items-items l = record {
   shorter : length l.cursor ≤ length l.fn.cursor;
+  nested : items_nesting (items_of (map item_tree l.items.items)) ≤ l.depth;
   read : AreItems (items_of (map item_tree l.items.items)) l.fn.cursor l.cursor;
 }
 
@@ -40,6 +42,7 @@ abbrev pub invariant-clauses-more : goal.invariant-clauses-more
 invariant-clauses-more l = record {
   shorter : length l.cursor ≤ length l.initial.cursor;
   some : 0 < length l.clauses.items;
+  nested : clauses_nesting (clauses_of (map clause_tree l.clauses.items)) ≤ l.depth;
   read : AreClauses (clauses_of (map clause_tree l.clauses.items)) l.fn.cursor l.cursor;
 }
 

@@ -9,4 +9,5 @@ returns-in-Ok-parse-clause-found c = record {
   within = c.in-Ok.ensures.found.1;
   lexed = c.in-Ok.ensures.found.0;
   parsed = subst (λ tokens. IsProgram c.in-Ok-parse.program (map token_tree tokens)) c.deref.ensures.value c.in-Ok-parse.ensures.found;
+  nested = c.in-Ok-parse.ensures.nested;
 }

@@ -107,7 +107,7 @@ text_run text bytes pages steps why made start starts end {reader_old} {reader_n
       program = made.program;
       accepted = made.accepted;
       parts = made.parts;
-      as_asked = made.as_asked;
+      made = made.made;
       implemented = made.implemented;
       start = start;
       starts = starts;

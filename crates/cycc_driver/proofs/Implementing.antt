@@ -1,5 +1,5 @@
 -- From the layers to the whole: an image of a program's placed code does what the program does.
-use Rattle.std.proofs.Common.{◌≡◌, ℕ, ◌+◌, ◌*◌, ◌≤◌, ◌<◌, List, sym, subst, arith}
+use Rattle.std.proofs.Common.{◌≡◌, ℕ, [], ◌+◌, ◌*◌, ◌≤◌, ◌<◌, List, sym, subst, arith}
 use Rattle.cyc_words.specs.Events.{SourceEnding}
 use Rattle.cyc_tree.specs.Tree.{Program}
 use Rattle.cyc_image.specs.Format.{Contents, Fits, IsImage}
@@ -70,12 +70,12 @@ implemented program last body lines bytes parts layers code entry fits start sta
 
 -- the image of an accepted text
 pub text_image : (text bytes code : List ℕ) (program : Program) (parts : Contents) (pages : ℕ) → IsTextOf text program → IsAccepted program → IsImage bytes parts → parts.code ≡ code
-    → parts.entry ≡ 0 → parts.pages ≡ pages → ((p : Contents) → p.code ≡ code → p.entry ≡ 0 → Fits p → IsImplementedBy program p) → IsTextImage text pages bytes
-text_image text bytes code program parts pages spelled accepted image is_code from_first as_asked does = record {
+    → parts.entry ≡ 0 → parts.statics ≡ [] → parts.pages ≡ pages → ((p : Contents) → p.code ≡ code → p.entry ≡ 0 → Fits p → IsImplementedBy program p) → IsTextImage text pages bytes
+text_image text bytes code program parts pages spelled accepted image is_code from_first no_data as_asked does = record {
   program = program;
   accepted = record { spelled = spelled; accepted = accepted };
   parts = parts;
   image = image;
-  as_asked = as_asked;
+  made = record { from_first = from_first; no_data = no_data; as_asked = as_asked };
   implemented = does parts is_code from_first image.fits;
 }

@@ -26,13 +26,19 @@ abbrev pub IsImplementedBy : Program → Contents → Type 0
 IsImplementedBy program parts =
     (start : Arrays) → IsStart parts start → (input : List ℕ) → AreBytes input → Implements (lengths_of start) (state_of start) input (source_meaning program input)
 
+-- Parts of an image that begins at its first instruction, has no data, since no form is brought yet that needs data, and has so many pages.
+pub record AreAsAsked (pages : ℕ) (parts : Contents) : Type 0 where
+  pub from_first : parts.entry ≡ 0
+  pub no_data : parts.statics ≡ []
+  pub as_asked : parts.pages ≡ pages
+
 -- The image of an accepted text, with so many pages: it implements the program that the text spells.
 pub record IsTextImage (text : List ℕ) (pages : ℕ) (bytes : List ℕ) : Type 0 where
   pub program : Program
   pub accepted : IsAcceptedAs text program
   pub parts : Contents
   pub image : IsImage bytes parts
-  pub as_asked : parts.pages ≡ pages
+  pub made : AreAsAsked pages parts
   pub implemented : IsImplementedBy program parts
 
 -- what `compile` puts into an image as its code: whole words, some, and no more than the limit
@@ -80,7 +86,7 @@ pub record IsTextRun (text : List ℕ) (pages steps : ℕ) (why : Ending) (reade
   pub program : Program
   pub accepted : IsAcceptedAs text program
   pub parts : Contents
-  pub as_asked : parts.pages ≡ pages
+  pub made : AreAsAsked pages parts
   pub implemented : IsImplementedBy program parts
   pub start : Arrays
   pub starts : IsStart parts start

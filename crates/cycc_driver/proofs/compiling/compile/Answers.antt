@@ -11,7 +11,7 @@ pub returns-clause-implemented : goal.returns-clause-implemented
 returns-clause-implemented c =
     let parts : Contents = record { entry = 0; code = c.deref.result.now; statics = []; pages = c.args.pages } in
     text_image c.args.text.now c.in_ok-write.field-0.items c.in-Ok.code.bytes.items c.in_ok-program.program parts c.args.pages c.in_ok-program.ensures.found
-    c.in_ok-checked.ensures.accepted c.in_ok-write.ensures c.deref.ensures.value refl refl
+    c.in_ok-checked.ensures.accepted c.in_ok-write.ensures c.deref.ensures.value refl refl refl
     (subst (λ (program : Program). (p : Contents) → p.code ≡ c.in-Ok.code.bytes.items → p.entry ≡ 0 → Fits p → IsImplementedBy program p)
     c.in_ok-checked.ensures.same c.in-Ok.ensures.implemented)
 

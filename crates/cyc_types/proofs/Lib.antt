@@ -1,1 +1,2 @@
+mod Linking
 pub mod Positions

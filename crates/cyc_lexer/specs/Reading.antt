@@ -1,6 +1,6 @@
--- How the front of a text is read, step by step: what the private functions of the crate compute.
+-- How the front of a text is read, step by step: what the functions of the crate compute.
 -- Lengths are in bytes. That this reading is the one of Lexing.antt is proved in proofs/.
-use Rattle.std.specs.Prelude.{ℕ, suc, ◌+◌, ◌-◌, ◌*◌, zero, List, [], ◌∷◌, length, map, take, slice_index, Bool, true, false, not, ◌&&◌, ◌||◌, nat_eq, nat_le, if◌then◌else◌, Option, Some, None}
+use Rattle.std.specs.Prelude.{ℕ, suc, ◌+◌, ◌-◌, ◌*◌, zero, List, [], ◌∷◌, length, map, take, drop, slice_index, Bool, true, false, not, ◌&&◌, ◌||◌, nat_eq, nat_le, if◌then◌else◌, Option, Some, None}
 use Rattle.cyc_lexer.specs.declared.words.TheConstants.{KEYWORDS}
 use Rattle.cyc_lexer.specs.declared.signs.TheConstants.{SIGNS}
 use Rattle.cyc_lexer.specs.Bytes.{is_between, is_space, is_letter, is_digit, is_octal_digit, is_hexadecimal_digit, is_word_byte, digit_value}
@@ -102,6 +102,19 @@ abbrev pub text_from : ℕ → List ℕ → Option ℕ
 text_from skip [] = None
 text_from zero (b ∷ bs) = if nat_eq b 34 then Some 1 else on_character (character_at 34 (b ∷ bs)) (λ n. longer 1 (text_from n bs))
 text_from (suc skip) (b ∷ bs) = longer 1 (text_from skip bs)
+
+abbrev pub with_character : Option (ℕ × ℕ) → (ℕ → List ℕ) → List ℕ
+with_character None rest = []
+with_character (Some c) rest = c.0 ∷ rest c.1
+
+-- the bytes that the characters at the front mean, as far as there are characters, and so many of them at most
+abbrev pub characters_in : ℕ → ℕ → List ℕ → List ℕ
+characters_in zero quote bytes = []
+characters_in (suc most) quote bytes = with_character (character_at quote bytes) (λ n. characters_in most quote (drop n bytes))
+
+-- the bytes that a string's spelling means: those of the characters between its first byte and its last, the quotes
+unfoldable pub text_bytes : List ℕ → List ℕ
+text_bytes spelling = characters_in (length spelling) 34 (take (length spelling - 2) (drop 1 spelling))
 
 -- ---- signs
 

@@ -22,6 +22,6 @@ mod words;
 
 pub use fault::LexFault;
 pub use place::place_of;
-pub use string::string_bytes;
+pub use string::{bytes_are_meant, string_bytes};
 pub use text::tokens;
 pub use token::{Keyword, Sign, Token, TokenKind};

@@ -2,6 +2,7 @@
 
 ghost use Rattle.std.specs.Prelude.{◌≡◌, ℕ, List, IfOk};
 ghost use Rattle.cyc_lexer.specs.Spelling.{IsText};
+ghost use Rattle.cyc_lexer.specs.Reading.{text_bytes};
 
 use crate::characters::character_at;
 use std::alloc::{AllocError, Global};
@@ -11,7 +12,8 @@ use std::alloc::{AllocError, Global};
 ///
 /// Fails only where no host memory is left.
 pub fn string_bytes(alloc: Global, spelling: &[u8]) -> Result<Vec<u8>, AllocError>
-    ensures { (meant : List ℕ) → IsText spelling.now meant → IfOk result (λ v. v.items ≡ meant) }
+    ensures read { IfOk result (λ v. v.items ≡ text_bytes spelling.now) }
+    ensures meant { (meant : List ℕ) → IsText spelling.now meant → IfOk result (λ v. v.items ≡ meant) }
 {
     let mut bytes = Vec::new(alloc);
     let end = spelling.len().saturating_sub(1);
@@ -25,3 +27,8 @@ pub fn string_bytes(alloc: Global, spelling: &[u8]) -> Result<Vec<u8>, AllocErro
     }
     Ok(bytes)
 }
+
+/// A law, with nothing to run: the bytes of a string's spelling are those that the spelling means.
+pub fn bytes_are_meant()
+    ensures { (spelling bytes : List ℕ) → IsText spelling bytes → text_bytes spelling ≡ bytes }
+{}

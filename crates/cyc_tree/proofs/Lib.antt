@@ -1,3 +1,4 @@
 pub mod Forms
 pub mod StatementForms
 pub mod PartForms
+pub mod Greatest

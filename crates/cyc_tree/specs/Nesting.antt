@@ -1,5 +1,5 @@
 -- The nesting of tokens: how many statements, expressions and unary expressions contain one. A phrase's is the greatest of its tokens.
-use Rattle.std.specs.Prelude.{ℕ, ◌+◌, max, List, [], ◌∷◌, Some, None}
+use Rattle.std.specs.Prelude.{ℕ, ◌+◌, max, [], ◌∷◌, Some, None}
 use Rattle.cyc_tree.specs.Tree.{Expression, Number, Character, Text, Null, HeapRegion, UniqueRegion, Variable, Call, MakeUnion, NumElts, Grouped, Suffixed, Prefixed, New, NewIn, Chain, AllOf, AnyOf, Assign, Expressions, NoExpressions, MoreExpressions, Links, NoLinks, MoreLinks, Suffixes, NoSuffixes, Index, Dot, Arrow, Made, One, Array}
 use Rattle.cyc_tree.specs.Tree as tree
 use Rattle.cyc_tree.specs.Tree.{Initializer, Declaration, Local, Statement, Empty, Block, Run, Exchange, If, IfElse, While, Switch, Break, Continue, Return, FreeUnique, FreeKey, BlockItems, NoItems, Declare, Execute, Clauses, NoClauses, MoreClauses, Item, StructItem, UnionItem, GlobalItem, FunctionItem, Program}

@@ -3,16 +3,21 @@
 //! `Program` holds every form of the language. A contract sees a program as the pure tree of
 //! specs/Tree.antt, with no boxes, vectors or pointers in it; all definitions of the language speak
 //! of that tree. Places are offsets in the text, in bytes; the end of the text is `END_OF_TEXT`.
+//! `nesting` answers how deep a program's phrases nest.
 #![tactic(auto)]
 
 mod expression;
 mod item;
 mod name;
+mod nested;
 mod statement;
+#[cfg(test)]
+mod tests;
 
 pub use expression::{Expression, Link, Made, Operator, Prefix, Suffix};
 pub use item::{
     Bound, Constant, END_OF_TEXT, Function, Global, Initial, Item, Member, Program, Structure,
 };
 pub use name::{Base, Name, Pointer, RegionName, Sign, TypeName};
+pub use nested::nesting;
 pub use statement::{BlockItem, Clause, Declaration, Initializer, Pattern, Statement};

@@ -2,12 +2,12 @@ use Rattle.std.proofs.Common.{◌≡◌, ◌+◌, ◌-◌, List, ℕ, length, ta
 use Rattle.std.proofs.lemmas.List.{length-take}
 use Rattle.cyc_lexer.specs.Reading.{character_at}
 use Rattle.cyc_lexer.proofs.ReadStrings.{character_within}
-use Rattle.cyc_lexer.proofs.StringSteps.{Decodes, part_of, starts, goes_on, stops, ends}
+use Rattle.cyc_lexer.proofs.StringSteps.{Decodes, part_of, starts, goes_on, stops, ends, text_meant}
 use Rattle.cyc_lexer.proofs.string.string_bytes.Goals as goal
 use Rattle.cyc_lexer.proofs.string.string_bytes.Goals.{else-loop-at-test, then-loop-at-test+in_default}
 
 pub loop-at-init : goal.loop-at-init
-loop-at-init c = (omega arith, λ meant h. starts c.args.spelling.now c.new-bytes.result.items meant c.new-bytes.ensures.items h)
+loop-at-init c = (omega arith, starts c.args.spelling.now c.new-bytes.result.items c.new-bytes.ensures.items)
 
 pub loop-at-preserved : goal.loop-at-preserved
 loop-at-preserved c =
@@ -19,18 +19,23 @@ loop-at-preserved c =
     ap (λ end. character_at 34 (take (end - at) (drop at spelling))) (sym c.saturating_sub-end.ensures) ∙ sym c.character_at.ensures ∙ c.in-Some.is in
     let within = (character_within 34 (part_of spelling at) byte n read).1 in (
       omega (arith, within, length-take (length spelling - 1 - at) (drop at spelling), c.saturating_sub-end.ensures),
-      λ meant h. subst (λ (items : List ℕ). Decodes spelling items meant (at + n)) (sym c.in_ok-push.ensures.items)
-          (goes_on spelling c.loop-at.bytes.items meant at byte n read (c.loop-at.invariant.1 meant h)),
+      subst (λ (items : List ℕ). Decodes spelling items (at + n)) (sym c.in_ok-push.ensures.items)
+          (goes_on spelling c.loop-at.bytes.items at byte n read c.loop-at.invariant.1),
     )
 
-pub returns : goal.returns
-returns c = λ meant h.
+pub returns-clause-read : goal.returns-clause-read
+returns-clause-read c =
     let spelling = c.args.spelling.now in
     let at = c.loop-at.at in
-    let decodes = c.loop-at.invariant.1 meant h in
+    let bytes = c.loop-at.bytes.items in
     elim c.loop-at-test.branch [
-      | else-loop-at-test w ↦ ends spelling c.loop-at.bytes.items meant at (omega (arith, w.loop-at-test.false, c.saturating_sub-end.ensures)) decodes
+      | else-loop-at-test w ↦ ends spelling bytes at (omega (arith, w.loop-at-test.false, c.saturating_sub-end.ensures)) c.loop-at.invariant.1
       | then-loop-at-test+in_default w ↦
-          stops spelling c.loop-at.bytes.items meant at
-          (ap (λ end. character_at 34 (take (end - at) (drop at spelling))) (sym c.saturating_sub-end.ensures) ∙ sym w.character_at.ensures ∙ w.in_default.is) decodes
+          stops spelling bytes at
+          (ap (λ end. character_at 34 (take (end - at) (drop at spelling))) (sym c.saturating_sub-end.ensures)
+          ∙ sym w.character_at.ensures ∙ w.in_default.is)
+          c.loop-at.invariant.1
     ]
+
+pub returns-clause-meant : goal.returns-clause-meant
+returns-clause-meant c = λ meant h. returns-clause-read c ∙ text_meant c.args.spelling.now meant h

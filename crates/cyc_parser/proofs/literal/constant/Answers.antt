@@ -6,4 +6,4 @@ pub returns-in_ok-string_bytes-in-Text-clause-phrase : goal.returns-in_ok-string
 returns-in_ok-string_bytes-in-Text-clause-phrase c =
     let token = c.in_ok-token in
     let bytes = c.in_ok-string_bytes-in-Text in
-    is_string (token_tree token.token) bytes.field-0.items c.args.cursor.now c.read.new.self token.ensures.token c.in-Text.is bytes.ensures
+    is_string (token_tree token.token) bytes.field-0.items c.args.cursor.now c.read.new.self token.ensures.token c.in-Text.is bytes.ensures.meant

@@ -12,4 +12,4 @@ returns-in_ok-string_bytes-in-Text-clause-phrase c =
     let bytes = c.in_ok-string_bytes-in-Text in
     let to = c.read.new.self in
     subst (λ (e : Expression). IsExpression e c.args.cursor.now to) (sym (text_tree token.token.at bytes.field-0))
-    (is_string (token_tree token.token) bytes.field-0.items c.args.cursor.now to token.ensures.token c.in-Text.is bytes.ensures)
+    (is_string (token_tree token.token) bytes.field-0.items c.args.cursor.now to token.ensures.token c.in-Text.is bytes.ensures.meant)

@@ -6,3 +6,11 @@ pub mod StatementGrammar
 pub mod Parts
 pub mod Grammar
 pub mod Reading
+pub mod Tests
+pub mod Reader
+pub mod ReadTypes
+pub mod ReadExpressions
+pub mod ReadStatements
+pub mod ReadPrograms
+pub mod Exact
+pub mod Refusals

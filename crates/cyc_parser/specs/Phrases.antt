@@ -1,7 +1,7 @@
 -- Tokens of phrases. A phrase relates the tokens from its first one on, `from`, to those behind it, `to`.
 use Rattle.std.specs.Prelude.{◌≡◌, ◌≢◌, ℕ, List, [], ◌∷◌, codes, nat_eq, if◌then◌else◌}
 use Rattle.cyc_lexer.specs.Lexing.{Token}
-use Rattle.cyc_lexer.specs.Spelling.{IsText}
+use Rattle.cyc_lexer.specs.Reading.{text_bytes}
 use Rattle.cyc_lexer.specs.declared.token.Keyword.{Keyword}
 use Rattle.cyc_lexer.specs.declared.token.Sign.{Sign}
 use Rattle.cyc_lexer.specs.declared.token.Sign.TheVariants as sign
@@ -38,7 +38,7 @@ IsName n from to = from ≡ record { kind = kind.Identifier; at = n.at; text = n
 -- a string; its bytes are those that its spelling means
 abbrev pub IsString : ℕ → List ℕ → Tokens → Tokens → Type 0
 IsString at bytes from to =
-    (text : List ℕ) × (from ≡ record { kind = kind.Text; at = at; text = text } ∷ to) × ((meant : List ℕ) → IsText text meant → bytes ≡ meant)
+    (text : List ℕ) × (from ≡ record { kind = kind.Text; at = at; text = text } ∷ to) × (bytes ≡ text_bytes text)
 
 -- a region name's spelling without its backquote
 abbrev pub after_backquote : List ℕ → List ℕ
@@ -55,10 +55,6 @@ IsRegion (Named n) from to =
 -- a phrase's first token stands here
 abbrev pub StartsAt : ℕ → Tokens → Type 0
 StartsAt at from = (first : Token) × (rest : Tokens) × (from ≡ first ∷ rest) × (first.at ≡ at)
-
--- the next token is this keyword
-abbrev pub BeginsWith : Keyword → Tokens → Type 0
-BeginsWith word from = (to : Tokens) × IsKeyword word from to
 
 -- a phrase in parentheses
 abbrev pub InParentheses : (Tokens → Tokens → Type 0) → Tokens → Tokens → Type 0

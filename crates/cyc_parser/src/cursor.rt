@@ -1,11 +1,13 @@
 // The tokens that are left to read.
 
-ghost use Rattle.std.specs.Prelude.{◌≡◌, ◌∷◌, ◌<◌, ◌≤◌, ◌↔◌, ℕ, Some, IsTrue, IfOk, OnOk, OnErr, OnSome, List, length, map, drop};
+ghost use Rattle.std.specs.Prelude.{◌≡◌, ◌<◌, OnOk, OnSome, List, length, map, drop, if◌then◌else◌};
 ghost use Rattle.cyc_lexer.specs.Tokens.{token_tree};
-ghost use Rattle.cyc_lexer.specs.declared.token.TokenKind.TheVariants as kind;
 ghost use Rattle.cyc_tree.specs.View.{name_tree, region_tree};
-ghost use Rattle.cyc_parser.specs.Phrases.{IsOne, KeywordAt, SignAt, IsName, IsRegion};
+ghost use Rattle.cyc_parser.specs.declared.fault.ParseFault.TheVariants.{Parse, TooDeep};
 ghost use Rattle.cyc_parser.specs.Reading.{next_kind, next_place};
+ghost use Rattle.cyc_parser.specs.Tests.{is_any as any_token, is_sign as sign_test, is_keyword as keyword_test, is_region as region_test, is_identifier as name_test};
+ghost use Rattle.cyc_parser.specs.Reader.{next_is, token, sign as sign_at, keyword as keyword_at, Gives};
+ghost use Rattle.cyc_parser.specs.ReadTypes.{name as name_at, region as region_at, number as number_at};
 
 use crate::fault::{ParseFault, Parsed};
 use cyc_lexer::{Keyword, Sign, Token, TokenKind};
@@ -60,12 +62,16 @@ impl<'t, 'a> Cursor<'t, 'a> {
     }
 
     /// The fault that the next token is out of order.
-    pub fn unexpected(&self) -> ParseFault {
+    pub fn unexpected(&self) -> ParseFault
+        ensures { result ≡ Parse (next_place self.now) }
+    {
         ParseFault::Parse(self.place())
     }
 
     /// The fault where a phrase would nest too deep, given whether the next token begins such a phrase.
-    pub fn too_deep(&self, begins: bool) -> ParseFault {
+    pub fn too_deep(&self, begins: bool) -> ParseFault
+        ensures { result ≡ (if begins then TooDeep (next_place self.now) else Parse (next_place self.now)) }
+    {
         if begins {
             ParseFault::TooDeep(self.place())
         } else {
@@ -75,30 +81,42 @@ impl<'t, 'a> Cursor<'t, 'a> {
 
     /// Whether the next token is this sign.
     pub fn is_sign(&self, sign: Sign) -> bool
-        ensures { IsTrue result ↔ (next_kind self.now ≡ Some (kind.Sign sign)) }
+        ensures { result ≡ next_is (sign_test sign) self.now }
     {
-        self.kind() == Some(TokenKind::Sign(sign))
+        match self.kind() {
+            Some(TokenKind::Sign(next)) => next == sign,
+            _ => false,
+        }
     }
 
     /// Whether the next token is this keyword.
     pub fn is_keyword(&self, keyword: Keyword) -> bool
-        ensures { IsTrue result ↔ (next_kind self.now ≡ Some (kind.Keyword keyword)) }
+        ensures { result ≡ next_is (keyword_test keyword) self.now }
     {
-        self.kind() == Some(TokenKind::Keyword(keyword))
+        match self.kind() {
+            Some(TokenKind::Keyword(next)) => next == keyword,
+            _ => false,
+        }
+    }
+
+    /// Whether the next token is a name.
+    pub fn is_name(&self) -> bool
+        ensures { result ≡ next_is name_test self.now }
+    {
+        matches!(self.kind(), Some(TokenKind::Identifier))
     }
 
     /// Whether the next token is a region name.
     pub fn is_region(&self) -> bool
-        ensures { IsTrue result ↔ (next_kind self.now ≡ Some kind.Region) }
+        ensures { result ≡ next_is region_test self.now }
     {
-        self.kind() == Some(TokenKind::Region)
+        matches!(self.kind(), Some(TokenKind::Region))
     }
 
     /// Reads the next token, of any kind. Where there is none, the fault is at the end of the text.
     pub fn read(&mut self) -> Parsed<Token<'a>>
-        ensures token { IfOk result (λ token. self.old ≡ token_tree token ∷ self.new) }
-        ensures ok { OnOk result (length self.new < length self.old) }
-        ensures err { OnErr result (self.new ≡ self.old) }
+        ensures reads { Gives token_tree result self.new (token any_token self.old) }
+        ensures shorter { OnOk result (length self.new < length self.old) }
     {
         match self.tokens.get(self.next) {
             Some(token) => {
@@ -112,9 +130,8 @@ impl<'t, 'a> Cursor<'t, 'a> {
 
     /// Reads the next token, which has to be this sign, and answers its place.
     pub fn sign(&mut self, sign: Sign) -> Parsed<u32>
-        ensures token { IfOk result (λ at. SignAt sign at self.old self.new) }
-        ensures ok { OnOk result (length self.new < length self.old) }
-        ensures err { OnErr result (self.new ≡ self.old) }
+        ensures reads { Gives (λ at. at) result self.new (sign_at sign self.old) }
+        ensures shorter { OnOk result (length self.new < length self.old) }
     {
         if self.is_sign(sign) {
             Ok(self.read()?.at)
@@ -125,9 +142,8 @@ impl<'t, 'a> Cursor<'t, 'a> {
 
     /// Reads the next token, which has to be this keyword, and answers its place.
     pub fn keyword(&mut self, keyword: Keyword) -> Parsed<u32>
-        ensures token { IfOk result (λ at. KeywordAt keyword at self.old self.new) }
-        ensures ok { OnOk result (length self.new < length self.old) }
-        ensures err { OnErr result (self.new ≡ self.old) }
+        ensures reads { Gives (λ at. at) result self.new (keyword_at keyword self.old) }
+        ensures shorter { OnOk result (length self.new < length self.old) }
     {
         if self.is_keyword(keyword) {
             Ok(self.read()?.at)
@@ -137,12 +153,12 @@ impl<'t, 'a> Cursor<'t, 'a> {
     }
 
     /// Reads the next token, which has to be a name.
+    #[tactic(auto, unfolding(crate::specs::ReadTypes::name))]
     pub fn name(&mut self, alloc: Global) -> Parsed<Name>
-        ensures token { IfOk result (λ name. IsName (name_tree name) self.old self.new) }
-        ensures ok { OnOk result (length self.new < length self.old) }
-        ensures err { OnErr result (length self.new ≤ length self.old) }
+        ensures reads { Gives name_tree result self.new (name_at self.old) }
+        ensures shorter { OnOk result (length self.new < length self.old) }
     {
-        if self.kind() != Some(TokenKind::Identifier) {
+        if !self.is_name() {
             return Err(self.unexpected());
         }
         let token = self.read()?;
@@ -151,31 +167,31 @@ impl<'t, 'a> Cursor<'t, 'a> {
     }
 
     /// Reads the next token, which has to be a region name.
+    #[tactic(auto, unfolding(crate::specs::ReadTypes::region), using(crate::proofs::Spellings::are_same, crate::proofs::Spellings::are_other))]
     pub fn region(&mut self, alloc: Global) -> Parsed<RegionName>
-        ensures token { IfOk result (λ region. IsRegion (region_tree region) self.old self.new) }
-        ensures ok { OnOk result (length self.new < length self.old) }
-        ensures err { OnErr result (length self.new ≤ length self.old) }
+        ensures reads { Gives region_tree result self.new (region_at self.old) }
+        ensures shorter { OnOk result (length self.new < length self.old) }
     {
         if !self.is_region() {
             return Err(self.unexpected());
         }
         let token = self.read()?;
-        match token.text {
-            b"`H" => Ok(RegionName::Heap(token.at)),
-            b"`U" => Ok(RegionName::Unique(token.at)),
-            spelling => {
-                let text = spelling.strip_prefix(b"`").unwrap_or(spelling);
-                let text = text.to_vec(alloc)?;
-                Ok(RegionName::Named(Name { at: token.at, text }))
-            }
+        if token.text == b"`H".as_slice() {
+            Ok(RegionName::Heap(token.at))
+        } else if token.text == b"`U".as_slice() {
+            Ok(RegionName::Unique(token.at))
+        } else {
+            let text = token.text.strip_prefix(b"`").unwrap_or(token.text);
+            let text = text.to_vec(alloc)?;
+            Ok(RegionName::Named(Name { at: token.at, text }))
         }
     }
 
+    #[tactic(auto, unfolding(crate::specs::ReadTypes::number))]
     /// Reads the next token, which has to be a number, and answers its value and whether it has the suffix.
     pub fn number(&mut self) -> Parsed<(u32, bool)>
-        ensures token { IfOk result (λ number. (at : ℕ) × IsOne (kind.Number number.0 number.1) at self.old self.new) }
-        ensures ok { OnOk result (length self.new < length self.old) }
-        ensures err { OnErr result (self.new ≡ self.old) }
+        ensures reads { Gives (λ n. n) result self.new (number_at self.old) }
+        ensures shorter { OnOk result (length self.new < length self.old) }
     {
         let Some(TokenKind::Number(value, suffix)) = self.kind() else {
             return Err(self.unexpected());

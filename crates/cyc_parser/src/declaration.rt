@@ -1,11 +1,10 @@
 // Declarations in blocks.
 
-ghost use Rattle.std.specs.Prelude.{◌≡◌, ℕ, ◌<◌, ◌≤◌, IfOk, OnOk, length};
-ghost use Rattle.cyc_lexer.specs.declared.token.Keyword.TheVariants as word;
+ghost use Rattle.std.specs.Prelude.{◌<◌, ◌≤◌, OnOk, length};
 ghost use Rattle.cyc_tree.specs.View.{name_tree, initializer_tree, declaration_tree};
-ghost use Rattle.cyc_tree.specs.Nesting.{initializer_nesting, declaration_nesting};
-ghost use Rattle.cyc_parser.specs.Phrases.{Tokens, KeywordAt};
-ghost use Rattle.cyc_parser.specs.StatementGrammar.{IsInitializer, IsNameInParentheses, IsDeclaration};
+ghost use Rattle.cyc_parser.specs.Reader.{Gives};
+ghost use Rattle.cyc_parser.specs.ReadExpressions.{expression_at};
+ghost use Rattle.cyc_parser.specs.ReadStatements.{declaration_by, local_by, initializer_by, region_declaration, binding as binding_at, alias_at, new_key_at, parenthesized_name as parenthesized_name_at};
 
 use crate::cursor::Cursor;
 use crate::expression::expression;
@@ -17,9 +16,9 @@ use cyc_tree::{Declaration, Initializer, Name};
 use std::alloc::Global;
 
 /// Reads a declaration, whose expression has at most `depth` phrases in one another.
+#[tactic(auto, unfolding(crate::specs::ReadStatements::declaration_by))]
 pub fn declaration(alloc: Global, depth: u32, cursor: &mut Cursor<'_, '_>) -> Parsed<Declaration>
-    ensures phrase { IfOk result (λ d. IsDeclaration (declaration_tree d) cursor.old cursor.new) }
-    ensures nested { IfOk result (λ d. declaration_nesting (declaration_tree d) ≤ depth) }
+    ensures reads { Gives declaration_tree result cursor.new (declaration_by (expression_at depth) cursor.old) }
     ensures shorter { OnOk result (length cursor.new < length cursor.old) }
 {
     if cursor.is_keyword(Keyword::Region) {
@@ -32,9 +31,9 @@ pub fn declaration(alloc: Global, depth: u32, cursor: &mut Cursor<'_, '_>) -> Pa
 }
 
 /// Reads the declaration of a local variable or array.
+#[tactic(auto, unfolding(crate::specs::ReadStatements::local_by))]
 fn local(alloc: Global, depth: u32, cursor: &mut Cursor<'_, '_>) -> Parsed<Declaration>
-    ensures phrase { IfOk result (λ d. IsDeclaration (declaration_tree d) cursor.old cursor.new) }
-    ensures nested { IfOk result (λ d. declaration_nesting (declaration_tree d) ≤ depth) }
+    ensures reads { Gives declaration_tree result cursor.new (local_by (expression_at depth) cursor.old) }
     ensures shorter { OnOk result (length cursor.new < length cursor.old) }
 {
     let of = type_name(alloc, cursor)?;
@@ -45,9 +44,9 @@ fn local(alloc: Global, depth: u32, cursor: &mut Cursor<'_, '_>) -> Parsed<Decla
 }
 
 /// Reads what a local begins with, where that is written.
+#[tactic(auto, unfolding(crate::specs::ReadStatements::initializer_by))]
 fn initializer(alloc: Global, depth: u32, cursor: &mut Cursor<'_, '_>) -> Parsed<Initializer>
-    ensures phrase { IfOk result (λ i. IsInitializer (initializer_tree i) cursor.old cursor.new) }
-    ensures nested { IfOk result (λ i. initializer_nesting (initializer_tree i) ≤ depth) }
+    ensures reads { Gives initializer_tree result cursor.new (initializer_by (expression_at depth) cursor.old) }
     ensures shorter { OnOk result (length cursor.new ≤ length cursor.old) }
 {
     if cursor.is_sign(Sign::Assign) {
@@ -61,9 +60,9 @@ fn initializer(alloc: Global, depth: u32, cursor: &mut Cursor<'_, '_>) -> Parsed
 }
 
 /// Reads the declaration of a region: a new one, or one that a key opens.
+#[tactic(auto, unfolding(crate::specs::ReadStatements::region_declaration))]
 fn region(alloc: Global, cursor: &mut Cursor<'_, '_>) -> Parsed<Declaration>
-    ensures phrase { IfOk result (λ d. IsDeclaration (declaration_tree d) cursor.old cursor.new) }
-    ensures nested { IfOk result (λ d. declaration_nesting (declaration_tree d) ≡ 0) }
+    ensures reads { Gives declaration_tree result cursor.new (region_declaration cursor.old) }
     ensures shorter { OnOk result (length cursor.new < length cursor.old) }
 {
     let at = cursor.keyword(Keyword::Region)?;
@@ -82,9 +81,9 @@ fn region(alloc: Global, cursor: &mut Cursor<'_, '_>) -> Parsed<Declaration>
 }
 
 /// Reads a declaration that begins with `let`.
+#[tactic(auto, unfolding(crate::specs::ReadStatements::binding))]
 fn binding(alloc: Global, cursor: &mut Cursor<'_, '_>) -> Parsed<Declaration>
-    ensures phrase { IfOk result (λ d. IsDeclaration (declaration_tree d) cursor.old cursor.new) }
-    ensures nested { IfOk result (λ d. declaration_nesting (declaration_tree d) ≡ 0) }
+    ensures reads { Gives declaration_tree result cursor.new (binding_at cursor.old) }
     ensures shorter { OnOk result (length cursor.new < length cursor.old) }
 {
     let at = cursor.keyword(Keyword::Let)?;
@@ -96,9 +95,9 @@ fn binding(alloc: Global, cursor: &mut Cursor<'_, '_>) -> Parsed<Declaration>
 }
 
 /// Reads the declaration of an alias from `alias` on. The place is that of its `let`.
+#[tactic(auto, unfolding(crate::specs::ReadStatements::alias_at))]
 fn alias(alloc: Global, at: u32, cursor: &mut Cursor<'_, '_>) -> Parsed<Declaration>
-    ensures phrase { (from : Tokens) → KeywordAt word.Let at from cursor.old → IfOk result (λ d. IsDeclaration (declaration_tree d) from cursor.new) }
-    ensures nested { IfOk result (λ d. declaration_nesting (declaration_tree d) ≡ 0) }
+    ensures reads { Gives declaration_tree result cursor.new (alias_at at cursor.old) }
     ensures shorter { OnOk result (length cursor.new < length cursor.old) }
 {
     cursor.keyword(Keyword::Alias)?;
@@ -113,9 +112,9 @@ fn alias(alloc: Global, at: u32, cursor: &mut Cursor<'_, '_>) -> Parsed<Declarat
 
 /// Reads the declaration of a dynamic region's key from `NewDynamicRegion` on. The place is that of its
 /// `let`.
+#[tactic(auto, unfolding(crate::specs::ReadStatements::new_key_at))]
 fn new_key(alloc: Global, at: u32, cursor: &mut Cursor<'_, '_>) -> Parsed<Declaration>
-    ensures phrase { (from : Tokens) → KeywordAt word.Let at from cursor.old → IfOk result (λ d. IsDeclaration (declaration_tree d) from cursor.new) }
-    ensures nested { IfOk result (λ d. declaration_nesting (declaration_tree d) ≡ 0) }
+    ensures reads { Gives declaration_tree result cursor.new (new_key_at at cursor.old) }
     ensures shorter { OnOk result (length cursor.new < length cursor.old) }
 {
     cursor.keyword(Keyword::NewDynamicRegion)?;
@@ -132,8 +131,9 @@ fn new_key(alloc: Global, at: u32, cursor: &mut Cursor<'_, '_>) -> Parsed<Declar
 }
 
 /// Reads a name in parentheses.
+#[tactic(auto, unfolding(crate::specs::ReadStatements::parenthesized_name))]
 pub fn parenthesized_name(alloc: Global, cursor: &mut Cursor<'_, '_>) -> Parsed<Name>
-    ensures phrase { IfOk result (λ name. IsNameInParentheses (name_tree name) cursor.old cursor.new) }
+    ensures reads { Gives name_tree result cursor.new (parenthesized_name_at cursor.old) }
     ensures shorter { OnOk result (length cursor.new < length cursor.old) }
 {
     cursor.sign(Sign::LeftParenthesis)?;

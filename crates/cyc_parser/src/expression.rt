@@ -1,32 +1,26 @@
 // Expressions.
 
-ghost use Rattle.std.specs.Prelude.{◌≡◌, ◌+◌, ◌<◌, ◌≤◌, ◌∷◌, [], IsTrue, IfOk, IfSome, OnOk, Some, option_map, map, length};
-ghost use Rattle.cyc_lexer.specs.declared.token.Sign.TheVariants as sign;
-ghost use Rattle.cyc_lexer.specs.declared.token.TokenKind.TheVariants as kind;
-ghost use Rattle.cyc_tree.specs.View.{name_tree, expression_tree, made_tree, suffix_tree, link_tree, expressions_of, links_of, suffixes_of};
-ghost use Rattle.cyc_tree.specs.Nesting.{expression_nesting, inner_nesting, argument_nesting, link_nesting, suffix_nesting, made_nesting};
-ghost use Rattle.cyc_parser.specs.Phrases.{Tokens, IsSign, InParentheses};
-ghost use Rattle.cyc_parser.specs.Reading.{next_kind};
-ghost use Rattle.cyc_parser.specs.ExpressionGrammar.{IsExpression, AreArguments, AreLinks, AreSuffixes, IsMade};
-ghost use Rattle.cyc_parser.specs.ExpressionGrammar.{binds, level_of, operator_sign, prefix_sign, unary_level, primary_level};
-ghost use Rattle.cyc_parser.specs.Levels.{level_number, number_of};
-ghost use Rattle.cyc_parser.specs.Parts.{MayBeMember, IsWithMember, chained};
+ghost use Rattle.std.specs.Prelude.{◌≡◌, ◌-◌, ◌<◌, ◌≤◌, OnOk, option_map, map, length};
+ghost use Rattle.cyc_tree.specs.View.{name_tree, expression_tree, made_tree, suffix_tree, link_tree};
+ghost use Rattle.cyc_parser.specs.Levels.{levels_from, levels_left};
+ghost use Rattle.cyc_parser.specs.Reader.{Gives, listed as listed_by};
+ghost use Rattle.cyc_parser.specs.ReadExpressions.{parenthesized_by, primary_by, arguments_by, named_by, suffix_by, suffixes_by, postfix_by, array_by, made_by, made_in_by, prefixed_by, operation_by};
+ghost use Rattle.cyc_parser.specs.ReadExpressions.{links_by, chain_by, all_of_by, any_of_by, assignment_by, expression_at, unary_at};
 
 use crate::cursor::Cursor;
-use crate::fault::Parsed;
-use crate::first::{begins_suffix, begins_unary};
+use crate::fault::{ParseFault, Parsed};
+use crate::first::{begins_prefixed, begins_suffix, begins_unary};
 use crate::level::{is_unary, linked, next_operator};
 use crate::literal::literal;
 use crate::operator::{LOOSEST, Level, prefix_of, tighter};
-use cyc_lexer::{Keyword, Sign, TokenKind};
-use cyc_tree::{Expression, Link, Made, Name, Prefix, Suffix};
+use cyc_lexer::{Keyword, Sign};
+use cyc_tree::{Expression, Link, Made, Name, Suffix};
 use std::alloc::Global;
 
 /// Reads an expression, with at most `depth` phrases in one another.
 #[cycle(expression)]
 pub fn expression(alloc: Global, depth: u32, cursor: &mut Cursor<'_, '_>) -> Parsed<Expression>
-    ensures phrase { IfOk result (λ e. IsExpression (expression_tree e) cursor.old cursor.new) }
-    ensures nested { IfOk result (λ e. expression_nesting (expression_tree e) ≤ depth) }
+    ensures reads { Gives expression_tree result cursor.new (expression_at depth cursor.old) }
     ensures shorter { OnOk result (length cursor.new < length cursor.old) }
 {
     if depth == 0 {
@@ -38,9 +32,9 @@ pub fn expression(alloc: Global, depth: u32, cursor: &mut Cursor<'_, '_>) -> Par
 
 /// Reads operands of `||`, or a unary expression and what is assigned to it.
 #[cycle(expression)]
+#[tactic(auto, unfolding(crate::specs::ReadExpressions::assignment_by, crate::specs::ReadExpressions::assigned_by))]
 fn assignment(alloc: Global, depth: u32, cursor: &mut Cursor<'_, '_>) -> Parsed<Expression>
-    ensures phrase { IfOk result (λ e. IsExpression (expression_tree e) cursor.old cursor.new) }
-    ensures nested { IfOk result (λ e. inner_nesting (expression_tree e) ≤ depth) }
+    ensures reads { Gives expression_tree result cursor.new (assignment_by (unary_at depth) (expression_at depth) cursor.old) }
     ensures shorter { OnOk result (length cursor.new < length cursor.old) }
 {
     let first = any_of(alloc, depth, cursor)?;
@@ -56,10 +50,9 @@ fn assignment(alloc: Global, depth: u32, cursor: &mut Cursor<'_, '_>) -> Parsed<
 
 /// Reads operands of `||`.
 #[cycle(expression)]
+#[tactic(auto, unfolding(crate::specs::ReadExpressions::any_of_by))]
 fn any_of(alloc: Global, depth: u32, cursor: &mut Cursor<'_, '_>) -> Parsed<Expression>
-    ensures phrase { IfOk result (λ e. IsExpression (expression_tree e) cursor.old cursor.new) }
-    ensures binds { IfOk result (λ e. 1 ≤ binds (expression_tree e)) }
-    ensures nested { IfOk result (λ e. inner_nesting (expression_tree e) ≤ depth) }
+    ensures reads { Gives expression_tree result cursor.new (any_of_by (unary_at depth) cursor.old) }
     ensures shorter { OnOk result (length cursor.new < length cursor.old) }
 {
     let first = all_of(alloc, depth, cursor)?;
@@ -77,10 +70,9 @@ fn any_of(alloc: Global, depth: u32, cursor: &mut Cursor<'_, '_>) -> Parsed<Expr
 
 /// Reads operands of `&&`.
 #[cycle(expression)]
+#[tactic(auto, unfolding(crate::specs::ReadExpressions::all_of_by))]
 fn all_of(alloc: Global, depth: u32, cursor: &mut Cursor<'_, '_>) -> Parsed<Expression>
-    ensures phrase { IfOk result (λ e. IsExpression (expression_tree e) cursor.old cursor.new) }
-    ensures binds { IfOk result (λ e. 2 ≤ binds (expression_tree e)) }
-    ensures nested { IfOk result (λ e. inner_nesting (expression_tree e) ≤ depth) }
+    ensures reads { Gives expression_tree result cursor.new (all_of_by (unary_at depth) cursor.old) }
     ensures shorter { OnOk result (length cursor.new < length cursor.old) }
 {
     let first = chain(alloc, depth, Some(LOOSEST), cursor)?;
@@ -104,9 +96,7 @@ fn chain(
     level: Option<Level>,
     cursor: &mut Cursor<'_, '_>,
 ) -> Parsed<Expression>
-    ensures phrase { IfOk result (λ e. IsExpression (expression_tree e) cursor.old cursor.new) }
-    ensures binds { IfOk result (λ e. level_number level ≤ binds (expression_tree e)) }
-    ensures nested { IfOk result (λ e. inner_nesting (expression_tree e) ≤ depth) }
+    ensures reads { Gives expression_tree result cursor.new (chain_by (unary_at depth) (levels_left level) cursor.old) }
     ensures shorter { OnOk result (length cursor.new < length cursor.old) }
 {
     let Some(level) = level else {
@@ -119,9 +109,9 @@ fn chain(
 
 /// Reads the operators of a level, each with its right operand, as far as they go.
 #[cycle(expression)]
+#[tactic(auto, unfolding(crate::specs::ReadExpressions::links_by))]
 fn links(alloc: Global, depth: u32, level: Level, cursor: &mut Cursor<'_, '_>) -> Parsed<Vec<Link>>
-    ensures phrase { IfOk result (λ links. AreLinks (number_of level) (links_of (map link_tree links.items)) cursor.old cursor.new) }
-    ensures nested { IfOk result (λ links. link_nesting (links_of (map link_tree links.items)) ≤ depth) }
+    ensures reads { Gives (λ links. map link_tree links.items) result cursor.new (links_by (chain_by (unary_at depth) (levels_from level - 1)) (levels_from level - 1) cursor.old) }
     ensures shorter { OnOk result (length cursor.new ≤ length cursor.old) }
 {
     let mut links = Vec::new(alloc);
@@ -136,9 +126,7 @@ fn links(alloc: Global, depth: u32, level: Level, cursor: &mut Cursor<'_, '_>) -
 /// Reads a unary expression, with at most `depth` phrases in one another.
 #[cycle(expression)]
 fn unary(alloc: Global, depth: u32, cursor: &mut Cursor<'_, '_>) -> Parsed<Expression>
-    ensures phrase { IfOk result (λ e. IsExpression (expression_tree e) cursor.old cursor.new) }
-    ensures binds { IfOk result (λ e. unary_level ≤ binds (expression_tree e)) }
-    ensures nested { IfOk result (λ e. inner_nesting (expression_tree e) ≤ depth) }
+    ensures reads { Gives expression_tree result cursor.new (unary_at depth cursor.old) }
     ensures shorter { OnOk result (length cursor.new < length cursor.old) }
 {
     if depth == 0 {
@@ -150,41 +138,34 @@ fn unary(alloc: Global, depth: u32, cursor: &mut Cursor<'_, '_>) -> Parsed<Expre
 
 /// Reads a unary expression. The phrases in it have at most `depth` in one another.
 #[cycle(expression)]
+#[tactic(auto, unfolding(crate::specs::ReadExpressions::operation_by))]
 fn operation(alloc: Global, depth: u32, cursor: &mut Cursor<'_, '_>) -> Parsed<Expression>
-    ensures phrase { IfOk result (λ e. IsExpression (expression_tree e) cursor.old cursor.new) }
-    ensures binds { IfOk result (λ e. unary_level ≤ binds (expression_tree e)) }
-    ensures nested { IfOk result (λ e. inner_nesting (expression_tree e) ≤ depth + 1) }
+    ensures reads { Gives expression_tree result cursor.new (operation_by (unary_at depth) (expression_at depth) cursor.old) }
     ensures shorter { OnOk result (length cursor.new < length cursor.old) }
 {
-    match cursor.kind() {
-        Some(TokenKind::Keyword(Keyword::New)) => {
-            let at = cursor.keyword(Keyword::New)?;
-            Ok(Expression::New(at, made(alloc, depth, cursor)?))
-        }
-        Some(TokenKind::Keyword(Keyword::Rnew)) => made_in(alloc, depth, cursor),
-        Some(kind) => match prefix_of(kind) {
-            Some(prefix) => prefixed(alloc, depth, prefix, cursor),
-            None => postfix(alloc, depth, cursor),
-        },
-        None => Err(cursor.unexpected()),
+    if cursor.is_keyword(Keyword::New) {
+        let at = cursor.keyword(Keyword::New)?;
+        Ok(Expression::New(at, made(alloc, depth, cursor)?))
+    } else if cursor.is_keyword(Keyword::Rnew) {
+        made_in(alloc, depth, cursor)
+    } else if begins_prefixed(cursor.kind()) {
+        prefixed(alloc, depth, cursor)
+    } else {
+        postfix(alloc, depth, cursor)
     }
 }
 
 /// Reads a prefix operator and its operand.
 #[cycle(expression)]
-fn prefixed(
-    alloc: Global,
-    depth: u32,
-    prefix: Prefix,
-    cursor: &mut Cursor<'_, '_>,
-) -> Parsed<Expression>
-    requires { next_kind cursor.old ≡ Some (kind.Sign (prefix_sign prefix)) }
-    ensures phrase { IfOk result (λ e. IsExpression (expression_tree e) cursor.old cursor.new) }
-    ensures binds { IfOk result (λ e. unary_level ≤ binds (expression_tree e)) }
-    ensures nested { IfOk result (λ e. inner_nesting (expression_tree e) ≤ depth + 1) }
+#[tactic(auto, unfolding(crate::specs::ReadExpressions::prefixed_by))]
+fn prefixed(alloc: Global, depth: u32, cursor: &mut Cursor<'_, '_>) -> Parsed<Expression>
+    ensures reads { Gives expression_tree result cursor.new (prefixed_by (unary_at depth) cursor.old) }
     ensures shorter { OnOk result (length cursor.new < length cursor.old) }
 {
     let sign = cursor.read()?;
+    let Some(prefix) = prefix_of(sign.kind) else {
+        return Err(ParseFault::Parse(sign.at));
+    };
     let operand = unary(alloc, depth, cursor)?;
     let operand = Box::new(alloc, operand)?;
     Ok(Expression::Prefixed(sign.at, prefix, operand))
@@ -192,10 +173,9 @@ fn prefixed(
 
 /// Reads `rnew`, its handle and what it makes.
 #[cycle(expression)]
+#[tactic(auto, unfolding(crate::specs::ReadExpressions::made_in_by))]
 fn made_in(alloc: Global, depth: u32, cursor: &mut Cursor<'_, '_>) -> Parsed<Expression>
-    ensures phrase { IfOk result (λ e. IsExpression (expression_tree e) cursor.old cursor.new) }
-    ensures binds { IfOk result (λ e. unary_level ≤ binds (expression_tree e)) }
-    ensures nested { IfOk result (λ e. inner_nesting (expression_tree e) ≤ depth + 1) }
+    ensures reads { Gives expression_tree result cursor.new (made_in_by (unary_at depth) (expression_at depth) cursor.old) }
     ensures shorter { OnOk result (length cursor.new < length cursor.old) }
 {
     let at = cursor.keyword(Keyword::Rnew)?;
@@ -206,9 +186,9 @@ fn made_in(alloc: Global, depth: u32, cursor: &mut Cursor<'_, '_>) -> Parsed<Exp
 
 /// Reads what `new` or `rnew` makes.
 #[cycle(expression)]
+#[tactic(auto, unfolding(crate::specs::ReadExpressions::made_by))]
 fn made(alloc: Global, depth: u32, cursor: &mut Cursor<'_, '_>) -> Parsed<Made>
-    ensures phrase { IfOk result (λ made. IsMade (made_tree made) cursor.old cursor.new) }
-    ensures nested { IfOk result (λ made. made_nesting (made_tree made) ≤ depth) }
+    ensures reads { Gives made_tree result cursor.new (made_by (unary_at depth) (expression_at depth) cursor.old) }
     ensures shorter { OnOk result (length cursor.new < length cursor.old) }
 {
     if cursor.is_sign(Sign::LeftBrace) {
@@ -221,9 +201,9 @@ fn made(alloc: Global, depth: u32, cursor: &mut Cursor<'_, '_>) -> Parsed<Made>
 
 /// Reads an array that is made: the index's name, the count and the element.
 #[cycle(expression)]
+#[tactic(auto, unfolding(crate::specs::ReadExpressions::array_by))]
 fn array(alloc: Global, depth: u32, cursor: &mut Cursor<'_, '_>) -> Parsed<Made>
-    ensures phrase { IfOk result (λ made. IsMade (made_tree made) cursor.old cursor.new) }
-    ensures nested { IfOk result (λ made. made_nesting (made_tree made) ≤ depth) }
+    ensures reads { Gives made_tree result cursor.new (array_by (expression_at depth) cursor.old) }
     ensures shorter { OnOk result (length cursor.new < length cursor.old) }
 {
     cursor.sign(Sign::LeftBrace)?;
@@ -240,13 +220,12 @@ fn array(alloc: Global, depth: u32, cursor: &mut Cursor<'_, '_>) -> Parsed<Made>
 
 /// Reads a primary expression and its suffixes.
 #[cycle(expression)]
+#[tactic(auto, unfolding(crate::specs::ReadExpressions::postfix_by, crate::specs::ReadExpressions::first_by), using(crate::proofs::Chains::is_suffixed))]
 fn postfix(alloc: Global, depth: u32, cursor: &mut Cursor<'_, '_>) -> Parsed<Expression>
-    ensures phrase { IfOk result (λ e. IsExpression (expression_tree e) cursor.old cursor.new) }
-    ensures binds { IfOk result (λ e. 12 ≤ binds (expression_tree e)) }
-    ensures nested { IfOk result (λ e. inner_nesting (expression_tree e) ≤ depth + 1) }
+    ensures reads { Gives expression_tree result cursor.new (postfix_by (expression_at depth) cursor.old) }
     ensures shorter { OnOk result (length cursor.new < length cursor.old) }
 {
-    let (first, member) = if cursor.kind() == Some(TokenKind::Identifier) {
+    let (first, member) = if cursor.is_name() {
         named(alloc, depth, cursor)?
     } else {
         (primary(alloc, depth, cursor)?, None)
@@ -261,10 +240,9 @@ fn postfix(alloc: Global, depth: u32, cursor: &mut Cursor<'_, '_>) -> Parsed<Exp
 
 /// Reads a primary expression that begins with no name.
 #[cycle(expression)]
+#[tactic(auto, unfolding(crate::specs::ReadExpressions::primary_by, crate::specs::ReadExpressions::grouped_by, crate::specs::ReadExpressions::parenthesized_by))]
 fn primary(alloc: Global, depth: u32, cursor: &mut Cursor<'_, '_>) -> Parsed<Expression>
-    ensures phrase { IfOk result (λ e. IsExpression (expression_tree e) cursor.old cursor.new) }
-    ensures binds { IfOk result (λ e. primary_level ≤ binds (expression_tree e)) }
-    ensures nested { IfOk result (λ e. inner_nesting (expression_tree e) ≤ depth + 1) }
+    ensures reads { Gives expression_tree result cursor.new (primary_by (expression_at depth) cursor.old) }
     ensures shorter { OnOk result (length cursor.new < length cursor.old) }
 {
     if cursor.is_sign(Sign::LeftParenthesis) {
@@ -282,9 +260,9 @@ fn primary(alloc: Global, depth: u32, cursor: &mut Cursor<'_, '_>) -> Parsed<Exp
 
 /// Reads an expression in parentheses, and answers it without them.
 #[cycle(expression)]
+#[tactic(auto, unfolding(crate::specs::ReadExpressions::parenthesized_by))]
 pub fn parenthesized(alloc: Global, depth: u32, cursor: &mut Cursor<'_, '_>) -> Parsed<Expression>
-    ensures phrase { IfOk result (λ e. InParentheses (IsExpression (expression_tree e)) cursor.old cursor.new) }
-    ensures nested { IfOk result (λ e. expression_nesting (expression_tree e) ≤ depth) }
+    ensures reads { Gives expression_tree result cursor.new (parenthesized_by (expression_at depth) cursor.old) }
     ensures shorter { OnOk result (length cursor.new < length cursor.old) }
 {
     cursor.sign(Sign::LeftParenthesis)?;
@@ -296,14 +274,13 @@ pub fn parenthesized(alloc: Global, depth: u32, cursor: &mut Cursor<'_, '_>) -> 
 /// Reads a variable, a call, or the making of a union value. After a variable, a `.` and a member are
 /// read too, since only what follows tells it from a union's tag.
 #[cycle(expression)]
+#[tactic(auto, unfolding(crate::specs::ReadExpressions::named_by, crate::specs::ReadExpressions::member_by))]
 fn named(
     alloc: Global,
     depth: u32,
     cursor: &mut Cursor<'_, '_>,
 ) -> Parsed<(Expression, Option<Name>)>
-    ensures phrase { IfOk result (λ e. IsWithMember (expression_tree e.0) (option_map name_tree e.1) cursor.old cursor.new) }
-    ensures binds { IfOk result (λ e. primary_level ≤ binds (expression_tree e.0)) }
-    ensures nested { IfOk result (λ e. inner_nesting (expression_tree e.0) ≤ depth + 1) }
+    ensures reads { Gives (λ x. (expression_tree x.0, option_map name_tree x.1)) result cursor.new (named_by (expression_at depth) cursor.old) }
     ensures shorter { OnOk result (length cursor.new < length cursor.old) }
 {
     let name = cursor.name(alloc)?;
@@ -327,37 +304,47 @@ fn named(
 
 /// Reads the arguments of a call, with their parentheses.
 #[cycle(expression)]
+#[tactic(auto, unfolding(crate::specs::ReadExpressions::arguments_by))]
 fn arguments(alloc: Global, depth: u32, cursor: &mut Cursor<'_, '_>) -> Parsed<Vec<Expression>>
-    ensures phrase { IfOk result (λ arguments. (a : Tokens) × IsSign sign.LeftParenthesis cursor.old a
-        × AreArguments (expressions_of (map expression_tree arguments.items)) a cursor.new) }
-    ensures nested { IfOk result (λ arguments. argument_nesting (expressions_of (map expression_tree arguments.items)) ≤ depth) }
+    ensures reads { Gives (λ arguments. map expression_tree arguments.items) result cursor.new (arguments_by (expression_at depth) cursor.old) }
     ensures shorter { OnOk result (length cursor.new < length cursor.old) }
 {
-    let mut arguments = Vec::new(alloc);
     cursor.sign(Sign::LeftParenthesis)?;
-    if !cursor.is_sign(Sign::RightParenthesis) {
-        arguments.push(expression(alloc, depth, cursor)?)?;
-        'more: while cursor.is_sign(Sign::Comma) {
-            cursor.sign(Sign::Comma)?;
-            arguments.push(expression(alloc, depth, cursor)?)?;
-        }
+    if cursor.is_sign(Sign::RightParenthesis) {
+        cursor.sign(Sign::RightParenthesis)?;
+        return Ok(Vec::new(alloc));
     }
+    let arguments = listed(alloc, depth, cursor)?;
     cursor.sign(Sign::RightParenthesis)?;
     Ok(arguments)
+}
+
+/// Reads expressions with commas between them, of which there is one at least.
+#[cycle(expression)]
+fn listed(alloc: Global, depth: u32, cursor: &mut Cursor<'_, '_>) -> Parsed<Vec<Expression>>
+    ensures reads { Gives (λ expressions. map expression_tree expressions.items) result cursor.new (listed_by (expression_at depth) cursor.old) }
+    ensures shorter { OnOk result (length cursor.new < length cursor.old) }
+{
+    let mut expressions = Vec::new(alloc);
+    expressions.push(expression(alloc, depth, cursor)?)?;
+    'more: while cursor.is_sign(Sign::Comma) {
+        cursor.sign(Sign::Comma)?;
+        expressions.push(expression(alloc, depth, cursor)?)?;
+    }
+    Ok(expressions)
 }
 
 /// Reads the suffixes of a primary expression, as far as they go. The first may have been read: the member
 /// that it names.
 #[cycle(expression)]
+#[tactic(auto, unfolding(crate::specs::ReadExpressions::suffixes_by))]
 fn suffixes(
     alloc: Global,
     depth: u32,
     member: Option<Name>,
     cursor: &mut Cursor<'_, '_>,
 ) -> Parsed<Vec<Suffix>>
-    ensures phrase { IfOk result (λ suffixes. (from : Tokens) → MayBeMember (option_map name_tree member) from cursor.old
-        → AreSuffixes (suffixes_of (map suffix_tree suffixes.items)) from cursor.new) }
-    ensures nested { IfOk result (λ suffixes. suffix_nesting (suffixes_of (map suffix_tree suffixes.items)) ≤ depth) }
+    ensures reads { Gives (λ suffixes. map suffix_tree suffixes.items) result cursor.new (suffixes_by (expression_at depth) (option_map name_tree member) cursor.old) }
     ensures shorter { OnOk result (length cursor.new ≤ length cursor.old) }
 {
     let mut suffixes = Vec::new(alloc);
@@ -372,9 +359,9 @@ fn suffixes(
 
 /// Reads a suffix of a primary expression.
 #[cycle(expression)]
+#[tactic(auto, unfolding(crate::specs::ReadExpressions::suffix_by))]
 fn suffix(alloc: Global, depth: u32, cursor: &mut Cursor<'_, '_>) -> Parsed<Suffix>
-    ensures phrase { IfOk result (λ suffix. AreSuffixes (suffixes_of (suffix_tree suffix ∷ [])) cursor.old cursor.new) }
-    ensures nested { IfOk result (λ suffix. suffix_nesting (suffixes_of (suffix_tree suffix ∷ [])) ≤ depth) }
+    ensures reads { Gives suffix_tree result cursor.new (suffix_by (expression_at depth) cursor.old) }
     ensures shorter { OnOk result (length cursor.new < length cursor.old) }
 {
     if cursor.is_sign(Sign::LeftBracket) {

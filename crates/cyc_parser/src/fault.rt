@@ -1,5 +1,8 @@
 // Why tokens are no program.
 
+ghost use Rattle.std.specs.Prelude.{◌≡◌};
+ghost use Rattle.cyc_parser.specs.declared.fault.ParseFault.TheVariants.{Memory};
+
 use std::alloc::{AllocError, AllocFailed};
 use std::error::Error;
 use std::fmt;
@@ -31,12 +34,16 @@ impl fmt::Display for ParseFault {
 impl Error for ParseFault {}
 
 impl From<AllocError> for ParseFault {
+    ghost from_gives = { λ _ fault. fault ≡ Memory };
+
     fn from(_error: AllocError) -> ParseFault {
         ParseFault::Memory
     }
 }
 
 impl<T: Drop> From<AllocFailed<T>> for ParseFault {
+    ghost from_gives = { λ _ fault. fault ≡ Memory };
+
     fn from(_error: AllocFailed<T>) -> ParseFault {
         ParseFault::Memory
     }

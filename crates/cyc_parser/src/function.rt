@@ -1,17 +1,16 @@
 // Functions.
 
-ghost use Rattle.std.specs.Prelude.{◌≡◌, ◌<◌, ◌≤◌, IfOk, OnOk, MatchOption, [], length, map, option_map};
-ghost use Rattle.cyc_lexer.specs.declared.token.Keyword.TheVariants as word;
+ghost use Rattle.std.specs.Prelude.{◌<◌, ◌≤◌, OnOk, length, map, option_map};
 ghost use Rattle.cyc_tree.specs.View.{name_tree, region_tree, type_tree, member_tree, bound_tree, function_tree};
-ghost use Rattle.cyc_tree.specs.Nesting.{items_nesting, nesting_limit};
-ghost use Rattle.cyc_parser.specs.TypeGrammar.{IsTyped};
-ghost use Rattle.cyc_parser.specs.Grammar.{AreParameters, IsEffect, IsBound, AreBounds, IsFunctionRest};
+ghost use Rattle.cyc_tree.specs.Nesting.{nesting_limit};
+ghost use Rattle.cyc_parser.specs.Reader.{Gives};
+ghost use Rattle.cyc_parser.specs.ReadPrograms.{void_parameter as void_parameter_at, first_parameter as first_parameter_at, parameters as parameters_at, effect as effect_at, bound as bound_at, bounds as bounds_at, function_of};
 
 use crate::cursor::Cursor;
 use crate::fault::Parsed;
-use crate::first::begins_type;
+use crate::first::{begins_declarator, begins_type};
 use crate::statement::block_items;
-use crate::type_name::{pointed, regions, typed_name};
+use crate::type_name::{pointers, regions, typed_name};
 use cyc_lexer::{Keyword, Sign};
 use cyc_tree::{Base, Bound, Function, Member, Name, RegionName, TypeName};
 use std::alloc::Global;
@@ -20,16 +19,14 @@ use std::alloc::Global;
 pub const NESTING_LIMIT: u32 = 256;
 
 /// Reads a function from its parameters on, given its result's type and its name.
+#[tactic(auto, unfolding(crate::specs::ReadPrograms::function_of))]
 pub fn function(
     alloc: Global,
     result_type: TypeName,
     name: Name,
     cursor: &mut Cursor<'_, '_>,
 ) -> Parsed<Function>
-    ensures phrase { IfOk result (λ f. IsFunctionRest (function_tree f) cursor.old cursor.new) }
-    ensures result_type { IfOk result (λ f. f.result ≡ result_type) }
-    ensures name { IfOk result (λ f. f.name ≡ name) }
-    ensures nested { IfOk result (λ f. items_nesting (function_tree f).body ≤ nesting_limit) }
+    ensures reads { Gives function_tree result cursor.new (function_of nesting_limit (type_tree result_type) (name_tree name) cursor.old) }
     ensures shorter { OnOk result (length cursor.new < length cursor.old) }
 {
     cursor.sign(Sign::LeftParenthesis)?;
@@ -52,8 +49,9 @@ pub fn function(
 }
 
 /// Reads the parameters of a function, where it has such. `void` alone says that it has none.
+#[tactic(auto, unfolding(crate::specs::ReadPrograms::parameters, crate::specs::ReadPrograms::other_parameters))]
 fn parameters(alloc: Global, cursor: &mut Cursor<'_, '_>) -> Parsed<Vec<Member>>
-    ensures phrase { IfOk result (λ ms. AreParameters (map member_tree ms.items) cursor.old cursor.new) }
+    ensures reads { Gives (λ parameters. map member_tree parameters.items) result cursor.new (parameters_at cursor.old) }
     ensures shorter { OnOk result (length cursor.new ≤ length cursor.old) }
 {
     let mut parameters = Vec::new(alloc);
@@ -70,8 +68,9 @@ fn parameters(alloc: Global, cursor: &mut Cursor<'_, '_>) -> Parsed<Vec<Member>>
 
 /// Reads the first parameter, where there is one. After `void`, only what follows tells whether it is the
 /// beginning of a parameter.
+#[tactic(auto, unfolding(crate::specs::ReadPrograms::first_parameter))]
 fn first_parameter(alloc: Global, cursor: &mut Cursor<'_, '_>) -> Parsed<Option<Member>>
-    ensures phrase { IfOk result (λ first. MatchOption first (AreParameters [] cursor.old cursor.new) (λ m. IsTyped (member_tree m) cursor.old cursor.new)) }
+    ensures reads { Gives (λ first. option_map member_tree first) result cursor.new (first_parameter_at cursor.old) }
     ensures shorter { OnOk result (length cursor.new ≤ length cursor.old) }
 {
     if !begins_type(cursor.kind()) {
@@ -80,25 +79,30 @@ fn first_parameter(alloc: Global, cursor: &mut Cursor<'_, '_>) -> Parsed<Option<
     if !cursor.is_keyword(Keyword::Void) {
         return Ok(Some(typed_name(alloc, cursor)?));
     }
+    void_parameter(alloc, cursor)
+}
+
+/// Reads a parameter whose type begins with `void`, or `void` alone.
+#[tactic(auto, unfolding(crate::specs::ReadPrograms::void_parameter))]
+fn void_parameter(alloc: Global, cursor: &mut Cursor<'_, '_>) -> Parsed<Option<Member>>
+    ensures reads { Gives (λ first. option_map member_tree first) result cursor.new (void_parameter_at cursor.old) }
+    ensures shorter { OnOk result (length cursor.new < length cursor.old) }
+{
     let at = cursor.keyword(Keyword::Void)?;
-    if ends_parameters(cursor) {
+    if !begins_declarator(cursor.kind()) {
         return Ok(None);
     }
-    let of = pointed(alloc, at, Base::Void, cursor)?;
+    let pointers = pointers(alloc, cursor)?;
     let name = cursor.name(alloc)?;
+    let base = Base::Void;
+    let of = TypeName { at, base, pointers };
     Ok(Some(Member { of, name }))
 }
 
-/// Whether the next token is one that may stand after the parameters.
-fn ends_parameters(cursor: &Cursor<'_, '_>) -> bool {
-    cursor.is_sign(Sign::Semicolon)
-        || cursor.is_sign(Sign::Colon)
-        || cursor.is_sign(Sign::RightParenthesis)
-}
-
 /// Reads the effect of a function, where one is written.
+#[tactic(auto, unfolding(crate::specs::ReadPrograms::effect))]
 fn effect(alloc: Global, cursor: &mut Cursor<'_, '_>) -> Parsed<Option<Vec<RegionName>>>
-    ensures phrase { IfOk result (λ effect. IsEffect (option_map (λ regions. map region_tree regions.items) effect) cursor.old cursor.new) }
+    ensures reads { Gives (λ effect. option_map (λ regions. map region_tree regions.items) effect) result cursor.new (effect_at cursor.old) }
     ensures shorter { OnOk result (length cursor.new ≤ length cursor.old) }
 {
     if !cursor.is_sign(Sign::Semicolon) {
@@ -106,18 +110,19 @@ fn effect(alloc: Global, cursor: &mut Cursor<'_, '_>) -> Parsed<Option<Vec<Regio
     }
     cursor.sign(Sign::Semicolon)?;
     cursor.sign(Sign::LeftBrace)?;
-    let effect = if cursor.is_sign(Sign::RightBrace) {
-        Vec::new(alloc)
-    } else {
+    let effect = if cursor.is_region() {
         regions(alloc, cursor)?
+    } else {
+        Vec::new(alloc)
     };
     cursor.sign(Sign::RightBrace)?;
     Ok(Some(effect))
 }
 
 /// Reads the bounds of a function, where such are written.
+#[tactic(auto, unfolding(crate::specs::ReadPrograms::bounds))]
 fn bounds(alloc: Global, cursor: &mut Cursor<'_, '_>) -> Parsed<Vec<Bound>>
-    ensures phrase { IfOk result (λ bs. AreBounds (map bound_tree bs.items) cursor.old cursor.new) }
+    ensures reads { Gives (λ bounds. map bound_tree bounds.items) result cursor.new (bounds_at cursor.old) }
     ensures shorter { OnOk result (length cursor.new ≤ length cursor.old) }
 {
     let mut bounds = Vec::new(alloc);
@@ -134,8 +139,9 @@ fn bounds(alloc: Global, cursor: &mut Cursor<'_, '_>) -> Parsed<Vec<Bound>>
 }
 
 /// Reads a bound: a region that outlives another one.
+#[tactic(auto, unfolding(crate::specs::ReadPrograms::bound))]
 fn bound(alloc: Global, cursor: &mut Cursor<'_, '_>) -> Parsed<Bound>
-    ensures phrase { IfOk result (λ b. IsBound (bound_tree b) cursor.old cursor.new) }
+    ensures reads { Gives bound_tree result cursor.new (bound_at cursor.old) }
     ensures shorter { OnOk result (length cursor.new < length cursor.old) }
 {
     let longer = cursor.region(alloc)?;

@@ -1,29 +1,30 @@
 // Items and programs.
 
-ghost use Rattle.std.specs.Prelude.{ℕ, ◌<◌, ◌≤◌, IfOk, OnOk, length, map};
+ghost use Rattle.std.specs.Prelude.{◌≡◌, ◌<◌, ◌≤◌, ℕ, IfOk, IfErr, OnOk, MatchResult, length, map};
 ghost use Rattle.cyc_lexer.specs.Tokens.{token_tree};
-ghost use Rattle.cyc_lexer.specs.declared.token.Sign.TheVariants as sign;
-ghost use Rattle.cyc_tree.specs.Tree.{UnionItem};
-ghost use Rattle.cyc_tree.specs.View.{type_tree, member_tree, structure_tree, initial_tree, program_item_tree};
-ghost use Rattle.cyc_tree.specs.Nesting.{item_nesting, nesting, nesting_limit};
+ghost use Rattle.cyc_tree.specs.Tree.{Program as Tree};
+ghost use Rattle.cyc_tree.specs.Nesting.{nesting, nesting_limit};
 ghost use Rattle.cyc_parser.specs.Phrases.{Tokens};
-ghost use Rattle.cyc_parser.specs.TypeGrammar.{IsType};
-ghost use Rattle.cyc_parser.specs.Grammar.{IsMember, AreMembers, IsInitial, IsItem, IsProgram};
+ghost use Rattle.cyc_parser.specs.Grammar.{IsProgram};
+ghost use Rattle.cyc_parser.specs.Refusals.{IsUnexpectedAt, IsRefusedFor, IsRefusedProgram};
+ghost use Rattle.cyc_tree.specs.View.{type_tree, member_tree, structure_tree, initial_tree, program_item_tree};
+ghost use Rattle.cyc_parser.specs.Reader.{Gives};
+ghost use Rattle.cyc_parser.specs.ReadPrograms.{member as member_at, members as members_at, tagged_union as tagged_union_at, initial as initial_at, typed as typed_at, struct_or_typed as struct_or_typed_at, item as item_at, program as program_at};
 
 use crate::cursor::Cursor;
 use crate::fault::{ParseFault, Parsed};
 use crate::first::begins_type;
 use crate::function::function;
 use crate::literal::{constant, element_count};
-use crate::type_name::{pointed, region_list, type_name, typed_name};
+use crate::type_name::{pointers, region_list, type_name, typed_name};
 use cyc_lexer::{Keyword, Sign, Token};
 use cyc_tree::{Base, Initial, Item, Member, Program, Structure, TypeName};
 use std::alloc::Global;
 
 /// Reads an item.
+#[tactic(auto, unfolding(crate::specs::ReadPrograms::item))]
 fn item(alloc: Global, cursor: &mut Cursor<'_, '_>) -> Parsed<Item>
-    ensures phrase { IfOk result (λ item. IsItem (program_item_tree item) cursor.old cursor.new) }
-    ensures nested { IfOk result (λ item. item_nesting (program_item_tree item) ≤ nesting_limit) }
+    ensures reads { Gives program_item_tree result cursor.new (item_at nesting_limit cursor.old) }
     ensures shorter { OnOk result (length cursor.new < length cursor.old) }
 {
     if cursor.is_sign(Sign::Tagged) {
@@ -38,9 +39,9 @@ fn item(alloc: Global, cursor: &mut Cursor<'_, '_>) -> Parsed<Item>
 
 /// Reads a struct, or a global or a function whose type begins with one. What follows the tag and its
 /// regions tells which it is.
+#[tactic(auto, unfolding(crate::specs::ReadPrograms::struct_or_typed))]
 fn struct_or_typed(alloc: Global, cursor: &mut Cursor<'_, '_>) -> Parsed<Item>
-    ensures phrase { IfOk result (λ item. IsItem (program_item_tree item) cursor.old cursor.new) }
-    ensures nested { IfOk result (λ item. item_nesting (program_item_tree item) ≤ nesting_limit) }
+    ensures reads { Gives program_item_tree result cursor.new (struct_or_typed_at nesting_limit cursor.old) }
     ensures shorter { OnOk result (length cursor.new < length cursor.old) }
 {
     let at = cursor.keyword(Keyword::Struct)?;
@@ -55,14 +56,17 @@ fn struct_or_typed(alloc: Global, cursor: &mut Cursor<'_, '_>) -> Parsed<Item>
             members,
         }))
     } else {
-        let of = pointed(alloc, at, Base::Struct(tag, regions), cursor)?;
+        let pointers = pointers(alloc, cursor)?;
+        let base = Base::Struct(tag, regions);
+        let of = TypeName { at, base, pointers };
         typed(alloc, of, cursor)
     }
 }
 
 /// Reads a tagged union.
+#[tactic(auto, unfolding(crate::specs::ReadPrograms::tagged_union))]
 fn tagged_union(alloc: Global, cursor: &mut Cursor<'_, '_>) -> Parsed<Structure>
-    ensures phrase { IfOk result (λ u. IsItem (UnionItem (structure_tree u)) cursor.old cursor.new) }
+    ensures reads { Gives structure_tree result cursor.new (tagged_union_at cursor.old) }
     ensures shorter { OnOk result (length cursor.new < length cursor.old) }
 {
     let at = cursor.sign(Sign::Tagged)?;
@@ -80,8 +84,9 @@ fn tagged_union(alloc: Global, cursor: &mut Cursor<'_, '_>) -> Parsed<Structure>
 
 /// Reads the members of a struct or a union, of which there is one at least, in braces, and the semicolon
 /// that stands after them.
+#[tactic(auto, unfolding(crate::specs::ReadPrograms::members))]
 fn members(alloc: Global, cursor: &mut Cursor<'_, '_>) -> Parsed<Vec<Member>>
-    ensures phrase { IfOk result (λ ms. AreMembers (map member_tree ms.items) cursor.old cursor.new) }
+    ensures reads { Gives (λ members. map member_tree members.items) result cursor.new (members_at cursor.old) }
     ensures shorter { OnOk result (length cursor.new < length cursor.old) }
 {
     let mut members = Vec::new(alloc);
@@ -96,8 +101,9 @@ fn members(alloc: Global, cursor: &mut Cursor<'_, '_>) -> Parsed<Vec<Member>>
 }
 
 /// Reads a member, with its semicolon.
+#[tactic(auto, unfolding(crate::specs::ReadPrograms::member))]
 fn member(alloc: Global, cursor: &mut Cursor<'_, '_>) -> Parsed<Member>
-    ensures phrase { IfOk result (λ m. IsMember (member_tree m) cursor.old cursor.new) }
+    ensures reads { Gives member_tree result cursor.new (member_at cursor.old) }
     ensures shorter { OnOk result (length cursor.new < length cursor.old) }
 {
     let member = typed_name(alloc, cursor)?;
@@ -106,9 +112,9 @@ fn member(alloc: Global, cursor: &mut Cursor<'_, '_>) -> Parsed<Member>
 }
 
 /// Reads a global or a function from its name on, given its type.
+#[tactic(auto, unfolding(crate::specs::ReadPrograms::typed))]
 fn typed(alloc: Global, of: TypeName, cursor: &mut Cursor<'_, '_>) -> Parsed<Item>
-    ensures phrase { (from : Tokens) → IsType (type_tree of) from cursor.old → IfOk result (λ item. IsItem (program_item_tree item) from cursor.new) }
-    ensures nested { IfOk result (λ item. item_nesting (program_item_tree item) ≤ nesting_limit) }
+    ensures reads { Gives program_item_tree result cursor.new (typed_at nesting_limit (type_tree of) cursor.old) }
     ensures shorter { OnOk result (length cursor.new < length cursor.old) }
 {
     let name = cursor.name(alloc)?;
@@ -122,8 +128,9 @@ fn typed(alloc: Global, of: TypeName, cursor: &mut Cursor<'_, '_>) -> Parsed<Ite
 }
 
 /// Reads what a global begins with, where that is written.
+#[tactic(auto, unfolding(crate::specs::ReadPrograms::initial))]
 fn initial(alloc: Global, cursor: &mut Cursor<'_, '_>) -> Parsed<Initial>
-    ensures phrase { IfOk result (λ i. IsInitial (initial_tree i) cursor.old cursor.new) }
+    ensures reads { Gives initial_tree result cursor.new (initial_at cursor.old) }
     ensures shorter { OnOk result (length cursor.new ≤ length cursor.old) }
 {
     if cursor.is_sign(Sign::Assign) {
@@ -136,6 +143,19 @@ fn initial(alloc: Global, cursor: &mut Cursor<'_, '_>) -> Parsed<Initial>
     }
 }
 
+/// Reads items up to the end, of which there is one at least.
+#[tactic(auto, unfolding(crate::specs::ReadPrograms::program))]
+fn items(alloc: Global, cursor: &mut Cursor<'_, '_>) -> Parsed<Vec<Item>>
+    ensures { Gives (λ items. map program_item_tree items.items) result cursor.new (program_at nesting_limit cursor.old) }
+{
+    let mut items = Vec::new(alloc);
+    items.push(item(alloc, cursor)?)?;
+    'items: while cursor.kind().is_some() {
+        items.push(item(alloc, cursor)?)?;
+    }
+    Ok(items)
+}
+
 /// The program that the tokens spell.
 ///
 /// Refuses with `Parse` at the first token with which the tokens so far begin no program, or at the
@@ -145,12 +165,23 @@ pub fn parse(alloc: Global, tokens: &[Token<'_>]) -> Result<Program, ParseFault>
     ensures found { IfOk result (λ program. IsProgram program (map token_tree tokens.entry.now)) }
     // no token of it is in over 256 phrases
     ensures nested { IfOk result (λ program. nesting program ≤ nesting_limit) }
+    // the tokens' program is answered, unless it nests too deep or no memory is left
+    ensures only { (program : Tree) → IsProgram program (map token_tree tokens.entry.now)
+        → MatchResult result (λ answered. answered ≡ program) (λ fault. IsRefusedProgram program fault) }
+    // why there is none, and where
+    ensures refused { IfErr result (λ fault. IsRefusedFor fault (map token_tree tokens.entry.now)) }
 {
     let mut cursor = Cursor::new(tokens);
-    let mut items = Vec::new(alloc);
-    items.push(item(alloc, &mut cursor)?)?;
-    'items: while cursor.kind().is_some() {
-        items.push(item(alloc, &mut cursor)?)?;
-    }
+    let items = items(alloc, &mut cursor)?;
     Ok(Program::new(items))
 }
+
+/// Tokens are one program's at most.
+pub fn one_program()
+    ensures { (tokens : Tokens) (program other : Tree) → IsProgram program tokens → IsProgram other tokens → program ≡ other }
+{}
+
+/// Tokens that are no program have one first token that no program has there.
+pub fn one_place()
+    ensures { (tokens : Tokens) (at other : ℕ) → IsUnexpectedAt tokens at → IsUnexpectedAt tokens other → at ≡ other }
+{}

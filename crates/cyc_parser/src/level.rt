@@ -1,11 +1,10 @@
 // Operands and the operators between them.
 
-ghost use Rattle.std.specs.Prelude.{◌≡◌, ◌≤◌, IsTrue, IfOk, IfSome, Some, map};
-ghost use Rattle.cyc_lexer.specs.declared.token.TokenKind.TheVariants as kind;
+ghost use Rattle.std.specs.Prelude.{◌≡◌, IfOk, IfErr, Some, None, map, nat_le, if◌then◌else◌};
 ghost use Rattle.cyc_tree.specs.View.{expression_tree, link_tree, links_of};
-ghost use Rattle.cyc_parser.specs.Reading.{next_kind};
-ghost use Rattle.cyc_parser.specs.ExpressionGrammar.{binds, level_of, operator_sign, unary_level};
-ghost use Rattle.cyc_parser.specs.Levels.{number_of};
+ghost use Rattle.cyc_parser.specs.declared.fault.ParseFault.TheVariants.{Memory};
+ghost use Rattle.cyc_parser.specs.ExpressionGrammar.{binds, unary_level};
+ghost use Rattle.cyc_parser.specs.Levels.{IsNextOperator, number_of};
 ghost use Rattle.cyc_parser.specs.Parts.{chained};
 
 use crate::cursor::Cursor;
@@ -16,7 +15,7 @@ use std::alloc::Global;
 
 /// Whether what was read where an expression may begin is a unary expression.
 pub fn is_unary(expression: &Expression) -> bool
-    ensures { IsTrue result → unary_level ≤ binds (expression_tree expression.now) }
+    ensures { result ≡ nat_le unary_level (binds (expression_tree expression.now)) }
 {
     !matches!(
         expression,
@@ -29,7 +28,8 @@ pub fn is_unary(expression: &Expression) -> bool
 
 /// An operand with the operators and operands after it, where there are such.
 pub fn linked(alloc: Global, first: Expression, links: Vec<Link>) -> Parsed<Expression>
-    ensures { IfOk result (λ e. expression_tree e ≡ chained (expression_tree first) (links_of (map link_tree links.items))) }
+    ensures tree { IfOk result (λ e. expression_tree e ≡ chained (expression_tree first) (links_of (map link_tree links.items))) }
+    ensures memory { IfErr result (λ fault. fault ≡ Memory) }
 {
     if links.is_empty() {
         Ok(first)
@@ -40,8 +40,7 @@ pub fn linked(alloc: Global, first: Expression, links: Vec<Link>) -> Parsed<Expr
 
 /// The operator of a level that stands next.
 pub fn next_operator(cursor: &Cursor<'_, '_>, level: Level) -> Option<Operator>
-    ensures sign { IfSome result (λ operator. next_kind cursor.now ≡ Some (kind.Sign (operator_sign operator))) }
-    ensures level { IfSome result (λ operator. level_of operator ≡ number_of level) }
+    ensures { IsNextOperator result (number_of level) cursor.now }
 {
     operator_of(cursor.kind()?, level)
 }

@@ -1,8 +1,9 @@
 //! From tokens to the syntax tree.
 //!
 //! `parse` reads by recursive descent, one function for each phrase of the grammar; it goes no deeper
-//! than the nesting bound, and reads chains and lists in loops. What it answers is spelled by the tokens
-//! as the grammar of specs/Grammar.antt says. Stands on `cyc_lexer` and `cyc_tree`.
+//! than the nesting bound, and reads chains and lists in loops. It answers the one program that the tokens
+//! spell by the grammar of specs/Grammar.antt, and refuses where specs/Refusals.antt says. Stands on
+//! `cyc_lexer` and `cyc_tree`.
 #![tactic(auto)]
 
 mod cursor;
@@ -22,4 +23,4 @@ mod type_name;
 
 pub use fault::ParseFault;
 pub use function::NESTING_LIMIT;
-pub use item::parse;
+pub use item::{one_place, one_program, parse};

@@ -1,11 +1,10 @@
 // Literals and constants.
 
-ghost use Rattle.std.specs.Prelude.{◌≡◌, ◌<◌, IfOk, OnOk, length};
+ghost use Rattle.std.specs.Prelude.{◌≡◌, ◌<◌, OnOk, length};
 ghost use Rattle.cyc_tree.specs.View.{expression_tree, constant_tree};
-ghost use Rattle.cyc_tree.specs.Nesting.{inner_nesting};
-ghost use Rattle.cyc_parser.specs.ExpressionGrammar.{primary_level, binds, IsExpression};
-ghost use Rattle.cyc_parser.specs.StatementGrammar.{IsCount};
-ghost use Rattle.cyc_parser.specs.Grammar.{IsConstant};
+ghost use Rattle.cyc_parser.specs.Reader.{Gives};
+ghost use Rattle.cyc_parser.specs.ReadTypes.{constant as constant_at, element_count as element_count_at};
+ghost use Rattle.cyc_parser.specs.ReadExpressions.{literal as literal_at};
 
 use crate::cursor::Cursor;
 use crate::fault::{ParseFault, Parsed};
@@ -14,10 +13,9 @@ use cyc_tree::{Constant, Expression};
 use std::alloc::Global;
 
 /// Reads a primary expression of one token that is no name.
+#[tactic(auto, unfolding(crate::specs::ReadExpressions::literal))]
 pub fn literal(alloc: Global, cursor: &mut Cursor<'_, '_>) -> Parsed<Expression>
-    ensures phrase { IfOk result (λ e. IsExpression (expression_tree e) cursor.old cursor.new) }
-    ensures primary { IfOk result (λ e. binds (expression_tree e) ≡ primary_level) }
-    ensures nested { IfOk result (λ e. inner_nesting (expression_tree e) ≡ 1) }
+    ensures reads { Gives expression_tree result cursor.new (literal_at cursor.old) }
     ensures shorter { OnOk result (length cursor.new < length cursor.old) }
 {
     let token = cursor.read()?;
@@ -33,8 +31,9 @@ pub fn literal(alloc: Global, cursor: &mut Cursor<'_, '_>) -> Parsed<Expression>
 }
 
 /// Reads a constant.
+#[tactic(auto, unfolding(crate::specs::ReadTypes::constant))]
 pub fn constant(alloc: Global, cursor: &mut Cursor<'_, '_>) -> Parsed<Constant>
-    ensures phrase { IfOk result (λ c. IsConstant (constant_tree c) cursor.old cursor.new) }
+    ensures reads { Gives constant_tree result cursor.new (constant_at cursor.old) }
     ensures shorter { OnOk result (length cursor.new < length cursor.old) }
 {
     let token = cursor.read()?;
@@ -52,8 +51,9 @@ pub fn constant(alloc: Global, cursor: &mut Cursor<'_, '_>) -> Parsed<Constant>
 }
 
 /// Reads the count of an array's elements, in brackets.
+#[tactic(auto, unfolding(crate::specs::ReadTypes::element_count))]
 pub fn element_count(cursor: &mut Cursor<'_, '_>) -> Parsed<u32>
-    ensures phrase { IfOk result (λ count. IsCount count cursor.old cursor.new) }
+    ensures reads { Gives (λ count. count) result cursor.new (element_count_at cursor.old) }
     ensures shorter { OnOk result (length cursor.new < length cursor.old) }
 {
     cursor.sign(Sign::LeftBracket)?;

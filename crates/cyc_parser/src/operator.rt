@@ -1,9 +1,9 @@
 // The levels of binary operators.
 
-ghost use Rattle.std.specs.Prelude.{◌≡◌, ◌+◌, Some, IfSome};
-ghost use Rattle.cyc_lexer.specs.declared.token.TokenKind.TheVariants as kind_of;
-ghost use Rattle.cyc_parser.specs.ExpressionGrammar.{level_of, operator_sign, prefix_sign};
-ghost use Rattle.cyc_parser.specs.Levels.{levels_from, levels_left, level_number, number_of};
+ghost use Rattle.std.specs.Prelude.{◌≡◌, ◌+◌, Some, None, if◌then◌else◌};
+ghost use Rattle.cyc_parser.specs.Tests.{is_operator, is_prefix};
+ghost use Rattle.cyc_parser.specs.ReadExpressions.{operator_of as operator_at, prefix_of as prefix_at};
+ghost use Rattle.cyc_parser.specs.Levels.{IsOperator, levels_from, levels_left, level_number, number_of};
 
 use cyc_lexer::{Sign, TokenKind};
 use cyc_tree::{Operator, Prefix};
@@ -43,8 +43,7 @@ pub fn tighter(level: Level) -> Option<Level>
 
 /// The level and the operator of a sign between operands.
 fn operator(sign: Sign) -> Option<(Level, Operator)>
-    ensures sign { IfSome result (λ found. sign ≡ operator_sign found.1) }
-    ensures level { IfSome result (λ found. level_of found.1 ≡ number_of found.0) }
+    ensures { IsOperator sign result }
 {
     match sign {
         Sign::Or => Some((Level::BitOr, Operator::BitOr)),
@@ -69,8 +68,7 @@ fn operator(sign: Sign) -> Option<(Level, Operator)>
 
 /// The operator of a level that a token of this kind is.
 pub fn operator_of(kind: TokenKind, level: Level) -> Option<Operator>
-    ensures sign { IfSome result (λ operator. kind ≡ kind_of.Sign (operator_sign operator)) }
-    ensures level { IfSome result (λ operator. level_of operator ≡ number_of level) }
+    ensures { result ≡ (if is_operator (number_of level) kind then Some (operator_at kind) else None) }
 {
     let TokenKind::Sign(sign) = kind else {
         return None;
@@ -83,7 +81,7 @@ pub fn operator_of(kind: TokenKind, level: Level) -> Option<Operator>
 
 /// The prefix operator that a token of this kind is.
 pub fn prefix_of(kind: TokenKind) -> Option<Prefix>
-    ensures { IfSome result (λ prefix. kind ≡ kind_of.Sign (prefix_sign prefix)) }
+    ensures { result ≡ (if is_prefix kind then Some (prefix_at kind) else None) }
 {
     match kind {
         TokenKind::Sign(Sign::Minus) => Some(Prefix::Negate),

@@ -1,31 +1,24 @@
 // Statements and blocks.
 
-ghost use Rattle.std.specs.Prelude.{◌≡◌, ◌+◌, ◌<◌, ◌≤◌, ◌∷◌, [], false, Some, IsTrue, IfOk, OnOk, map, length};
-ghost use Rattle.cyc_lexer.specs.declared.token.Keyword.{Keyword as Word};
-ghost use Rattle.cyc_lexer.specs.declared.token.Keyword.TheVariants as word_of;
-ghost use Rattle.cyc_lexer.specs.declared.token.TokenKind.TheVariants as kind;
-ghost use Rattle.cyc_tree.specs.View.{name_tree, statement_tree, item_tree, clause_tree, pattern_tree, items_of, clauses_of};
-ghost use Rattle.cyc_tree.specs.Nesting.{statement_nesting, items_nesting, clauses_nesting};
-ghost use Rattle.cyc_parser.specs.Phrases.{BeginsWith};
-ghost use Rattle.cyc_parser.specs.Reading.{next_kind, next_place};
-ghost use Rattle.cyc_parser.specs.StatementGrammar.{IsStatement, AreItems, AreClauses, IsPattern, ends_open};
-ghost use Rattle.cyc_parser.specs.Parts.{IsWordStatement, IsNameStatement};
+ghost use Rattle.std.specs.Prelude.{◌≡◌, ◌<◌, ◌≤◌, OnOk, map, length};
+ghost use Rattle.cyc_tree.specs.View.{name_tree, statement_tree, item_tree, clause_tree, pattern_tree};
+ghost use Rattle.cyc_parser.specs.Reader.{Gives};
+ghost use Rattle.cyc_parser.specs.ReadExpressions.{expression_at};
+ghost use Rattle.cyc_parser.specs.ReadStatements.{word_read, freed as freed_at, returned_by, run_by, simple_by, item_by, items_by, block_by, conditional_by, repeated_by, pattern as pattern_at, clause_by, clauses_by, switch_by, compound_by, statement_at};
 
 use crate::cursor::Cursor;
 use crate::declaration::{declaration, parenthesized_name};
 use crate::expression::{expression, parenthesized};
 use crate::fault::Parsed;
-use crate::first::{begins_clause, begins_declaration, begins_statement};
-use cyc_lexer::{Keyword, Sign, TokenKind};
+use crate::first::{begins_clause, begins_declaration, begins_item, begins_statement};
+use cyc_lexer::{Keyword, Sign};
 use cyc_tree::{BlockItem, Clause, Name, Pattern, Statement};
 use std::alloc::Global;
 
 /// Reads a statement, with at most `depth` phrases in one another.
 #[cycle(statement)]
 fn statement(alloc: Global, depth: u32, cursor: &mut Cursor<'_, '_>) -> Parsed<Statement>
-    ensures phrase { IfOk result (λ s. IsStatement (statement_tree s) cursor.old cursor.new) }
-    ensures closed { IfOk result (λ s. IsTrue (ends_open (statement_tree s)) → BeginsWith word_of.Else cursor.new → ⊥) }
-    ensures nested { IfOk result (λ s. statement_nesting (statement_tree s) ≤ depth) }
+    ensures reads { Gives statement_tree result cursor.new (statement_at depth cursor.old) }
     ensures shorter { OnOk result (length cursor.new < length cursor.old) }
 {
     if depth == 0 {
@@ -37,27 +30,29 @@ fn statement(alloc: Global, depth: u32, cursor: &mut Cursor<'_, '_>) -> Parsed<S
 
 /// Reads a statement. Those in it have at most `depth` phrases in one another.
 #[cycle(statement)]
+#[tactic(auto, unfolding(crate::specs::ReadStatements::compound_by))]
 fn compound(alloc: Global, depth: u32, cursor: &mut Cursor<'_, '_>) -> Parsed<Statement>
-    ensures phrase { IfOk result (λ s. IsStatement (statement_tree s) cursor.old cursor.new) }
-    ensures closed { IfOk result (λ s. IsTrue (ends_open (statement_tree s)) → BeginsWith word_of.Else cursor.new → ⊥) }
-    ensures nested { IfOk result (λ s. statement_nesting (statement_tree s) ≤ depth + 1) }
+    ensures reads { Gives statement_tree result cursor.new (compound_by (expression_at depth) (statement_at depth) cursor.old) }
     ensures shorter { OnOk result (length cursor.new < length cursor.old) }
 {
-    match cursor.kind() {
-        Some(TokenKind::Sign(Sign::LeftBrace)) => block(alloc, depth, cursor),
-        Some(TokenKind::Keyword(Keyword::If)) => conditional(alloc, depth, cursor),
-        Some(TokenKind::Keyword(Keyword::While)) => repeated(alloc, depth, cursor),
-        Some(TokenKind::Keyword(Keyword::Switch)) => switch(alloc, depth, cursor),
-        _ => simple(alloc, depth, cursor),
+    if cursor.is_sign(Sign::LeftBrace) {
+        block(alloc, depth, cursor)
+    } else if cursor.is_keyword(Keyword::If) {
+        conditional(alloc, depth, cursor)
+    } else if cursor.is_keyword(Keyword::While) {
+        repeated(alloc, depth, cursor)
+    } else if cursor.is_keyword(Keyword::Switch) {
+        switch(alloc, depth, cursor)
+    } else {
+        simple(alloc, depth, cursor)
     }
 }
 
 /// Reads a block.
 #[cycle(statement)]
+#[tactic(auto, unfolding(crate::specs::ReadStatements::block_by))]
 fn block(alloc: Global, depth: u32, cursor: &mut Cursor<'_, '_>) -> Parsed<Statement>
-    ensures phrase { IfOk result (λ s. IsStatement (statement_tree s) cursor.old cursor.new) }
-    ensures closed { IfOk result (λ s. ends_open (statement_tree s) ≡ false) }
-    ensures nested { IfOk result (λ s. statement_nesting (statement_tree s) ≤ depth + 1) }
+    ensures reads { Gives statement_tree result cursor.new (block_by (expression_at depth) (statement_at depth) cursor.old) }
     ensures shorter { OnOk result (length cursor.new < length cursor.old) }
 {
     let at = cursor.sign(Sign::LeftBrace)?;
@@ -69,28 +64,35 @@ fn block(alloc: Global, depth: u32, cursor: &mut Cursor<'_, '_>) -> Parsed<State
 /// Reads declarations and statements, as far as they go.
 #[cycle(statement)]
 pub fn block_items(alloc: Global, depth: u32, cursor: &mut Cursor<'_, '_>) -> Parsed<Vec<BlockItem>>
-    ensures phrase { IfOk result (λ items. AreItems (items_of (map item_tree items.items)) cursor.old cursor.new) }
-    ensures nested { IfOk result (λ items. items_nesting (items_of (map item_tree items.items)) ≤ depth) }
+    ensures reads { Gives (λ items. map item_tree items.items) result cursor.new (items_by (expression_at depth) (statement_at depth) cursor.old) }
     ensures shorter { OnOk result (length cursor.new ≤ length cursor.old) }
 {
     let mut items = Vec::new(alloc);
-    'items: while begins_declaration(cursor.kind()) || begins_statement(cursor.kind()) {
-        let item = if begins_declaration(cursor.kind()) {
-            BlockItem::Declare(declaration(alloc, depth, cursor)?)
-        } else {
-            BlockItem::Execute(statement(alloc, depth, cursor)?)
-        };
-        items.push(item)?;
+    'items: while begins_item(cursor.kind()) {
+        items.push(block_item(alloc, depth, cursor)?)?;
     }
     Ok(items)
 }
 
+/// Reads a declaration or a statement.
+#[cycle(statement)]
+#[tactic(auto, unfolding(crate::specs::ReadStatements::item_by))]
+fn block_item(alloc: Global, depth: u32, cursor: &mut Cursor<'_, '_>) -> Parsed<BlockItem>
+    ensures reads { Gives item_tree result cursor.new (item_by (expression_at depth) (statement_at depth) cursor.old) }
+    ensures shorter { OnOk result (length cursor.new < length cursor.old) }
+{
+    if begins_declaration(cursor.kind()) {
+        Ok(BlockItem::Declare(declaration(alloc, depth, cursor)?))
+    } else {
+        Ok(BlockItem::Execute(statement(alloc, depth, cursor)?))
+    }
+}
+
 /// Reads an `if`, and the `else` that may stand after its statement.
 #[cycle(statement)]
+#[tactic(auto, unfolding(crate::specs::ReadStatements::conditional_by, crate::specs::ReadStatements::otherwise_by))]
 fn conditional(alloc: Global, depth: u32, cursor: &mut Cursor<'_, '_>) -> Parsed<Statement>
-    ensures phrase { IfOk result (λ s. IsStatement (statement_tree s) cursor.old cursor.new) }
-    ensures closed { IfOk result (λ s. IsTrue (ends_open (statement_tree s)) → BeginsWith word_of.Else cursor.new → ⊥) }
-    ensures nested { IfOk result (λ s. statement_nesting (statement_tree s) ≤ depth + 1) }
+    ensures reads { Gives statement_tree result cursor.new (conditional_by (expression_at depth) (statement_at depth) cursor.old) }
     ensures shorter { OnOk result (length cursor.new < length cursor.old) }
 {
     let at = cursor.keyword(Keyword::If)?;
@@ -109,10 +111,9 @@ fn conditional(alloc: Global, depth: u32, cursor: &mut Cursor<'_, '_>) -> Parsed
 
 /// Reads a `while`.
 #[cycle(statement)]
+#[tactic(auto, unfolding(crate::specs::ReadStatements::repeated_by))]
 fn repeated(alloc: Global, depth: u32, cursor: &mut Cursor<'_, '_>) -> Parsed<Statement>
-    ensures phrase { IfOk result (λ s. IsStatement (statement_tree s) cursor.old cursor.new) }
-    ensures closed { IfOk result (λ s. IsTrue (ends_open (statement_tree s)) → BeginsWith word_of.Else cursor.new → ⊥) }
-    ensures nested { IfOk result (λ s. statement_nesting (statement_tree s) ≤ depth + 1) }
+    ensures reads { Gives statement_tree result cursor.new (repeated_by (expression_at depth) (statement_at depth) cursor.old) }
     ensures shorter { OnOk result (length cursor.new < length cursor.old) }
 {
     let at = cursor.keyword(Keyword::While)?;
@@ -123,10 +124,9 @@ fn repeated(alloc: Global, depth: u32, cursor: &mut Cursor<'_, '_>) -> Parsed<St
 
 /// Reads a `switch`.
 #[cycle(statement)]
+#[tactic(auto, unfolding(crate::specs::ReadStatements::switch_by))]
 fn switch(alloc: Global, depth: u32, cursor: &mut Cursor<'_, '_>) -> Parsed<Statement>
-    ensures phrase { IfOk result (λ s. IsStatement (statement_tree s) cursor.old cursor.new) }
-    ensures closed { IfOk result (λ s. ends_open (statement_tree s) ≡ false) }
-    ensures nested { IfOk result (λ s. statement_nesting (statement_tree s) ≤ depth + 1) }
+    ensures reads { Gives statement_tree result cursor.new (switch_by (expression_at depth) (statement_at depth) cursor.old) }
     ensures shorter { OnOk result (length cursor.new < length cursor.old) }
 {
     let at = cursor.keyword(Keyword::Switch)?;
@@ -139,10 +139,9 @@ fn switch(alloc: Global, depth: u32, cursor: &mut Cursor<'_, '_>) -> Parsed<Stat
 
 /// Reads the clauses of a `switch`, of which there is one at least.
 #[cycle(statement)]
+#[tactic(auto, unfolding(crate::specs::ReadStatements::clauses_by))]
 fn clauses(alloc: Global, depth: u32, cursor: &mut Cursor<'_, '_>) -> Parsed<Vec<Clause>>
-    ensures some { IfOk result (λ clauses. 0 < length clauses.items) }
-    ensures phrase { IfOk result (λ clauses. AreClauses (clauses_of (map clause_tree clauses.items)) cursor.old cursor.new) }
-    ensures nested { IfOk result (λ clauses. clauses_nesting (clauses_of (map clause_tree clauses.items)) ≤ depth) }
+    ensures reads { Gives (λ clauses. map clause_tree clauses.items) result cursor.new (clauses_by (expression_at depth) (statement_at depth) cursor.old) }
     ensures shorter { OnOk result (length cursor.new < length cursor.old) }
 {
     let mut clauses = Vec::new(alloc);
@@ -155,9 +154,9 @@ fn clauses(alloc: Global, depth: u32, cursor: &mut Cursor<'_, '_>) -> Parsed<Vec
 
 /// Reads a clause of a `switch`.
 #[cycle(statement)]
+#[tactic(auto, unfolding(crate::specs::ReadStatements::clause_by))]
 fn clause(alloc: Global, depth: u32, cursor: &mut Cursor<'_, '_>) -> Parsed<Clause>
-    ensures phrase { IfOk result (λ clause. AreClauses (clauses_of (clause_tree clause ∷ [])) cursor.old cursor.new) }
-    ensures nested { IfOk result (λ clause. clauses_nesting (clauses_of (clause_tree clause ∷ [])) ≤ depth) }
+    ensures reads { Gives clause_tree result cursor.new (clause_by (expression_at depth) (statement_at depth) cursor.old) }
     ensures shorter { OnOk result (length cursor.new < length cursor.old) }
 {
     let at = cursor.place();
@@ -168,8 +167,9 @@ fn clause(alloc: Global, depth: u32, cursor: &mut Cursor<'_, '_>) -> Parsed<Clau
 }
 
 /// Reads which members a clause takes.
+#[tactic(auto, unfolding(crate::specs::ReadStatements::pattern))]
 fn pattern(alloc: Global, cursor: &mut Cursor<'_, '_>) -> Parsed<Pattern>
-    ensures phrase { IfOk result (λ pattern. IsPattern (next_place cursor.old) (pattern_tree pattern) cursor.old cursor.new) }
+    ensures reads { Gives pattern_tree result cursor.new (pattern_at cursor.old) }
     ensures shorter { OnOk result (length cursor.new < length cursor.old) }
 {
     if cursor.is_keyword(Keyword::Default) {
@@ -187,58 +187,57 @@ fn pattern(alloc: Global, cursor: &mut Cursor<'_, '_>) -> Parsed<Pattern>
 }
 
 /// Reads a statement that holds no other.
+#[tactic(auto, unfolding(crate::specs::ReadStatements::simple_by))]
 fn simple(alloc: Global, depth: u32, cursor: &mut Cursor<'_, '_>) -> Parsed<Statement>
-    ensures phrase { IfOk result (λ s. IsStatement (statement_tree s) cursor.old cursor.new) }
-    ensures closed { IfOk result (λ s. ends_open (statement_tree s) ≡ false) }
-    ensures nested { IfOk result (λ s. statement_nesting (statement_tree s) ≤ depth + 1) }
+    ensures reads { Gives statement_tree result cursor.new (simple_by (expression_at depth) cursor.old) }
     ensures shorter { OnOk result (length cursor.new < length cursor.old) }
 {
-    match cursor.kind() {
-        Some(TokenKind::Sign(Sign::Semicolon)) => {
-            Ok(Statement::Empty(cursor.sign(Sign::Semicolon)?))
-        }
-        Some(TokenKind::Keyword(Keyword::Break)) => Ok(Statement::Break(word(cursor)?)),
-        Some(TokenKind::Keyword(Keyword::Continue)) => Ok(Statement::Continue(word(cursor)?)),
-        Some(TokenKind::Keyword(Keyword::Return)) => returned(alloc, depth, cursor),
-        Some(TokenKind::Keyword(Keyword::Ufree)) => {
-            let (at, pointer) = freed(alloc, cursor)?;
-            Ok(Statement::FreeUnique(at, pointer))
-        }
-        Some(TokenKind::Keyword(Keyword::FreeUkey)) => {
-            let (at, key) = freed(alloc, cursor)?;
-            Ok(Statement::FreeKey(at, key))
-        }
-        _ => run(alloc, depth, cursor),
+    if cursor.is_sign(Sign::Semicolon) {
+        Ok(Statement::Empty(cursor.sign(Sign::Semicolon)?))
+    } else if cursor.is_keyword(Keyword::Break) {
+        Ok(Statement::Break(word(Keyword::Break, cursor)?))
+    } else if cursor.is_keyword(Keyword::Continue) {
+        Ok(Statement::Continue(word(Keyword::Continue, cursor)?))
+    } else if cursor.is_keyword(Keyword::Return) {
+        returned(alloc, depth, cursor)
+    } else if cursor.is_keyword(Keyword::Ufree) {
+        let (at, pointer) = freed(alloc, Keyword::Ufree, cursor)?;
+        Ok(Statement::FreeUnique(at, pointer))
+    } else if cursor.is_keyword(Keyword::FreeUkey) {
+        let (at, key) = freed(alloc, Keyword::FreeUkey, cursor)?;
+        Ok(Statement::FreeKey(at, key))
+    } else {
+        run(alloc, depth, cursor)
     }
 }
 
 /// Reads a statement of one word, and answers its place.
-fn word(cursor: &mut Cursor<'_, '_>) -> Parsed<u32>
-    ensures phrase { IfOk result (λ at. (word : Word) → next_kind cursor.old ≡ Some (kind.Keyword word) → IsWordStatement word at cursor.old cursor.new) }
+#[tactic(auto, unfolding(crate::specs::ReadStatements::word_read))]
+fn word(keyword: Keyword, cursor: &mut Cursor<'_, '_>) -> Parsed<u32>
+    ensures reads { Gives (λ at. at) result cursor.new (word_read keyword cursor.old) }
     ensures shorter { OnOk result (length cursor.new < length cursor.old) }
 {
-    let word = cursor.read()?;
+    let at = cursor.keyword(keyword)?;
     cursor.sign(Sign::Semicolon)?;
-    Ok(word.at)
+    Ok(at)
 }
 
 /// Reads a statement of one word and a name in parentheses, and answers its place and the name.
-fn freed(alloc: Global, cursor: &mut Cursor<'_, '_>) -> Parsed<(u32, Name)>
-    ensures phrase { IfOk result (λ freed. (word : Word) → next_kind cursor.old ≡ Some (kind.Keyword word)
-        → IsNameStatement word freed.0 (name_tree freed.1) cursor.old cursor.new) }
+#[tactic(auto, unfolding(crate::specs::ReadStatements::freed))]
+fn freed(alloc: Global, keyword: Keyword, cursor: &mut Cursor<'_, '_>) -> Parsed<(u32, Name)>
+    ensures reads { Gives (λ freed. (freed.0, name_tree freed.1)) result cursor.new (freed_at keyword cursor.old) }
     ensures shorter { OnOk result (length cursor.new < length cursor.old) }
 {
-    let word = cursor.read()?;
+    let at = cursor.keyword(keyword)?;
     let name = parenthesized_name(alloc, cursor)?;
     cursor.sign(Sign::Semicolon)?;
-    Ok((word.at, name))
+    Ok((at, name))
 }
 
 /// Reads a `return`, with its result where it has one.
+#[tactic(auto, unfolding(crate::specs::ReadStatements::returned_by))]
 fn returned(alloc: Global, depth: u32, cursor: &mut Cursor<'_, '_>) -> Parsed<Statement>
-    ensures phrase { IfOk result (λ s. IsStatement (statement_tree s) cursor.old cursor.new) }
-    ensures closed { IfOk result (λ s. ends_open (statement_tree s) ≡ false) }
-    ensures nested { IfOk result (λ s. statement_nesting (statement_tree s) ≤ depth + 1) }
+    ensures reads { Gives statement_tree result cursor.new (returned_by (expression_at depth) cursor.old) }
     ensures shorter { OnOk result (length cursor.new < length cursor.old) }
 {
     let at = cursor.keyword(Keyword::Return)?;
@@ -252,10 +251,9 @@ fn returned(alloc: Global, depth: u32, cursor: &mut Cursor<'_, '_>) -> Parsed<St
 }
 
 /// Reads an expression that is evaluated, or two between which values are exchanged.
+#[tactic(auto, unfolding(crate::specs::ReadStatements::run_by))]
 fn run(alloc: Global, depth: u32, cursor: &mut Cursor<'_, '_>) -> Parsed<Statement>
-    ensures phrase { IfOk result (λ s. IsStatement (statement_tree s) cursor.old cursor.new) }
-    ensures closed { IfOk result (λ s. ends_open (statement_tree s) ≡ false) }
-    ensures nested { IfOk result (λ s. statement_nesting (statement_tree s) ≤ depth + 1) }
+    ensures reads { Gives statement_tree result cursor.new (run_by (expression_at depth) cursor.old) }
     ensures shorter { OnOk result (length cursor.new < length cursor.old) }
 {
     let first = expression(alloc, depth, cursor)?;

@@ -1,10 +1,10 @@
 // Types, and the regions that they name.
 
-ghost use Rattle.std.specs.Prelude.{◌≡◌, ◌<◌, ◌≤◌, IfOk, OnOk, length, map};
+ghost use Rattle.std.specs.Prelude.{◌<◌, ◌≤◌, OnOk, length, map};
 ghost use Rattle.cyc_tree.specs.View.{region_tree, base_tree, pointer_tree, type_tree, member_tree};
-ghost use Rattle.cyc_lexer.specs.declared.token.Sign.TheVariants as sign;
-ghost use Rattle.cyc_parser.specs.Phrases.{Tokens, IsSign, IsRegion, Each, Listed};
-ghost use Rattle.cyc_parser.specs.TypeGrammar.{AreRegions, IsOneRegion, IsBase, IsPointerSign, IsPointer, IsType, IsTyped};
+ghost use Rattle.cyc_parser.specs.Reader.{Gives};
+ghost use Rattle.cyc_parser.specs.ReadTypes.{base as base_at, qualified as qualified_at, pointer_sign_read, pointer as pointer_at, pointers as pointers_at, type_name as type_name_at, typed_name as typed_name_at};
+ghost use Rattle.cyc_parser.specs.ReadTypes.{one_region as one_region_at, regions as regions_at, region_list as region_list_at};
 
 use crate::cursor::Cursor;
 use crate::fault::{ParseFault, Parsed};
@@ -14,18 +14,21 @@ use cyc_tree::{Base, Member, Pointer, RegionName, TypeName};
 use std::alloc::Global;
 
 /// Reads a type.
+#[tactic(auto, unfolding(crate::specs::ReadTypes::type_name))]
 pub fn type_name(alloc: Global, cursor: &mut Cursor<'_, '_>) -> Parsed<TypeName>
-    ensures phrase { IfOk result (λ t. IsType (type_tree t) cursor.old cursor.new) }
+    ensures reads { Gives type_tree result cursor.new (type_name_at cursor.old) }
     ensures shorter { OnOk result (length cursor.new < length cursor.old) }
 {
     let at = cursor.place();
     let base = base(alloc, cursor)?;
-    pointed(alloc, at, base, cursor)
+    let pointers = pointers(alloc, cursor)?;
+    Ok(TypeName { at, base, pointers })
 }
 
 /// Reads a type and a name: a parameter, or a member without its semicolon.
+#[tactic(auto, unfolding(crate::specs::ReadTypes::typed_name))]
 pub fn typed_name(alloc: Global, cursor: &mut Cursor<'_, '_>) -> Parsed<Member>
-    ensures phrase { IfOk result (λ m. IsTyped (member_tree m) cursor.old cursor.new) }
+    ensures reads { Gives member_tree result cursor.new (typed_name_at cursor.old) }
     ensures shorter { OnOk result (length cursor.new < length cursor.old) }
 {
     let of = type_name(alloc, cursor)?;
@@ -34,8 +37,9 @@ pub fn typed_name(alloc: Global, cursor: &mut Cursor<'_, '_>) -> Parsed<Member>
 }
 
 /// Reads what a type begins with.
+#[tactic(auto, unfolding(crate::specs::ReadTypes::base))]
 fn base(alloc: Global, cursor: &mut Cursor<'_, '_>) -> Parsed<Base>
-    ensures phrase { IfOk result (λ b. IsBase (base_tree b) cursor.old cursor.new) }
+    ensures reads { Gives base_tree result cursor.new (base_at cursor.old) }
     ensures shorter { OnOk result (length cursor.new < length cursor.old) }
 {
     let token = cursor.read()?;
@@ -63,23 +67,22 @@ fn base(alloc: Global, cursor: &mut Cursor<'_, '_>) -> Parsed<Base>
     }
 }
 
-/// Reads the pointers to a base, as far as they go. The place is the base's.
-pub fn pointed(alloc: Global, at: u32, base: Base, cursor: &mut Cursor<'_, '_>) -> Parsed<TypeName>
-    ensures place { IfOk result (λ t. t.at ≡ at) }
-    ensures base { IfOk result (λ t. t.base ≡ base) }
-    ensures phrase { IfOk result (λ t. Each IsPointer (map pointer_tree t.pointers.items) cursor.old cursor.new) }
+/// Reads the pointers to a base, as far as they go.
+pub fn pointers(alloc: Global, cursor: &mut Cursor<'_, '_>) -> Parsed<Vec<Pointer>>
+    ensures reads { Gives (λ pointers. map pointer_tree pointers.items) result cursor.new (pointers_at cursor.old) }
     ensures shorter { OnOk result (length cursor.new ≤ length cursor.old) }
 {
     let mut pointers = Vec::new(alloc);
     'pointers: while begins_pointer(cursor.kind()) {
         pointers.push(pointer(alloc, cursor)?)?;
     }
-    Ok(TypeName { at, base, pointers })
+    Ok(pointers)
 }
 
 /// Reads a pointer: its sign, and the region that may stand after it.
+#[tactic(auto, unfolding(crate::specs::ReadTypes::pointer))]
 fn pointer(alloc: Global, cursor: &mut Cursor<'_, '_>) -> Parsed<Pointer>
-    ensures phrase { IfOk result (λ p. IsPointer (pointer_tree p) cursor.old cursor.new) }
+    ensures reads { Gives pointer_tree result cursor.new (pointer_at cursor.old) }
     ensures shorter { OnOk result (length cursor.new < length cursor.old) }
 {
     let sign = pointer_sign(cursor)?;
@@ -92,8 +95,9 @@ fn pointer(alloc: Global, cursor: &mut Cursor<'_, '_>) -> Parsed<Pointer>
 }
 
 /// Reads a pointer's sign.
+#[tactic(auto, unfolding(crate::specs::ReadTypes::pointer_sign_read))]
 fn pointer_sign(cursor: &mut Cursor<'_, '_>) -> Parsed<cyc_tree::Sign>
-    ensures phrase { IfOk result (λ sign. IsPointerSign sign cursor.old cursor.new) }
+    ensures reads { Gives (λ sign. sign) result cursor.new (pointer_sign_read cursor.old) }
     ensures shorter { OnOk result (length cursor.new < length cursor.old) }
 {
     let token = cursor.read()?;
@@ -106,8 +110,9 @@ fn pointer_sign(cursor: &mut Cursor<'_, '_>) -> Parsed<cyc_tree::Sign>
 }
 
 /// Reads the word that may stand after `*`, and answers the sign that the two make.
+#[tactic(auto, unfolding(crate::specs::ReadTypes::qualified))]
 fn qualified(cursor: &mut Cursor<'_, '_>) -> Parsed<cyc_tree::Sign>
-    ensures phrase { (from : Tokens) → IsSign sign.Star from cursor.old → IfOk result (λ word. IsPointerSign word from cursor.new) }
+    ensures reads { Gives (λ sign. sign) result cursor.new (qualified_at cursor.old) }
     ensures shorter { OnOk result (length cursor.new ≤ length cursor.old) }
 {
     let sign = match cursor.kind() {
@@ -121,8 +126,9 @@ fn qualified(cursor: &mut Cursor<'_, '_>) -> Parsed<cyc_tree::Sign>
 }
 
 /// Reads a region name in angle brackets.
+#[tactic(auto, unfolding(crate::specs::ReadTypes::one_region))]
 pub fn one_region(alloc: Global, cursor: &mut Cursor<'_, '_>) -> Parsed<RegionName>
-    ensures phrase { IfOk result (λ r. IsOneRegion (region_tree r) cursor.old cursor.new) }
+    ensures reads { Gives region_tree result cursor.new (one_region_at cursor.old) }
     ensures shorter { OnOk result (length cursor.new < length cursor.old) }
 {
     cursor.sign(Sign::Less)?;
@@ -132,8 +138,9 @@ pub fn one_region(alloc: Global, cursor: &mut Cursor<'_, '_>) -> Parsed<RegionNa
 }
 
 /// Reads the region names in angle brackets that may stand after a tag.
+#[tactic(auto, unfolding(crate::specs::ReadTypes::region_list))]
 pub fn region_list(alloc: Global, cursor: &mut Cursor<'_, '_>) -> Parsed<Vec<RegionName>>
-    ensures phrase { IfOk result (λ rs. AreRegions (map region_tree rs.items) cursor.old cursor.new) }
+    ensures reads { Gives (λ regions. map region_tree regions.items) result cursor.new (region_list_at cursor.old) }
     ensures shorter { OnOk result (length cursor.new ≤ length cursor.old) }
 {
     if !cursor.is_sign(Sign::Less) {
@@ -146,8 +153,9 @@ pub fn region_list(alloc: Global, cursor: &mut Cursor<'_, '_>) -> Parsed<Vec<Reg
 }
 
 /// Reads region names with commas between them, of which there is one at least.
+#[tactic(auto, unfolding(crate::specs::ReadTypes::regions))]
 pub fn regions(alloc: Global, cursor: &mut Cursor<'_, '_>) -> Parsed<Vec<RegionName>>
-    ensures phrase { IfOk result (λ rs. Listed IsRegion (map region_tree rs.items) cursor.old cursor.new) }
+    ensures reads { Gives (λ regions. map region_tree regions.items) result cursor.new (regions_at cursor.old) }
     ensures shorter { OnOk result (length cursor.new < length cursor.old) }
 {
     let mut regions = Vec::new(alloc);

@@ -9,3 +9,4 @@ pub mod ProgramParts
 pub mod CodeBounds
 pub mod Refusing
 pub mod Executions
+pub mod Exactness

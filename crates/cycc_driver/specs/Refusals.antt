@@ -4,6 +4,7 @@ use Rattle.cyc_lexer.specs.Lexing.{Token, AreTokens, text_limit}
 use Rattle.cyc_lexer.specs.Tokens.{IsRefusedAt}
 use Rattle.cyc_lexer.specs.Places.{line_of, column_of}
 use Rattle.cyc_image.specs.Format.{code_limit}
+use Rattle.cyc_parser.specs.Refusals.{IsUnexpectedAt, IsTooDeepAt}
 use Rattle.cyc_tree.specs.Tree.{Program}
 use Rattle.region_types.specs.Faults.{first_fault}
 use Rattle.region_types.specs.declared.fault.FaultKind.{FaultKind}
@@ -24,11 +25,14 @@ pub record IsNoTokens (text : List ℕ) (place : Place) : Type 0 where
   pub refused : IsRefusedAt text at
   pub there : IsPlaceOf text at place
 
--- the text has its tokens; nothing is said yet of why they are no program, and of the place
-pub record HasTokens (text : List ℕ) (place : Place) : Type 0 where
+-- the text has its tokens, and they are refused at the token or the end of the text that stands there, for a reason
+pub record AreNoProgram (text : List ℕ) (Refused : List Token → ℕ → Type 0) (place : Place) : Type 0 where
   pub tokens : List Token
   pub within : length text ≤ text_limit
   pub lexed : AreTokens text tokens
+  pub at : ℕ
+  pub refused : Refused tokens at
+  pub there : IsPlaceOf text at place
 
 -- the text spells a program whose first fault is of this kind, and stands at the place
 pub record IsBroken (text : List ℕ) (k : FaultKind) (place : Place) : Type 0 where
@@ -41,8 +45,8 @@ pub record IsBroken (text : List ℕ) (k : FaultKind) (place : Place) : Type 0 w
 -- Why a text is refused before its code is made. No rule of flow is brought yet.
 abbrev pub IsRefusedFor : CompileFault → List ℕ → Type 0
 IsRefusedFor (fault.Lex place) text = IsNoTokens text place
-IsRefusedFor (fault.Parse place) text = HasTokens text place
-IsRefusedFor (fault.TooDeep place) text = HasTokens text place
+IsRefusedFor (fault.Parse place) text = AreNoProgram text IsUnexpectedAt place
+IsRefusedFor (fault.TooDeep place) text = AreNoProgram text IsTooDeepAt place
 IsRefusedFor (fault.Name place) text = IsBroken text kind.Name place
 IsRefusedFor (fault.Typing place) text = IsBroken text kind.Typing place
 IsRefusedFor (fault.Region place) text = IsBroken text kind.Region place

@@ -28,10 +28,10 @@ abbrev pub IsOfLexing : List ℕ → LexFault → CompileFault → Type 0
 IsOfLexing text (lex.Lex at) f = StandsAt text at fault.Lex f
 IsOfLexing text lex.Memory f = f ≡ fault.Memory
 
-abbrev pub IsOfParsing : ParseFault → CompileFault → Type 0
-IsOfParsing (parse.Parse at) f = (place : Place) × (f ≡ fault.Parse place)
-IsOfParsing (parse.TooDeep at) f = (place : Place) × (f ≡ fault.TooDeep place)
-IsOfParsing parse.Memory f = f ≡ fault.Memory
+abbrev pub IsOfParsing : List ℕ → ParseFault → CompileFault → Type 0
+IsOfParsing text (parse.Parse at) f = StandsAt text at fault.Parse f
+IsOfParsing text (parse.TooDeep at) f = StandsAt text at fault.TooDeep f
+IsOfParsing text parse.Memory f = f ≡ fault.Memory
 
 abbrev pub form_of : FaultKind → Place → CompileFault
 form_of kind.Name = fault.Name

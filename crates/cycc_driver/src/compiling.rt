@@ -1,11 +1,11 @@
 // From a text to an image.
 
-ghost use Rattle.std.specs.Prelude.{◌≡◌, ◌≤◌, IfOk, IfErr};
-ghost use Rattle.cyc_tree.specs.Tree.{Program};
-ghost use Rattle.cyc_image.specs.Format.{Contents, Fits};
+ghost use Rattle.std.specs.Prelude.{◌≡◌, ◌⊎◌, ◌<◌, ◌≤◌, ℕ, List, IfOk, IfErr};
+ghost use Rattle.cyc_tree.specs.Tree.{Program as Tree};
+ghost use Rattle.cyc_image.specs.Format.{Contents, Fits, code_limit};
 ghost use Rattle.unique_flow.specs.Accepted.{IsAccepted};
 ghost use Rattle.cycc_driver.specs.Texts.{IsTextOf, IsAcceptedAs};
-ghost use Rattle.cycc_driver.specs.Refusals.{IsRefusedFor, HasNoImageFor};
+ghost use Rattle.cycc_driver.specs.Refusals.{IsRefusedFor, HasNoImageFor, code_bound};
 ghost use Rattle.cycc_driver.specs.Refused.{HasNoCodeFor};
 ghost use Rattle.cycc_driver.specs.Outcome.{IsCode, IsImplementedBy, IsTextImage};
 
@@ -62,14 +62,26 @@ pub(crate) fn checked<'p>(
 /// tokens, the grammar, names and types, and flow. `Memory` comes where no host memory is left.
 pub fn check(alloc: Global, text: &[u8]) -> Result<(), CompileFault>
     // the text spells a program in which no rule is broken
-    ensures accepted { IfOk result (λ _. (program : Program) × IsAcceptedAs text.now program) }
-    // its tokens are none, at the place, or it spells a program whose first fault is this one, at the place
+    ensures accepted { IfOk result (λ _. (program : Tree) × IsAcceptedAs text.now program) }
+    // its tokens are none, or are no program, at the place; or it spells a program whose first fault is this one, at the place
     ensures refused { IfErr result (λ fault. IsRefusedFor fault text.now) }
+    // a text that is accepted is refused only for want of memory
+    ensures exact { (program : Tree) → IsAcceptedAs text.now program → IfErr result (λ fault. fault ≡ CompileFault.Memory) }
 {
     let program = parsed(alloc, text)?;
     checked(alloc, text, &program)?;
     Ok(())
 }
+
+/// A text spells one program, and an accepted one is refused only for want of memory; an image also where the bound on
+/// the length of its code is over the limit.
+pub fn accepted_or_refused()
+    ensures one { (text : List ℕ) (program other : Tree) → IsTextOf text program → IsTextOf text other → program ≡ other }
+    ensures checked { (text : List ℕ) (program : Tree) (fault : CompileFault) → IsAcceptedAs text program → IsRefusedFor fault text
+        → fault ≡ CompileFault.Memory }
+    ensures compiled { (text : List ℕ) (program : Tree) (fault : CompileFault) (accepted : IsAcceptedAs text program) → HasNoImageFor fault text
+        → (fault ≡ CompileFault.Memory) ⊎ (code_limit < code_bound accepted.spelled.tokens) }
+{}
 
 /// The code of an accepted program.
 fn code_of(alloc: Global, checked: &Checked<'_>) -> Result<Code, CompileFault>

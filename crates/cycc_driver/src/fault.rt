@@ -143,7 +143,7 @@ pub fn of_lexing(text: &[u8], fault: LexFault) -> CompileFault
 
 /// A fault of the grammar, with its place in the text.
 pub fn of_parsing(text: &[u8], fault: ParseFault) -> CompileFault
-    ensures { IsOfParsing fault result }
+    ensures { IsOfParsing text.now fault result }
 {
     match fault {
         ParseFault::Parse(at) => CompileFault::Parse(Place::at(text, at)),

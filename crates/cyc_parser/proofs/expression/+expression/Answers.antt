@@ -1,200 +1,242 @@
--- What each function has read is a phrase: the lists between are the cursor's states between the calls.
-use Rattle.std.proofs.Common.{◌<◌, ◌≤◌, Option, option_map, map, refl, sym, subst, arith}
+use Rattle.std.proofs.Common.{◌≡◌, ◌-◌, Option, map, option_map, true, false, sym, ap, subst, ◌∙◌, Ok, arith}
+use Rattle.std.proofs.lemmas.Result.{err_from_is_err_and}
 use Rattle.cyc_lexer.specs.Tokens.{token_tree}
 use Rattle.cyc_lexer.specs.declared.token.Sign.TheVariants as sign
-use Rattle.cyc_lexer.specs.declared.token.TokenKind.TheVariants as kind
-use Rattle.cyc_tree.specs.Tree.{Expression}
-use Rattle.cyc_tree.specs.View.{name_tree, expression_tree, link_tree, links_of}
-use Rattle.cyc_parser.specs.Phrases.{Tokens}
-use Rattle.cyc_parser.specs.ExpressionGrammar.{IsExpression, binds, operator_sign, primary_level}
+use Rattle.cyc_tree.specs.declared.expression.Link.{Link}
+use Rattle.cyc_tree.specs.View.{name_tree, expression_tree, suffix_tree, link_tree}
+use Rattle.cyc_tree.proofs.Forms.{link_parts}
 use Rattle.cyc_parser.specs.declared.operator.Level.{Level}
-use Rattle.cyc_parser.specs.Levels.{level_number, number_of}
-use Rattle.cyc_parser.specs.Parts.{IsWithMember, chained}
-use Rattle.cyc_parser.proofs.NextToken.{is_one}
-use Rattle.cyc_parser.proofs.ExpressionLists.{operands_more, links_more, suffixes_more, listed_more}
-use Rattle.cyc_parser.proofs.ExpressionForms.{make_union_phrase, array_made}
-use Rattle.cyc_parser.proofs.Chains.{chained_phrase, chained_binds, no_operands, all_of_phrase, any_of_phrase, no_suffixes, suffixed_phrase}
-use Rattle.cyc_parser.proofs.Nested.{operands_nested, links_nested, arguments_nested, suffixes_nested}
+use Rattle.cyc_parser.specs.Levels.{levels_from, levels_left}
+use Rattle.cyc_parser.specs.Tests.{is_sign, is_operator, begins_suffix, begins_unary}
+use Rattle.cyc_parser.specs.Reader.{Fails, Gives, next_is, passes, behind, listed, sign as sign_at}
+use Rattle.cyc_parser.specs.ReadExpressions.{level_over, all_of, any_of, suffix_by, suffixes_by, links_by, chain_by, all_of_by, any_of_by, expression_at, unary_at}
+use Rattle.cyc_parser.proofs.Chains.{is_all_of, is_any_of, is_one_of_all, is_one_of_any}
+use Rattle.cyc_parser.proofs.ReadLoops.{pushed, fails_so, is_done}
+use Rattle.cyc_parser.proofs.ReadSteps.{is_too_deep, then_fails, other_fails, other_pushed, others_done}
+use Rattle.cyc_parser.proofs.ReadChains.{link_by, above, operator_stands, no_operator_stands, operand_fails, link_read, chain_none, chain_first_fails, chain_links_fail, chain_read, expression_none, unary_none, expression_below, unary_below}
 use Rattle.cyc_parser.proofs.expression.+expression.Goals as goal
-use Rattle.cyc_parser.proofs.expression.+expression.Goals.{postfix-then-eq+in_ok-named, postfix-else-eq+in_ok-primary}
+
+-- ---- the nesting
+
+pub expression-returns-then-depth-eq0-clause-reads : goal.expression-returns-then-depth-eq0-clause-reads
+expression-returns-then-depth-eq0-clause-reads t c =
+    expression_none c.args.depth c.args.cursor.now c.too_deep.result c.if-depth-eq0.true
+    (is_too_deep begins_unary c.too_deep.result c.begins_unary.result c.kind.result c.args.cursor.now c.kind.ensures.next
+    c.begins_unary.ensures c.too_deep.ensures)
+
+pub expression-returns-else-depth-eq0-clause-reads : goal.expression-returns-else-depth-eq0-clause-reads
+expression-returns-else-depth-eq0-clause-reads t c =
+    subst (λ f. Gives expression_tree c.assignment.result c.assignment.new.cursor (f c.args.cursor.now))
+    (expression_below c.args.depth c.if-depth-eq0.false) c.assignment.ensures.reads
+
+pub unary-returns-then-depth-eq0-clause-reads : goal.unary-returns-then-depth-eq0-clause-reads
+unary-returns-then-depth-eq0-clause-reads t c =
+    unary_none c.args.depth c.args.cursor.now c.too_deep.result c.if-depth-eq0.true
+    (is_too_deep begins_unary c.too_deep.result c.begins_unary.result c.kind.result c.args.cursor.now c.kind.ensures.next
+    c.begins_unary.ensures c.too_deep.ensures)
+
+pub unary-returns-else-depth-eq0-clause-reads : goal.unary-returns-else-depth-eq0-clause-reads
+unary-returns-else-depth-eq0-clause-reads t c =
+    subst (λ f. Gives expression_tree c.operation.result c.operation.new.cursor (f c.args.cursor.now))
+    (unary_below c.args.depth c.if-depth-eq0.false) c.operation.ensures.reads
 
 -- ---- `||` and `&&`
+
+pub any_of-returns-in_err-all_of-clause-reads : goal.any_of-returns-in_err-all_of-clause-reads
+unfolding any_of_by
+any_of-returns-in_err-all_of-clause-reads t c =
+    let p = err_from_is_err_and c.from_residual-in_err-all_of.result c.from_residual-in_err-all_of.ensures.1 in
+    rw (p.1, p.2) (other_fails sign.OrOr (all_of_by (unary_at c.args.depth)) any_of c.args.cursor.now c.all_of.new.cursor c.others.cursor
+    c.sign.new.self _ (map expression_tree c.others.others.items) c.in_ok-sign.field-0 c.in_err-all_of.field-0.0 c.others.invariant.first (sym c.others-test.ensures)
+    c.in_ok-sign.ensures.reads c.in_err-all_of.ensures.reads c.others.invariant.read)
 
 pub any_of-others-preserved : goal.any_of-others-preserved
 any_of-others-preserved t c = record {
   first = c.others.invariant.first;
-  binds_first = c.others.invariant.binds_first;
-  nested_first = c.others.invariant.nested_first;
-  nested = operands_nested c.args.depth c.others.others.items c.push.new.self.items c.in_ok-all_of.field-0
-      c.in_ok-push.ensures.items c.others.invariant.nested c.in_ok-all_of.ensures.nested;
-  shorter = omega (arith, c.in_ok-all_of.ensures.shorter, c.in_ok-sign.ensures.ok);
-  read = operands_more sign.OrOr 2 c.others.others.items c.push.new.self.items c.in_ok-all_of.field-0 c.all_of.new.cursor c.others.cursor
-      c.sign.new.self c.all_of-in-others.new.cursor
-      c.in_ok-push.ensures.items c.others.invariant.read (c.in_ok-sign.field-0, c.in_ok-sign.ensures.token) c.in_ok-all_of.ensures.phrase
-      c.in_ok-all_of.ensures.binds;
+  shorter = omega (arith, c.in_ok-all_of.ensures.shorter, c.in_ok-sign.ensures.shorter, c.others.invariant.shorter);
+  read = other_pushed expression_tree sign.OrOr (all_of_by (unary_at c.args.depth)) c.others.cursor c.sign.new.self c.all_of-in-others.new.cursor
+      c.others.others.items c.push.new.self.items c.in_ok-all_of.field-0 c.in_ok-sign.field-0 _ c.in_ok-push.ensures.items (sym c.others-test.ensures)
+      c.in_ok-sign.ensures.reads c.in_ok-all_of.ensures.reads (omega (
+        arith,
+        c.in_ok-all_of.ensures.shorter,
+        c.in_ok-sign.ensures.shorter,
+      )) c.others.invariant.read;
 }
 
-pub any_of-returns-then-is_empty-clause-phrase : goal.any_of-returns-then-is_empty-clause-phrase
-any_of-returns-then-is_empty-clause-phrase t c =
-    rw (no_operands sign.OrOr 2 c.others.others c.all_of.new.cursor c.others.cursor c.if-is_empty.ensures c.others.invariant.read) at c.others.invariant.first
+pub any_of-returns-then-is_empty-clause-reads : goal.any_of-returns-then-is_empty-clause-reads
+unfolding any_of_by
+any_of-returns-then-is_empty-clause-reads t c =
+    others_done sign.OrOr (all_of_by (unary_at c.args.depth)) any_of c.args.cursor.now c.all_of.new.cursor c.others.cursor _
+    (map expression_tree c.others.others.items) _ c.others.invariant.first (sym c.others-test.ensures) c.others.invariant.read
+    (is_one_of_any c.others.others _ c.if-is_empty.ensures)
 
-pub any_of-returns-in_ok-new-clause-phrase : goal.any_of-returns-in_ok-new-clause-phrase
-any_of-returns-in_ok-new-clause-phrase t c =
-    any_of_phrase c.in_ok-new.field-0 c.others.others _ c.args.cursor.now c.all_of.new.cursor c.others.cursor
-    c.in_ok-new.ensures.ok c.if-is_empty.ensures c.others.invariant.binds_first c.others.invariant.first c.others.invariant.read
+pub any_of-returns-in_ok-new-clause-reads : goal.any_of-returns-in_ok-new-clause-reads
+unfolding any_of_by
+any_of-returns-in_ok-new-clause-reads t c =
+    others_done sign.OrOr (all_of_by (unary_at c.args.depth)) any_of c.args.cursor.now c.all_of.new.cursor c.others.cursor _
+    (map expression_tree c.others.others.items) _ c.others.invariant.first (sym c.others-test.ensures) c.others.invariant.read
+    (is_any_of c.in_ok-new.field-0 c.others.others _ c.in_ok-new.ensures.ok c.if-is_empty.ensures)
+
+pub all_of-returns-in_err-chain-clause-reads : goal.all_of-returns-in_err-chain-clause-reads
+unfolding all_of_by
+all_of-returns-in_err-chain-clause-reads t c =
+    let p = err_from_is_err_and c.from_residual-in_err-chain.result c.from_residual-in_err-chain.ensures.1 in
+    rw (p.1, p.2) (other_fails sign.AndAnd (chain_by (unary_at c.args.depth) 8) all_of c.args.cursor.now c.chain.new.cursor
+    c.others.cursor c.sign.new.self _ (map expression_tree c.others.others.items) c.in_ok-sign.field-0 c.in_err-chain.field-0.0 c.others.invariant.first (sym c.others-test.ensures)
+    c.in_ok-sign.ensures.reads c.in_err-chain.ensures.reads c.others.invariant.read)
 
 pub all_of-others-preserved : goal.all_of-others-preserved
 all_of-others-preserved t c = record {
   first = c.others.invariant.first;
-  binds_first = c.others.invariant.binds_first;
-  nested_first = c.others.invariant.nested_first;
-  nested = operands_nested c.args.depth c.others.others.items c.push.new.self.items c.in_ok-chain.field-0
-      c.in_ok-push.ensures.items c.others.invariant.nested c.in_ok-chain.ensures.nested;
-  shorter = omega (arith, c.in_ok-chain.ensures.shorter, c.in_ok-sign.ensures.ok);
-  read = operands_more sign.AndAnd 3 c.others.others.items c.push.new.self.items c.in_ok-chain.field-0 c.chain.new.cursor c.others.cursor
-      c.sign.new.self c.chain-in-others.new.cursor
-      c.in_ok-push.ensures.items c.others.invariant.read (c.in_ok-sign.field-0, c.in_ok-sign.ensures.token) c.in_ok-chain.ensures.phrase
-      c.in_ok-chain.ensures.binds;
+  shorter = omega (arith, c.in_ok-chain.ensures.shorter, c.in_ok-sign.ensures.shorter, c.others.invariant.shorter);
+  read = other_pushed expression_tree sign.AndAnd (chain_by (unary_at c.args.depth) 8) c.others.cursor c.sign.new.self c.chain-in-others.new.cursor
+      c.others.others.items c.push.new.self.items c.in_ok-chain.field-0 c.in_ok-sign.field-0 _ c.in_ok-push.ensures.items (sym c.others-test.ensures)
+      c.in_ok-sign.ensures.reads c.in_ok-chain.ensures.reads (omega (arith, c.in_ok-chain.ensures.shorter, c.in_ok-sign.ensures.shorter))
+      c.others.invariant.read;
 }
 
-pub all_of-returns-then-is_empty-clause-phrase : goal.all_of-returns-then-is_empty-clause-phrase
-all_of-returns-then-is_empty-clause-phrase t c =
-    rw (no_operands sign.AndAnd 3 c.others.others c.chain.new.cursor c.others.cursor c.if-is_empty.ensures c.others.invariant.read) at c.others.invariant.first
+pub all_of-returns-then-is_empty-clause-reads : goal.all_of-returns-then-is_empty-clause-reads
+unfolding all_of_by
+all_of-returns-then-is_empty-clause-reads t c =
+    others_done sign.AndAnd (chain_by (unary_at c.args.depth) 8) all_of c.args.cursor.now c.chain.new.cursor c.others.cursor _
+    (map expression_tree c.others.others.items) _ c.others.invariant.first (sym c.others-test.ensures) c.others.invariant.read
+    (is_one_of_all c.others.others _ c.if-is_empty.ensures)
 
-pub all_of-returns-in_ok-new-clause-phrase : goal.all_of-returns-in_ok-new-clause-phrase
-all_of-returns-in_ok-new-clause-phrase t c =
-    all_of_phrase c.in_ok-new.field-0 c.others.others _ c.args.cursor.now c.chain.new.cursor c.others.cursor
-    c.in_ok-new.ensures.ok c.if-is_empty.ensures c.others.invariant.binds_first c.others.invariant.first c.others.invariant.read
+pub all_of-returns-in_ok-new-clause-reads : goal.all_of-returns-in_ok-new-clause-reads
+unfolding all_of_by
+all_of-returns-in_ok-new-clause-reads t c =
+    others_done sign.AndAnd (chain_by (unary_at c.args.depth) 8) all_of c.args.cursor.now c.chain.new.cursor c.others.cursor _
+    (map expression_tree c.others.others.items) _ c.others.invariant.first (sym c.others-test.ensures) c.others.invariant.read
+    (is_all_of c.in_ok-new.field-0 c.others.others _ c.in_ok-new.ensures.ok c.if-is_empty.ensures)
 
 -- ---- chains
 
-pub chain-returns-clause-phrase : goal.chain-returns-clause-phrase
-chain-returns-clause-phrase t c =
-    let bound : number_of c.in-Some.level < binds (expression_tree c.in_ok-first.first) =
-    omega (arith, c.in_ok-first.ensures.binds, c.tighter.ensures.number) in
-    subst (λ (x : Expression). IsExpression x c.args.cursor.now c.links.new.cursor) (sym c.in_ok-linked.ensures)
-    (chained_phrase (number_of c.in-Some.level) (expression_tree c.in_ok-first.first) (links_of (map link_tree c.in_ok-links.links.items))
-    c.args.cursor.now c.chain.new.cursor c.links.new.cursor
-    bound c.in_ok-first.ensures.phrase c.in_ok-links.ensures.phrase)
+pub chain-returns-in_default-clause-reads : goal.chain-returns-in_default-clause-reads
+chain-returns-in_default-clause-reads t c =
+    subst (λ (x : Option Level). Gives expression_tree c.unary.result c.unary.new.cursor (chain_by (unary_at c.args.depth)
+    (levels_left x) c.args.cursor.now))
+    (sym c.in_default.is)
+    (subst (λ f. Gives expression_tree c.unary.result c.unary.new.cursor (f c.args.cursor.now)) (sym (chain_none (unary_at
+    c.args.depth))) c.unary.ensures.reads)
 
-pub chain-returns-clause-binds : goal.chain-returns-clause-binds
-chain-returns-clause-binds t c =
-    let bound : number_of c.in-Some.level < binds (expression_tree c.in_ok-first.first) =
-    omega (arith, c.in_ok-first.ensures.binds, c.tighter.ensures.number) in
-    let level : number_of c.in-Some.level ≤ binds (chained (expression_tree c.in_ok-first.first) (links_of (map link_tree c.in_ok-links.links.items))) =
-    chained_binds (number_of c.in-Some.level) (expression_tree c.in_ok-first.first) (links_of (map link_tree c.in_ok-links.links.items))
-    c.chain.new.cursor c.links.new.cursor
-    bound c.in_ok-links.ensures.phrase in
-    subst (λ (x : Option Level). level_number x ≤ binds (expression_tree c.in_ok-linked.field-0)) (sym c.in-Some.is)
-    (subst (λ (x : Expression). number_of c.in-Some.level ≤ binds x) (sym c.in_ok-linked.ensures) level)
+pub chain-returns-in_err-first-clause-reads : goal.chain-returns-in_err-first-clause-reads
+chain-returns-in_err-first-clause-reads t c =
+    let p = err_from_is_err_and c.from_residual.result c.from_residual.ensures.1 in
+    rw (p.1, p.2, c.in-Some.is) (chain_first_fails (unary_at c.args.depth) c.in-Some.level _ c.args.cursor.now c.in_err-first.field-0.0
+    c.tighter.ensures.fewer
+    c.in_err-first.ensures.reads)
+
+pub chain-returns-in_err-links-clause-reads : goal.chain-returns-in_err-links-clause-reads
+chain-returns-in_err-links-clause-reads t c =
+    let p = err_from_is_err_and c.from_residual-in_err-links.result c.from_residual-in_err-links.ensures.1 in
+    rw (p.1, p.2, c.in-Some.is) (chain_links_fail (unary_at c.args.depth) c.in-Some.level _ c.args.cursor.now c.chain.new.cursor
+    (expression_tree c.in_ok-first.first)
+    c.in_err-links.field-0.0 c.tighter.ensures.fewer c.in_ok-first.ensures.reads c.in_err-links.ensures.reads)
+
+pub chain-returns-clause-reads : goal.chain-returns-clause-reads
+chain-returns-clause-reads t c =
+    rw c.in-Some.is (chain_read (unary_at c.args.depth) c.in-Some.level _ c.args.cursor.now c.chain.new.cursor c.links.new.cursor
+    (expression_tree c.in_ok-first.first)
+    (expression_tree c.in_ok-linked.field-0) (map link_tree c.in_ok-links.links.items) c.tighter.ensures.fewer
+    c.in_ok-first.ensures.reads c.in_ok-links.ensures.reads
+    c.in_ok-linked.ensures.tree)
+
+pub links-returns-in_err-operand-clause-reads : goal.links-returns-in_err-operand-clause-reads
+unfolding links_by
+links-returns-in_err-operand-clause-reads t c =
+    let p = err_from_is_err_and c.from_residual-in_err-operand.result c.from_residual-in_err-operand.ensures.1 in
+    let n = levels_from c.args.level - 1 in
+    let operand = chain_by (unary_at c.args.depth) n in
+    let next : next_is (is_operator (level_over n)) c.links.cursor ≡ true =
+    operator_stands c.args.level c.links.cursor c.in-Some.operator c.in-Some.ensures in
+    rw (p.1, p.2) (fails_so (is_operator (level_over n)) (link_by operand n) (map link_tree c.links.links.items) c.links.cursor
+    c.in_err-operand.field-0.0
+    (links_by operand n c.args.cursor.now) next
+    (operand_fails operand n c.links.cursor c.read.new.self (token_tree c.in_ok-read.field-0) c.in_err-operand.field-0.0 next
+    c.in_ok-read.ensures.reads
+    (subst (λ m. Fails c.in_err-operand.field-0.0 (chain_by (unary_at c.args.depth) m c.read.new.self)) (above c.args.level _ c.tighter.ensures.fewer)
+    c.in_err-operand.ensures.reads)) c.links.invariant.read)
 
 pub links-links-preserved : goal.links-links-preserved
-links-links-preserved t c = record {
-  nested = links_nested c.args.depth c.links.links.items c.push.new.self.items
-      (record { operator = c.in-Some.operator; operand = c.in_ok-operand.operand })
-      c.in_ok-push.ensures.items c.links.invariant.nested c.in_ok-operand.ensures.nested;
-  shorter = omega (arith, c.in_ok-operand.ensures.shorter, c.in_ok-read.ensures.ok);
-  read = links_more (number_of c.args.level) c.links.links.items c.push.new.self.items
-      (record { operator = c.in-Some.operator; operand = c.in_ok-operand.operand })
-      c.args.cursor.now c.links.cursor c.read.new.self c.chain.new.cursor c.in_ok-push.ensures.items c.links.invariant.read c.in-Some.ensures.level
-      (omega (arith, c.in_ok-operand.ensures.binds, c.tighter.ensures.number)) (
-        c.in_ok-read.field-0.at,
-        is_one (kind.Sign (operator_sign c.in-Some.operator)) (token_tree c.in_ok-read.field-0) c.links.cursor
-            c.read.new.self c.in-Some.ensures.sign c.in_ok-read.ensures.token,
-      )
-      c.in_ok-operand.ensures.phrase;
-}
+unfolding links_by
+links-links-preserved t c =
+    let n = levels_from c.args.level - 1 in
+    let operand = chain_by (unary_at c.args.depth) n in
+    let link : Link = record { operator = c.in-Some.operator; operand = c.in_ok-operand.operand } in
+    let next : next_is (is_operator (level_over n)) c.links.cursor ≡ true =
+    operator_stands c.args.level c.links.cursor c.in-Some.operator c.in-Some.ensures in
+    let one : link_by operand n c.links.cursor ≡ Ok ((c.in-Some.operator, expression_tree c.in_ok-operand.operand), c.chain.new.cursor) =
+    link_read operand n c.links.cursor c.read.new.self c.chain.new.cursor (token_tree c.in_ok-read.field-0) c.in-Some.operator
+    (expression_tree c.in_ok-operand.operand) next c.in-Some.ensures.1 c.in_ok-read.ensures.reads
+    (subst (λ m. chain_by (unary_at c.args.depth) m c.read.new.self ≡ Ok (expression_tree c.in_ok-operand.operand, c.chain.new.cursor))
+    (above c.args.level _ c.tighter.ensures.fewer) c.in_ok-operand.ensures.reads) in
+    record {
+      shorter = omega (arith, c.in_ok-operand.ensures.shorter, c.in_ok-read.ensures.shorter, c.links.invariant.shorter);
+      read = pushed link_tree (is_operator (level_over n)) (link_by operand n) c.links.links.items c.push.new.self.items link c.links.cursor
+          c.chain.new.cursor (links_by operand n c.args.cursor.now) c.in_ok-push.ensures.items next
+          (one ∙ ap (λ l. Ok (l, c.chain.new.cursor)) (sym (link_parts link)))
+          (omega (arith, c.in_ok-operand.ensures.shorter, c.in_ok-read.ensures.shorter)) c.links.invariant.read;
+    }
 
--- ---- what is made
-
-pub array-returns-clause-phrase : goal.array-returns-clause-phrase
-array-returns-clause-phrase t c =
-    array_made c.in_ok-index.index c.in_ok-count-2.count c.in_ok-new.field-0 c.in_ok-count.count c.in_ok-element.element c.args.cursor.now c.sign-4.new.self
-    c.in_ok-count-2.ensures.ok c.in_ok-new.ensures.ok (
-      c.sign.new.self,
-      c.keyword.new.self,
-      c.name.new.self,
-      c.sign-2.new.self,
-      c.expression.new.cursor,
-      c.sign-3.new.self,
-      c.expression-2.new.cursor,
-      (c.in_ok-sign.field-0, c.in_ok-sign.ensures.token),
-      (c.in_ok-keyword.field-0, c.in_ok-keyword.ensures.token),
-      c.in_ok-index.ensures.token,
-      (c.in_ok-sign-2.field-0, c.in_ok-sign-2.ensures.token),
-      c.in_ok-count.ensures.phrase,
-      (c.in_ok-sign-3.field-0, c.in_ok-sign-3.ensures.token),
-      c.in_ok-element.ensures.phrase,
-      (c.in_ok-sign-4.field-0, c.in_ok-sign-4.ensures.token),
-    )
-
--- ---- primary expressions and their suffixes
-
-pub named-returns-in_ok-value-2-clause-phrase : goal.named-returns-in_ok-value-2-clause-phrase
-named-returns-in_ok-value-2-clause-phrase t c = (
-  c.parenthesized.new.cursor,
-  make_union_phrase c.in_ok-name.name c.in_ok-member.member c.in_ok-value-2.value c.in_ok-value.value c.args.cursor.now c.parenthesized.new.cursor
-      c.in_ok-value-2.ensures.ok (
-        c.name.new.self,
-        c.sign.new.self,
-        c.name-2.new.self,
-        c.in_ok-name.ensures.token,
-        (c.in_ok-sign.field-0, c.in_ok-sign.ensures.token),
-        c.in_ok-member.ensures.token,
-        c.in_ok-value.ensures.phrase,
-      ),
-  refl,
-)
-
--- what stands before the suffixes that are read: a primary expression, and the member that may have been read
-pub postfix-returns-then-is_empty-clause-phrase : goal.postfix-returns-then-is_empty-clause-phrase
-postfix-returns-then-is_empty-clause-phrase t c =
-    let before : IsWithMember (expression_tree c.if-eq.first.0) (option_map name_tree c.if-eq.first.1) c.args.cursor.now c.if-eq.cursor =
-    elim c.if-eq.branch [
-      | postfix-then-eq+in_ok-named w ↦ rw (w.first-is, w.cursor-is) w.in_ok-named.ensures.phrase
-      | postfix-else-eq+in_ok-primary w ↦ rw (w.first-is, w.cursor-is) (_, w.in_ok-primary.ensures.phrase, refl)
-    ] in
-    subst (λ (x : Tokens). IsExpression (expression_tree c.if-eq.first.0) c.args.cursor.now x) {x = before.0} {y = c.suffixes.new.cursor}
-    (no_suffixes c.in_ok-suffixes.suffixes before.0 c.suffixes.new.cursor c.if-is_empty.ensures (c.in_ok-suffixes.ensures.phrase before.0 before.2)) before.1
-
-pub postfix-returns-in_ok-new-clause-phrase : goal.postfix-returns-in_ok-new-clause-phrase
-postfix-returns-in_ok-new-clause-phrase t c =
-    let before : IsWithMember (expression_tree c.if-eq.first.0) (option_map name_tree c.if-eq.first.1) c.args.cursor.now c.if-eq.cursor =
-    elim c.if-eq.branch [
-      | postfix-then-eq+in_ok-named w ↦ rw (w.first-is, w.cursor-is) w.in_ok-named.ensures.phrase
-      | postfix-else-eq+in_ok-primary w ↦ rw (w.first-is, w.cursor-is) (_, w.in_ok-primary.ensures.phrase, refl)
-    ] in
-    let bound : primary_level ≤ binds (expression_tree c.if-eq.first.0) =
-    elim c.if-eq.branch [
-      | postfix-then-eq+in_ok-named w ↦ rw w.first-is w.in_ok-named.ensures.binds
-      | postfix-else-eq+in_ok-primary w ↦ rw w.first-is w.in_ok-primary.ensures.binds
-    ] in
-    suffixed_phrase c.in_ok-new.field-0 c.in_ok-suffixes.suffixes c.if-eq.first.0 c.args.cursor.now before.0 c.suffixes.new.cursor
-    c.in_ok-new.ensures.ok c.if-is_empty.ensures bound before.1 (c.in_ok-suffixes.ensures.phrase before.0 before.2)
+pub links-returns-clause-reads : goal.links-returns-clause-reads
+unfolding links_by
+links-returns-clause-reads t c =
+    let n = levels_from c.args.level - 1 in
+    let operand = chain_by (unary_at c.args.depth) n in
+    is_done (is_operator (level_over n)) (link_by operand n) (map link_tree c.links.links.items) c.links.cursor (links_by operand n c.args.cursor.now)
+    (no_operator_stands c.args.level c.links.cursor c.in_default.ensures) c.links.invariant.read
 
 -- ---- arguments and suffixes
 
-pub arguments-more-preserved : goal.arguments-more-preserved
-arguments-more-preserved t c =
-    let before = c.more.invariant.read in
-    record {
-      nested = arguments_nested c.args.depth c.more.arguments.items c.push-in-more.new.self.items c.in_ok-expression-2.field-0
-          c.in_ok-push-2.ensures.items c.more.invariant.nested c.in_ok-expression-2.ensures.nested;
-      shorter = omega (arith, c.in_ok-expression-2.ensures.shorter, c.in_ok-sign-2.ensures.ok);
-      read = (
-        before.0,
-        before.1,
-        listed_more c.more.arguments.items c.push-in-more.new.self.items c.in_ok-expression-2.field-0 before.0 c.more.cursor c.sign-in-more.new.self
-            c.expression-in-more.new.cursor
-            c.in_ok-push-2.ensures.items before.2 (c.in_ok-sign-2.field-0, c.in_ok-sign-2.ensures.token) c.in_ok-expression-2.ensures.phrase,
-      );
-    }
+pub listed-returns-in_err-expression-2-clause-reads : goal.listed-returns-in_err-expression-2-clause-reads
+listed-returns-in_err-expression-2-clause-reads t c =
+    let p = err_from_is_err_and c.from_residual-in_err-expression-2.result c.from_residual-in_err-expression-2.ensures.1 in
+    rw (p.1, p.2) (fails_so (is_sign sign.Comma) (behind sign.Comma (expression_at c.args.depth)) (map expression_tree
+    c.more.expressions.items) c.more.cursor
+    c.in_err-expression-2.field-0.0 (listed (expression_at c.args.depth) c.args.cursor.now) (sym c.more-test.ensures)
+    (then_fails c.in_err-expression-2.field-0.0 (sign_at sign.Comma c.more.cursor) (λ x. expression_at c.args.depth x.1)
+    c.in_ok-sign.field-0 c.sign.new.self
+    c.in_ok-sign.ensures.reads c.in_err-expression-2.ensures.reads) c.more.invariant.read)
+
+pub listed-more-preserved : goal.listed-more-preserved
+listed-more-preserved t c = record {
+  shorter = omega (arith, c.in_ok-expression-2.ensures.shorter, c.in_ok-sign.ensures.shorter, c.more.invariant.shorter);
+  read = other_pushed expression_tree sign.Comma (expression_at c.args.depth) c.more.cursor c.sign.new.self c.expression-in-more.new.cursor
+      c.more.expressions.items c.push-in-more.new.self.items c.in_ok-expression-2.field-0 c.in_ok-sign.field-0 (listed (expression_at
+      c.args.depth) c.args.cursor.now)
+      c.in_ok-push-2.ensures.items (sym c.more-test.ensures) c.in_ok-sign.ensures.reads c.in_ok-expression-2.ensures.reads
+      (omega (arith, c.in_ok-expression-2.ensures.shorter, c.in_ok-sign.ensures.shorter)) c.more.invariant.read;
+}
+
+pub listed-returns-clause-reads : goal.listed-returns-clause-reads
+listed-returns-clause-reads t c =
+    is_done (is_sign sign.Comma) (behind sign.Comma (expression_at c.args.depth)) (map expression_tree c.more.expressions.items) c.more.cursor
+    (listed (expression_at c.args.depth) c.args.cursor.now) (sym c.more-test.ensures) c.more.invariant.read
+
+pub suffixes-returns-in_err-suffix-clause-reads : goal.suffixes-returns-in_err-suffix-clause-reads
+suffixes-returns-in_err-suffix-clause-reads t c =
+    let p = err_from_is_err_and c.from_residual-in_err-suffix.result c.from_residual-in_err-suffix.ensures.1 in
+    let next : next_is begins_suffix c.more.cursor ≡ true = ap (passes begins_suffix) (sym c.kind.ensures.next) ∙ sym
+    c.begins_suffix.ensures ∙ c.more-test.true in
+    rw (p.1, p.2) (fails_so begins_suffix (suffix_by (expression_at c.args.depth)) (map suffix_tree c.more.suffixes.items) c.more.cursor
+    c.in_err-suffix.field-0.0 (suffixes_by (expression_at c.args.depth) (option_map name_tree c.args.member) c.args.cursor.now) next
+    c.in_err-suffix.ensures.reads c.more.invariant.read)
 
 pub suffixes-more-preserved : goal.suffixes-more-preserved
-suffixes-more-preserved t c = record {
-  nested = suffixes_nested c.args.depth c.more.suffixes.items c.push-in-more.new.self.items c.in_ok-suffix.field-0
-      c.in_ok-push-2.ensures.items c.more.invariant.nested c.in_ok-suffix.ensures.nested;
-  shorter = omega (arith, c.in_ok-suffix.ensures.shorter);
-  read = λ from member. suffixes_more c.more.suffixes.items c.push-in-more.new.self.items c.in_ok-suffix.field-0 from c.more.cursor c.suffix.new.cursor
-      c.in_ok-push-2.ensures.items (c.more.invariant.read from member) c.in_ok-suffix.ensures.phrase;
-}
+suffixes-more-preserved t c =
+    let next : next_is begins_suffix c.more.cursor ≡ true = ap (passes begins_suffix) (sym c.kind.ensures.next) ∙ sym
+    c.begins_suffix.ensures ∙ c.more-test.true in
+    record {
+      shorter = omega (arith, c.in_ok-suffix.ensures.shorter, c.more.invariant.shorter);
+      read = pushed suffix_tree begins_suffix (suffix_by (expression_at c.args.depth)) c.more.suffixes.items c.push-in-more.new.self.items
+          c.in_ok-suffix.field-0 c.more.cursor c.suffix.new.cursor
+          (suffixes_by (expression_at c.args.depth) (option_map name_tree c.args.member) c.args.cursor.now) c.in_ok-push-2.ensures.items next
+          c.in_ok-suffix.ensures.reads c.in_ok-suffix.ensures.shorter c.more.invariant.read;
+    }
+
+pub suffixes-returns-clause-reads : goal.suffixes-returns-clause-reads
+suffixes-returns-clause-reads t c =
+    let next : next_is begins_suffix c.more.cursor ≡ false = ap (passes begins_suffix) (sym c.kind.ensures.next) ∙ sym
+    c.begins_suffix.ensures ∙ c.more-test.false in
+    is_done begins_suffix (suffix_by (expression_at c.args.depth)) (map suffix_tree c.more.suffixes.items) c.more.cursor
+    (suffixes_by (expression_at c.args.depth) (option_map name_tree c.args.member) c.args.cursor.now) next c.more.invariant.read

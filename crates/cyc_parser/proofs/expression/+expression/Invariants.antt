@@ -1,12 +1,11 @@
-use Rattle.std.proofs.Common.{◌≤◌, length, map, option_map, ◌+◌, ◌*◌}
+use Rattle.std.proofs.Common.{◌≡◌, ◌≤◌, ◌<◌, length, map, option_map, Ok, ◌+◌, ◌*◌, ◌-◌}
 use Rattle.cyc_lexer.specs.declared.token.Sign.TheVariants as sign
-use Rattle.cyc_tree.specs.View.{name_tree, expression_tree, link_tree, suffix_tree, expressions_of, links_of, suffixes_of}
-use Rattle.cyc_tree.specs.Nesting.{inner_nesting, operand_nesting, argument_nesting, link_nesting, suffix_nesting}
-use Rattle.cyc_parser.specs.ExpressionGrammar.{IsExpression, binds, AreOperands, AreLinks, AreSuffixes}
-use Rattle.cyc_parser.specs.Phrases.{Tokens, IsSign}
-use Rattle.cyc_parser.specs.Levels.{levels_from, levels_left, number_of}
-use Rattle.cyc_parser.specs.Parts.{MayBeMember}
-use Rattle.cyc_parser.proofs.ExpressionLists.{AreListed}
+use Rattle.cyc_tree.specs.View.{name_tree, expression_tree, link_tree, suffix_tree}
+use Rattle.cyc_parser.specs.Levels.{levels_from, levels_left}
+use Rattle.cyc_parser.specs.Tests.{is_sign, begins_suffix}
+use Rattle.cyc_parser.specs.Reader.{many, behind, listed}
+use Rattle.cyc_parser.specs.ReadExpressions.{expression_at, unary_at, all_of_by, chain_by, links_by, suffix_by, suffixes_by}
+use Rattle.cyc_parser.proofs.ReadLoops.{with_front}
 use Rattle.cyc_parser.proofs.expression.+expression.Given as goal
 
 abbrev pub decreases-expression : goal.decreases-expression
@@ -20,12 +19,10 @@ decreases-any_of l = 64 * l.depth + 62
 
 abbrev pub invariant-any_of-others : goal.invariant-any_of-others
 invariant-any_of-others l = record {
-  first : IsExpression (expression_tree l.first) l.fn.cursor l.initial.cursor;
-  binds_first : 2 ≤ binds (expression_tree l.first);
-  nested_first : inner_nesting (expression_tree l.first) ≤ l.depth;
-  nested : operand_nesting (expressions_of (map expression_tree l.others.items)) ≤ l.depth;
+  first : all_of_by (unary_at l.depth) l.fn.cursor ≡ Ok (expression_tree l.first, l.initial.cursor);
   shorter : length l.cursor ≤ length l.initial.cursor;
-  read : AreOperands sign.OrOr 2 (expressions_of (map expression_tree l.others.items)) l.initial.cursor l.cursor;
+  read : with_front (map expression_tree l.others.items) (many (is_sign sign.OrOr) (behind sign.OrOr (all_of_by (unary_at l.depth))) l.cursor)
+      ≡ many (is_sign sign.OrOr) (behind sign.OrOr (all_of_by (unary_at l.depth))) l.initial.cursor;
 }
 
 abbrev pub decreases-any_of-others : goal.decreases-any_of-others
@@ -36,12 +33,10 @@ decreases-all_of l = 64 * l.depth + 61
 
 abbrev pub invariant-all_of-others : goal.invariant-all_of-others
 invariant-all_of-others l = record {
-  first : IsExpression (expression_tree l.first) l.fn.cursor l.initial.cursor;
-  binds_first : 3 ≤ binds (expression_tree l.first);
-  nested_first : inner_nesting (expression_tree l.first) ≤ l.depth;
-  nested : operand_nesting (expressions_of (map expression_tree l.others.items)) ≤ l.depth;
+  first : chain_by (unary_at l.depth) 8 l.fn.cursor ≡ Ok (expression_tree l.first, l.initial.cursor);
   shorter : length l.cursor ≤ length l.initial.cursor;
-  read : AreOperands sign.AndAnd 3 (expressions_of (map expression_tree l.others.items)) l.initial.cursor l.cursor;
+  read : with_front (map expression_tree l.others.items) (many (is_sign sign.AndAnd) (behind sign.AndAnd (chain_by (unary_at l.depth) 8)) l.cursor)
+      ≡ many (is_sign sign.AndAnd) (behind sign.AndAnd (chain_by (unary_at l.depth) 8)) l.initial.cursor;
 }
 
 abbrev pub decreases-all_of-others : goal.decreases-all_of-others
@@ -56,8 +51,9 @@ decreases-links l = 64 * l.depth + 9 + 4 * levels_from l.level
 abbrev pub invariant-links-links : goal.invariant-links-links
 invariant-links-links l = record {
   shorter : length l.cursor ≤ length l.fn.cursor;
-  nested : link_nesting (links_of (map link_tree l.links.items)) ≤ l.depth;
-  read : AreLinks (number_of l.level) (links_of (map link_tree l.links.items)) l.fn.cursor l.cursor;
+  read : with_front (map link_tree l.links.items)
+      (links_by (chain_by (unary_at l.depth) (levels_from l.level - 1)) (levels_from l.level - 1) l.cursor)
+      ≡ links_by (chain_by (unary_at l.depth) (levels_from l.level - 1)) (levels_from l.level - 1) l.fn.cursor;
 }
 
 abbrev pub decreases-links-links : goal.decreases-links-links
@@ -96,15 +92,18 @@ decreases-named l = 64 * l.depth + 20
 abbrev pub decreases-arguments : goal.decreases-arguments
 decreases-arguments l = 64 * l.depth + 10
 
-abbrev pub invariant-arguments-more : goal.invariant-arguments-more
-invariant-arguments-more l = record {
-  shorter : length l.cursor ≤ length l.initial.cursor;
-  nested : argument_nesting (expressions_of (map expression_tree l.arguments.items)) ≤ l.depth;
-  read : (a : Tokens) × IsSign sign.LeftParenthesis l.fn.cursor a × AreListed (expressions_of (map expression_tree l.arguments.items)) a l.cursor;
+abbrev pub decreases-listed : goal.decreases-listed
+decreases-listed l = 64 * l.depth + 9
+
+abbrev pub invariant-listed-more : goal.invariant-listed-more
+invariant-listed-more l = record {
+  shorter : length l.cursor < length l.fn.cursor;
+  read : with_front (map expression_tree l.expressions.items) (many (is_sign sign.Comma) (behind sign.Comma (expression_at l.depth)) l.cursor)
+      ≡ listed (expression_at l.depth) l.fn.cursor;
 }
 
-abbrev pub decreases-arguments-more : goal.decreases-arguments-more
-decreases-arguments-more l = length l.cursor
+abbrev pub decreases-listed-more : goal.decreases-listed-more
+decreases-listed-more l = length l.cursor
 
 abbrev pub decreases-suffixes : goal.decreases-suffixes
 decreases-suffixes l = 64 * l.depth + 20
@@ -112,9 +111,8 @@ decreases-suffixes l = 64 * l.depth + 20
 abbrev pub invariant-suffixes-more : goal.invariant-suffixes-more
 invariant-suffixes-more l = record {
   shorter : length l.cursor ≤ length l.fn.cursor;
-  nested : suffix_nesting (suffixes_of (map suffix_tree l.suffixes.items)) ≤ l.depth;
-  read : (from : Tokens) → MayBeMember (option_map name_tree l.fn.member) from l.fn.cursor
-      → AreSuffixes (suffixes_of (map suffix_tree l.suffixes.items)) from l.cursor;
+  read : with_front (map suffix_tree l.suffixes.items) (many begins_suffix (suffix_by (expression_at l.depth)) l.cursor)
+      ≡ suffixes_by (expression_at l.depth) (option_map name_tree l.fn.member) l.fn.cursor;
 }
 
 abbrev pub decreases-suffixes-more : goal.decreases-suffixes-more

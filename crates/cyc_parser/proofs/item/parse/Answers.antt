@@ -1,17 +1,48 @@
+use Rattle.std.proofs.Common.{◌≤◌, map, sym, ap, subst, ◌∙◌}
+use Rattle.std.proofs.lemmas.Result.{err_from_is_err_and}
+use Rattle.cyc_lexer.specs.Tokens.{token_tree}
+use Rattle.cyc_tree.specs.Tree.{Program}
+use Rattle.cyc_tree.specs.Nesting.{nesting, nesting_limit}
 use Rattle.cyc_tree.specs.View.{program_item_tree}
-use Rattle.cyc_tree.specs.Nesting.{nesting_limit}
-use Rattle.cyc_parser.specs.Grammar.{IsItem}
-use Rattle.cyc_parser.proofs.Listing.{each_push, some_push}
-use Rattle.cyc_parser.proofs.Nested.{program_nested}
+use Rattle.cyc_parser.specs.Phrases.{Tokens}
+use Rattle.cyc_parser.specs.Grammar.{IsProgram}
+use Rattle.cyc_parser.specs.Reader.{Fails}
+use Rattle.cyc_parser.specs.ReadPrograms.{program}
+use Rattle.cyc_parser.proofs.WholePrograms.{is_found, is_nested, is_only, is_refused_for, is_refused_program}
 use Rattle.cyc_parser.proofs.item.parse.Goals as goal
 
-pub items-preserved : goal.items-preserved
-items-preserved c =
-    let items = c.items.items.items in
-    let item = c.in_ok-item-2.field-0 in
-    let pushed = c.in_ok-push-2.ensures.items in
-    record {
-      some = some_push items _ item pushed;
-      nested = program_nested nesting_limit items c.push-in-items.new.self.items item pushed c.items.invariant.nested c.in_ok-item-2.ensures.nested;
-      phrase = each_push program_item_tree IsItem items _ item _ _ _ pushed c.items.invariant.phrase c.in_ok-item-2.ensures.phrase;
-    }
+pub returns-clause-found : goal.returns-clause-found
+returns-clause-found c =
+    let tokens = map token_tree c.args.tokens.now in
+    let read = ap (program nesting_limit) (sym c.new-cursor.ensures) ∙ c.in_ok-items.ensures in
+    subst (λ (p : Program). IsProgram p tokens) (sym c.new.ensures)
+    (is_found tokens (map program_item_tree c.in_ok-items.items.items) c.items.new.cursor read)
+
+pub returns-clause-nested : goal.returns-clause-nested
+returns-clause-nested c =
+    let tokens = map token_tree c.args.tokens.now in
+    let read = ap (program nesting_limit) (sym c.new-cursor.ensures) ∙ c.in_ok-items.ensures in
+    subst (λ (p : Program). nesting p ≤ nesting_limit) (sym c.new.ensures)
+    (is_nested tokens (map program_item_tree c.in_ok-items.items.items) c.items.new.cursor read)
+
+pub returns-clause-only : goal.returns-clause-only
+returns-clause-only c = λ p phrase.
+    let tokens = map token_tree c.args.tokens.now in
+    let read = ap (program nesting_limit) (sym c.new-cursor.ensures) ∙ c.in_ok-items.ensures in
+    c.new.ensures ∙ is_only p tokens (map program_item_tree c.in_ok-items.items.items) c.items.new.cursor phrase read
+
+pub returns-in_err-items-clause-only : goal.returns-in_err-items-clause-only
+returns-in_err-items-clause-only c = λ p phrase.
+    let tokens = map token_tree c.args.tokens.now in
+    let result = err_from_is_err_and c.from_residual.result c.from_residual.ensures.1 in
+    let fails : Fails c.in_err-items.field-0.0 (program nesting_limit tokens) =
+    subst (λ (ts : Tokens). Fails c.in_err-items.field-0.0 (program nesting_limit ts)) c.new-cursor.ensures c.in_err-items.ensures in
+    rw (result.1, result.2) (is_refused_program p tokens c.in_err-items.field-0.0 phrase fails)
+
+pub returns-in_err-items-clause-refused : goal.returns-in_err-items-clause-refused
+returns-in_err-items-clause-refused c =
+    let tokens = map token_tree c.args.tokens.now in
+    let result = err_from_is_err_and c.from_residual.result c.from_residual.ensures.1 in
+    let fails : Fails c.in_err-items.field-0.0 (program nesting_limit tokens) =
+    subst (λ (ts : Tokens). Fails c.in_err-items.field-0.0 (program nesting_limit ts)) c.new-cursor.ensures c.in_err-items.ensures in
+    rw (result.1, result.2) (is_refused_for tokens c.in_err-items.field-0.0 fails)

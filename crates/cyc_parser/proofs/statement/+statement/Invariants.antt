@@ -1,7 +1,10 @@
-use Rattle.std.proofs.Common.{◌<◌, ◌≤◌, length, map, ◌+◌, ◌*◌}
-use Rattle.cyc_tree.specs.View.{item_tree, clause_tree, items_of, clauses_of}
-use Rattle.cyc_tree.specs.Nesting.{items_nesting, clauses_nesting}
-use Rattle.cyc_parser.specs.StatementGrammar.{AreItems, AreClauses}
+use Rattle.std.proofs.Common.{◌≡◌, ◌<◌, ◌≤◌, length, map, ◌+◌, ◌*◌}
+use Rattle.cyc_tree.specs.View.{item_tree, clause_tree}
+use Rattle.cyc_parser.specs.Tests.{begins_clause}
+use Rattle.cyc_parser.specs.Reader.{many}
+use Rattle.cyc_parser.specs.ReadExpressions.{expression_at}
+use Rattle.cyc_parser.specs.ReadStatements.{items_by, clause_by, clauses_by, statement_at}
+use Rattle.cyc_parser.proofs.ReadLoops.{with_front}
 use Rattle.cyc_parser.proofs.statement.+statement.Given as goal
 
 abbrev pub decreases-statement : goal.decreases-statement
@@ -13,15 +16,17 @@ decreases-compound l = 8 * l.depth + 7
 abbrev pub decreases-block : goal.decreases-block
 decreases-block l = 8 * l.depth + 6
 
+abbrev pub decreases-block_item : goal.decreases-block_item
+decreases-block_item l = 8 * l.depth + 1
+
 abbrev pub decreases-block_items : goal.decreases-block_items
-decreases-block_items l = 8 * l.depth + 1
+decreases-block_items l = 8 * l.depth + 2
 
 abbrev pub invariant-block_items-items : goal.invariant-block_items-items
-invariant-block_items-items l = record {
-  shorter : length l.cursor ≤ length l.fn.cursor;
-  nested : items_nesting (items_of (map item_tree l.items.items)) ≤ l.depth;
-  read : AreItems (items_of (map item_tree l.items.items)) l.fn.cursor l.cursor;
-}
+invariant-block_items-items l =
+    (with_front (map item_tree l.items.items) (items_by (expression_at l.depth) (statement_at l.depth) l.cursor)
+    ≡ items_by (expression_at l.depth) (statement_at l.depth) l.fn.cursor)
+    × (length l.cursor ≤ length l.fn.cursor)
 
 abbrev pub decreases-block_items-items : goal.decreases-block_items-items
 decreases-block_items-items l = length l.cursor
@@ -39,12 +44,10 @@ abbrev pub decreases-clauses : goal.decreases-clauses
 decreases-clauses l = 8 * l.depth + 5
 
 abbrev pub invariant-clauses-more : goal.invariant-clauses-more
-invariant-clauses-more l = record {
-  shorter : length l.cursor ≤ length l.initial.cursor;
-  some : 0 < length l.clauses.items;
-  nested : clauses_nesting (clauses_of (map clause_tree l.clauses.items)) ≤ l.depth;
-  read : AreClauses (clauses_of (map clause_tree l.clauses.items)) l.fn.cursor l.cursor;
-}
+invariant-clauses-more l =
+    (with_front (map clause_tree l.clauses.items) (many begins_clause (clause_by (expression_at l.depth) (statement_at l.depth)) l.cursor)
+    ≡ clauses_by (expression_at l.depth) (statement_at l.depth) l.fn.cursor)
+    × (length l.cursor < length l.fn.cursor)
 
 abbrev pub decreases-clauses-more : goal.decreases-clauses-more
 decreases-clauses-more l = length l.cursor

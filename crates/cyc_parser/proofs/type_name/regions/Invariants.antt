@@ -1,13 +1,12 @@
-use Rattle.std.proofs.Common.{◌<◌, length, map}
+use Rattle.std.proofs.Common.{◌≡◌, ◌<◌, map, length}
 use Rattle.cyc_tree.specs.View.{region_tree}
-use Rattle.cyc_parser.specs.Phrases.{IsRegion, Listed}
+use Rattle.cyc_parser.specs.ReadTypes.{region, regions}
+use Rattle.cyc_parser.proofs.ReadLoops.{with_front}
+use Rattle.cyc_parser.proofs.ReadLists.{behind_commas}
 use Rattle.cyc_parser.proofs.type_name.regions.Given as goal
 
 abbrev pub invariant-more : goal.invariant-more
-invariant-more l = record {
-  phrase : Listed IsRegion (map region_tree l.regions.items) l.fn.cursor l.cursor;
-  shorter : length l.cursor < length l.fn.cursor;
-}
+invariant-more l = (with_front (map region_tree l.regions.items) (behind_commas region l.cursor) ≡ regions l.fn.cursor) × (length l.cursor < length l.fn.cursor)
 
 abbrev pub decreases-more : goal.decreases-more
 decreases-more l = length l.cursor

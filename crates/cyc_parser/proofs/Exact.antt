@@ -3,12 +3,12 @@ use Rattle.std.proofs.Common.{◌≡◌, ℕ, Bool, true, false, [], ◌∷◌, 
 use Rattle.cyc_lexer.specs.Lexing.{Token}
 use Rattle.cyc_lexer.specs.declared.token.TokenKind.{TokenKind}
 use Rattle.cyc_parser.specs.declared.fault.ParseFault.{ParseFault}
-use Rattle.cyc_parser.specs.declared.fault.ParseFault.TheVariants.{Parse, TooDeep}
+use Rattle.cyc_parser.specs.declared.fault.ParseFault.TheVariants.{Parse, TooDeep, Memory}
 use Rattle.cyc_parser.specs.Phrases.{Tokens}
 use Rattle.cyc_parser.specs.Reading.{next_place}
 use Rattle.cyc_parser.specs.Reader.{Outcome, placed, next_is}
 use Rattle.cyc_parser.proofs.ExactParts.{bind_ok, bind_err, ok_is, no_fault, passes_then}
-use Rattle.cyc_parser.specs.Exact.{Found, Refused, Deepened, Phrase, Stops, Passes, Exact, IsPlaced}
+use Rattle.cyc_parser.specs.Exact.{AreMadeUp, Found, Refused, Deepened, Phrase, Stops, Passes, Exact, IsPlaced}
 pub use Rattle.cyc_parser.proofs.ExactReads.{read_exact}
 pub use Rattle.cyc_parser.proofs.ExactChoice.{choose_exact}
 pub use Rattle.cyc_parser.proofs.ExactLists.{many_exact}
@@ -83,6 +83,7 @@ module _ {A : Type 0} (Guard : Tokens → Type 0) (Is : Bool → A → Tokens �
         place = r.place;
         tree = (next_place (r.front ++ r.ending), r.tree);
         ending = r.ending;
+        made_up = r.made_up;
         is = λ more. (place_kept r.front r.ending more first.0 first.1 first.2, r.is more);
         still = λ t others after k. rw (r.still t others after k) refl;
       }
@@ -98,6 +99,7 @@ module _ {A : Type 0} (Guard : Tokens → Type 0) (Is : Bool → A → Tokens �
         place = r.place;
         tree = (next_place (r.front ++ r.next ∷ []), r.tree);
         ending = r.ending;
+        made_up = r.made_up;
         is = λ more. (place_before r.front r.next [] (r.ending ++ more), r.is more);
         still = λ after. rw (r.still after) refl;
       }
@@ -109,6 +111,7 @@ module _ {A : Type 0} (Guard : Tokens → Type 0) (Is : Bool → A → Tokens �
       record {
         tree = (next_place one.tokens, one.tree);
         tokens = one.tokens;
+        made_up = one.made_up;
         is = λ more. (place_kept [] one.tokens more first.0 first.1 first.2, one.is more);
       }
 
@@ -120,6 +123,7 @@ module _ {A : Type 0} (Guard : Tokens → Type 0) (Is : Bool → A → Tokens �
     never = placed_never;
     refused = placed_refused;
     deepened = placed_deepened;
+    enough = λ ts guard e. each.enough ts guard (fault_is ts Memory e);
     some = placed_some;
   }
 
@@ -154,11 +158,21 @@ module _ {A : Type 0} (Guard : Tokens → Type 0) (test : TokenKind → Bool) (I
 
   -- where nothing stands before, another phrase that has the property may begin
   refused_at : (ts : Tokens) (at : ℕ) → next_is test ts ≡ false → (front rest : Tokens) → ts ≡ front ++ rest → at ≡ next_place rest
-      → (a : A) (ending : Tokens) → ((more : Tokens) → Is false a (front ++ (ending ++ more)) more)
+      → (a : A) (ending : Tokens) → AreMadeUp ending → ((more : Tokens) → Is false a (front ++ (ending ++ more)) more)
       → ((t : Token) (others after : Tokens) → rest ≡ t ∷ others → p (front ++ t ∷ after) ≡ Err (Parse at)) → Refused (IsSuch false) p ts at
-  refused_at ts at h [] rest parts place a ending is still =
-      record { front = []; rest = rest; parts = parts; place = place; tree = some.tree; ending = some.tokens; is = some.is; still = still }
-  refused_at ts at h (x ∷ front) rest parts place a ending is still =
+  refused_at ts at h [] rest parts place a ending made_up is still =
+      record {
+        front = [];
+        rest = rest;
+        parts = parts;
+        place = place;
+        tree = some.tree;
+        ending = some.tokens;
+        made_up = some.made_up;
+        is = some.is;
+        still = still;
+      }
+  refused_at ts at h (x ∷ front) rest parts place a ending made_up is still =
       let first : test x.kind ≡ false = ap (next_is test) (sym parts) ∙ h in
       record {
         front = x ∷ front;
@@ -167,6 +181,7 @@ module _ {A : Type 0} (Guard : Tokens → Type 0) (test : TokenKind → Bool) (I
         place = place;
         tree = a;
         ending = ending;
+        made_up = made_up;
         is = λ more. (is more, has false a x (front ++ (ending ++ more)) more (is more) first);
         still = still;
       }
@@ -174,7 +189,7 @@ module _ {A : Type 0} (Guard : Tokens → Type 0) (test : TokenKind → Bool) (I
   restrict_refused : (ts : Tokens) (at : ℕ) → Guard ts × (next_is test ts ≡ false) → p ts ≡ Err (Parse at) → Refused (IsSuch false) p ts at
   restrict_refused ts at guard e =
       let r = each.refused ts at guard e in
-      refused_at ts at guard.1 r.front r.rest r.parts r.place r.tree r.ending r.is r.still
+      refused_at ts at guard.1 r.front r.rest r.parts r.place r.tree r.ending r.made_up r.is r.still
 
   has_deepened : (a : A) (ts front : Tokens) (next : Token) (others ending : Tokens) → next_is test ts ≡ false → ts ≡ front ++ next ∷ others
       → ((more : Tokens) → Is false a (front ++ next ∷ (ending ++ more)) more) → Has a
@@ -194,6 +209,7 @@ module _ {A : Type 0} (Guard : Tokens → Type 0) (test : TokenKind → Bool) (I
         place = r.place;
         tree = r.tree;
         ending = r.ending;
+        made_up = r.made_up;
         is = λ more. (r.is more, has_deepened r.tree ts r.front r.next r.others r.ending guard.1 r.parts r.is);
         still = r.still;
       }
@@ -206,6 +222,7 @@ module _ {A : Type 0} (Guard : Tokens → Type 0) (test : TokenKind → Bool) (I
     never = λ a from to is stops. each.never a from to is.0 stops;
     refused = restrict_refused;
     deepened = restrict_deepened;
+    enough = each.enough;
     some = some;
   }
 

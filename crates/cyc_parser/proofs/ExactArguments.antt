@@ -20,7 +20,7 @@ use Rattle.cyc_parser.proofs.ExactBegins.{expression_begins}
 use Rattle.cyc_parser.proofs.ExactOperands.{IsExpressionAt, Made, made_of, closed_exact, within_always, within_both, within, rows_stop, IsNested}
 use Rattle.cyc_parser.proofs.ExactOperands.{IsBehind, rows_into, rows_back, rows_exact, behind_begins}
 
-comma_apart : (k : TokenKind) → is_sign sign_of.Comma k ≡ true → continues 0 k ≡ false
+pub comma_apart : (k : TokenKind) → is_sign sign_of.Comma k ≡ true → continues 0 k ≡ false
 comma_apart (kind.Sign sign_of.Comma) h = refl
 comma_apart _ h = absurd cc
 
@@ -29,7 +29,7 @@ unary_no_right (kind.Sign sign_of.RightParenthesis) h = absurd cc
 unary_no_right _ h = refl
 
 -- what goes on with a list of expressions
-abbrev comma_or : TokenKind → Bool
+abbrev pub comma_or : TokenKind → Bool
 comma_or k = is_sign sign_of.Comma k || continues 0 k
 
 module _ (d : ℕ) (expr : Tokens → Outcome Expression) (inner : Exact Anything (IsExpressionAt d) (always (continues 0)) expr) where
@@ -39,7 +39,7 @@ module _ (d : ℕ) (expr : Tokens → Outcome Expression) (inner : Exact Anythin
   abbrev IsOther : Bool → Expression → Tokens → Tokens → Type 0
   IsOther = IsBehind sign_of.Comma 0 expression_nesting argument_nesting refl (λ e es. refl) d
 
-  argument_exact : Exact Anything IsArgument (always (continues 0)) expr
+  pub argument_exact : Exact Anything IsArgument (always (continues 0)) expr
   argument_exact =
       exact_as Anything (IsExpressionAt d) (always (continues 0)) expr inner IsArgument (λ b e from to h. ((h.0, omega arith), h.1))
       (λ b e from to h. (h.0.0, h.1))
@@ -61,7 +61,7 @@ module _ (d : ℕ) (expr : Tokens → Outcome Expression) (inner : Exact Anythin
       (begins_stops (is_sign sign_of.Comma) (continues 0) comma_apart) (λ k w. or_second (is_sign sign_of.Comma k) (continues 0 k) w) b h.0 mid to h.2
       g)
 
-  abbrev ClosedRead : Bool → List Expression → Tokens → Tokens → Type 0
+  abbrev pub ClosedRead : Bool → List Expression → Tokens → Tokens → Type 0
   ClosedRead = Then ListedRead (λ (es : List Expression). Made (λ (at : ℕ). es) (Whole (SignAt sign_of.RightParenthesis)))
 
   closed_list_exact : Exact Anything ClosedRead ends (read (listed expr) (λ es. read (sign sign_of.RightParenthesis) (λ _. done es)))
@@ -71,13 +71,13 @@ module _ (d : ℕ) (expr : Tokens → Outcome Expression) (inner : Exact Anythin
       (λ es. read (sign sign_of.RightParenthesis) (λ _. done es)) (λ es. closed_exact sign_of.RightParenthesis es)
       (λ b es c mid to h g. ap (next_is comma_or) h.2.1)
 
-  abbrev NoneRead : Bool → List Expression → Tokens → Tokens → Type 0
+  abbrev pub NoneRead : Bool → List Expression → Tokens → Tokens → Type 0
   NoneRead = Made (λ (at : ℕ). []) (Whole (SignAt sign_of.RightParenthesis))
 
   abbrev pub ArgumentsRead : Bool → List Expression → Tokens → Tokens → Type 0
   ArgumentsRead = Then (Whole (SignAt sign_of.LeftParenthesis)) (λ (at : ℕ). Either NoneRead ClosedRead)
 
-  closed_stops : (b : Bool) (es : List Expression) (from to : Tokens) → ClosedRead b es from to
+  pub closed_stops : (b : Bool) (es : List Expression) (from to : Tokens) → ClosedRead b es from to
       → next_is (is_sign sign_of.RightParenthesis) from ≡ false
   closed_stops b es from to h =
       let first = h.2 in

@@ -23,7 +23,7 @@ assign_apart : (k : TokenKind) → is_sign sign_of.Assign k ≡ true → continu
 assign_apart (kind.Sign sign_of.Assign) h = refl
 assign_apart _ h = absurd cc
 
-assign_joins : (k : TokenKind) → is_sign sign_of.Assign k ≡ true → continues 0 k ≡ true
+pub assign_joins : (k : TokenKind) → is_sign sign_of.Assign k ≡ true → continues 0 k ≡ true
 assign_joins (kind.Sign sign_of.Assign) h = refl
 assign_joins _ h = absurd cc
 
@@ -41,12 +41,12 @@ module _ (d : ℕ) (expr : Tokens → Outcome Expression) (inner : Exact Anythin
       (always (continues 0)) (λ at. read expr (λ v. done (Assign first v)))
       (λ at. made_of (IsExpressionAt d) (always (continues 0)) expr inner (Assign first) (always (continues 0)) (λ v k h. h))
 
-  value_begins : (first : Expression) (b : Bool) (e : Expression) (from to : Tokens) → ValueRead first b e from to
+  pub value_begins : (first : Expression) (b : Bool) (e : Expression) (from to : Tokens) → ValueRead first b e from to
       → next_is (is_sign sign_of.Assign) from ≡ true
   value_begins first b e from to h = begins_with (is_sign sign_of.Assign) from _ _ h.2.1 refl
 
   -- an assignment to a unary expression, or the expression alone
-  abbrev AssignedRead : Expression → Bool → Expression → Tokens → Tokens → Type 0
+  abbrev pub AssignedRead : Expression → Bool → Expression → Tokens → Tokens → Type 0
   AssignedRead first b e from to = ((unary_level ≤ binds first) × ValueRead first b e from to) ⊎ IsDone first b e from to
 
   assigned_if : (first : Expression) (t : Bool) → nat_le unary_level (binds first) ≡ t
@@ -69,7 +69,7 @@ module _ (d : ℕ) (expr : Tokens → Outcome Expression) (inner : Exact Anythin
   unfolding assigned_by
   assigned_exact first = assigned_if first (nat_le unary_level (binds first)) refl
 
-  assigned_meets : (b : Bool) (first e : Expression) (mid to : Tokens) → AssignedRead first b e mid to → Stops (continues 0) to
+  pub assigned_meets : (b : Bool) (first e : Expression) (mid to : Tokens) → AssignedRead first b e mid to → Stops (continues 0) to
       → Stops (continues 1) mid
   assigned_meets b first e mid to (inl h) s = begins_stops (is_sign sign_of.Assign) (continues 1) assign_apart mid (value_begins first b e mid to h.1)
   assigned_meets b first e mid to (inr h) s =
@@ -100,7 +100,7 @@ module _ (d : ℕ) (expr : Tokens → Outcome Expression) (inner : Exact Anythin
   assignment_alone b e from to h l =
       (e, to, ((h.0, l), within b (suc d) (expression_nesting e) d (inner_nesting e) (λ k. omega (arith, k)) h.1), inr (refl, refl))
 
-  assignment_back : (b : Bool) (e : Expression) (from to : Tokens) → IsExpressionAt (suc d) b e from to → AssignmentRead b e from to
+  pub assignment_back : (b : Bool) (e : Expression) (from to : Tokens) → IsExpressionAt (suc d) b e from to → AssignmentRead b e from to
   assignment_back b (Assign place v) from to h =
       let is = h.0 in
       let all = expression_nesting (Assign place v) in (

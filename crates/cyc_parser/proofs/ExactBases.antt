@@ -12,7 +12,7 @@ use Rattle.cyc_parser.specs.TypeGrammar.{AreRegions, IsOneRegion, IsBase}
 use Rattle.cyc_parser.specs.Tests.{is_sign, is_keyword, begins_type}
 use Rattle.cyc_parser.specs.Reader.{done, read, token}
 use Rattle.cyc_parser.specs.ReadTypes.{region_list, base_behind, base}
-use Rattle.cyc_parser.specs.Exact.{Exact, Anything, ends, always, IsToken, IsDone, Then, Either, Whole}
+use Rattle.cyc_parser.specs.Exact.{nowhere, Exact, Anything, ends, always, IsToken, IsDone, Then, Either, Whole}
 use Rattle.cyc_parser.proofs.Exact.{token_exact, done_exact, exact_as}
 use Rattle.cyc_parser.proofs.ExactComposed.{begins_with, stops_behind, then_exact, meets_exact, option_exact, finish, ends_wider}
 use Rattle.cyc_parser.proofs.ExactTokens.{keyword_exact, name_exact}
@@ -110,7 +110,7 @@ pub base_exact : Exact Anything (Whole IsBase) (always base_on) base
 unfolding base
 base_exact =
     exact_as Anything BaseRead (always base_on) _
-    (then_exact (IsToken begins_type) (token begins_type) (token_exact begins_type (of_word word.Int 0 []) refl) (λ t. BaseBehind t.kind)
+    (then_exact (IsToken begins_type) (token begins_type) (token_exact begins_type (of_word word.Int nowhere []) refl refl) (λ t. BaseBehind t.kind)
     (always base_on)
     (λ t. base_behind t.kind) (λ t. base_behind_exact t.kind))
     (Whole IsBase) (λ b x from to w. base_into w.0.kind w.0.at w.0.text b x from w.1 to w.2.0 w.2.1 w.3) base_back

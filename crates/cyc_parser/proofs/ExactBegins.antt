@@ -18,7 +18,7 @@ use Rattle.cyc_parser.specs.Phrases.{Tokens, InParentheses}
 use Rattle.cyc_parser.specs.ExpressionGrammar.{IsExpression, binds, unary_level, prefix_sign}
 use Rattle.cyc_parser.specs.Tests.{begins_unary}
 use Rattle.cyc_parser.specs.Reader.{next_is}
-use Rattle.cyc_parser.specs.Exact.{Phrase, PhraseFrom}
+use Rattle.cyc_parser.specs.Exact.{nowhere, Phrase, PhraseFrom}
 use Rattle.cyc_parser.proofs.ExactComposed.{begins_with}
 
 -- a unary expression
@@ -75,13 +75,13 @@ expression_begins (Assign place value) from to h = expression_begins place from 
 -- ---- some expressions
 
 abbrev one : TokenKind → Token
-one k = record { kind = k; at = 0; text = [] }
+one k = record { kind = k; at = nowhere; text = [] }
 
 abbrev zero_token : Token
 zero_token = one (kind.Number 0 false)
 
 abbrev null_number : Expression
-null_number = Number 0 0 false
+null_number = Number nowhere 0 false
 
 abbrev left : Token
 left = one (kind.Sign sign.LeftParenthesis)
@@ -94,30 +94,33 @@ number_is more = ([], refl)
 
 -- `0`
 pub some_unary : Phrase IsUnary
-some_unary = record { tree = null_number; tokens = zero_token ∷ []; is = λ more. (number_is more, omega arith) }
+some_unary = record { tree = null_number; tokens = zero_token ∷ []; made_up = (refl, tt); is = λ more. (number_is more, omega arith) }
 
 -- `( 0 )`
 in_parentheses : (more : Tokens) → InParentheses (IsExpression null_number) (left ∷ zero_token ∷ right ∷ more) more
-in_parentheses more = (zero_token ∷ right ∷ more, right ∷ more, (0, ([], refl)), number_is (right ∷ more), (0, ([], refl)))
+in_parentheses more = (zero_token ∷ right ∷ more, right ∷ more, (nowhere, ([], refl)), number_is (right ∷ more), (nowhere, ([], refl)))
 
 from_keyword : (w : Keyword) (at : ℕ) (text : List ℕ) → begins_unary (kind.Keyword w) ≡ true
     → PhraseFrom IsUnary (record { kind = kind.Keyword w; at = at; text = text })
-from_keyword word.Null at text h = record { tree = Null at; tokens = []; is = λ more. ((text, refl), omega arith) }
-from_keyword word.HeapRegion at text h = record { tree = HeapRegion at; tokens = []; is = λ more. ((text, refl), omega arith) }
-from_keyword word.UniqueRegion at text h = record { tree = UniqueRegion at; tokens = []; is = λ more. ((text, refl), omega arith) }
+from_keyword word.Null at text h = record { tree = Null at; tokens = []; made_up = tt; is = λ more. ((text, refl), omega arith) }
+from_keyword word.HeapRegion at text h = record { tree = HeapRegion at; tokens = []; made_up = tt; is = λ more. ((text, refl), omega arith) }
+from_keyword word.UniqueRegion at text h = record { tree = UniqueRegion at; tokens = []; made_up = tt; is = λ more. ((text, refl), omega arith) }
 from_keyword word.Numelts at text h = record {
   tree = NumElts at null_number;
   tokens = left ∷ zero_token ∷ right ∷ [];
+  made_up = (refl, (refl, (refl, tt)));
   is = λ more. ((left ∷ zero_token ∷ right ∷ more, (text, refl), in_parentheses more), omega arith);
 }
 from_keyword word.New at text h = record {
   tree = New at (One null_number);
   tokens = zero_token ∷ [];
+  made_up = (refl, tt);
   is = λ more. ((zero_token ∷ more, (text, refl), (omega arith, number_is more)), omega arith);
 }
 from_keyword word.Rnew at text h = record {
   tree = NewIn at null_number (One null_number);
   tokens = left ∷ zero_token ∷ right ∷ zero_token ∷ [];
+  made_up = (refl, (refl, (refl, (refl, tt))));
   is =
       λ more. (
         (
@@ -136,6 +139,7 @@ from_prefix : (o : Prefix) (at : ℕ) (text : List ℕ) → PhraseFrom IsUnary (
 from_prefix o at text = record {
   tree = Prefixed at o null_number;
   tokens = zero_token ∷ [];
+  made_up = (refl, tt);
   is = λ more. ((zero_token ∷ more, omega arith, (text, refl), number_is more), omega arith);
 }
 
@@ -149,16 +153,18 @@ from_sign sign.And at text h = from_prefix prefix.AddressOf at text
 from_sign sign.LeftParenthesis at text h = record {
   tree = Grouped at null_number;
   tokens = zero_token ∷ right ∷ [];
-  is = λ more. ((zero_token ∷ right ∷ more, right ∷ more, (text, refl), number_is (right ∷ more), (0, ([], refl))), omega arith);
+  made_up = (refl, (refl, tt));
+  is = λ more. ((zero_token ∷ right ∷ more, right ∷ more, (text, refl), number_is (right ∷ more), (nowhere, ([], refl))), omega arith);
 }
 from_sign _ at text h = absurd cc
 
 from_kind : (k : TokenKind) (at : ℕ) (text : List ℕ) → begins_unary k ≡ true → PhraseFrom IsUnary (record { kind = k; at = at; text = text })
-from_kind (kind.Number value suffix) at text h = record { tree = Number at value suffix; tokens = []; is = λ more. ((text, refl), omega arith) }
-from_kind (kind.Character byte) at text h = record { tree = Character at byte; tokens = []; is = λ more. ((text, refl), omega arith) }
-from_kind kind.Text at text h = record { tree = Text at (text_bytes text); tokens = []; is = λ more. ((text, refl, refl), omega arith) }
+from_kind (kind.Number value suffix) at text h =
+    record { tree = Number at value suffix; tokens = []; made_up = tt; is = λ more. ((text, refl), omega arith) }
+from_kind (kind.Character byte) at text h = record { tree = Character at byte; tokens = []; made_up = tt; is = λ more. ((text, refl), omega arith) }
+from_kind kind.Text at text h = record { tree = Text at (text_bytes text); tokens = []; made_up = tt; is = λ more. ((text, refl, refl), omega arith) }
 from_kind kind.Identifier at text h =
-    record { tree = Variable (record { at = at; text = text }); tokens = []; is = λ more. (refl, omega arith) }
+    record { tree = Variable (record { at = at; text = text }); tokens = []; made_up = tt; is = λ more. (refl, omega arith) }
 from_kind kind.Region at text h = absurd cc
 from_kind (kind.Keyword w) at text h = from_keyword w at text h
 from_kind (kind.Sign s) at text h = from_sign s at text h

@@ -23,15 +23,15 @@ use Rattle.cyc_parser.proofs.ExactUnguarded.{read_on, read_closed, choose_on, Ma
 use Rattle.cyc_parser.proofs.ExactDeclarations.{declaration_by_exact, declaration_begins}
 use Rattle.cyc_parser.proofs.StatementKinds.{item_no_else, statement_no_declaration, statement_begins, declaration_begins_item, statement_begins_item}
 
-abbrev IsItemAt : ℕ → Bool → OneItem → Tokens → Tokens → Type 0
+abbrev pub IsItemAt : ℕ → Bool → OneItem → Tokens → Tokens → Type 0
 IsItemAt d b (OneItem.Declare x) from to = IsDeclarationAt d b x from to
 IsItemAt d b (OneItem.Execute s) from to = IsStatementAt d b s from to
 
-abbrev item_takes : OneItem → TokenKind → Bool
+abbrev pub item_takes : OneItem → TokenKind → Bool
 item_takes (OneItem.Declare x) k = false
 item_takes (OneItem.Execute s) k = takes_else s k
 
-item_begins : (d : ℕ) (b : Bool) (i : OneItem) (from to : Tokens) → IsItemAt d b i from to → next_is begins_item from ≡ true
+pub item_begins : (d : ℕ) (b : Bool) (i : OneItem) (from to : Tokens) → IsItemAt d b i from to → next_is begins_item from ≡ true
 item_begins d b (OneItem.Declare x) from to w = declaration_begins_item x from to w.0
 item_begins d b (OneItem.Execute s) from to w = statement_begins_item s from to w.0
 
@@ -39,11 +39,11 @@ and_false : (a : Bool) → (a && false) ≡ false
 and_false true = refl
 and_false false = refl
 
-item_apart : (i : OneItem) (k : TokenKind) → begins_item k ≡ true → item_takes i k ≡ false
+pub item_apart : (i : OneItem) (k : TokenKind) → begins_item k ≡ true → item_takes i k ≡ false
 item_apart (OneItem.Declare x) k h = refl
 item_apart (OneItem.Execute s) k h = rw (item_no_else k h) (and_false (ends_open s))
 
-item_within : (i : OneItem) (k : TokenKind) → item_takes i k ≡ true → is_keyword word.Else k ≡ true
+pub item_within : (i : OneItem) (k : TokenKind) → item_takes i k ≡ true → is_keyword word.Else k ≡ true
 item_within (OneItem.Declare x) k h = absurd cc
 item_within (OneItem.Execute s) k h = takes_else_at s k h
 
@@ -71,7 +71,7 @@ rows_into d b (OneItem.Declare x ∷ is) from to w =
 rows_into d b (OneItem.Execute s ∷ is) from to w =
     let others : AreItemsAt d b is w.0 to = rows_into d b is w.0 to w.2 in ((w.0, w.1.0, others.0), within_max b d _ _ w.1.1 others.1)
 
-rows_back : (d : ℕ) (b : Bool) (is : List OneItem) (from to : Tokens) → AreItemsAt d b is from to → Rows (IsItemAt d) b is from to
+pub rows_back : (d : ℕ) (b : Bool) (is : List OneItem) (from to : Tokens) → AreItemsAt d b is from to → Rows (IsItemAt d) b is from to
 rows_back d b [] from to w = w.0
 rows_back d b (OneItem.Declare x ∷ is) from to w =
     (w.0.0, (w.0.1, within_left b d _ _ w.1), rows_back d b is w.0.0 to (w.0.2, within_right b d _ _ w.1))
@@ -91,7 +91,7 @@ module _ (d : ℕ) (expr : Reads Expression) (each : Exact Anything (IsExpressio
   item_back b (OneItem.Declare x) from to w = inl (x, refl, w)
   item_back b (OneItem.Execute s) from to w = inr (s, refl, w)
 
-  item_exact : Exact Anything (IsItemAt d) item_takes (item_by expr stmt)
+  pub item_exact : Exact Anything (IsItemAt d) item_takes (item_by expr stmt)
   unfolding item_by
   item_exact =
       exact_as Anything IsItemPart item_takes _

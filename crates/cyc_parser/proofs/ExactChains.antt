@@ -18,7 +18,7 @@ use Rattle.cyc_parser.specs.Parts.{chained}
 use Rattle.cyc_parser.specs.Tests.{continues, strength, sign_strength, is_operator}
 use Rattle.cyc_parser.specs.Reader.{Outcome, done, read, token, many, next_is}
 use Rattle.cyc_parser.specs.ReadExpressions.{operator_of, operator_of_sign, level_over, links_by, chain_by}
-use Rattle.cyc_parser.specs.Exact.{Exact, Anything, Within, Then, Rows, IsToken, always}
+use Rattle.cyc_parser.specs.Exact.{nowhere, Exact, Anything, Within, Then, Rows, IsToken, always}
 use Rattle.cyc_parser.proofs.Exact.{token_exact, many_exact, exact_as, exact_wider}
 use Rattle.cyc_parser.proofs.ExactComposed.{then_exact, meets_exact, begins_with, begins_stops}
 use Rattle.cyc_parser.proofs.ExactOperands.{IsUnaryAt, IsOperandAt, Made, made_of, within, within_both, within_always, continues_at, continues_not}
@@ -111,11 +111,12 @@ operator_at (suc (suc (suc (suc (suc (suc (suc zero))))))) level h u = (operator
 operator_at (suc (suc (suc (suc (suc (suc (suc (suc n)))))))) level h u = absurd (omega (arith, h, u))
 
 -- and its token
-operator_token : (level : ℕ) → 3 ≤ level → level ≤ 10 → (t : Token) × (is_operator level t.kind ≡ true)
+operator_token : (level : ℕ) → 3 ≤ level → level ≤ 10 → (t : Token) × (is_operator level t.kind ≡ true) × (t.at ≡ nowhere)
 operator_token level l u =
     let o = operator_at (level - 3) level (omega (arith, l)) u in (
-      record { kind = kind.Sign (operator_sign o.0); at = 0; text = [] },
+      record { kind = kind.Sign (operator_sign o.0); at = nowhere; text = [] },
       eq-eqb (sign_strength (operator_sign o.0)) (level + 1) (omega (arith, (sign_back o.0).1, o.1)),
+      refl,
     )
 
 -- ---- one level
@@ -125,7 +126,7 @@ module _ (d level : ℕ) (low : 3 ≤ level) (high : level ≤ 10) where
   abbrev pub IsLink : Bool → Operator × Expression → Tokens → Tokens → Type 0
   IsLink b x from to = (a : Tokens) × (level_of x.0 ≡ level) × IsSign (operator_sign x.0) from a × IsOperandAt (suc level) d b x.1 a to
 
-  abbrev LinkRead : Bool → Operator × Expression → Tokens → Tokens → Type 0
+  abbrev pub LinkRead : Bool → Operator × Expression → Tokens → Tokens → Type 0
   LinkRead = Then (IsToken (is_operator level)) (λ (t : Token). Made (λ (e : Expression). (operator_of t.kind, e)) (IsOperandAt (suc level) d))
 
   link_into : (b : Bool) (x : Operator × Expression) (from to : Tokens) → LinkRead b x from to → IsLink b x from to
@@ -135,7 +136,7 @@ module _ (d level : ℕ) (low : 3 ≤ level) (high : level ≤ 10) where
       subst (λ y. IsLink b y from to) (sym h.3.1)
       (h.1, k.1, (t.at, (t.text, h.2.0 ∙ ap (λ (q : TokenKind). record { kind = q; at = t.at; text = t.text } ∷ h.1) k.0)), h.3.2)
 
-  link_back : (b : Bool) (x : Operator × Expression) (from to : Tokens) → IsLink b x from to → LinkRead b x from to
+  pub link_back : (b : Bool) (x : Operator × Expression) (from to : Tokens) → IsLink b x from to → LinkRead b x from to
   link_back b x from to h =
       let o = sign_back x.0 in (
         record { kind = kind.Sign (operator_sign x.0); at = h.2.0; text = h.2.1.0 },
@@ -144,7 +145,7 @@ module _ (d level : ℕ) (low : 3 ≤ level) (high : level ≤ 10) where
         (x.1, ap (λ (p : Operator). (p, x.1)) (sym o.0), h.3),
       )
 
-  link_begins : (b : Bool) (x : Operator × Expression) (from to : Tokens) → IsLink b x from to → next_is (is_operator level) from ≡ true
+  pub link_begins : (b : Bool) (x : Operator × Expression) (from to : Tokens) → IsLink b x from to → next_is (is_operator level) from ≡ true
   link_begins b x from to h = let r = link_back b x from to h in begins_with (is_operator level) from r.0 r.1 r.2.0 r.2.1
 
   links_into : (b : Bool) (xs : List (Operator × Expression)) (from to : Tokens) → Rows IsLink b xs from to
@@ -170,12 +171,12 @@ module _ (d level : ℕ) (low : 3 ≤ level) (high : level ≤ 10) where
       )
 
   module _ (operand : Tokens → Outcome Expression) (each : Exact Anything (IsOperandAt (suc level) d) (always (continues (suc level))) operand) where
-    link_exact : Exact Anything IsLink (always (continues (suc level)))
+    pub link_exact : Exact Anything IsLink (always (continues (suc level)))
         (read (token (is_operator level)) (λ t. read operand (λ e. done (operator_of t.kind, e))))
     link_exact =
         let some = operator_token level low high in
         exact_as Anything LinkRead (always (continues (suc level))) _
-        (then_exact (IsToken (is_operator level)) (token (is_operator level)) (token_exact (is_operator level) some.0 some.1)
+        (then_exact (IsToken (is_operator level)) (token (is_operator level)) (token_exact (is_operator level) some.0 some.1 some.2)
         (λ (t : Token). Made (λ (e : Expression). (operator_of t.kind, e)) (IsOperandAt (suc level) d)) (always (continues (suc level)))
         (λ t. read operand (λ e. done (operator_of t.kind, e)))
         (λ t. made_of (IsOperandAt (suc level) d) (always (continues (suc level))) operand each (λ e. (operator_of t.kind, e))
@@ -183,16 +184,16 @@ module _ (d level : ℕ) (low : 3 ≤ level) (high : level ≤ 10) where
         IsLink link_into link_back
 
     -- an operator of the level isn't as strong as what goes on with an operand
-    operator_stops : (k : TokenKind) → is_operator level k ≡ true → continues (suc level) k ≡ false
+    pub operator_stops : (k : TokenKind) → is_operator level k ≡ true → continues (suc level) k ≡ false
     operator_stops k h = continues_not (suc level) k (omega (arith, eqb-true (strength k) (level + 1) h))
 
-    goes_on_wider : (k : TokenKind) → (is_operator level k || continues (suc level) k) ≡ true → continues level k ≡ true
+    pub goes_on_wider : (k : TokenKind) → (is_operator level k || continues (suc level) k) ≡ true → continues level k ≡ true
     goes_on_wider k h = elim (or_cases (is_operator level k) (continues (suc level) k) h) [
       | inl g ↦ continues_at level k (omega (arith, eqb-true (strength k) (level + 1) g))
       | inr g ↦ continues_wider (suc level) level (omega arith) k g
     ]
 
-    abbrev links : Tokens → Outcome (List (Operator × Expression))
+    abbrev pub links : Tokens → Outcome (List (Operator × Expression))
     links = many (is_operator level) (read (token (is_operator level)) (λ t. read operand (λ e. done (operator_of t.kind, e))))
 
     links_exact : Exact Anything (Rows IsLink) (always (continues level)) links
@@ -201,7 +202,7 @@ module _ (d level : ℕ) (low : 3 ≤ level) (high : level ≤ 10) where
         (λ x k h. h))
         (λ xs. goes_on_wider)
 
-    abbrev ChainRead : Bool → Expression → Tokens → Tokens → Type 0
+    abbrev pub ChainRead : Bool → Expression → Tokens → Tokens → Type 0
     ChainRead = Then (IsOperandAt (suc level) d) (λ (first : Expression). Made (λ xs. chained first (links_of xs)) (Rows IsLink))
 
     chain_made : (b : Bool) (first : Expression) (xs : List (Operator × Expression)) (from mid to : Tokens)
@@ -245,7 +246,7 @@ module _ (d level : ℕ) (low : 3 ≤ level) (high : level ≤ 10) where
     chain_split b (Assign place value) from to h w l u = absurd (omega (arith, low, l))
     chain_split b _ from to h w l u = absurd (omega (arith, high, u))
 
-    chain_back : (b : Bool) (e : Expression) (from to : Tokens) → IsOperandAt level d b e from to → ChainRead b e from to
+    pub chain_back : (b : Bool) (e : Expression) (from to : Tokens) → IsOperandAt level d b e from to → ChainRead b e from to
     chain_back b e from to h = elim (cases_lt (binds e) (suc level)) [
       | inl g ↦ chain_split b e from to h.0.0 h.1 h.0.1 g
       | inr g ↦ chain_alone b e from to h.0.0 h.1 g

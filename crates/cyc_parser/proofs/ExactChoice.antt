@@ -2,7 +2,7 @@
 use Rattle.std.proofs.Common.{◌≡◌, ℕ, Bool, true, false, ◌∷◌, ◌++◌, Ok, Err, refl, sym, ap, ◌∙◌, inl, inr}
 use Rattle.cyc_lexer.specs.Lexing.{Token}
 use Rattle.cyc_lexer.specs.declared.token.TokenKind.{TokenKind}
-use Rattle.cyc_parser.specs.declared.fault.ParseFault.TheVariants.{Parse, TooDeep}
+use Rattle.cyc_parser.specs.declared.fault.ParseFault.TheVariants.{Parse, TooDeep, Memory}
 use Rattle.cyc_parser.specs.Phrases.{Tokens}
 use Rattle.cyc_parser.specs.Reader.{Outcome, choose, next_is}
 use Rattle.cyc_parser.specs.Exact.{Found, Refused, Deepened, Stops, Passes, Exact, Either}
@@ -56,6 +56,7 @@ module _ {A : Type 0} (Guard : Tokens → Type 0) (test : TokenKind → Bool) (g
     place = f.place;
     tree = f.tree;
     ending = f.ending;
+    made_up = f.made_up;
     is = λ more. into false f.tree (f.front ++ (f.ending ++ more)) more (f.is more);
     still = λ t others after k. stays x b same ts f.front f.rest t others after h f.parts k ∙ f.still t others after k;
   }
@@ -71,6 +72,7 @@ module _ {A : Type 0} (Guard : Tokens → Type 0) (test : TokenKind → Bool) (g
     place = f.place;
     tree = f.tree;
     ending = f.ending;
+    made_up = f.made_up;
     is = λ more. into false f.tree (f.front ++ f.next ∷ (f.ending ++ more)) more (f.is more);
     still = λ after. stays x b same ts f.front (f.next ∷ f.others) f.next f.others after h f.parts refl ∙ f.still after;
   }
@@ -120,6 +122,14 @@ module _ {A : Type 0} (Guard : Tokens → Type 0) (test : TokenKind → Bool) (g
             (second.deepened ts at (guard, b) (sym (choose_second test p q ts b) ∙ h))
       ]
 
+  -- memory never runs out, as it doesn't in the one that is read
+  choose_enough : (ts : Tokens) → Guard ts → r ts ≡ Err Memory → ⊥
+  choose_enough ts guard h =
+      elim (which (next_is test ts)) [
+        | inl b ↦ first.enough ts (guard, b) (sym (choose_first test p q ts b) ∙ h)
+        | inr b ↦ second.enough ts (guard, b) (sym (choose_second test p q ts b) ∙ h)
+      ]
+
   pub choose_exact : Exact Guard (Either First Second) goes_on (choose test p q)
   choose_exact = record {
     sound = choose_sound;
@@ -128,5 +138,6 @@ module _ {A : Type 0} (Guard : Tokens → Type 0) (test : TokenKind → Bool) (g
     never = choose_never;
     refused = choose_refused;
     deepened = choose_deepened;
-    some = record { tree = first.some.tree; tokens = first.some.tokens; is = λ more. inl (first.some.is more) };
+    enough = choose_enough;
+    some = record { tree = first.some.tree; tokens = first.some.tokens; made_up = first.some.made_up; is = λ more. inl (first.some.is more) };
   }

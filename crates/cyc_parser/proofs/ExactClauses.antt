@@ -28,7 +28,7 @@ use Rattle.cyc_parser.proofs.StatementKinds.{clause_no_block}
 -- ---- patterns
 
 -- a pattern, whose place is that of its first token
-abbrev IsPatternHere : Bool → Pattern → Tokens → Tokens → Type 0
+abbrev pub IsPatternHere : Bool → Pattern → Tokens → Tokens → Type 0
 IsPatternHere b p from to = IsPattern (next_place from) p from to
 
 abbrev IsPatternPart : Bool → Pattern → Tokens → Tokens → Type 0
@@ -53,7 +53,7 @@ pattern_back b (Case member n) from to w =
     inr (w.0, (next_place from, w.6), (w.1, w.7, (w.2, w.8, (member, w.3, w.9, (w.4, w.10, (n, w.5, w.11, (refl, w.12)))))))
 pattern_back b Default from to w = inl (to, (next_place from, w), (refl, refl))
 
-pattern_exact : Exact Anything IsPatternHere ends pattern
+pub pattern_exact : Exact Anything IsPatternHere ends pattern
 unfolding pattern
 pattern_exact =
     exact_as Anything IsPatternPart ends _
@@ -65,7 +65,7 @@ pattern_exact =
     (λ b p from to w h. rw w.1.1.1 refl))
     IsPatternHere pattern_into pattern_back
 
-pattern_some : (b : Bool) (p : Pattern) (from to : Tokens) → IsPatternHere b p from to → (t : Token) × (rest : Tokens) × (from ≡ t ∷ rest)
+pub pattern_some : (b : Bool) (p : Pattern) (from to : Tokens) → IsPatternHere b p from to → (t : Token) × (rest : Tokens) × (from ≡ t ∷ rest)
 pattern_some b (Case member n) from to w = (_, _, w.6.1)
 pattern_some b Default from to w = (_, _, w.1)
 
@@ -75,7 +75,7 @@ pattern_begins at Default from to w = rw w.1 refl
 
 -- ---- clauses
 
-abbrev IsClauseAt : ℕ → Bool → OneClause → Tokens → Tokens → Type 0
+abbrev pub IsClauseAt : ℕ → Bool → OneClause → Tokens → Tokens → Type 0
 IsClauseAt d b c from to =
     (a : Tokens) × (m : Tokens) × IsPattern c.at c.pattern from a × IsSign sign_of.Colon a m × AreItems c.body m to
     × Within b d (items_nesting c.body)
@@ -85,17 +85,17 @@ abbrev AreClausesAt : ℕ → Bool → List OneClause → Tokens → Tokens → 
 AreClausesAt d b [] from to = ⊥
 AreClausesAt d b (c ∷ cs) from to = AreClauses (clauses_of (c ∷ cs)) from to × Within b d (clauses_nesting (clauses_of (c ∷ cs)))
 
-abbrev goes_on_in_switch : TokenKind → Bool
+abbrev pub goes_on_in_switch : TokenKind → Bool
 goes_on_in_switch k = begins_clause k || goes_on_in_block k
 
 block_in_switch : (k : TokenKind) → goes_on_in_block k ≡ true → goes_on_in_switch k ≡ true
 block_in_switch k h = or_second (begins_clause k) (goes_on_in_block k) h
 
-clause_list : Clauses → List OneClause
+pub clause_list : Clauses → List OneClause
 clause_list NoClauses = []
 clause_list (MoreClauses at p body others) = record { at = at; pattern = p; body = body } ∷ clause_list others
 
-clause_list_same : (cs : Clauses) → clauses_of (clause_list cs) ≡ cs
+pub clause_list_same : (cs : Clauses) → clauses_of (clause_list cs) ≡ cs
 unfolding clause_list
 clause_list_same NoClauses = refl
 clause_list_same (MoreClauses at p body others) = ap (MoreClauses at p body) (clause_list_same others)
@@ -107,13 +107,13 @@ rows_into d b (c ∷ cs) from to w =
     let others : AreClauses (clauses_of cs) w.0 to × Within b d (clauses_nesting (clauses_of cs)) = rows_into d b cs w.0 to w.2 in
     ((w.1.0, w.1.1, w.0, w.1.2, w.1.3, w.1.4, others.0), within_max b d _ _ w.1.5 others.1)
 
-rows_back : (d : ℕ) (b : Bool) (cs : List OneClause) (from to : Tokens)
+pub rows_back : (d : ℕ) (b : Bool) (cs : List OneClause) (from to : Tokens)
     → AreClauses (clauses_of cs) from to × Within b d (clauses_nesting (clauses_of cs)) → Rows (IsClauseAt d) b cs from to
 rows_back d b [] from to w = w.0
 rows_back d b (c ∷ cs) from to w =
     (w.0.2, (w.0.0, w.0.1, w.0.3, w.0.4, w.0.5, within_left b d _ _ w.1), rows_back d b cs w.0.2 to (w.0.6, within_right b d _ _ w.1))
 
-clause_begins : (d : ℕ) (b : Bool) (c : OneClause) (from to : Tokens) → IsClauseAt d b c from to → next_is begins_clause from ≡ true
+pub clause_begins : (d : ℕ) (b : Bool) (c : OneClause) (from to : Tokens) → IsClauseAt d b c from to → next_is begins_clause from ≡ true
 clause_begins d b c from to w = pattern_begins c.at c.pattern from w.0 w.2
 
 module _ (d : ℕ) (expr : Reads Expression) (each : Exact Anything (IsExpressionAt d) (always (continues 0)) expr)
@@ -129,7 +129,7 @@ module _ (d : ℕ) (expr : Reads Expression) (each : Exact Anything (IsExpressio
       subst (λ (y : OneClause). IsClauseAt d b y from to) (sym same)
       (a, m, subst (λ (at : ℕ). IsPattern at p.1 from a) (sym hp.0) hp.1, colon, hi.0, hi.1)
 
-  pattern_place : (at : ℕ) (p : Pattern) (from to : Tokens) → IsPattern at p from to → at ≡ next_place from
+  pub pattern_place : (at : ℕ) (p : Pattern) (from to : Tokens) → IsPattern at p from to → at ≡ next_place from
   pattern_place at (Case member n) from to w = rw w.6.1 refl
   pattern_place at Default from to w = rw w.1 refl
 
@@ -143,7 +143,7 @@ module _ (d : ℕ) (expr : Reads Expression) (each : Exact Anything (IsExpressio
       let items : AreItemsAt d b (list_of c.body) w.1 to = listed d b c.body w.1 to (w.4, w.5) in
       ((c.at, c.pattern), w.0, (there, begins), (w.1, w.3, (list_of c.body, ap (body_in c) (sym (list_same c.body)), items)))
 
-  clause_exact : Exact Anything (IsClauseAt d) (always goes_on_in_block) (clause_by expr stmt)
+  pub clause_exact : Exact Anything (IsClauseAt d) (always goes_on_in_block) (clause_by expr stmt)
   unfolding clause_by
   clause_exact =
       exact_as Anything IsClausePart (always goes_on_in_block) _
@@ -154,7 +154,7 @@ module _ (d : ℕ) (expr : Reads Expression) (each : Exact Anything (IsExpressio
   abbrev AreClausesPart : Bool → List OneClause → Tokens → Tokens → Type 0
   AreClausesPart = Then (IsClauseAt d) (λ c. Made (λ cs. c ∷ cs) (Rows (IsClauseAt d)))
 
-  clauses_meet : (b : Bool) (cs : List OneClause) (mid to : Tokens) → Rows (IsClauseAt d) b cs mid to → Stops goes_on_in_switch to
+  pub clauses_meet : (b : Bool) (cs : List OneClause) (mid to : Tokens) → Rows (IsClauseAt d) b cs mid to → Stops goes_on_in_switch to
       → Stops goes_on_in_block mid
   clauses_meet b [] mid to w h = rw w (stops_wider goes_on_in_block goes_on_in_switch block_in_switch to h)
   clauses_meet b (c ∷ cs) mid to w h = begins_stops begins_clause goes_on_in_block clause_no_block mid (clause_begins d b c mid w.0 w.1)

@@ -4,7 +4,7 @@ use Rattle.cyc_lexer.specs.declared.token.Keyword.TheVariants as word
 use Rattle.cyc_tree.specs.Tree.{Expression, Statement, If, IfElse, While}
 use Rattle.cyc_tree.specs.Nesting.{expression_nesting, statement_nesting}
 use Rattle.cyc_parser.specs.declared.fault.ParseFault.{ParseFault}
-use Rattle.cyc_parser.specs.declared.fault.ParseFault.TheVariants.{Parse, TooDeep}
+use Rattle.cyc_parser.specs.declared.fault.ParseFault.TheVariants.{Parse, TooDeep, Memory}
 use Rattle.cyc_parser.specs.Phrases.{Tokens, KeywordAt}
 use Rattle.cyc_parser.specs.StatementGrammar.{IsStatement, ends_open}
 use Rattle.cyc_parser.specs.Tests.{is_keyword}
@@ -33,7 +33,7 @@ open_stops : (s : Statement) → ends_open s ≡ true → (ts : Tokens) → Stop
 open_stops s opens ts h = stops_wider (is_keyword word.Else) (takes_else s) (λ k e. rw opens e) ts h
 
 -- where no `else` stands, each statement stops
-else_stops : (s : Statement) (ts : Tokens) → next_is (is_keyword word.Else) ts ≡ false → Stops (takes_else s) ts
+pub else_stops : (s : Statement) (ts : Tokens) → next_is (is_keyword word.Else) ts ≡ false → Stops (takes_else s) ts
 else_stops s ts h = stops_wider (takes_else s) (is_keyword word.Else) (λ k e. takes_else_at s k e) ts h
 
 pub shut_stops : (s : Statement) → ends_open s ≡ false → (ts : Tokens) → Stops (takes_else s) ts
@@ -101,7 +101,8 @@ module _ (d : ℕ) (stmt : Reads Statement) (inner : Exact Anything (IsStatement
         never = λ s from to w h. inl (open_again false s from to w h);
         refused = λ ts place guard e. absurd (never_fails ts (Parse place) guard e);
         deepened = λ ts place guard e. absurd (never_fails ts (TooDeep place) guard e);
-        some = record { tree = If at condition body; tokens = []; is = λ more. inr (refl, refl) };
+        enough = λ ts guard e. never_fails ts Memory guard e;
+        some = record { tree = If at condition body; tokens = []; made_up = tt; is = λ more. inr (refl, refl) };
       }
 
     otherwise_exact : Exact (Stops (takes_else body)) IsOtherwise takes_else (otherwise_by stmt at condition body)

@@ -118,11 +118,11 @@ type_no_word word.Region h = absurd cc
 type_no_word word.Let h = absurd cc
 type_no_word _ h = (refl, refl)
 
-type_no_region : (k : TokenKind) → begins_type k ≡ true → is_keyword word.Region k ≡ false
+pub type_no_region : (k : TokenKind) → begins_type k ≡ true → is_keyword word.Region k ≡ false
 type_no_region (kind.Keyword w) h = (type_no_word w h).0
 type_no_region _ h = refl
 
-type_no_let : (k : TokenKind) → begins_type k ≡ true → is_keyword word.Let k ≡ false
+pub type_no_let : (k : TokenKind) → begins_type k ≡ true → is_keyword word.Let k ≡ false
 type_no_let (kind.Keyword w) h = (type_no_word w h).1
 type_no_let _ h = refl
 
@@ -142,7 +142,7 @@ base_begins (Union tag arguments) from to w = rw w.2.1.1 refl
 base_begins (Handle region) from to w = rw w.1.1.1 refl
 base_begins (Key region) from to w = rw w.1.1.1 refl
 
-type_begins : (t : TypeName) (from to : Tokens) → IsType t from to → next_is begins_type from ≡ true
+pub type_begins : (t : TypeName) (from to : Tokens) → IsType t from to → next_is begins_type from ≡ true
 type_begins t from to w = base_begins t.base from w.0 w.2
 
 module _ (d : ℕ) (expr : Reads Expression) (each : Exact Anything (IsExpressionAt d) (always (continues 0)) expr) where

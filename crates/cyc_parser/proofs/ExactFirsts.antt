@@ -29,7 +29,7 @@ first_on (Variable n, None) k = is_sign sign_of.LeftParenthesis k || is_sign sig
 first_on (Variable n, Some m) k = is_sign sign_of.LeftParenthesis k
 first_on x k = false
 
-literal_no_name : (k : TokenKind) → is_literal k ≡ true → is_identifier k ≡ false
+pub literal_no_name : (k : TokenKind) → is_literal k ≡ true → is_identifier k ≡ false
 literal_no_name kind.Identifier h = absurd cc
 literal_no_name _ h = refl
 

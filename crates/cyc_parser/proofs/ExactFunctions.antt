@@ -39,7 +39,7 @@ Bounded most make = Then (Whole AreBounds) (λ bs. Body most (make bs))
 abbrev Effected : ℕ → (Option (List RegionName) → List Bound → List OneItem → ℕ → Function) → Bool → Function → Tokens → Tokens → Type 0
 Effected most make = Then (Whole IsEffect) (λ e. Bounded most (make e))
 
-abbrev make_function : TypeName → Name → List Member → Option (List RegionName) → List Bound → List OneItem → ℕ → Function
+abbrev pub make_function : TypeName → Name → List Member → Option (List RegionName) → List Bound → List OneItem → ℕ → Function
 make_function result n ps e bs is end =
     record { result = result; name = n; parameters = ps; effect = e; bounds = bs; body = items_of is; end = end }
 
@@ -48,7 +48,7 @@ FunctionRead most result n =
     Then (Whole (SignAt sign_of.LeftParenthesis)) (λ _. Then (Whole AreParameters) (λ ps. Effected most (make_function result n ps)))
 
 -- what stands behind a function's effect
-bounded_begins : (most : ℕ) (test : TokenKind → Bool) → test (kind.Sign sign_of.Colon) ≡ false → test (kind.Sign sign_of.RightParenthesis) ≡ false
+pub bounded_begins : (most : ℕ) (test : TokenKind → Bool) → test (kind.Sign sign_of.Colon) ≡ false → test (kind.Sign sign_of.RightParenthesis) ≡ false
     → (make : List Bound → List OneItem → ℕ → Function) (b : Bool) (f : Function) (from to : Tokens) → Bounded most make b f from to → Stops test from
 bounded_begins most test colon closes make b f from to w = go w.0 w.1 w.2 w.3
   where
@@ -57,7 +57,7 @@ bounded_begins most test colon closes make b f from to w = go w.0 w.1 w.2 w.3
     go (x ∷ bs) mid v body = stops_at test from _ _ v.1.1.1 colon
 
 -- what stands behind its parameters
-effected_begins : (most : ℕ) (make : Option (List RegionName) → List Bound → List OneItem → ℕ → Function) (b : Bool) (f : Function) (from to : Tokens)
+pub effected_begins : (most : ℕ) (make : Option (List RegionName) → List Bound → List OneItem → ℕ → Function) (b : Bool) (f : Function) (from to : Tokens)
     → Effected most make b f from to → Stops no_parameters_end from
 effected_begins most make b f from to w = go w.0 w.1 w.2 w.3
   where
@@ -98,14 +98,14 @@ function_into most result n b f from to w =
       is.2.1,
     )
 
-function_same : (f : Function) (result : TypeName) (n : Name) (is : List OneItem) → f.result ≡ result → f.name ≡ n → f.body ≡ items_of is
+pub function_same : (f : Function) (result : TypeName) (n : Name) (is : List OneItem) → f.result ≡ result → f.name ≡ n → f.body ≡ items_of is
     → f ≡ make_function result n f.parameters f.effect f.bounds is f.end
 function_same f result n is er en eb =
     let make : TypeName → Name → BlockItems → Function = λ r x body.
     record { result = r; name = x; parameters = f.parameters; effect = f.effect; bounds = f.bounds; body = body; end = f.end } in
     ap (λ (r : TypeName). make r f.name f.body) er ∙ ap (λ (x : Name). make result x f.body) en ∙ ap (λ (body : BlockItems). make result n body) eb
 
-function_back : (most : ℕ) (result : TypeName) (n : Name) (b : Bool) (f : Function) (from to : Tokens) → IsFunctionOf most result n b f from to
+pub function_back : (most : ℕ) (result : TypeName) (n : Name) (b : Bool) (f : Function) (from to : Tokens) → IsFunctionOf most result n b f from to
     → FunctionRead most result n b f from to
 function_back most result n b f from to w =
     let v = w.2 in

@@ -74,7 +74,7 @@ module _ (d level : ℕ) (s : Sign) (join : Expression → List Expression → E
       let rows = rows_back s (suc level) inner_nesting operand_nesting refl (λ e es. refl) d b p.1 p.2 to p.5.0 p.5.1 in
       (p.0, p.2, p.4, (rows.0, p.3 rows.0 rows.1, rows.2))
 
-  join_back : (b : Bool) (e : Expression) (from to : Tokens) → IsOperandAt level d b e from to → JoinRead b e from to
+  pub join_back : (b : Bool) (e : Expression) (from to : Tokens) → IsOperandAt level d b e from to → JoinRead b e from to
   join_back b e from to h = elim (cases_lt (binds e) (suc level)) [
     | inl g ↦ join_split b e from to (split b e from to h g)
     | inr g ↦ (e, to, ((h.0.0, g), h.1), ([], alone e, refl))
@@ -93,15 +93,15 @@ module _ (d level : ℕ) (s : Sign) (join : Expression → List Expression → E
 
 -- ---- `&&`
 
-and_apart : (k : TokenKind) → is_sign sign_of.AndAnd k ≡ true → continues 3 k ≡ false
+pub and_apart : (k : TokenKind) → is_sign sign_of.AndAnd k ≡ true → continues 3 k ≡ false
 and_apart (kind.Sign sign_of.AndAnd) h = refl
 and_apart _ h = absurd cc
 
-and_joins : (k : TokenKind) → is_sign sign_of.AndAnd k ≡ true → continues 2 k ≡ true
+pub and_joins : (k : TokenKind) → is_sign sign_of.AndAnd k ≡ true → continues 2 k ≡ true
 and_joins (kind.Sign sign_of.AndAnd) h = refl
 and_joins _ h = absurd cc
 
-all_of_made : (d : ℕ) (b : Bool) (first e : Expression) (es : List Expression) (from mid to : Tokens) → IsOperandAt 3 d b first from mid
+pub all_of_made : (d : ℕ) (b : Bool) (first e : Expression) (es : List Expression) (from mid to : Tokens) → IsOperandAt 3 d b first from mid
     → IsOthers d sign_of.AndAnd 3 b (MoreExpressions e (expressions_of es)) mid to → IsOperandAt 2 d b (all_of first (e ∷ es)) from to
 all_of_made d b first e es from mid to h g =
     let others = operand_nesting (MoreExpressions e (expressions_of es)) in (
@@ -115,7 +115,7 @@ all_of_same : (first second : Expression) (others : Expressions) (es : List Expr
 all_of_same first second others [] h = absurd cc
 all_of_same first second others (e ∷ es) h = ap (AllOf first) h
 
-all_of_split : (d : ℕ) (b : Bool) (e : Expression) (from to : Tokens) → IsOperandAt 2 d b e from to → binds e < 3
+pub all_of_split : (d : ℕ) (b : Bool) (e : Expression) (from to : Tokens) → IsOperandAt 2 d b e from to → binds e < 3
     → Parts d 2 sign_of.AndAnd all_of b e from to
 all_of_split d b (AllOf first NoExpressions) from to h u = absurd h.0.0
 all_of_split d b (AllOf first (MoreExpressions second others)) from to h u =
@@ -136,15 +136,15 @@ all_of_split d b _ from to h u = absurd (omega (arith, u))
 
 -- ---- `||`
 
-or_apart : (k : TokenKind) → is_sign sign_of.OrOr k ≡ true → continues 2 k ≡ false
+pub or_apart : (k : TokenKind) → is_sign sign_of.OrOr k ≡ true → continues 2 k ≡ false
 or_apart (kind.Sign sign_of.OrOr) h = refl
 or_apart _ h = absurd cc
 
-or_joins : (k : TokenKind) → is_sign sign_of.OrOr k ≡ true → continues 1 k ≡ true
+pub or_joins : (k : TokenKind) → is_sign sign_of.OrOr k ≡ true → continues 1 k ≡ true
 or_joins (kind.Sign sign_of.OrOr) h = refl
 or_joins _ h = absurd cc
 
-any_of_made : (d : ℕ) (b : Bool) (first e : Expression) (es : List Expression) (from mid to : Tokens) → IsOperandAt 2 d b first from mid
+pub any_of_made : (d : ℕ) (b : Bool) (first e : Expression) (es : List Expression) (from mid to : Tokens) → IsOperandAt 2 d b first from mid
     → IsOthers d sign_of.OrOr 2 b (MoreExpressions e (expressions_of es)) mid to → IsOperandAt 1 d b (any_of first (e ∷ es)) from to
 any_of_made d b first e es from mid to h g =
     let others = operand_nesting (MoreExpressions e (expressions_of es)) in (
@@ -158,7 +158,7 @@ any_of_same : (first second : Expression) (others : Expressions) (es : List Expr
 any_of_same first second others [] h = absurd cc
 any_of_same first second others (e ∷ es) h = ap (AnyOf first) h
 
-any_of_split : (d : ℕ) (b : Bool) (e : Expression) (from to : Tokens) → IsOperandAt 1 d b e from to → binds e < 2
+pub any_of_split : (d : ℕ) (b : Bool) (e : Expression) (from to : Tokens) → IsOperandAt 1 d b e from to → binds e < 2
     → Parts d 1 sign_of.OrOr any_of b e from to
 any_of_split d b (AnyOf first NoExpressions) from to h u = absurd h.0.0
 any_of_split d b (AnyOf first (MoreExpressions second others)) from to h u =
@@ -177,7 +177,7 @@ any_of_split d b (Assign place value) from to h u = absurd (omega (arith, h.0.1)
 any_of_split d b _ from to h u = absurd (omega (arith, u))
 
 module _ (d : ℕ) (unary : Tokens → Outcome Expression) (each : Exact Anything (IsUnaryAt d) (always (continues unary_level)) unary) where
-  all_of_exact : Exact Anything (IsOperandAt 2 d) (always (continues 2)) (all_of_by unary)
+  pub all_of_exact : Exact Anything (IsOperandAt 2 d) (always (continues 2)) (all_of_by unary)
   unfolding all_of_by
   all_of_exact =
       join_exact d 2 sign_of.AndAnd all_of (λ e. refl) and_apart and_joins (all_of_made d) (all_of_split d) (chain_by unary 8)

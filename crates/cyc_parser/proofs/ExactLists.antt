@@ -3,7 +3,7 @@ use Rattle.std.proofs.Common.{◌≡◌, ◌⊎◌, ℕ, zero, suc, ◌<◌, Boo
 use Rattle.std.proofs.Common.{append_assoc, length-append, arith, inl, inr}
 use Rattle.cyc_lexer.specs.declared.token.TokenKind.{TokenKind}
 use Rattle.cyc_parser.specs.declared.fault.ParseFault.{ParseFault}
-use Rattle.cyc_parser.specs.declared.fault.ParseFault.TheVariants.{Parse, TooDeep}
+use Rattle.cyc_parser.specs.declared.fault.ParseFault.TheVariants.{Parse, TooDeep, Memory}
 use Rattle.cyc_parser.specs.Phrases.{Tokens}
 use Rattle.cyc_parser.specs.Reader.{Outcome, ◌>>=◌, many, one_more, next_is}
 use Rattle.cyc_parser.specs.Exact.{Found, Refused, Deepened, Stops, Passes, Exact, Anything, always, Rows}
@@ -33,7 +33,7 @@ module _ {A : Type 0} (test : TokenKind → Bool) (Is : Bool → A → Tokens �
       subst (λ (z : Tokens). length mid < length z) (sym f.parts) (takes a f.taken mid f.is)
 
   -- where a phrase was read, the others are read behind it
-  next : (ts : Tokens) (a : A) (mid : Tokens) → p ts ≡ Ok (a, mid) → r ts ≡ (r mid >>= λ y. Ok (a ∷ y.0, y.1))
+  pub next : (ts : Tokens) (a : A) (mid : Tokens) → p ts ≡ Ok (a, mid) → r ts ≡ (r mid >>= λ y. Ok (a ∷ y.0, y.1))
   next ts a mid g =
       let f = each.sound ts a mid tt g in
       let passes : next_is test ts ≡ true = subst (λ (z : Tokens). next_is test z ≡ true) (sym f.parts)
@@ -97,13 +97,13 @@ module _ {A : Type 0} (test : TokenKind → Bool) (Is : Bool → A → Tokens �
   rows_any (a ∷ all) from to is = (is.0, each.of_any a from is.0 is.1, rows_any all is.0 to is.2)
 
   -- what stands behind a phrase is another one, or what stands behind all
-  rows_stop : (b : Bool) (a : A) (all : List A) (mid to : Tokens) → Rows Is b all mid to → Stops (λ k. test k || any k) to → Stops (goes_on a) mid
+  pub rows_stop : (b : Bool) (a : A) (all : List A) (mid to : Tokens) → Rows Is b all mid to → Stops (λ k. test k || any k) to → Stops (goes_on a) mid
   rows_stop b a [] mid to is stops =
       stops_wider (goes_on a) (λ k. test k || any k) (λ k h. or_second (test k) (any k) (within a k h)) mid
       (subst (Stops (λ k. test k || any k)) (sym is) stops)
   rows_stop b a (next ∷ all) mid to is stops = begins_stops test (goes_on a) (apart a) mid (begins b next mid is.0 is.1)
 
-  rows_end : (from to : Tokens) → from ≡ to → Stops (λ k. test k || any k) to → r from ≡ Ok ([], to)
+  pub rows_end : (from to : Tokens) → from ≡ to → Stops (λ k. test k || any k) to → r from ≡ Ok ([], to)
   rows_end from to same stops =
       rw same (many_end test p to (stops_wider test (λ k. test k || any k) (λ k h. or_first (test k) (any k) h) to stops))
 
@@ -137,6 +137,7 @@ module _ {A : Type 0} (test : TokenKind → Bool) (Is : Bool → A → Tokens �
         place = f.place;
         tree = f.tree ∷ [];
         ending = f.ending;
+        made_up = f.made_up;
         is = λ more. (more, f.is more, refl);
         still = λ t others after k.
             many_more test p (f.front ++ t ∷ after) (next_same test true ts f.front t others after (f.parts ∙ ap (λ (z : Tokens). f.front ++ z) k) b)
@@ -154,6 +155,7 @@ module _ {A : Type 0} (test : TokenKind → Bool) (Is : Bool → A → Tokens �
         place = s.place;
         tree = a ∷ s.tree;
         ending = s.ending;
+        made_up = s.made_up;
         is = λ more.
             let xs : Tokens = s.front ++ (s.ending ++ more) in (
               xs,
@@ -179,6 +181,7 @@ module _ {A : Type 0} (test : TokenKind → Bool) (Is : Bool → A → Tokens �
         place = f.place;
         tree = f.tree ∷ [];
         ending = f.ending;
+        made_up = f.made_up;
         is = λ more. (more, f.is more, refl);
         still = λ after. many_more test p (f.front ++ f.next ∷ after) (next_same test true ts f.front f.next f.others after f.parts b)
             ∙ rw (f.still after) refl;
@@ -196,6 +199,7 @@ module _ {A : Type 0} (test : TokenKind → Bool) (Is : Bool → A → Tokens �
         place = s.place;
         tree = a ∷ s.tree;
         ending = s.ending;
+        made_up = s.made_up;
         is = λ more.
             let xs : Tokens = s.front ++ s.next ∷ (s.ending ++ more) in (
               xs,
@@ -241,6 +245,15 @@ module _ {A : Type 0} (test : TokenKind → Bool) (Is : Bool → A → Tokens �
         | inr x ↦ deepened_next ts at x.0 x.1 x.2 (many_deepened n x.1 at (omega (arith, eats ts x.0 x.1 x.2)) x.3)
       ]
 
+  -- memory never runs out, since each phrase takes a token
+  many_enough : (n : ℕ) (ts : Tokens) → length ts < n → r ts ≡ Err Memory → ⊥
+  many_enough zero ts lt h = omega (arith, lt)
+  many_enough (suc n) ts lt h =
+      elim (fault_is ts Memory h) [
+        | inl g ↦ each.enough ts tt g.1
+        | inr x ↦ many_enough n x.1 (omega (arith, eats ts x.0 x.1 x.2)) x.3
+      ]
+
   pub many_exact : Exact Anything (Rows Is) (always (λ k. test k || any k)) (many test p)
   many_exact = record {
     sound = λ ts all rest guard h. many_sound (suc (length ts)) ts all rest (omega arith) h;
@@ -249,5 +262,6 @@ module _ {A : Type 0} (test : TokenKind → Bool) (Is : Bool → A → Tokens �
     never = many_never;
     refused = λ ts at guard h. many_refused (suc (length ts)) ts at (omega arith) h;
     deepened = λ ts at guard h. many_deepened (suc (length ts)) ts at (omega arith) h;
-    some = record { tree = []; tokens = []; is = λ more. refl };
+    enough = λ ts guard h. many_enough (suc (length ts)) ts (omega arith) h;
+    some = record { tree = []; tokens = []; made_up = tt; is = λ more. refl };
   }

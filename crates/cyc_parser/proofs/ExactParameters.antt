@@ -14,7 +14,7 @@ use Rattle.cyc_parser.specs.Tests.{is_sign, is_keyword, begins_type, begins_poin
 use Rattle.cyc_parser.specs.Reader.{done, read, choose, many, behind, next_is}
 use Rattle.cyc_parser.specs.ReadTypes.{typed_name}
 use Rattle.cyc_parser.specs.ReadPrograms.{void_parameter, first_parameter, other_parameters, parameters}
-use Rattle.cyc_parser.specs.Exact.{Exact, Phrase, Anything, ends, always, Stops, IsDone, Then, Either, Whole}
+use Rattle.cyc_parser.specs.Exact.{nowhere, Exact, Phrase, Anything, ends, always, Stops, IsDone, Then, Either, Whole}
 use Rattle.cyc_parser.proofs.Exact.{choose_exact, done_exact, exact_as, exact_on, exact_wider, restrict_exact}
 use Rattle.cyc_parser.proofs.ExactComposed.{begins_with, begins_within, stops_at, stops_ends, then_exact, meets_exact, option_exact, Made, image_exact, finish, ends_wider}
 use Rattle.cyc_parser.proofs.ExactListed.{commas_exact}
@@ -146,23 +146,24 @@ typed_other : (b : Bool) (o : Option Member) (t : Token) (rest to : Tokens) → 
 typed_other b o t rest to w h = ap is_void_parameter w.1 ∙ void_base w.0.of.base (t ∷ rest) w.2.1.0 w.2.1.2 h
 
 unfoldable pub int_token : Token
-int_token = record { kind = kind.Keyword word.Int; at = 0; text = [] }
+int_token = record { kind = kind.Keyword word.Int; at = nowhere; text = [] }
 
 unfoldable pub name_token : Token
-name_token = record { kind = kind.Identifier; at = 0; text = [] }
+name_token = record { kind = kind.Identifier; at = nowhere; text = [] }
 
 some_typed : Phrase (OtherTyped false)
 unfolding int_token name_token
 some_typed =
-    let m : Member = record { of = record { at = 0; base = Int; pointers = [] }; name = record { at = 0; text = [] } } in
+    let m : Member = record { of = record { at = nowhere; base = Int; pointers = [] }; name = record { at = nowhere; text = [] } } in
     record {
       tree = Some m;
       tokens = int_token ∷ name_token ∷ [];
+      made_up = (refl, (refl, tt));
       is = λ more. (
         (
           m,
           refl,
-          (name_token ∷ more, (name_token ∷ more, (int_token, name_token ∷ more, refl, refl), (0, ([], refl)), refl), refl),
+          (name_token ∷ more, (name_token ∷ more, (int_token, name_token ∷ more, refl, refl), (nowhere, ([], refl)), refl), refl),
         ),
         refl,
       );

@@ -5,7 +5,7 @@ use Rattle.cyc_lexer.specs.declared.token.TokenKind.{TokenKind}
 use Rattle.cyc_parser.specs.declared.fault.ParseFault.{ParseFault}
 use Rattle.cyc_parser.specs.Phrases.{Tokens}
 use Rattle.cyc_parser.specs.Reader.{Outcome, ◌>>=◌, next_is}
-use Rattle.cyc_parser.specs.Exact.{Stops, Passes}
+use Rattle.cyc_parser.specs.Exact.{AreMadeUp, Stops, Passes}
 
 -- ---- steps that may fail
 
@@ -81,3 +81,8 @@ pub passes_then : {A B : Type 0} (r : Outcome A) (f : A × Tokens → Outcome B)
     → Passes r a mid → Passes (f (a, mid)) c to → Passes (r >>= f) c to
 passes_then r f a mid c to (inl g) h = rw g h
 passes_then r f a mid c to (inr g) h = inr (g.0, rw g.1 refl)
+
+-- tokens that are made up, and others behind them that are
+pub made_up_both : (xs ys : Tokens) → AreMadeUp xs → AreMadeUp ys → AreMadeUp (xs ++ ys)
+made_up_both [] ys h k = k
+made_up_both (x ∷ xs) ys h k = (h.0, made_up_both xs ys h.1 k)

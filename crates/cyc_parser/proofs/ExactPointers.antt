@@ -13,7 +13,7 @@ use Rattle.cyc_parser.specs.TypeGrammar.{IsPointerSign, MayBeRegion, IsPointer}
 use Rattle.cyc_parser.specs.Tests.{is_sign, is_region, is_identifier, begins_pointer}
 use Rattle.cyc_parser.specs.Reader.{done, read, token, sign, next_is}
 use Rattle.cyc_parser.specs.ReadTypes.{qualified, pointer_sign_behind, pointer_sign_read, pointer, pointers}
-use Rattle.cyc_parser.specs.Exact.{Exact, Anything, ends, always, Stops, IsToken, IsDone, Then, Either, Whole}
+use Rattle.cyc_parser.specs.Exact.{nowhere, Exact, Anything, ends, always, Stops, IsToken, IsDone, Then, Either, Whole}
 use Rattle.cyc_parser.proofs.Exact.{token_exact, done_exact, exact_as, exact_wider}
 use Rattle.cyc_parser.proofs.ExactComposed.{begins_with, begins_stops, stops_at, stops_behind, then_exact, meets_exact, either_exact, option_exact, finish, ends_wider}
 use Rattle.cyc_parser.proofs.ExactTokens.{sign_exact, region_exact}
@@ -126,7 +126,7 @@ pointer_sign_exact : Exact Anything (Whole IsPointerSign) (always is_qualifier) 
 unfolding pointer_sign_read
 pointer_sign_exact =
     exact_as Anything PointerSignRead (always is_qualifier) _
-    (then_exact (IsToken begins_pointer) (token begins_pointer) (token_exact begins_pointer (of_sign sign_of.Star 0 []) refl)
+    (then_exact (IsToken begins_pointer) (token begins_pointer) (token_exact begins_pointer (of_sign sign_of.Star nowhere []) refl refl)
     (λ t. PointerBehind t.kind)
     (always is_qualifier) (λ t. pointer_sign_behind t.kind) (λ t. pointer_behind_exact t.kind))
     (Whole IsPointerSign) (λ b x from to w. pointer_sign_into w.0.kind w.0.at w.0.text b x from w.1 to w.2.0 w.2.1 w.3) pointer_sign_back

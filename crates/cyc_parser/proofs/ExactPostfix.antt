@@ -52,7 +52,7 @@ abbrev is_variable : Expression → Bool
 is_variable (Variable n) = true
 is_variable e = false
 
-abbrev open_first : Expression × Option Name → Bool
+abbrev pub open_first : Expression × Option Name → Bool
 open_first (e, None) = is_variable e
 open_first (e, Some m) = false
 
@@ -191,7 +191,7 @@ module _ (d : ℕ) (expr : Tokens → Outcome Expression) (inner : Exact Anythin
   open_meets n b (OneSuffix.Dot m ∷ xs) mid to h none s = absurd none
   open_meets n b (OneSuffix.Arrow m ∷ xs) mid to h none s = ap (next_is (first_on (Variable n, None))) h.1.1.1.1
 
-  second_meets : (b : Bool) (x : Expression × Option Name) (e : Expression) (mid to : Tokens) → SecondIs x b e mid to
+  pub second_meets : (b : Bool) (x : Expression × Option Name) (e : Expression) (mid to : Tokens) → SecondIs x b e mid to
       → Stops (continues unary_level) to → Stops (first_on x) mid
   second_meets b (Variable n, None) e mid to h s =
       let tail = h.2 in open_meets n b tail.0.0 mid to tail.0.2 (subst NoDot tail.0.1 tail.1) s
@@ -203,7 +203,7 @@ module _ (d : ℕ) (expr : Tokens → Outcome Expression) (inner : Exact Anythin
   abbrev PostfixRead : Bool → Expression → Tokens → Tokens → Type 0
   PostfixRead = Then (IsFirst d expr inner) SecondIs
 
-  tail_rows : (t : Bool) (member : Option Name) (b : Bool) (ss : List OneSuffix) (from to : Tokens) → TailIs t member b ss from to
+  pub tail_rows : (t : Bool) (member : Option Name) (b : Bool) (ss : List OneSuffix) (from to : Tokens) → TailIs t member b ss from to
       → Behind d expr inner member b ss from to
   tail_rows true member b ss from to h = h.0
   tail_rows false member b ss from to h = h
@@ -325,7 +325,7 @@ module _ (d : ℕ) (expr : Tokens → Outcome Expression) (inner : Exact Anythin
   suffixed_back b (Chain first (MoreLinks o e ls)) from to h u = absurd (omega (arith, h.0.1, level_high o))
   suffixed_back b _ from to h u = absurd (omega (arith, h.0.1, u))
 
-  postfix_back : (b : Bool) (e : Expression) (from to : Tokens) → IsOperandAt 12 (suc d) b e from to → PostfixRead b e from to
+  pub postfix_back : (b : Bool) (e : Expression) (from to : Tokens) → IsOperandAt 12 (suc d) b e from to → PostfixRead b e from to
   postfix_back b e from to h = elim (cases_lt (binds e) primary_level) [
     | inl g ↦ suffixed_back b e from to h g
     | inr g ↦ alone_back b e from to h g

@@ -12,7 +12,7 @@ use Rattle.cyc_parser.specs.Phrases.{Tokens, IsOne, IsString, KeywordAt, SignAt}
 use Rattle.cyc_parser.specs.Tests.{continues, is_sign, is_keyword, is_literal}
 use Rattle.cyc_parser.specs.Reader.{Outcome, done, read, token, sign, keyword, next_is}
 use Rattle.cyc_parser.specs.ReadExpressions.{literal, literal_of, parenthesized_by, grouped_by, primary_by}
-use Rattle.cyc_parser.specs.Exact.{Exact, Anything, Whole, Then, Either, IsToken, ends, always}
+use Rattle.cyc_parser.specs.Exact.{nowhere, Exact, Anything, Whole, Then, Either, IsToken, ends, always}
 use Rattle.cyc_parser.proofs.Exact.{token_exact, made_exact, exact_as}
 use Rattle.cyc_parser.proofs.ExactTypes.{sign_exact, keyword_exact}
 use Rattle.cyc_parser.proofs.ExactComposed.{then_exact, meets_exact, either_exact, begins_with, begins_stops}
@@ -62,7 +62,7 @@ pub literal_exact : Exact Anything IsLiteral ends literal
 unfolding literal
 literal_exact =
     made_exact Anything (IsToken is_literal) ends (token is_literal)
-    (token_exact is_literal (record { kind = kind.Text; at = 0; text = [] }) refl) (λ t. literal_of t t.kind) ends (λ t k h. h) IsLiteral
+    (token_exact is_literal (record { kind = kind.Text; at = nowhere; text = [] }) refl refl) (λ t. literal_of t t.kind) ends (λ t k h. h) IsLiteral
     (λ b t from to h. literal_kind b t.kind t.at t.text from to h.0 h.1) literal_back
 
 -- ---- an expression between two signs

@@ -14,7 +14,7 @@ use Rattle.cyc_parser.specs.Tests.{is_sign, is_keyword, begins_type, begins_poin
 use Rattle.cyc_parser.specs.Reader.{choose, read, next_is}
 use Rattle.cyc_parser.specs.ReadTypes.{type_name}
 use Rattle.cyc_parser.specs.ReadPrograms.{tagged_union, typed, struct_or_typed, item}
-use Rattle.cyc_parser.specs.Exact.{Exact, Phrase, Anything, ends, Stops, IsDone, Then, Either, Whole}
+use Rattle.cyc_parser.specs.Exact.{nowhere, Exact, Phrase, Anything, ends, Stops, IsDone, Then, Either, Whole}
 use Rattle.cyc_parser.proofs.Exact.{choose_exact, done_exact, exact_as, exact_on, restrict_exact}
 use Rattle.cyc_parser.proofs.ExactComposed.{begins_with, begins_stops, stops_at, then_exact, meets_exact, either_exact, Made, image_exact, finish}
 use Rattle.cyc_parser.proofs.ExactTypes.{keyword_exact, name_exact, region_list_exact, is_no_name, pointers_exact, type_exact, type_first}
@@ -30,7 +30,7 @@ StructBehind at tag rs = Then (Whole AreMembers) (λ ms. IsDone (StructItem (rec
 abbrev PointersBehind : ℕ → ℕ → Name → List RegionName → Bool → Item → Tokens → Tokens → Type 0
 PointersBehind most at tag rs = Then (Whole (Each IsPointer)) (λ ps. IsTypedItem most (record { at = at; base = Struct tag rs; pointers = ps }))
 
-abbrev StructRead : ℕ → Bool → Item → Tokens → Tokens → Type 0
+abbrev pub StructRead : ℕ → Bool → Item → Tokens → Tokens → Type 0
 StructRead most =
     Then (Whole (KeywordAt word.Struct)) (λ at. Then (Whole IsName) (λ tag. Then (Whole AreRegions) (λ rs.
     Either (StructBehind at tag rs) (PointersBehind most at tag rs))))
@@ -41,13 +41,13 @@ pointer_no_less (kind.Sign sign_of.At) h = refl
 pointer_no_less (kind.Sign sign_of.Question) h = refl
 pointer_no_less _ h = absurd cc
 
-pointer_no_brace : (k : TokenKind) → begins_pointer k ≡ true → is_sign sign_of.LeftBrace k ≡ false
+pub pointer_no_brace : (k : TokenKind) → begins_pointer k ≡ true → is_sign sign_of.LeftBrace k ≡ false
 pointer_no_brace (kind.Sign sign_of.Star) h = refl
 pointer_no_brace (kind.Sign sign_of.At) h = refl
 pointer_no_brace (kind.Sign sign_of.Question) h = refl
 pointer_no_brace _ h = absurd cc
 
-no_less : (most at : ℕ) (tag : Name) (rs : List RegionName) (b : Bool) (i : Item) (from to : Tokens)
+pub no_less : (most at : ℕ) (tag : Name) (rs : List RegionName) (b : Bool) (i : Item) (from to : Tokens)
     → Either (StructBehind at tag rs) (PointersBehind most at tag rs) b i from to → Stops (is_sign sign_of.Less) from
 no_less most at tag rs b i from to (inl w) = members_stop w.0 from w.1 w.2
 no_less most at tag rs b i from to (inr w) = pointed_begins most (is_sign sign_of.Less) refl pointer_no_less w.0 _ b i from w.1 to w.2 w.3
@@ -119,7 +119,7 @@ struct_typed most t b i from mid to v h w =
 abbrev TypedItem : ℕ → Bool → Item → Tokens → Tokens → Type 0
 TypedItem most = Then (Whole IsType) (λ t. IsTypedItem most t)
 
-abbrev OtherItem : ℕ → Bool → Item → Tokens → Tokens → Type 0
+abbrev pub OtherItem : ℕ → Bool → Item → Tokens → Tokens → Type 0
 OtherItem most b i from to = TypedItem most b i from to × (begins_struct i ≡ false)
 
 -- `struct` stands only at the front of its type
@@ -142,21 +142,22 @@ typed_other : (most : ℕ) (b : Bool) (i : Item) (t : Token) (rest to : Tokens) 
 typed_other most b i t rest to w h = typed_struct most w.0 b i w.1 to w.3 ∙ struct_base w.0.base (t ∷ rest) w.2.0 w.2.2 h
 
 end_token : Token
-end_token = record { kind = kind.Sign sign_of.Semicolon; at = 0; text = [] }
+end_token = record { kind = kind.Sign sign_of.Semicolon; at = nowhere; text = [] }
 
 some_other : (most : ℕ) → Phrase (OtherItem most false)
 unfolding int_token name_token end_token
 some_other most =
-    let t : TypeName = record { at = 0; base = Int; pointers = [] } in
+    let t : TypeName = record { at = nowhere; base = Int; pointers = [] } in
     record {
-      tree = GlobalItem (record { of = t; name = record { at = 0; text = [] }; initial = Initial.Unset });
+      tree = GlobalItem (record { of = t; name = record { at = nowhere; text = [] }; initial = Initial.Unset });
       tokens = int_token ∷ name_token ∷ end_token ∷ [];
+      made_up = (refl, (refl, (refl, tt)));
       is = λ more. (
         (
           t,
           name_token ∷ end_token ∷ more,
-          (name_token ∷ end_token ∷ more, (int_token, name_token ∷ end_token ∷ more, refl, refl), (0, ([], refl)), refl),
-          (refl, end_token ∷ more, end_token ∷ more, refl, refl, (0, ([], refl))),
+          (name_token ∷ end_token ∷ more, (int_token, name_token ∷ end_token ∷ more, refl, refl), (nowhere, ([], refl)), refl),
+          (refl, end_token ∷ more, end_token ∷ more, refl, refl, (nowhere, ([], refl))),
         ),
         refl,
       );
@@ -176,7 +177,7 @@ other_item_exact most =
     (λ ts g. tt))
     (λ i. begins_struct i ≡ false) (typed_other most) int_token refl (some_other most)
 
-no_struct : (most : ℕ) (b : Bool) (i : Item) (from to : Tokens) → OtherItem most b i from to → Stops (ends i) to
+pub no_struct : (most : ℕ) (b : Bool) (i : Item) (from to : Tokens) → OtherItem most b i from to → Stops (ends i) to
     → next_is (is_keyword word.Struct) from ≡ false
 no_struct most b i from to w s = other_base w.0.0.base from w.0.2.0 (sym (typed_struct most w.0.0 b i w.0.1 to w.0.3) ∙ w.1) w.0.2.2
 
@@ -194,7 +195,7 @@ type_no_tagged : (k : TokenKind) → begins_type k ≡ true → is_sign sign_of.
 type_no_tagged (kind.Sign s) h = absurd cc
 type_no_tagged _ h = refl
 
-no_tagged : (most : ℕ) (b : Bool) (i : Item) (from to : Tokens) → Either (StructRead most) (OtherItem most) b i from to → Stops (ends i) to
+pub no_tagged : (most : ℕ) (b : Bool) (i : Item) (from to : Tokens) → Either (StructRead most) (OtherItem most) b i from to → Stops (ends i) to
     → next_is (is_sign sign_of.Tagged) from ≡ false
 no_tagged most b i from to (inl w) s = stops_at (is_sign sign_of.Tagged) from _ _ w.2.1 refl
 no_tagged most b i from to (inr w) s =
@@ -209,7 +210,7 @@ item_into most b i from to (inl w) = subst (λ (i : Item). IsItemAt most b i fro
 item_into most b i from to (inr (inl w)) = struct_into most b i from to w
 item_into most b i from to (inr (inr w)) = typed_is most w.0.0 b i from w.0.1 to w.0.2 w.0.3
 
-item_back : (most : ℕ) (b : Bool) (i : Item) (from to : Tokens) → IsItemAt most b i from to → ItemRead most b i from to
+pub item_back : (most : ℕ) (b : Bool) (i : Item) (from to : Tokens) → IsItemAt most b i from to → ItemRead most b i from to
 item_back most b (StructItem s) from to w =
     let k = w.0.1 in let parts = w.0.2 in
     inr (inl (s.at, w.0.0, k, (s.tag, parts.0, parts.2, (s.regions, parts.1, parts.3, inl (s.members, to, parts.4, (refl, refl))))))

@@ -24,7 +24,7 @@ AreSomeItems (i ∷ is) from to = Each IsItem (i ∷ is) from to
 abbrev pub AreItemsAt : ℕ → Bool → List Item → Tokens → Tokens → Type 0
 AreItemsAt most b is from to = AreSomeItems is from to × Within b most (nesting is)
 
-item_begins : (most : ℕ) (b : Bool) (i : Item) (from to : Tokens) → IsItemAt most b i from to → next_is is_any from ≡ true
+pub item_begins : (most : ℕ) (b : Bool) (i : Item) (from to : Tokens) → IsItemAt most b i from to → next_is is_any from ≡ true
 item_begins most b (StructItem s) from to w = begins_with is_any from _ _ w.0.1.1 refl
 item_begins most b (UnionItem u) from to w = begins_with is_any from _ _ w.0.2.1 refl
 item_begins most b (GlobalItem g) from to w = let f = type_first g.of from w.0.0 w.0.3 in begins_with is_any from f.0 f.1 f.2 refl
@@ -50,7 +50,7 @@ rows_into most b [] from to w = (w, within_none most b)
 rows_into most b (i ∷ is) from to w =
     let r = rows_into most b is w.0 to w.2 in ((w.0, w.1.0, r.0), within_max most b (item_nesting i) (nesting is) w.1.1 r.1)
 
-rows_back : (most : ℕ) (b : Bool) (is : List Item) (from to : Tokens) → Each IsItem is from to → Within b most (nesting is)
+pub rows_back : (most : ℕ) (b : Bool) (is : List Item) (from to : Tokens) → Each IsItem is from to → Within b most (nesting is)
     → Rows (IsItemAt most) b is from to
 rows_back most b [] from to w h = w
 rows_back most b (i ∷ is) from to w h =

@@ -1,11 +1,11 @@
 -- One phrase and then another one: their reader is exact where both parts' readers are.
 use Rattle.std.proofs.Common.{◌≡◌, ℕ, Bool, true, false, ◌∷◌, ◌++◌, Ok, Err, refl, sym, ap, subst, ◌∙◌, append_assoc, inl, inr}
 use Rattle.cyc_lexer.specs.declared.token.TokenKind.{TokenKind}
-use Rattle.cyc_parser.specs.declared.fault.ParseFault.TheVariants.{Parse, TooDeep}
+use Rattle.cyc_parser.specs.declared.fault.ParseFault.TheVariants.{Parse, TooDeep, Memory}
 use Rattle.cyc_parser.specs.Phrases.{Tokens}
 use Rattle.cyc_parser.specs.Reader.{Outcome, read}
 use Rattle.cyc_parser.specs.Exact.{Found, Refused, Deepened, Phrase, Stops, Passes, Exact, Then}
-use Rattle.cyc_parser.proofs.ExactParts.{bind_ok, bind_err, kept_on, passes_then}
+use Rattle.cyc_parser.proofs.ExactParts.{bind_ok, bind_err, kept_on, passes_then, made_up_both}
 
 module _ {A B : Type 0} (Guard : Tokens → Type 0) (First : Bool → A → Tokens → Tokens → Type 0) (goes_on : A → TokenKind → Bool)
     (p : Tokens → Outcome A)
@@ -64,6 +64,7 @@ module _ {A B : Type 0} (Guard : Tokens → Type 0) (First : Bool → A → Toke
         place = r.place;
         tree = some.tree;
         ending = r.ending ++ some.tokens;
+        made_up = made_up_both r.ending some.tokens r.made_up some.made_up;
         is = λ more. (
           r.tree,
           some.tokens ++ more,
@@ -83,6 +84,7 @@ module _ {A B : Type 0} (Guard : Tokens → Type 0) (First : Bool → A → Toke
     place = r.place;
     tree = r.tree;
     ending = r.ending;
+    made_up = r.made_up;
     is = λ more.
         let xs : Tokens = r.front ++ (r.ending ++ more) in (
           a,
@@ -116,6 +118,7 @@ module _ {A B : Type 0} (Guard : Tokens → Type 0) (First : Bool → A → Toke
         place = r.place;
         tree = some.tree;
         ending = r.ending ++ some.tokens;
+        made_up = made_up_both r.ending some.tokens r.made_up some.made_up;
         is = λ more. (
           r.tree,
           some.tokens ++ more,
@@ -136,6 +139,7 @@ module _ {A B : Type 0} (Guard : Tokens → Type 0) (First : Bool → A → Toke
     place = r.place;
     tree = r.tree;
     ending = r.ending;
+    made_up = r.made_up;
     is = λ more.
         let xs : Tokens = r.front ++ r.next ∷ (r.ending ++ more) in (
           a,
@@ -158,6 +162,14 @@ module _ {A B : Type 0} (Guard : Tokens → Type 0) (First : Bool → A → Toke
             ((second x.0.0).deepened x.0.1 at (leaves ts x.0.0 x.0.1 guard x.1) x.2)
       ]
 
+  -- memory never runs out, as it doesn't in either
+  read_enough : (ts : Tokens) → Guard ts → read p q ts ≡ Err Memory → ⊥
+  read_enough ts guard e =
+      elim (bind_err (p ts) (λ x. q x.0 x.1) Memory e) [
+        | inl g ↦ first.enough ts guard g
+        | inr x ↦ (second x.0.0).enough x.0.1 (leaves ts x.0.0 x.0.1 guard x.1) x.2
+      ]
+
   read_some : Phrase (Both false)
   read_some =
       let one = first.some in
@@ -165,6 +177,7 @@ module _ {A B : Type 0} (Guard : Tokens → Type 0) (First : Bool → A → Toke
       record {
         tree = other.tree;
         tokens = one.tokens ++ other.tokens;
+        made_up = made_up_both one.tokens other.tokens one.made_up other.made_up;
         is = λ more. join false one.tree other.tree one.tokens other.tokens more (one.is (other.tokens ++ more)) (other.is more);
       }
 
@@ -176,5 +189,6 @@ module _ {A B : Type 0} (Guard : Tokens → Type 0) (First : Bool → A → Toke
     never = read_never;
     refused = read_refused;
     deepened = read_deepened;
+    enough = read_enough;
     some = read_some;
   }

@@ -201,8 +201,15 @@ levels : (d : ℕ) → Exact Anything (IsStatementAt d) takes_else (statement_at
 unfolding statement_at
 levels zero = (
   refuse_exact begins_statement (IsStatementAt 0) takes_else (λ s from to w. statement_nests s w.1) (λ s from to w. statement_begins s from to w.0)
-      (λ t h. let p : PhraseFrom IsStatement t = statement_from t h in record { tree = p.tree; tokens = p.tokens; is = λ more. (p.is more, tt) })
-      (record { tree = some_statement.tree; tokens = some_statement.tokens; is = λ more. (some_statement.is more, tt) }),
+      (λ t h.
+      let p : PhraseFrom IsStatement t = statement_from t h in
+      record { tree = p.tree; tokens = p.tokens; made_up = p.made_up; is = λ more. (p.is more, tt) })
+      (record {
+        tree = some_statement.tree;
+        tokens = some_statement.tokens;
+        made_up = some_statement.made_up;
+        is = λ more. (some_statement.is more, tt);
+      }),
   λ ts s rest e. absurd cc,
 )
 levels (suc d) = (

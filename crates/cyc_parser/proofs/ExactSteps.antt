@@ -3,11 +3,11 @@ use Rattle.std.proofs.Common.{◌≡◌, ℕ, Bool, true, false, cond, [], ◌�
 use Rattle.cyc_lexer.specs.Lexing.{Token}
 use Rattle.cyc_lexer.specs.declared.token.TokenKind.{TokenKind}
 use Rattle.cyc_parser.specs.declared.fault.ParseFault.{ParseFault}
-use Rattle.cyc_parser.specs.declared.fault.ParseFault.TheVariants.{Parse, TooDeep}
+use Rattle.cyc_parser.specs.declared.fault.ParseFault.TheVariants.{Parse, TooDeep, Memory}
 use Rattle.cyc_parser.specs.Phrases.{Tokens}
 use Rattle.cyc_parser.specs.Reading.{next_place}
 use Rattle.cyc_parser.specs.Reader.{Outcome, done, read, token, refuse, next_is}
-use Rattle.cyc_parser.specs.Exact.{Found, Refused, Deepened, Phrase, PhraseFrom, Stops, Exact, Anything, ends, IsToken, IsDone, Then}
+use Rattle.cyc_parser.specs.Exact.{nowhere, Found, Refused, Deepened, Phrase, PhraseFrom, Stops, Exact, Anything, ends, IsToken, IsDone, Then}
 use Rattle.cyc_parser.proofs.ExactParts.{ok_is, no_fault, stops_wider}
 use Rattle.cyc_parser.proofs.ExactReads.{read_exact}
 
@@ -25,19 +25,21 @@ token_sound : (test : TokenKind → Bool) (ts : Tokens) (a : Token) (rest : Toke
 token_sound test [] a rest e = absurd cc
 token_sound test (t ∷ ts) a rest e = token_sound_at test t ts a rest (test t.kind) refl e
 
-token_again : (test : TokenKind → Bool) (a : Token) (from to : Tokens) → IsToken test true a from to → token test from ≡ Ok (a, to)
+pub token_again : (test : TokenKind → Bool) (a : Token) (from to : Tokens) → IsToken test true a from to → token test from ≡ Ok (a, to)
 token_again test a from to is = rw is.0 (rw is.1 refl)
 
-token_refused_at : (test : TokenKind → Bool) (v : Token) → test v.kind ≡ true → (t : Token) (ts : Tokens) (at : ℕ) (b : Bool) → test t.kind ≡ b
+token_refused_at : (test : TokenKind → Bool) (v : Token) → test v.kind ≡ true → v.at ≡ nowhere → (t : Token) (ts : Tokens) (at : ℕ) (b : Bool)
+    → test t.kind ≡ b
     → cond {A = Outcome Token} b (Ok (t, ts)) (Err (Parse t.at)) ≡ Err (Parse at) → Refused (IsToken test false) (token test) (t ∷ ts) at
-token_refused_at test v pass t ts at true h e = absurd cc
-token_refused_at test v pass t ts at false h e = record {
+token_refused_at test v pass past t ts at true h e = absurd cc
+token_refused_at test v pass past t ts at false h e = record {
   front = [];
   rest = t ∷ ts;
   parts = refl;
   place = cc;
   tree = v;
   ending = v ∷ [];
+  made_up = (past, tt);
   is = λ more. (refl, pass);
   still = λ u others after g.
       let same : t ≡ u = cc in
@@ -47,19 +49,20 @@ token_refused_at test v pass t ts at false h e = record {
       rw fails (rw there refl);
 }
 
-token_refused : (test : TokenKind → Bool) (v : Token) → test v.kind ≡ true → (ts : Tokens) (at : ℕ)
+token_refused : (test : TokenKind → Bool) (v : Token) → test v.kind ≡ true → v.at ≡ nowhere → (ts : Tokens) (at : ℕ)
     → token test ts ≡ Err (Parse at) → Refused (IsToken test false) (token test) ts at
-token_refused test v pass [] at e = record {
+token_refused test v pass past [] at e = record {
   front = [];
   rest = [];
   parts = refl;
   place = cc;
   tree = v;
   ending = v ∷ [];
+  made_up = (past, tt);
   is = λ more. (refl, pass);
   still = λ u others after g. absurd cc;
 }
-token_refused test v pass (t ∷ ts) at e = token_refused_at test v pass t ts at (test t.kind) refl e
+token_refused test v pass past (t ∷ ts) at e = token_refused_at test v pass past t ts at (test t.kind) refl e
 
 token_shallow_at : (t : Token) (ts : Tokens) (at : ℕ) (b : Bool) → cond {A = Outcome Token} b (Ok (t, ts)) (Err (Parse t.at)) ≡ Err (TooDeep at) → ⊥
 token_shallow_at t ts at true e = cc
@@ -70,15 +73,25 @@ token_shallow : (test : TokenKind → Bool) (ts : Tokens) (at : ℕ) → token t
 token_shallow test [] at e = cc
 token_shallow test (t ∷ ts) at e = token_shallow_at t ts at (test t.kind) e
 
-pub token_exact : (test : TokenKind → Bool) (t : Token) → test t.kind ≡ true → Exact Anything (IsToken test) ends (token test)
-token_exact test t passes = record {
+token_enough_at : (t : Token) (ts : Tokens) (b : Bool) → cond {A = Outcome Token} b (Ok (t, ts)) (Err (Parse t.at)) ≡ Err Memory → ⊥
+token_enough_at t ts true e = cc
+token_enough_at t ts false e = cc
+
+-- a token's reader never answers that memory ran out
+token_enough : (test : TokenKind → Bool) (ts : Tokens) → token test ts ≡ Err Memory → ⊥
+token_enough test [] e = cc
+token_enough test (t ∷ ts) e = token_enough_at t ts (test t.kind) e
+
+pub token_exact : (test : TokenKind → Bool) (t : Token) → test t.kind ≡ true → t.at ≡ nowhere → Exact Anything (IsToken test) ends (token test)
+token_exact test t passes past = record {
   sound = λ ts a rest guard e. token_sound test ts a rest e;
   of_any = λ a from to is. is;
   again = λ a from to is stops. token_again test a from to is;
   never = λ a from to is stops. inl (token_again test a from to is);
-  refused = λ ts at guard e. token_refused test t passes ts at e;
+  refused = λ ts at guard e. token_refused test t passes past ts at e;
   deepened = λ ts at guard e. absurd (token_shallow test ts at e);
-  some = record { tree = t; tokens = t ∷ []; is = λ more. (refl, passes) };
+  enough = λ ts guard e. token_enough test ts e;
+  some = record { tree = t; tokens = t ∷ []; made_up = (past, tt); is = λ more. (refl, passes) };
 }
 
 -- ---- nothing
@@ -99,7 +112,8 @@ done_exact x = record {
   never = λ a from to is stops. inl (done_again x a from to is);
   refused = λ ts at guard e. absurd (no_fault (x, ts) (Parse at) e);
   deepened = λ ts at guard e. absurd (no_fault (x, ts) (TooDeep at) e);
-  some = record { tree = x; tokens = []; is = λ more. (refl, refl) };
+  enough = λ ts guard e. no_fault (x, ts) Memory e;
+  some = record { tree = x; tokens = []; made_up = tt; is = λ more. (refl, refl) };
 }
 
 -- ---- too deep
@@ -125,6 +139,7 @@ refuse_refused_at Is test some ts at false h e = record {
   place = cc;
   tree = some.tree;
   ending = some.tokens;
+  made_up = some.made_up;
   is = some.is;
   still = λ u others after g.
       let fails : test u.kind ≡ false = ap (next_is test) (sym g) ∙ h in
@@ -147,6 +162,7 @@ refuse_deepened_at Is test begins t ts at true h e =
       place = sym place;
       tree = it.tree;
       ending = it.tokens;
+      made_up = it.made_up;
       is = it.is;
       still = λ after. rw h (rw place refl);
     }
@@ -156,6 +172,11 @@ refuse_deepened : {A : Type 0} (Is : A → Tokens → Tokens → Type 0) (test :
     → (ts : Tokens) (at : ℕ) → refuse {A = A} test ts ≡ Err (TooDeep at) → Deepened Is (refuse test) ts at
 refuse_deepened Is test begins [] at e = absurd cc
 refuse_deepened Is test begins (t ∷ ts) at e = refuse_deepened_at Is test begins t ts at (test t.kind) refl e
+
+-- nor is that the fault where a phrase would nest too deep
+refuse_enough_at : {A : Type 0} (at : ℕ) (b : Bool) → failed {A = A} (cond b (TooDeep at) (Parse at)) ≡ Err Memory → ⊥
+refuse_enough_at at true e = cc
+refuse_enough_at at false e = cc
 
 -- too deep: no phrase nests so little, and each token that begins one begins some phrase
 pub refuse_exact : {A : Type 0} (test : TokenKind → Bool) (Is : Bool → A → Tokens → Tokens → Type 0) (goes_on : A → TokenKind → Bool)
@@ -171,6 +192,7 @@ refuse_exact test Is goes_on none first begins some = record {
   never = λ a from to is stops. inr (_, refuse_deep test from (first a from to is));
   refused = λ ts at guard e. refuse_refused_at (Is false) test some ts at (next_is test ts) refl e;
   deepened = λ ts at guard e. refuse_deepened (Is false) test begins ts at e;
+  enough = λ ts guard e. refuse_enough_at (next_place ts) (next_is test ts) e;
   some = some;
 }
 
@@ -199,6 +221,7 @@ exact_as Guard Is goes_on p each As into back = record {
         place = r.place;
         tree = r.tree;
         ending = r.ending;
+        made_up = r.made_up;
         is = λ more. into false r.tree (r.front ++ (r.ending ++ more)) more (r.is more);
         still = r.still;
       };
@@ -212,12 +235,15 @@ exact_as Guard Is goes_on p each As into back = record {
         place = r.place;
         tree = r.tree;
         ending = r.ending;
+        made_up = r.made_up;
         is = λ more. into false r.tree (r.front ++ r.next ∷ (r.ending ++ more)) more (r.is more);
         still = r.still;
       };
+  enough = each.enough;
   some = record {
     tree = each.some.tree;
     tokens = each.some.tokens;
+    made_up = each.some.made_up;
     is = λ more. into false each.some.tree (each.some.tokens ++ more) more (each.some.is more);
   };
 }
@@ -231,6 +257,7 @@ exact_wider Guard Is goes_on wider p each within = record {
   of_any = each.of_any;
   refused = each.refused;
   deepened = each.deepened;
+  enough = each.enough;
   some = each.some;
   again = λ a from to is stops. each.again a from to is (stops_wider (goes_on a) (wider a) (within a) to stops);
   never = λ a from to is stops. each.never a from to is (stops_wider (goes_on a) (wider a) (within a) to stops);
@@ -247,6 +274,7 @@ exact_on Guard Fewer Is goes_on p each within = record {
   never = each.never;
   refused = λ ts at fewer e. each.refused ts at (within ts fewer) e;
   deepened = λ ts at fewer e. each.deepened ts at (within ts fewer) e;
+  enough = λ ts fewer e. each.enough ts (within ts fewer) e;
   some = each.some;
 }
 

@@ -15,7 +15,7 @@ use Rattle.cyc_parser.specs.Tests.{continues, is_sign, begins_suffix}
 use Rattle.cyc_parser.specs.Reader.{Outcome, done, read, many, sign, next_is}
 use Rattle.cyc_parser.specs.ReadTypes.{name}
 use Rattle.cyc_parser.specs.ReadExpressions.{suffix_by, suffixes_by, with_member}
-use Rattle.cyc_parser.specs.Exact.{Exact, Anything, Phrase, Within, Whole, Then, Either, Rows, ends, always}
+use Rattle.cyc_parser.specs.Exact.{nowhere, Exact, Anything, Phrase, Within, Whole, Then, Either, Rows, ends, always}
 use Rattle.cyc_parser.proofs.Exact.{exact_as, exact_wider, many_exact, restrict_exact, exact_on}
 use Rattle.cyc_parser.proofs.ExactTypes.{sign_exact, name_exact}
 use Rattle.cyc_parser.proofs.ExactComposed.{then_exact, either_exact, begins_with}
@@ -65,7 +65,7 @@ module _ (d : ℕ) (expr : Tokens → Outcome Expression) (inner : Exact Anythin
   suffix_back b (OneSuffix.Dot m) from to h = inr (inl (h.1.0, h.0, h.1.1, (m, refl, h.2)))
   suffix_back b (OneSuffix.Arrow m) from to h = inr (inr (h.1.0, h.0, h.1.1, (m, refl, h.2)))
 
-  suffix_exact : Exact Anything IsSuffix ends (suffix_by expr)
+  pub suffix_exact : Exact Anything IsSuffix ends (suffix_by expr)
   unfolding suffix_by
   suffix_exact =
       exact_as Anything SuffixRead ends _
@@ -93,7 +93,7 @@ module _ (d : ℕ) (expr : Tokens → Outcome Expression) (inner : Exact Anythin
 
   -- ---- all of them
 
-  suffix_wider : (k : TokenKind) → (begins_suffix k || false) ≡ true → continues unary_level k ≡ true
+  pub suffix_wider : (k : TokenKind) → (begins_suffix k || false) ≡ true → continues unary_level k ≡ true
   suffix_wider (kind.Sign sign_of.LeftBracket) h = refl
   suffix_wider (kind.Sign sign_of.Dot) h = refl
   suffix_wider (kind.Sign sign_of.Arrow) h = refl
@@ -158,11 +158,11 @@ module _ (d : ℕ) (expr : Tokens → Outcome Expression) (inner : Exact Anythin
   BehindNoDot b xs from to = Behind None b xs from to × NoDot xs
 
   none_behind : Phrase (λ xs from to. Behind None false xs from to × NoDot xs)
-  none_behind = record { tree = []; tokens = []; is = λ more. (([], refl, refl), tt) }
+  none_behind = record { tree = []; tokens = []; made_up = tt; is = λ more. (([], refl, refl), tt) }
 
   pub no_dot_exact : Exact NoDotNext BehindNoDot (always (continues unary_level)) (suffixes_by expr None)
   no_dot_exact =
       restrict_exact Anything (is_sign sign_of.Dot) (Behind None) (always (continues unary_level)) (suffixes_by expr None)
       (exact_on Anything NoDotNext (Behind None) (always (continues unary_level)) (suffixes_by expr None) (behind_exact None) (λ ts h. tt)) NoDot
       (λ b xs t rest to h fails. subst NoDot (sym h.1) (rows_no_dot b h.0 t rest to h.2 fails))
-      (record { kind = kind.Text; at = 0; text = [] }) refl none_behind
+      (record { kind = kind.Text; at = nowhere; text = [] }) refl none_behind

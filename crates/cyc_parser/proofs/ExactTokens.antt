@@ -13,7 +13,7 @@ use Rattle.cyc_parser.specs.Phrases.{Tokens, IsOne, KeywordAt, SignAt, IsName, I
 use Rattle.cyc_parser.specs.Tests.{is_sign, is_keyword, is_identifier, is_region, is_number}
 use Rattle.cyc_parser.specs.Reader.{done, read, token, sign, keyword}
 use Rattle.cyc_parser.specs.ReadTypes.{name_of, name, region_of, region, value_of, number}
-use Rattle.cyc_parser.specs.Exact.{Exact, Anything, ends, IsToken, Whole}
+use Rattle.cyc_parser.specs.Exact.{nowhere, Exact, Anything, ends, IsToken, Whole}
 use Rattle.cyc_parser.proofs.Exact.{token_exact, made_exact}
 use Rattle.cyc_parser.proofs.ExactKinds.{keyword_is, keyword_passes, sign_is, sign_passes}
 
@@ -24,7 +24,7 @@ pub one_exact : {B : Type 0} (test : TokenKind → Bool) (sample : TokenKind) �
     → Exact Anything (Whole As) ends (read (token test) (λ t. done (f t)))
 one_exact test sample passes f As into back =
     made_exact Anything (IsToken test) ends (token test)
-    (token_exact test (record { kind = sample; at = 0; text = [] }) passes) f ends (λ a k h. h) (Whole As)
+    (token_exact test (record { kind = sample; at = nowhere; text = [] }) passes refl) f ends (λ a k h. h) (Whole As)
     (λ b t from to w. subst (λ ts. As (f t) ts to) (sym w.0) (into t to w.1))
     (λ b c from to w. let p = back c from to w in (p.0, p.1, (p.2, p.3)))
 

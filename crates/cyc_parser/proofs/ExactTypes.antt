@@ -16,7 +16,7 @@ use Rattle.cyc_parser.specs.Reading.{next_place}
 use Rattle.cyc_parser.specs.Tests.{begins_type, begins_pointer, begins_constant}
 use Rattle.cyc_parser.specs.Reader.{token, placed}
 use Rattle.cyc_parser.specs.ReadTypes.{base, pointers, type_name, typed_name, element_count, constant_behind, constant}
-use Rattle.cyc_parser.specs.Exact.{Exact, Anything, ends, always, Stops, IsToken, IsDone, IsPlaced, Then, Whole}
+use Rattle.cyc_parser.specs.Exact.{nowhere, Exact, Anything, ends, always, Stops, IsToken, IsDone, IsPlaced, Then, Whole}
 use Rattle.cyc_parser.proofs.Exact.{token_exact, done_exact, placed_exact, exact_as}
 use Rattle.cyc_parser.proofs.ExactComposed.{begins_stops, stops_at, stops_behind, then_exact, meets_exact, Made, image_exact, finish}
 use Rattle.cyc_parser.proofs.ExactKinds.{keyword_is, sign_is}
@@ -148,6 +148,7 @@ pub constant_exact : Exact Anything (Whole IsConstant) ends constant
 unfolding constant
 constant_exact =
     exact_as Anything ConstantRead ends _
-    (then_exact (IsToken begins_constant) (token begins_constant) (token_exact begins_constant (record { kind = kind.Text; at = 0; text = [] }) refl)
+    (then_exact (IsToken begins_constant) (token begins_constant)
+    (token_exact begins_constant (record { kind = kind.Text; at = nowhere; text = [] }) refl refl)
     (λ t. ConstantBehind t t.kind) ends (λ t. constant_behind t t.kind) (λ t. constant_behind_exact t t.kind))
     (Whole IsConstant) (λ b c from to w. constant_of w.0.kind w.0 b c from w.1 to w.2.0 w.2.1 w.3) constant_back

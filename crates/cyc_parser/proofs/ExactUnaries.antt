@@ -20,7 +20,7 @@ use Rattle.cyc_parser.specs.Tests.{continues, is_sign, is_keyword, is_prefix, be
 use Rattle.cyc_parser.specs.Reader.{Outcome, done, read, token, sign, keyword, next_is}
 use Rattle.cyc_parser.specs.ReadTypes.{name}
 use Rattle.cyc_parser.specs.ReadExpressions.{prefix_of, parenthesized_by, array_by, made_by, made_in_by, prefixed_by, postfix_by, operation_by}
-use Rattle.cyc_parser.specs.Exact.{Exact, Anything, Within, Whole, Then, Either, IsToken, ends, always}
+use Rattle.cyc_parser.specs.Exact.{nowhere, Exact, Anything, Within, Whole, Then, Either, IsToken, ends, always}
 use Rattle.cyc_parser.proofs.Exact.{token_exact, exact_as, exact_wider}
 use Rattle.cyc_parser.proofs.ExactTypes.{sign_exact, keyword_exact, name_exact}
 use Rattle.cyc_parser.proofs.ExactComposed.{then_exact, meets_exact, either_exact, begins_with, begins_stops}
@@ -52,15 +52,15 @@ primary_begins (Chain first NoLinks) from to h l = absurd h
 primary_begins (Chain first (MoreLinks o operand others)) from to h l = absurd (omega (arith, l, level_high o))
 primary_begins _ from to h l = absurd (omega (arith, l))
 
-primary_no_new : (k : TokenKind) → begins_primary k ≡ true → is_keyword word.New k ≡ false
+pub primary_no_new : (k : TokenKind) → begins_primary k ≡ true → is_keyword word.New k ≡ false
 primary_no_new (kind.Keyword word.New) h = absurd cc
 primary_no_new _ h = refl
 
-primary_no_rnew : (k : TokenKind) → begins_primary k ≡ true → is_keyword word.Rnew k ≡ false
+pub primary_no_rnew : (k : TokenKind) → begins_primary k ≡ true → is_keyword word.Rnew k ≡ false
 primary_no_rnew (kind.Keyword word.Rnew) h = absurd cc
 primary_no_rnew _ h = refl
 
-primary_no_prefix : (k : TokenKind) → begins_primary k ≡ true → is_prefix k ≡ false
+pub primary_no_prefix : (k : TokenKind) → begins_primary k ≡ true → is_prefix k ≡ false
 primary_no_prefix (kind.Sign sign_of.Minus) h = absurd cc
 primary_no_prefix (kind.Sign sign_of.Not) h = absurd cc
 primary_no_prefix (kind.Sign sign_of.Tilde) h = absurd cc
@@ -72,7 +72,7 @@ prefix_no_word : (w : Keyword) (k : TokenKind) → is_prefix k ≡ true → is_k
 prefix_no_word w (kind.Sign s) h = refl
 prefix_no_word w _ h = absurd cc
 
-unary_no_brace : (k : TokenKind) → begins_unary k ≡ true → is_sign sign_of.LeftBrace k ≡ false
+pub unary_no_brace : (k : TokenKind) → begins_unary k ≡ true → is_sign sign_of.LeftBrace k ≡ false
 unary_no_brace (kind.Sign sign_of.LeftBrace) h = absurd cc
 unary_no_brace _ h = refl
 
@@ -90,7 +90,7 @@ prefix_is : (k : TokenKind) → is_prefix k ≡ true → k ≡ kind.Sign (prefix
 prefix_is (kind.Sign s) h = ap kind.Sign (prefix_sign_is s h)
 prefix_is _ h = absurd cc
 
-prefix_back : (o : Prefix) → (is_prefix (kind.Sign (prefix_sign o)) ≡ true) × (o ≡ prefix_of (kind.Sign (prefix_sign o)))
+pub prefix_back : (o : Prefix) → (is_prefix (kind.Sign (prefix_sign o)) ≡ true) × (o ≡ prefix_of (kind.Sign (prefix_sign o)))
 prefix_back prefix.Negate = (refl, refl)
 prefix_back prefix.Not = (refl, refl)
 prefix_back prefix.Complement = (refl, refl)
@@ -261,7 +261,8 @@ module _ (d : ℕ) (expr : Tokens → Outcome Expression) (inner : Exact Anythin
   prefixed_exact : Exact Anything PrefixedRead (always (continues unary_level)) (prefixed_by unary)
   unfolding prefixed_by
   prefixed_exact =
-      then_exact (IsToken is_prefix) (token is_prefix) (token_exact is_prefix (record { kind = kind.Sign sign_of.Minus; at = 0; text = [] }) refl)
+      then_exact (IsToken is_prefix) (token is_prefix)
+      (token_exact is_prefix (record { kind = kind.Sign sign_of.Minus; at = nowhere; text = [] }) refl refl)
       (λ (t : Token). Made (λ e. Prefixed t.at (prefix_of t.kind) e) (IsUnaryAt d)) (always (continues unary_level)) _
       (λ t. made_of (IsUnaryAt d) (always (continues unary_level)) unary each (λ e. Prefixed t.at (prefix_of t.kind) e)
       (always (continues unary_level)) (λ e k h. h))

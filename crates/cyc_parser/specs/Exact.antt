@@ -1,13 +1,22 @@
 -- What it is for a reader to be exact: it reads just the phrases of a relation, the longest one from the front, and refuses at the first token
 -- with which the tokens so far begin no phrase. A phrase has a relation for each of two nestings: within the one that the reader allows (true),
 -- and any (false).
-use Rattle.std.specs.Prelude.{◌≡◌, ◌⊎◌, ◌≤◌, ℕ, List, [], ◌∷◌, ◌++◌, Bool, true, false, Ok, Err}
+use Rattle.std.specs.Prelude.{◌≡◌, ◌⊎◌, ◌≤◌, ℕ, ◌^◌, List, [], ◌∷◌, ◌++◌, Bool, true, false, Ok, Err}
 use Rattle.cyc_lexer.specs.Lexing.{Token}
 use Rattle.cyc_lexer.specs.declared.token.TokenKind.{TokenKind}
-use Rattle.cyc_parser.specs.declared.fault.ParseFault.TheVariants.{Parse, TooDeep}
+use Rattle.cyc_parser.specs.declared.fault.ParseFault.TheVariants.{Parse, TooDeep, Memory}
 use Rattle.cyc_parser.specs.Phrases.{Tokens}
 use Rattle.cyc_parser.specs.Reading.{next_place}
 use Rattle.cyc_parser.specs.Reader.{Outcome, next_is}
+
+-- the place of tokens that are made up, past each place in a text
+abbrev pub nowhere : ℕ
+nowhere = 2 ^ 32
+
+-- tokens that are made up
+abbrev pub AreMadeUp : Tokens → Type 0
+AreMadeUp [] = Unit {0}
+AreMadeUp (t ∷ ts) = (t.at ≡ nowhere) × AreMadeUp ts
 
 -- what was read: these tokens, which are a phrase whatever follows
 pub record Found {A : Type 0} (Is : A → Tokens → Tokens → Type 0) (reader : Tokens → Outcome A) (ts : Tokens) (a : A) (rest : Tokens) : Type 0 where
@@ -25,6 +34,7 @@ pub record Refused {A : Type 0} (Is : A → Tokens → Tokens → Type 0) (reade
   pub place : at ≡ next_place rest
   pub tree : A
   pub ending : Tokens
+  pub made_up : AreMadeUp ending
   pub is : (more : Tokens) → Is tree (front ++ (ending ++ more)) more
   pub still : (t : Token) (others after : Tokens) → rest ≡ t ∷ others → reader (front ++ t ∷ after) ≡ Err (Parse at)
 
@@ -37,6 +47,7 @@ pub record Deepened {A : Type 0} (Is : A → Tokens → Tokens → Type 0) (read
   pub place : at ≡ next.at
   pub tree : A
   pub ending : Tokens
+  pub made_up : AreMadeUp ending
   pub is : (more : Tokens) → Is tree (front ++ next ∷ (ending ++ more)) more
   pub still : (after : Tokens) → reader (front ++ next ∷ after) ≡ Err (TooDeep at)
 
@@ -44,12 +55,14 @@ pub record Deepened {A : Type 0} (Is : A → Tokens → Tokens → Type 0) (read
 pub record Phrase {A : Type 0} (Is : A → Tokens → Tokens → Type 0) : Type 0 where
   pub tree : A
   pub tokens : Tokens
+  pub made_up : AreMadeUp tokens
   pub is : (more : Tokens) → Is tree (tokens ++ more) more
 
 -- some phrase that begins with this token
 pub record PhraseFrom {A : Type 0} (Is : A → Tokens → Tokens → Type 0) (t : Token) : Type 0 where
   pub tree : A
   pub tokens : Tokens
+  pub made_up : AreMadeUp tokens
   pub is : (more : Tokens) → Is tree (t ∷ (tokens ++ more)) more
 
 -- the next token, if there is one, is none that would go on
@@ -72,6 +85,8 @@ pub record Exact {A : Type 0} (Guard : Tokens → Type 0) (Is : Bool → A → T
   pub never : (a : A) (from to : Tokens) → Is false a from to → Stops (goes_on a) to → Passes (reader from) a to
   pub refused : (ts : Tokens) (at : ℕ) → Guard ts → reader ts ≡ Err (Parse at) → Refused (Is false) reader ts at
   pub deepened : (ts : Tokens) (at : ℕ) → Guard ts → reader ts ≡ Err (TooDeep at) → Deepened (Is false) reader ts at
+  -- it never answers that memory ran out
+  pub enough : (ts : Tokens) → Guard ts → reader ts ≡ Err Memory → ⊥
   pub some : Phrase (Is false)
 
 -- ---- relations of what readers are made of

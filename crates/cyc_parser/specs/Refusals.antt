@@ -1,8 +1,9 @@
 -- Why tokens are no program, and where.
-use Rattle.std.specs.Prelude.{◌≡◌, ℕ, ◌<◌, [], ◌∷◌, ◌++◌}
+use Rattle.std.specs.Prelude.{◌≡◌, ℕ, ◌<◌, [], ◌∷◌, ◌++◌, Some}
 use Rattle.cyc_lexer.specs.Lexing.{Token}
 use Rattle.cyc_tree.specs.Tree.{Program}
 use Rattle.cyc_tree.specs.Nesting.{nesting, nesting_limit}
+use Rattle.cyc_tree.specs.Depths.{too_deep_at}
 use Rattle.cyc_parser.specs.declared.fault.ParseFault.{ParseFault}
 use Rattle.cyc_parser.specs.declared.fault.ParseFault.TheVariants.{Parse, TooDeep, Memory}
 use Rattle.cyc_parser.specs.Phrases.{Tokens}
@@ -18,6 +19,14 @@ abbrev pub GoNoFurther : (front rest : Tokens) → Type 0
 GoNoFurther front [] = (program : Program) → IsProgram program front → ⊥
 GoNoFurther front (t ∷ others) = BeginAProgram (front ++ t ∷ []) → ⊥
 
+-- a token of these stands at the place
+abbrev pub StandsIn : ℕ → Tokens → Type 0
+StandsIn at tokens = (before : Tokens) × (next : Token) × (others : Tokens) × (tokens ≡ before ++ next ∷ others) × (at ≡ next.at)
+
+-- none of these tokens is in more phrases than may be: in each program that they begin, the first one that is stands behind them
+abbrev pub AreWithin : Tokens → Type 0
+AreWithin front = (program : Program) (ending : Tokens) (at : ℕ) → IsProgram program (front ++ ending) → too_deep_at program ≡ Some at → StandsIn at ending
+
 -- the place of the first token with which the tokens so far begin no program, or the end of the text
 pub record IsUnexpectedAt (tokens : Tokens) (at : ℕ) : Type 0 where
   pub front : Tokens
@@ -27,7 +36,11 @@ pub record IsUnexpectedAt (tokens : Tokens) (at : ℕ) : Type 0 where
   pub begins : BeginAProgram front
   pub no_further : GoNoFurther front rest
 
--- the place of a token up to which the tokens begin a program, but none whose phrases nest within the limit
+-- the same, where no token before it is too deep
+abbrev pub IsUnexpectedFirst : Tokens → ℕ → Type 0
+IsUnexpectedFirst tokens at = (unexpected : IsUnexpectedAt tokens at) × AreWithin unexpected.front
+
+-- the place of a token up to which the tokens begin a program, and which is the first one that is too deep, in each program that they begin
 pub record IsTooDeepAt (tokens : Tokens) (at : ℕ) : Type 0 where
   pub front : Tokens
   pub next : Token
@@ -36,15 +49,16 @@ pub record IsTooDeepAt (tokens : Tokens) (at : ℕ) : Type 0 where
   pub place : at ≡ next.at
   pub begins : BeginAProgram (front ++ next ∷ [])
   pub deep : (program : Program) (ending : Tokens) → IsProgram program (front ++ next ∷ ending) → nesting_limit < nesting program
+  pub first : (program : Program) (ending : Tokens) → IsProgram program (front ++ next ∷ ending) → too_deep_at program ≡ Some at
 
 -- why tokens are refused; nothing is said of want of memory
 abbrev pub IsRefusedFor : ParseFault → Tokens → Type 0
-IsRefusedFor (Parse at) tokens = IsUnexpectedAt tokens at
+IsRefusedFor (Parse at) tokens = IsUnexpectedFirst tokens at
 IsRefusedFor (TooDeep at) tokens = IsTooDeepAt tokens at
 IsRefusedFor Memory tokens = Unit {0}
 
--- the tokens are a program's: it is refused only for want of memory, or since it nests too deep
+-- the tokens are a program's: it is refused only for want of memory, or since it nests too deep, at the first token that is so
 abbrev pub IsRefusedProgram : Program → ParseFault → Type 0
 IsRefusedProgram program (Parse at) = ⊥
-IsRefusedProgram program (TooDeep at) = nesting_limit < nesting program
+IsRefusedProgram program (TooDeep at) = (nesting_limit < nesting program) × (too_deep_at program ≡ Some at)
 IsRefusedProgram program Memory = Unit {0}

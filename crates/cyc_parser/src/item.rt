@@ -1,12 +1,12 @@
 // Items and programs.
 
-ghost use Rattle.std.specs.Prelude.{◌≡◌, ◌<◌, ◌≤◌, ℕ, IfOk, IfErr, OnOk, MatchResult, length, map};
+ghost use Rattle.std.specs.Prelude.{◌≡◌, ◌<◌, ◌≤◌, ◌^◌, ℕ, IfOk, IfErr, OnOk, MatchResult, length, map};
 ghost use Rattle.cyc_lexer.specs.Tokens.{token_tree};
 ghost use Rattle.cyc_tree.specs.Tree.{Program as Tree};
 ghost use Rattle.cyc_tree.specs.Nesting.{nesting, nesting_limit};
 ghost use Rattle.cyc_parser.specs.Phrases.{Tokens};
 ghost use Rattle.cyc_parser.specs.Grammar.{IsProgram};
-ghost use Rattle.cyc_parser.specs.Refusals.{IsUnexpectedAt, IsRefusedFor, IsRefusedProgram};
+ghost use Rattle.cyc_parser.specs.Refusals.{IsUnexpectedAt, IsUnexpectedFirst, IsTooDeepAt, IsRefusedFor, IsRefusedProgram};
 ghost use Rattle.cyc_tree.specs.View.{type_tree, member_tree, structure_tree, initial_tree, program_item_tree};
 ghost use Rattle.cyc_parser.specs.Reader.{Gives};
 ghost use Rattle.cyc_parser.specs.ReadPrograms.{member as member_at, members as members_at, tagged_union as tagged_union_at, initial as initial_at, typed as typed_at, struct_or_typed as struct_or_typed_at, item as item_at, program as program_at};
@@ -159,8 +159,9 @@ fn items(alloc: Global, cursor: &mut Cursor<'_, '_>) -> Parsed<Vec<Item>>
 /// The program that the tokens spell.
 ///
 /// Refuses with `Parse` at the first token with which the tokens so far begin no program, or at the
-/// end of the text; with `TooDeep` at the first token that over 256 phrases contain; and with
-/// `Memory` where no host memory is left.
+/// end of the text, where no token before it is in over 256 phrases; with `TooDeep` at the first
+/// token that is, where the tokens up to it begin a program; and with `Memory` where no host memory
+/// is left.
 pub fn parse(alloc: Global, tokens: &[Token<'_>]) -> Result<Program, ParseFault>
     ensures found { IfOk result (λ program. IsProgram program (map token_tree tokens.entry.now)) }
     // no token of it is in over 256 phrases
@@ -181,7 +182,10 @@ pub fn one_program()
     ensures { (tokens : Tokens) (program other : Tree) → IsProgram program tokens → IsProgram other tokens → program ≡ other }
 {}
 
-/// Tokens that are no program have one first token that no program has there.
+/// Tokens have one fault: there is one first token at most that no program has there, and one that is
+/// the first in over 256 phrases, and none have both, if their places are below 4,294,967,296.
 pub fn one_place()
-    ensures { (tokens : Tokens) (at other : ℕ) → IsUnexpectedAt tokens at → IsUnexpectedAt tokens other → at ≡ other }
+    ensures unexpected { (tokens : Tokens) (at other : ℕ) → IsUnexpectedAt tokens at → IsUnexpectedAt tokens other → at ≡ other }
+    ensures too_deep { (tokens : Tokens) (at other : ℕ) → IsTooDeepAt tokens at → IsTooDeepAt tokens other → at ≡ other }
+    ensures not_both { (tokens : Tokens) (at other : ℕ) → IsUnexpectedFirst tokens at → IsTooDeepAt tokens other → other < 2 ^ 32 → ⊥ }
 {}

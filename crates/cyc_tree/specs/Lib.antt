@@ -2,5 +2,6 @@ pub mod Tree
 pub mod View
 pub mod Places
 pub mod Nesting
+pub mod Depths
 pub mod StoredNames
 pub mod Stored

@@ -8,6 +8,7 @@
 
 mod expression;
 mod item;
+mod laws;
 mod name;
 mod nested;
 mod statement;
@@ -18,6 +19,7 @@ pub use expression::{Expression, Link, Made, Operator, Prefix, Suffix};
 pub use item::{
     Bound, Constant, END_OF_TEXT, Function, Global, Initial, Item, Member, Program, Structure,
 };
+pub use laws::deepest;
 pub use name::{Base, Name, Pointer, RegionName, Sign, TypeName};
 pub use nested::nesting;
 pub use statement::{BlockItem, Clause, Declaration, Initializer, Pattern, Statement};

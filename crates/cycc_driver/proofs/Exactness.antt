@@ -6,7 +6,7 @@ use Rattle.cyc_lexer.specs.Lexing.{Token, AreTokens}
 use Rattle.cyc_lexer.proofs.TextSteps.{same_tokens, tokens_or_fault, refused_within}
 use Rattle.cyc_tree.specs.Tree.{Program}
 use Rattle.cyc_parser.specs.Grammar.{IsProgram}
-use Rattle.cyc_parser.specs.Refusals.{IsUnexpectedAt, IsTooDeepAt, GoNoFurther}
+use Rattle.cyc_parser.specs.Refusals.{IsUnexpectedFirst, IsTooDeepAt, GoNoFurther}
 use Rattle.cyc_parser.proofs.WholePrograms.{one_program}
 use Rattle.region_types.specs.Faults.{first_fault}
 use Rattle.region_types.specs.declared.fault.FaultKind.{FaultKind}
@@ -21,7 +21,7 @@ pub same_program : (text : List ℕ) (p q : Program) → IsTextOf text p → IsT
 same_program text p q one other =
     one_program one.tokens p q one.parsed (subst (IsProgram q) (same_tokens text other.tokens one.tokens other.lexed one.lexed) other.parsed)
 
-lexed : (text : List ℕ) (p : Program) (place : Place) → IsTextOf text p → IsNoTokens text place → ⊥
+pub lexed : (text : List ℕ) (p : Program) (place : Place) → IsTextOf text p → IsNoTokens text place → ⊥
 lexed text p place spelled none = tokens_or_fault text spelled.tokens none.at spelled.lexed (refused_within text none.at spelled.within none.refused)
 
 further : (p : Program) (front rest : List Token) → IsProgram p (front ++ rest) → GoNoFurther front rest → ⊥
@@ -31,19 +31,19 @@ further p front (t ∷ others) phrase stops = stops (p, others, subst (IsProgram
 spells : (text : List ℕ) (p : Program) (tokens : List Token) → IsTextOf text p → AreTokens text tokens → IsProgram p tokens
 spells text p tokens spelled found = subst (IsProgram p) (same_tokens text spelled.tokens tokens spelled.lexed found) spelled.parsed
 
-unexpected : (text : List ℕ) (p : Program) (place : Place) → IsTextOf text p → AreNoProgram text IsUnexpectedAt place → ⊥
+pub unexpected : (text : List ℕ) (p : Program) (place : Place) → IsTextOf text p → AreNoProgram text IsUnexpectedFirst place → ⊥
 unexpected text p place spelled none =
-    let u = none.refused in
+    let u = none.refused.0 in
     further p u.front u.rest (subst (IsProgram p) u.parts (spells text p none.tokens spelled none.lexed)) u.no_further
 
-too_deep : (text : List ℕ) (p : Program) (place : Place) → IsTextOf text p → AreNoProgram text IsTooDeepAt place → ⊥
+pub too_deep : (text : List ℕ) (p : Program) (place : Place) → IsTextOf text p → AreNoProgram text IsTooDeepAt place → ⊥
 too_deep text p place spelled none =
     let d = none.refused in
     let over = d.deep p d.others (subst (IsProgram p) d.parts (spells text p none.tokens spelled none.lexed)) in
     let within = spelled.nested in
     omega (arith, over, within)
 
-broken : (text : List ℕ) (p : Program) (k : FaultKind) (place : Place) → IsAcceptedAs text p → IsBroken text k place → ⊥
+pub broken : (text : List ℕ) (p : Program) (k : FaultKind) (place : Place) → IsAcceptedAs text p → IsBroken text k place → ⊥
 broken text p k place accepted breaks =
     let same = same_program text p breaks.program accepted.spelled breaks.spelled in
     let none = sym accepted.accepted ∙ ap first_fault same ∙ breaks.first in

@@ -10,3 +10,4 @@ pub mod CodeBounds
 pub mod Refusing
 pub mod Executions
 pub mod Exactness
+pub mod OneFault

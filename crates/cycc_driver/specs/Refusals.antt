@@ -1,10 +1,10 @@
 -- Why a text is refused, and where.
-use Rattle.std.specs.Prelude.{◌≡◌, ℕ, ◌+◌, ◌*◌, ◌<◌, ◌≤◌, List, length, Some}
+use Rattle.std.specs.Prelude.{◌≡◌, ◌⊎◌, ℕ, ◌+◌, ◌*◌, ◌<◌, ◌≤◌, List, length, Some}
 use Rattle.cyc_lexer.specs.Lexing.{Token, AreTokens, text_limit}
 use Rattle.cyc_lexer.specs.Tokens.{IsRefusedAt}
 use Rattle.cyc_lexer.specs.Places.{line_of, column_of}
 use Rattle.cyc_image.specs.Format.{code_limit}
-use Rattle.cyc_parser.specs.Refusals.{IsUnexpectedAt, IsTooDeepAt}
+use Rattle.cyc_parser.specs.Refusals.{IsUnexpectedFirst, IsTooDeepAt}
 use Rattle.cyc_tree.specs.Tree.{Program}
 use Rattle.region_types.specs.Faults.{first_fault}
 use Rattle.region_types.specs.declared.fault.FaultKind.{FaultKind}
@@ -45,7 +45,7 @@ pub record IsBroken (text : List ℕ) (k : FaultKind) (place : Place) : Type 0 w
 -- Why a text is refused before its code is made. No rule of flow is brought yet.
 abbrev pub IsRefusedFor : CompileFault → List ℕ → Type 0
 IsRefusedFor (fault.Lex place) text = IsNoTokens text place
-IsRefusedFor (fault.Parse place) text = AreNoProgram text IsUnexpectedAt place
+IsRefusedFor (fault.Parse place) text = AreNoProgram text IsUnexpectedFirst place
 IsRefusedFor (fault.TooDeep place) text = AreNoProgram text IsTooDeepAt place
 IsRefusedFor (fault.Name place) text = IsBroken text kind.Name place
 IsRefusedFor (fault.Typing place) text = IsBroken text kind.Typing place
@@ -87,3 +87,7 @@ HasNoImageFor (fault.Copy place) text = IsRefusedFor (fault.Copy place) text
 HasNoImageFor (fault.Size place) text = IsRefusedFor (fault.Size place) text
 HasNoImageFor (fault.TooLarge place) text = IsTooLarge text place
 HasNoImageFor fault.Memory text = Unit {0}
+
+-- one fault, want of memory apart
+abbrev pub AreSame : CompileFault → CompileFault → Type 0
+AreSame f g = (f ≡ fault.Memory) ⊎ ((g ≡ fault.Memory) ⊎ (f ≡ g))

@@ -5,7 +5,7 @@ ghost use Rattle.cyc_tree.specs.Tree.{Program as Tree};
 ghost use Rattle.cyc_image.specs.Format.{Contents, Fits, code_limit};
 ghost use Rattle.unique_flow.specs.Accepted.{IsAccepted};
 ghost use Rattle.cycc_driver.specs.Texts.{IsTextOf, IsAcceptedAs};
-ghost use Rattle.cycc_driver.specs.Refusals.{IsRefusedFor, HasNoImageFor, code_bound};
+ghost use Rattle.cycc_driver.specs.Refusals.{IsRefusedFor, HasNoImageFor, AreSame, code_bound};
 ghost use Rattle.cycc_driver.specs.Refused.{HasNoCodeFor};
 ghost use Rattle.cycc_driver.specs.Outcome.{IsCode, IsImplementedBy, IsTextImage};
 
@@ -81,6 +81,12 @@ pub fn accepted_or_refused()
         → fault ≡ CompileFault.Memory }
     ensures compiled { (text : List ℕ) (program : Tree) (fault : CompileFault) (accepted : IsAcceptedAs text program) → HasNoImageFor fault text
         → (fault ≡ CompileFault.Memory) ⊎ (code_limit < code_bound accepted.spelled.tokens) }
+{}
+
+/// A text is refused for one fault, want of memory apart: of `check` as of `compile`.
+pub fn one_fault()
+    ensures checked { (text : List ℕ) (fault other : CompileFault) → IsRefusedFor fault text → IsRefusedFor other text → AreSame fault other }
+    ensures compiled { (text : List ℕ) (fault other : CompileFault) → HasNoImageFor fault text → HasNoImageFor other text → AreSame fault other }
 {}
 
 /// The code of an accepted program.

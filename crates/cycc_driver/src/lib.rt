@@ -10,7 +10,7 @@ mod evaluating;
 mod executing;
 mod fault;
 
-pub use compiling::{accepted_or_refused, check, compile};
+pub use compiling::{accepted_or_refused, check, compile, one_fault};
 pub use cyc_host::{Ending, run};
 pub use cyc_image::{Image, ImageFault, load};
 pub use cyc_words::{Counted, Input, Kind, MachineFault, Output};

@@ -14,7 +14,7 @@ use Rattle.cyc_parser.specs.ReadExpressions.{any_of_by, assigned_by, assignment_
 use Rattle.cyc_parser.specs.Exact.{Exact, Anything, Stops, Whole, Then, Either, IsDone, ends, always}
 use Rattle.cyc_parser.proofs.Exact.{done_exact, exact_as, exact_wider}
 use Rattle.cyc_parser.proofs.ExactTypes.{sign_exact}
-use Rattle.cyc_parser.proofs.ExactComposed.{then_exact, meets_exact, option_exact, begins_with, begins_stops, stops_within}
+use Rattle.cyc_parser.proofs.ExactComposed.{then_exact, meets_exact, option_exact, begins_with, begins_stops, stops_wider}
 use Rattle.cyc_parser.proofs.ExactOperands.{IsExpressionAt, IsUnaryAt, IsOperandAt, Made, made_of, within, within_both, never_on, continues_wider}
 use Rattle.cyc_parser.proofs.ExactChains.{level_low}
 use Rattle.cyc_parser.proofs.ExactJoins.{any_of_exact}
@@ -73,7 +73,7 @@ module _ (d : ℕ) (expr : Tokens → Outcome Expression) (inner : Exact Anythin
       → Stops (continues 1) mid
   assigned_meets b first e mid to (inl h) s = begins_stops (is_sign sign_of.Assign) (continues 1) assign_apart mid (value_begins first b e mid to h.1)
   assigned_meets b first e mid to (inr h) s =
-      stops_within (continues 1) (continues 0) (continues_wider 1 0 (omega arith)) mid (subst (Stops (continues 0)) (sym h.1) s)
+      stops_wider (continues 1) (continues 0) (continues_wider 1 0 (omega arith)) mid (subst (Stops (continues 0)) (sym h.1) s)
 
   -- ---- an operand, and what is assigned to it
 

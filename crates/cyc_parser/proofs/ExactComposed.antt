@@ -1,26 +1,17 @@
 -- Steps of the proofs that readers are exact.
 use Rattle.std.proofs.Common.{◌≡◌, Bool, true, false, [], ◌∷◌, refl, sym, ap, subst, ◌∙◌, true≢false}
-use Rattle.std.proofs.lemmas.Bool.{false_from_ne_true}
 use Rattle.cyc_lexer.specs.Lexing.{Token}
 use Rattle.cyc_lexer.specs.declared.token.TokenKind.{TokenKind}
 use Rattle.cyc_parser.specs.Phrases.{Tokens}
 use Rattle.cyc_parser.specs.Reader.{Outcome, done, read, choose, next_is}
 use Rattle.cyc_parser.specs.Exact.{Stops, Exact, Anything, ends, always, IsDone, Then, Either}
+pub use Rattle.cyc_parser.proofs.ExactParts.{stops_never, stops_wider, begins_stops}
 use Rattle.cyc_parser.proofs.Exact.{read_exact, choose_exact, done_exact, made_exact, exact_on, exact_wider}
 
 -- ---- next tokens
 
-pub stops_within : (f g : TokenKind → Bool) → ((k : TokenKind) → f k ≡ true → g k ≡ true) → (ts : Tokens) → Stops g ts → Stops f ts
-stops_within f g within [] h = refl
-stops_within f g within (t ∷ ts) h = false_from_ne_true (f t.kind) (λ e. true≢false (sym (within t.kind e) ∙ h))
-
-pub begins_stops : (f g : TokenKind → Bool) → ((k : TokenKind) → f k ≡ true → g k ≡ false) → (ts : Tokens) → next_is f ts ≡ true → Stops g ts
-begins_stops f g apart [] h = refl
-begins_stops f g apart (t ∷ ts) h = apart t.kind h
-
 pub stops_ends : {A : Type 0} (a : A) (ts : Tokens) → Stops (ends a) ts
-stops_ends a [] = refl
-stops_ends a (t ∷ ts) = refl
+stops_ends a ts = stops_never ts
 
 pub begins_with : (test : TokenKind → Bool) (from : Tokens) (t : Token) (rest : Tokens) → from ≡ t ∷ rest → test t.kind ≡ true
     → next_is test from ≡ true
@@ -35,7 +26,7 @@ stops_at test from t rest e h = ap (next_is test) e ∙ h
 
 -- behind nothing
 pub stops_behind : (f g : TokenKind → Bool) → ((k : TokenKind) → f k ≡ true → g k ≡ true) → {from to : Tokens} → from ≡ to → Stops g to → Stops f from
-stops_behind f g within {from} {to} e h = stops_within f g within from (subst (Stops g) (sym e) h)
+stops_behind f g within {from} {to} e h = stops_wider f g within from (subst (Stops g) (sym e) h)
 
 -- ---- one phrase and then another one, where nothing goes on with the first
 
@@ -79,7 +70,7 @@ option_exact test goes_on Is p each x begins within =
     either_exact test goes_on Is p each (IsDone x) (done x)
     (exact_wider Anything (IsDone x) ends goes_on (done x) (done_exact x) (λ a k h. absurd (true≢false (sym h))))
     begins (λ b a from to w s.
-    stops_within test (goes_on x) within from (subst (Stops (goes_on x)) (sym w.1) (subst (λ y. Stops (goes_on y) to) w.0 s)))
+    stops_wider test (goes_on x) within from (subst (Stops (goes_on x)) (sym w.1) (subst (λ y. Stops (goes_on y) to) w.0 s)))
 
 -- ---- a value made from a phrase
 

@@ -13,7 +13,7 @@ use Rattle.cyc_parser.specs.ReadExpressions.{Reads, parenthesized_by}
 use Rattle.cyc_parser.specs.ReadStatements.{otherwise_by, conditional_by, repeated_by}
 use Rattle.cyc_parser.specs.Exact.{Found, Exact, Stops, Anything, ends, Whole, Within, IsDone, Then, Either}
 use Rattle.cyc_parser.proofs.Exact.{read_exact, exact_as, exact_on, exact_wider, done_exact}
-use Rattle.cyc_parser.proofs.ExactParts.{bind_ok, ok_is, which, stops_wider}
+use Rattle.cyc_parser.proofs.ExactParts.{bind_ok, no_fault, ok_is, which, stops_wider}
 use Rattle.cyc_parser.proofs.ExactChoice.{choose_first, choose_second}
 use Rattle.cyc_parser.proofs.ExactTypes.{keyword_exact}
 use Rattle.cyc_parser.proofs.ExactExpressions.{IsParenthesizedAt}
@@ -90,8 +90,7 @@ module _ (d : ℕ) (stmt : Reads Statement) (inner : Exact Anything (IsStatement
 
       never_fails : (ts : Tokens) (fault : ParseFault) → Stops (takes_else body) ts → otherwise_by stmt at condition body ts ≡ Err fault → ⊥
       never_fails ts fault guard e =
-          let reads : otherwise_by stmt at condition body ts ≡ Ok (If at condition body, ts) = open_reads ts (open_stops body opens ts guard) in
-          let both : Ok (If at condition body, ts) ≡ Err fault = sym reads ∙ e in cc
+          no_fault (If at condition body, ts) fault (sym (open_reads ts (open_stops body opens ts guard)) ∙ e)
 
       open_exact : Exact (Stops (takes_else body)) IsOtherwise takes_else (otherwise_by stmt at condition body)
       open_exact = record {

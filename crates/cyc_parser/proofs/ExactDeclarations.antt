@@ -21,7 +21,7 @@ use Rattle.cyc_parser.proofs.Exact.{exact_as, exact_wider, done_exact}
 use Rattle.cyc_parser.proofs.ExactTypes.{keyword_exact, name_exact, one_region_exact, type_exact, element_count_exact}
 use Rattle.cyc_parser.proofs.ExactExpressions.{IsExpressionAt}
 use Rattle.cyc_parser.proofs.StatementsWithin.{IsDeclarationAt, within_none}
-use Rattle.cyc_parser.proofs.ExactUnguarded.{next_wider, read_on, read_closed, BehindSign, BehindKeyword, sign_then, keyword_then, choose_on, Made, make_on, make_closed, EndsWith, end_with}
+use Rattle.cyc_parser.proofs.ExactUnguarded.{begins_within, read_on, read_closed, BehindSign, BehindKeyword, sign_then, keyword_then, choose_on, Made, make_on, make_closed, EndsWith, end_with}
 
 -- ---- a name in parentheses
 
@@ -248,7 +248,7 @@ module _ (d : ℕ) (expr : Reads Expression) (each : Exact Anything (IsExpressio
       (IsDeclarationAt d) part_into part_back
 
 pub declaration_begins : (x : Declaration) (from to : Tokens) → IsDeclaration x from to → next_is begins_declaration from ≡ true
-declaration_begins (Local t n i) from to w = next_wider begins_type begins_declaration type_declares from (type_begins t from w.0 w.3)
+declaration_begins (Local t n i) from to w = begins_within begins_type begins_declaration type_declares from (type_begins t from w.0 w.3)
 declaration_begins (tree.Region at r handle) from to w = rw w.3.1 refl
 declaration_begins (Open at r handle key) from to w = rw w.6.1 refl
 declaration_begins (Alias at r t alias pointer) from to w = rw w.7.1 refl

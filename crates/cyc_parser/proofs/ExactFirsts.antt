@@ -17,7 +17,7 @@ use Rattle.cyc_parser.specs.Exact.{Exact, Anything, Stops, Whole, Then, Either, 
 use Rattle.cyc_parser.proofs.Exact.{exact_as}
 use Rattle.cyc_parser.proofs.ExactTypes.{sign_exact, name_exact}
 use Rattle.cyc_parser.proofs.ExactParts.{or_first, or_second}
-use Rattle.cyc_parser.proofs.ExactComposed.{then_exact, either_exact, option_exact, begins_with, begins_stops, stops_within}
+use Rattle.cyc_parser.proofs.ExactComposed.{then_exact, either_exact, option_exact, begins_with, begins_stops, stops_wider}
 use Rattle.cyc_parser.proofs.ExactOperands.{IsExpressionAt, IsParenthesizedAt, IsOperandAt, Made, made_of, within_always, within, never_on}
 use Rattle.cyc_parser.proofs.ExactPrimaries.{IsLiteral, PrimaryRead, inside_exact, inside_begins, primary_exact, primary_stops}
 use Rattle.cyc_parser.proofs.ExactArguments.{ArgumentsRead, arguments_exact, arguments_begin, arguments_into, arguments_back}
@@ -81,7 +81,7 @@ module _ (d : ℕ) (expr : Tokens → Outcome Expression) (inner : Exact Anythin
   tail_apart n b x from to (inl h) s =
       begins_stops (is_sign sign_of.Dot) (is_sign sign_of.LeftParenthesis) dot_no_left from (member_begins n b x from to h)
   tail_apart n b x from to (inr h) s =
-      stops_within (is_sign sign_of.LeftParenthesis) (first_on (Variable n, None))
+      stops_wider (is_sign sign_of.LeftParenthesis) (first_on (Variable n, None))
       (λ k g. or_first (is_sign sign_of.LeftParenthesis k) (is_sign sign_of.Dot k) g) from
       (subst (Stops (first_on (Variable n, None))) (sym h.1) (subst (λ y. Stops (first_on y) to) h.0 s))
 

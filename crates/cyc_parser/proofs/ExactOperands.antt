@@ -13,7 +13,8 @@ use Rattle.cyc_parser.specs.Reader.{Outcome, done, read, many, behind, sign, nex
 use Rattle.cyc_parser.specs.Exact.{Exact, Anything, Stops, Within, Whole, Then, Rows, ends, always}
 use Rattle.cyc_parser.proofs.Exact.{made_exact, many_exact}
 use Rattle.cyc_parser.proofs.ExactTypes.{sign_exact}
-use Rattle.cyc_parser.proofs.ExactComposed.{stops_within, begins_with, then_exact}
+pub use Rattle.cyc_parser.proofs.ExactComposed.{Made}
+use Rattle.cyc_parser.proofs.ExactComposed.{stops_wider, begins_with, then_exact}
 use Rattle.cyc_parser.proofs.ExactBegins.{IsUnary}
 
 -- an expression in which at most so many phrases nest (or any)
@@ -45,9 +46,6 @@ within_always true k l h = h
 within_always false k l h = tt
 
 -- ---- a value made from a phrase
-
-abbrev pub Made : {A B : Type 0} → (A → B) → (Bool → A → Tokens → Tokens → Type 0) → Bool → B → Tokens → Tokens → Type 0
-Made f Is b c from to = (a : _) × (c ≡ f a) × Is b a from to
 
 -- where nothing goes on
 pub made_of : {A B : Type 0} (Is : Bool → A → Tokens → Tokens → Type 0) (goes_on : A → TokenKind → Bool) (p : Tokens → Outcome A)
@@ -86,7 +84,7 @@ pub rows_stop : {A : Type 0} (Is : Bool → A → Tokens → Tokens → Type 0) 
     → ((b : Bool) (a : A) (from to : Tokens) → Is b a from to → next_is test from ≡ true)
     → ((ts : Tokens) → next_is test ts ≡ true → Stops before ts) → ((k : TokenKind) → before k ≡ true → after k ≡ true)
     → (b : Bool) (xs : List A) (mid to : Tokens) → Rows Is b xs mid to → Stops after to → Stops before mid
-rows_stop Is test before after begins apart wider b [] mid to h s = stops_within before after wider mid (subst (Stops after) (sym h) s)
+rows_stop Is test before after begins apart wider b [] mid to h s = stops_wider before after wider mid (subst (Stops after) (sym h) s)
 rows_stop Is test before after begins apart wider b (x ∷ xs) mid to h s = apart mid (begins b x mid h.0 h.1)
 
 -- ---- operands behind a sign, where `nest` counts how deep one nests, and `nests` how deep all

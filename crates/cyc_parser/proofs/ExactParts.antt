@@ -56,6 +56,11 @@ pub false_of : (b c : Bool) → (b ≡ true → c ≡ true) → c ≡ false → 
 false_of true c h g = absurd (let bad = h refl in cc)
 false_of false c h g = refl
 
+-- nothing is a token that goes on
+pub stops_never : (ts : Tokens) → next_is (λ k. false) ts ≡ false
+stops_never [] = refl
+stops_never (t ∷ ts) = refl
+
 -- where more tokens would go on, fewer do
 pub stops_wider : (goes_on wider : TokenKind → Bool) → ((k : TokenKind) → goes_on k ≡ true → wider k ≡ true) → (ts : Tokens) → Stops wider ts
     → Stops goes_on ts

@@ -19,7 +19,7 @@ use Rattle.cyc_parser.specs.ReadExpressions.{with_member, postfix_by}
 use Rattle.cyc_parser.specs.Exact.{Exact, Anything, Stops, Within, Then, Rows, always}
 use Rattle.cyc_parser.proofs.Exact.{read_exact, exact_as, made_exact}
 use Rattle.cyc_parser.proofs.ExactParts.{ok_is}
-use Rattle.cyc_parser.proofs.ExactComposed.{stops_within, stops_ends}
+use Rattle.cyc_parser.proofs.ExactComposed.{stops_wider, stops_ends}
 use Rattle.cyc_parser.proofs.ExactOperands.{IsExpressionAt, IsOperandAt, Made, within_both, within}
 use Rattle.cyc_parser.proofs.ExactPrimaries.{IsLiteral, PrimaryRead, primary_exact}
 use Rattle.cyc_parser.proofs.ExactFirsts.{first_on, IsFirst, first_exact}
@@ -179,14 +179,14 @@ module _ (d : ℕ) (expr : Tokens → Outcome Expression) (inner : Exact Anythin
   closed_meets : (b : Bool) (xs : List OneSuffix) (mid to : Tokens) → Rows (IsSuffix d expr inner) b xs mid to → Stops (continues unary_level) to
       → next_is (is_sign sign_of.LeftParenthesis) mid ≡ false
   closed_meets b [] mid to h s =
-      stops_within (is_sign sign_of.LeftParenthesis) (continues unary_level) left_continues mid (subst (Stops (continues unary_level)) (sym h) s)
+      stops_wider (is_sign sign_of.LeftParenthesis) (continues unary_level) left_continues mid (subst (Stops (continues unary_level)) (sym h) s)
   closed_meets b (x ∷ xs) mid to h s = suffix_next d expr inner (is_sign sign_of.LeftParenthesis) false refl refl refl b x mid h.0 h.1
 
   open_meets : (n : Name) (b : Bool) (xs : List OneSuffix) (mid to : Tokens) → Rows (IsSuffix d expr inner) b xs mid to → NoDot xs
       → Stops (continues unary_level) to
       → next_is (first_on (Variable n, None)) mid ≡ false
   open_meets n b [] mid to h none s =
-      stops_within (first_on (Variable n, None)) (continues unary_level) dot_continues mid (subst (Stops (continues unary_level)) (sym h) s)
+      stops_wider (first_on (Variable n, None)) (continues unary_level) dot_continues mid (subst (Stops (continues unary_level)) (sym h) s)
   open_meets n b (OneSuffix.Index e ∷ xs) mid to h none s = ap (next_is (first_on (Variable n, None))) h.1.2.1.1
   open_meets n b (OneSuffix.Dot m ∷ xs) mid to h none s = absurd none
   open_meets n b (OneSuffix.Arrow m ∷ xs) mid to h none s = ap (next_is (first_on (Variable n, None))) h.1.1.1.1

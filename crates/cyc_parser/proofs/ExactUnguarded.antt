@@ -1,23 +1,15 @@
 -- Readers that are made of exact ones, where no guard is needed.
-use Rattle.std.proofs.Common.{◌≡◌, Bool, true, false, [], ◌∷◌, refl}
+use Rattle.std.proofs.Common.{◌≡◌, Bool, true, false, refl}
 use Rattle.cyc_lexer.specs.declared.token.Keyword.{Keyword}
 use Rattle.cyc_lexer.specs.declared.token.Sign.{Sign}
 use Rattle.cyc_lexer.specs.declared.token.TokenKind.{TokenKind}
 use Rattle.cyc_parser.specs.Phrases.{Tokens, IsSign, IsKeyword, SignAt, KeywordAt}
 use Rattle.cyc_parser.specs.Reader.{Outcome, done, read, choose, next_is, sign, keyword}
 use Rattle.cyc_parser.specs.Exact.{Exact, Stops, Anything, ends, Whole, Then, Either}
-use Rattle.cyc_parser.proofs.Exact.{read_exact, choose_exact, made_exact, exact_as, exact_on}
+use Rattle.cyc_parser.proofs.Exact.{made_exact, exact_as}
+pub use Rattle.cyc_parser.proofs.ExactComposed.{stops_never, begins_within, Made}
+use Rattle.cyc_parser.proofs.ExactComposed.{meets_exact, either_exact}
 use Rattle.cyc_parser.proofs.ExactTypes.{sign_exact, keyword_exact}
-
--- nothing is a token that goes on
-pub stops_never : (ts : Tokens) → next_is (λ k. false) ts ≡ false
-stops_never [] = refl
-stops_never (t ∷ ts) = refl
-
--- what passes a test passes a wider one
-pub next_wider : (f g : TokenKind → Bool) → ((k : TokenKind) → f k ≡ true → g k ≡ true) → (ts : Tokens) → next_is f ts ≡ true → next_is g ts ≡ true
-next_wider f g within [] h = absurd cc
-next_wider f g within (t ∷ ts) h = within t.kind h
 
 -- ---- one phrase and then another one
 
@@ -27,7 +19,7 @@ pub read_on : {A B : Type 0} {First : Bool → A → Tokens → Tokens → Type 
     → ((b : Bool) (a : A) (c : B) (mid to : Tokens) → Second a b c mid to → Stops (then_on c) to → Stops (goes_on a) mid)
     → Exact Anything (Then First Second) then_on (read p q)
 read_on {First} {goes_on} {p} {Second} {then_on} {q} first second meets =
-    read_exact Anything First goes_on p first (λ a. Anything) Second then_on q second (λ ts a mid guard e. tt) meets
+    meets_exact First goes_on p first Second then_on q second meets
 
 -- the first phrase goes on with nothing
 pub read_closed : {A B : Type 0} {First : Bool → A → Tokens → Tokens → Type 0} {p : Tokens → Outcome A}
@@ -66,15 +58,9 @@ pub choose_on : {A : Type 0} {goes_on : A → TokenKind → Bool} {First : Bool 
     → ((b : Bool) (a : A) (from to : Tokens) → Second b a from to → Stops (goes_on a) to → next_is test from ≡ false)
     → Exact Anything (Either First Second) goes_on (choose test p q)
 choose_on {goes_on} {First} {p} {Second} {q} test first second begins apart =
-    choose_exact Anything test goes_on
-    First p (exact_on Anything (λ ts. Anything ts × (next_is test ts ≡ true)) First goes_on p first (λ ts h. tt))
-    Second q (exact_on Anything (λ ts. Anything ts × (next_is test ts ≡ false)) Second goes_on q second (λ ts h. tt))
-    begins apart
+    either_exact test goes_on First p first Second q second begins apart
 
 -- ---- a value made from a phrase
-
-abbrev pub Made : {A B : Type 0} → (A → B) → (Bool → A → Tokens → Tokens → Type 0) → Bool → B → Tokens → Tokens → Type 0
-Made f Is b c from to = (a : _) × (c ≡ f a) × Is b a from to
 
 pub make_on : {A B : Type 0} {Is : Bool → A → Tokens → Tokens → Type 0} {goes_on : A → TokenKind → Bool} {p : Tokens → Outcome A}
     (f : A → B) (then_on : B → TokenKind → Bool) → Exact Anything Is goes_on p

@@ -13,7 +13,7 @@ use Rattle.cyc_parser.specs.Tests.{continues, is_operator}
 use Rattle.cyc_parser.specs.Reader.{Outcome, done, read, token}
 use Rattle.cyc_parser.specs.ReadExpressions.{operator_of, level_over, links_by, chain_by}
 use Rattle.cyc_parser.specs.Exact.{Exact, Anything, Stops, Rows, always}
-use Rattle.cyc_parser.proofs.ExactComposed.{begins_stops, stops_within}
+use Rattle.cyc_parser.proofs.ExactComposed.{begins_stops, stops_wider}
 use Rattle.cyc_parser.proofs.ExactBegins.{IsUnary}
 use Rattle.cyc_parser.proofs.ExactOperands.{IsUnaryAt, IsOperandAt, continues_wider, rows_stop}
 use Rattle.cyc_parser.proofs.ExactChains.{IsLink, LinkRead, ChainRead, link_back, link_begins, link_exact, operator_stops, goes_on_wider, links}
@@ -78,7 +78,7 @@ module _ (limit n d level : ℕ) (low : 3 ≤ level) (high : level ≤ 10) (oper
       many_goes (is_operator level) (IsLink d level low high) (always (continues (suc level))) link (link_exact d level low high operand each)
       (link_begins d level low high) (λ x. operator_stops d level low high operand each) (continues (suc level)) (λ x k g. g) (link_deep limit n)
       link_goes xs from to h
-      (stops_within (λ k. is_operator level k || continues (suc level) k) (continues level) (goes_on_wider d level low high operand each) to stops)
+      (stops_wider (λ k. is_operator level k || continues (suc level) k) (continues level) (goes_on_wider d level low high operand each) to stops)
 
   -- the level's reader
   abbrev level_read : Tokens → Outcome Expression

@@ -15,7 +15,7 @@ use Rattle.cyc_parser.specs.Reader.{Outcome, done, read, many, behind, sign, nex
 use Rattle.cyc_parser.specs.ReadExpressions.{chain_by, all_of, any_of, all_of_by, any_of_by}
 use Rattle.cyc_parser.specs.Exact.{Exact, Anything, Stops, Then, Rows, always}
 use Rattle.cyc_parser.proofs.ExactTypes.{sign_exact}
-use Rattle.cyc_parser.proofs.ExactComposed.{begins_stops, stops_within, stops_ends}
+use Rattle.cyc_parser.proofs.ExactComposed.{begins_stops, stops_wider, stops_ends}
 use Rattle.cyc_parser.proofs.ExactBegins.{IsUnary}
 use Rattle.cyc_parser.proofs.ExactOperands.{IsUnaryAt, IsOperandAt, Made, IsBehind, behind_begins, behind_exact, continues_wider, rows_stop}
 use Rattle.cyc_parser.proofs.ExactChains.{chain_exact}
@@ -89,7 +89,7 @@ module _ (limit n d level : ℕ) (s : Sign) (join : Expression → List Expressi
       many_goes (is_sign s) IsOther (always (continues (suc level))) (behind s operand)
       (behind_exact s (suc level) inner_nesting operand_nesting refl (λ e es. refl) d (continues (suc level)) operand each)
       other_begins (λ e. apart) (continues (suc level)) (λ e k g. g) (operand_deep limit n) other_goes es from to h
-      (stops_within (λ k. is_sign s k || continues (suc level) k) (continues level) goes_on to stops)
+      (stops_wider (λ k. is_sign s k || continues (suc level) k) (continues level) goes_on to stops)
 
   -- an operand, and the others behind it
   join_goes : (e : Expression) (from to : Tokens)

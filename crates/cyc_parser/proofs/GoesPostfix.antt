@@ -11,7 +11,7 @@ use Rattle.cyc_parser.specs.Reader.{Outcome, done, read, choose, many, sign}
 use Rattle.cyc_parser.specs.ReadTypes.{name}
 use Rattle.cyc_parser.specs.ReadExpressions.{first_by, suffix_by, suffixes_by, suffixed, with_member, postfix_by, expression_at}
 use Rattle.cyc_parser.specs.Exact.{Stops, Rows, ends}
-use Rattle.cyc_parser.proofs.ExactComposed.{stops_within, begins_with}
+use Rattle.cyc_parser.proofs.ExactComposed.{stops_wider, begins_with}
 use Rattle.cyc_parser.proofs.ExactFirsts.{IsFirst, first_on}
 use Rattle.cyc_parser.proofs.ExactSuffixes.{IsSuffix, suffix_exact, suffix_next, suffix_wider}
 use Rattle.cyc_parser.proofs.ExactPostfix.{open_first, tail_rows, second_meets, postfix_back}
@@ -84,7 +84,7 @@ module _ (limit n m : ℕ) (same : n + suc m ≡ limit)
       (first_deeper limit (suffix_starts (n + 1) (suffixes_of xs))) (suffixes_deeper xs)
       (goes_before (many begins_suffix (suffix_by (expression_at m))) (λ others. done (with_member member others)) from xs to (with_member member xs)
       to (first_of deep xs)
-      (rows_go xs from to is (stops_within (λ k. begins_suffix k || false) (continues unary_level)
+      (rows_go xs from to is (stops_wider (λ k. begins_suffix k || false) (continues unary_level)
       (suffix_wider m (expression_at m) (expression_exact m)) to stops)) refl)
 
   -- ---- behind a primary expression

@@ -16,7 +16,7 @@ use Rattle.cyc_parser.specs.ReadExpressions.{literal, parenthesized_by, grouped_
 use Rattle.cyc_parser.specs.ReadExpressions.{first_by, expression_at}
 use Rattle.cyc_parser.specs.Exact.{Stops}
 use Rattle.cyc_parser.proofs.ExactParts.{or_first, or_second}
-use Rattle.cyc_parser.proofs.ExactComposed.{stops_ends, stops_within, begins_with, begins_stops}
+use Rattle.cyc_parser.proofs.ExactComposed.{stops_ends, stops_wider, begins_with, begins_stops}
 use Rattle.cyc_parser.proofs.ExactPrimaries.{IsLiteral, literal_begins, primary_exact}
 use Rattle.cyc_parser.proofs.ExactArguments.{arguments_back, arguments_begin}
 use Rattle.cyc_parser.proofs.ExactFirsts.{first_on, IsFirst, literal_no_name}
@@ -122,10 +122,10 @@ module _ (limit n m : ℕ) (same : n + suc m ≡ limit)
   variable_goes : (v : Name) (ts : Tokens) → Stops (first_on (Variable v, None)) ts → Goes (tail_by v ts) (Variable v, None) ts None
   variable_goes v ts stops =
       goes_second (is_sign sign_of.LeftParenthesis) (call_by v) (other_by v) ts (Variable v, None) ts None
-      (stops_within (is_sign sign_of.LeftParenthesis) (first_on (Variable v, None))
+      (stops_wider (is_sign sign_of.LeftParenthesis) (first_on (Variable v, None))
       (λ k g. or_first (is_sign sign_of.LeftParenthesis k) (is_sign sign_of.Dot k) g) ts stops)
       (goes_second (is_sign sign_of.Dot) (member_by (expression_at m) v) (done (Variable v, None)) ts (Variable v, None) ts None
-      (stops_within (is_sign sign_of.Dot) (first_on (Variable v, None))
+      (stops_wider (is_sign sign_of.Dot) (first_on (Variable v, None))
       (λ k g. or_second (is_sign sign_of.LeftParenthesis k) (is_sign sign_of.Dot k) g) ts stops) refl)
 
   call_goes : (v : Name) (es : Expressions) (from mid to : Tokens) → IsSign sign_of.LeftParenthesis from mid → AreArguments es mid to

@@ -2,7 +2,6 @@
 use Rattle.std.proofs.Common.{◌≡◌, ◌<◌, ℕ, List, [], ◌∷◌, ◌++◌, length, map, true, Ok, sym, ap, subst, ◌∙◌}
 use Rattle.cyc_lexer.specs.declared.token.Sign.TheVariants as sign_of
 use Rattle.cyc_parser.specs.declared.fault.ParseFault.{ParseFault}
-use Rattle.cyc_parser.specs.declared.fault.ParseFault.TheVariants.{Parse, TooDeep, Memory}
 use Rattle.cyc_parser.specs.Phrases.{Tokens}
 use Rattle.cyc_parser.specs.Tests.{is_sign}
 use Rattle.cyc_parser.specs.Reader.{◌>>=◌, Outcome, Fails, many, next_is, sign, behind}
@@ -26,9 +25,3 @@ pub comma_fails : {A : Type 0} (p : Tokens → Outcome A) (xs : List A) (at : �
 comma_fails p xs at ts mid fault whole next comma fails before =
     fails_so (is_sign sign_of.Comma) (behind sign_of.Comma p) xs ts fault whole next
     (subst (λ outcome. Fails fault (outcome >>= λ y. p y.1)) (sym comma) fails) before
-
--- what was refused stays refused, whatever would have been read behind it
-pub fails_before : {A B : Type 0} (fault : ParseFault) (outcome : Outcome A) (rest : A × Tokens → Outcome B) → Fails fault outcome → Fails fault (outcome >>= rest)
-fails_before Memory outcome rest fails = tt
-fails_before (Parse at) outcome rest fails = ap (λ o. o >>= rest) fails
-fails_before (TooDeep at) outcome rest fails = ap (λ o. o >>= rest) fails

@@ -10,7 +10,7 @@ use Rattle.cyc_parser.specs.Tests.{begins_type}
 use Rattle.cyc_parser.specs.Reader.{◌>>=◌, Outcome, Fails, next_is, many, read, sign, done}
 use Rattle.cyc_parser.specs.ReadPrograms.{member, members}
 use Rattle.cyc_parser.proofs.ReadLoops.{with_front, pushed, fails_so, is_done}
-use Rattle.cyc_parser.proofs.ReadLists.{fails_before}
+use Rattle.cyc_parser.proofs.ReadSteps.{first_fails}
 
 -- what is read yet, behind the members that were read
 abbrev pub others : List code_member.Member → Tokens → Outcome (List Member)
@@ -46,7 +46,7 @@ one_more m ms all ts to whole push next one shorter before =
 pub refused : (ms : List code_member.Member) (ts : Tokens) (fault : ParseFault)
     → next_is begins_type ts ≡ true → Fails fault (member ts) → Fails fault (others ms ts >>= closed)
 refused ms ts fault next fails =
-    fails_before fault (others ms ts) closed (fails_so begins_type member (map member_tree ms) ts fault (others ms ts) next fails refl)
+    first_fails fault (others ms ts) closed (fails_so begins_type member (map member_tree ms) ts fault (others ms ts) next fails refl)
 
 -- there is no member left
 pub ended : (ms : List code_member.Member) (ts : Tokens) (whole : Outcome (List Member))

@@ -14,7 +14,7 @@ use Rattle.cyc_parser.specs.Tests.{is_sign, is_keyword, begins_declaration, begi
 use Rattle.cyc_parser.specs.Reader.{next_is}
 use Rattle.cyc_parser.proofs.StatementsWithin.{goes_on_in_block}
 use Rattle.cyc_parser.proofs.ExactParts.{or_second}
-use Rattle.cyc_parser.proofs.ExactUnguarded.{next_wider}
+use Rattle.cyc_parser.proofs.ExactUnguarded.{begins_within}
 use Rattle.cyc_parser.proofs.ExactExpressions.{expression_begins}
 use Rattle.cyc_parser.proofs.ExactDeclarations.{declaration_begins}
 
@@ -153,8 +153,8 @@ statement_item k h = or_second (begins_declaration k) (begins_statement k) h
 pub statement_begins : (s : Statement) (from to : Tokens) → IsStatement s from to → next_is begins_statement from ≡ true
 statement_begins (Empty at) from to w = rw w.1 refl
 statement_begins (Block at items) from to w = rw w.2.1 refl
-statement_begins (Run e) from to w = next_wider begins_unary begins_statement unary_begins from (expression_begins e from w.0 w.1)
-statement_begins (Exchange left right) from to w = next_wider begins_unary begins_statement unary_begins from (expression_begins left from w.0 w.3)
+statement_begins (Run e) from to w = begins_within begins_unary begins_statement unary_begins from (expression_begins e from w.0 w.1)
+statement_begins (Exchange left right) from to w = begins_within begins_unary begins_statement unary_begins from (expression_begins left from w.0 w.3)
 statement_begins (If at condition body) from to w = rw w.2.1 refl
 statement_begins (IfElse at condition body otherwise) from to w = rw w.4.1 refl
 statement_begins (While at condition body) from to w = rw w.2.1 refl
@@ -167,7 +167,7 @@ statement_begins (FreeUnique at pointer) from to w = rw w.2.1 refl
 statement_begins (FreeKey at key) from to w = rw w.2.1 refl
 
 pub declaration_begins_item : (x : Declaration) (from to : Tokens) → IsDeclaration x from to → next_is begins_item from ≡ true
-declaration_begins_item x from to w = next_wider begins_declaration begins_item declaration_item from (declaration_begins x from to w)
+declaration_begins_item x from to w = begins_within begins_declaration begins_item declaration_item from (declaration_begins x from to w)
 
 pub statement_begins_item : (s : Statement) (from to : Tokens) → IsStatement s from to → next_is begins_item from ≡ true
-statement_begins_item s from to w = next_wider begins_statement begins_item statement_item from (statement_begins s from to w)
+statement_begins_item s from to w = begins_within begins_statement begins_item statement_item from (statement_begins s from to w)

@@ -5,7 +5,7 @@ use Rattle.cyc_tree.specs.View.{member_tree}
 use Rattle.cyc_parser.specs.Tests.{begins_type}
 use Rattle.cyc_parser.specs.Reader.{◌>>=◌, passes, next_is, read, sign, done}
 use Rattle.cyc_parser.specs.ReadPrograms.{members}
-use Rattle.cyc_parser.proofs.ReadLists.{fails_before}
+use Rattle.cyc_parser.proofs.ReadSteps.{first_fails}
 use Rattle.cyc_parser.proofs.ReadMembers.{begun, one_more, refused, ended}
 use Rattle.cyc_parser.proofs.item.members.Goals as goal
 
@@ -41,7 +41,7 @@ returns-in_err-sign-2-clause-reads c =
     let next : next_is begins_type c.more.cursor ≡ false =
     ap (passes begins_type) (sym c.kind.ensures.next) ∙ sym c.begins_type.ensures ∙ c.more-test.false in
     rw (p.1, p.2, ended c.more.members.items c.more.cursor (members c.args.cursor.now) next c.more.invariant.0)
-    (fails_before c.in_err-sign-2.field-0.0 (sign sign_of.RightBrace c.more.cursor) (λ x. read (sign sign_of.Semicolon) (λ _. done ms) x.1)
+    (first_fails c.in_err-sign-2.field-0.0 (sign sign_of.RightBrace c.more.cursor) (λ x. read (sign sign_of.Semicolon) (λ _. done ms) x.1)
     c.in_err-sign-2.ensures.reads)
 
 pub returns-in_err-sign-3-clause-reads : goal.returns-in_err-sign-3-clause-reads
@@ -52,7 +52,7 @@ returns-in_err-sign-3-clause-reads c =
     ap (passes begins_type) (sym c.kind.ensures.next) ∙ sym c.begins_type.ensures ∙ c.more-test.false in
     let brace = ap (λ o. o >>= λ x. read (sign sign_of.Semicolon) (λ _. done ms) x.1) c.in_ok-sign-2.ensures.reads in
     rw (p.1, p.2, ended c.more.members.items c.more.cursor (members c.args.cursor.now) next c.more.invariant.0, brace)
-    (fails_before c.in_err-sign-3.field-0.0 (sign sign_of.Semicolon c.sign-2.new.self) (λ x. done ms x.1) c.in_err-sign-3.ensures.reads)
+    (first_fails c.in_err-sign-3.field-0.0 (sign sign_of.Semicolon c.sign-2.new.self) (λ x. done ms x.1) c.in_err-sign-3.ensures.reads)
 
 pub returns-clause-reads : goal.returns-clause-reads
 returns-clause-reads c =

@@ -3,3 +3,4 @@ pub mod Refusals
 pub mod Refused
 pub mod Outcome
 pub mod Evaluated
+pub mod Printed

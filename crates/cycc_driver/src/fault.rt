@@ -3,6 +3,7 @@
 ghost use Rattle.std.specs.Prelude.{◌≡◌};
 ghost use Rattle.cycc_driver.specs.declared.fault.CompileFault.TheVariants.{Memory};
 ghost use Rattle.cyc_lexer.specs.Places.{line_of, column_of};
+ghost use Rattle.cycc_driver.specs.Printed.{printed_name, fault_place, fault_text};
 ghost use Rattle.cycc_driver.specs.Refused.{IsOfLexing, IsOfParsing, IsOfChecking};
 
 use cyc_lexer::{LexFault, place_of};
@@ -67,7 +68,9 @@ pub enum CompileFault {
 
 impl CompileFault {
     /// The fault's printed name.
-    pub fn name(&self) -> &'static str {
+    pub fn name(&self) -> &'static str
+        ensures { result.now ≡ printed_name self.now }
+    {
         match self {
             CompileFault::Lex(_) => "Lex",
             CompileFault::Parse(_) => "Parse",
@@ -87,7 +90,9 @@ impl CompileFault {
     }
 
     /// Where the fault stands; nowhere for want of memory.
-    pub fn place(&self) -> Option<Place> {
+    pub fn place(&self) -> Option<Place>
+        ensures { result ≡ fault_place self.now }
+    {
         match self {
             CompileFault::Lex(place)
             | CompileFault::Parse(place)
@@ -108,6 +113,10 @@ impl CompileFault {
 }
 
 impl fmt::Display for CompileFault {
+    ghost use Rattle.std.specs.Prelude.{Some};
+
+    ghost output = { λ fault. Some (fault_text fault) };
+
     fn fmt<W: fmt::Write>(&self, f: &mut fmt::Formatter<W>) -> fmt::Result {
         match self.place() {
             Some(place) => {

@@ -1,8 +1,8 @@
-// What no clause says: that the definitions mean what they should, on trees with the nesting counted by hand.
+// What no clause says: that the definitions mean what they should, on trees with the nesting counted by hand; and that each call can be made.
 
 use crate::{
-    Base, BlockItem, Expression, Function, Initial, Item, Link, Name, Operator, Prefix, Program,
-    Statement, TypeName, nesting,
+    Base, BlockItem, Declaration, Expression, Function, Initial, Initializer, Item, Link, Name,
+    Operator, Prefix, Program, Statement, TypeName, nesting,
 };
 use std::alloc::{AllocError, Global};
 use std::test::Fail;
@@ -67,5 +67,21 @@ fn of_programs(rt: HostRuntime) -> Result<(), Fail> {
     let block = Statement::Block(0, vec![in alloc; returns, empty]?);
     let program = Program::new(vec![in alloc; main_of(alloc, block)?]?);
     assert_eq!(rt; nesting(&program), 7);
+    Ok(())
+}
+
+#[test]
+fn of_parts(rt: HostRuntime) -> Result<(), Fail> {
+    let alloc = rt.alloc();
+    let mut of = int(alloc);
+    of.at = 12;
+    let local = Declaration::Local(of, name(alloc, "x")?, Initializer::None);
+    assert_eq!(rt; local.place(), 12);
+    assert_eq!(rt; local.local().text.as_slice(), b"x".as_slice());
+    let run = Statement::Run(Expression::Null(7));
+    assert_eq!(rt; run.place(), 7);
+    let program = Program::new(vec![in alloc; main_of(alloc, run)?]?);
+    assert_eq!(rt; program.items().len(), 1);
+    assert_eq!(rt; program.items()[0].place(), 0);
     Ok(())
 }

@@ -7,6 +7,8 @@ use Rattle.cyc_parser.specs.declared.fault.ParseFault.TheVariants as parse
 use Rattle.effect_check.specs.declared.fault.CheckFault.{CheckFault}
 use Rattle.effect_check.specs.declared.fault.CheckFault.TheVariants as check
 use Rattle.region_types.specs.declared.fault.FaultKind.{FaultKind}
+use Rattle.unique_flow.specs.declared.fault.FlowFault.{FlowFault}
+use Rattle.unique_flow.specs.declared.fault.FlowFault.TheVariants as flow
 use Rattle.region_types.specs.declared.fault.FaultKind.TheVariants as kind
 use Rattle.cycc_driver.specs.declared.fault.Place.{Place}
 use Rattle.cycc_driver.specs.declared.fault.CompileFault.{CompileFault}
@@ -44,6 +46,12 @@ form_of kind.Size = fault.Size
 abbrev pub IsOfChecking : List ℕ → CheckFault → CompileFault → Type 0
 IsOfChecking text (check.Broken broken) f = StandsAt text broken.at (form_of broken.kind) f
 IsOfChecking text check.Memory f = f ≡ fault.Memory
+
+abbrev pub IsOfFlow : List ℕ → FlowFault → CompileFault → Type 0
+IsOfFlow text (flow.Consumed at) f = StandsAt text at fault.Consumed f
+IsOfFlow text (flow.Lent at) f = StandsAt text at fault.Lent f
+IsOfFlow text (flow.Copy at) f = StandsAt text at fault.Copy f
+IsOfFlow text flow.Memory f = f ≡ fault.Memory
 
 -- the code of the program is over the limit
 pub record HasLongCode (program : Program) (place : Place) : Type 0 where

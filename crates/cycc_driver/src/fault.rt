@@ -4,7 +4,7 @@ ghost use Rattle.std.specs.Prelude.{◌≡◌};
 ghost use Rattle.cycc_driver.specs.declared.fault.CompileFault.TheVariants.{Memory};
 ghost use Rattle.cyc_lexer.specs.Places.{line_of, column_of};
 ghost use Rattle.cycc_driver.specs.Printed.{printed_name, fault_place, fault_text};
-ghost use Rattle.cycc_driver.specs.Refused.{IsOfLexing, IsOfParsing, IsOfChecking};
+ghost use Rattle.cycc_driver.specs.Refused.{IsOfLexing, IsOfParsing, IsOfChecking, IsOfFlow};
 
 use cyc_lexer::{LexFault, place_of};
 use cyc_parser::ParseFault;
@@ -182,7 +182,9 @@ pub fn of_checking(text: &[u8], fault: CheckFault) -> CompileFault
 }
 
 /// A fault of the flow, with its place in the text.
-pub fn of_flow(text: &[u8], fault: FlowFault) -> CompileFault {
+pub fn of_flow(text: &[u8], fault: FlowFault) -> CompileFault
+    ensures { IsOfFlow text.now fault result }
+{
     match fault {
         FlowFault::Consumed(at) => CompileFault::Consumed(Place::at(text, at)),
         FlowFault::Lent(at) => CompileFault::Lent(Place::at(text, at)),

@@ -1,6 +1,6 @@
 // The tokens that are left to read.
 
-ghost use Rattle.std.specs.Prelude.{◌≡◌, ◌<◌, OnOk, OnSome, List, length, map, drop, if◌then◌else◌};
+ghost use Rattle.std.specs.Prelude.{◌≡◌, ◌<◌, ◌≤◌, OnOk, OnErr, OnSome, List, length, map, drop, if◌then◌else◌};
 ghost use Rattle.cyc_lexer.specs.Tokens.{token_tree};
 ghost use Rattle.cyc_tree.specs.View.{name_tree, region_tree};
 ghost use Rattle.cyc_parser.specs.declared.fault.ParseFault.TheVariants.{Parse, TooDeep};
@@ -117,6 +117,7 @@ impl<'t, 'a> Cursor<'t, 'a> {
     pub fn read(&mut self) -> Parsed<Token<'a>>
         ensures reads { Gives token_tree result self.new (token any_token self.old) }
         ensures shorter { OnOk result (length self.new < length self.old) }
+        ensures err { OnErr result (self.new ≡ self.old) }
     {
         match self.tokens.get(self.next) {
             Some(token) => {
@@ -132,6 +133,7 @@ impl<'t, 'a> Cursor<'t, 'a> {
     pub fn sign(&mut self, sign: Sign) -> Parsed<u32>
         ensures reads { Gives (λ at. at) result self.new (sign_at sign self.old) }
         ensures shorter { OnOk result (length self.new < length self.old) }
+        ensures err { OnErr result (self.new ≡ self.old) }
     {
         if self.is_sign(sign) {
             Ok(self.read()?.at)
@@ -144,6 +146,7 @@ impl<'t, 'a> Cursor<'t, 'a> {
     pub fn keyword(&mut self, keyword: Keyword) -> Parsed<u32>
         ensures reads { Gives (λ at. at) result self.new (keyword_at keyword self.old) }
         ensures shorter { OnOk result (length self.new < length self.old) }
+        ensures err { OnErr result (self.new ≡ self.old) }
     {
         if self.is_keyword(keyword) {
             Ok(self.read()?.at)
@@ -157,6 +160,7 @@ impl<'t, 'a> Cursor<'t, 'a> {
     pub fn name(&mut self, alloc: Global) -> Parsed<Name>
         ensures reads { Gives name_tree result self.new (name_at self.old) }
         ensures shorter { OnOk result (length self.new < length self.old) }
+        ensures err { OnErr result (length self.new ≤ length self.old) }
     {
         if !self.is_name() {
             return Err(self.unexpected());
@@ -171,6 +175,7 @@ impl<'t, 'a> Cursor<'t, 'a> {
     pub fn region(&mut self, alloc: Global) -> Parsed<RegionName>
         ensures reads { Gives region_tree result self.new (region_at self.old) }
         ensures shorter { OnOk result (length self.new < length self.old) }
+        ensures err { OnErr result (length self.new ≤ length self.old) }
     {
         if !self.is_region() {
             return Err(self.unexpected());
@@ -192,6 +197,7 @@ impl<'t, 'a> Cursor<'t, 'a> {
     pub fn number(&mut self) -> Parsed<(u32, bool)>
         ensures reads { Gives (λ n. n) result self.new (number_at self.old) }
         ensures shorter { OnOk result (length self.new < length self.old) }
+        ensures err { OnErr result (self.new ≡ self.old) }
     {
         let Some(TokenKind::Number(value, suffix)) = self.kind() else {
             return Err(self.unexpected());

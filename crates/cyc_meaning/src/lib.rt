@@ -1,11 +1,18 @@
-//! The meaning of a source: what a run of a program shows to the world, and how it ends.
+//! Runs a checked program by the meaning of its source.
 //!
-//! The definitions are in specs/, by subject: shapes of types, memory, steps, values, expressions,
-//! statements and programs. `laws` has what holds of all runs: more fuel changes no run that was
-//! over and only adds to what is seen, and a raise ends a run at once. Stands on the pure tree of
-//! `cyc_tree`, and on the arithmetic and events of `cyc_words`.
+//! `eval` does what `source` of `source_meaning` says, with so many units of fuel, between a reader and a writer. It moves
+//! from one phrase to the next, and keeps what is still to be done on a stack of its own, so that no source drives the
+//! host's stack deeper than its nesting. Stands on `unique_flow`, whose programs it runs, on the definitions of
+//! `source_meaning`, and on the transfers of `cyc_host`.
 #![tactic(auto)]
 
-mod laws;
+mod ending;
+mod enter;
+mod locals;
+mod number;
+mod pending;
+mod running;
+mod takes;
 
-pub use laws::{ends_at_once, only_grows, stays_over};
+pub use ending::EvalEnding;
+pub use running::eval;

@@ -7,7 +7,7 @@ use Rattle.std.specs.Io.KnownBytes.{Appends}
 use Rattle.cyc_words.specs.Words.{word}
 use Rattle.cyc_words.specs.Events.{Event, ByteRead, ByteWritten, RegionNew, RegionAlloc, RegionFree, UniqueAlloc, UniqueFree, KeyNew, KeyOpen, KeyClose, KeyFree, SourceEnding, output, visible}
 use Rattle.cyc_tree.specs.Tree.{Program}
-use Rattle.cyc_meaning.specs.Programs.{source}
+use Rattle.source_meaning.specs.Programs.{source}
 use Rattle.rv32_machine.specs.Arrays.{Arrays, IsStart, lengths_of, state_of}
 use Rattle.rv32_machine.specs.State.{State, Lengths, Stop, Mode, Runs, Waits, Over}
 use Rattle.rv32_machine.specs.Run.{Run, run_steps, from}

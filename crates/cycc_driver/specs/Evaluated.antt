@@ -1,8 +1,8 @@
 -- What the evaluation of a text is.
 use Rattle.std.specs.Prelude.{ℕ, List, Option}
 use Rattle.cyc_tree.specs.Tree.{Program}
-use Rattle.source_eval.specs.declared.ending.EvalEnding.{EvalEnding}
-use Rattle.source_eval.specs.Evaluated.{IsEvaluated}
+use Rattle.cyc_meaning.specs.declared.ending.EvalEnding.{EvalEnding}
+use Rattle.cyc_meaning.specs.Evaluated.{IsEvaluated}
 use Rattle.cycc_driver.specs.Texts.{IsAcceptedAs}
 
 -- The run of an accepted text's program with so many units of fuel, on the bytes that the reader gave.

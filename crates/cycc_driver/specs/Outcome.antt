@@ -4,7 +4,7 @@ use Rattle.std.specs.Io.KnownBytes.{Appends}
 use Rattle.cyc_words.specs.Words.{word}
 use Rattle.cyc_words.specs.Events.{ByteRead, SourceEnding, output, visible}
 use Rattle.cyc_tree.specs.Tree.{Program}
-use Rattle.cyc_meaning.specs.Programs.{source}
+use Rattle.source_meaning.specs.Programs.{source}
 use Rattle.cyc_image.specs.Format.{Contents, IsImage, code_limit}
 use Rattle.rv32_machine.specs.Arrays.{Arrays, IsStart, lengths_of, state_of}
 use Rattle.rv32_machine.specs.State.{State}

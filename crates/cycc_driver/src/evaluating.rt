@@ -1,7 +1,7 @@
 // Evaluations of a text.
 
 ghost use Rattle.std.specs.Prelude.{◌≢◌, Ok, IfOk, IfErr};
-ghost use Rattle.source_eval.specs.declared.ending.EvalEnding.TheVariants.{Stuck};
+ghost use Rattle.cyc_meaning.specs.declared.ending.EvalEnding.TheVariants.{Stuck};
 ghost use Rattle.cycc_driver.specs.Refusals.{IsRefusedFor};
 ghost use Rattle.cycc_driver.specs.Evaluated.{IsTextEvaluated};
 
@@ -9,7 +9,7 @@ use crate::compiling::{checked, parsed};
 use crate::fault::CompileFault;
 use cyc_words::{Input, Output};
 use lower_checks::never_stuck;
-use source_eval::{EvalEnding, eval};
+use cyc_meaning::{EvalEnding, eval};
 use std::alloc::Global;
 
 /// Runs a text by the meaning of its source, with so many units of fuel: a turn of a loop takes one, and a call of

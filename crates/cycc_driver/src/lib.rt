@@ -19,4 +19,4 @@ pub use executing::{Limits, execute};
 pub use fault::{CompileFault, Place};
 pub use rv32_isa::{Instr, decode};
 pub use rv32_machine::{Event, Machine};
-pub use source_eval::EvalEnding;
+pub use cyc_meaning::EvalEnding;

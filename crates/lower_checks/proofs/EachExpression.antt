@@ -6,13 +6,13 @@ use Rattle.cyc_tree.specs.declared.expression.Prefix.TheVariants.{Negate, Not, C
 use Rattle.cyc_tree.specs.declared.expression.Operator.TheVariants.{Subtract, BitXor}
 use Rattle.cyc_tree.specs.Tree.{Name, Expression, Expressions, NoExpressions, MoreExpressions, Links, NoLinks, MoreLinks}
 use Rattle.cyc_types.specs.Scope.{Locals, position_of}
-use Rattle.cyc_meaning.specs.Shapes.{IntShape, has_tag}
-use Rattle.cyc_meaning.specs.Memory.{AsInt, AsChar, AsUnsigned, Scalar, Integer, Memory}
-use Rattle.cyc_meaning.specs.Steps as source
-use Rattle.cyc_meaning.specs.Steps.{Variable, Binding, World, Scope}
-use Rattle.cyc_meaning.specs.Places.{Sense, value_sense, entity_of, entity_sense, bound_to, or_else, assigned}
-use Rattle.cyc_meaning.specs.Calls.{constant, number_type, applied, read_byte, write_byte, function_of, called, struct_made, call_sense}
-use Rattle.cyc_meaning.specs.Expressions.{sense, senses, linked}
+use Rattle.source_meaning.specs.Shapes.{IntShape, has_tag}
+use Rattle.source_meaning.specs.Memory.{AsInt, AsChar, AsUnsigned, Scalar, Integer, Memory}
+use Rattle.source_meaning.specs.Steps as source
+use Rattle.source_meaning.specs.Steps.{Variable, Binding, World, Scope}
+use Rattle.source_meaning.specs.Places.{Sense, value_sense, entity_of, entity_sense, bound_to, or_else, assigned}
+use Rattle.source_meaning.specs.Calls.{constant, number_type, applied, read_byte, write_byte, function_of, called, struct_made, call_sense}
+use Rattle.source_meaning.specs.Expressions.{sense, senses, linked}
 use Rattle.cyc_core.specs.declared.operation.Operation.TheVariants.{Constant, Move, Binary, Getchar, Putchar}
 use Rattle.cyc_core.specs.Tree.{Statement, Do, statements_of}
 use Rattle.cyc_core.specs.Meaning as core

@@ -2,12 +2,12 @@
 use Rattle.std.proofs.Common.{◌≡◌, ℕ, ◌≤◌, List, [], ◌∷◌, ◌++◌, Bool, true, length, Some, None, sym, subst, arith, append_assoc}
 use Rattle.cyc_tree.specs.Tree as tree
 use Rattle.cyc_tree.specs.Tree.{Initializer, Declaration, Statement, BlockItems, NoItems, Declare, Execute, local_of}
-use Rattle.cyc_meaning.specs.Shapes.{IntShape}
-use Rattle.cyc_meaning.specs.Steps as source
-use Rattle.cyc_meaning.specs.Steps.{Variable, Binding, Scope, Flow, Act, ◌>>=◌}
-use Rattle.cyc_meaning.specs.Places.{with_binding}
-use Rattle.cyc_meaning.specs.Expressions.{sense}
-use Rattle.cyc_meaning.specs.Statements as meaning
+use Rattle.source_meaning.specs.Shapes.{IntShape}
+use Rattle.source_meaning.specs.Steps as source
+use Rattle.source_meaning.specs.Steps.{Variable, Binding, Scope, Flow, Act, ◌>>=◌}
+use Rattle.source_meaning.specs.Places.{with_binding}
+use Rattle.source_meaning.specs.Expressions.{sense}
+use Rattle.source_meaning.specs.Statements as meaning
 use Rattle.cyc_core.specs.Tree as core_tree
 use Rattle.cyc_core.specs.Tree.{NoStatements, statements_of}
 use Rattle.cyc_core.specs.Meaning as core

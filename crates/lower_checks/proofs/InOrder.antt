@@ -3,7 +3,7 @@ use Rattle.std.proofs.Common.{◌≡◌, ◌≢◌, ℕ, List, [], ◌∷◌, �
 use Rattle.cyc_words.specs.Events.{SourceEnding}
 use Rattle.cyc_tree.specs.Tree as tree
 use Rattle.cyc_tree.specs.Tree.{Program}
-use Rattle.cyc_meaning.specs.Programs.{source}
+use Rattle.source_meaning.specs.Programs.{source}
 use Rattle.cyc_core.specs.declared.operation.Operation.TheVariants.{Constant}
 use Rattle.cyc_core.specs.Tree.{Statement, Do, Return, statements_of}
 use Rattle.cyc_core.specs.Meaning as core

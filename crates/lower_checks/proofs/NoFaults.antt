@@ -6,7 +6,7 @@ use Rattle.std.proofs.lemmas.Bool.Decides.{nat_tests}
 use Rattle.cyc_tree.specs.Tree as tree
 use Rattle.cyc_tree.specs.Tree.{Expression, Expressions, NoExpressions, MoreExpressions}
 use Rattle.cyc_types.specs.Scope.{Locals, position_of}
-use Rattle.cyc_meaning.specs.Shapes.{IntShape, base_shape, pointed, written}
+use Rattle.source_meaning.specs.Shapes.{IntShape, base_shape, pointed, written}
 use Rattle.region_types.specs.declared.fault.Fault.{Fault}
 use Rattle.region_types.specs.Faults.{named, mistyped, is_main, parameters_of, variable_faults, count_of, own_after, count_faults, called, call_faults, is_place, place_faults, no_items, is_int, is_plain_int}
 

@@ -1,12 +1,12 @@
 -- When a source and its Core stand at the same point, and when they do the same from there on: the relations of the proof.
 use Rattle.std.proofs.Common.{◌≡◌, ℕ, ◌<◌, ◌≤◌, List, [], ◌∷◌, ◌++◌, length, true, false, Some}
 use Rattle.cyc_types.specs.Scope.{Locals}
-use Rattle.cyc_meaning.specs.Shapes.{IntShape}
+use Rattle.source_meaning.specs.Shapes.{IntShape}
 use Rattle.cyc_core.specs.Tree.{Statement, statements_of}
-use Rattle.cyc_meaning.specs.Memory.{IntegerType, AsInt, AsChar, AsUnsigned, Scalar, Region, Frame, Spot, Integer, Holds, State, Memory, cell_at, state_is_live, same_spot}
-use Rattle.cyc_meaning.specs.Steps.{Variable, Binding, Scope}
-use Rattle.cyc_meaning.specs.Steps as source
-use Rattle.cyc_meaning.specs.Programs.{source_bodies}
+use Rattle.source_meaning.specs.Memory.{IntegerType, AsInt, AsChar, AsUnsigned, Scalar, Region, Frame, Spot, Integer, Holds, State, Memory, cell_at, state_is_live, same_spot}
+use Rattle.source_meaning.specs.Steps.{Variable, Binding, Scope}
+use Rattle.source_meaning.specs.Steps as source
+use Rattle.source_meaning.specs.Programs.{source_bodies}
 use Rattle.cyc_core.specs.Meaning as core
 use Rattle.cyc_core.specs.Meaning.{Cells}
 use Rattle.lower_checks.specs.Agreeing.{SameOutcome}

@@ -3,15 +3,15 @@ use Rattle.std.proofs.Common.{◌≡◌, ℕ, ◌<◌, ◌≤◌, ◌%◌, List,
 use Rattle.cyc_words.specs.Events.{ByteWritten, Visible}
 use Rattle.cyc_types.specs.Scope.{position_of}
 use Rattle.cyc_tree.specs.Tree.{Name, Expression}
-use Rattle.cyc_meaning.specs.Shapes.{IntShape}
-use Rattle.cyc_meaning.specs.Memory.{AsInt, Scalar, Integer, Spot, Memory, cell_at, with_cell}
-use Rattle.cyc_meaning.specs.Steps as source
-use Rattle.cyc_meaning.specs.Steps.{Variable, Binding, World, Scope}
-use Rattle.cyc_meaning.specs.Conversions as conversions
-use Rattle.cyc_meaning.specs.Places.{Sense, entity_of, entity_sense, bound_to, or_else, assigned}
-use Rattle.cyc_meaning.specs.Calls.{flat, byte_value, read_byte, write_byte}
-use Rattle.cyc_meaning.specs.Expressions.{sense}
-use Rattle.cyc_meaning.specs.Values.{write_cells}
+use Rattle.source_meaning.specs.Shapes.{IntShape}
+use Rattle.source_meaning.specs.Memory.{AsInt, Scalar, Integer, Spot, Memory, cell_at, with_cell}
+use Rattle.source_meaning.specs.Steps as source
+use Rattle.source_meaning.specs.Steps.{Variable, Binding, World, Scope}
+use Rattle.source_meaning.specs.Conversions as conversions
+use Rattle.source_meaning.specs.Places.{Sense, entity_of, entity_sense, bound_to, or_else, assigned}
+use Rattle.source_meaning.specs.Calls.{flat, byte_value, read_byte, write_byte}
+use Rattle.source_meaning.specs.Expressions.{sense}
+use Rattle.source_meaning.specs.Values.{write_cells}
 use Rattle.cyc_core.specs.declared.operation.Operation.TheVariants.{Move, Getchar, Putchar}
 use Rattle.cyc_core.specs.Tree.{Statement, Do, statements_of}
 use Rattle.cyc_core.specs.Meaning as core

@@ -1,17 +1,17 @@
 -- A declaration does the same as its code, and the local that it makes is held by the next cell.
 use Rattle.std.proofs.Common.{◌≡◌, ℕ, ◌<◌, ◌≤◌, ◌%◌, ◌^◌, List, [], ◌∷◌, ◌++◌, true, length, Some, refl, sym, ap, ◌∙◌, subst, arith, append_assoc}
-use Rattle.cyc_meaning.specs.Shapes.{IntShape}
-use Rattle.cyc_meaning.specs.Memory.{AsInt, Region, Frame, Spot, Scalar, Integer, Holds, Object, Memory, is_live, cell_at, with_cell, next_spot, with_object, blank_cell, blank_object}
-use Rattle.cyc_meaning.specs.Steps as source
-use Rattle.cyc_meaning.specs.Steps.{Variable, Binding, Scope, Flow, Act}
-use Rattle.cyc_meaning.specs.Conversions as conversions
-use Rattle.cyc_meaning.specs.Conversions.{cells_of}
-use Rattle.cyc_meaning.specs.Values.{put_content, write_cells}
-use Rattle.cyc_meaning.specs.Making.{make_object}
-use Rattle.cyc_meaning.specs.Places.{Sense, with_binding}
-use Rattle.cyc_meaning.specs.Regions.{declared, local_with, initialised}
-use Rattle.cyc_meaning.specs.Statements.{first_object}
-use Rattle.cyc_meaning.proofs.Cases.{written_is_seen, made_is_seen}
+use Rattle.source_meaning.specs.Shapes.{IntShape}
+use Rattle.source_meaning.specs.Memory.{AsInt, Region, Frame, Spot, Scalar, Integer, Holds, Object, Memory, is_live, cell_at, with_cell, next_spot, with_object, blank_cell, blank_object}
+use Rattle.source_meaning.specs.Steps as source
+use Rattle.source_meaning.specs.Steps.{Variable, Binding, Scope, Flow, Act}
+use Rattle.source_meaning.specs.Conversions as conversions
+use Rattle.source_meaning.specs.Conversions.{cells_of}
+use Rattle.source_meaning.specs.Values.{put_content, write_cells}
+use Rattle.source_meaning.specs.Making.{make_object}
+use Rattle.source_meaning.specs.Places.{Sense, with_binding}
+use Rattle.source_meaning.specs.Regions.{declared, local_with, initialised}
+use Rattle.source_meaning.specs.Statements.{first_object}
+use Rattle.source_meaning.proofs.Cases.{written_is_seen, made_is_seen}
 use Rattle.cyc_core.specs.declared.operation.Operation.TheVariants.{Constant}
 use Rattle.cyc_core.specs.Tree.{Statement, Do, statements_of}
 use Rattle.cyc_core.specs.Meaning as core

@@ -1,24 +1,24 @@
 -- An expression does the same as its code, which leaves its value in a cell.
 use Rattle.std.proofs.Common.{◌≡◌, not, ℕ, ◌+◌, ◌<◌, ◌≤◌, ◌%◌, ◌^◌, List, [], ◌∷◌, ◌++◌, Bool, true, false, nat_eq, length, refl, sym, ap, ◌∙◌, subst, arith, append_assoc}
 use Rattle.std.specs.Prelude.{Some, if◌then◌else◌}
-use Rattle.cyc_meaning.specs.Shapes.{IntShape}
+use Rattle.source_meaning.specs.Shapes.{IntShape}
 use Rattle.std.proofs.lemmas.Bool.{eq-eqb}
 use Rattle.std.proofs.lemmas.Bool.Decides.{nat_tests}
-use Rattle.cyc_meaning.specs.Memory.{IntegerType, AsInt, Scalar, Integer, Holds, Spot, Memory, cell_at}
-use Rattle.cyc_meaning.specs.Steps as source
-use Rattle.cyc_meaning.specs.Steps.{Variable, Binding, World, Scope}
-use Rattle.cyc_meaning.specs.Expressions.{sense}
+use Rattle.source_meaning.specs.Memory.{IntegerType, AsInt, Scalar, Integer, Holds, Spot, Memory, cell_at}
+use Rattle.source_meaning.specs.Steps as source
+use Rattle.source_meaning.specs.Steps.{Variable, Binding, World, Scope}
+use Rattle.source_meaning.specs.Expressions.{sense}
 use Rattle.cyc_core.specs.Tree.{Statement, statements_of}
 use Rattle.cyc_core.specs.Tree.{Do}
 use Rattle.cyc_core.specs.declared.operation.Operation.TheVariants.{Constant, Move, Binary}
 use Rattle.cyc_tree.specs.declared.expression.Operator.{Operator}
 use Rattle.cyc_tree.specs.Tree.{Name, Expression}
 use Rattle.cyc_types.specs.Scope.{position_of}
-use Rattle.cyc_meaning.specs.Places.{Sense, place_sense, entity_of, entity_sense, bound_to, or_else}
-use Rattle.cyc_meaning.specs.Calls as calls
-use Rattle.cyc_meaning.specs.Calls.{applied, tested, inverted}
-use Rattle.cyc_meaning.specs.Conversions as conversions
-use Rattle.cyc_meaning.specs.Operators.{operated, is_true, truth_value}
+use Rattle.source_meaning.specs.Places.{Sense, place_sense, entity_of, entity_sense, bound_to, or_else}
+use Rattle.source_meaning.specs.Calls as calls
+use Rattle.source_meaning.specs.Calls.{applied, tested, inverted}
+use Rattle.source_meaning.specs.Conversions as conversions
+use Rattle.source_meaning.specs.Operators.{operated, is_true, truth_value}
 use Rattle.cyc_core.specs.declared.operation.Binary.TheVariants as binary
 use Rattle.lower_checks.proofs.SameLocals.{found_local}
 use Rattle.lower_checks.proofs.SameOperators.{truth_word, signed_two}

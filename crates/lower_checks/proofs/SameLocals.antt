@@ -4,10 +4,10 @@ use Rattle.std.specs.Prelude.{if◌then◌else◌}
 use Rattle.std.specs.Str.{bytes_eq}
 use Rattle.cyc_types.specs.Scope.{position_of}
 use Rattle.cyc_types.proofs.Positions.{position_more}
-use Rattle.cyc_meaning.specs.Shapes.{IntShape}
-use Rattle.cyc_meaning.specs.Memory.{AsInt, Spot, Integer, Holds, Memory, cell_at}
-use Rattle.cyc_meaning.specs.Steps.{Variable, Binding}
-use Rattle.cyc_meaning.specs.Places.{bound_to}
+use Rattle.source_meaning.specs.Shapes.{IntShape}
+use Rattle.source_meaning.specs.Memory.{AsInt, Spot, Integer, Holds, Memory, cell_at}
+use Rattle.source_meaning.specs.Steps.{Variable, Binding}
+use Rattle.source_meaning.specs.Places.{bound_to}
 use Rattle.cyc_core.specs.Meaning.{Cells}
 use Rattle.lower_checks.proofs.Relations.{names_of, IsHeld, AreHeld}
 

@@ -3,10 +3,10 @@ use Rattle.std.proofs.Common.{◌≡◌, ℕ, ◌+◌, ◌<◌, ◌≤◌, List,
 use Rattle.std.specs.Prelude.{◌&&◌, if◌then◌else◌}
 use Rattle.std.proofs.lemmas.Bool.{eq-eqb}
 use Rattle.std.proofs.lemmas.Bool.Decides.{nat_tests}
-use Rattle.cyc_meaning.specs.Shapes.{IntShape}
-use Rattle.cyc_meaning.specs.Memory.{Region, Frame, Spot, Object, State, Live, Dead, Memory, same_region, same_spot, state_is_live, cell_at, with_state, next_spot, with_object}
-use Rattle.cyc_meaning.specs.Steps.{Variable, Binding}
-use Rattle.cyc_meaning.proofs.Cases.{region_itself, region_is, older_is_kept, elsewhere_is_kept, cells_elsewhere_are_kept}
+use Rattle.source_meaning.specs.Shapes.{IntShape}
+use Rattle.source_meaning.specs.Memory.{Region, Frame, Spot, Object, State, Live, Dead, Memory, same_region, same_spot, state_is_live, cell_at, with_state, next_spot, with_object}
+use Rattle.source_meaning.specs.Steps.{Variable, Binding}
+use Rattle.source_meaning.proofs.Cases.{region_itself, region_is, older_is_kept, elsewhere_is_kept, cells_elsewhere_are_kept}
 use Rattle.cyc_core.specs.Meaning.{Cells}
 use Rattle.lower_checks.proofs.Relations.{IsHeld, AreElsewhere, AreLive, AreHeld}
 use Rattle.lower_checks.proofs.SameWrites.{same_place}

@@ -2,8 +2,8 @@
 use Rattle.std.proofs.Common.{◌≡◌, ℕ, Bool, true, false, not, nat_eq, refl}
 use Rattle.cyc_tree.specs.declared.expression.Operator.{Operator}
 use Rattle.cyc_tree.specs.declared.expression.Operator.TheVariants.{BitOr, BitXor, BitAnd, Equal, NotEqual, Less, LessEqual, Greater, GreaterEqual, ShiftLeft, ShiftRight, Add, Subtract, Multiply, Divide, Remainder}
-use Rattle.cyc_meaning.specs.Memory.{IntegerType, AsInt, AsChar, AsUnsigned, Integer}
-use Rattle.cyc_meaning.specs.Operators.{truth_value, integers}
+use Rattle.source_meaning.specs.Memory.{IntegerType, AsInt, AsChar, AsUnsigned, Integer}
+use Rattle.source_meaning.specs.Operators.{truth_value, integers}
 use Rattle.cyc_core.specs.Meaning.{truth, is_less, two}
 use Rattle.lower_checks.specs.Lowered.{binary_of}
 use Rattle.lower_checks.proofs.Relations.{IsSigned}

@@ -4,15 +4,15 @@ use Rattle.std.specs.Prelude.{Option, Some, None, if◌then◌else◌}
 use Rattle.cyc_words.specs.Events.{Returned, SourceEnding}
 use Rattle.cyc_tree.specs.Tree as tree
 use Rattle.cyc_tree.specs.Tree.{Member, Item, Program}
-use Rattle.cyc_meaning.specs.Shapes.{IntShape, Part, part_of, written, settled}
-use Rattle.cyc_meaning.specs.Memory.{AsInt, Scalar, Integer, Memory}
-use Rattle.cyc_meaning.specs.Steps as source
-use Rattle.cyc_meaning.specs.Steps.{Routine, Scope, World, Flow, Act, ◌>>=◌}
-use Rattle.cyc_meaning.specs.Conversions as conversions
-use Rattle.cyc_meaning.specs.Regions.{in_block}
-use Rattle.cyc_meaning.specs.Statements.{block_items}
-use Rattle.cyc_meaning.specs.Programs as programs
-use Rattle.cyc_meaning.specs.Programs.{routine_of, world_of, with_arguments, is_main, result_at_end, result_of, entered, first_memory, start}
+use Rattle.source_meaning.specs.Shapes.{IntShape, Part, part_of, written, settled}
+use Rattle.source_meaning.specs.Memory.{AsInt, Scalar, Integer, Memory}
+use Rattle.source_meaning.specs.Steps as source
+use Rattle.source_meaning.specs.Steps.{Routine, Scope, World, Flow, Act, ◌>>=◌}
+use Rattle.source_meaning.specs.Conversions as conversions
+use Rattle.source_meaning.specs.Regions.{in_block}
+use Rattle.source_meaning.specs.Statements.{block_items}
+use Rattle.source_meaning.specs.Programs as programs
+use Rattle.source_meaning.specs.Programs.{routine_of, world_of, with_arguments, is_main, result_at_end, result_of, entered, first_memory, start}
 use Rattle.cyc_core.specs.declared.operation.Operation.TheVariants.{Constant}
 use Rattle.cyc_core.specs.Tree.{Statement, Do, Return, statements_of}
 use Rattle.cyc_core.specs.Meaning as core

@@ -1,11 +1,11 @@
 -- Runs that show the same, a step at a time.
 use Rattle.std.proofs.Common.{ℕ, zero, suc, ◌≤◌, List, [], ◌∷◌, Option, Some, None, refl, ap, arith}
 use Rattle.cyc_words.specs.Events.{Event, ByteRead, Visible, Called, Returned, SourceEnding}
-use Rattle.cyc_meaning.specs.Memory.{Memory}
+use Rattle.source_meaning.specs.Memory.{Memory}
 use Rattle.cyc_tree.specs.Tree.{Expression, Statement}
-use Rattle.cyc_meaning.specs.Steps as source
-use Rattle.cyc_meaning.specs.Steps.{Scope, Flow}
-use Rattle.cyc_meaning.specs.Programs.{source_bodies, turned}
+use Rattle.source_meaning.specs.Steps as source
+use Rattle.source_meaning.specs.Steps.{Scope, Flow}
+use Rattle.source_meaning.specs.Programs.{source_bodies, turned}
 use Rattle.cyc_core.specs.declared.operation.Cell.{Cell}
 use Rattle.cyc_core.specs.Tree.{Statements}
 use Rattle.cyc_core.specs.Meaning as core

@@ -3,18 +3,18 @@ use Rattle.std.proofs.Common.{◌≡◌, ℕ, zero, suc, ◌≤◌, List, [], �
 use Rattle.std.specs.Prelude.{if◌then◌else◌}
 use Rattle.cyc_tree.specs.Tree as tree
 use Rattle.cyc_tree.specs.Tree.{Expression}
-use Rattle.cyc_meaning.specs.Shapes.{IntShape}
-use Rattle.cyc_meaning.specs.Memory.{AsInt, Scalar, Integer, Memory}
-use Rattle.cyc_meaning.specs.Steps as source
-use Rattle.cyc_meaning.specs.Steps.{Binding, Scope, World, Flow, Act, ◌>>=◌, ◌>>◌}
-use Rattle.cyc_meaning.specs.Operators.{is_true}
-use Rattle.cyc_meaning.specs.Conversions as conversions
-use Rattle.cyc_meaning.specs.Places.{Sense}
-use Rattle.cyc_meaning.specs.Calls as calls
-use Rattle.cyc_meaning.specs.Expressions.{sense}
-use Rattle.cyc_meaning.specs.Regions.{in_block}
-use Rattle.cyc_meaning.specs.Statements as meaning
-use Rattle.cyc_meaning.specs.Programs as programs
+use Rattle.source_meaning.specs.Shapes.{IntShape}
+use Rattle.source_meaning.specs.Memory.{AsInt, Scalar, Integer, Memory}
+use Rattle.source_meaning.specs.Steps as source
+use Rattle.source_meaning.specs.Steps.{Binding, Scope, World, Flow, Act, ◌>>=◌, ◌>>◌}
+use Rattle.source_meaning.specs.Operators.{is_true}
+use Rattle.source_meaning.specs.Conversions as conversions
+use Rattle.source_meaning.specs.Places.{Sense}
+use Rattle.source_meaning.specs.Calls as calls
+use Rattle.source_meaning.specs.Expressions.{sense}
+use Rattle.source_meaning.specs.Regions.{in_block}
+use Rattle.source_meaning.specs.Statements as meaning
+use Rattle.source_meaning.specs.Programs as programs
 use Rattle.cyc_core.specs.Tree.{Statement, If, While, Break, Continue, Return, statements_of}
 use Rattle.cyc_core.specs.Meaning as core
 use Rattle.cyc_core.specs.Meaning.{Cells}

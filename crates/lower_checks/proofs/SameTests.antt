@@ -1,13 +1,13 @@
 -- `&&` and `||` do the same as their code, which evaluates each operand by a choice of its own.
 use Rattle.std.proofs.Common.{◌≡◌, not, ℕ, ◌≤◌, List, [], ◌∷◌, ◌++◌, Bool, true, false, nat_eq, length, refl, sym, ap, ◌∙◌, subst, append_assoc, append-nil}
 use Rattle.std.specs.Prelude.{if◌then◌else◌}
-use Rattle.cyc_meaning.specs.Memory.{Scalar, Memory}
-use Rattle.cyc_meaning.specs.Operators.{is_true, truth_value}
-use Rattle.cyc_meaning.specs.Conversions as conversions
-use Rattle.cyc_meaning.specs.Steps as source
-use Rattle.cyc_meaning.specs.Steps.{Binding}
-use Rattle.cyc_meaning.specs.Places.{Sense}
-use Rattle.cyc_meaning.specs.Calls.{all_true, any_true, tested}
+use Rattle.source_meaning.specs.Memory.{Scalar, Memory}
+use Rattle.source_meaning.specs.Operators.{is_true, truth_value}
+use Rattle.source_meaning.specs.Conversions as conversions
+use Rattle.source_meaning.specs.Steps as source
+use Rattle.source_meaning.specs.Steps.{Binding}
+use Rattle.source_meaning.specs.Places.{Sense}
+use Rattle.source_meaning.specs.Calls.{all_true, any_true, tested}
 use Rattle.cyc_core.specs.Tree.{Statement, If, NoStatements, statements_of}
 use Rattle.cyc_core.specs.Meaning as core
 use Rattle.cyc_core.specs.Meaning.{Cells}

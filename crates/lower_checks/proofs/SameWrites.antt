@@ -5,13 +5,13 @@ use Rattle.std.specs.Str.{bytes_eq}
 use Rattle.std.proofs.lemmas.Bool.Decides.{nat_tests}
 use Rattle.cyc_types.specs.Scope.{position_of}
 use Rattle.cyc_types.proofs.Positions.{position_more}
-use Rattle.cyc_meaning.specs.Shapes.{IntShape}
-use Rattle.cyc_meaning.specs.Memory.{AsInt, Region, Frame, Born, Spot, Integer, Holds, Cell, Memory, same_region, same_spot, is_live, cell_at, with_cell}
-use Rattle.cyc_meaning.specs.Steps.{Entity, Variable, Binding}
-use Rattle.cyc_meaning.specs.Steps as source
-use Rattle.cyc_meaning.specs.Places.{bound_to}
-use Rattle.cyc_meaning.specs.Values.{put_content, write_cells}
-use Rattle.cyc_meaning.proofs.Cases.{written_is_seen, other_is_kept}
+use Rattle.source_meaning.specs.Shapes.{IntShape}
+use Rattle.source_meaning.specs.Memory.{AsInt, Region, Frame, Born, Spot, Integer, Holds, Cell, Memory, same_region, same_spot, is_live, cell_at, with_cell}
+use Rattle.source_meaning.specs.Steps.{Entity, Variable, Binding}
+use Rattle.source_meaning.specs.Steps as source
+use Rattle.source_meaning.specs.Places.{bound_to}
+use Rattle.source_meaning.specs.Values.{put_content, write_cells}
+use Rattle.source_meaning.proofs.Cases.{written_is_seen, other_is_kept}
 use Rattle.cyc_core.specs.Meaning.{Cells, set_cell}
 use Rattle.lower_checks.specs.Lowered.{cell}
 use Rattle.lower_checks.proofs.Relations.{names_of, IsHeld, AreElsewhere, AreHeld}

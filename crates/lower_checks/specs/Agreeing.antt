@@ -2,8 +2,8 @@
 use Rattle.std.specs.Prelude.{◌≡◌, ℕ, List}
 use Rattle.cyc_words.specs.Events.{visible}
 use Rattle.cyc_tree.specs.Tree.{Program}
-use Rattle.cyc_meaning.specs.Steps as source
-use Rattle.cyc_meaning.specs.Programs as programs
+use Rattle.source_meaning.specs.Steps as source
+use Rattle.source_meaning.specs.Programs as programs
 use Rattle.cyc_core.specs.Tree.{Statement, statements_of}
 use Rattle.cyc_core.specs.Meaning as core
 use Rattle.cyc_core.specs.Meaning.{Cells}

@@ -2,7 +2,7 @@
 
 ghost use Rattle.std.specs.Prelude.{◌≢◌, ℕ, List};
 ghost use Rattle.cyc_words.specs.Events.{SourceEnding};
-ghost use Rattle.cyc_meaning.specs.Programs.{source};
+ghost use Rattle.source_meaning.specs.Programs.{source};
 
 use unique_flow::Checked;
 

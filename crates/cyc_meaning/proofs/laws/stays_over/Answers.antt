@@ -1,5 +1,0 @@
-use Rattle.cyc_meaning.proofs.Fuel.{stays_over}
-use Rattle.cyc_meaning.proofs.laws.stays_over.Goals as goal
-
-pub returns : goal.returns
-returns c = stays_over

@@ -1,9 +1,0 @@
-pub mod Numbers
-pub mod Locals
-pub mod Brought
-pub mod Held
-pub mod Pendings
-pub mod Standing
-pub mod Costs
-pub mod Resting
-pub mod Evaluated

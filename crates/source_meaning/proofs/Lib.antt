@@ -1,0 +1,17 @@
+pub mod Fuel
+pub mod Trees
+pub mod Endless
+pub mod IntegerSamples
+pub mod PointerSamples
+pub mod RegionSamples
+pub mod KeySamples
+pub mod UniqueSamples
+pub mod OrderSamples
+pub mod MixedSamples
+pub mod FormSamples
+pub mod CallSamples
+pub mod ConversionSamples
+pub mod BeginningSamples
+pub mod StuckSamples
+pub mod Cases
+pub mod PlainExpressions

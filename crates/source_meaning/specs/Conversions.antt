@@ -1,0 +1,70 @@
+-- Conversions: what a value becomes where it is stored, passed or returned.
+use Rattle.std.specs.Prelude.{ℕ, ◌*◌, ◌%◌, Bool, true, false, Option, Some, None, List, [], ◌∷◌, length, nat_lt, if◌then◌else◌}
+use Rattle.cyc_words.specs.declared.faults.Kind.TheVariants.{NullException, ArrayBounds}
+use Rattle.source_meaning.specs.Shapes.{Shape, IntShape, UnsignedShape, CharShape, ThinShape, FatShape}
+use Rattle.source_meaning.specs.Sizes.{cells_by, struct_cells, extent_by, struct_extent, union_extent}
+use Rattle.source_meaning.specs.Memory.{AsInt, AsUnsigned, AsChar, Spot, Span, Scalar, Integer, Thin, Wide, beyond}
+use Rattle.source_meaning.specs.Steps.{World, Act, give, ◌>>=◌, stuck, raise}
+
+-- the scalar cells of a shape in a program
+abbrev pub cells_of : World → Shape → List Shape
+cells_of w s = cells_by (struct_cells w.structs) s
+
+-- the bytes of a shape in a program
+abbrev pub size_of : World → Shape → ℕ
+size_of w s = let e = extent_by (struct_extent w.unions w.structs) (union_extent w.unions) s in e.size
+
+-- the current element of a fat pointer to elements of so many cells: NULL raises, and so does an index that isn't below the count
+abbrev pub element : ℕ → Option Span → Act Spot
+element cells None = raise NullException
+element cells (Some s) = (if nat_lt s.index s.count then give (beyond s.first (s.index * cells)) else raise ArrayBounds)
+
+-- thin to thin: where the place never holds NULL, NULL raises
+abbrev pub thin_to_thin : Bool → Option Spot → Act Scalar
+thin_to_thin true p = give (Thin p)
+thin_to_thin false None = raise NullException
+thin_to_thin false (Some s) = give (Thin (Some s))
+
+-- fat to thin: NULL stays NULL or raises; otherwise the current element has to be in bounds
+abbrev pub fat_to_thin : Bool → ℕ → Option Span → Act Scalar
+fat_to_thin true cells None = give (Thin None)
+fat_to_thin true cells (Some s) = element cells (Some s) >>= λ at. give (Thin (Some at))
+fat_to_thin false cells p = element cells p >>= λ at. give (Thin (Some at))
+
+-- thin to fat: one element, at index 0; NULL stays NULL
+abbrev pub thin_to_fat : Option Spot → Scalar
+thin_to_fat None = Wide None
+thin_to_fat (Some s) = Wide (Some (record { first = s; count = 1; index = 0 }))
+
+-- between integers the low bits are kept; other types are equal
+abbrev pub converted_scalar : World → Shape → Scalar → Act Scalar
+converted_scalar w IntShape (Integer t x) = give (Integer AsInt x)
+converted_scalar w UnsignedShape (Integer t x) = give (Integer AsUnsigned x)
+converted_scalar w CharShape (Integer t x) = give (Integer AsChar (x % 256))
+converted_scalar w (ThinShape may_be_null owner to) (Thin p) = thin_to_thin may_be_null p
+converted_scalar w (ThinShape may_be_null owner to) (Wide p) = fat_to_thin may_be_null (length (cells_of w to)) p
+converted_scalar w (FatShape to) (Thin p) = give (thin_to_fat p)
+converted_scalar w (FatShape to) (Wide p) = give (Wide p)
+converted_scalar w s v = give v
+
+-- a value of one cell is converted; a struct's cells are of equal types
+abbrev pub converted : World → Shape → List Scalar → Act (List Scalar)
+converted w s (v ∷ []) = converted_scalar w s v >>= λ c. give (c ∷ [])
+converted w s vs = give vs
+
+-- a value of one cell, where one is needed
+abbrev pub one : List Scalar → Act Scalar
+one (v ∷ []) = give v
+one vs = stuck
+
+-- the word of an integer, where one is needed
+abbrev pub integer : Scalar → Act ℕ
+integer (Integer t x) = give x
+integer v = stuck
+
+-- what a pointer points to: NULL raises, and so does a fat pointer whose element isn't in bounds
+abbrev pub accessed : ℕ → Scalar → Act Spot
+accessed cells (Thin None) = raise NullException
+accessed cells (Thin (Some s)) = give s
+accessed cells (Wide p) = element cells p
+accessed cells v = stuck

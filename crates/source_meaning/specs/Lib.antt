@@ -1,0 +1,16 @@
+pub mod Shapes
+pub mod Sizes
+pub mod Memory
+pub mod Steps
+pub mod Operators
+pub mod Conversions
+pub mod Values
+pub mod Making
+pub mod Places
+pub mod Calls
+pub mod Expressions
+pub mod Regions
+pub mod Statements
+pub mod Strings
+pub mod Programs
+pub mod Laws

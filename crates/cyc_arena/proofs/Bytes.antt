@@ -1,0 +1,59 @@
+-- Bytes are loaded and stored by their addresses.
+use Rattle.std.proofs.Common.{◌≡◌, ℕ, ◌-◌, ◌<◌, ◌≤◌, true, List, length, Some, None, sym, ap, subst, ◌∙◌, arith, length-set}
+use Rattle.std.specs.Prelude.{slice_index, slice_set, if◌then◌else◌}
+use Rattle.std.proofs.lemmas.Bool.Decides.{nat_tests}
+use Rattle.std.proofs.lemmas.Grind.{common_steps}
+use Rattle.cyc_arena.specs.Counts.{put}
+use Rattle.cyc_arena.specs.Holdings.{arena_base, is_in_arena}
+use Rattle.cyc_arena.specs.Laws.{Stores, loaded}
+use Rattle.cyc_arena.specs.Plain.{Plain, IsSound, byte_at, holdings_of}
+
+in_arena : (s : Plain) (at : ℕ) → IsSound s → arena_base ≤ at → at - arena_base < length s.bytes → is_in_arena (holdings_of s) at ≡ true
+in_arena s at sound b l = let e = sound.payload in grind (arith, nat_tests)
+
+byte_in : (bytes : List ℕ) (at : ℕ) → arena_base ≤ at → byte_at bytes at ≡ slice_index bytes (at - arena_base)
+unfolding byte_at
+byte_in bytes at b = grind (arith, nat_tests)
+
+byte_set : (bytes : List ℕ) (at x : ℕ) → arena_base ≤ at → at - arena_base < length bytes → (q : ℕ) →
+    byte_at (slice_set bytes (at - arena_base) x) q ≡ put at x (byte_at bytes) q
+unfolding byte_at
+byte_set bytes at x b l q = grind (arith, nat_tests, common_steps)
+
+pub load_in : (s : Plain) (at v : ℕ) → IsSound s → arena_base ≤ at → at - arena_base < length s.bytes → v ≡ slice_index s.bytes (at - arena_base) →
+    Some v ≡ loaded at (holdings_of s)
+load_in s at v sound b l e =
+    subst (λ t. Some v ≡ (if t then Some (byte_at s.bytes at) else None)) (sym (in_arena s at sound b l)) (ap Some (e ∙ sym (byte_in s.bytes at b)))
+
+pub store_in : (s : Plain) (at x : ℕ) → IsSound s → arena_base ≤ at → at - arena_base < length s.bytes →
+    Stores at x (holdings_of s) true (holdings_of (record s { bytes = slice_set s.bytes (at - arena_base) x }))
+store_in s at x sound b l =
+    let before = holdings_of s in
+    let now = holdings_of (record s { bytes = slice_set s.bytes (at - arena_base) x }) in
+    let there = in_arena s at sound b l in
+    let e : now ≡ record before { bytes = put at x before.bytes } = (λ i. record before { bytes = λ q. byte_set s.bytes at x b l q i }) in
+    record {
+      says = sym there;
+      holds = subst (λ t. now ≡ (if t then record before { bytes = put at x before.bytes } else before)) (sym there) e;
+    }
+
+pub bytes_sound : (s : Plain) (k x : ℕ) → IsSound s → IsSound (record s { bytes = slice_set s.bytes k x })
+bytes_sound s k x sound = record {
+  payload = length-set s.bytes k x ∙ sound.payload;
+  used_long = sound.used_long;
+  last_long = sound.last_long;
+  standing_long = sound.standing_long;
+  slots_long = sound.slots_long;
+  few = sound.few;
+  rounded = sound.rounded;
+  within = sound.within;
+  heap = sound.heap;
+  known = sound.known;
+  headed = sound.headed;
+  lived = sound.lived;
+  ended = sound.ended;
+  classes = sound.classes;
+  live = sound.live;
+  vacant = sound.vacant;
+  capacity = sound.capacity;
+}

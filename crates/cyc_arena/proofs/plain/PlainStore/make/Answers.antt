@@ -1,0 +1,30 @@
+use Rattle.std.proofs.Common.{subst, sym, ◌+◌, true, false}
+use Rattle.std.specs.Prelude.{Some, None}
+use Rattle.cyc_arena.specs.Counts.{is_full}
+use Rattle.cyc_arena.specs.Lawful.{Grants}
+use Rattle.cyc_arena.specs.Laws.{made}
+use Rattle.cyc_arena.specs.Plain.{Finds}
+use Rattle.cyc_arena.proofs.Along.{does_along, test_along}
+use Rattle.cyc_arena.proofs.Made.{made_sound, made_does, not_full, all_taken}
+use Rattle.cyc_arena.proofs.plain.PlainStore.make.Goals as goal
+
+pub invariant_of-self : goal.invariant_of-self
+invariant_of-self c = made_sound _ c.in-Some.page c.args.standing c.self.invariant (subst (λ xs. Finds 0 xs
+    (Some c.in-Some.page)) c.deref.ensures.value c.in-Some.ensures)
+
+pub returns-in-Some-clause-does : goal.returns-in-Some-clause-does
+returns-in-Some-clause-does c =
+    let p = c.in-Some.page in
+    does_along (λ h. made c.args.standing (Grants (p + 1)) h) _ _ _ _ c.self.view_is
+    (made_does _ p c.args.standing c.self.invariant (subst (λ xs. Finds 0 xs (Some p)) c.deref.ensures.value c.in-Some.ensures))
+
+pub returns-in-Some-clause-full : goal.returns-in-Some-clause-full
+returns-in-Some-clause-full c =
+    let p = c.in-Some.page in
+    test_along (λ h. is_full h.counts) false _ _ c.self.view_is
+    (sym (not_full _ p c.args.standing c.self.invariant (subst (λ xs. Finds 0 xs (Some p)) c.deref.ensures.value c.in-Some.ensures)))
+
+pub returns-in-None-clause-full : goal.returns-in-None-clause-full
+returns-in-None-clause-full c =
+    test_along (λ h. is_full h.counts) true _ _ c.self.view_is (sym (all_taken _ c.self.invariant (subst
+    (λ xs. Finds 0 xs None) c.deref.ensures.value c.in-None.ensures)))

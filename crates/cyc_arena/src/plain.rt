@@ -1,0 +1,300 @@
+// The plain store: tables that are read from their beginning at each call.
+
+ghost use Rattle.std.specs.Prelude.{◌≡◌, ◌<◌, true, IfOk};
+ghost use Rattle.cyc_arena.specs.Counts.{is_full};
+ghost use Rattle.cyc_arena.specs.Holdings.{fresh, is_some};
+ghost use Rattle.cyc_arena.specs.Lawful.{without_number};
+ghost use Rattle.cyc_arena.specs.Laws.{Does, answer_of, is_refused_full, made};
+ghost use Rattle.cyc_arena.specs.Plain.{holdings_of, standing_at};
+ghost use Rattle.raw_pages.specs.Raw.{is_no_page_count, is_pages_fault};
+
+use crate::owner::Owner;
+use crate::refusal::StoreRefusal;
+use crate::standing::Standing;
+use crate::store::BlockStore;
+use crate::tables::{
+    BASE, PAGE, PAGE_LIMIT, class_for, clear, fill, find, left_in, room_for, standing_of, takes,
+};
+use raw_pages::PagesFault;
+use std::alloc::Global;
+use std::marker::Model;
+
+/// A store that looks through tables of its pages, numbers and slots at each call. It takes memory
+/// when it is made and never again, so no call answers Memory.
+#[derive(Drop)]
+pub struct PlainStore {
+    bytes: Vec<u8>,
+    owner: Vec<u32>,
+    used: Vec<u32>,
+    last: Vec<u32>,
+    standing: Vec<Option<Standing>>,
+    slots: Vec<u32>,
+}
+
+impl Model for PlainStore {
+    ghost use Rattle.cyc_arena.specs.Plain.{Plain, IsSound};
+
+    ghost Value = { Plain };
+
+    ghost view = { λ s. record { bytes = s.bytes.items; owner = s.owner.items; used = s.used.items; last = s.last.items; standing = s.standing.items; slots = s.slots.items } };
+
+    ghost invariant = { λ s. IsSound (record { bytes = s.bytes.items; owner = s.owner.items; used = s.used.items; last = s.last.items; standing = s.standing.items; slots = s.slots.items }) };
+}
+
+impl PlainStore {
+    /// A store of so many pages, all free, whose bytes are 0. Pages where `pages` isn't 1 to 4,096,
+    /// looked for first; Memory where the allocator refuses.
+    pub fn new(alloc: Global, pages: u32) -> Result<PlainStore, PagesFault>
+        ensures made { IfOk result (λ s. holdings_of s ≡ fresh pages) }
+        ensures pages { is_pages_fault result ≡ is_no_page_count pages }
+    {
+        if pages == 0 || pages > PAGE_LIMIT {
+            return Err(PagesFault::Pages);
+        }
+        let count = pages as usize;
+        let Ok(bytes) = vec![in alloc; 0u8; count * 4096] else {
+            return Err(PagesFault::Memory);
+        };
+        let Ok(owner) = vec![in alloc; 0u32; count] else {
+            return Err(PagesFault::Memory);
+        };
+        let Ok(used) = vec![in alloc; 0u32; count] else {
+            return Err(PagesFault::Memory);
+        };
+        let Ok(last) = vec![in alloc; 0u32; count + 1] else {
+            return Err(PagesFault::Memory);
+        };
+        let Ok(standing) = vec![in alloc; None; count + 1] else {
+            return Err(PagesFault::Memory);
+        };
+        let Ok(slots) = vec![in alloc; 0u32; count * 128] else {
+            return Err(PagesFault::Memory);
+        };
+        Ok(PlainStore {
+            bytes,
+            owner,
+            used,
+            last,
+            standing,
+            slots,
+        })
+    }
+
+    // a region or a key, whose number is its first page and one
+    fn make(&mut self, standing: Standing) -> Result<u32, StoreRefusal>
+        ensures does { Does result (holdings_of self.new) (made standing (answer_of result) (holdings_of self.old)) }
+        ensures full { is_refused_full result ≡ is_full (holdings_of self.old).counts }
+    {
+        match find(&self.owner, 0) {
+            Some(page) => {
+                let number = page as u32 + 1;
+                self.owner[page] = 2 * number + 1;
+                self.used[page] = 0;
+                self.last[page + 1] = number;
+                self.standing[page + 1] = Some(standing);
+                Ok(number)
+            }
+            None => Err(StoreRefusal::Full),
+        }
+    }
+
+    // a live number, its blocks and its pages are given back
+    fn release(&mut self, number: u32)
+        requires { is_some (standing_at self.old.standing number) ≡ true }
+        ensures { holdings_of self.new ≡ without_number number (holdings_of self.old) }
+    {
+        clear(&mut self.owner, 2 * number + 1);
+        self.last[number as usize] = 0;
+        self.standing[number as usize] = None;
+    }
+
+    // whose an address is
+    fn owner_of(&self, at: u32) -> Option<Owner>
+        ensures { result ≡ (holdings_of self.now).owner at }
+    {
+        if at < BASE {
+            return None;
+        }
+        let page = ((at - BASE) / PAGE) as usize;
+        if page >= self.owner.len() {
+            return None;
+        }
+        let place = (at - BASE) % PAGE;
+        let word = self.owner[page];
+        if word == 0 {
+            return None;
+        }
+        if word % 2 == 1 {
+            return if place < self.used[page] {
+                Some(Owner::Region(word / 2))
+            } else {
+                None
+            };
+        }
+        let room = word / 2 - 1;
+        let slot = place / room;
+        if self.slots[128 * page + slot as usize] == 2 * room + 1 {
+            Some(Owner::Alone(BASE + PAGE * page as u32 + slot * room, room))
+        } else {
+            None
+        }
+    }
+}
+
+impl BlockStore for PlainStore {
+    ghost holdings = { holdings_of };
+
+    fn region_new(&mut self) -> Result<u32, StoreRefusal> {
+        self.make(Standing::Lexical)
+    }
+
+    fn region_alloc(&mut self, handle: u32, bytes: u32) -> Result<u32, StoreRefusal> {
+        if !takes(handle, standing_of(&self.standing, handle)) {
+            return Err(StoreRefusal::BadHandle);
+        }
+        if bytes > PAGE {
+            return Err(StoreRefusal::Full);
+        }
+        let number = handle as usize;
+        let room = room_for(bytes);
+        let last = self.last[number];
+        let left = left_in(&self.used, last);
+        if room <= left {
+            let page = last - 1;
+            let used = PAGE - left;
+            self.used[page as usize] = used + room;
+            return Ok(BASE + PAGE * page + used);
+        }
+        match find(&self.owner, 0) {
+            Some(page) => {
+                self.owner[page] = 2 * handle + 1;
+                self.used[page] = room;
+                self.last[number] = page as u32 + 1;
+                Ok(BASE + PAGE * page as u32)
+            }
+            None => Err(StoreRefusal::Full),
+        }
+    }
+
+    fn region_free(&mut self, handle: u32) -> Result<(), StoreRefusal> {
+        match standing_of(&self.standing, handle) {
+            Some(Standing::Lexical) => {
+                self.release(handle);
+                Ok(())
+            }
+            _ => Err(StoreRefusal::BadHandle),
+        }
+    }
+
+    fn unique_alloc(&mut self, bytes: u32) -> Result<u32, StoreRefusal> {
+        if bytes > PAGE {
+            return Err(StoreRefusal::Full);
+        }
+        let size = class_for(bytes);
+        match find(&self.slots, 2 * size + 2) {
+            Some(slot) => {
+                self.slots[slot] = 2 * size + 1;
+                Ok(BASE + PAGE * (slot as u32 / 128) + slot as u32 % 128 * size)
+            }
+            None => match find(&self.owner, 0) {
+                Some(page) => {
+                    self.owner[page] = 2 * size + 2;
+                    fill(
+                        &mut self.slots,
+                        128 * page,
+                        (PAGE / size) as usize,
+                        2 * size + 2,
+                    );
+                    self.slots[128 * page] = 2 * size + 1;
+                    Ok(BASE + PAGE * page as u32)
+                }
+                None => Err(StoreRefusal::Full),
+            },
+        }
+    }
+
+    fn unique_free(&mut self, at: u32) -> Result<(), StoreRefusal> {
+        match self.owner_of(at) {
+            Some(Owner::Alone(from, room)) => {
+                if from != at {
+                    return Err(StoreRefusal::NotABlock);
+                }
+                let place = at - BASE;
+                let slot = 128 * (place / PAGE) + place % PAGE / room;
+                self.slots[slot as usize] = 2 * room + 2;
+                Ok(())
+            }
+            _ => Err(StoreRefusal::NotABlock),
+        }
+    }
+
+    fn key_new(&mut self) -> Result<u32, StoreRefusal> {
+        self.make(Standing::Closed)
+    }
+
+    fn key_open(&mut self, key: u32) -> Result<u32, StoreRefusal> {
+        match standing_of(&self.standing, key) {
+            Some(Standing::Closed) => {
+                self.standing[key as usize] = Some(Standing::Opened);
+                Ok(key)
+            }
+            Some(Standing::Opened) => Err(StoreRefusal::Open),
+            _ => Err(StoreRefusal::BadKey),
+        }
+    }
+
+    fn key_close(&mut self, key: u32) -> Result<(), StoreRefusal> {
+        match standing_of(&self.standing, key) {
+            Some(Standing::Opened) => {
+                self.standing[key as usize] = Some(Standing::Closed);
+                Ok(())
+            }
+            Some(Standing::Closed) => Err(StoreRefusal::NotOpen),
+            _ => Err(StoreRefusal::BadKey),
+        }
+    }
+
+    fn key_free(&mut self, key: u32) -> Result<(), StoreRefusal> {
+        match standing_of(&self.standing, key) {
+            Some(Standing::Closed) => {
+                self.release(key);
+                Ok(())
+            }
+            Some(Standing::Opened) => Err(StoreRefusal::Open),
+            _ => Err(StoreRefusal::BadKey),
+        }
+    }
+
+    fn load8(&self, at: u32) -> Option<u8> {
+        if at < BASE {
+            return None;
+        }
+        let place = (at - BASE) as usize;
+        if place < self.bytes.len() {
+            Some(self.bytes[place])
+        } else {
+            None
+        }
+    }
+
+    fn store8(&mut self, at: u32, byte: u8) -> bool {
+        if at < BASE {
+            return false;
+        }
+        let place = (at - BASE) as usize;
+        if place < self.bytes.len() {
+            self.bytes[place] = byte;
+            true
+        } else {
+            false
+        }
+    }
+
+    fn is_live(&self, at: u32) -> bool {
+        self.owner_of(at).is_some()
+    }
+
+    fn pages(&self) -> u32 {
+        self.owner.len() as u32
+    }
+}

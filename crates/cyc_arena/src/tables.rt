@@ -1,0 +1,124 @@
+// The plain store's tables: lists of words, which are looked through from their beginning.
+
+ghost use Rattle.std.specs.Prelude.{◌≡◌, ◌+◌, ◌-◌, ◌≤◌, ◌<◌, length, slice_index};
+ghost use Rattle.cyc_arena.specs.Counts.{class_of, room_of};
+ghost use Rattle.cyc_arena.specs.Lawful.{takes_blocks};
+ghost use Rattle.cyc_arena.specs.Plain.{Finds, IsCleared, filled, left_of, standing_at};
+
+use crate::standing::Standing;
+
+/// The arena's first address.
+pub(crate) const BASE: u32 = 0x1000_0000;
+
+/// The most pages of a store.
+pub(crate) const PAGE_LIMIT: u32 = 4096;
+
+/// The bytes of a page.
+pub(crate) const PAGE: u32 = 4096;
+
+// the first place with this word
+pub(crate) fn find(words: &[u32], word: u32) -> Option<usize>
+    ensures { Finds word words.now result }
+{
+    let mut p: usize = 0;
+    'words: while p < words.len() {
+        if words[p] == word {
+            return Some(p);
+        }
+        p += 1;
+    }
+    None
+}
+
+// writes 0 wherever this word stands
+pub(crate) fn clear(words: &mut Vec<u32>, word: u32)
+    ensures { IsCleared word words.old.items words.new.items }
+{
+    let mut p: usize = 0;
+    'words: while p < words.len() {
+        if words[p] == word {
+            words[p] = 0;
+        }
+        p += 1;
+    }
+}
+
+// writes this word at so many places
+pub(crate) fn fill(words: &mut Vec<u32>, from: usize, count: usize, word: u32)
+    requires { from + count ≤ length words.old.items }
+    ensures { words.new.items ≡ filled count from word words.old.items }
+{
+    let mut n: usize = 0;
+    'words: while n < count {
+        words[from + n] = word;
+        n += 1;
+    }
+}
+
+// what a number stands for
+pub(crate) fn standing_of(standing: &Vec<Option<Standing>>, number: u32) -> Option<Standing>
+    ensures { result ≡ standing_at standing.now.items number }
+{
+    let place = number as usize;
+    if place < standing.len() {
+        standing[place]
+    } else {
+        None
+    }
+}
+
+// whether blocks are taken under a number that stands for this
+pub(crate) fn takes(handle: u32, standing: Option<Standing>) -> bool
+    ensures { result ≡ takes_blocks handle standing }
+{
+    match standing {
+        None => handle == 0,
+        Some(Standing::Lexical) => true,
+        Some(Standing::Opened) => true,
+        Some(Standing::Closed) => false,
+    }
+}
+
+// what is left of a last page, which is named by its number and one
+pub(crate) fn left_in(used: &Vec<u32>, last: u32) -> u32
+    requires within { slice_index used.now.items (last - 1) ≤ 4096 }
+    requires place { last ≤ length used.now.items }
+    ensures { result ≡ left_of used.now.items last }
+{
+    if last == 0 {
+        0
+    } else {
+        PAGE - used[last as usize - 1]
+    }
+}
+
+// the room of a region's block
+pub(crate) fn room_for(bytes: u32) -> u32
+    requires { bytes ≤ 4096 }
+    ensures { result ≡ room_of bytes }
+{
+    if bytes == 0 { 8 } else { (bytes + 7) / 8 * 8 }
+}
+
+// the class of a unique block
+pub(crate) fn class_for(bytes: u32) -> u32
+    ensures { result ≡ class_of bytes }
+{
+    if bytes <= 32 {
+        32
+    } else if bytes <= 64 {
+        64
+    } else if bytes <= 128 {
+        128
+    } else if bytes <= 256 {
+        256
+    } else if bytes <= 512 {
+        512
+    } else if bytes <= 1024 {
+        1024
+    } else if bytes <= 2048 {
+        2048
+    } else {
+        4096
+    }
+}

@@ -1,20 +1,20 @@
 -- How far a run has come: what it took, what it wrote and what it has gathered.
 use Rattle.std.proofs.Common.{◌≡◌, ℕ, ◌+◌, ◌<◌, ◌≤◌, ◌⊎◌, Bool, true, false, List, [], ◌∷◌, ◌++◌, Option, Some, None, IfSome, refl, sym, ap, ◌∙◌, subst, inl, inr, append_assoc, append-nil, arith}
 use Rattle.std.specs.List.{Contains}
-use Rattle.std.proofs.lemmas.List.Elements.{Contains-push_cases}
 use Rattle.std.specs.Io.KnownBytes.{Appends, Consumes, Keeps, IsAtEnd}
 use Rattle.std.proofs.KnownBytes.{Appends-nil, Appends-trans, Consumes-nil, Consumes-trans, Consumes-kept}
 use Rattle.cyc_words.specs.Events.{Event, ByteRead, ByteWritten, output}
+use Rattle.cyc_words.proofs.Events.{output_append, told_before}
 use Rattle.rv32_machine.specs.State.{State, Lengths, Stop, Over, Runs}
 use Rattle.rv32_machine.specs.Step.{Shown, Nothing, Writes, Asks, Stops, step, given}
 use Rattle.rv32_machine.specs.Run.{AreBytes, Run, run_steps, from}
 use Rattle.cyc_host.specs.Transfers.{WritesBut, Answers}
-use Rattle.cyc_host.specs.Hosted.{IsHostedToTheEnd, EndsAs, Written}
+use Rattle.cyc_host.specs.Hosted.{IsHosted, EndsAs, Written}
 use Rattle.cyc_host.specs.declared.ending.Ending.{Ending}
 use Rattle.cyc_host.specs.declared.ending.Ending.TheVariants as ending
-use Rattle.cyc_host.proofs.Written.{written-then}
+use Rattle.cyc_host.proofs.Written.{written_then}
 use Rattle.cyc_host.proofs.Modes.{stopped, runs_on, runs_after_write, waits_for, runs_again}
-use Rattle.cyc_host.proofs.Stepping.{one_more_step, after_nothing, after_write, after_ask, after_stop, output-append}
+use Rattle.cyc_host.proofs.Stepping.{one_more_step, after_nothing, after_write, after_ask, after_stop}
 
 -- the machine's step from one state to another, and what it shows
 pub record IsStep (n : Lengths) (old new : State) (shown : Shown) : Type 0 where
@@ -40,21 +40,14 @@ pub runs_at_answer : {n : Lengths} {old waiting new : State} (answer : Option �
 runs_at_answer {n} {old} {waiting} {new} answer x e =
     ap (λ (s : State). s.mode) e ∙ runs_again answer waiting (ap (λ (s : State). s.mode) x.state ∙ waits_for n old x.shows)
 
--- what `flush` does at its end
-pub all_written : (old new : Option (List ℕ)) (bytes : List ℕ) → Appends old new bytes → WritesBut old new bytes []
-all_written old new bytes p = record { written = bytes; appended = p; split = sym (append-nil bytes) }
-
--- an event of a longer list is one of the shorter or the last one
-told_before : {P : Type 0} (events : List Event) (last x : Event) → (Contains events x → P) → (last ≡ x → P) → Contains (events ++ last ∷ []) x → P
-told_before events last x early late has = elim (Contains-push_cases events last x has) [ inl there ↦ early there | inr same ↦ late same ]
-
 -- bytes, and one more
-AreBytes-push : (bytes : List ℕ) (byte : ℕ) → AreBytes bytes → byte < 256 → AreBytes (bytes ++ byte ∷ [])
-AreBytes-push [] byte all below = (below, tt)
-AreBytes-push (first ∷ rest) byte (fits, all) below = (fits, AreBytes-push rest byte all below)
+bytes_push : (bytes : List ℕ) (byte : ℕ) → AreBytes bytes → byte < 256 → AreBytes (bytes ++ byte ∷ [])
+bytes_push [] byte all below = (below, tt)
+bytes_push (first ∷ rest) byte (fits, all) below = (fits, bytes_push rest byte all below)
 
 -- A run of so many steps has taken these bytes and no more, whatever else follows them; after the end nothing follows.
-pub record Progress (n : Lengths) (old : State) (count : ℕ) (is_over : Bool) (now : State) (reader_old reader_new writer_old writer_new : Option (List ℕ)) (gathered : List ℕ) : Type 0 where
+pub record Progress (n : Lengths) (old : State) (count : ℕ) (is_over : Bool) (now : State)
+    (reader_old reader_new writer_old writer_new : Option (List ℕ)) (gathered : List ℕ) : Type 0 where
   pub input : List ℕ
   pub events : List Event
   pub written : List ℕ
@@ -64,7 +57,8 @@ pub record Progress (n : Lengths) (old : State) (count : ℕ) (is_over : Bool) (
   pub shows : output events ≡ written ++ gathered
   pub told : Contains events (ByteRead None) → is_over ≡ true
   pub at_end : is_over ≡ true → IsAtEnd reader_new
-  pub ran : (more : List ℕ) → (is_over ≡ true → more ≡ []) → run_steps n count (from old (input ++ more)) ≡ record { state = now; input = more; events = events }
+  pub ran : (more : List ℕ) → (is_over ≡ true → more ≡ [])
+      → run_steps n count (from old (input ++ more)) ≡ record { state = now; input = more; events = events }
 
 module _ {n : Lengths} {old : State} {reader_old writer_old : Option (List ℕ)} where
   -- nothing has been done
@@ -82,10 +76,11 @@ module _ {n : Lengths} {old : State} {reader_old writer_old : Option (List ℕ)}
     ran = λ more end. refl;
   }
 
-  module _ {count : ℕ} {is_over : Bool} {now : State} {reader writer : Option (List ℕ)} {gathered : List ℕ} where
+  module _ {count : ℕ} {is_over : Bool} {now : State} {reader writer : Option (List ℕ)} {gathered : List ℕ}
+      (p : Progress n old count is_over now reader_old reader writer_old writer gathered) where
     -- a step that shows nothing
-    pub went_on : Progress n old count is_over now reader_old reader writer_old writer gathered → (new : State) → IsStep n now new Nothing → Progress n old (count + 1) is_over new reader_old reader writer_old writer gathered
-    went_on p new x = record {
+    pub went_on : (new : State) → IsStep n now new Nothing → Progress n old (count + 1) is_over new reader_old reader writer_old writer gathered
+    went_on new x = record {
       input = p.input;
       events = p.events;
       written = p.written;
@@ -95,12 +90,14 @@ module _ {n : Lengths} {old : State} {reader_old writer_old : Option (List ℕ)}
       shows = p.shows;
       told = p.told;
       at_end = p.at_end;
-      ran = λ more end. one_more_step n count _ _ (p.ran more end) ∙ after_nothing _ _ x.shows ∙ ap (λ (s : State). record { state = s; input = more; events = p.events }) (sym x.state);
+      ran = λ more end. one_more_step n count _ _ (p.ran more end) ∙ after_nothing _ _ x.shows
+          ∙ ap (λ (s : State). record { state = s; input = more; events = p.events }) (sym x.state);
     }
 
     -- a step that stops
-    pub stopped_at : Progress n old count is_over now reader_old reader writer_old writer gathered → (new : State) (why : Stop) → IsStep n now new (Stops why) → Progress n old (count + 1) is_over new reader_old reader writer_old writer gathered
-    stopped_at p new why x = record {
+    pub stopped_at : (new : State) (why : Stop) → IsStep n now new (Stops why)
+        → Progress n old (count + 1) is_over new reader_old reader writer_old writer gathered
+    stopped_at new why x = record {
       input = p.input;
       events = p.events;
       written = p.written;
@@ -110,19 +107,21 @@ module _ {n : Lengths} {old : State} {reader_old writer_old : Option (List ℕ)}
       shows = p.shows;
       told = p.told;
       at_end = p.at_end;
-      ran = λ more end. one_more_step n count _ _ (p.ran more end) ∙ after_stop _ _ why x.shows ∙ ap (λ (s : State). record { state = s; input = more; events = p.events }) (sym x.state);
+      ran = λ more end. one_more_step n count _ _ (p.ran more end) ∙ after_stop _ _ why x.shows
+          ∙ ap (λ (s : State). record { state = s; input = more; events = p.events }) (sym x.state);
     }
 
     -- a step that gives a byte, which is gathered
-    pub put_one : Progress n old count is_over now reader_old reader writer_old writer gathered → (new : State) (byte : ℕ) → IsStep n now new (Writes byte) → Progress n old (count + 1) is_over new reader_old reader writer_old writer (gathered ++ byte ∷ [])
-    put_one p new byte x = record {
+    pub put_one : (new : State) (byte : ℕ) → IsStep n now new (Writes byte)
+        → Progress n old (count + 1) is_over new reader_old reader writer_old writer (gathered ++ byte ∷ [])
+    put_one new byte x = record {
       input = p.input;
       events = p.events ++ ByteWritten byte ∷ [];
       written = p.written;
       consumed = p.consumed;
       bytes = p.bytes;
       appended = p.appended;
-      shows = output-append p.events (ByteWritten byte ∷ []) ∙ ap (λ l. l ++ byte ∷ []) p.shows ∙ append_assoc p.written gathered (byte ∷ []);
+      shows = output_append p.events (ByteWritten byte ∷ []) ∙ ap (λ l. l ++ byte ∷ []) p.shows ∙ append_assoc p.written gathered (byte ∷ []);
       told = λ has. told_before p.events _ _ p.told (λ same. (cc)) has;
       at_end = p.at_end;
       ran = λ more end. one_more_step n count _ _ (p.ran more end) ∙ after_write _ _ byte x.shows
@@ -130,8 +129,9 @@ module _ {n : Lengths} {old : State} {reader_old writer_old : Option (List ℕ)}
     }
 
     -- some of what is gathered is written
-    pub wrote : Progress n old count is_over now reader_old reader writer_old writer gathered → (writer_next : Option (List ℕ)) (rest : List ℕ) → WritesBut writer writer_next gathered rest → Progress n old count is_over now reader_old reader writer_old writer_next rest
-    wrote p writer_next rest x = record {
+    pub wrote : (writer_next : Option (List ℕ)) (rest : List ℕ) → WritesBut writer writer_next gathered rest
+        → Progress n old count is_over now reader_old reader writer_old writer_next rest
+    wrote writer_next rest x = record {
       input = p.input;
       events = p.events;
       written = p.written ++ x.written;
@@ -145,8 +145,9 @@ module _ {n : Lengths} {old : State} {reader_old writer_old : Option (List ℕ)}
     }
 
     -- a read took nothing
-    pub kept : Progress n old count is_over now reader_old reader writer_old writer gathered → (reader_next : Option (List ℕ)) → Keeps reader reader_next → is_over ≡ false → Progress n old count is_over now reader_old reader_next writer_old writer gathered
-    kept p reader_next keeps was_open = record {
+    pub kept : (reader_next : Option (List ℕ)) → Keeps reader reader_next → is_over ≡ false
+        → Progress n old count is_over now reader_old reader_next writer_old writer gathered
+    kept reader_next keeps was_open = record {
       input = p.input;
       events = p.events;
       written = p.written;
@@ -160,63 +161,66 @@ module _ {n : Lengths} {old : State} {reader_old writer_old : Option (List ℕ)}
     }
 
     -- a byte was wanted, and the answer is given
-    pub answered : Progress n old count is_over now reader_old reader writer_old writer gathered → (waiting new : State) (reader_next : Option (List ℕ)) (will_be : Bool) (answer : Option ℕ) → IsStep n now waiting Asks → Answers reader reader_next is_over will_be answer
-        → IfSome answer (λ byte. byte < 256) → new ≡ given answer waiting → Progress n old (count + 1) will_be new reader_old reader_next writer_old writer gathered
-    answered p waiting new reader_next will_be None x (consumes, ended, end) below e = record {
+    pub answered : (waiting new : State) (reader_next : Option (List ℕ)) (will_be : Bool) (answer : Option ℕ) → IsStep n now waiting Asks
+        → Answers reader reader_next is_over will_be answer → IfSome answer (λ byte. byte < 256) → new ≡ given answer waiting
+        → Progress n old (count + 1) will_be new reader_old reader_next writer_old writer gathered
+    answered waiting new reader_next will_be None x (consumes, ended, end) below e = record {
       input = p.input;
       events = p.events ++ ByteRead None ∷ [];
       written = p.written;
       consumed = subst (Consumes _ _) (append-nil p.input) (Consumes-trans _ _ _ _ _ p.consumed consumes);
       bytes = p.bytes;
       appended = p.appended;
-      shows = output-append p.events (ByteRead None ∷ []) ∙ append-nil (output p.events) ∙ p.shows;
+      shows = output_append p.events (ByteRead None ∷ []) ∙ append-nil (output p.events) ∙ p.shows;
       told = λ has. ended;
       at_end = λ over. elim end [ inl reached ↦ reached | inr (before, same) ↦ subst IsAtEnd (sym same) (p.at_end before) ];
       ran = λ more last.
           let none : more ≡ [] = last ended in
-          let P : List ℕ → Type 0 = λ l. run_steps n (count + 1) (from old (p.input ++ l)) ≡ record { state = new; input = l; events = p.events ++ ByteRead None ∷ [] } in
+          let P : List ℕ → Type 0 = λ l. run_steps n (count + 1) (from old (p.input ++ l))
+          ≡ record { state = new; input = l; events = p.events ++ ByteRead None ∷ [] } in
           subst P (sym none)
           (one_more_step n count _ _ (p.ran [] (λ _. refl)) ∙ after_ask (record { state = now; input = []; events = p.events }) _ x.shows
           ∙ ap (λ (s : State). record { state = s; input = []; events = p.events ++ ByteRead None ∷ [] }) (ap (given None) (sym x.state) ∙ sym e));
     }
-    answered p waiting new reader_next will_be (Some byte) x (consumes, before, after) below e = record {
+    answered waiting new reader_next will_be (Some byte) x (consumes, before, after) below e = record {
       input = p.input ++ byte ∷ [];
       events = p.events ++ ByteRead (Some byte) ∷ [];
       written = p.written;
       consumed = Consumes-trans _ _ _ _ _ p.consumed consumes;
-      bytes = AreBytes-push p.input byte p.bytes below;
+      bytes = bytes_push p.input byte p.bytes below;
       appended = p.appended;
-      shows = output-append p.events (ByteRead (Some byte) ∷ []) ∙ append-nil (output p.events) ∙ p.shows;
+      shows = output_append p.events (ByteRead (Some byte) ∷ []) ∙ append-nil (output p.events) ∙ p.shows;
       told = λ has. absurd (let was : is_over ≡ true = told_before p.events _ _ p.told (λ same. (cc)) has in cc);
       at_end = λ over. absurd (cc);
       ran = λ more last.
           let first = ap (λ l. run_steps n (count + 1) (from old l)) (append_assoc p.input (byte ∷ []) more) in
-          first ∙ one_more_step n count _ _ (p.ran (byte ∷ more) (λ over. (cc))) ∙ after_ask (record { state = now; input = byte ∷ more; events = p.events }) _ x.shows
-          ∙ ap (λ (s : State). record { state = s; input = more; events = p.events ++ ByteRead (Some byte) ∷ [] }) (ap (given (Some byte)) (sym x.state) ∙ sym e);
+          first ∙ one_more_step n count _ _ (p.ran (byte ∷ more) (λ over. (cc)))
+          ∙ after_ask (record { state = now; input = byte ∷ more; events = p.events }) _ x.shows
+          ∙ ap (λ (s : State). record { state = s; input = more; events = p.events ++ ByteRead (Some byte) ∷ [] })
+          (ap (given (Some byte)) (sym x.state) ∙ sym e);
     }
 
     -- the run at its end
-    pub hosted : Progress n old count is_over now reader_old reader writer_old writer gathered → (why : Ending) (limit : ℕ) (final : State) (writer_next : Option (List ℕ)) → count ≤ limit → Written why writer writer_next gathered
-        → EndsAs why n limit count now final → IsHostedToTheEnd why n limit old final reader_old reader writer_old writer_next
-    hosted p why limit final writer_next within rest ends =
+    pub hosted : (why : Ending) (limit : ℕ) (final : State) (writer_next : Option (List ℕ)) → count ≤ limit
+        → Written why writer writer_next gathered → EndsAs why n limit count now final → IsHosted why n limit old final reader_old reader writer_old writer_next
+    hosted why limit final writer_next within rest ends =
         let whole : run_steps n count (from old p.input) ≡ record { state = now; input = []; events = p.events } =
         ap (λ l. run_steps n count (from old l)) (sym (append-nil p.input)) ∙ p.ran [] (λ _. refl) in
         record {
-          hosted = record {
-            input = p.input;
-            count = count;
-            within = within;
-            given = p.consumed;
-            bytes = p.bytes;
-            taken = ap (λ (x : Run). x.input) whole;
-            written = subst (Written why writer_old writer_next) (sym (ap (λ (x : Run). output x.events) whole ∙ p.shows)) (written-then why _ _ _ _ _ p.appended rest);
-            ends = subst (λ (s : State). EndsAs why n limit count s final) (sym (ap (λ (x : Run). x.state) whole)) ends;
-          };
+          input = p.input;
+          count = count;
+          within = within;
+          given = p.consumed;
+          bytes = p.bytes;
+          taken = ap (λ (x : Run). x.input) whole;
+          written = subst (Written why writer_old writer_next) (sym (ap (λ (x : Run). output x.events) whole ∙ p.shows))
+              (written_then why _ _ _ _ _ p.appended rest);
+          ends = subst (λ (s : State). EndsAs why n limit count s final) (sym (ap (λ (x : Run). x.state) whole)) ends;
           at_end = λ has. p.at_end (p.told (subst (λ (es : List Event). Contains es (ByteRead None)) (ap (λ (x : Run). x.events) whole) has));
         }
 
 -- an ending, or a failed write in its place, with the machine at its last state
-pub either_end : (why result : Ending) (n : Lengths) (limit count : ℕ) (now : State) → (result ≡ why) ⊎ (result ≡ ending.WriteFault) → EndsAs why n limit count now now
-    → EndsAs result n limit count now now
+pub either_end : (why result : Ending) (n : Lengths) (limit count : ℕ) (now : State)
+    → (result ≡ why) ⊎ (result ≡ ending.WriteFault) → EndsAs why n limit count now now → EndsAs result n limit count now now
 either_end why result n limit count now (inl same) ends = subst (λ (k : Ending). EndsAs k n limit count now now) (sym same) ends
 either_end why result n limit count now (inr failed) ends = subst (λ (k : Ending). EndsAs k n limit count now now) (sym failed) (inl refl)

@@ -1,6 +1,6 @@
 -- What a run becomes by one step more.
-use Rattle.std.proofs.Common.{◌≡◌, ℕ, zero, suc, ◌+◌, List, [], ◌∷◌, ◌++◌, refl, ap, ◌∙◌, subst, add-one}
-use Rattle.cyc_words.specs.Events.{Event, ByteRead, ByteWritten, RegionNew, RegionAlloc, RegionFree, UniqueAlloc, UniqueFree, KeyNew, KeyOpen, KeyClose, KeyFree, output}
+use Rattle.std.proofs.Common.{◌≡◌, ℕ, zero, suc, ◌+◌, [], ◌∷◌, ◌++◌, refl, ap, ◌∙◌, subst, add-one}
+use Rattle.cyc_words.specs.Events.{ByteWritten}
 use Rattle.rv32_machine.specs.State.{Lengths, Stop}
 use Rattle.rv32_machine.specs.Step.{Stepped, Shown, Nothing, Writes, Asks, Stops}
 use Rattle.rv32_machine.specs.Run.{Run, answer_from, after_step, run_step, run_steps}
@@ -17,27 +17,14 @@ one_more_step n count start now ran = ap (λ k. run_steps n k start) (add-one co
 pub after_nothing : (r : Run) (x : Stepped) → Nothing ≡ x.shown → after_step r x ≡ record r { state = x.state }
 after_nothing r x e = subst (λ (v : Shown). after_step r (record { shown = v; state = x.state }) ≡ record r { state = x.state }) e refl
 
-pub after_write : (r : Run) (x : Stepped) (byte : ℕ) → Writes byte ≡ x.shown → after_step r x ≡ record r { state = x.state; events = r.events ++ ByteWritten byte ∷ [] }
+pub after_write : (r : Run) (x : Stepped) (byte : ℕ) → Writes byte ≡ x.shown
+    → after_step r x ≡ record r { state = x.state; events = r.events ++ ByteWritten byte ∷ [] }
 after_write r x byte e =
-    subst (λ (v : Shown). after_step r (record { shown = v; state = x.state }) ≡ record r { state = x.state; events = r.events ++ ByteWritten byte ∷ [] }) e refl
+    subst (λ (v : Shown). after_step r (record { shown = v; state = x.state })
+    ≡ record r { state = x.state; events = r.events ++ ByteWritten byte ∷ [] }) e refl
 
 pub after_ask : (r : Run) (x : Stepped) → Asks ≡ x.shown → after_step r x ≡ answer_from r.input r x.state
 after_ask r x e = subst (λ (v : Shown). after_step r (record { shown = v; state = x.state }) ≡ answer_from r.input r x.state) e refl
 
 pub after_stop : (r : Run) (x : Stepped) (why : Stop) → Stops why ≡ x.shown → after_step r x ≡ record r { state = x.state }
 after_stop r x why e = subst (λ (v : Shown). after_step r (record { shown = v; state = x.state }) ≡ record r { state = x.state }) e refl
-
--- the output of events, and then more
-pub output-append : (first more : List Event) → output (first ++ more) ≡ output first ++ output more
-output-append [] more = refl
-output-append (ByteWritten b ∷ es) more = ap (λ l. b ∷ l) (output-append es more)
-output-append (ByteRead b ∷ es) more = output-append es more
-output-append (RegionNew r ∷ es) more = output-append es more
-output-append (RegionAlloc r n ∷ es) more = output-append es more
-output-append (RegionFree r ∷ es) more = output-append es more
-output-append (UniqueAlloc b n ∷ es) more = output-append es more
-output-append (UniqueFree b ∷ es) more = output-append es more
-output-append (KeyNew k ∷ es) more = output-append es more
-output-append (KeyOpen k ∷ es) more = output-append es more
-output-append (KeyClose k ∷ es) more = output-append es more
-output-append (KeyFree k ∷ es) more = output-append es more

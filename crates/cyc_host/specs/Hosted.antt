@@ -1,5 +1,5 @@
 -- What a run between a reader and a writer does: the machine's run on the bytes that the reader gave, whose output goes to the writer.
-use Rattle.std.specs.Prelude.{◌≡◌, ℕ, ◌≤◌, ◌⊎◌, List, [], Option, None, take, Contains}
+use Rattle.std.specs.Prelude.{◌≡◌, ℕ, ◌<◌, ◌≤◌, ◌⊎◌, List, [], Option, None, take, Contains}
 use Rattle.std.specs.Io.KnownBytes.{Appends, Consumes, IsAtEnd}
 use Rattle.cyc_words.specs.Events.{output, ByteRead}
 use Rattle.cyc_words.specs.Words.{word}
@@ -20,17 +20,19 @@ Written (ending.Fault fault) old new bytes = Appends old new bytes
 Written ending.ReadFault old new bytes = Appends old new bytes
 
 -- The state in which so many of at most `limit` steps have left the machine, and why the run ended there. A read fault leaves it
--- waiting, so that another run reads again; at a step limit another run goes on.
+-- waiting, by one step more, so that another run reads again; at a step limit another run goes on. A write fault before a read leaves
+-- it waiting too.
 abbrev pub EndsAs : Ending → Lengths → (limit count : ℕ) → (left now : State) → Type 0
 EndsAs (ending.Ended status) n limit count left now = (now ≡ left) × (left.mode ≡ Over (Stop.Ended (word status)))
 EndsAs (ending.Raised kind) n limit count left now = (now ≡ left) × (left.mode ≡ Over (Stop.Raised kind))
 EndsAs ending.Exhausted n limit count left now = (now ≡ left) × (left.mode ≡ Over Stop.Exhausted)
 EndsAs (ending.Fault fault) n limit count left now = (now ≡ left) × (left.mode ≡ Over (Stop.Fault fault))
 EndsAs ending.StepLimit n limit count left now = (now ≡ left) × (count ≡ limit)
-EndsAs ending.ReadFault n limit count left now = (now ≡ (step n left).state) × ((step n left).shown ≡ Asks)
-EndsAs ending.WriteFault n limit count left now = (now ≡ left) ⊎ (now ≡ (step n left).state)
+EndsAs ending.ReadFault n limit count left now = (count < limit) × ((now ≡ (step n left).state) × ((step n left).shown ≡ Asks))
+EndsAs ending.WriteFault n limit count left now = (now ≡ left) ⊎ ((count < limit) × (now ≡ (step n left).state))
 
 -- A run of at most `limit` steps, from one state to another: of so many steps, on the bytes that the reader gave, all of which were taken.
+-- The machine was told of the input's end only where the reader is at its end.
 pub record IsHosted (why : Ending) (n : Lengths) (limit : ℕ) (old new : State) (reader_old reader_new writer_old writer_new : Option (List ℕ)) : Type 0 where
   pub input : List ℕ
   pub count : ℕ
@@ -40,8 +42,4 @@ pub record IsHosted (why : Ending) (n : Lengths) (limit : ℕ) (old new : State)
   pub taken : (run_steps n count (from old input)).input ≡ []
   pub written : Written why writer_old writer_new (output (run_steps n count (from old input)).events)
   pub ends : EndsAs why n limit count (run_steps n count (from old input)).state new
-
--- The same, where the machine was told of the input's end only if the reader was at its end.
-pub record IsHostedToTheEnd (why : Ending) (n : Lengths) (limit : ℕ) (old new : State) (reader_old reader_new writer_old writer_new : Option (List ℕ)) : Type 0 where
-  pub hosted : IsHosted why n limit old new reader_old reader_new writer_old writer_new
-  pub at_end : Contains (run_steps n hosted.count (from old hosted.input)).events (ByteRead None) → IsAtEnd reader_new
+  pub at_end : Contains (run_steps n count (from old input)).events (ByteRead None) → IsAtEnd reader_new

@@ -1,8 +1,9 @@
 //! Runs a machine between a reader and a writer.
 //!
 //! `run` steps a machine, gathers its output and writes it when 4,096 bytes are gathered, before each read and at each
-//! ending, and reads a byte where the machine asks for one. `put`, `flush` and `read` are these transfers by themselves. Stands on `rv32_machine`, `cyc_words` and `arrayvec`; its tests and
-//! proofs also on `rv32_isa` and `cyc_image`.
+//! ending, and reads a byte where the machine asks for one. `Gathered` and `read` are these transfers by themselves. How
+//! many calls of a device fail is said exactly. Stands on `rv32_machine`, `cyc_words`, `arrayvec` and `thiserror`; its
+//! tests and proofs also on `rv32_isa` and `cyc_image`.
 #![tactic(auto)]
 
 mod ending;
@@ -13,4 +14,4 @@ mod transfer;
 
 pub use ending::Ending;
 pub use running::run;
-pub use transfer::{GATHERED_BYTES, ReadFailed, WriteFailed, flush, put, read};
+pub use transfer::{GATHERED_BYTES, Gathered, ReadFailed, WriteFailed, read};

@@ -1,30 +1,24 @@
 // The loop of a run.
 
-ghost use Rattle.std.specs.Prelude.{◌≡◌, ◌≢◌, ◌<◌, ◌≤◌, ◌⊎◌};
+ghost use Rattle.std.specs.Prelude.{◌≡◌, ◌≢◌, ◌<◌, ◌⊎◌};
 ghost use Rattle.rv32_machine.specs.Arrays.{lengths_of, state_of};
 ghost use Rattle.rv32_machine.specs.State.{Runs};
-ghost use Rattle.cyc_host.specs.Failures.{HasFailed};
-ghost use Rattle.cyc_host.specs.Hosted.{IsHosted, IsHostedToTheEnd, Written};
+ghost use Rattle.cyc_host.specs.Failures.{reads_failed, writes_failed};
+ghost use Rattle.cyc_host.specs.Hosted.{IsHosted, Written};
 
 use crate::ending::Ending;
-use crate::transfer::{GATHERED_BYTES, flush, put, read};
-use arrayvec::ArrayVec;
+use crate::transfer::{Gathered, read};
 use cyc_words::{Input, Output};
 use rv32_machine::{Event, Machine};
 
 /// Writes what is gathered, at an ending. A failed write takes the ending's place.
-fn finish<W: Output>(
-    gathered: &mut ArrayVec<u8, GATHERED_BYTES>,
-    writer: &mut W,
-    ending: Ending,
-) -> Ending
+fn finish<W: Output>(gathered: &mut Gathered, writer: &mut W, ending: Ending) -> Ending
     requires { ending ≢ Ending.WriteFault }
     ensures same { (result ≡ ending) ⊎ (result ≡ Ending.WriteFault) }
-    ensures written { Written result (W.contents writer.old) (W.contents writer.new) gathered.old.items }
-    ensures grows { W.fault_count writer.old ≤ W.fault_count writer.new }
-    ensures failed { result ≡ Ending.WriteFault → HasFailed (W.fault_count writer.old) (W.fault_count writer.new) }
+    ensures written { Written result (W.contents writer.old) (W.contents writer.new) gathered.old }
+    ensures writes { W.fault_count writer.new ≡ writes_failed result (W.fault_count writer.old) }
 {
-    match flush(gathered, writer) {
+    match gathered.flush(writer) {
         Ok(()) => ending,
         Err(_) => Ending::WriteFault,
     }
@@ -33,8 +27,8 @@ fn finish<W: Output>(
 /// Runs a machine for at most so many steps.
 ///
 /// Output is written when 4,096 bytes are gathered, before each read and at each ending. `WriteFault` comes in place of any
-/// other ending, where a write failed or took no byte; `ReadFault` where a read failed. A byte that is asked for at the last
-/// step is still answered. Takes no memory.
+/// other ending, where a write failed or took no byte; `ReadFault` where a read failed. After a failed call neither device is
+/// called again. A byte that is asked for at the last step is still answered. Takes no memory.
 pub fn run<R: Input, W: Output>(
     machine: &mut Machine,
     reader: &mut R,
@@ -44,28 +38,25 @@ pub fn run<R: Input, W: Output>(
     // what is written is the output of the machine's run on the bytes that the reader gave, and the ending is the machine's
     ensures hosted { IsHosted result (lengths_of machine.old) steps (state_of machine.old) (state_of machine.new)
         (R.remaining reader.old) (R.remaining reader.new) (W.contents writer.old) (W.contents writer.new) }
-    // the machine is told of the input's end only where the reader is at its end
-    ensures at_end { IsHostedToTheEnd result (lengths_of machine.old) steps (state_of machine.old) (state_of machine.new)
-        (R.remaining reader.old) (R.remaining reader.new) (W.contents writer.old) (W.contents writer.new) }
     // at the step limit the machine runs on
     ensures goes_on { result ≡ Ending.StepLimit → 0 < steps → (state_of machine.new).mode ≡ Runs }
     ensures lengths { lengths_of machine.new ≡ lengths_of machine.old }
-    // each device's fault comes only where a call of that device failed
-    ensures read_fault { result ≡ Ending.ReadFault → HasFailed (R.fault_count reader.old) (R.fault_count reader.new) }
-    ensures write_fault { result ≡ Ending.WriteFault → HasFailed (W.fault_count writer.old) (W.fault_count writer.new) }
+    // each device's fault comes where just one call of that device failed, and any other ending where none did
+    ensures reads { R.fault_count reader.new ≡ reads_failed result (R.fault_count reader.old) }
+    ensures writes { W.fault_count writer.new ≡ writes_failed result (W.fault_count writer.old) }
 {
-    let mut gathered = ArrayVec::new();
+    let mut gathered = Gathered::new();
     let mut is_over = false;
     'steps: for _ in 0..steps {
         match machine.step() {
             Event::Next => {}
             Event::Put(byte) => {
-                if put(&mut gathered, writer, byte).is_err() {
+                if gathered.put(writer, byte).is_err() {
                     return Ending::WriteFault;
                 }
             }
             Event::Get => {
-                if flush(&mut gathered, writer).is_err() {
+                if gathered.flush(writer).is_err() {
                     return Ending::WriteFault;
                 }
                 match read(reader, &mut is_over) {

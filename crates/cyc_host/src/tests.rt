@@ -11,7 +11,8 @@ use std::io;
 use std::io::{Error, ErrorKind, Read, Write};
 use std::test::Fail;
 
-// gives one byte at a call and the end after the last one; fails at the call of that number
+// gives one byte at a call and the end after the last one; fails at the call of that number, and where it is asked for
+// anything but one byte
 #[derive(Drop)]
 struct Script {
     bytes: &'static [u8],
@@ -32,10 +33,10 @@ impl Script {
 impl Read for Script {
     fn read(&mut self, buffer: &mut [u8]) -> io::Result<usize> {
         self.calls = self.calls.saturating_add(1);
-        if self.calls == self.fails_at {
+        if self.calls == self.fails_at || buffer.len() != 1 {
             return Err(Error::from(ErrorKind::Other));
         }
-        if buffer.is_empty() || self.bytes.is_empty() {
+        if self.bytes.is_empty() {
             return Ok(0);
         }
         buffer[0] = self.bytes[0];
@@ -282,16 +283,68 @@ fn a_failed_write_takes_the_place_of_an_ending(rt: HostRuntime) -> Result<(), Fa
         let ending = run(&mut machine, &mut Script::new(b"", 0), &mut writer, 1000);
         assert_eq!(rt; ending, Ending::WriteFault);
         assert_eq!(rt; writer.get_ref().written.as_slice(), b"AA".as_slice());
-        assert_eq!(rt; writer.faults(), 1);
-
-        // before a read: the reader isn't asked for the second byte
-        let mut echo = machine_of(rt.alloc(), &ECHO)?;
-        let mut reader = Script::new(b"hello", 0);
-        let mut other = Tape::new(1, 1, stumble);
-        let second = run(&mut echo, &mut reader, &mut other, 1000);
-        assert_eq!(rt; second, Ending::WriteFault);
-        assert_eq!(rt; reader.get_ref().calls, 1);
+        assert_eq!(rt; (writer.get_ref().calls, writer.faults()), (3, 1));
     }
+    Ok(())
+}
+
+#[test]
+fn after_a_failed_read_no_device_is_called(rt: HostRuntime) -> Result<(), Fail> {
+    for call in 1..4 {
+        let mut machine = machine_of(rt.alloc(), &ECHO)?;
+        let mut reader = Script::new(b"hello", call);
+        let mut writer = Tape::plain();
+        let ending = run(&mut machine, &mut reader, &mut writer, 1000);
+        assert_eq!(rt; ending, Ending::ReadFault);
+        let before = call - 1;
+        assert_eq!(rt;
+            writer.get_ref().written.as_slice(),
+            &b"hello"[..usize::from(before)]
+        );
+        assert_eq!(rt;
+            (reader.get_ref().calls, writer.get_ref().calls),
+            (call, before)
+        );
+        assert_eq!(rt; (reader.faults(), writer.faults()), (1, 0));
+    }
+    Ok(())
+}
+
+#[test]
+fn after_a_failed_write_no_device_is_called(rt: HostRuntime) -> Result<(), Fail> {
+    for stumble in [Stumble::TakesNothing, Stumble::Fails] {
+        for call in 1..4 {
+            let mut machine = machine_of(rt.alloc(), &ECHO)?;
+            let mut reader = Script::new(b"hello", 0);
+            let mut writer = Tape::new(8192, call, stumble);
+            let ending = run(&mut machine, &mut reader, &mut writer, 1000);
+            assert_eq!(rt; ending, Ending::WriteFault);
+            let before = usize::from(call - 1);
+            assert_eq!(rt; writer.get_ref().written.as_slice(), &b"hello"[..before]);
+            // what was gathered is written before the next byte is read
+            assert_eq!(rt;
+                (reader.get_ref().calls, writer.get_ref().calls),
+                (call, call)
+            );
+            assert_eq!(rt; (reader.faults(), writer.faults()), (0, 1));
+        }
+    }
+    Ok(())
+}
+
+#[test]
+fn without_steps_nothing_is_read(rt: HostRuntime) -> Result<(), Fail> {
+    let mut machine = machine_of(rt.alloc(), &TWICE)?;
+    let mut reader = Script::new(b"x", 1);
+    let mut writer = Tape::plain();
+    let mut endings = [Ending::StepLimit; 4];
+    for (place, steps) in [0, 2, 0, 1].into_iter().enumerate() {
+        endings[place] = run(&mut machine, &mut reader, &mut writer, steps);
+    }
+    let limit = Ending::StepLimit;
+    // a byte is wanted at the second step, and again from then on
+    assert_eq!(rt; endings, [limit, Ending::ReadFault, limit, limit]);
+    assert_eq!(rt; (reader.get_ref().calls, machine.reg(10)), (2, 120));
     Ok(())
 }
 

@@ -1,31 +1,33 @@
 // What goes to the writer and comes from the reader.
 
-ghost use Rattle.std.specs.Prelude.{◌≡◌, ◌≤◌, ◌<◌, ◌∷◌, ◌++◌, [], false, IfOk, OnOk, OnErr};
+ghost use Rattle.std.specs.Prelude.{◌≡◌, ◌<◌, ◌∷◌, ◌++◌, [], false, IfOk, OnOk, OnErr};
 ghost use Rattle.std.specs.Io.KnownBytes.{Appends, Keeps};
-ghost use Rattle.arrayvec.specs.ArrayVec.{array_vec_len};
-ghost use Rattle.cyc_host.specs.Failures.{HasFailed};
+ghost use Rattle.cyc_host.specs.Failures.{failed_once};
 ghost use Rattle.cyc_host.specs.Transfers.{Answers, WritesBut, WritesSome};
 
 use arrayvec::ArrayVec;
 use cyc_words::{Input, Output};
+use std::marker::Model;
+use thiserror::Error;
 
 /// How many bytes of output are gathered before they are written.
 pub const GATHERED_BYTES: usize = 4096;
 
 /// A write that failed, or took no byte.
-#[derive(Clone, Copy, PartialEq, Eq, Debug)]
+#[derive(Clone, Copy, PartialEq, Eq, Debug, Error)]
+#[error("the writer failed or took no byte")]
 pub struct WriteFailed;
 
 /// A read that failed.
-#[derive(Clone, Copy, PartialEq, Eq, Debug)]
+#[derive(Clone, Copy, PartialEq, Eq, Debug, Error)]
+#[error("the reader failed")]
 pub struct ReadFailed;
 
 /// Writes all of the bytes, as many at a time as the writer takes.
 fn write_all<W: Output>(writer: &mut W, bytes: &[u8]) -> Result<(), WriteFailed>
     ensures all { OnOk result (Appends (W.contents writer.old) (W.contents writer.new) bytes.now) }
     ensures some { OnErr result (WritesSome (W.contents writer.old) (W.contents writer.new) bytes.now) }
-    ensures grows { W.fault_count writer.old ≤ W.fault_count writer.new }
-    ensures failed { OnErr result (HasFailed (W.fault_count writer.old) (W.fault_count writer.new)) }
+    ensures counted { W.fault_count writer.new ≡ failed_once result (W.fault_count writer.old) }
 {
     let mut rest = bytes;
     'parts: while !rest.is_empty() {
@@ -38,42 +40,73 @@ fn write_all<W: Output>(writer: &mut W, bytes: &[u8]) -> Result<(), WriteFailed>
     Ok(())
 }
 
-/// Writes what is gathered. Nothing is gathered then, also where the write failed.
-pub fn flush<W: Output>(
-    gathered: &mut ArrayVec<u8, GATHERED_BYTES>,
+/// Writes these bytes and lets them go, also where the write failed.
+fn write_out<W: Output>(
+    bytes: &mut ArrayVec<u8, GATHERED_BYTES>,
     writer: &mut W,
 ) -> Result<(), WriteFailed>
-    ensures empty { gathered.new.items ≡ [] }
-    ensures all { OnOk result (Appends (W.contents writer.old) (W.contents writer.new) gathered.old.items) }
-    ensures some { OnErr result (WritesSome (W.contents writer.old) (W.contents writer.new) gathered.old.items) }
-    ensures grows { W.fault_count writer.old ≤ W.fault_count writer.new }
-    ensures failed { OnErr result (HasFailed (W.fault_count writer.old) (W.fault_count writer.new)) }
+    ensures empty { bytes.new.items ≡ [] }
+    ensures all { OnOk result (Appends (W.contents writer.old) (W.contents writer.new) bytes.old.items) }
+    ensures some { OnErr result (WritesSome (W.contents writer.old) (W.contents writer.new) bytes.old.items) }
+    ensures counted { W.fault_count writer.new ≡ failed_once result (W.fault_count writer.old) }
 {
-    let result = write_all(writer, gathered.as_slice());
-    gathered.clear();
+    let result = write_all(writer, bytes.as_slice());
+    bytes.clear();
     result
 }
 
-/// Gathers a byte, and writes what is gathered when that is enough.
-pub fn put<W: Output>(
-    gathered: &mut ArrayVec<u8, GATHERED_BYTES>,
-    writer: &mut W,
-    byte: u8,
-) -> Result<(), WriteFailed>
-    requires { array_vec_len gathered.old < 4096 }
-    ensures room { array_vec_len gathered.new < 4096 }
-    ensures all { OnOk result (WritesBut (W.contents writer.old) (W.contents writer.new)
-        (gathered.old.items ++ byte ∷ []) gathered.new.items) }
-    ensures some { OnErr result (WritesSome (W.contents writer.old) (W.contents writer.new)
-        (gathered.old.items ++ byte ∷ [])) }
-    ensures grows { W.fault_count writer.old ≤ W.fault_count writer.new }
-    ensures failed { OnErr result (HasFailed (W.fault_count writer.old) (W.fault_count writer.new)) }
-{
-    gathered.push(byte);
-    if gathered.is_full() {
-        flush(gathered, writer)
-    } else {
-        Ok(())
+/// Output that was gathered and isn't written yet, in order: fewer than 4,096 bytes.
+#[derive(Drop)]
+pub struct Gathered {
+    bytes: ArrayVec<u8, GATHERED_BYTES>,
+}
+
+impl Model for Gathered {
+    ghost use Rattle.std.specs.Prelude.{ℕ, ◌<◌, List};
+    ghost use Rattle.arrayvec.specs.ArrayVec.{array_vec_len};
+
+    ghost Value = { List ℕ };
+
+    ghost view = { λ gathered. gathered.bytes.items };
+
+    ghost invariant = { λ gathered. array_vec_len gathered.bytes < 4096 };
+}
+
+impl Gathered {
+    /// Nothing is gathered yet.
+    pub fn new() -> Gathered
+        ensures { result ≡ [] }
+    {
+        Gathered {
+            bytes: ArrayVec::new(),
+        }
+    }
+
+    /// Writes what is gathered. Nothing is gathered then, also where the write failed.
+    pub fn flush<W: Output>(&mut self, writer: &mut W) -> Result<(), WriteFailed>
+        ensures empty { self.new ≡ [] }
+        ensures all { OnOk result (Appends (W.contents writer.old) (W.contents writer.new) self.old) }
+        ensures some { OnErr result (WritesSome (W.contents writer.old) (W.contents writer.new) self.old) }
+        ensures counted { W.fault_count writer.new ≡ failed_once result (W.fault_count writer.old) }
+    {
+        write_out(&mut self.bytes, writer)
+    }
+
+    /// Gathers a byte, and writes what is gathered when that is 4,096 bytes. Nothing is gathered where the write failed.
+    pub fn put<W: Output>(&mut self, writer: &mut W, byte: u8) -> Result<(), WriteFailed>
+        ensures empty { OnErr result (self.new ≡ []) }
+        ensures all { OnOk result (WritesBut (W.contents writer.old) (W.contents writer.new)
+            (self.old ++ byte ∷ []) self.new) }
+        ensures some { OnErr result (WritesSome (W.contents writer.old) (W.contents writer.new)
+            (self.old ++ byte ∷ [])) }
+        ensures counted { W.fault_count writer.new ≡ failed_once result (W.fault_count writer.old) }
+    {
+        self.bytes.push(byte);
+        if self.bytes.is_full() {
+            write_out(&mut self.bytes, writer)
+        } else {
+            Ok(())
+        }
     }
 }
 
@@ -83,8 +116,7 @@ pub fn read<R: Input>(reader: &mut R, is_over: &mut bool) -> Result<Option<u8>, 
         is_over.old is_over.new answer) }
     ensures kept { OnErr result (Keeps (R.remaining reader.old) (R.remaining reader.new)) }
     ensures asked { OnErr result (is_over.old ≡ false) }
-    ensures grows { R.fault_count reader.old ≤ R.fault_count reader.new }
-    ensures failed { OnErr result (HasFailed (R.fault_count reader.old) (R.fault_count reader.new)) }
+    ensures counted { R.fault_count reader.new ≡ failed_once result (R.fault_count reader.old) }
 {
     if *is_over {
         return Ok(None);

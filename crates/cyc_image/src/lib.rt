@@ -19,5 +19,6 @@ mod tests;
 pub use fault::ImageFault;
 pub use image::Image;
 pub use laws::{one_meaning, one_text};
+pub use layout::{CODE_LIMIT, DATA_LIMIT, HEADER_LENGTH, PAGE_LIMIT};
 pub use loading::load;
 pub use parts::{Parts, write};

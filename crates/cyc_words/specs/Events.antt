@@ -1,5 +1,5 @@
 -- What a run of a source, or of an image, shows to the world, and how it ends. Both meanings speak of these.
-use Rattle.std.specs.Prelude.{ℕ, List, [], ◌∷◌, Option}
+use Rattle.std.specs.Prelude.{ℕ, List, [], ◌∷◌, Option, Some, None}
 use Rattle.cyc_words.specs.declared.faults.Kind.{Kind}
 use Rattle.cyc_words.specs.declared.faults.MachineFault.{MachineFault}
 
@@ -55,6 +55,22 @@ output (KeyNew k ∷ es) = output es
 output (KeyOpen k ∷ es) = output es
 output (KeyClose k ∷ es) = output es
 output (KeyFree k ∷ es) = output es
+
+-- the bytes that were read
+abbrev pub bytes_read : List Event → List ℕ
+bytes_read [] = []
+bytes_read (ByteRead (Some b) ∷ es) = b ∷ bytes_read es
+bytes_read (ByteRead None ∷ es) = bytes_read es
+bytes_read (ByteWritten b ∷ es) = bytes_read es
+bytes_read (RegionNew r ∷ es) = bytes_read es
+bytes_read (RegionAlloc r n ∷ es) = bytes_read es
+bytes_read (RegionFree r ∷ es) = bytes_read es
+bytes_read (UniqueAlloc b n ∷ es) = bytes_read es
+bytes_read (UniqueFree b ∷ es) = bytes_read es
+bytes_read (KeyNew k ∷ es) = bytes_read es
+bytes_read (KeyOpen k ∷ es) = bytes_read es
+bytes_read (KeyClose k ∷ es) = bytes_read es
+bytes_read (KeyFree k ∷ es) = bytes_read es
 
 -- How a source's run ends at an amount of fuel. A status is a word, read as a signed number.
 pub data SourceEnding : Type 0 where

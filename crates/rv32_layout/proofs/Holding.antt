@@ -15,9 +15,10 @@ use Rattle.rv32_select.specs.declared.labelled.Line.{Line}
 use Rattle.rv32_select.specs.declared.labelled.Line.TheVariants.{Plain, Label, Jump, JumpIfZero}
 use Rattle.rv32_select.specs.Lines.{size_of, code_length, place_of, instructions_of, instructions_from, labels_placed, AreOnce}
 use Rattle.rv32_select.specs.Running.{HasInstr, HasInstrs, StandsAt, HasLines}
-use Rattle.rv32_layout.specs.Placed.{code_limit, word_bytes, IsWord, AreWords, ArePlaced}
+use Rattle.cyc_image.specs.Format.{code_limit}
+use Rattle.rv32_layout.specs.Placed.{word_bytes, IsWord, AreWords, ArePlaced}
 use Rattle.rv32_layout.specs.Holding.{BeginsWith}
-use Rattle.rv32_layout.proofs.Lines.{place_is_of_words, place-le-length}
+use Rattle.rv32_layout.proofs.Lines.{place_is_of_words, place_within_length}
 use Rattle.rv32_layout.proofs.Appending.{line_length}
 
 -- ---- labels
@@ -138,7 +139,7 @@ begins_with lines bytes placed within once image m same first fits start =
       code_within = code_within;
       labels = λ label. record {
         aligned = place_is_of_words lines label;
-        within = omega (arith, place-le-length lines label);
+        within = omega (arith, place_within_length lines label);
       };
       has = has_lines (lengths_of m) (bytes_in m.code m.statics m.stack) lines [] lines 0 refl refl once
           (has_instrs (lengths_of m) m.code m.statics m.stack [] bytes code_base (instructions_from (place_of lines) 0 lines) refl code refl placed);

@@ -10,15 +10,7 @@ use Rattle.rv32_select.specs.Lines.{code_length, place_of}
 pub drop_here : (lines : List Line) (i : ℕ) (line : Line) → i < length lines → line ≡ get_or lines i line → drop i lines ≡ line ∷ drop (i + 1) lines
 drop_here lines i line within is = drop_more lines i line within ∙ ap (λ l. l ∷ drop (i + 1) lines) (sym is)
 
--- code is made of words of four bytes
-pub length_is_of_words : (lines : List Line) → code_length lines % 4 ≡ 0
-length_is_of_words [] = refl
-length_is_of_words (Plain instr ∷ lines) = omega (arith, length_is_of_words lines)
-length_is_of_words (Label l ∷ lines) = omega (arith, length_is_of_words lines)
-length_is_of_words (Jump l ∷ lines) = omega (arith, length_is_of_words lines)
-length_is_of_words (JumpIfZero register l ∷ lines) = omega (arith, length_is_of_words lines)
-
--- so each label stands where a word begins, or behind the last one
+-- each label stands where a word begins, or behind the last one
 pub place_is_of_words : (lines : List Line) (label : ℕ) → place_of lines label % 4 ≡ 0
 place_is_of_words [] label = refl
 place_is_of_words (Plain instr ∷ lines) label = omega (arith, place_is_of_words lines label)
@@ -26,9 +18,9 @@ place_is_of_words (Label l ∷ lines) label = let rest = place_is_of_words lines
 place_is_of_words (Jump l ∷ lines) label = omega (arith, place_is_of_words lines label)
 place_is_of_words (JumpIfZero register l ∷ lines) label = omega (arith, place_is_of_words lines label)
 
-pub place-le-length : (lines : List Line) (label : ℕ) → place_of lines label ≤ code_length lines
-place-le-length [] label = omega arith
-place-le-length (Plain instr ∷ lines) label = omega (arith, place-le-length lines label)
-place-le-length (Label l ∷ lines) label = let rest = place-le-length lines label in grind (arith, nat_tests)
-place-le-length (Jump l ∷ lines) label = omega (arith, place-le-length lines label)
-place-le-length (JumpIfZero register l ∷ lines) label = omega (arith, place-le-length lines label)
+pub place_within_length : (lines : List Line) (label : ℕ) → place_of lines label ≤ code_length lines
+place_within_length [] label = omega arith
+place_within_length (Plain instr ∷ lines) label = omega (arith, place_within_length lines label)
+place_within_length (Label l ∷ lines) label = let rest = place_within_length lines label in grind (arith, nat_tests)
+place_within_length (Jump l ∷ lines) label = omega (arith, place_within_length lines label)
+place_within_length (JumpIfZero register l ∷ lines) label = omega (arith, place_within_length lines label)

@@ -1,4 +1,3 @@
 pub mod Placed
 pub mod Placing
-pub mod Reach
 pub mod Holding

@@ -5,10 +5,6 @@ use Rattle.rv32_isa.specs.declared.instruction.Instr.{Instr}
 use Rattle.rv32_select.specs.declared.labelled.Line.{Line}
 use Rattle.rv32_select.specs.Lines.{place_of, instructions_from}
 
--- code of more bytes than these is refused
-abbrev pub code_limit : ℕ
-code_limit = 1048576
-
 -- the four bytes of a word, the lowest first
 abbrev pub word_bytes : ℕ → List ℕ
 word_bytes w = w % 2 ^ 8 ∷ w / 2 ^ 8 % 2 ^ 8 ∷ w / 2 ^ 16 % 2 ^ 8 ∷ w / 2 ^ 24 ∷ []

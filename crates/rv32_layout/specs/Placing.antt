@@ -4,7 +4,8 @@ use Rattle.indexmap.specs.IndexMap.{get}
 use Rattle.rv32_isa.specs.declared.instruction.Instr.{Instr}
 use Rattle.rv32_select.specs.declared.labelled.Line.{Line}
 use Rattle.rv32_select.specs.declared.labelled.Line.TheVariants.{Plain, Label, Jump, JumpIfZero}
-use Rattle.rv32_layout.specs.Placed.{code_limit, AreWords}
+use Rattle.cyc_image.specs.Format.{code_limit}
+use Rattle.rv32_layout.specs.Placed.{AreWords}
 use Rattle.rv32_layout.specs.declared.places.Places.{Places}
 
 -- where the table has a label

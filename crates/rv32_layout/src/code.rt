@@ -1,14 +1,13 @@
 // Placed code.
 
 ghost use Rattle.std.specs.Prelude.{◌≡◌, ◌≤◌, ◌<◌, ◌↔◌, Err, IfOk, vec_len};
-ghost use Rattle.rv32_layout.specs.Placed.{code_limit, ArePlaced};
+ghost use Rattle.cyc_image.specs.Format.{code_limit};
+ghost use Rattle.rv32_layout.specs.Placed.{ArePlaced};
 ghost use Rattle.rv32_select.specs.Lines.{code_length, labels_placed, AreOnce};
-ghost use Rattle.rv32_layout.specs.Reach.{IsTooFar};
 ghost use Rattle.rv32_layout.specs.Holding.{BeginsWith};
 
 use crate::fault::LayoutFault;
 use crate::length::length;
-use crate::reach::is_first_jump_to_end;
 use crate::words::words;
 use rv32_select::Labelled;
 use std::alloc::Global;
@@ -20,8 +19,8 @@ pub struct Code {
 }
 
 /// The code of the lines, each behind those before it, with each jump going to where its label stands: at the first
-/// line that places it, or behind all lines where none does. An `Err` is `TooLarge` or `TooFar` exactly where that is
-/// what the lines are, and else `Memory`.
+/// line that places it, or behind all lines where none does. An `Err` is `TooLarge` exactly where the code would be over
+/// 1,048,576 bytes, and else `Memory`.
 pub fn place(alloc: Global, labelled: &Labelled) -> Result<Code, LayoutFault>
     ensures placed { IfOk result (λ code. ArePlaced labelled.now.lines.items code.bytes.items) }
     ensures length { IfOk result (λ code. vec_len code.bytes ≡ code_length labelled.now.lines.items) }
@@ -29,13 +28,9 @@ pub fn place(alloc: Global, labelled: &Labelled) -> Result<Code, LayoutFault>
     // a machine that starts with the code begins with the lines, where no label is placed twice
     ensures begins { IfOk result (λ code. AreOnce (labels_placed labelled.now.lines.items) → BeginsWith labelled.now.lines.items code.bytes.items) }
     ensures too_large { (result ≡ Err LayoutFault.TooLarge) ↔ (code_limit < code_length labelled.now.lines.items) }
-    ensures too_far { (result ≡ Err LayoutFault.TooFar) ↔ IsTooFar labelled.now.lines.items }
 {
     if length(labelled).is_none() {
         return Err(LayoutFault::TooLarge);
-    }
-    if is_first_jump_to_end(labelled) {
-        return Err(LayoutFault::TooFar);
     }
     let bytes = words(alloc, labelled)?;
     Ok(Code { bytes })

@@ -4,15 +4,16 @@ ghost use Rattle.std.specs.Prelude.{◌≡◌};
 ghost use Rattle.rv32_layout.specs.declared.fault.LayoutFault.TheVariants.{Memory};
 
 use std::alloc::AllocError;
+use thiserror::Error;
 
 /// Why `place` refuses lines.
-#[derive(Clone, Copy, PartialEq, Eq, Debug)]
+#[derive(Clone, Copy, PartialEq, Eq, Debug, Error)]
 pub enum LayoutFault {
     /// The code would be over 1,048,576 bytes.
+    #[error("the code would be over 1,048,576 bytes")]
     TooLarge,
-    /// The first instruction is a jump to the end of code of 1,048,576 bytes: two bytes further than a jump goes.
-    TooFar,
     /// No host memory is left.
+    #[error("out of memory")]
     Memory,
 }
 

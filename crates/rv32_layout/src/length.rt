@@ -1,13 +1,11 @@
 // How long the code of lines is.
 
 ghost use Rattle.std.specs.Prelude.{◌≡◌, ◌≤◌, ◌<◌, ◌↔◌, None, IfSome};
-ghost use Rattle.rv32_layout.specs.Placed.{code_limit};
+ghost use Rattle.cyc_image.specs.Format.{code_limit};
 ghost use Rattle.rv32_select.specs.Lines.{size_of, code_length};
 
+use cyc_image::CODE_LIMIT;
 use rv32_select::{Labelled, Line};
-
-/// The greatest length of code, in bytes.
-pub(crate) const CODE_LIMIT: u32 = 1048576;
 
 /// How many bytes a line takes.
 pub(crate) fn size(line: Line) -> u32
@@ -30,7 +28,7 @@ pub(crate) fn length(labelled: &Labelled) -> Option<u32>
     let mut length = 0;
     'each: for line in &labelled.lines {
         length += size(*line);
-        if length > CODE_LIMIT {
+        if length as usize > CODE_LIMIT {
             return None;
         }
     }

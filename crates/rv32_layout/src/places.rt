@@ -3,7 +3,7 @@
 ghost use Rattle.std.specs.Prelude.{◌≡◌, ℕ, ◌+◌, ◌≤◌, List, ◌∷◌, nat_eq, if◌then◌else◌, unwrap_or, IfOk, OnOk};
 ghost use Rattle.indexmap.specs.IndexMap.{get};
 ghost use Rattle.rv32_select.specs.declared.labelled.Line.{Line};
-ghost use Rattle.rv32_layout.specs.Placed.{code_limit};
+ghost use Rattle.cyc_image.specs.Format.{code_limit};
 ghost use Rattle.rv32_select.specs.Lines.{size_of, code_length, place_of};
 ghost use Rattle.rv32_layout.specs.Placing.{place_in};
 

@@ -2,12 +2,13 @@
 
 ghost use Rattle.std.specs.Prelude.{◌≡◌, ◌+◌, ◌∷◌, [], pos, ◌≤◌, vec_len, OnOk, IfOk};
 ghost use Rattle.rv32_isa.specs.declared.instruction.Instr.TheVariants.{Jal, Bne};
-ghost use Rattle.rv32_layout.specs.Placed.{code_limit, word_bytes, ArePlaced};
+ghost use Rattle.cyc_image.specs.Format.{code_limit};
+ghost use Rattle.rv32_layout.specs.Placed.{word_bytes, ArePlaced};
 ghost use Rattle.rv32_select.specs.Lines.{code_length, place_of, offset_to, instructions_of};
 ghost use Rattle.rv32_layout.specs.Placing.{place_in, IsInReach, Reaches, Appends};
-ghost use Rattle.rv32_layout.specs.Reach.{IsFirstJumpToEnd};
 
 use crate::places::{Places, find_places};
+use byteorder::{ByteOrder, LittleEndian};
 use rv32_isa::{BranchOffset, Instr, JumpOffset, Register, encode};
 use rv32_select::{Labelled, Line};
 use std::alloc::{AllocError, Global};
@@ -16,7 +17,9 @@ use std::alloc::{AllocError, Global};
 fn word_bytes(word: u32) -> [u8; 4]
     ensures { result ≡ word_bytes word }
 {
-    word.to_le_bytes()
+    let mut four = [0; 4];
+    LittleEndian::write_u32(&mut four, word);
+    four
 }
 
 /// Appends an instruction's word.
@@ -65,8 +68,7 @@ fn put_line(bytes: &mut Vec<u8>, line: Line, places: &Places) -> Result<(), Allo
 
 /// The bytes of all lines.
 pub(crate) fn words(alloc: Global, labelled: &Labelled) -> Result<Vec<u8>, AllocError>
-    requires within { code_length labelled.now.lines.items ≤ code_limit }
-    requires reach { IsFirstJumpToEnd labelled.now.lines.items → ⊥ }
+    requires { code_length labelled.now.lines.items ≤ code_limit }
     ensures placed { IfOk result (λ bytes. ArePlaced labelled.now.lines.items bytes.items) }
     ensures length { IfOk result (λ bytes. vec_len bytes ≡ code_length labelled.now.lines.items) }
 {

@@ -3,3 +3,18 @@ pub mod Moves
 pub mod Starts
 pub mod Stores
 pub mod Writes
+pub mod LongerRuns
+pub mod Splices
+mod SampleRuns
+mod ImmediateSamples
+mod ArithmeticSamples
+mod ShiftSamples
+mod ProductSamples
+mod DivisionSamples
+mod LoadSamples
+mod StoreSamples
+mod JumpSamples
+mod BranchSamples
+mod OffsetSamples
+mod CallSamples
+mod WordSamples

@@ -2,7 +2,7 @@
 //!
 //! `Machine::new` makes the arrays for an image and decodes its code. `step` executes one
 //! instruction, for every instruction and every fault as specs/Step.antt says, and takes no memory.
-//! `give` answers a `getchar`. Stands on `rv32_isa`, `cyc_words` and `cyc_image`.
+//! `give` answers a `getchar`. Stands on `rv32_isa`, `cyc_words`, `cyc_image` and `byteorder`.
 #![tactic(auto)]
 
 mod access;
@@ -14,11 +14,14 @@ mod execute;
 mod machine;
 mod memory;
 mod motion;
+mod numbers;
 mod phase;
 mod registers;
 #[cfg(test)]
 mod tests;
 
+pub use areas::CODE_BASE;
 pub use cyc_words::{Kind, MachineFault};
 pub use event::Event;
 pub use machine::Machine;
+pub use numbers::{EXIT, GETCHAR, PUTCHAR, RAISE, STACK_REFUSED};

@@ -4,6 +4,8 @@ ghost use Rattle.std.specs.Prelude.{◌≡◌, ◌+◌, ◌<◌, ◌≤◌, ◌%
 ghost use Rattle.rv32_machine.specs.State.{half_at, word_at};
 ghost use Rattle.rv32_machine.specs.Arrays.{half_put, word_put};
 
+use byteorder::{ByteOrder, LittleEndian};
+
 /// The byte at an offset.
 pub fn byte_in(bytes: &[u8], at: usize) -> u32
     requires { at < length bytes.now }
@@ -19,8 +21,7 @@ pub fn half_in(bytes: &[u8], at: usize) -> u32
     ensures value { result ≡ half_at (λ k. slice_index bytes.now k) at }
     ensures small { result < 2 ^ 16 }
 {
-    let two = &bytes[at..at + 2];
-    u32::from(two[0]) + u32::from(two[1]) * 0x100
+    u32::from(LittleEndian::read_u16(&bytes[at..]))
 }
 
 /// The number in the four bytes from an offset on.
@@ -28,11 +29,7 @@ pub fn word_in(bytes: &[u8], at: usize) -> u32
     requires { at + 4 ≤ length bytes.now }
     ensures { result ≡ word_at (λ k. slice_index bytes.now k) at }
 {
-    let four = &bytes[at..at + 4];
-    u32::from(four[0])
-        + u32::from(four[1]) * 0x100
-        + u32::from(four[2]) * 0x1_0000
-        + u32::from(four[3]) * 0x100_0000
+    LittleEndian::read_u32(&bytes[at..])
 }
 
 /// Writes the low byte of a word.
@@ -48,8 +45,7 @@ pub fn put_half(bytes: &mut [u8], at: usize, value: u32)
     requires { at + 2 ≤ length bytes.old }
     ensures { bytes.new ≡ half_put bytes.old at value }
 {
-    put_byte(bytes, at, value);
-    put_byte(bytes, at + 1, value >> 8);
+    LittleEndian::write_u16(&mut bytes[at..at + 2], (value % 0x1_0000) as u16);
 }
 
 /// Writes the four bytes of a word.
@@ -57,7 +53,5 @@ pub fn put_word(bytes: &mut [u8], at: usize, value: u32)
     requires { at + 4 ≤ length bytes.old }
     ensures { bytes.new ≡ word_put bytes.old at value }
 {
-    put_half(bytes, at, value);
-    put_byte(bytes, at + 2, value >> 16);
-    put_byte(bytes, at + 3, value >> 24);
+    LittleEndian::write_u32(&mut bytes[at..at + 4], value);
 }

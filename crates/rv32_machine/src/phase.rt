@@ -14,6 +14,8 @@ pub enum Phase {
     Ended(u32),
     /// It stopped at a failed check of the source.
     Raised(Kind),
+    /// It stopped since the stack had no room.
+    Exhausted,
     /// It stopped at a fault.
     Fault(MachineFault),
 }

@@ -74,6 +74,24 @@ fn faults_stop_before_the_instruction(rt: HostRuntime) -> Result<(), Fail> {
 }
 
 #[test]
+fn a_frame_is_refused_where_it_does_not_fit(rt: HostRuntime) -> Result<(), Fail> {
+    // addi x17, x0, 13; lui x10, 256 (a frame as long as the stack, which fits); ecall
+    let mut fits = machine_of(rt.alloc(), &[0x00D0_0893, 0x0010_0537, 0x0000_0073], b"")?;
+    assert_eq!(rt; event_of(&mut fits), Event::Fault(MachineFault::BadCall));
+    // addi x10, x10, 1 between them: one byte more
+    let words = [0x00D0_0893, 0x0010_0537, 0x0015_0513, 0x0000_0073];
+    let mut refused = machine_of(rt.alloc(), &words, b"")?;
+    for _ in 0..2 {
+        assert_eq!(rt; event_of(&mut refused), Event::Exhausted);
+        assert_eq!(rt; (refused.pc(), refused.reg(10)), (BASE + 12, 0x0010_0001));
+    }
+    // addi x10, x0, -1
+    let mut most = machine_of(rt.alloc(), &[0x00D0_0893, 0xFFF0_0513, 0x0000_0073], b"")?;
+    assert_eq!(rt; event_of(&mut most), Event::Exhausted);
+    Ok(())
+}
+
+#[test]
 fn a_program_ends_with_its_status(rt: HostRuntime) -> Result<(), Fail> {
     let mut machine = machine_of(rt.alloc(), &[0x0000_0893, 0x0070_0513, 0x0000_0073], b"")?;
     assert_eq!(rt; machine.step(), Event::Next);

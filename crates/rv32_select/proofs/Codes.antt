@@ -36,6 +36,11 @@ module _ (n : Lengths) (bytes places : ℕ → ℕ) where
       let e : at + (size_of line + code_length first) ≡ at + size_of line + code_length first = omega arith in
       rw e (other_lines (at + size_of line) first second others)
 
+  -- the code has both parts, the second behind the first
+  pub both_lines : (at : ℕ) (first second : List Line) → HasLines n bytes places at (first ++ second)
+      → HasLines n bytes places at first × HasLines n bytes places (at + code_length first) second
+  both_lines at first second has = (first_lines at first second has, other_lines at first second has)
+
 -- ---- registers
 
 -- a register that was written twice

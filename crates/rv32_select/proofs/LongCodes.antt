@@ -11,7 +11,7 @@ use Rattle.rv32_select.specs.declared.labelled.Line.{Line}
 use Rattle.rv32_select.specs.declared.labelled.Line.TheVariants.{Plain, Label, Jump}
 use Rattle.rv32_select.specs.Lines.{code_length}
 use Rattle.rv32_select.specs.Selected.{is_short, slot_of, constant_code, stack_move_code, load_code, save_code, call_code, binary_code, operation_code, test_code, labels_in, labels_of, statement_code, statements_code, frame_bytes, main_code, result_register, operand_register, argument_register, number_register}
-use Rattle.rv32_select.proofs.Splitting.{code_length-append}
+use Rattle.rv32_select.proofs.Codes.{length_of_both}
 
 -- one of two codes that are each long enough
 either : (b : Bool) (these those : List Line) (k : ℕ) → k ≤ code_length these → k ≤ code_length those → k ≤ code_length (if b then these else those)
@@ -30,11 +30,11 @@ save_long from offset = either (is_short offset) _ _ 4 (omega arith) (omega arit
 call_long : (number : ℕ) → 4 ≤ code_length (call_code number)
 call_long number =
     let constant = constant_long number_register number in
-    omega (arith, constant, code_length-append (constant_code number_register number) (Plain Ecall ∷ []))
+    omega (arith, constant, length_of_both (constant_code number_register number) (Plain Ecall ∷ []))
 
 -- two codes, each of one instruction at least
 two_long : (first second : List Line) → 4 ≤ code_length first → 4 ≤ code_length second → 8 ≤ code_length (first ++ second)
-two_long first second one other = omega (arith, code_length-append first second, one, other)
+two_long first second one other = omega (arith, length_of_both first second, one, other)
 
 operation_long : (o : Operation) → 8 ≤ code_length (operation_code o)
 operation_long (Constant to word) =
@@ -46,12 +46,12 @@ operation_long (Binary operation to left right) =
     let loads = load_code result_register (slot_of left) ++ load_code operand_register (slot_of right) in
     let long = two_long (load_code result_register (slot_of left)) (load_code operand_register (slot_of right)) (load_long result_register (slot_of left))
     (load_long operand_register (slot_of right)) in
-    omega (arith, long, code_length-append loads (binary_code operation), code_length-append (loads ++ binary_code operation) (save_code result_register (slot_of to)))
+    omega (arith, long, length_of_both loads (binary_code operation), length_of_both (loads ++ binary_code operation) (save_code result_register (slot_of to)))
 operation_long (Getchar to) =
     two_long (call_code 2) (save_code argument_register (slot_of to)) (call_long 2) (save_long argument_register (slot_of to))
 operation_long (Putchar to from) =
     let long = two_long (load_code argument_register (slot_of from)) (call_code 1) (load_long argument_register (slot_of from)) (call_long 1) in
-    omega (arith, long, code_length-append (load_code argument_register (slot_of from) ++ call_code 1) (save_code argument_register (slot_of to)))
+    omega (arith, long, length_of_both (load_code argument_register (slot_of from) ++ call_code 1) (save_code argument_register (slot_of to)))
 
 mutual
   statement_long : (next out again : ℕ) (s : Statement) → 8 * operations_in s ≤ code_length (statement_code next out again s)
@@ -69,10 +69,10 @@ mutual
         arith,
         first,
         second,
-        code_length-append (test ++ one ++ turn ++ other) end,
-        code_length-append (test ++ one ++ turn) other,
-        code_length-append (test ++ one) turn,
-        code_length-append test one,
+        length_of_both (test ++ one ++ turn ++ other) end,
+        length_of_both (test ++ one ++ turn) other,
+        length_of_both (test ++ one) turn,
+        length_of_both test one,
       )
   statement_long next out again (While test cell body) =
       let behind = next + 1 + labels_of test in
@@ -86,10 +86,10 @@ mutual
         arith,
         first,
         second,
-        code_length-append (start ++ one ++ test_code cell behind ++ other) end,
-        code_length-append (start ++ one ++ test_code cell behind) other,
-        code_length-append (start ++ one) (test_code cell behind),
-        code_length-append start one,
+        length_of_both (start ++ one ++ test_code cell behind ++ other) end,
+        length_of_both (start ++ one ++ test_code cell behind) other,
+        length_of_both (start ++ one) (test_code cell behind),
+        length_of_both start one,
       )
   statement_long next out again Break = omega arith
   statement_long next out again Continue = omega arith
@@ -100,7 +100,7 @@ mutual
   statements_long next out again (MoreStatements s ss) =
       let first = statement_long next out again s in
       let second = statements_long (next + labels_in s) out again ss in
-      omega (arith, first, second, code_length-append (statement_code next out again s) (statements_code (next + labels_in s) out again ss))
+      omega (arith, first, second, length_of_both (statement_code next out again s) (statements_code (next + labels_in s) out again ss))
 
 pub main_long : (last : Cell) (body : Statements) → 8 * operations_of body ≤ code_length (main_code last body)
 main_long last body =
@@ -108,6 +108,6 @@ main_long last body =
     omega (
       arith,
       inner,
-      code_length-append (stack_move_code ((2 ^ 32 - frame_bytes last) % 2 ^ 32) ++ statements_code 1 0 0 body) (Label 0 ∷ []),
-      code_length-append (stack_move_code ((2 ^ 32 - frame_bytes last) % 2 ^ 32)) (statements_code 1 0 0 body),
+      length_of_both (stack_move_code ((2 ^ 32 - frame_bytes last) % 2 ^ 32) ++ statements_code 1 0 0 body) (Label 0 ∷ []),
+      length_of_both (stack_move_code ((2 ^ 32 - frame_bytes last) % 2 ^ 32)) (statements_code 1 0 0 body),
     )

@@ -7,16 +7,8 @@ use Rattle.rv32_machine.specs.Run.{Run, after_step, answer_from, run_step, run_s
 use Rattle.rv32_machine.specs.Audit.{IsLawful}
 use Rattle.cyc_core.specs.Meaning as core
 use Rattle.cyc_core.specs.Meaning.{Step}
-use Rattle.rv32_select.proofs.Relations.{AreLawful, Moves, IsAt, Leads, Goes}
-
-pub run_more : (n : Lengths) (a b : ℕ) (r : Run) → run_steps n (a + b) r ≡ run_steps n b (run_steps n a r)
-run_more n zero b r = let e : zero + b ≡ b = omega arith in rw e refl
-run_more n (suc a) b r = let e : suc a + b ≡ suc (a + b) = omega arith in rw e (run_more n a b (run_step n r))
-
-pub lawful_more : (n : Lengths) (a b : ℕ) (r : Run) → AreLawful n a r → AreLawful n b (run_steps n a r) → AreLawful n (a + b) r
-lawful_more n zero b r first others = let e : zero + b ≡ b = omega arith in rw e others
-lawful_more n (suc a) b r (now, first) others =
-    let e : suc a + b ≡ suc (a + b) = omega arith in rw e (now, lawful_more n a b (run_step n r) first others)
+use Rattle.rv32_machine.proofs.LongerRuns.{AreLawful, run_more, lawful_more}
+use Rattle.rv32_select.proofs.Relations.{Moves, IsAt, Leads, Goes}
 
 module _ (n : Lengths) (s t : State) where
   -- an instruction that shows nothing

@@ -1,9 +1,9 @@
 -- When Core and the machine stand at the same point, and when they do the same from there on: the relations of the proof.
-use Rattle.std.proofs.Common.{◌≡◌, ℕ, zero, suc, ◌+◌, ◌-◌, ◌*◌, ◌%◌, ◌≤◌, ◌<◌, ◌^◌, List, [], ◌∷◌, ◌++◌, true, false, nat_eq}
+use Rattle.std.proofs.Common.{◌≡◌, ℕ, ◌+◌, ◌-◌, ◌*◌, ◌%◌, ◌≤◌, ◌<◌, ◌^◌, List, [], ◌∷◌, ◌++◌, true, false, nat_eq}
 use Rattle.cyc_words.specs.Events.{Event, SourceEnding}
 use Rattle.rv32_machine.specs.State.{State, Lengths, Stop, Mode, Runs, Over, code_base, stack_base, stack_end, word_at}
-use Rattle.rv32_machine.specs.Run.{Run, run_step, run_steps, from, AreBytes}
-use Rattle.rv32_machine.specs.Audit.{IsLawful}
+use Rattle.rv32_machine.specs.Run.{run_steps, from, AreBytes}
+use Rattle.rv32_machine.proofs.LongerRuns.{AreLawful}
 use Rattle.cyc_core.specs.declared.operation.Cell.{Cell}
 use Rattle.cyc_core.specs.declared.operation.Operation.{Operation}
 use Rattle.cyc_core.specs.Cells.{NamesUpTo}
@@ -16,11 +16,6 @@ use Rattle.rv32_select.specs.Running.{HasLines, IsPlace}
 use Rattle.rv32_select.specs.Selected.{slot_of, argument_register, load_code, call_code, test_code, operation_code, frame_bytes, stack_move_code}
 
 -- ---- runs
-
--- each access of so many steps lies where it may
-abbrev pub AreLawful : Lengths → ℕ → Run → Type 0
-AreLawful n zero r = Unit {0}
-AreLawful n (suc count) r = IsLawful n r.state × AreLawful n count (run_step n r)
 
 -- by some steps, at least one, from one state to another, without any event
 pub record Moves (n : Lengths) (s t : State) : Type 0 where

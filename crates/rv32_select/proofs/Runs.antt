@@ -7,8 +7,8 @@ use Rattle.cyc_core.specs.declared.operation.Cell.{Cell}
 use Rattle.cyc_core.specs.Tree.{Statements}
 use Rattle.cyc_core.specs.Meaning as core
 use Rattle.cyc_core.specs.Meaning.{Cells, Exit, Step, Outcome}
-use Rattle.rv32_select.proofs.Relations.{AreLawful, IsAt, Moves, Leads, Goes}
-use Rattle.rv32_select.proofs.LongerRuns.{steps-add, AreLawful-add}
+use Rattle.rv32_machine.proofs.LongerRuns.{AreLawful, run_more, lawful_more}
+use Rattle.rv32_select.proofs.Relations.{IsAt, Moves, Leads, Goes}
 
 -- ---- fuel
 
@@ -22,14 +22,14 @@ led : (n : Lengths) (fuel left : ℕ) (c d : Step) (s t : State) (input : List �
     → Leads n left d t input → Leads n fuel c s input
 led n fuel left c d s t input enough same moves leads =
     let reached : run_steps n (moves.count + leads.count) (from s input) ≡ run_steps n leads.count (from t input) =
-    steps-add n moves.count leads.count (from s input) ∙ ap (run_steps n leads.count) (moves.moved input []) in
+    run_more n moves.count leads.count (from s input) ∙ ap (run_steps n leads.count) (moves.moved input []) in
     record {
       count = moves.count + leads.count;
       events = ap (λ (r : Run). r.events) reached ∙ leads.events ∙ ap (λ (o : Outcome). o.events) (sym same);
       ends = subst (λ (o : Outcome). IsAt o.ending (run_steps n (moves.count + leads.count) (from s input)).state.mode) (sym same)
           (subst (λ (r : Run). IsAt (core.run left d input).ending r.state.mode) (sym reached) leads.ends);
       paid = λ running. let above = leads.paid (ap (λ (o : Outcome). o.ending) (sym same) ∙ running) in omega (arith, moves.some, above, enough);
-      lawful = AreLawful-add n moves.count leads.count (from s input) (moves.lawful input [])
+      lawful = lawful_more n moves.count leads.count (from s input) (moves.lawful input [])
           (subst (AreLawful n leads.count) (sym (moves.moved input [])) leads.lawful);
     }
 

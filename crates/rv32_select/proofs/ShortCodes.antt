@@ -13,7 +13,7 @@ use Rattle.rv32_select.specs.declared.labelled.Line.{Line}
 use Rattle.rv32_select.specs.declared.labelled.Line.TheVariants.{Plain, Label, Jump, JumpIfZero}
 use Rattle.rv32_select.specs.Lines.{code_length}
 use Rattle.rv32_select.specs.Selected.{is_short, slot_of, constant_code, stack_move_code, load_code, save_code, call_code, binary_code, operation_code, test_code, labels_in, labels_of, statement_code, statements_code, frame_bytes, main_code, result_register, operand_register, argument_register, number_register}
-use Rattle.rv32_select.proofs.Splitting.{code_length-append}
+use Rattle.rv32_select.proofs.Codes.{length_of_both}
 
 -- one of two codes that are each short enough
 either : (b : Bool) (these those : List Line) (k : ℕ) → code_length these ≤ k → code_length those ≤ k → code_length (if b then these else those) ≤ k
@@ -35,7 +35,7 @@ save_short from offset = either (is_short offset) _ _ 12 (omega arith) (omega ar
 call_short : (number : ℕ) → code_length (call_code number) ≤ 12
 call_short number =
     let constant = constant_short number_register number in
-    omega (arith, constant, code_length-append (constant_code number_register number) (Plain Ecall ∷ []))
+    omega (arith, constant, length_of_both (constant_code number_register number) (Plain Ecall ∷ []))
 
 binary_short : (b : core_binary.Binary) → code_length (binary_code b) ≤ 8
 binary_short binary.Add = omega arith
@@ -57,18 +57,18 @@ binary_short binary.GreaterEqual = omega arith
 
 -- two codes, each of three instructions at most
 two_short : (first second : List Line) → code_length first ≤ 12 → code_length second ≤ 12 → code_length (first ++ second) ≤ 24
-two_short first second one other = omega (arith, code_length-append first second, one, other)
+two_short first second one other = omega (arith, length_of_both first second, one, other)
 
 test_short : (cell : Cell) (label : ℕ) → code_length (test_code cell label) ≤ 20
 test_short cell label =
     let load = load_short result_register (slot_of cell) in
-    omega (arith, load, code_length-append (load_code result_register (slot_of cell)) (JumpIfZero result_register label ∷ []))
+    omega (arith, load, length_of_both (load_code result_register (slot_of cell)) (JumpIfZero result_register label ∷ []))
 
 operation_short : (o : Operation) → code_length (operation_code o) ≤ 44
 operation_short (Constant to word) =
     let constant = constant_short result_register (word % 2 ^ 32) in
     let save = save_short result_register (slot_of to) in
-    omega (arith, constant, save, code_length-append (constant_code result_register (word % 2 ^ 32)) (save_code result_register (slot_of to)))
+    omega (arith, constant, save, length_of_both (constant_code result_register (word % 2 ^ 32)) (save_code result_register (slot_of to)))
 operation_short (Move to from) =
     let short = two_short (load_code result_register (slot_of from)) (save_code result_register (slot_of to)) (load_short result_register (slot_of from))
     (save_short result_register (slot_of to)) in
@@ -84,8 +84,8 @@ operation_short (Binary operation to left right) =
       short,
       applied,
       save,
-      code_length-append loads (binary_code operation),
-      code_length-append (loads ++ binary_code operation) (save_code result_register (slot_of to)),
+      length_of_both loads (binary_code operation),
+      length_of_both (loads ++ binary_code operation) (save_code result_register (slot_of to)),
     )
 operation_short (Getchar to) =
     let short = two_short (call_code 2) (save_code argument_register (slot_of to)) (call_short 2) (save_short argument_register (slot_of to)) in
@@ -93,7 +93,7 @@ operation_short (Getchar to) =
 operation_short (Putchar to from) =
     let short = two_short (load_code argument_register (slot_of from)) (call_code 1) (load_short argument_register (slot_of from)) (call_short 1) in
     let save = save_short argument_register (slot_of to) in
-    omega (arith, short, save, code_length-append (load_code argument_register (slot_of from) ++ call_code 1) (save_code argument_register (slot_of to)))
+    omega (arith, short, save, length_of_both (load_code argument_register (slot_of from) ++ call_code 1) (save_code argument_register (slot_of to)))
 
 mutual
   statement_short : (next out again : ℕ) (s : Statement) → code_length (statement_code next out again s) ≤ 64 * parts_in s
@@ -113,10 +113,10 @@ mutual
         first,
         second,
         tested,
-        code_length-append (test ++ one ++ turn ++ other) end,
-        code_length-append (test ++ one ++ turn) other,
-        code_length-append (test ++ one) turn,
-        code_length-append test one,
+        length_of_both (test ++ one ++ turn ++ other) end,
+        length_of_both (test ++ one ++ turn) other,
+        length_of_both (test ++ one) turn,
+        length_of_both test one,
       )
   statement_short next out again (While test cell body) =
       let behind = next + 1 + labels_of test in
@@ -132,10 +132,10 @@ mutual
         first,
         second,
         tested,
-        code_length-append (start ++ one ++ test_code cell behind ++ other) end,
-        code_length-append (start ++ one ++ test_code cell behind) other,
-        code_length-append (start ++ one) (test_code cell behind),
-        code_length-append start one,
+        length_of_both (start ++ one ++ test_code cell behind ++ other) end,
+        length_of_both (start ++ one ++ test_code cell behind) other,
+        length_of_both (start ++ one) (test_code cell behind),
+        length_of_both start one,
       )
   statement_short next out again Break = omega arith
   statement_short next out again Continue = omega arith
@@ -148,7 +148,7 @@ mutual
   statements_short next out again (MoreStatements s ss) =
       let first = statement_short next out again s in
       let second = statements_short (next + labels_in s) out again ss in
-      omega (arith, first, second, code_length-append (statement_code next out again s) (statements_code (next + labels_in s) out again ss))
+      omega (arith, first, second, length_of_both (statement_code next out again s) (statements_code (next + labels_in s) out again ss))
 
 pub main_short : (last : Cell) (body : Statements) → code_length (main_code last body) ≤ 64 * parts_of body + 64
 main_short last body =
@@ -158,6 +158,6 @@ main_short last body =
       arith,
       moved,
       inner,
-      code_length-append (stack_move_code ((2 ^ 32 - frame_bytes last) % 2 ^ 32) ++ statements_code 1 0 0 body) (Label 0 ∷ []),
-      code_length-append (stack_move_code ((2 ^ 32 - frame_bytes last) % 2 ^ 32)) (statements_code 1 0 0 body),
+      length_of_both (stack_move_code ((2 ^ 32 - frame_bytes last) % 2 ^ 32) ++ statements_code 1 0 0 body) (Label 0 ∷ []),
+      length_of_both (stack_move_code ((2 ^ 32 - frame_bytes last) % 2 ^ 32)) (statements_code 1 0 0 body),
     )

@@ -14,7 +14,7 @@ use Rattle.rv32_select.specs.Lines.{code_length}
 use Rattle.rv32_select.specs.Selected.{slot_of, argument_register, load_code, call_code, test_code, operation_code}
 use Rattle.rv32_select.proofs.Relations.{Activation, IsAtPlace, Has, Comes, Goes, GoesFrom, Parts}
 use Rattle.rv32_select.proofs.Runs.{less_fuel, moves_goes, turns_goes}
-use Rattle.rv32_select.proofs.Splitting.{code_length-append, HasLines-split}
+use Rattle.rv32_select.proofs.Codes.{length_of_both, both_lines}
 
 -- What comes after a statement for each way out of it: it goes on behind the statement's lines, at the two labels, and where the run has ended.
 pub record WaysOut (x : Activation) (most end out again : ℕ) (k : Exit → Cells → Step) : Type 0 where
@@ -107,8 +107,8 @@ sequence_does x first second out again s ss one others = record {
   goes = λ place most k has ways.
       let middle = place + code_length first in
       let end = place + code_length (first ++ second) in
-      let at_end : end ≡ middle + code_length second = omega (arith, code_length-append first second) in
-      let both = HasLines-split x.lengths x.bytes x.places place first second has in
+      let at_end : end ≡ middle + code_length second = omega (arith, length_of_both first second) in
+      let both = both_lines x.lengths x.bytes x.places place first second has in
       let falls = from_same x most end (middle + code_length second) (k Falls) at_end ways.falls in
       one.goes place most (λ exit. core.falls_to exit (core.statements ss k) k) both.0 (record {
         falls = others.goes middle most k both.1 (ways_to x most end (middle + code_length second) out again k falls ways);
@@ -139,14 +139,14 @@ choice_parts : (x : Activation) (place next behind : ℕ) (test first second : L
 choice_parts x place next behind test first second has =
     let skip : List Line = Jump behind ∷ Label next ∷ [] in
     let last : List Line = Label behind ∷ [] in
-    let d = HasLines-split x.lengths x.bytes x.places place (test ++ first ++ skip ++ second) last has in
-    let c = HasLines-split x.lengths x.bytes x.places place (test ++ first ++ skip) second d.0 in
-    let b = HasLines-split x.lengths x.bytes x.places place (test ++ first) skip c.0 in
-    let a = HasLines-split x.lengths x.bytes x.places place test first b.0 in
-    let to_skip = code_length-append test first in
-    let to_those = code_length-append (test ++ first) skip in
-    let to_last = code_length-append (test ++ first ++ skip) second in
-    let whole = code_length-append (test ++ first ++ skip ++ second) last in
+    let d = both_lines x.lengths x.bytes x.places place (test ++ first ++ skip ++ second) last has in
+    let c = both_lines x.lengths x.bytes x.places place (test ++ first ++ skip) second d.0 in
+    let b = both_lines x.lengths x.bytes x.places place (test ++ first) skip c.0 in
+    let a = both_lines x.lengths x.bytes x.places place test first b.0 in
+    let to_skip = length_of_both test first in
+    let to_those = length_of_both (test ++ first) skip in
+    let to_last = length_of_both (test ++ first ++ skip) second in
+    let whole = length_of_both (test ++ first ++ skip ++ second) last in
     let at_skip : place + code_length (test ++ first) ≡ place + code_length test + code_length first = omega (arith, to_skip) in
     record {
       these = place + code_length test;
@@ -201,13 +201,13 @@ loop_parts : (x : Activation) (place next behind : ℕ) (test first second : Lis
 loop_parts x place next behind test first second has =
     let last : List Line = Jump next ∷ Label behind ∷ [] in
     let here = has_same x (place + 0) place (first ++ test ++ second ++ last) (omega arith) has.2 in
-    let c = HasLines-split x.lengths x.bytes x.places place (first ++ test ++ second) last here in
-    let b = HasLines-split x.lengths x.bytes x.places place (first ++ test) second c.0 in
-    let a = HasLines-split x.lengths x.bytes x.places place first test b.0 in
+    let c = both_lines x.lengths x.bytes x.places place (first ++ test ++ second) last here in
+    let b = both_lines x.lengths x.bytes x.places place (first ++ test) second c.0 in
+    let a = both_lines x.lengths x.bytes x.places place first test b.0 in
     let body = place + code_length (first ++ test) in
-    let to_body = code_length-append first test in
-    let to_last = code_length-append (first ++ test) second in
-    let whole = code_length-append (first ++ test ++ second) last in
+    let to_body = length_of_both first test in
+    let to_last = length_of_both (first ++ test) second in
+    let whole = length_of_both (first ++ test ++ second) last in
     let at_last : place + code_length (first ++ test ++ second) ≡ body + code_length second = omega (arith, to_last) in
     record {
       tested = place + code_length first;

@@ -8,6 +8,7 @@ use Rattle.rv32_isa.specs.declared.instruction.Instr.TheVariants.{Lw, Sw}
 use Rattle.rv32_machine.specs.State.{State, Lengths, Runs, code_base, data_base, stack_base, stack_end, is_within, is_readable, is_writable, register_of, set_register, set_word, word_at}
 use Rattle.rv32_machine.specs.Step.{Nothing, step, effect, gives, jumps, onward, following, address, loads, stores}
 use Rattle.rv32_machine.specs.Audit.{IsLawful, AccessIsLawful, DecodedIsLawful, is_lawful_load, is_lawful_store}
+use Rattle.rv32_machine.proofs.Bytes.{within_true}
 use Rattle.rv32_select.specs.Running.{HasInstr}
 use Rattle.rv32_select.proofs.Relations.{Moves}
 use Rattle.rv32_select.proofs.Moving.{by_one}
@@ -20,9 +21,6 @@ state_at place registers bytes = record { pc = code_base + place; registers = re
 -- the bytes below the stack are these
 abbrev pub IsKeptBelow : (ℕ → ℕ) → (ℕ → ℕ) → Type 0
 IsKeptBelow kept bytes = (q : ℕ) → q < stack_base → bytes q ≡ kept q
-
-pub within_true : (base len at width : ℕ) → base ≤ at → at + width ≤ base + len → is_within base len at width ≡ true
-within_true base len at width l h = grind (arith, nat_tests)
 
 within_ends : (base len at width : ℕ) → is_within base len at width ≡ true → at + width ≤ base + len
 within_ends base len at width h = grind (arith, nat_tests)

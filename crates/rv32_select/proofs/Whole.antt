@@ -16,9 +16,9 @@ use Rattle.rv32_select.specs.Lines.{code_length}
 use Rattle.rv32_select.specs.Selected.{frame_bytes, stack_move_code, statements_code, main_code}
 use Rattle.rv32_select.specs.Running.{HasLines, Begins, IsNeverStuck, DoesAsCore, core_meaning}
 use Rattle.rv32_select.proofs.Relations.{Activation, IsAt, Leads, Goes, Has, activation_of}
-use Rattle.rv32_select.proofs.LongerRuns.{steps-add, lawful_at, over_steps, steps_show}
+use Rattle.rv32_machine.proofs.LongerRuns.{run_more, lawful_at, over_steps, steps_show}
 use Rattle.rv32_select.proofs.Runs.{moves_goes, ended_goes, stuck_goes}
-use Rattle.rv32_select.proofs.Splitting.{HasLines-split}
+use Rattle.rv32_select.proofs.Codes.{both_lines}
 use Rattle.rv32_select.proofs.StatementForms.{WaysOut}
 use Rattle.rv32_select.proofs.EachStatement.{statements_do}
 use Rattle.rv32_select.proofs.Parts.{parts}
@@ -66,7 +66,7 @@ agrees_before (Over why) n more r e meant is sound at same =
 
 -- so many instructions more than others
 later : (n : Lengths) (r : Run) (first count : ℕ) → first ≤ count → run_steps n count r ≡ run_steps n (count - first) (run_steps n first r)
-later n r first count less = ap (λ k. run_steps n k r) (sym (add-sub_of_le less)) ∙ steps-add n first (count - first) r
+later n r first count less = ap (λ k. run_steps n k r) (sym (add-sub_of_le less)) ∙ run_more n first (count - first) r
 
 -- a run that is over after some instructions, and so after more
 record IsOverFrom (n : Lengths) (first count : ℕ) (r : Run) : Type 0 where
@@ -151,7 +151,7 @@ does_as_core last body named n places s input bytes room begins sound =
     let at_frame = subst (λ lines. Begins n places lines s) (append_assoc frame code (Label 0 ∷ [])) begins in
     let e = entered n places last (code ++ (Label 0 ∷ [])) s room at_frame in
     let x = activation_of n places last s in
-    let behind_frame = HasLines-split n s.bytes places 0 frame code (HasLines-split n s.bytes places 0 (frame ++ code) (Label 0 ∷ []) begins.has).0 in
+    let behind_frame = both_lines n s.bytes places 0 frame code (both_lines n s.bytes places 0 (frame ++ code) (Label 0 ∷ []) begins.has).0 in
     let has : Has x (code_length frame) code = subst (λ place. HasLines n s.bytes places place code) (zero-add (code_length frame)) behind_frame.1 in
     let does = statements_do body x 1 0 0 (parts x e.in_order) named in
     implements n s input body bytes (λ k. moves_goes n k (core.statements body core.finished (λ _. 0)) s e.next e.moves

@@ -1,5 +1,5 @@
 -- What lines of code stand for: how long each is, where labels stand, and the instructions of each.
-use Rattle.std.specs.Prelude.{◌≡◌, ℕ, ℤ, pos, ◌+◌, ◌-ℤ◌, false, List, [], ◌∷◌, ◌++◌, nat_eq, if◌then◌else◌}
+use Rattle.std.specs.Prelude.{◌≡◌, ℕ, ℤ, pos, ◌+◌, ◌-ℤ◌, Bool, true, false, List, [], ◌∷◌, ◌++◌, nat_eq, if◌then◌else◌}
 use Rattle.std.specs.List.{All}
 use Rattle.rv32_isa.specs.declared.instruction.Instr.{Instr}
 use Rattle.rv32_isa.specs.declared.instruction.Instr.TheVariants.{Jal, Bne}
@@ -54,3 +54,11 @@ labels_placed (JumpIfZero register label ∷ lines) = labels_placed lines
 abbrev pub AreOnce : List ℕ → Type 0
 AreOnce [] = Unit {0}
 AreOnce (label ∷ labels) = All (λ other. nat_eq label other ≡ false) labels × AreOnce labels
+
+-- the first line is an instruction as it is, so no jump stands at the code's first address
+abbrev pub starts_plain : List Line → Bool
+starts_plain [] = false
+starts_plain (Plain instr ∷ lines) = true
+starts_plain (Label label ∷ lines) = false
+starts_plain (Jump label ∷ lines) = false
+starts_plain (JumpIfZero register label ∷ lines) = false

@@ -39,7 +39,7 @@ fn put_main(lines: &mut Vec<Line>, function: &Function) -> Result<(), AllocError
 }
 
 /// The instructions of a lowered program. Fails only where no host memory is left.
-#[tactic(auto, using(crate::proofs::Labels::main_labels_once, crate::proofs::LongCodes::main_long, crate::proofs::ShortCodes::main_short, crate::proofs::Whole::does_as_core))]
+#[tactic(auto, using(crate::proofs::FirstLines::main_starts_plain, crate::proofs::Labels::main_labels_once, crate::proofs::LongCodes::main_long, crate::proofs::ShortCodes::main_short, crate::proofs::Whole::does_as_core))]
 pub fn select(alloc: Global, core: &Core) -> Result<Labelled, AllocError>
     ensures code { IfOk result (λ labelled. labelled.lines.items ≡ main_code core.now.main.last (statements_of core.now.main.body)) }
     // no label is placed twice

@@ -1,5 +1,8 @@
 // Instructions with labels.
 
+ghost use Rattle.std.specs.Prelude.{IsTrue};
+ghost use Rattle.rv32_select.specs.Lines.{starts_plain};
+
 use rv32_isa::{Instr, Register};
 
 /// A line of code. A label is a number, which a `Label` line places.
@@ -15,8 +18,9 @@ pub enum Line {
     JumpIfZero(Register, usize),
 }
 
-/// Code with labels, which begins at its first line.
+/// Code with labels, which begins at its first line. That is a `Plain` one, so no jump stands at the first address.
 #[derive(Drop)]
 pub struct Labelled {
     pub lines: Vec<Line>,
+    ghost starts: { IsTrue (starts_plain lines.items) },
 }

@@ -7,12 +7,8 @@ use crate::emit::{OPERAND, RESULT, put, put_call, put_constant, put_load, put_sa
 use crate::labelled::Line;
 use cyc_core::{Binary, Cell, Operation};
 use rv32_isa::{Instr, Register, Signed12};
+use rv32_machine::{GETCHAR, PUTCHAR};
 use std::alloc::AllocError;
-
-/// The calls of the environment that write a byte and read one.
-const PUTCHAR: u32 = 1;
-
-const GETCHAR: u32 = 2;
 
 /// The offset of a cell's slot from the stack pointer. Code with a cell over 2^29 doesn't fit any image.
 pub fn slot(cell: Cell) -> u32

@@ -11,10 +11,8 @@ use crate::labelled::Line;
 use crate::operation::{put_operation, slot};
 use cyc_core::{Cell, Statement};
 use rv32_isa::Register;
+use rv32_machine::EXIT;
 use std::alloc::AllocError;
-
-/// The call of the environment that exits.
-const EXIT: u32 = 0;
 
 /// The labels that a `break` and a `continue` go to.
 #[derive(Clone, Copy)]

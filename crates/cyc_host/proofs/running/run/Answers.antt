@@ -8,14 +8,13 @@ use Rattle.rv32_machine.specs.Arrays.{lengths_of, state_of}
 use Rattle.rv32_machine.specs.State.{Stop}
 use Rattle.rv32_machine.specs.Step.{Nothing, Writes, Asks, Stops}
 use Rattle.cyc_host.specs.declared.ending.Ending.TheVariants as ending
-use Rattle.cyc_host.proofs.Later.{failed_since, of_err, of_ok}
-use Rattle.cyc_host.proofs.Progress.{IsStep, step_at, over_at, runs_at, runs_at_write, runs_at_answer, all_written, Progress, begun, went_on, stopped_at, put_one, wrote, kept, answered, hosted, either_end}
+use Rattle.cyc_host.proofs.Transfers.{all_written, counted_ok, of_err, of_ok}
+use Rattle.cyc_host.proofs.Progress.{IsStep, step_at, over_at, runs_at, runs_at_write, runs_at_answer, Progress, begun, went_on, stopped_at, put_one, wrote, kept, answered, hosted, either_end}
 use Rattle.cyc_host.proofs.running.run.Goals as goal
 use Rattle.cyc_host.proofs.running.run.Goals.{in-Next, in-Put+else-is_err, in-Get+else-is_err-2+in-Ok}
 
 pub steps-init : goal.steps-init
 steps-init g c = record {
-  room = search rules;
   reads = search rules;
   writes = search rules;
   lengths = refl;
@@ -23,30 +22,34 @@ steps-init g c = record {
   progress = subst (Progress _ _ 0 false _ _ _ _ _) (sym c.new-gathered.ensures) begun;
 }
 
-pub returns-then-is_err-clause-at_end : goal.returns-then-is_err-clause-at_end
-returns-then-is_err-clause-at_end g c =
+pub returns-then-is_err-clause-hosted : goal.returns-then-is_err-clause-hosted
+returns-then-is_err-clause-hosted g c =
     let i = c.steps.invariant in
     let x : IsStep (lengths_of c.args.machine.now) (state_of c.steps.machine) (state_of c.step.new.self) (Writes c.in-Put.byte) =
     step_at _ _ _ _ _ i.lengths c.in-Put.ensures.state c.in-Put.ensures.event in
-    hosted (put_one i.progress _ c.in-Put.byte x) ending.WriteFault _ _ _ (omega arith) (of_err c.put.result c.put.ensures.some (sym c.is_err.ensures.value ∙ c.if-is_err.true)) (inl refl)
+    hosted (put_one i.progress _ c.in-Put.byte x) ending.WriteFault _ _ _ (omega arith)
+    (of_err c.put.result c.put.ensures.some (sym c.is_err.ensures.value ∙ c.if-is_err.true)) (inl refl)
 
-pub returns-then-is_err-2-clause-at_end : goal.returns-then-is_err-2-clause-at_end
-returns-then-is_err-2-clause-at_end g c =
+pub returns-then-is_err-2-clause-hosted : goal.returns-then-is_err-2-clause-hosted
+returns-then-is_err-2-clause-hosted g c =
     let i = c.steps.invariant in
     let x : IsStep (lengths_of c.args.machine.now) (state_of c.steps.machine) (state_of c.step.new.self) Asks =
     step_at _ _ _ _ _ i.lengths c.in-Get.ensures.state c.in-Get.ensures.event in
-    hosted i.progress ending.WriteFault _ _ _ (omega arith) (of_err c.flush.result c.flush.ensures.some (sym c.is_err-in-Get.ensures.value ∙ c.if-is_err-2.true)) (inr x.state)
+    hosted i.progress ending.WriteFault _ _ _ (omega arith)
+    (of_err c.flush.result c.flush.ensures.some (sym c.is_err-in-Get.ensures.value ∙ c.if-is_err-2.true)) (inr (omega arith, x.state))
 
-pub returns-in-Err-clause-at_end : goal.returns-in-Err-clause-at_end
-returns-in-Err-clause-at_end g c =
+pub returns-in-Err-clause-hosted : goal.returns-in-Err-clause-hosted
+returns-in-Err-clause-hosted g c =
     let i = c.steps.invariant in
     let x : IsStep (lengths_of c.args.machine.now) (state_of c.steps.machine) (state_of c.step.new.self) Asks =
     step_at _ _ _ _ _ i.lengths c.in-Get.ensures.state c.in-Get.ensures.event in
-    let flushed = wrote i.progress _ [] (all_written _ _ _ (of_ok c.flush.result c.flush.ensures.all (sym c.is_err-in-Get.ensures.value ∙ c.if-is_err-2.false))) in
-    hosted (kept flushed _ c.in-Err.ensures.kept c.in-Err.ensures.asked) ending.ReadFault _ _ _ (omega arith) (Appends-nil _) (x.state, sym x.shows)
+    let flushed = wrote i.progress _ []
+    (all_written _ _ _ (of_ok c.flush.result c.flush.ensures.all (sym c.is_err-in-Get.ensures.value ∙ c.if-is_err-2.false))) in
+    hosted (kept flushed _ c.in-Err.ensures.kept c.in-Err.ensures.asked) ending.ReadFault _ _ _ (omega arith) (Appends-nil _)
+    (omega arith, (x.state, sym x.shows))
 
-pub returns-in-Ended-clause-at_end : goal.returns-in-Ended-clause-at_end
-returns-in-Ended-clause-at_end g c =
+pub returns-in-Ended-clause-hosted : goal.returns-in-Ended-clause-hosted
+returns-in-Ended-clause-hosted g c =
     let i = c.steps.invariant in
     let x : IsStep (lengths_of c.args.machine.now) (state_of c.steps.machine) (state_of c.step.new.self) (Stops (Stop.Ended (word c.in-Ended.status))) =
     step_at _ _ _ _ _ i.lengths c.in-Ended.ensures.state c.in-Ended.ensures.event in
@@ -54,58 +57,35 @@ returns-in-Ended-clause-at_end g c =
     hosted (stopped_at i.progress _ _ x) c.finish.result _ _ _ (omega arith) c.finish.ensures.written
     (either_end (ending.Ended c.in-Ended.status) _ _ _ _ _ (simp (to_z-of_z w32 c.in-Ended.status fits) at c.finish.ensures.same) (refl, over_at x))
 
-pub returns-in-Raised-clause-at_end : goal.returns-in-Raised-clause-at_end
-returns-in-Raised-clause-at_end g c =
+pub returns-in-Raised-clause-hosted : goal.returns-in-Raised-clause-hosted
+returns-in-Raised-clause-hosted g c =
     let i = c.steps.invariant in
     let x : IsStep (lengths_of c.args.machine.now) (state_of c.steps.machine) (state_of c.step.new.self) (Stops (Stop.Raised c.in-Raised.kind)) =
     step_at _ _ _ _ _ i.lengths c.in-Raised.ensures.state c.in-Raised.ensures.event in
     hosted (stopped_at i.progress _ _ x) c.finish-in-Raised.result _ _ _ (omega arith) c.finish-in-Raised.ensures.written
     (either_end (ending.Raised c.in-Raised.kind) _ _ _ _ _ c.finish-in-Raised.ensures.same (refl, over_at x))
 
-pub returns-in-Exhausted-clause-at_end : goal.returns-in-Exhausted-clause-at_end
-returns-in-Exhausted-clause-at_end g c =
+pub returns-in-Exhausted-clause-hosted : goal.returns-in-Exhausted-clause-hosted
+returns-in-Exhausted-clause-hosted g c =
     let i = c.steps.invariant in
     let x : IsStep (lengths_of c.args.machine.now) (state_of c.steps.machine) (state_of c.step.new.self) (Stops Stop.Exhausted) =
     step_at _ _ _ _ _ i.lengths c.in-Exhausted.ensures.state c.in-Exhausted.ensures.event in
     hosted (stopped_at i.progress _ _ x) c.finish-in-Exhausted.result _ _ _ (omega arith) c.finish-in-Exhausted.ensures.written
     (either_end ending.Exhausted _ _ _ _ _ c.finish-in-Exhausted.ensures.same (refl, over_at x))
 
-pub returns-in-Fault-clause-at_end : goal.returns-in-Fault-clause-at_end
-returns-in-Fault-clause-at_end g c =
+pub returns-in-Fault-clause-hosted : goal.returns-in-Fault-clause-hosted
+returns-in-Fault-clause-hosted g c =
     let i = c.steps.invariant in
     let x : IsStep (lengths_of c.args.machine.now) (state_of c.steps.machine) (state_of c.step.new.self) (Stops (Stop.Fault c.in-Fault.fault)) =
     step_at _ _ _ _ _ i.lengths c.in-Fault.ensures.state c.in-Fault.ensures.event in
     hosted (stopped_at i.progress _ _ x) c.finish-in-Fault.result _ _ _ (omega arith) c.finish-in-Fault.ensures.written
     (either_end (ending.Fault c.in-Fault.fault) _ _ _ _ _ c.finish-in-Fault.ensures.same (refl, over_at x))
 
-pub returns-clause-at_end : goal.returns-clause-at_end
-returns-clause-at_end g c =
-    let i = c.steps.invariant in
-    hosted i.progress c.finish-2.result _ _ _ (omega arith) c.finish-2.ensures.written (either_end ending.StepLimit _ _ _ _ _ c.finish-2.ensures.same (refl, omega arith))
-
-pub returns-then-is_err-clause-hosted : goal.returns-then-is_err-clause-hosted
-returns-then-is_err-clause-hosted g c = (returns-then-is_err-clause-at_end g c).hosted
-
-pub returns-then-is_err-2-clause-hosted : goal.returns-then-is_err-2-clause-hosted
-returns-then-is_err-2-clause-hosted g c = (returns-then-is_err-2-clause-at_end g c).hosted
-
-pub returns-in-Err-clause-hosted : goal.returns-in-Err-clause-hosted
-returns-in-Err-clause-hosted g c = (returns-in-Err-clause-at_end g c).hosted
-
-pub returns-in-Ended-clause-hosted : goal.returns-in-Ended-clause-hosted
-returns-in-Ended-clause-hosted g c = (returns-in-Ended-clause-at_end g c).hosted
-
-pub returns-in-Raised-clause-hosted : goal.returns-in-Raised-clause-hosted
-returns-in-Raised-clause-hosted g c = (returns-in-Raised-clause-at_end g c).hosted
-
-pub returns-in-Exhausted-clause-hosted : goal.returns-in-Exhausted-clause-hosted
-returns-in-Exhausted-clause-hosted g c = (returns-in-Exhausted-clause-at_end g c).hosted
-
-pub returns-in-Fault-clause-hosted : goal.returns-in-Fault-clause-hosted
-returns-in-Fault-clause-hosted g c = (returns-in-Fault-clause-at_end g c).hosted
-
 pub returns-clause-hosted : goal.returns-clause-hosted
-returns-clause-hosted g c = (returns-clause-at_end g c).hosted
+returns-clause-hosted g c =
+    let i = c.steps.invariant in
+    hosted i.progress c.finish-2.result _ _ _ (omega arith) c.finish-2.ensures.written
+    (either_end ending.StepLimit _ _ _ _ _ c.finish-2.ensures.same (refl, omega arith))
 
 pub steps-preserved : goal.steps-preserved
 steps-preserved g c =
@@ -116,7 +96,6 @@ steps-preserved g c =
           let x : IsStep n (state_of c.steps.machine) (state_of c.step.new.self) Nothing =
           step_at _ _ _ _ _ i.lengths w.in-Next.ensures.state w.in-Next.ensures.event in
           rw (w.machine-is, w.reader-is, w.writer-is, w.gathered-is, w.is_over-is) (record {
-            room = i.room;
             reads = i.reads;
             writes = i.writes;
             lengths = w.in-Next.ensures.lengths ∙ i.lengths;
@@ -128,9 +107,8 @@ steps-preserved g c =
           step_at _ _ _ _ _ i.lengths w.in-Put.ensures.state w.in-Put.ensures.event in
           let moved = of_ok w.put.result w.put.ensures.all (sym w.is_err.ensures.value ∙ w.if-is_err.false) in
           rw (w.machine-is, w.reader-is, w.writer-is, w.gathered-is, w.is_over-is) (record {
-            room = w.put.ensures.room;
             reads = i.reads;
-            writes = omega arith;
+            writes = counted_ok w.put.result _ _ w.put.ensures.counted (sym w.is_err.ensures.value ∙ w.if-is_err.false) ∙ i.writes;
             lengths = w.in-Put.ensures.lengths ∙ i.lengths;
             going = inr (runs_at_write x);
             progress = wrote (put_one i.progress _ w.in-Put.byte x) _ _ moved;
@@ -138,28 +116,14 @@ steps-preserved g c =
       | in-Get+else-is_err-2+in-Ok w ↦
           let x : IsStep n (state_of c.steps.machine) (state_of c.step.new.self) Asks =
           step_at _ _ _ _ _ i.lengths w.in-Get.ensures.state w.in-Get.ensures.event in
-          let flushed = wrote i.progress _ [] (all_written _ _ _ (of_ok w.flush.result w.flush.ensures.all (sym w.is_err-in-Get.ensures.value ∙ w.if-is_err-2.false))) in
+          let flushed = wrote i.progress _ []
+          (all_written _ _ _ (of_ok w.flush.result w.flush.ensures.all (sym w.is_err-in-Get.ensures.value ∙ w.if-is_err-2.false))) in
           rw (w.machine-is, w.reader-is, w.writer-is, w.gathered-is, w.is_over-is) (record {
-            room = search rules;
-            reads = omega arith;
-            writes = omega arith;
+            reads = w.in-Ok.ensures.counted ∙ i.reads;
+            writes = counted_ok w.flush.result _ _ w.flush.ensures.counted (sym w.is_err-in-Get.ensures.value ∙ w.if-is_err-2.false) ∙ i.writes;
             lengths = w.give.ensures.lengths ∙ w.in-Get.ensures.lengths ∙ i.lengths;
             going = inr (runs_at_answer w.in-Ok.answer x w.give.ensures.state);
-            progress = subst (Progress _ _ _ _ _ _ _ _ _) (sym w.flush.ensures.empty) (answered flushed _ _ _ _ _ x w.in-Ok.ensures.answer (search rules) w.give.ensures.state);
+            progress = subst (Progress _ _ _ _ _ _ _ _ _) (sym w.flush.ensures.empty)
+                (answered flushed _ _ _ _ _ x w.in-Ok.ensures.answer (search rules) w.give.ensures.state);
           })
     ]
-
-pub returns-in-Ended-clause-write_fault : goal.returns-in-Ended-clause-write_fault
-returns-in-Ended-clause-write_fault g c = λ e. failed_since _ _ _ c.steps.invariant.writes c.finish.ensures.grows (c.finish.ensures.failed e)
-
-pub returns-in-Raised-clause-write_fault : goal.returns-in-Raised-clause-write_fault
-returns-in-Raised-clause-write_fault g c = λ e. failed_since _ _ _ c.steps.invariant.writes c.finish-in-Raised.ensures.grows (c.finish-in-Raised.ensures.failed e)
-
-pub returns-in-Exhausted-clause-write_fault : goal.returns-in-Exhausted-clause-write_fault
-returns-in-Exhausted-clause-write_fault g c = λ e. failed_since _ _ _ c.steps.invariant.writes c.finish-in-Exhausted.ensures.grows (c.finish-in-Exhausted.ensures.failed e)
-
-pub returns-in-Fault-clause-write_fault : goal.returns-in-Fault-clause-write_fault
-returns-in-Fault-clause-write_fault g c = λ e. failed_since _ _ _ c.steps.invariant.writes c.finish-in-Fault.ensures.grows (c.finish-in-Fault.ensures.failed e)
-
-pub returns-clause-write_fault : goal.returns-clause-write_fault
-returns-clause-write_fault g c = λ e. failed_since _ _ _ c.steps.invariant.writes c.finish-2.ensures.grows (c.finish-2.ensures.failed e)

@@ -1,5 +1,4 @@
-use Rattle.std.proofs.Common.{◌≡◌, ◌≤◌, ◌<◌, ◌⊎◌}
-use Rattle.arrayvec.specs.ArrayVec.{array_vec_len}
+use Rattle.std.proofs.Common.{◌≡◌, ◌⊎◌}
 use Rattle.rv32_machine.specs.Arrays.{lengths_of, state_of}
 use Rattle.rv32_machine.specs.State.{Runs}
 use Rattle.cyc_host.proofs.Progress.{Progress}
@@ -7,11 +6,10 @@ use Rattle.cyc_host.proofs.running.run.Given as goal
 
 abbrev pub invariant-steps : goal.invariant-steps
 invariant-steps g l = record {
-  room : array_vec_len l.gathered < 4096;
-  reads : g.R.Input.fault_count l.fn.reader ≤ g.R.Input.fault_count l.reader;
-  writes : g.W.Output.fault_count l.fn.writer ≤ g.W.Output.fault_count l.writer;
+  reads : g.R.Input.fault_count l.reader ≡ g.R.Input.fault_count l.fn.reader;
+  writes : g.W.Output.fault_count l.writer ≡ g.W.Output.fault_count l.fn.writer;
   lengths : lengths_of l.machine ≡ lengths_of l.fn.machine;
   going : (l.counter ≡ 0) ⊎ ((state_of l.machine).mode ≡ Runs);
-  progress : Progress (lengths_of l.fn.machine) (state_of l.fn.machine) l.counter l.is_over (state_of l.machine) (g.R.Read.remaining l.fn.reader) (g.R.Read.remaining l.reader)
-      (g.W.Write.contents l.fn.writer) (g.W.Write.contents l.writer) l.gathered.items;
+  progress : Progress (lengths_of l.fn.machine) (state_of l.fn.machine) l.counter l.is_over (state_of l.machine)
+      (g.R.Read.remaining l.fn.reader) (g.R.Read.remaining l.reader) (g.W.Write.contents l.fn.writer) (g.W.Write.contents l.writer) l.gathered;
 }

@@ -1,4 +1,4 @@
-use Rattle.std.proofs.Common.{◌≡◌, ℕ, ◌≤◌, List, ◌++◌, length}
+use Rattle.std.proofs.Common.{◌≡◌, ℕ, List, ◌++◌, length}
 use Rattle.std.specs.Io.KnownBytes.{Appends}
 use Rattle.cyc_host.proofs.transfer.write_all.Given as goal
 
@@ -7,7 +7,7 @@ invariant-parts g l = record {
   done : List ℕ;
   split : l.bytes ≡ done ++ l.rest;
   appended : Appends (g.W.Write.contents l.fn.writer) (g.W.Write.contents l.writer) done;
-  writes : g.W.Output.fault_count l.fn.writer ≤ g.W.Output.fault_count l.writer;
+  writes : g.W.Output.fault_count l.writer ≡ g.W.Output.fault_count l.fn.writer;
 }
 
 abbrev pub decreases-parts : goal.decreases-parts

@@ -1,5 +1,5 @@
 use Rattle.std.proofs.Common.{◌≡◌, ◌+◌, ◌≤◌, drop}
-use Rattle.rv32_layout.specs.Placed.{code_limit}
+use Rattle.cyc_image.specs.Format.{code_limit}
 use Rattle.rv32_select.specs.Lines.{code_length}
 use Rattle.rv32_layout.proofs.length.length.Given as goal
 

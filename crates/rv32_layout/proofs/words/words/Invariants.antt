@@ -1,12 +1,11 @@
-use Rattle.std.proofs.Common.{◌≡◌, ℕ, ◌+◌, List, ◌++◌, drop, vec_len}
+use Rattle.std.proofs.Common.{◌≡◌, true, ℕ, ◌+◌, List, ◌++◌, drop, vec_len}
 use Rattle.rv32_layout.specs.Placed.{AreWords, ArePlaced}
-use Rattle.rv32_select.specs.Lines.{code_length, place_of, instructions_from}
-use Rattle.rv32_layout.specs.Reach.{first_jump}
+use Rattle.rv32_select.specs.Lines.{code_length, place_of, starts_plain, instructions_from}
 use Rattle.rv32_layout.proofs.words.words.Given as goal
 
 abbrev pub invariant-each : goal.invariant-each
 invariant-each l = record {
   whole : vec_len l.bytes + code_length (drop l.line-index l.line-items) ≡ code_length l.line-items;
-  first : vec_len l.bytes ≡ 0 → first_jump (drop l.line-index l.line-items) ≡ first_jump l.line-items;
+  first : vec_len l.bytes ≡ 0 → starts_plain (drop l.line-index l.line-items) ≡ true;
   placed : (rest : List ℕ) → AreWords (instructions_from (place_of l.line-items) (vec_len l.bytes) (drop l.line-index l.line-items)) rest → ArePlaced l.line-items (l.bytes.items ++ rest);
 }

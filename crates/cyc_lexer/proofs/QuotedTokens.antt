@@ -2,9 +2,9 @@
 use Rattle.std.proofs.Common.{◌≡◌, ℕ, ◌+◌, ◌<◌, ◌≤◌, Bool, true, false, cond, eqb, List, [], ◌∷◌, ◌++◌, length, get_or, Option, Some, None, refl, ap, sym, ◌∙◌, subst, arith, length-append, append_assoc}
 use Rattle.std.proofs.lemmas.Bool.{cond_both, cond-true, cond-false, eqb-true, eq-eqb, false_from_ne_true, true≢false}
 use Rattle.cyc_lexer.specs.Bytes.{is_space, is_letter, is_digit}
-use Rattle.cyc_lexer.specs.Spelling.{sign_text, IsCharacter, IsText, Spells}
+use Rattle.cyc_lexer.specs.Spelling.{sign_text, IsCharacter, IsText, Spells, character_at}
 use Rattle.cyc_lexer.specs.Lexing.{BeginsComment, IsLongest, IsToken}
-use Rattle.cyc_lexer.specs.Reading.{signs, character_at, text_from, find_sign, region_at, closed_by, quoted_at, text_token, begins_comment, begins_with, sign_at, word_at, number_at, token_at}
+use Rattle.cyc_lexer.specs.Reading.{signs, text_from, find_sign, region_at, closed_by, quoted_at, text_token, begins_comment, begins_with, sign_at, word_at, number_at, token_at}
 use Rattle.cyc_lexer.specs.declared.token.TokenKind.{TokenKind}
 use Rattle.cyc_lexer.specs.declared.token.TokenKind.TheVariants as kind
 use Rattle.cyc_lexer.specs.declared.token.Sign.{Sign}

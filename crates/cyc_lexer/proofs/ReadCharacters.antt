@@ -2,8 +2,7 @@
 use Rattle.std.proofs.Common.{◌≡◌, ℕ, ◌+◌, ◌*◌, true, cond, eqb, leb, not, ◌&&◌, List, [], ◌∷◌, ◌++◌, length, Option, Some, None, refl, ap, sym, ◌∙◌, inl, inr}
 use Rattle.std.proofs.lemmas.Bool.{cond_both, eqb-true, eqb-false, ne_eqb, leb-true, le-leb, and_parts, not-true}
 use Rattle.cyc_lexer.specs.Bytes.{is_between, is_hexadecimal_digit, digit_value}
-use Rattle.cyc_lexer.specs.Spelling.{escapes, IsIn, IsPlain, IsEscape, IsHexadecimalEscape, IsCharacter}
-use Rattle.cyc_lexer.specs.Reading.{find_escape, hexadecimal_at, escape_at, character_at}
+use Rattle.cyc_lexer.specs.Spelling.{escapes, IsIn, IsPlain, IsEscape, IsHexadecimalEscape, IsCharacter, find_escape, hexadecimal_at, escape_at, character_at}
 use Rattle.cyc_lexer.proofs.Fronts.{Reads}
 
 -- ---- what is read is a character

@@ -2,8 +2,8 @@
 use Rattle.std.proofs.Common.{◌≡◌, ℕ, zero, suc, ◌+◌, ◌<◌, ◌≤◌, Bool, true, false, eqb, List, [], ◌∷◌, ◌++◌, length, drop, Option, Some, None, refl, ap, sym, ◌∙◌, subst, arith, append_assoc, length-append, zero-add}
 use Rattle.std.proofs.lemmas.Bool.{cond-false, cond-true, eqb-true}
 use Rattle.std.proofs.lemmas.List.{drop_at}
-use Rattle.cyc_lexer.specs.Spelling.{IsCharacter, AreCharacters}
-use Rattle.cyc_lexer.specs.Reading.{longer, character_at, on_character, text_from}
+use Rattle.cyc_lexer.specs.Spelling.{IsCharacter, AreCharacters, character_at}
+use Rattle.cyc_lexer.specs.Reading.{longer, on_character, text_from}
 use Rattle.cyc_lexer.proofs.Fronts.{Cut, Reads, Cut-within, Cut-drop}
 use Rattle.cyc_lexer.proofs.ReadCharacters.{CharacterOf, character_read, character_again, character_not_empty}
 

@@ -3,5 +3,4 @@ pub mod Spelling
 pub mod Lexing
 pub mod Places
 pub mod Reading
-pub mod Faults
 pub mod Tokens

@@ -1,10 +1,10 @@
 -- How the front of a text is read, step by step: what the functions of the crate compute.
 -- Lengths are in bytes. That this reading is the one of Lexing.antt is proved in proofs/.
-use Rattle.std.specs.Prelude.{ℕ, suc, ◌+◌, ◌-◌, ◌*◌, zero, List, [], ◌∷◌, length, map, take, drop, slice_index, Bool, true, false, not, ◌&&◌, ◌||◌, nat_eq, nat_le, if◌then◌else◌, Option, Some, None}
+use Rattle.std.specs.Prelude.{ℕ, suc, ◌+◌, ◌-◌, ◌*◌, zero, List, [], ◌∷◌, length, map, take, slice_index, Bool, true, false, not, ◌&&◌, ◌||◌, nat_eq, nat_le, if◌then◌else◌, Option, Some, None}
 use Rattle.cyc_lexer.specs.declared.words.TheConstants.{KEYWORDS}
 use Rattle.cyc_lexer.specs.declared.signs.TheConstants.{SIGNS}
-use Rattle.cyc_lexer.specs.Bytes.{is_between, is_space, is_letter, is_digit, is_octal_digit, is_hexadecimal_digit, is_word_byte, digit_value}
-use Rattle.cyc_lexer.specs.Spelling.{escapes}
+use Rattle.cyc_lexer.specs.Bytes.{is_space, is_letter, is_digit, is_octal_digit, is_hexadecimal_digit, is_word_byte, digit_value}
+use Rattle.cyc_lexer.specs.Spelling.{character_at}
 use Rattle.cyc_lexer.specs.declared.token.TokenKind.{TokenKind}
 use Rattle.cyc_lexer.specs.declared.token.TokenKind.TheVariants as kind
 use Rattle.cyc_lexer.specs.declared.token.Keyword.{Keyword}
@@ -71,27 +71,7 @@ abbrev pub number_of : List ℕ → Option TokenKind
 number_of word =
     if is_suffix (slice_index word (length word - 1)) then with_suffix true (digits_of (take (length word - 1) word)) else with_suffix false (digits_of word)
 
--- ---- characters and strings: the byte that a character means, and its length
-
-abbrev pub find_escape : List (ℕ × ℕ) → ℕ → Option (ℕ × ℕ)
-find_escape [] letter = None
-find_escape (e ∷ es) letter = if nat_eq letter e.0 then Some (e.1, 2) else find_escape es letter
-
--- after `\x`
-abbrev pub hexadecimal_at : List ℕ → Option (ℕ × ℕ)
-hexadecimal_at [] = None
-hexadecimal_at (h ∷ []) = None
-hexadecimal_at (h ∷ l ∷ rest) = if (is_hexadecimal_digit h && is_hexadecimal_digit l) then Some (digit_value h * 16 + digit_value l, 4) else None
-
--- after a backslash
-abbrev pub escape_at : List ℕ → Option (ℕ × ℕ)
-escape_at [] = None
-escape_at (b ∷ bs) = if nat_eq b 120 then hexadecimal_at bs else find_escape escapes b
-
-abbrev pub character_at : ℕ → List ℕ → Option (ℕ × ℕ)
-character_at quote [] = None
-character_at quote (b ∷ bs) =
-    if nat_eq b 92 then escape_at bs else (if (is_between 32 126 b && not (nat_eq b quote)) then Some (b, 1) else None)
+-- ---- characters and strings
 
 abbrev pub on_character : Option (ℕ × ℕ) → (ℕ → Option ℕ) → Option ℕ
 on_character None rest = None
@@ -102,19 +82,6 @@ abbrev pub text_from : ℕ → List ℕ → Option ℕ
 text_from skip [] = None
 text_from zero (b ∷ bs) = if nat_eq b 34 then Some 1 else on_character (character_at 34 (b ∷ bs)) (λ n. longer 1 (text_from n bs))
 text_from (suc skip) (b ∷ bs) = longer 1 (text_from skip bs)
-
-abbrev pub with_character : Option (ℕ × ℕ) → (ℕ → List ℕ) → List ℕ
-with_character None rest = []
-with_character (Some c) rest = c.0 ∷ rest c.1
-
--- the bytes that the characters at the front mean, as far as there are characters, and so many of them at most
-abbrev pub characters_in : ℕ → ℕ → List ℕ → List ℕ
-characters_in zero quote bytes = []
-characters_in (suc most) quote bytes = with_character (character_at quote bytes) (λ n. characters_in most quote (drop n bytes))
-
--- the bytes that a string's spelling means: those of the characters between its first byte and its last, the quotes
-unfoldable pub text_bytes : List ℕ → List ℕ
-text_bytes spelling = characters_in (length spelling) 34 (take (length spelling - 2) (drop 1 spelling))
 
 -- ---- signs
 

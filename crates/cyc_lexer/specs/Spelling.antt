@@ -1,5 +1,5 @@
 -- What spells a token: for each kind, the byte lists that are a token of it.
-use Rattle.std.specs.Prelude.{◌≡◌, ◌≢◌, ℕ, ◌+◌, ◌*◌, ◌≤◌, List, [], ◌∷◌, ◌++◌, true, false, IsTrue, codes, ◌⊎◌}
+use Rattle.std.specs.Prelude.{◌≡◌, ◌≢◌, ℕ, suc, zero, ◌+◌, ◌-◌, ◌*◌, ◌≤◌, List, [], ◌∷◌, ◌++◌, length, take, drop, true, false, not, ◌&&◌, nat_eq, if◌then◌else◌, Option, Some, None, IsTrue, codes, ◌⊎◌}
 use Rattle.cyc_lexer.specs.Bytes.{is_between, is_letter, is_digit, is_octal_digit, is_hexadecimal_digit, is_word_byte, digit_value, all_bytes, value_of}
 use Rattle.cyc_lexer.specs.declared.token.TokenKind.{TokenKind}
 use Rattle.cyc_lexer.specs.declared.token.TokenKind.TheVariants as kind
@@ -120,6 +120,41 @@ AreCharacters quote s (byte ∷ bytes) =
 -- a string, and its bytes, without the final 0
 abbrev pub IsText : List ℕ → List ℕ → Type 0
 IsText s bytes = (inner : List ℕ) × (s ≡ 34 ∷ inner ++ 34 ∷ []) × AreCharacters 34 inner bytes
+
+-- ---- the bytes that characters mean, from the front: of each its byte and its length
+
+abbrev pub find_escape : List (ℕ × ℕ) → ℕ → Option (ℕ × ℕ)
+find_escape [] letter = None
+find_escape (e ∷ es) letter = if nat_eq letter e.0 then Some (e.1, 2) else find_escape es letter
+
+-- after `\x`
+abbrev pub hexadecimal_at : List ℕ → Option (ℕ × ℕ)
+hexadecimal_at [] = None
+hexadecimal_at (h ∷ []) = None
+hexadecimal_at (h ∷ l ∷ rest) = if (is_hexadecimal_digit h && is_hexadecimal_digit l) then Some (digit_value h * 16 + digit_value l, 4) else None
+
+-- after a backslash
+abbrev pub escape_at : List ℕ → Option (ℕ × ℕ)
+escape_at [] = None
+escape_at (b ∷ bs) = if nat_eq b 120 then hexadecimal_at bs else find_escape escapes b
+
+abbrev pub character_at : ℕ → List ℕ → Option (ℕ × ℕ)
+character_at quote [] = None
+character_at quote (b ∷ bs) =
+    if nat_eq b 92 then escape_at bs else (if (is_between 32 126 b && not (nat_eq b quote)) then Some (b, 1) else None)
+
+abbrev pub with_character : Option (ℕ × ℕ) → (ℕ → List ℕ) → List ℕ
+with_character None rest = []
+with_character (Some c) rest = c.0 ∷ rest c.1
+
+-- the bytes that the characters at the front mean, as far as there are characters, and so many of them at most
+abbrev pub characters_in : ℕ → ℕ → List ℕ → List ℕ
+characters_in zero quote bytes = []
+characters_in (suc most) quote bytes = with_character (character_at quote bytes) (λ n. characters_in most quote (drop n bytes))
+
+-- the bytes that a string's spelling means: those of the characters between its first byte and its last, the quotes
+unfoldable pub text_bytes : List ℕ → List ℕ
+text_bytes spelling = characters_in (length spelling) 34 (take (length spelling - 2) (drop 1 spelling))
 
 -- ---- signs
 

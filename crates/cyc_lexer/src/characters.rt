@@ -2,8 +2,8 @@
 
 ghost use Rattle.std.specs.Prelude.{◌≡◌, ◌≤◌, ◌&&◌, not, nat_eq, length, IfSome};
 ghost use Rattle.cyc_lexer.specs.Bytes.{is_between, is_hexadecimal_digit};
-ghost use Rattle.cyc_lexer.specs.Spelling.{escapes};
-ghost use Rattle.cyc_lexer.specs.Reading.{find_escape, character_at, text_from};
+ghost use Rattle.cyc_lexer.specs.Spelling.{escapes, find_escape, character_at};
+ghost use Rattle.cyc_lexer.specs.Reading.{text_from};
 
 use crate::bytes::{digit_value, is_hexadecimal_digit};
 

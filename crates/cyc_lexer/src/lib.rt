@@ -14,8 +14,6 @@ mod place;
 mod scan;
 mod signs;
 mod string;
-#[cfg(test)]
-mod tests;
 mod text;
 mod token;
 mod words;

@@ -1,8 +1,7 @@
 // What a string means.
 
 ghost use Rattle.std.specs.Prelude.{◌≡◌, ℕ, List, IfOk};
-ghost use Rattle.cyc_lexer.specs.Spelling.{IsText};
-ghost use Rattle.cyc_lexer.specs.Reading.{text_bytes};
+ghost use Rattle.cyc_lexer.specs.Spelling.{IsText, text_bytes};
 
 use crate::characters::character_at;
 use std::alloc::{AllocError, Global};

@@ -1,7 +1,7 @@
 -- The readers of functions, items and programs are exact.
 use Rattle.std.proofs.Common.{◌≡◌, ◌≤◌, ℕ, zero, suc, max, Bool, true, false, List, [], ◌∷◌, length, refl, sym, ap, subst, ◌∙◌, Ok, Err, nat_le, cond, arith, leb-true}
 use Rattle.cyc_tree.specs.Tree.{Item, StructItem, UnionItem, GlobalItem, FunctionItem}
-use Rattle.cyc_tree.specs.Nesting.{item_nesting, nesting}
+use Rattle.cyc_tree.specs.PartNesting.{item_nesting, program_nesting}
 use Rattle.cyc_parser.specs.declared.fault.ParseFault.TheVariants.{Memory}
 use Rattle.cyc_parser.specs.Phrases.{Tokens, Each}
 use Rattle.cyc_parser.specs.Grammar.{IsItem}
@@ -22,7 +22,7 @@ AreSomeItems [] from to = ⊥
 AreSomeItems (i ∷ is) from to = Each IsItem (i ∷ is) from to
 
 abbrev pub AreItemsAt : ℕ → Bool → List Item → Tokens → Tokens → Type 0
-AreItemsAt most b is from to = AreSomeItems is from to × Within b most (nesting is)
+AreItemsAt most b is from to = AreSomeItems is from to × Within b most (program_nesting is)
 
 pub item_begins : (most : ℕ) (b : Bool) (i : Item) (from to : Tokens) → IsItemAt most b i from to → next_is is_any from ≡ true
 item_begins most b (StructItem s) from to w = begins_with is_any from _ _ w.0.1.1 refl
@@ -45,17 +45,17 @@ within_right most true m n h = omega arith
 within_right most false m n h = tt
 
 rows_into : (most : ℕ) (b : Bool) (is : List Item) (from to : Tokens) → Rows (IsItemAt most) b is from to
-    → Each IsItem is from to × Within b most (nesting is)
+    → Each IsItem is from to × Within b most (program_nesting is)
 rows_into most b [] from to w = (w, within_none most b)
 rows_into most b (i ∷ is) from to w =
-    let r = rows_into most b is w.0 to w.2 in ((w.0, w.1.0, r.0), within_max most b (item_nesting i) (nesting is) w.1.1 r.1)
+    let r = rows_into most b is w.0 to w.2 in ((w.0, w.1.0, r.0), within_max most b (item_nesting i) (program_nesting is) w.1.1 r.1)
 
-pub rows_back : (most : ℕ) (b : Bool) (is : List Item) (from to : Tokens) → Each IsItem is from to → Within b most (nesting is)
+pub rows_back : (most : ℕ) (b : Bool) (is : List Item) (from to : Tokens) → Each IsItem is from to → Within b most (program_nesting is)
     → Rows (IsItemAt most) b is from to
 rows_back most b [] from to w h = w
 rows_back most b (i ∷ is) from to w h =
-    let others = rows_back most b is w.0 to w.2 (within_right most b (item_nesting i) (nesting is) h) in
-    (w.0, (w.1, within_left most b (item_nesting i) (nesting is) h), others)
+    let others = rows_back most b is w.0 to w.2 (within_right most b (item_nesting i) (program_nesting is) h) in
+    (w.0, (w.1, within_left most b (item_nesting i) (program_nesting is) h), others)
 
 -- ---- programs
 
@@ -66,15 +66,15 @@ program_into : (most : ℕ) (b : Bool) (is : List Item) (from to : Tokens) → P
 program_into most b is from to w =
     let r = rows_into most b w.3.0 w.1 to w.3.2 in
     subst (λ (is : List Item). AreItemsAt most b is from to) (sym w.3.1)
-    ((w.1, w.2.0, r.0), within_max most b (item_nesting w.0) (nesting w.3.0) w.2.1 r.1)
+    ((w.1, w.2.0, r.0), within_max most b (item_nesting w.0) (program_nesting w.3.0) w.2.1 r.1)
 
 program_back : (most : ℕ) (b : Bool) (is : List Item) (from to : Tokens) → AreItemsAt most b is from to → ProgramRead most b is from to
 program_back most b [] from to w = absurd w.0
 program_back most b (i ∷ is) from to w = (
   i,
   w.0.0,
-  (w.0.1, within_left most b (item_nesting i) (nesting is) w.1),
-  (is, refl, rows_back most b is w.0.0 to w.0.2 (within_right most b (item_nesting i) (nesting is) w.1)),
+  (w.0.1, within_left most b (item_nesting i) (program_nesting is) w.1),
+  (is, refl, rows_back most b is w.0.0 to w.0.2 (within_right most b (item_nesting i) (program_nesting is) w.1)),
 )
 
 pub program_exact : (most : ℕ) → Exact Anything (AreItemsAt most) (always is_any) (program most)

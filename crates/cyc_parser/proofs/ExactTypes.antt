@@ -1,7 +1,7 @@
 -- The readers of names, types and constants are exact.
 use Rattle.std.proofs.Common.{◌≡◌, ℕ, Bool, true, false, List, [], ◌∷◌, refl, sym, ap, subst, ◌∙◌}
 use Rattle.cyc_lexer.specs.Lexing.{Token}
-use Rattle.cyc_lexer.specs.Reading.{text_bytes}
+use Rattle.cyc_lexer.specs.Spelling.{text_bytes}
 use Rattle.cyc_lexer.specs.declared.token.Keyword.TheVariants as word
 use Rattle.cyc_lexer.specs.declared.token.Sign.TheVariants as sign_of
 use Rattle.cyc_lexer.specs.declared.token.TokenKind.{TokenKind}

@@ -1,10 +1,11 @@
 -- What the reader of programs answers says of the tokens, all of them.
-use Rattle.std.proofs.Common.{◌≡◌, ℕ, max, ◌<◌, ◌≤◌, false, List, [], ◌∷◌, ◌++◌, Option, Some, None, Ok, Err, refl, sym, ap, subst, ◌∙◌, append_assoc, arith, inl, inr}
+use Rattle.std.proofs.Common.{◌≡◌, ℕ, max, ◌≤◌, false, List, [], ◌∷◌, ◌++◌, Option, Some, None, Ok, Err, refl, sym, ap, subst, ◌∙◌, append_assoc, arith, inl, inr}
 use Rattle.std.proofs.lemmas.List.{append-nil}
 use Rattle.cyc_lexer.specs.Lexing.{Token}
 use Rattle.cyc_tree.specs.Tree.{Item, Program}
-use Rattle.cyc_tree.specs.Nesting.{nesting, nesting_limit}
-use Rattle.cyc_tree.specs.Depths.{too_deep_at}
+use Rattle.cyc_tree.specs.Depths.{nesting, nesting_limit, too_deep_at}
+use Rattle.cyc_tree.specs.PartNesting.{program_nesting}
+use Rattle.cyc_tree.proofs.DeepestPhrases.{nesting_is}
 use Rattle.cyc_parser.specs.declared.fault.ParseFault.{ParseFault}
 use Rattle.cyc_parser.specs.declared.fault.ParseFault.TheVariants.{Parse, TooDeep, Memory}
 use Rattle.cyc_parser.specs.Phrases.{Tokens}
@@ -29,9 +30,6 @@ program_is : (is : List Item) (ts : Tokens) → IsProgram is ts → AreSomeItems
 program_is [] ts items = items
 program_is (i ∷ is) ts items = items
 
-within_limit : (n : ℕ) → (nesting_limit < n → ⊥) → n ≤ nesting_limit
-within_limit n not = omega (arith, not)
-
 -- ---- a program that is read
 
 found_within : (most : ℕ) (ts : Tokens) (is : List Item) (rest : Tokens) → program most ts ≡ Ok (is, rest) → IsProgram is ts
@@ -45,20 +43,17 @@ pub is_found : (ts : Tokens) (is : List Item) (rest : Tokens) → program nestin
 is_found ts is rest read = found_within nesting_limit ts is rest read
 
 pub is_nested : (ts : Tokens) (is : List Item) (rest : Tokens) → program nesting_limit ts ≡ Ok (is, rest) → nesting is ≤ nesting_limit
-is_nested ts is rest read = (((program_exact nesting_limit).sound ts is rest tt read).is []).1
+is_nested ts is rest read = omega (arith, nesting_is is, (((program_exact nesting_limit).sound ts is rest tt read).is []).1)
 
 -- ---- a program that the tokens are
 
 pub is_passed : (p : Program) (ts : Tokens) → IsProgram p ts → Passes (program nesting_limit ts) p []
 is_passed p ts phrase = (program_exact nesting_limit).never p ts [] (program_is p ts phrase, tt) refl
 
-pub is_read : (p : Program) (ts : Tokens) → IsProgram p ts → nesting p ≤ nesting_limit → program nesting_limit ts ≡ Ok (p, [])
-is_read p ts phrase nested = (program_exact nesting_limit).again p ts [] (program_is p ts phrase, nested) refl
-
 -- tokens are one program's
 pub one_program : (tokens : Tokens) (p q : Program) → IsProgram p tokens → IsProgram q tokens → p ≡ q
 one_program tokens p q is_p is_q =
-    let exact = program_exact (max (nesting p) (nesting q)) in
+    let exact = program_exact (max (program_nesting p) (program_nesting q)) in
     let read_p = exact.again p tokens [] (program_is p tokens is_p, omega arith) refl in
     let read_q = exact.again q tokens [] (program_is q tokens is_q, omega arith) refl in
     ap (λ (x : List Item × Tokens). x.0) (ok_is (p, []) (q, []) (sym read_p ∙ read_q))
@@ -68,12 +63,6 @@ is_only p ts is rest phrase read = elim (is_passed p ts phrase) [
   | inl same ↦ ap (λ (x : List Item × Tokens). x.0) (ok_is (is, rest) (p, []) (sym read ∙ same))
   | inr deep ↦ absurd (no_fault (is, rest) (TooDeep deep.0) (sym read ∙ deep.1))
 ]
-
--- a program that is refused as too deep is
-deep_program : (p : Program) (ts : Tokens) (at : ℕ) → IsProgram p ts → program nesting_limit ts ≡ Err (TooDeep at) → nesting_limit < nesting p
-deep_program p ts at phrase refused =
-    let within : nesting p ≤ nesting_limit → ⊥ = λ le. no_fault (p, []) (TooDeep at) (sym (is_read p ts phrase le) ∙ refused) in
-    omega (arith, within)
 
 -- ---- a token that no program has there
 
@@ -156,7 +145,6 @@ is_too_deep ts at refused =
       begins =
           begins d.tree (d.front ++ d.next ∷ []) d.ending
           (subst (λ (x : Tokens). AreSomeItems d.tree x []) (sym (append_assoc d.front (d.next ∷ []) (d.ending ++ []))) (d.is []).0);
-      deep = λ p ending phrase. deep_program p (d.front ++ d.next ∷ ending) at phrase (d.still ending);
       first = λ p ending phrase. first_place p (d.front ++ d.next ∷ ending) at phrase (d.still ending);
     }
 
@@ -208,7 +196,7 @@ module _ (most : ℕ) (front : Tokens) (p : Program) (ending : Tokens) (read : p
 -- tokens that begin a program begin one whose other tokens are made up
 pub made_up_ending : (front : Tokens) → BeginAProgram front → (p : Program) × (ending : Tokens) × IsProgram p (front ++ ending) × AreMadeUp ending
 made_up_ending front (p, ending, is) =
-    let most = nesting p in
+    let most = program_nesting p in
     let read : program most (front ++ ending) ≡ Ok (p, []) =
     (program_exact most).again p (front ++ ending) [] (program_is p (front ++ ending) is, omega arith) refl in
     complete most front p ending read (program most front) refl
@@ -225,5 +213,5 @@ is_refused_for ts Memory fails = tt
 pub is_refused_program : (p : Program) (ts : Tokens) (fault : ParseFault) → IsProgram p ts → Fails fault (program nesting_limit ts)
     → IsRefusedProgram p fault
 is_refused_program p ts (Parse at) phrase fails = no_program p ts at phrase fails
-is_refused_program p ts (TooDeep at) phrase fails = (deep_program p ts at phrase fails, first_place p ts at phrase fails)
+is_refused_program p ts (TooDeep at) phrase fails = first_place p ts at phrase fails
 is_refused_program p ts Memory phrase fails = tt

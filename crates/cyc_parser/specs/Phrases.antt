@@ -1,7 +1,7 @@
 -- Tokens of phrases. A phrase relates the tokens from its first one on, `from`, to those behind it, `to`.
 use Rattle.std.specs.Prelude.{◌≡◌, ◌≢◌, ℕ, List, [], ◌∷◌, codes, nat_eq, if◌then◌else◌}
 use Rattle.cyc_lexer.specs.Lexing.{Token}
-use Rattle.cyc_lexer.specs.Reading.{text_bytes}
+use Rattle.cyc_lexer.specs.Spelling.{text_bytes}
 use Rattle.cyc_lexer.specs.declared.token.Keyword.{Keyword}
 use Rattle.cyc_lexer.specs.declared.token.Sign.{Sign}
 use Rattle.cyc_lexer.specs.declared.token.Sign.TheVariants as sign

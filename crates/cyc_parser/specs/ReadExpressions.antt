@@ -1,7 +1,7 @@
 -- Readers of expressions. What reads unary expressions and what reads whole ones are arguments, since they go one phrase deeper.
 use Rattle.std.specs.Prelude.{ℕ, zero, suc, ◌-◌, List, [], ◌∷◌, Option, Some, None, nat_le, if◌then◌else◌}
 use Rattle.cyc_lexer.specs.Lexing.{Token}
-use Rattle.cyc_lexer.specs.Reading.{text_bytes}
+use Rattle.cyc_lexer.specs.Spelling.{text_bytes}
 use Rattle.cyc_lexer.specs.declared.token.Keyword.TheVariants as word
 use Rattle.cyc_lexer.specs.declared.token.Sign.{Sign}
 use Rattle.cyc_lexer.specs.declared.token.Sign.TheVariants as sign_of

@@ -1,7 +1,8 @@
 -- Readers of names, types and constants.
 use Rattle.std.specs.Prelude.{ℕ, Bool, false, List, [], Some, None, codes, if◌then◌else◌}
 use Rattle.cyc_lexer.specs.Lexing.{Token}
-use Rattle.cyc_lexer.specs.Reading.{same, text_bytes}
+use Rattle.cyc_lexer.specs.Reading.{same}
+use Rattle.cyc_lexer.specs.Spelling.{text_bytes}
 use Rattle.cyc_lexer.specs.declared.token.Keyword.TheVariants as word
 use Rattle.cyc_lexer.specs.declared.token.Sign.TheVariants as sign_of
 use Rattle.cyc_lexer.specs.declared.token.TokenKind.{TokenKind}

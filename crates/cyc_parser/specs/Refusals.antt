@@ -1,8 +1,7 @@
 -- Why tokens are no program, and where.
-use Rattle.std.specs.Prelude.{◌≡◌, ℕ, ◌<◌, [], ◌∷◌, ◌++◌, Some}
+use Rattle.std.specs.Prelude.{◌≡◌, ℕ, [], ◌∷◌, ◌++◌, Some}
 use Rattle.cyc_lexer.specs.Lexing.{Token}
 use Rattle.cyc_tree.specs.Tree.{Program}
-use Rattle.cyc_tree.specs.Nesting.{nesting, nesting_limit}
 use Rattle.cyc_tree.specs.Depths.{too_deep_at}
 use Rattle.cyc_parser.specs.declared.fault.ParseFault.{ParseFault}
 use Rattle.cyc_parser.specs.declared.fault.ParseFault.TheVariants.{Parse, TooDeep, Memory}
@@ -48,7 +47,6 @@ pub record IsTooDeepAt (tokens : Tokens) (at : ℕ) : Type 0 where
   pub parts : tokens ≡ front ++ next ∷ others
   pub place : at ≡ next.at
   pub begins : BeginAProgram (front ++ next ∷ [])
-  pub deep : (program : Program) (ending : Tokens) → IsProgram program (front ++ next ∷ ending) → nesting_limit < nesting program
   pub first : (program : Program) (ending : Tokens) → IsProgram program (front ++ next ∷ ending) → too_deep_at program ≡ Some at
 
 -- why tokens are refused; nothing is said of want of memory
@@ -57,8 +55,8 @@ IsRefusedFor (Parse at) tokens = IsUnexpectedFirst tokens at
 IsRefusedFor (TooDeep at) tokens = IsTooDeepAt tokens at
 IsRefusedFor Memory tokens = Unit {0}
 
--- the tokens are a program's: it is refused only for want of memory, or since it nests too deep, at the first token that is so
+-- the tokens are a program's: it is refused only for want of memory, or since it nests too deep, at the first token that does
 abbrev pub IsRefusedProgram : Program → ParseFault → Type 0
 IsRefusedProgram program (Parse at) = ⊥
-IsRefusedProgram program (TooDeep at) = (nesting_limit < nesting program) × (too_deep_at program ≡ Some at)
+IsRefusedProgram program (TooDeep at) = too_deep_at program ≡ Some at
 IsRefusedProgram program Memory = Unit {0}

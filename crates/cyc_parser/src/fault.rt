@@ -4,34 +4,24 @@ ghost use Rattle.std.specs.Prelude.{◌≡◌};
 ghost use Rattle.cyc_parser.specs.declared.fault.ParseFault.TheVariants.{Memory};
 
 use std::alloc::{AllocError, AllocFailed};
-use std::error::Error;
-use std::fmt;
+use thiserror::Error;
 
 /// Why `parse` refuses tokens. Places are offsets in the text; the end of the text is 4,294,967,295.
-#[derive(Clone, Copy, PartialEq, Eq, Debug)]
+#[derive(Clone, Copy, PartialEq, Eq, Debug, Error)]
 pub enum ParseFault {
     /// The first token with which the tokens so far begin no program, or the end of the text.
+    #[error("Parse")]
     Parse(u32),
     /// The first token that over 256 phrases contain.
+    #[error("TooDeep")]
     TooDeep(u32),
     /// No host memory is left.
+    #[error("out of memory")]
     Memory,
 }
 
 /// What reading a phrase gives: its tree, or why there is none.
 pub type Parsed<T> = Result<T, ParseFault>;
-
-impl fmt::Display for ParseFault {
-    fn fmt<W: fmt::Write>(&self, f: &mut fmt::Formatter<W>) -> fmt::Result {
-        match self {
-            ParseFault::Parse(_) => write!(f, "Parse"),
-            ParseFault::TooDeep(_) => write!(f, "TooDeep"),
-            ParseFault::Memory => write!(f, "out of memory"),
-        }
-    }
-}
-
-impl Error for ParseFault {}
 
 impl From<AllocError> for ParseFault {
     ghost from_gives = { λ _ fault. fault ≡ Memory };

@@ -2,7 +2,7 @@
 
 ghost use Rattle.std.specs.Prelude.{◌<◌, ◌≤◌, OnOk, length, map, option_map};
 ghost use Rattle.cyc_tree.specs.View.{name_tree, region_tree, type_tree, member_tree, bound_tree, function_tree};
-ghost use Rattle.cyc_tree.specs.Nesting.{nesting_limit};
+ghost use Rattle.cyc_tree.specs.Depths.{nesting_limit};
 ghost use Rattle.cyc_parser.specs.Reader.{Gives};
 ghost use Rattle.cyc_parser.specs.ReadPrograms.{void_parameter as void_parameter_at, first_parameter as first_parameter_at, parameters as parameters_at, effect as effect_at, bound as bound_at, bounds as bounds_at, function_of};
 

@@ -3,7 +3,7 @@
 ghost use Rattle.std.specs.Prelude.{◌≡◌, ◌<◌, ◌≤◌, ◌^◌, ℕ, IfOk, IfErr, OnOk, MatchResult, length, map};
 ghost use Rattle.cyc_lexer.specs.Tokens.{token_tree};
 ghost use Rattle.cyc_tree.specs.Tree.{Program as Tree};
-ghost use Rattle.cyc_tree.specs.Nesting.{nesting, nesting_limit};
+ghost use Rattle.cyc_tree.specs.Depths.{nesting, nesting_limit};
 ghost use Rattle.cyc_parser.specs.Phrases.{Tokens};
 ghost use Rattle.cyc_parser.specs.Grammar.{IsProgram};
 ghost use Rattle.cyc_parser.specs.Refusals.{IsUnexpectedAt, IsUnexpectedFirst, IsTooDeepAt, IsRefusedFor, IsRefusedProgram};
@@ -174,7 +174,10 @@ pub fn parse(alloc: Global, tokens: &[Token<'_>]) -> Result<Program, ParseFault>
 {
     let mut cursor = Cursor::new(tokens);
     let items = items(alloc, &mut cursor)?;
-    Ok(Program::new(items))
+    match Program::new(alloc, items) {
+        Ok(program) => Ok(program),
+        Err(_) => Err(ParseFault::Memory),
+    }
 }
 
 /// Tokens are one program's at most.

@@ -17,8 +17,6 @@ mod level;
 mod literal;
 mod operator;
 mod statement;
-#[cfg(test)]
-mod tests;
 mod type_name;
 
 pub use fault::ParseFault;

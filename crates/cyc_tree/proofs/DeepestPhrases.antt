@@ -1,12 +1,12 @@
--- A program's nesting is the depth of its deepest phrase, and it has a token that is too deep just where that is more than the limit.
+-- The depth of the deepest phrase by recursion; a program has a token that is too deep just where its nesting is more than the limit.
 use Rattle.std.proofs.Common.{◌≡◌, ℕ, ◌+◌, ◌≤◌, ◌<◌, max, Bool, true, false, cond, List, [], ◌∷◌, ◌++◌, Some, None, refl, arith}
 use Rattle.std.proofs.lemmas.Bool.{le-leb, leb-true}
 use Rattle.std.specs.Prelude.{nat_le}
 use Rattle.cyc_tree.specs.Tree.{Expression, Number, Character, Text, Null, HeapRegion, UniqueRegion, Variable, Call, MakeUnion, NumElts, Grouped, Suffixed, Prefixed, New, NewIn, Chain, AllOf, AnyOf, Assign, Expressions, NoExpressions, MoreExpressions, Links, NoLinks, MoreLinks, Suffixes, NoSuffixes, Index, Dot, Arrow, Made, One, Array}
 use Rattle.cyc_tree.specs.Tree as tree
 use Rattle.cyc_tree.specs.Tree.{Initializer, Declaration, Local, Statement, Empty, Block, Run, Exchange, If, IfElse, While, Switch, Break, Continue, Return, FreeUnique, FreeKey, BlockItems, NoItems, Declare, Execute, Clauses, NoClauses, MoreClauses, Item, StructItem, UnionItem, GlobalItem, FunctionItem, Program}
-use Rattle.cyc_tree.specs.Nesting.{inner_nesting, argument_nesting, operand_nesting, link_nesting, suffix_nesting, made_nesting, expression_nesting, initializer_nesting, declaration_nesting, statement_nesting, items_nesting, clauses_nesting, item_nesting, nesting, nesting_limit}
-use Rattle.cyc_tree.specs.Depths.{Start, inner_starts, argument_starts, operand_starts, link_starts, suffix_starts, made_starts, expression_starts, initializer_starts, declaration_starts, statement_starts, items_starts, clauses_starts, item_starts, program_starts, greatest_depth, first_deeper, too_deep_at}
+use Rattle.cyc_tree.specs.PartNesting.{inner_nesting, argument_nesting, operand_nesting, link_nesting, suffix_nesting, made_nesting, expression_nesting, initializer_nesting, declaration_nesting, statement_nesting, items_nesting, clauses_nesting, item_nesting, program_nesting}
+use Rattle.cyc_tree.specs.Depths.{Start, inner_starts, argument_starts, operand_starts, link_starts, suffix_starts, made_starts, expression_starts, initializer_starts, declaration_starts, statement_starts, items_starts, clauses_starts, item_starts, program_starts, greatest_depth, nesting, nesting_limit, first_deeper, too_deep_at}
 
 -- ---- lists of starts
 
@@ -201,15 +201,23 @@ item_greatest (UnionItem u) = refl
 item_greatest (GlobalItem g) = refl
 item_greatest (FunctionItem f) = omega (arith, items_greatest 0 f.body)
 
--- a program nests as deep as its deepest phrase
-pub nesting_is_greatest : (p : Program) → nesting p ≡ greatest_depth (program_starts p)
-nesting_is_greatest [] = refl
-nesting_is_greatest (i ∷ is) = omega (arith, greatest_both (item_starts i) (program_starts is), item_greatest i, nesting_is_greatest is)
+program_greatest : (p : Program) → greatest_depth (program_starts p) ≡ program_nesting p
+program_greatest [] = refl
+program_greatest (i ∷ is) = omega (arith, greatest_both (item_starts i) (program_starts is), item_greatest i, program_greatest is)
+
+-- the nesting, by recursion
+pub nesting_is : (p : Program) → nesting p ≡ program_nesting p
+unfolding nesting
+nesting_is p = program_greatest p
+
+-- ---- the limit
 
 -- within the limit no token is too deep
 pub none_too_deep : (p : Program) → nesting p ≤ nesting_limit → too_deep_at p ≡ None
-none_too_deep p h = none_deeper nesting_limit (program_starts p) (omega (arith, nesting_is_greatest p, h))
+unfolding nesting
+none_too_deep p h = none_deeper nesting_limit (program_starts p) h
 
 -- and where it nests deeper, some token is too deep
 pub deep_has_place : (p : Program) → nesting_limit < nesting p → (at : ℕ) × (too_deep_at p ≡ Some at)
-deep_has_place p h = deep_first nesting_limit (program_starts p) (omega (arith, nesting_is_greatest p, h))
+unfolding nesting
+deep_has_place p h = deep_first nesting_limit (program_starts p) h

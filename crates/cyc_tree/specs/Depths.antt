@@ -5,7 +5,6 @@ use Rattle.std.specs.Prelude.{ℕ, ◌+◌, max, List, [], ◌∷◌, ◌++◌, 
 use Rattle.cyc_tree.specs.Tree.{Expression, Number, Character, Text, Null, HeapRegion, UniqueRegion, Variable, Call, MakeUnion, NumElts, Grouped, Suffixed, Prefixed, New, NewIn, Chain, AllOf, AnyOf, Assign, Expressions, NoExpressions, MoreExpressions, Links, NoLinks, MoreLinks, Suffixes, NoSuffixes, Index, Dot, Arrow, Made, One, Array}
 use Rattle.cyc_tree.specs.Tree as tree
 use Rattle.cyc_tree.specs.Tree.{Initializer, Declaration, Local, Statement, Empty, Block, Run, Exchange, If, IfElse, While, Switch, Break, Continue, Return, FreeUnique, FreeKey, BlockItems, NoItems, Declare, Execute, Clauses, NoClauses, MoreClauses, Item, StructItem, UnionItem, GlobalItem, FunctionItem, Program}
-use Rattle.cyc_tree.specs.Nesting.{nesting_limit}
 use Rattle.cyc_tree.specs.Places.{expression_place}
 
 -- the first token of a phrase: its place, and how deep the phrase is, which is in how many phrases it stands, itself among them
@@ -120,12 +119,22 @@ abbrev pub program_starts : Program → List Start
 program_starts [] = []
 program_starts (item ∷ items) = item_starts item ++ program_starts items
 
--- ---- the first one that is too deep
+-- ---- how deep a program nests
 
 -- the greatest depth
 abbrev pub greatest_depth : List Start → ℕ
 greatest_depth [] = 0
 greatest_depth (s ∷ ss) = max s.depth (greatest_depth ss)
+
+-- the nesting of a program: the greatest depth of its phrases
+unfoldable pub nesting : Program → ℕ
+nesting program = greatest_depth (program_starts program)
+
+-- the greatest that a program may have
+abbrev pub nesting_limit : ℕ
+nesting_limit = 256
+
+-- ---- the first one that is too deep
 
 -- the place of the first one that is deeper than this
 abbrev pub first_deeper : ℕ → List Start → Option ℕ

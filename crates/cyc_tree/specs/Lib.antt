@@ -1,7 +1,7 @@
 pub mod Tree
 pub mod View
 pub mod Places
-pub mod Nesting
 pub mod Depths
+pub mod PartNesting
 pub mod StoredNames
 pub mod Stored

@@ -24,6 +24,11 @@ expression_place (Expression.AllOf first others) = expression_place first
 expression_place (Expression.AnyOf first others) = expression_place first
 expression_place (Expression.Assign place value) = expression_place place
 
+abbrev pub region_place : tree.RegionName → ℕ
+region_place (tree.Heap at) = at
+region_place (tree.Unique at) = at
+region_place (tree.Named name) = name.at
+
 abbrev pub declaration_place : Declaration → ℕ
 declaration_place (tree.Local of name initializer) = of.at
 declaration_place (tree.Region at region handle) = at

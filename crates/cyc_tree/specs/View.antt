@@ -1,5 +1,6 @@
 -- The pure tree that a tree of the code stands for.
-use Rattle.std.specs.Prelude.{ℕ, List, [], ◌∷◌, map, option_map}
+use Rattle.std.specs.Prelude.{ℕ, List, [], ◌∷◌, map, Option, option_map, Vec}
+use Rattle.std.specs.Global.{Global}
 use Rattle.cyc_tree.specs.declared.name.Name as code_name
 use Rattle.cyc_tree.specs.declared.name.RegionName as code_region
 use Rattle.cyc_tree.specs.declared.name.RegionName.TheVariants as region
@@ -232,12 +233,16 @@ global_tree g = record { of = type_tree g.of; name = name_tree g.name; initial =
 abbrev pub bound_tree : code_bound.Bound → tree.Bound
 bound_tree b = record { longer = region_tree b.longer; shorter = region_tree b.shorter }
 
+-- an effect, where one is written
+abbrev pub effect_tree : Option (Vec code_region.RegionName Global) → Option (List tree.RegionName)
+effect_tree effect = option_map (λ regions. map region_tree regions.items) effect
+
 abbrev pub function_tree : code_function.Function → tree.Function
 function_tree f = record {
   result = type_tree f.result;
   name = name_tree f.name;
   parameters = map member_tree f.parameters.items;
-  effect = option_map (λ regions. map region_tree regions.items) f.effect;
+  effect = effect_tree f.effect;
   bounds = map bound_tree f.bounds.items;
   body = items_of (map item_tree f.body.items);
   end = f.end;

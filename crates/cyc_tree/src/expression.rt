@@ -42,7 +42,6 @@ pub enum Prefix {
 
 /// An expression. A number that comes first is the place of its first token.
 #[cycle(expression)]
-#[derive(Drop)]
 pub enum Expression {
     /// A number, and whether it has the suffix `u`.
     Number(u32, u32, bool),
@@ -112,6 +111,34 @@ pub enum Made {
     One(Box<Expression>),
     /// An array, `{for i < count : element}`: the index's name, the count and the element.
     Array(Name, Box<Expression>, Box<Expression>),
+}
+
+// Written out, so that a caller's proof sees one call and not the drop of each field.
+impl Drop for Expression {
+    #[cycle(expression)]
+    fn drop(self) {
+        match self {
+            Expression::Number(_, _, _)
+            | Expression::Character(_, _)
+            | Expression::Null(_)
+            | Expression::HeapRegion(_)
+            | Expression::UniqueRegion(_) => {}
+            Expression::Text(_, _bytes) => {}
+            Expression::Variable(_name) => {}
+            Expression::Call(_name, _arguments) => {}
+            Expression::MakeUnion(_tag, _member, _value) => {}
+            Expression::NumElts(_, _inner) => {}
+            Expression::Grouped(_, _inner) => {}
+            Expression::Suffixed(_first, _suffixes) => {}
+            Expression::Prefixed(_, _, _operand) => {}
+            Expression::New(_, _made) => {}
+            Expression::NewIn(_, _handle, _made) => {}
+            Expression::Chain(_first, _links) => {}
+            Expression::AllOf(_first, _others) => {}
+            Expression::AnyOf(_first, _others) => {}
+            Expression::Assign(_place, _value) => {}
+        }
+    }
 }
 
 impl Expression {

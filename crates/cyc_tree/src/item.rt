@@ -1,11 +1,13 @@
 // The items of a program.
 
-ghost use Rattle.std.specs.Prelude.{◌≡◌};
+ghost use Rattle.std.specs.Prelude.{◌≡◌, IfOk};
 ghost use Rattle.cyc_tree.specs.View.{program_tree};
 
 use crate::name::{Name, RegionName, TypeName};
 use crate::statement::BlockItem;
+use std::alloc::{AllocError, Global as Heap};
 use std::marker::Model;
+use std::rc::Rc;
 
 /// The end of the text, as a place.
 pub const END_OF_TEXT: u32 = u32::MAX;
@@ -81,12 +83,22 @@ pub struct Function {
 }
 
 /// An item of a program.
-#[derive(Drop)]
 pub enum Item {
     Struct(Structure),
     Union(Structure),
     Global(Global),
     Function(Function),
+}
+
+// Written out, so that a caller's proof sees one call and not the drop of each field.
+impl Drop for Item {
+    fn drop(self) {
+        match self {
+            Item::Struct(_structure) | Item::Union(_structure) => {}
+            Item::Global(_global) => {}
+            Item::Function(_function) => {}
+        }
+    }
 }
 
 impl Item {
@@ -105,10 +117,10 @@ impl Item {
     }
 }
 
-/// A program: its items, in order. A contract sees it as the pure tree of its items.
+/// A program: its items, in order, which its clones share. A contract sees it as the pure tree of its items.
 #[derive(Drop)]
 pub struct Program {
-    items: Vec<Item>,
+    items: Rc<Vec<Item>>,
 }
 
 impl Model for Program {
@@ -121,21 +133,35 @@ impl Model for Program {
 
     ghost use Rattle.cyc_tree.specs.View.{program_tree};
 
-    ghost view = { λ p. program_tree p.items.items };
+    ghost view = { λ p. program_tree p.items.value.items };
 }
 
 impl Program {
-    /// The program of these items.
-    pub fn new(items: Vec<Item>) -> Self
-        ensures { result ≡ program_tree items.items }
+    /// The program of these items. An Err where no memory is left.
+    pub fn new(alloc: Heap, items: Vec<Item>) -> Result<Program, AllocError>
+        ensures { IfOk result (λ program. program ≡ program_tree items.items) }
     {
-        Program { items }
+        match Rc::new(alloc, items) {
+            Ok(items) => Ok(Program { items }),
+            Err(_) => Err(AllocError),
+        }
     }
 
     /// The program's items, in order.
     pub fn items(&self) -> &[Item]
         ensures { program_tree result.now ≡ self.now }
     {
-        self.items.as_slice()
+        self.items.as_ref().as_slice()
+    }
+}
+
+impl Clone for Program {
+    ghost is_clone = { λ program copy. copy ≡ program };
+
+    /// The same program, which shares its items. An Err where they are shared as often as can be counted.
+    fn clone(&self) -> Result<Program, AllocError> {
+        Ok(Program {
+            items: self.items.clone()?,
+        })
     }
 }

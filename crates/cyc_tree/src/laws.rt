@@ -2,13 +2,10 @@
 
 ghost use Rattle.std.specs.Prelude.{◌≡◌, ◌<◌, ◌≤◌, ℕ, Some, None};
 ghost use Rattle.cyc_tree.specs.Tree.{Program as Tree};
-ghost use Rattle.cyc_tree.specs.Nesting.{nesting, nesting_limit};
-ghost use Rattle.cyc_tree.specs.Depths.{greatest_depth, program_starts, too_deep_at};
+ghost use Rattle.cyc_tree.specs.Depths.{nesting, nesting_limit, too_deep_at};
 
-/// A program nests as deep as its deepest phrase; it has a token that is too deep exactly where that
-/// is deeper than the limit.
+/// A program has a token that is too deep exactly where it nests deeper than the limit.
 pub fn deepest()
-    ensures greatest { (program : Tree) → nesting program ≡ greatest_depth (program_starts program) }
     ensures within { (program : Tree) → nesting program ≤ nesting_limit → too_deep_at program ≡ None }
     ensures deeper { (program : Tree) → nesting_limit < nesting program → (at : ℕ) × (too_deep_at program ≡ Some at) }
 {}

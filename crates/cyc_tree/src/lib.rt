@@ -12,8 +12,6 @@ mod laws;
 mod name;
 mod nested;
 mod statement;
-#[cfg(test)]
-mod tests;
 
 pub use expression::{Expression, Link, Made, Operator, Prefix, Suffix};
 pub use item::{

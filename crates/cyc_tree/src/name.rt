@@ -8,7 +8,7 @@ pub struct Name {
 }
 
 /// A region name.
-#[derive(PartialEq, Eq, Debug, Drop)]
+#[derive(PartialEq, Eq, Debug)]
 pub enum RegionName {
     /// `` `H ``, the heap.
     Heap(u32),
@@ -16,6 +16,22 @@ pub enum RegionName {
     Unique(u32),
     /// Another name, without its backquote. Its place is the backquote's.
     Named(Name),
+}
+
+impl RegionName {
+    ghost use Rattle.std.specs.Prelude.{◌≡◌};
+    ghost use Rattle.cyc_tree.specs.View.{region_tree};
+    ghost use Rattle.cyc_tree.specs.Places.{region_place};
+
+    /// The place of its backquote.
+    pub fn place(&self) -> u32
+        ensures { result ≡ region_place (region_tree self.now) }
+    {
+        match self {
+            RegionName::Heap(at) | RegionName::Unique(at) => *at,
+            RegionName::Named(name) => name.at,
+        }
+    }
 }
 
 /// What a type begins with.
@@ -54,9 +70,29 @@ pub struct Pointer {
 }
 
 /// A type as it is written: where it stands, its base, and the pointers to it, from the base outwards.
-#[derive(Drop)]
 pub struct TypeName {
     pub at: u32,
     pub base: Base,
     pub pointers: Vec<Pointer>,
+}
+
+// Written out, so that a caller's proof sees one call and not the drop of each field.
+impl Drop for RegionName {
+    fn drop(self) {
+        match self {
+            RegionName::Heap(_) | RegionName::Unique(_) => {}
+            RegionName::Named(_name) => {}
+        }
+    }
+}
+
+// Written out, so that a caller's proof sees one call and not the drop of each field.
+impl Drop for TypeName {
+    fn drop(self) {
+        let TypeName {
+            at: _at,
+            base: _base,
+            pointers: _pointers,
+        } = self;
+    }
 }

@@ -2,7 +2,8 @@
 
 ghost use Rattle.std.specs.Prelude.{◌≡◌, ◌-◌, ◌^◌, min, map};
 ghost use Rattle.cyc_tree.specs.View.{expression_tree, expressions_of, link_tree, links_of, suffix_tree, suffixes_of, made_tree, initializer_tree, declaration_tree, statement_tree, item_tree, items_of, clause_tree, clauses_of, program_item_tree};
-ghost use Rattle.cyc_tree.specs.Nesting.{inner_nesting, expression_nesting, argument_nesting, operand_nesting, link_nesting, suffix_nesting, made_nesting, initializer_nesting, declaration_nesting, statement_nesting, items_nesting, clauses_nesting, item_nesting, nesting};
+ghost use Rattle.cyc_tree.specs.Depths.{nesting};
+ghost use Rattle.cyc_tree.specs.PartNesting.{inner_nesting, expression_nesting, argument_nesting, operand_nesting, link_nesting, suffix_nesting, made_nesting, declaration_nesting, statement_nesting, items_nesting, clauses_nesting, item_nesting};
 
 use crate::expression::{Expression, Link, Made, Suffix};
 use crate::item::{Item, Program};

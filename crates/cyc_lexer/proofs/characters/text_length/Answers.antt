@@ -1,6 +1,7 @@
 use Rattle.std.proofs.Common.{◌≡◌, ◌∙◌, ◌+◌, sym, ap, Some, drop, arith}
 use Rattle.std.proofs.lemmas.List.{take_rest, drop-drop, length-drop}
-use Rattle.cyc_lexer.specs.Reading.{longer, character_at, text_from}
+use Rattle.cyc_lexer.specs.Reading.{longer, text_from}
+use Rattle.cyc_lexer.specs.Spelling.{character_at}
 use Rattle.cyc_lexer.proofs.ReadStrings.{longer-longer, character_within, text_from-character}
 use Rattle.cyc_lexer.proofs.characters.text_length.Goals as goal
 

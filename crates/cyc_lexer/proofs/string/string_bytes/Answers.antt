@@ -1,6 +1,6 @@
 use Rattle.std.proofs.Common.{◌≡◌, ◌+◌, ◌-◌, List, ℕ, length, take, drop, Some, ap, sym, ◌∙◌, subst, arith}
 use Rattle.std.proofs.lemmas.List.{length-take}
-use Rattle.cyc_lexer.specs.Reading.{character_at}
+use Rattle.cyc_lexer.specs.Spelling.{character_at}
 use Rattle.cyc_lexer.proofs.ReadStrings.{character_within}
 use Rattle.cyc_lexer.proofs.StringSteps.{Decodes, part_of, starts, goes_on, stops, ends, text_meant}
 use Rattle.cyc_lexer.proofs.string.string_bytes.Goals as goal

@@ -2,7 +2,7 @@ use Rattle.std.proofs.Common.{◌≡◌, Option, Some, None, ap, map, sym, refl,
 use Rattle.std.proofs.lemmas.Result.{err_from_is_err_and}
 use Rattle.std.specs.Option.{is_some}
 use Rattle.cyc_lexer.specs.declared.token.TokenKind.{TokenKind}
-use Rattle.cyc_tree.specs.Nesting.{nesting_limit}
+use Rattle.cyc_tree.specs.Depths.{nesting_limit}
 use Rattle.cyc_tree.specs.View.{program_item_tree}
 use Rattle.cyc_parser.specs.Tests.{is_any}
 use Rattle.cyc_parser.specs.Reader.{passes, next_is}

@@ -1,5 +1,5 @@
 use Rattle.std.proofs.Common.{◌≡◌, map, length}
-use Rattle.cyc_tree.specs.Nesting.{nesting_limit}
+use Rattle.cyc_tree.specs.Depths.{nesting_limit}
 use Rattle.cyc_tree.specs.View.{program_item_tree}
 use Rattle.cyc_parser.specs.Tests.{is_any}
 use Rattle.cyc_parser.specs.Reader.{many}

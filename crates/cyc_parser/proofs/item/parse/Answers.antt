@@ -2,7 +2,7 @@ use Rattle.std.proofs.Common.{◌≤◌, map, sym, ap, subst, ◌∙◌}
 use Rattle.std.proofs.lemmas.Result.{err_from_is_err_and}
 use Rattle.cyc_lexer.specs.Tokens.{token_tree}
 use Rattle.cyc_tree.specs.Tree.{Program}
-use Rattle.cyc_tree.specs.Nesting.{nesting, nesting_limit}
+use Rattle.cyc_tree.specs.Depths.{nesting, nesting_limit}
 use Rattle.cyc_tree.specs.View.{program_item_tree}
 use Rattle.cyc_parser.specs.Phrases.{Tokens}
 use Rattle.cyc_parser.specs.Grammar.{IsProgram}
@@ -11,25 +11,25 @@ use Rattle.cyc_parser.specs.ReadPrograms.{program}
 use Rattle.cyc_parser.proofs.WholePrograms.{is_found, is_nested, is_only, is_refused_for, is_refused_program}
 use Rattle.cyc_parser.proofs.item.parse.Goals as goal
 
-pub returns-clause-found : goal.returns-clause-found
-returns-clause-found c =
+pub returns-in-Ok-clause-found : goal.returns-in-Ok-clause-found
+returns-in-Ok-clause-found c =
     let tokens = map token_tree c.args.tokens.now in
     let read = ap (program nesting_limit) (sym c.new-cursor.ensures) ∙ c.in_ok-items.ensures in
-    subst (λ (p : Program). IsProgram p tokens) (sym c.new.ensures)
+    subst (λ (p : Program). IsProgram p tokens) (sym c.in-Ok.ensures)
     (is_found tokens (map program_item_tree c.in_ok-items.items.items) c.items.new.cursor read)
 
-pub returns-clause-nested : goal.returns-clause-nested
-returns-clause-nested c =
+pub returns-in-Ok-clause-nested : goal.returns-in-Ok-clause-nested
+returns-in-Ok-clause-nested c =
     let tokens = map token_tree c.args.tokens.now in
     let read = ap (program nesting_limit) (sym c.new-cursor.ensures) ∙ c.in_ok-items.ensures in
-    subst (λ (p : Program). nesting p ≤ nesting_limit) (sym c.new.ensures)
+    subst (λ (p : Program). nesting p ≤ nesting_limit) (sym c.in-Ok.ensures)
     (is_nested tokens (map program_item_tree c.in_ok-items.items.items) c.items.new.cursor read)
 
-pub returns-clause-only : goal.returns-clause-only
-returns-clause-only c = λ p phrase.
+pub returns-in-Ok-clause-only : goal.returns-in-Ok-clause-only
+returns-in-Ok-clause-only c = λ p phrase.
     let tokens = map token_tree c.args.tokens.now in
     let read = ap (program nesting_limit) (sym c.new-cursor.ensures) ∙ c.in_ok-items.ensures in
-    c.new.ensures ∙ is_only p tokens (map program_item_tree c.in_ok-items.items.items) c.items.new.cursor phrase read
+    c.in-Ok.ensures ∙ is_only p tokens (map program_item_tree c.in_ok-items.items.items) c.items.new.cursor phrase read
 
 pub returns-in_err-items-clause-only : goal.returns-in_err-items-clause-only
 returns-in_err-items-clause-only c = λ p phrase.

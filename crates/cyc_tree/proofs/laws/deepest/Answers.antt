@@ -1,8 +1,5 @@
-use Rattle.cyc_tree.proofs.DeepestPhrases.{nesting_is_greatest, none_too_deep, deep_has_place}
+use Rattle.cyc_tree.proofs.DeepestPhrases.{none_too_deep, deep_has_place}
 use Rattle.cyc_tree.proofs.laws.deepest.Goals as goal
-
-pub returns-clause-greatest : goal.returns-clause-greatest
-returns-clause-greatest c = nesting_is_greatest
 
 pub returns-clause-within : goal.returns-clause-within
 returns-clause-within c = none_too_deep

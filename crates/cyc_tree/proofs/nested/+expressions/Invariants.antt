@@ -1,6 +1,6 @@
 use Rattle.std.proofs.Common.{map}
 use Rattle.cyc_tree.specs.View.{expression_tree, expressions_of, link_tree, links_of, suffix_tree, suffixes_of}
-use Rattle.cyc_tree.specs.Nesting.{argument_nesting, operand_nesting, link_nesting, suffix_nesting}
+use Rattle.cyc_tree.specs.PartNesting.{argument_nesting, operand_nesting, link_nesting, suffix_nesting}
 use Rattle.cyc_tree.proofs.Greatest.{IsGreatestWith}
 use Rattle.cyc_tree.proofs.nested.+expressions.Given as goal
 

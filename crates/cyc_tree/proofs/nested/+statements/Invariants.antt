@@ -1,6 +1,6 @@
 use Rattle.std.proofs.Common.{map}
 use Rattle.cyc_tree.specs.View.{item_tree, items_of, clause_tree, clauses_of}
-use Rattle.cyc_tree.specs.Nesting.{items_nesting, clauses_nesting}
+use Rattle.cyc_tree.specs.PartNesting.{items_nesting, clauses_nesting}
 use Rattle.cyc_tree.proofs.Greatest.{IsGreatestWith}
 use Rattle.cyc_tree.proofs.nested.+statements.Given as goal
 

@@ -1,4 +1,5 @@
--- The nesting of tokens: how many statements, expressions and unary expressions contain one. A phrase's is the greatest of its tokens.
+-- How deep the phrases of a part nest, by its parts: what the private functions of the crate compute. The nesting of a program is defined in
+-- Depths.antt, as the greatest depth of its phrases; that this recursion gives that is proved in proofs/DeepestPhrases.antt.
 use Rattle.std.specs.Prelude.{ℕ, ◌+◌, max, [], ◌∷◌, Some, None}
 use Rattle.cyc_tree.specs.Tree.{Expression, Number, Character, Text, Null, HeapRegion, UniqueRegion, Variable, Call, MakeUnion, NumElts, Grouped, Suffixed, Prefixed, New, NewIn, Chain, AllOf, AnyOf, Assign, Expressions, NoExpressions, MoreExpressions, Links, NoLinks, MoreLinks, Suffixes, NoSuffixes, Index, Dot, Arrow, Made, One, Array}
 use Rattle.cyc_tree.specs.Tree as tree
@@ -101,11 +102,7 @@ item_nesting (UnionItem u) = 0
 item_nesting (GlobalItem g) = 0
 item_nesting (FunctionItem f) = items_nesting f.body
 
--- the greatest nesting of a token of the program
-abbrev pub nesting : Program → ℕ
-nesting [] = 0
-nesting (item ∷ items) = max (item_nesting item) (nesting items)
-
--- the greatest that a program may have
-abbrev pub nesting_limit : ℕ
-nesting_limit = 256
+-- of a program
+abbrev pub program_nesting : Program → ℕ
+program_nesting [] = 0
+program_nesting (item ∷ items) = max (item_nesting item) (program_nesting items)

@@ -57,6 +57,6 @@ first_stands f main =
       held = tt;
       nested = ([], refl, refl, tt, refl, refl, tt);
       live = (omega arith, ap state_is_live (state_is_set (record (first_memory p) { activations = 1 }) (Frame 0) Live), tt);
-      brought = (main.body, tt);
+      supported = (main.body, tt);
       same = refl;
     }

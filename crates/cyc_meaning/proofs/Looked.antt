@@ -1,4 +1,4 @@
--- The value of an expression that is brought is what is seen of it: nothing is moved. And a row of operands, one after the other.
+-- The value of an expression that is supported is what is seen of it: nothing is moved. And a row of operands, one after the other.
 use Rattle.std.proofs.Common.{◌≡◌, ◌⊎◌, inl, inr, ℕ, List, [], ◌∷◌, Bool, true, false, Some, None, refl, sym, ap, ◌∙◌, subst}
 use Rattle.std.specs.Prelude.{bytes_eq, if◌then◌else◌, Option}
 use Rattle.cyc_tree.specs.declared.expression.Prefix.TheVariants.{Negate, Not, Complement, Dereference, AddressOf}
@@ -9,8 +9,8 @@ use Rattle.source_meaning.specs.Steps.{Entity, Variable, Binding, World, Scope, 
 use Rattle.source_meaning.specs.Places.{Sense, bound_to, or_else, entity_of, entity_sense}
 use Rattle.source_meaning.specs.Calls.{applied, constant, number_type}
 use Rattle.source_meaning.specs.Expressions.{sense, linked}
-use Rattle.cyc_meaning.specs.Brought.{IsBrought}
-use Rattle.cyc_meaning.specs.Held.{AreHeld}
+use Rattle.cyc_meaning.specs.Supported.{IsSupported}
+use Rattle.cyc_meaning.specs.Shown.{AreShown}
 use Rattle.cyc_meaning.specs.Pendings.{linked_from}
 
 -- what is seen of an expression is its value
@@ -25,7 +25,7 @@ this_or_other : (is_this : Bool) (b : Binding) (others : Option Entity) → ((s 
 this_or_other true b others (s, is) h = inr (s, ap Some is)
 this_or_other false b others one h = h
 
-integer_or_none : (bs : List Binding) (m : Memory) (words : ℕ → ℕ) (name : List ℕ) → AreHeld bs m words → IntegerOrNone (bound_to bs name)
+integer_or_none : (bs : List Binding) (m : Memory) (words : ℕ → ℕ) (name : List ℕ) → AreShown bs m words → IntegerOrNone (bound_to bs name)
 integer_or_none [] m words name held = inl refl
 integer_or_none (b ∷ bs) m words name (one, apart, others) =
     this_or_other (bytes_eq b.name name) b (bound_to bs name) (one.spot, one.is_variable) (integer_or_none bs m words name others)
@@ -48,7 +48,7 @@ local_alone scope name none = ap (λ g. or_else (bound_to scope.locals name) (bo
     or_nothing None = refl
     or_nothing (Some e) = refl
 
-pub looks : (e : Expression) (scope : Scope) (m : Memory) (words : ℕ → ℕ) → scope.world.globals ≡ [] → AreHeld scope.locals m words → IsBrought e → Looks (sense e scope)
+pub looks : (e : Expression) (scope : Scope) (m : Memory) (words : ℕ → ℕ) → scope.world.globals ≡ [] → AreShown scope.locals m words → IsSupported e → Looks (sense e scope)
 looks (Expression.Number at value suffix) scope m words none held h = number (number_type value suffix)
   where
     number : (t : IntegerType) → Looks (constant t value)

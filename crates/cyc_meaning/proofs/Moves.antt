@@ -16,14 +16,14 @@ use Rattle.source_meaning.specs.Places.{Sense, value_sense}
 use Rattle.source_meaning.specs.Expressions.{sense, senses}
 use Rattle.cyc_meaning.specs.declared.pending.Connective.{Connective}
 use Rattle.cyc_meaning.specs.declared.pending.Connective.TheVariants as connective
-use Rattle.cyc_meaning.specs.Brought.{IsBrought}
+use Rattle.cyc_meaning.specs.Supported.{IsSupported}
 use Rattle.cyc_meaning.specs.Pendings.{Got, Left, Rest, Evaluate, Have, Leave, Wait, Operands, Right, Inverted, Tests, Assign, Putchar, Discard, Return, Next, Go, GetcharDue, PutcharDue, decided, rest_of, coming}
-use Rattle.cyc_meaning.specs.Standing.{IsInteger, IsNextBrought, AreNested, Known, Stands, StandsStill}
+use Rattle.cyc_meaning.specs.Standing.{IsInteger, IsNextSupported, AreNested, Known, Stands, StandsStill}
 use Rattle.cyc_meaning.proofs.Looked.{Looks, looks, linked_value}
 
 -- the same memory and the same blocks
-pub moved : (f : Routine) (s : Step) (next next' : Next) (ws ws' : List Wait) (known : Known) (st : Stands f s next ws known) → IsNextBrought next' ws' → AreNested ws' st.scope st.outer → coming f next st.scope (rest_of f ws st.scope st.outer) st.m ≡ coming f next' st.scope (rest_of f ws' st.scope st.outer) st.m → Stands f s next' ws' known
-moved f s next next' ws ws' known st brought nested same = record {
+pub moved : (f : Routine) (s : Step) (next next' : Next) (ws ws' : List Wait) (known : Known) (st : Stands f s next ws known) → IsNextSupported next' ws' → AreNested ws' st.scope st.outer → coming f next st.scope (rest_of f ws st.scope st.outer) st.m ≡ coming f next' st.scope (rest_of f ws' st.scope st.outer) st.m → Stands f s next' ws' known
+moved f s next next' ws ws' known st supported nested same = record {
   m = st.m;
   scope = st.scope;
   outer = st.outer;
@@ -36,12 +36,12 @@ moved f s next next' ws ws' known st brought nested same = record {
   held = st.held;
   nested = nested;
   live = st.live;
-  brought = brought;
+  supported = supported;
   same = st.same ∙ same;
 }
 
--- what is seen of an expression that is brought is its value, at the state
-pub seen : (f : Routine) (s : Step) (next : Next) (ws : List Wait) (known : Known) (st : Stands f s next ws known) (e : Expression) → IsBrought e → Looks (sense e st.scope)
+-- what is seen of an expression that is supported is its value, at the state
+pub seen : (f : Routine) (s : Step) (next : Next) (ws : List Wait) (known : Known) (st : Stands f s next ws known) (e : Expression) → IsSupported e → Looks (sense e st.scope)
 seen f s next ws known st e h = looks e st.scope st.m (slice_index known.1) st.globals st.held h
 
 -- ---- an expression
@@ -66,28 +66,28 @@ pub character_entered : (at byte : ℕ) (ws : List Wait) (known : Known) → byt
 character_entered at byte ws known h f s st = moved f s _ _ ws ws known st tt st.nested (ap (λ n. rest_of f ws st.scope st.outer (Got (Integer AsChar n ∷ [])) st.m) (omega arith))
 
 pub grouped_entered : (at : ℕ) (inner : Expression) (ws : List Wait) (known : Known) → StandsStill (Go (Evaluate (Expression.Grouped at inner))) ws known (Go (Evaluate inner)) ws known
-grouped_entered at inner ws known f s st = moved f s _ _ ws ws known st st.brought st.nested refl
+grouped_entered at inner ws known f s st = moved f s _ _ ws ws known st st.supported st.nested refl
 
 pub negate_entered : (at : ℕ) (operand : Expression) (ws : List Wait) (known : Known) → StandsStill (Go (Evaluate (Expression.Prefixed at Negate operand))) ws known (Go (Evaluate operand)) (Right Subtract (Integer AsInt 0) ∷ ws) known
-negate_entered at operand ws known f s st = moved f s _ _ ws _ known st st.brought.1 (tt, st.nested) ((seen f s _ ws known st operand st.brought.1).same _ st.m)
+negate_entered at operand ws known f s st = moved f s _ _ ws _ known st st.supported.1 (tt, st.nested) ((seen f s _ ws known st operand st.supported.1).same _ st.m)
 
 pub complement_entered : (at : ℕ) (operand : Expression) (ws : List Wait) (known : Known) → StandsStill (Go (Evaluate (Expression.Prefixed at Complement operand))) ws known (Go (Evaluate operand)) (Right BitXor (Integer AsInt 4294967295) ∷ ws) known
-complement_entered at operand ws known f s st = moved f s _ _ ws _ known st st.brought.1 (tt, st.nested) ((seen f s _ ws known st operand st.brought.1).same _ st.m)
+complement_entered at operand ws known f s st = moved f s _ _ ws _ known st st.supported.1 (tt, st.nested) ((seen f s _ ws known st operand st.supported.1).same _ st.m)
 
 pub not_entered : (at : ℕ) (operand : Expression) (ws : List Wait) (known : Known) → StandsStill (Go (Evaluate (Expression.Prefixed at Not operand))) ws known (Go (Evaluate operand)) (Inverted ∷ ws) known
-not_entered at operand ws known f s st = moved f s _ _ ws _ known st st.brought.1 (tt, st.nested) ((seen f s _ ws known st operand st.brought.1).same _ st.m)
+not_entered at operand ws known f s st = moved f s _ _ ws _ known st st.supported.1 (tt, st.nested) ((seen f s _ ws known st operand st.supported.1).same _ st.m)
 
 pub chain_entered : (first : Expression) (others : Links) (ws : List Wait) (known : Known) → StandsStill (Go (Evaluate (Expression.Chain first others))) ws known (Go (Evaluate first)) (Operands others ∷ ws) known
-chain_entered first others ws known f s st = moved f s _ _ ws _ known st st.brought.0 (st.brought.1, st.nested) (linked_value others st.scope (sense first st.scope) (seen f s _ ws known st first st.brought.0) _ st.m)
+chain_entered first others ws known f s st = moved f s _ _ ws _ known st st.supported.0 (st.supported.1, st.nested) (linked_value others st.scope (sense first st.scope) (seen f s _ ws known st first st.supported.0) _ st.m)
 
 pub all_entered : (first : Expression) (others : Expressions) (ws : List Wait) (known : Known) → StandsStill (Go (Evaluate (Expression.AllOf first others))) ws known (Go (Evaluate first)) (Tests connective.And others ∷ ws) known
-all_entered first others ws known f s st = moved f s _ _ ws _ known st st.brought.0 (st.brought.1, st.nested) ((seen f s _ ws known st first st.brought.0).same _ st.m)
+all_entered first others ws known f s st = moved f s _ _ ws _ known st st.supported.0 (st.supported.1, st.nested) ((seen f s _ ws known st first st.supported.0).same _ st.m)
 
 pub any_entered : (first : Expression) (others : Expressions) (ws : List Wait) (known : Known) → StandsStill (Go (Evaluate (Expression.AnyOf first others))) ws known (Go (Evaluate first)) (Tests connective.Or others ∷ ws) known
-any_entered first others ws known f s st = moved f s _ _ ws _ known st st.brought.0 (st.brought.1, st.nested) ((seen f s _ ws known st first st.brought.0).same _ st.m)
+any_entered first others ws known f s st = moved f s _ _ ws _ known st st.supported.0 (st.supported.1, st.nested) ((seen f s _ ws known st first st.supported.0).same _ st.m)
 
-pub assign_entered : (place value : Expression) (ws : List Wait) (known : Known) → StandsStill (Go (Evaluate (Expression.Assign place value))) ws known (Go (Evaluate value)) (Assign place ∷ ws) known
-assign_entered place value ws known f s st = moved f s _ _ ws _ known st st.brought.1 (st.brought.0, st.nested) refl
+pub assign_entered : (place value : Expression) (ws : List Wait) (known : Known) → StandsStill (Go (Evaluate (Expression.Assign place value))) ws known (Go (Evaluate value)) (Assign place value ∷ ws) known
+assign_entered place value ws known f s st = moved f s _ _ ws _ known st st.supported.1 (st.supported.0, st.nested) refl
 
 -- the two calls that every program has
 getchar_sense : (w : World) (name : List ℕ) (es : List Sense) → bytes_eq name (codes "getchar") ≡ true → call_sense w name es ≡ value_sense IntShape (read_byte es)
@@ -101,19 +101,19 @@ putchar_sense w name es other is =
 
 pub getchar_entered : (name : Name) (ws : List Wait) (known : Known) → StandsStill (Go (Evaluate (Expression.Call name NoExpressions))) ws known GetcharDue ws known
 getchar_entered name ws known f s st =
-    moved f s _ _ ws ws known st tt st.nested (ap (λ (x : Sense). x.value (λ vs. rest_of f ws st.scope st.outer (Got vs)) st.m) (getchar_sense st.scope.world name.text [] st.brought.0))
+    moved f s _ _ ws ws known st tt st.nested (ap (λ (x : Sense). x.value (λ vs. rest_of f ws st.scope st.outer (Got vs)) st.m) (getchar_sense st.scope.world name.text [] st.supported.0))
 
-pub putchar_entered : (name : Name) (e : Expression) (ws : List Wait) (known : Known) → StandsStill (Go (Evaluate (Expression.Call name (MoreExpressions e NoExpressions)))) ws known (Go (Evaluate e)) (Putchar ∷ ws) known
+pub putchar_entered : (name : Name) (e : Expression) (ws : List Wait) (known : Known) → StandsStill (Go (Evaluate (Expression.Call name (MoreExpressions e NoExpressions)))) ws known (Go (Evaluate e)) (Putchar e ∷ ws) known
 putchar_entered name e ws known f s st =
-    moved f s _ _ ws _ known st st.brought.1.0 (tt, st.nested) (ap (λ (x : Sense). x.value (λ vs. rest_of f ws st.scope st.outer (Got vs)) st.m) (putchar_sense st.scope.world name.text (sense e st.scope ∷ []) st.brought.0.0 st.brought.0.1))
+    moved f s _ _ ws _ known st st.supported.1.0 (tt, st.nested) (ap (λ (x : Sense). x.value (λ vs. rest_of f ws st.scope st.outer (Got vs)) st.m) (putchar_sense st.scope.world name.text (sense e st.scope ∷ []) st.supported.0.0 st.supported.0.1))
 
 -- ---- a value
 
 pub operands_none : (v : Scalar) (ws : List Wait) (known : Known) → StandsStill (Go (Have v)) (Operands NoLinks ∷ ws) known (Go (Have v)) ws known
-operands_none v ws known f s st = moved f s _ _ _ ws known st st.brought st.nested.1 refl
+operands_none v ws known f s st = moved f s _ _ _ ws known st st.supported st.nested.1 refl
 
 pub operands_more : (v : Scalar) (o : Operator) (e : Expression) (others : Links) (ws : List Wait) (known : Known) → StandsStill (Go (Have v)) (Operands (MoreLinks o e others) ∷ ws) known (Go (Evaluate e)) (Right o v ∷ Operands others ∷ ws) known
-operands_more v o e others ws known f s st = moved f s _ _ _ _ known st st.nested.0.0 (st.brought, (st.nested.0.1, st.nested.1)) ((seen f s _ _ known st e st.nested.0.0).same _ st.m)
+operands_more v o e others ws known f s st = moved f s _ _ _ _ known st st.nested.0.0 (st.supported, (st.nested.0.1, st.nested.1)) ((seen f s _ _ known st e st.nested.0.0).same _ st.m)
 
 pub right_taken : (o : Operator) (s t : IntegerType) (x y : ℕ) (ws : List Wait) (known : Known) (r : Scalar) → r ≡ integers o s x t y → IsInteger r → StandsStill (Go (Have (Integer t y))) (Right o (Integer s x) ∷ ws) known (Go (Have r)) ws known
 right_taken o a b x y ws known r is whole f s st = moved f s _ _ _ ws known st whole st.nested.1 (ap (λ (v : Scalar). rest_of f ws st.scope st.outer (Got (v ∷ [])) st.m) (sym is))
@@ -162,11 +162,11 @@ tests_on connective.Or false e es k m looks h = looks.same _ m
 pub tests_more : (c : Connective) (t : IntegerType) (x : ℕ) (e : Expression) (es : Expressions) (ws : List Wait) (known : Known) → decides c (not (nat_eq x 0)) ≡ false → StandsStill (Go (Have (Integer t x))) (Tests c (MoreExpressions e es) ∷ ws) known (Go (Evaluate e)) (Tests c es ∷ ws) known
 tests_more c t x e es ws known h f s st = moved f s _ _ _ _ known st st.nested.0.0 (st.nested.0.1, st.nested.1) (tests_on c (not (nat_eq x 0)) (sense e st.scope) (senses es st.scope) (rest_of f ws st.scope st.outer) st.m (seen f s _ _ known st e st.nested.0.0) h)
 
-pub putchar_taken : (t : IntegerType) (x : ℕ) (ws : List Wait) (known : Known) → StandsStill (Go (Have (Integer t x))) (Putchar ∷ ws) known (PutcharDue (x % 256)) ws known
-putchar_taken t x ws known f s st = moved f s _ _ _ ws known st tt st.nested.1 refl
+pub putchar_taken : (t : IntegerType) (x : ℕ) (e : Expression) (ws : List Wait) (known : Known) → StandsStill (Go (Have (Integer t x))) (Putchar e ∷ ws) known (PutcharDue (x % 256)) ws known
+putchar_taken t x e ws known f s st = moved f s _ _ _ ws known st tt st.nested.1 refl
 
 pub discard_taken : (v : Scalar) (ws : List Wait) (known : Known) → StandsStill (Go (Have v)) (Discard ∷ ws) known (Go (Leave source.Falls)) ws known
 discard_taken v ws known f s st = moved f s _ _ _ ws known st tt st.nested.1 refl
 
-pub return_taken : (t : IntegerType) (x : ℕ) (ws : List Wait) (known : Known) → StandsStill (Go (Have (Integer t x))) (Return ∷ ws) known (Go (Leave (source.Returns (Integer AsInt x ∷ [])))) ws known
-return_taken t x ws known f s st = moved f s _ _ _ ws known st tt st.nested.1 (ap (λ (r : Shape). converted st.scope.world r (Integer t x ∷ []) (λ us. rest_of f ws st.scope st.outer (Left (source.Returns us))) st.m) st.result)
+pub return_taken : (t : IntegerType) (x : ℕ) (e : Expression) (ws : List Wait) (known : Known) → StandsStill (Go (Have (Integer t x))) (Return e ∷ ws) known (Go (Leave (source.Returns (Integer AsInt x ∷ [])))) ws known
+return_taken t x e ws known f s st = moved f s _ _ _ ws known st tt st.nested.1 (ap (λ (r : Shape). converted st.scope.world r (sense e st.scope).shape (Integer t x ∷ []) (λ us. rest_of f ws st.scope st.outer (Left (source.Returns us))) st.m) st.result)

@@ -27,19 +27,19 @@ pub continue_entered : (at : ℕ) (ws : List Wait) (known : Known) → StandsSti
 continue_entered at ws known f s st = moved f s _ _ ws ws known st tt st.nested refl
 
 pub run_entered : (e : Expression) (ws : List Wait) (known : Known) → StandsStill (Go (Execute (Statement.Run e))) ws known (Go (Evaluate e)) (Discard ∷ ws) known
-run_entered e ws known f s st = moved f s _ _ ws _ known st st.brought (tt, st.nested) refl
+run_entered e ws known f s st = moved f s _ _ ws _ known st st.supported (tt, st.nested) refl
 
-pub return_entered : (at : ℕ) (e : Expression) (ws : List Wait) (known : Known) → StandsStill (Go (Execute (Statement.Return at (Some e)))) ws known (Go (Evaluate e)) (Return ∷ ws) known
-return_entered at e ws known f s st = moved f s _ _ ws _ known st st.brought (tt, st.nested) refl
+pub return_entered : (at : ℕ) (e : Expression) (ws : List Wait) (known : Known) → StandsStill (Go (Execute (Statement.Return at (Some e)))) ws known (Go (Evaluate e)) (Return e ∷ ws) known
+return_entered at e ws known f s st = moved f s _ _ ws _ known st st.supported (tt, st.nested) refl
 
 pub if_entered : (at : ℕ) (e : Expression) (body : Statement) (ws : List Wait) (known : Known) → StandsStill (Go (Execute (Statement.If at e body))) ws known (Go (Evaluate e)) (Condition (Statement.If at e body) ∷ ws) known
-if_entered at e body ws known f s st = moved f s _ _ ws _ known st st.brought.0 (st.brought, st.nested) ((seen f s _ ws known st e st.brought.0).same _ st.m)
+if_entered at e body ws known f s st = moved f s _ _ ws _ known st st.supported.0 (st.supported, st.nested) ((seen f s _ ws known st e st.supported.0).same _ st.m)
 
 pub if_else_entered : (at : ℕ) (e : Expression) (body otherwise : Statement) (ws : List Wait) (known : Known) → StandsStill (Go (Execute (Statement.IfElse at e body otherwise))) ws known (Go (Evaluate e)) (Condition (Statement.IfElse at e body otherwise) ∷ ws) known
-if_else_entered at e body otherwise ws known f s st = moved f s _ _ ws _ known st st.brought.0 (st.brought, st.nested) ((seen f s _ ws known st e st.brought.0).same _ st.m)
+if_else_entered at e body otherwise ws known f s st = moved f s _ _ ws _ known st st.supported.0 (st.supported, st.nested) ((seen f s _ ws known st e st.supported.0).same _ st.m)
 
 pub while_entered : (at : ℕ) (e : Expression) (body : Statement) (ws : List Wait) (known : Known) → StandsStill (Go (Execute (Statement.While at e body))) ws known (Go (Evaluate e)) (Condition (Statement.While at e body) ∷ ws) known
-while_entered at e body ws known f s st = moved f s _ _ ws _ known st st.brought.0 (st.brought, st.nested) ((seen f s _ ws known st e st.brought.0).same _ st.m)
+while_entered at e body ws known f s st = moved f s _ _ ws _ known st st.supported.0 (st.supported, st.nested) ((seen f s _ ws known st e st.supported.0).same _ st.m)
 
 -- ---- a condition
 
@@ -84,9 +84,9 @@ turn_paid f s at e body ws known st = record {
   names = st.names;
   counted = st.counted;
   held = st.held;
-  nested = (st.brought, st.nested);
+  nested = (st.supported, st.nested);
   live = st.live;
-  brought = st.brought.1;
+  supported = st.supported.1;
   same = refl;
 }
 
@@ -100,7 +100,7 @@ pub turn_broken : (at : ℕ) (e : Expression) (body : Statement) (ws : List Wait
 turn_broken at e body ws known f s st = moved f s _ _ _ ws known st tt st.nested.1 refl
 
 pub turn_returned : (at : ℕ) (e : Expression) (body : Statement) (vs : List Scalar) (ws : List Wait) (known : Known) → StandsStill (Go (Leave (source.Returns vs))) (Body (Statement.While at e body) ∷ ws) known (Go (Leave (source.Returns vs))) ws known
-turn_returned at e body vs ws known f s st = moved f s _ _ _ ws known st st.brought st.nested.1 refl
+turn_returned at e body vs ws known f s st = moved f s _ _ _ ws known st st.supported st.nested.1 refl
 
 -- ---- the items of a block
 
@@ -108,7 +108,7 @@ pub items_over : (ws : List Wait) (known : Known) → StandsStill (Go (Follow No
 items_over ws known f s st = moved f s _ _ ws ws known st tt st.nested refl
 
 pub item_executed : (body : Statement) (others : BlockItems) (ws : List Wait) (known : Known) → StandsStill (Go (Follow (tree.Execute body others))) ws known (Go (Execute body)) (Items others ∷ ws) known
-item_executed body others ws known f s st = moved f s _ _ ws _ known st st.brought.0.0 ((st.brought.0.1, st.brought.1), st.nested) refl
+item_executed body others ws known f s st = moved f s _ _ ws _ known st st.supported.0.0 ((st.supported.0.1, st.supported.1), st.nested) refl
 
 pub items_fell : (others : BlockItems) (ws : List Wait) (known : Known) → StandsStill (Go (Leave source.Falls)) (Items others ∷ ws) known (Go (Follow others)) ws known
 items_fell others ws known f s st = moved f s _ _ _ ws known st st.nested.0 st.nested.1 refl
@@ -120,13 +120,13 @@ pub items_continued : (others : BlockItems) (ws : List Wait) (known : Known) →
 items_continued others ws known f s st = moved f s _ _ _ ws known st tt st.nested.1 refl
 
 pub items_returned : (others : BlockItems) (vs : List Scalar) (ws : List Wait) (known : Known) → StandsStill (Go (Leave (source.Returns vs))) (Items others ∷ ws) known (Go (Leave (source.Returns vs))) ws known
-items_returned others vs ws known f s st = moved f s _ _ _ ws known st st.brought st.nested.1 refl
+items_returned others vs ws known f s st = moved f s _ _ _ ws known st st.supported st.nested.1 refl
 
 -- a value for a local is evaluated first
 pub value_entered : (of : tree.TypeName) (name : Name) (e : Expression) (others : BlockItems) (ws : List Wait) (known : Known) → StandsStill (Go (Follow (tree.Declare (Local of name (Value e)) others))) ws known (Go (Evaluate e)) (Declare (tree.Declare (Local of name (Value e)) others) ∷ ws) known
 value_entered of name e others ws known f s st =
-    moved f s _ _ ws _ known st st.brought.0.0.1 (st.brought, st.nested)
-    (ap (λ (r : Shape). initialised st.scope name.text (settled_by r (sense e st.scope).shape) (sense e st.scope) (block_items others) (λ g. rest_of f ws st.scope st.outer (Left g)) st.m) st.brought.0.0.0)
+    moved f s _ _ ws _ known st st.supported.0.0.1 (st.supported, st.nested)
+    (ap (λ (r : Shape). initialised st.scope name.text (settled_by r (sense e st.scope).shape) (sense e st.scope) (block_items others) (λ g. rest_of f ws st.scope st.outer (Left g)) st.m) st.supported.0.0.0)
 
 -- ---- the end of `main`
 

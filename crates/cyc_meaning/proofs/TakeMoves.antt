@@ -94,30 +94,30 @@ test_taken r c t x first rest others old new all goes_on answered =
 
 -- ---- a place
 
-pub place_stored : (place : code_expression.Expression) (name : code_name.Name) (text : List ℕ) (t : IntegerType) (x : ℕ) (v : Scalar) (ws : List Wait) (known known' : Known) → place ≡ expression_form.Variable name → text ≡ name.text.items → known'.0 ≡ known.0 → known'.1 ≡ written known.0 known.1 text x → is_some (position_of known.0 text) ≡ true → v ≡ Integer AsInt x → IsMove (Have (Integer t x)) (Assign (expression_tree place) ∷ ws) known (Go (Have v)) ws known'
-place_stored place name text t x v ws known known' is here names words found value =
+pub place_stored : (place : code_expression.Expression) (name : code_name.Name) (text : List ℕ) (t : IntegerType) (x : ℕ) (v : Scalar) (from : Expression) (ws : List Wait) (known known' : Known) → place ≡ expression_form.Variable name → text ≡ name.text.items → known'.0 ≡ known.0 → known'.1 ≡ written known.0 known.1 text x → is_some (position_of known.0 text) ≡ true → v ≡ Integer AsInt x → IsMove (Have (Integer t x)) (Assign (expression_tree place) from ∷ ws) known (Go (Have v)) ws known'
+place_stored place name text t x v from ws known known' is here names words found value =
     let to : Known = (known.0, written known.0 known.1 name.text.items x) in
     let of : expression_tree place ≡ Expression.Variable (name_tree name) = ap expression_tree is ∙ variable_tree name in
-    move_from (Have (Integer t x)) (Go (Have v)) (Assign (Expression.Variable (name_tree name)) ∷ ws) _ ws known known' (ap (λ e. Assign e ∷ ws) of)
+    move_from (Have (Integer t x)) (Go (Have v)) (Assign (Expression.Variable (name_tree name)) from ∷ ws) _ ws known known' (ap (λ e. Assign e from ∷ ws) of)
     (move_to _ _ _ ws known to known' names (words ∙ ap (λ n. written known.0 known.1 n x) here)
     (move_same _ (Go (Have (Integer AsInt x))) (Go (Have v)) _ ws ws known to (ap (λ n. Go (Have n)) value) refl
-    (record { still = stored_found (name_tree name) t x ws known (ap (λ n. is_some (position_of known.0 n)) (sym here) ∙ found); fewer = omega arith })))
+    (record { still = stored_found (name_tree name) t x from ws known (ap (λ n. is_some (position_of known.0 n)) (sym here) ∙ found); fewer = omega arith })))
 
-pub place_missed : (place : code_expression.Expression) (name : code_name.Name) (text : List ℕ) (t : IntegerType) (x : ℕ) (ws : List Wait) (known known' : Known) → place ≡ expression_form.Variable name → text ≡ name.text.items → known'.0 ≡ known.0 → known'.1 ≡ written known.0 known.1 text x → is_some (position_of known.0 text) ≡ false → IsMove (Have (Integer t x)) (Assign (expression_tree place) ∷ ws) known Wrong ws known'
-place_missed place name text t x ws known known' is here names words missing =
+pub place_missed : (place : code_expression.Expression) (name : code_name.Name) (text : List ℕ) (t : IntegerType) (x : ℕ) (from : Expression) (ws : List Wait) (known known' : Known) → place ≡ expression_form.Variable name → text ≡ name.text.items → known'.0 ≡ known.0 → known'.1 ≡ written known.0 known.1 text x → is_some (position_of known.0 text) ≡ false → IsMove (Have (Integer t x)) (Assign (expression_tree place) from ∷ ws) known Wrong ws known'
+place_missed place name text t x from ws known known' is here names words missing =
     let to : Known = (known.0, written known.0 known.1 name.text.items x) in
     let of : expression_tree place ≡ Expression.Variable (name_tree name) = ap expression_tree is ∙ variable_tree name in
-    move_from (Have (Integer t x)) Wrong (Assign (Expression.Variable (name_tree name)) ∷ ws) _ ws known known' (ap (λ e. Assign e ∷ ws) of)
+    move_from (Have (Integer t x)) Wrong (Assign (Expression.Variable (name_tree name)) from ∷ ws) _ ws known known' (ap (λ e. Assign e from ∷ ws) of)
     (move_to _ _ _ ws known to known' names (words ∙ ap (λ n. written known.0 known.1 n x) here)
-    (record { still = stored_missing (name_tree name) t x ws known (ap (λ n. is_some (position_of known.0 n)) (sym here) ∙ missing); fewer = omega arith }))
+    (record { still = stored_missing (name_tree name) t x from ws known (ap (λ n. is_some (position_of known.0 n)) (sym here) ∙ missing); fewer = omega arith }))
 
-pub place_inside : (place inside : code_expression.Expression) (at : ℕ) (inner : Box code_expression.Expression Global) (v : Scalar) (next : Next) (ws : List Wait) (known known' : Known) → place ≡ expression_form.Grouped at inner → inside ≡ inner.value → IsMove (Have v) (Assign (expression_tree inside) ∷ ws) known next ws known' → IsMove (Have v) (Assign (expression_tree place) ∷ ws) known next ws known'
-place_inside place inside at inner v next ws known known' is same h =
+pub place_inside : (place inside : code_expression.Expression) (at : ℕ) (inner : Box code_expression.Expression Global) (v : Scalar) (next : Next) (from : Expression) (ws : List Wait) (known known' : Known) → place ≡ expression_form.Grouped at inner → inside ≡ inner.value → IsMove (Have v) (Assign (expression_tree inside) from ∷ ws) known next ws known' → IsMove (Have v) (Assign (expression_tree place) from ∷ ws) known next ws known'
+place_inside place inside at inner v next from ws known known' is same h =
     let e = expression_tree inner.value in
     let of : expression_tree place ≡ Expression.Grouped at e = ap expression_tree is ∙ grouped_tree at inner in
-    let h' : IsMove (Have v) (Assign e ∷ ws) known next ws known' = move_from _ next _ (Assign e ∷ ws) ws known known' (ap (λ i. Assign (expression_tree i) ∷ ws) (sym same)) h in
-    move_from (Have v) next (Assign (Expression.Grouped at e) ∷ ws) _ ws known known' (ap (λ i. Assign i ∷ ws) of)
-    (record { still = place_grouped at e v next ws known known' h'.still; fewer = h'.fewer })
+    let h' : IsMove (Have v) (Assign e from ∷ ws) known next ws known' = move_from _ next _ (Assign e from ∷ ws) ws known known' (ap (λ i. Assign (expression_tree i) from ∷ ws) (sym same)) h in
+    move_from (Have v) next (Assign (Expression.Grouped at e) from ∷ ws) _ ws known known' (ap (λ i. Assign i from ∷ ws) of)
+    (record { still = place_grouped at e from v next ws known known' h'.still; fewer = h'.fewer })
 
 -- ---- a declaration
 
@@ -181,7 +181,7 @@ block_got v count ws known f s st =
       held = st.held;
       nested = st.nested;
       live = st.live;
-      brought = tt;
+      supported = tt;
       same = refl;
     } in
     let left = block_left count source.Falls ws known f _ here in
@@ -198,7 +198,7 @@ block_got v count ws known f s st =
       held = left.held;
       nested = left.nested;
       live = left.live;
-      brought = tt;
+      supported = tt;
       same = st.same ∙ value_stuck f count ws st.scope st.outer (v ∷ []) st.m;
     }
 

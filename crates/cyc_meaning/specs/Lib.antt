@@ -1,9 +1,10 @@
 pub mod Numbers
 pub mod Locals
-pub mod Brought
-pub mod Held
+pub mod Supported
+pub mod Shown
 pub mod Pendings
 pub mod Standing
 pub mod Costs
 pub mod Resting
 pub mod Evaluated
+pub mod Fetched

@@ -12,7 +12,7 @@ use Rattle.source_meaning.specs.Steps.{Routine, Scope, Step, Stops, Says, Reads,
 use Rattle.source_meaning.specs.Operators.{operated, is_true, truth_value}
 use Rattle.source_meaning.specs.Conversions.{converted, one, integer}
 use Rattle.source_meaning.specs.Values.{write_cells}
-use Rattle.source_meaning.specs.Places.{Sense}
+use Rattle.source_meaning.specs.Places.{Sense, given_by}
 use Rattle.source_meaning.specs.Calls.{all_true, any_true, byte_value, flat}
 use Rattle.source_meaning.specs.Expressions.{sense, senses}
 use Rattle.source_meaning.specs.Regions.{local_with}
@@ -46,10 +46,10 @@ pub data Wait : Type 0 where
   Right : Operator → Scalar → Wait
   Inverted : Wait
   Tests : Connective → Expressions → Wait
-  Assign : Expression → Wait
-  Putchar : Wait
+  Assign : (place value : Expression) → Wait
+  Putchar : (argument : Expression) → Wait
   Discard : Wait
-  Return : Wait
+  Return : (result : Expression) → Wait
   Condition : Statement → Wait
   Body : Statement → Wait
   Declare : BlockItems → Wait
@@ -83,10 +83,10 @@ wait_of (pending.Operands others) = Operands (links_of (map link_tree others.now
 wait_of (pending.Right o left) = Right o (scalar_of left)
 wait_of pending.Inverted = Inverted
 wait_of (pending.Tests connective others) = Tests connective (expressions_of (map expression_tree others.now))
-wait_of (pending.Assign place) = Assign (expression_tree place.now)
-wait_of pending.Putchar = Putchar
+wait_of (pending.Assign place value) = Assign (expression_tree place.now) (expression_tree value.now)
+wait_of (pending.Putchar argument) = Putchar (expression_tree argument.now)
 wait_of pending.Discard = Discard
-wait_of pending.Return = Return
+wait_of (pending.Return value) = Return (expression_tree value.now)
 wait_of (pending.Condition s) = Condition (statement_tree s.now)
 wait_of (pending.Body s) = Body (statement_tree s.now)
 wait_of (pending.Declare items) = Declare (items_of (map item_tree items.now))
@@ -138,7 +138,7 @@ condition_taken _ scope k vs = out_of_order
 -- a local with its value, and what follows it
 abbrev pub declared_taken : BlockItems → Scope → Rest → List Scalar → Memory → Step
 declared_taken (tree.Declare (tree.Local of name (tree.Value e)) others) scope k vs =
-    converted scope.world IntShape vs (λ us. local_with scope name.text IntShape us (block_items others) (λ f. k (Left f)))
+    converted scope.world IntShape (sense e scope).shape vs (λ us. local_with scope name.text IntShape us (block_items others) (λ f. k (Left f)))
 declared_taken _ scope k vs = out_of_order
 
 -- a loop after its body
@@ -164,13 +164,13 @@ taking Inverted scope k vs =
     one vs (λ v. need (is_true v) (λ t. choose t (give Bool.false) (give Bool.true) (λ b. k (Got (truth_value b ∷ [])))))
 taking (Tests connective others) scope k vs =
     one vs (λ v. need (is_true v) (λ t. decided connective t (senses others scope) (λ b. k (Got (truth_value b ∷ [])))))
-taking (Assign place) scope k vs =
+taking (Assign place value) scope k vs =
     let to = sense place scope in
-    converted scope.world to.shape vs (λ us. to.place (λ s. write_cells s us (λ u. k (Got us))))
-taking Putchar scope k vs =
-    converted scope.world IntShape vs (λ us. one (flat (us ∷ [])) (λ v. integer v (λ x m. Pays (λ m'. Says (Visible (ByteWritten (x % 256))) (k (Got (Integer AsInt (x % 256) ∷ [])) m')) m)))
+    converted scope.world to.shape (sense value scope).shape vs (λ us. to.place (λ s. write_cells s us (λ u. k (Got (given_by to.shape us)))))
+taking (Putchar argument) scope k vs =
+    converted scope.world IntShape (sense argument scope).shape vs (λ us. one (flat (us ∷ [])) (λ v. integer v (λ x m. Pays (λ m'. Says (Visible (ByteWritten (x % 256))) (k (Got (Integer AsInt (x % 256) ∷ [])) m')) m)))
 taking Discard scope k vs = k (Left source.Falls)
-taking Return scope k vs = converted scope.world scope.result vs (λ us. k (Left (source.Returns us)))
+taking (Return result) scope k vs = converted scope.world scope.result (sense result scope).shape vs (λ us. k (Left (source.Returns us)))
 taking (Condition s) scope k vs = condition_taken s scope k vs
 taking (Declare items) scope k vs = declared_taken items scope k vs
 taking _ scope k vs = out_of_order

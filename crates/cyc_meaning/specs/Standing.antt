@@ -5,11 +5,11 @@ use Rattle.source_meaning.specs.Memory.{Scalar, Integer, Frame, Memory, is_live}
 use Rattle.source_meaning.specs.Steps as source
 use Rattle.source_meaning.specs.Steps.{Binding, Routine, Scope, Step}
 use Rattle.source_meaning.specs.Programs.{is_main}
-use Rattle.cyc_meaning.specs.Brought.{IsLocal, IsBrought, AreBrought, AreLinksBrought, IsStatementBrought, AreItemsBrought}
-use Rattle.cyc_meaning.specs.Held.{names_of, AreHeld, AreBelow}
+use Rattle.cyc_meaning.specs.Supported.{IsLocal, IsSupported, AreSupported, AreLinksSupported, IsStatementSupported, AreItemsSupported}
+use Rattle.cyc_meaning.specs.Shown.{names_of, AreShown, AreBelow}
 use Rattle.cyc_meaning.specs.Pendings.{Task, Evaluate, Execute, Follow, Have, Leave, Wait, Operands, Right, Tests, Assign, Condition, Body, Declare, Items, Block, Next, Go, TurnDue, rest_of, coming}
 
--- ---- only what is brought as yet
+-- ---- only what is supported as yet
 
 -- only integers are values as yet
 abbrev pub IsInteger : Scalar → Type 0
@@ -17,10 +17,10 @@ IsInteger (Integer t x) = Unit {0}
 IsInteger _ = ⊥
 
 -- a `return` gives an integer
-abbrev pub IsLeftBrought : source.Flow → Type 0
-IsLeftBrought (source.Returns (v ∷ [])) = IsInteger v
-IsLeftBrought (source.Returns _) = ⊥
-IsLeftBrought _ = Unit {0}
+abbrev pub IsLeftSupported : source.Flow → Type 0
+IsLeftSupported (source.Returns (v ∷ [])) = IsInteger v
+IsLeftSupported (source.Returns _) = ⊥
+IsLeftSupported _ = Unit {0}
 
 -- what waits next is the end of a block
 abbrev pub IsInBlock : List Wait → Type 0
@@ -28,39 +28,39 @@ IsInBlock (Block count ∷ ws) = Unit {0}
 IsInBlock _ = ⊥
 
 -- something that waits, and what waits after it: the items of a block wait within that block
-abbrev pub IsWaitBrought : Wait → List Wait → Type 0
-IsWaitBrought (Operands others) ws = AreLinksBrought others
-IsWaitBrought (Right o left) ws = IsInteger left
-IsWaitBrought (Tests connective others) ws = AreBrought others
-IsWaitBrought (Assign place) ws = IsLocal place
-IsWaitBrought (Condition s) ws = IsStatementBrought s
-IsWaitBrought (Body s) ws = IsStatementBrought s
-IsWaitBrought (Declare items) ws = AreItemsBrought items × IsInBlock ws
-IsWaitBrought (Items others) ws = AreItemsBrought others × IsInBlock ws
-IsWaitBrought _ ws = Unit {0}
+abbrev pub IsWaitSupported : Wait → List Wait → Type 0
+IsWaitSupported (Operands others) ws = AreLinksSupported others
+IsWaitSupported (Right o left) ws = IsInteger left
+IsWaitSupported (Tests connective others) ws = AreSupported others
+IsWaitSupported (Assign place value) ws = IsLocal place
+IsWaitSupported (Condition s) ws = IsStatementSupported s
+IsWaitSupported (Body s) ws = IsStatementSupported s
+IsWaitSupported (Declare items) ws = AreItemsSupported items × IsInBlock ws
+IsWaitSupported (Items others) ws = AreItemsSupported others × IsInBlock ws
+IsWaitSupported _ ws = Unit {0}
 
-abbrev pub IsTaskBrought : Task → List Wait → Type 0
-IsTaskBrought (Evaluate e) ws = IsBrought e
-IsTaskBrought (Execute s) ws = IsStatementBrought s
-IsTaskBrought (Follow items) ws = AreItemsBrought items × IsInBlock ws
-IsTaskBrought (Have v) ws = IsInteger v
-IsTaskBrought (Leave f) ws = IsLeftBrought f
+abbrev pub IsTaskSupported : Task → List Wait → Type 0
+IsTaskSupported (Evaluate e) ws = IsSupported e
+IsTaskSupported (Execute s) ws = IsStatementSupported s
+IsTaskSupported (Follow items) ws = AreItemsSupported items × IsInBlock ws
+IsTaskSupported (Have v) ws = IsInteger v
+IsTaskSupported (Leave f) ws = IsLeftSupported f
 
-abbrev pub IsNextBrought : Next → List Wait → Type 0
-IsNextBrought (Go task) ws = IsTaskBrought task ws
-IsNextBrought (TurnDue s) ws = IsStatementBrought s
-IsNextBrought _ ws = Unit {0}
+abbrev pub IsNextSupported : Next → List Wait → Type 0
+IsNextSupported (Go task) ws = IsTaskSupported task ws
+IsNextSupported (TurnDue s) ws = IsStatementSupported s
+IsNextSupported _ ws = Unit {0}
 
 -- ---- blocks in blocks
 
--- All that waits is brought, and the end of each block knows how many locals there are outside of it, which are in frames of lower numbers.
+-- All that waits is supported, and the end of each block knows how many locals there are outside of it, which are in frames of lower numbers.
 abbrev pub AreNested : List Wait → Scope → List Scope → Type 0
 AreNested [] scope outer = Unit {0}
 AreNested (Block count ∷ ws) scope [] = ⊥
 AreNested (Block count ∷ ws) scope (o ∷ os) =
     (inner : List Binding) × (scope.locals ≡ inner ++ o.locals) × (count ≡ length o.locals) × AreBelow scope.frame o.locals
     × (o.world ≡ scope.world) × (o.result ≡ scope.result) × AreNested ws o os
-AreNested (w ∷ ws) scope outer = IsWaitBrought w ws × AreNested ws scope outer
+AreNested (w ∷ ws) scope outer = IsWaitSupported w ws × AreNested ws scope outer
 
 -- each block's frame is live, and has a number below those of the blocks inside of it
 abbrev pub AreLive : Memory → ℕ → Scope → List Scope → Type 0
@@ -84,10 +84,10 @@ pub record Stands (f : Routine) (s : Step) (next : Next) (ws : List Wait) (known
   pub result : scope.result ≡ IntShape
   pub names : known.0 ≡ names_of scope.locals
   pub counted : length known.1 ≡ length scope.locals
-  pub held : AreHeld scope.locals m (slice_index known.1)
+  pub held : AreShown scope.locals m (slice_index known.1)
   pub nested : AreNested ws scope outer
   pub live : AreLive m m.activations scope outer
-  pub brought : IsNextBrought next ws
+  pub supported : IsNextSupported next ws
   pub same : s ≡ coming f next scope (rest_of f ws scope outer) m
 
 -- whatever step is stood for before, the same is stood for afterwards

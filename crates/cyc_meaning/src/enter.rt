@@ -1,8 +1,8 @@
 // The first move of each phrase.
 
 ghost use Rattle.std.specs.Prelude.{◌≡◌, ℕ, ◌∷◌, IfOk, OnOk, map};
-ghost use Rattle.cyc_tree.specs.Tree.{Declare, Expression as Tree, Name as TreeName};
-ghost use Rattle.cyc_tree.specs.View.{expression_tree, expressions_of, declaration_tree, statement_tree, item_tree, items_of};
+ghost use Rattle.cyc_tree.specs.Tree.{Declare, Expression as Tree};
+ghost use Rattle.cyc_tree.specs.View.{name_tree, expression_tree, expressions_of, declaration_tree, statement_tree, item_tree, items_of};
 ghost use Rattle.cyc_meaning.specs.Pendings.{Evaluate, Execute, Follow, Go, wait_of, waits_of, next_of};
 ghost use Rattle.cyc_meaning.specs.Standing.{Known};
 ghost use Rattle.cyc_meaning.specs.Costs.{IsMove};
@@ -10,7 +10,9 @@ ghost use Rattle.cyc_meaning.specs.Costs.{IsMove};
 use crate::locals::Locals;
 use crate::number::Number;
 use crate::pending::{Connective, Due, Flow, Now, Pending};
-use cyc_tree::{BlockItem, Declaration, Expression, Initializer, Operator, Prefix, Statement};
+use cyc_tree::{
+    BlockItem, Declaration, Expression, Initializer, Name, Operator, Prefix, Statement,
+};
 use std::alloc::AllocError;
 
 /// Puts what waits on top of the stack.
@@ -61,15 +63,24 @@ fn enter_prefixed<'p>(
 
 /// The first move of a call: `getchar` takes no argument, and `putchar` one.
 fn enter_call<'p>(
+    name: &Name,
     arguments: &'p [Expression],
     stack: &mut Vec<Pending<'p>>,
 ) -> Result<Due<'p>, AllocError>
-    ensures { IfOk result (λ due. (name : TreeName) (known : Known) → IsMove (Evaluate (Tree.Call name (expressions_of (map expression_tree arguments.entry.now)))) (waits_of stack.old.items) known (next_of due) (waits_of stack.new.items) known) }
+    ensures { IfOk result (λ due. (known : Known) → IsMove (Evaluate (Tree.Call (name_tree name.now) (expressions_of (map expression_tree arguments.entry.now)))) (waits_of stack.old.items) known (next_of due) (waits_of stack.new.items) known) }
 {
-    match arguments.first() {
-        None => Ok(Due::Getchar),
-        Some(argument) => evaluate(stack, argument, Pending::Putchar),
+    let callee = name.text.as_slice();
+    if callee == b"getchar".as_slice() {
+        return Ok(Due::Getchar);
     }
+    if callee == b"putchar".as_slice() {
+        return match arguments.first() {
+            Some(argument) => evaluate(stack, argument, Pending::Putchar(argument)),
+            None => Ok(Due::Wrong),
+        };
+    }
+    // no accepted program calls another function as yet
+    Ok(Due::Wrong)
 }
 
 /// The first move of an expression.
@@ -98,8 +109,11 @@ pub fn enter_expression<'p>(
         Expression::AnyOf(first, others) => {
             evaluate(stack, first, Pending::Tests(Connective::Or, others))
         }
-        Expression::Assign(place, value) => evaluate(stack, value, Pending::Assign(place)),
-        Expression::Call(_, arguments) => enter_call(arguments, stack),
+        Expression::Assign(place, value) => {
+            let value: &'p Expression = value;
+            evaluate(stack, value, Pending::Assign(place, value))
+        }
+        Expression::Call(name, arguments) => enter_call(name, arguments, stack),
         // no accepted program has another form as yet
         _ => Ok(Due::Wrong),
     }
@@ -132,7 +146,7 @@ pub fn enter_statement<'p>(
         Statement::Break(_) => Ok(Due::Go(Now::Leave(Flow::Breaks))),
         Statement::Continue(_) => Ok(Due::Go(Now::Leave(Flow::Continues))),
         Statement::Return(_, value) => match value {
-            Some(value) => evaluate(stack, value, Pending::Return),
+            Some(value) => evaluate(stack, value, Pending::Return(value)),
             None => Ok(Due::Wrong),
         },
         // no accepted program has another form as yet

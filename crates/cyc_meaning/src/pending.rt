@@ -47,14 +47,14 @@ pub enum Pending<'p> {
     Inverted,
     /// The other operands of `&&` or `||`, for the one before them.
     Tests(Connective, &'p [Expression]),
-    /// A place, for the value that is stored to it.
-    Assign(&'p Expression),
-    /// `putchar`, for its argument.
-    Putchar,
+    /// A place, for the value of an expression that is stored to it.
+    Assign(&'p Expression, &'p Expression),
+    /// `putchar`, for the value of its argument.
+    Putchar(&'p Expression),
     /// The end of a statement, for a value that isn't used.
     Discard,
-    /// `return`, for its result.
-    Return,
+    /// `return`, for the value of its result.
+    Return(&'p Expression),
     /// An `if` or a loop, for the value of its condition.
     Condition(&'p Statement),
     /// A loop, for the end of its body.

@@ -1,18 +1,20 @@
 // The run of a program.
 
-ghost use Rattle.std.specs.Prelude.{◌≡◌, ◌≢◌, ℕ, ◌≤◌, ◌⊎◌, ◌∷◌, [], List, IfOk, IfSome, IfNone, OnOk};
+ghost use Rattle.std.specs.Prelude.{◌≡◌, ◌≢◌, ℕ, ◌⊎◌, ◌∷◌, [], List, IfOk, IfErr, IfSome, IfNone, OnOk};
 ghost use Rattle.cyc_tree.specs.Tree.{Expression as TreeExpression, Statement as Tree};
 ghost use Rattle.cyc_tree.specs.View.{function_tree, program_tree, statement_tree};
 ghost use Rattle.source_meaning.specs.Calls.{byte_value};
 ghost use Rattle.source_meaning.specs.Steps.{Routine, Step};
 ghost use Rattle.cyc_tree.specs.Tree.{FunctionItem};
 ghost use Rattle.unique_flow.specs.Accepted.{IsAccepted};
-ghost use Rattle.cyc_host.specs.Failures.{HasFailed};
 ghost use Rattle.cyc_meaning.specs.Pendings.{Body, Execute, Go, TurnDue, Wait, next_of, task_of, waits_of};
 ghost use Rattle.cyc_meaning.specs.Standing.{Known, Stands, StandsStill};
 ghost use Rattle.cyc_meaning.specs.Costs.{IsMove};
 ghost use Rattle.cyc_meaning.specs.Resting.{EndsStep, IsAtRest, IsPayable};
-ghost use Rattle.cyc_meaning.specs.Evaluated.{IsEvaluated, Wrote};
+ghost use Rattle.cyc_meaning.specs.Evaluated.{IsEvaluated, Wrote, reads_failed, writes_failed};
+ghost use Rattle.cyc_meaning.specs.Fetched.{FetchFault, fetch_reads_failed, fetch_writes_failed};
+ghost use Rattle.std.specs.Io.KnownBytes.{Appends};
+ghost use Rattle.cyc_host.specs.Transfers.{Answers};
 
 use crate::ending::EvalEnding;
 use crate::enter::{enter_expression, enter_items, enter_statement, wait};
@@ -20,8 +22,7 @@ use crate::locals::Locals;
 use crate::number::Number;
 use crate::pending::{Due, Now, Pending};
 use crate::takes::{take_flow, take_value};
-use arrayvec::ArrayVec;
-use cyc_host::{GATHERED_BYTES, flush, put, read};
+use cyc_host::{Gathered, read};
 use cyc_tree::{Function, Item, Statement};
 use cyc_words::{Input, Output};
 use std::alloc::{AllocError, Global};
@@ -100,7 +101,7 @@ fn byte_word(answer: Option<u8>) -> u32
 }
 
 /// The one function of a checked program, `main`.
-fn main_of<'p>(checked: &Checked<'p>) -> &'p Function
+fn main_of(checked: &Checked) -> &Function
     ensures accepted { IsAccepted checked.now }
     ensures main { checked.now ≡ FunctionItem (function_tree result.now) ∷ [] }
 {
@@ -113,19 +114,38 @@ fn main_of<'p>(checked: &Checked<'p>) -> &'p Function
     main
 }
 
-/// Writes what is gathered, at an ending. A failed write takes the ending's place.
-fn finish<W: Output>(
-    gathered: &mut ArrayVec<u8, GATHERED_BYTES>,
+/// Writes what is gathered, and then reads a byte or the end of the input. The `Err` is the ending of the run.
+fn fetch<R: Input, W: Output>(
+    gathered: &mut Gathered,
+    reader: &mut R,
     writer: &mut W,
-    ending: EvalEnding,
-) -> EvalEnding
+    is_over: &mut bool,
+) -> Result<Option<u8>, EvalEnding>
+    ensures empty { OnOk result (gathered.new ≡ []) }
+    ensures all { OnOk result (Appends (W.contents writer.old) (W.contents writer.new) gathered.old) }
+    ensures answer { IfOk result (λ answer. Answers (R.remaining reader.old) (R.remaining reader.new) is_over.old is_over.new answer) }
+    ensures fault { IfErr result (λ ending. FetchFault ending (R.remaining reader.old) (R.remaining reader.new) is_over.old
+        (W.contents writer.old) (W.contents writer.new) gathered.old) }
+    ensures reads { R.fault_count reader.new ≡ fetch_reads_failed result (R.fault_count reader.old) }
+    ensures writes { W.fault_count writer.new ≡ fetch_writes_failed result (W.fault_count writer.old) }
+{
+    if gathered.flush(writer).is_err() {
+        return Err(EvalEnding::WriteFault);
+    }
+    match read(reader, is_over) {
+        Ok(answer) => Ok(answer),
+        Err(_) => Err(EvalEnding::ReadFault),
+    }
+}
+
+/// Writes what is gathered, at an ending. A failed write takes the ending's place.
+fn finish<W: Output>(gathered: &mut Gathered, writer: &mut W, ending: EvalEnding) -> EvalEnding
     requires { ending ≢ EvalEnding.WriteFault }
     ensures same { (result ≡ ending) ⊎ (result ≡ EvalEnding.WriteFault) }
-    ensures written { Wrote result (W.contents writer.old) (W.contents writer.new) gathered.old.items }
-    ensures grows { W.fault_count writer.old ≤ W.fault_count writer.new }
-    ensures failed { result ≡ EvalEnding.WriteFault → HasFailed (W.fault_count writer.old) (W.fault_count writer.new) }
+    ensures written { Wrote result (W.contents writer.old) (W.contents writer.new) gathered.old }
+    ensures writes { W.fault_count writer.new ≡ writes_failed result (W.fault_count writer.old) }
 {
-    match flush(gathered, writer) {
+    match gathered.flush(writer) {
         Ok(()) => ending,
         Err(_) => EvalEnding::WriteFault,
     }
@@ -135,11 +155,12 @@ fn finish<W: Output>(
 ///
 /// Ends as the definition does: with the program's status, by a raise, with `Running` where a unit is due and none
 /// is left, or `Stuck`. `WriteFault` comes in place of any other ending, where a write failed or took no byte;
-/// `ReadFault` where a read failed; `HostMemory` where the host has no memory for what is still to be done. Output is
-/// written when 4,096 bytes are gathered, before each read and at each ending.
+/// `ReadFault` where a read failed; `HostMemory` where the host has no memory for what is still to be done. After a
+/// failed call neither device is called again. Output is written when 4,096 bytes are gathered, before each read and
+/// at each ending. Each byte that is taken from the reader was asked for.
 pub fn eval<R: Input, W: Output>(
     alloc: Global,
-    checked: &Checked<'_>,
+    checked: &Checked,
     reader: &mut R,
     writer: &mut W,
     fuel: u64,
@@ -147,11 +168,13 @@ pub fn eval<R: Input, W: Output>(
     // what is written is the output of the source's run on the bytes that the reader gave, and the ending is that run's
     ensures evaluated { IsEvaluated result checked.now fuel
         (R.remaining reader.old) (R.remaining reader.new) (W.contents writer.old) (W.contents writer.new) }
-    // each device's fault comes only where a call of that device failed
-    ensures read_fault { result ≡ EvalEnding.ReadFault → HasFailed (R.fault_count reader.old) (R.fault_count reader.new) }
-    ensures write_fault { result ≡ EvalEnding.WriteFault → HasFailed (W.fault_count writer.old) (W.fault_count writer.new) }
+    // no checked program does what no rule gives a meaning
+    ensures never_stuck { result ≢ EvalEnding.Stuck }
+    // each device's fault comes where just one call of that device failed, and any other ending where none did
+    ensures reads { R.fault_count reader.new ≡ reads_failed result (R.fault_count reader.old) }
+    ensures writes { W.fault_count writer.new ≡ writes_failed result (W.fault_count writer.old) }
 {
-    let mut gathered = ArrayVec::new();
+    let mut gathered = Gathered::new();
     let mut is_over = false;
     let mut locals = Locals::new(alloc);
     let mut stack = Vec::new(alloc);
@@ -173,17 +196,12 @@ pub fn eval<R: Input, W: Output>(
         }
         left -= 1;
         match due {
-            Due::Getchar => {
-                if flush(&mut gathered, writer).is_err() {
-                    return EvalEnding::WriteFault;
-                }
-                match read(reader, &mut is_over) {
-                    Ok(answer) => now = Now::Have(Number::int(byte_word(answer))),
-                    Err(_) => return EvalEnding::ReadFault,
-                }
-            }
+            Due::Getchar => match fetch(&mut gathered, reader, writer, &mut is_over) {
+                Ok(answer) => now = Now::Have(Number::int(byte_word(answer))),
+                Err(ending) => return ending,
+            },
             Due::Putchar(byte) => {
-                if put(&mut gathered, writer, byte).is_err() {
+                if gathered.put(writer, byte).is_err() {
                     return EvalEnding::WriteFault;
                 }
                 now = Now::Have(Number::int(byte as u32));

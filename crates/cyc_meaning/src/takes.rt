@@ -1,6 +1,7 @@
 // What takes a value, or goes on at the end of a statement.
 
 ghost use Rattle.std.specs.Prelude.{◌≡◌, [], ◌∷◌, List, IfOk, IfSome, IfNone, map};
+ghost use Rattle.cyc_tree.specs.Tree.{Expression as Tree};
 ghost use Rattle.cyc_tree.specs.View.{expression_tree, expressions_of, link_tree, links_of, statement_tree, item_tree, items_of};
 ghost use Rattle.cyc_meaning.specs.Numbers.{scalar_of};
 ghost use Rattle.cyc_meaning.specs.Pendings.{Have, Leave, Wait, Operands, Tests, Assign, Condition, Body, Declare, flow_of, wait_of, waits_of, next_of};
@@ -62,7 +63,7 @@ fn take_tests<'p>(
 
 /// Stores a value as an `int` to the local that a place names, in parentheses too; the `int` is the value of the whole.
 fn take_assigned<'p>(value: Number, place: &'p Expression, locals: &mut Locals<'p>) -> Due<'p>
-    ensures { (ws : List Wait) → IsMove (Have (scalar_of value)) (Assign (expression_tree place.entry.now) ∷ ws) locals.old (next_of result) ws locals.new }
+    ensures { (from : Tree) (ws : List Wait) → IsMove (Have (scalar_of value)) (Assign (expression_tree place.entry.now) from ∷ ws) locals.old (next_of result) ws locals.new }
 {
     match place {
         Expression::Variable(name) => {
@@ -132,11 +133,11 @@ pub fn take_value<'p>(
         Pending::Right(operator, left) => Ok(Due::Go(Now::Have(operate(operator, left, value)))),
         Pending::Inverted => Ok(Due::Go(Now::Have(Number::truth(value.word == 0)))),
         Pending::Tests(connective, others) => take_tests(value, connective, others, stack),
-        Pending::Assign(place) => Ok(take_assigned(value, place, locals)),
-        Pending::Putchar => Ok(Due::Putchar((value.word % 256) as u8)),
+        Pending::Assign(place, _) => Ok(take_assigned(value, place, locals)),
+        Pending::Putchar(_) => Ok(Due::Putchar((value.word % 256) as u8)),
         Pending::Discard => Ok(Due::Go(Now::Leave(Flow::Falls))),
         Pending::Condition(statement) => Ok(take_condition(value, statement)),
-        Pending::Return => Ok(Due::Go(Now::Leave(Flow::Returns(Number::int(value.word))))),
+        Pending::Return(_) => Ok(Due::Go(Now::Leave(Flow::Returns(Number::int(value.word))))),
         Pending::Declare(items) => take_declared(value, items, locals),
         // nothing that waits for the end of a statement gets a value
         Pending::Body(_) | Pending::Items(_) => Ok(Due::Wrong),

@@ -12,11 +12,11 @@ use std::marker::Model;
 
 /// A program without a fault of names, types, regions and effects. A contract sees it as the program.
 #[derive(Drop)]
-pub struct Effected<'p> {
-    program: &'p Program,
+pub struct Effected {
+    program: Program,
 }
 
-impl<'p> Model for Effected<'p> {
+impl Model for Effected {
     ghost use Rattle.std.specs.Prelude.{◌≡◌, None};
     ghost use Rattle.cyc_tree.specs.Tree.{Program as Tree};
     ghost use Rattle.cyc_tree.specs.Stored.{coded_program};
@@ -26,32 +26,40 @@ impl<'p> Model for Effected<'p> {
 
     ghost coded = { coded_program };
 
-    ghost view = { λ e. e.program.now };
+    ghost view = { λ e. e.program };
 
-    ghost invariant = { λ e. first_fault e.program.now ≡ None };
+    ghost invariant = { λ e. first_fault e.program ≡ None };
 }
 
-impl<'p> Effected<'p> {
+impl Effected {
     /// The program.
-    pub fn program(&self) -> &'p Program
+    pub fn program(&self) -> &Program
         ensures same { result.now ≡ self.now }
         ensures faultless { first_fault self.now ≡ None }
+    {
+        &self.program
+    }
+
+    /// The program, without what was found out of it.
+    pub fn into_program(self) -> Program
+        ensures same { result ≡ self }
+        ensures faultless { first_fault self ≡ None }
     {
         self.program
     }
 }
 
 /// Looks at a program's regions and effects. Takes no memory as yet, so that `Memory` doesn't come.
-pub fn effects<'p>(_alloc: Global, typed: Typed<'p>) -> Result<Effected<'p>, CheckFault>
+pub fn effects(_alloc: Global, typed: Typed) -> Result<Effected, CheckFault>
     // a program without a fault is answered as it is
-    ensures ok { IfOk result (λ e. (e ≡ typed.entry) × (first_fault typed.entry ≡ None)) }
+    ensures ok { IfOk result (λ e. (e ≡ typed) × (first_fault typed ≡ None)) }
     // a fault is the program's first, and a program with one is refused with it
-    ensures broken { (f : Broken_fault) → (result ≡ Err (CheckFault.Broken f)) ↔ (first_fault typed.entry ≡ Some f) }
+    ensures broken { (f : Broken_fault) → (result ≡ Err (CheckFault.Broken f)) ↔ (first_fault typed ≡ Some f) }
 {
     match typed.fault() {
         Some(fault) => Err(CheckFault::Broken(fault)),
         None => Ok(Effected {
-            program: typed.program(),
+            program: typed.into_program(),
         }),
     }
 }

@@ -1,12 +1,15 @@
 // Why a program is refused before its flow is looked at.
 
 use region_types::Fault;
+use thiserror::Error;
 
 /// Why `effects` refuses a program.
-#[derive(Clone, Copy, PartialEq, Eq, Debug)]
+#[derive(Clone, Copy, PartialEq, Eq, Debug, Error)]
 pub enum CheckFault {
     /// The earliest fault of names, types, regions and effects.
+    #[error("{kind} at byte {at}", kind = .0.kind, at = .0.at)]
     Broken(Fault),
     /// No host memory is left.
+    #[error("out of memory")]
     Memory,
 }

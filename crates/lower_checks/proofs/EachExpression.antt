@@ -18,13 +18,13 @@ use Rattle.cyc_core.specs.Tree.{Statement, Do, statements_of}
 use Rattle.cyc_core.specs.Meaning as core
 use Rattle.cyc_core.specs.Meaning.{Cells}
 use Rattle.region_types.specs.Faults.{variable_faults, is_place, place_faults, expression_faults, expressions_faults, links_faults}
-use Rattle.lower_checks.specs.Lowered.{cell, binary_of, cell_of, place_cell, expression_code, links_code, all_code, any_code}
-use Rattle.lower_checks.proofs.Relations.{names_of, Same, AreHeld, LooksAs}
+use Rattle.lower_checks.specs.Lowered.{cell, binary_of, cell_of, place_cell, expression_code, links_code, all_code, any_code, call_by, call_operation}
+use Rattle.lower_checks.proofs.Relations.{names_of, Same, AreShown, LooksAs}
 use Rattle.lower_checks.proofs.SameLocals.{found_local}
 use Rattle.lower_checks.proofs.SameExpressions.{put_same, constant_same, applied_same, variable_same, not_same}
 use Rattle.lower_checks.proofs.SameTests.{AllAs, all_none, all_more, all_same, AnyAs, any_none, any_more, any_same}
 use Rattle.lower_checks.proofs.SameCalls.{assigned_same, read_same, write_same}
-use Rattle.lower_checks.proofs.NoFaults.{some_fault, none_of, none_own, not_then, IsAt, is_local, place_found, small_number, IsCall, known_call}
+use Rattle.region_types.proofs.NoFaults.{some_fault, none_of, none_own, not_then, IsAt, is_local, place_found, small_number, IsCall, known_call}
 
 -- looked at and given away, an expression does the same as code that leaves its value in a cell
 pub record Agrees (n : ℕ) (frames : List ℕ) (locals : List Binding) (d : ℕ) (e : Sense) (code : List Statement) : Type 0 where
@@ -55,7 +55,7 @@ character_same n frames locals d byte =
     record { looks = one; values = one }
 
 -- an int is copied as it is looked at
-taken : (scope : Scope) (name : Name) (s : List Scalar → Memory → source.Step) (m : Memory) (frames : List ℕ) (cells : Cells) (position : ℕ) → AreHeld frames scope.locals m cells → position_of (names_of scope.locals) name.text ≡ Some position → (sense (Expression.Variable name) scope).look s m ≡ (sense (Expression.Variable name) scope).value s m
+taken : (scope : Scope) (name : Name) (s : List Scalar → Memory → source.Step) (m : Memory) (frames : List ℕ) (cells : Cells) (position : ℕ) → AreShown frames scope.locals m cells → position_of (names_of scope.locals) name.text ≡ Some position → (sense (Expression.Variable name) scope).look s m ≡ (sense (Expression.Variable name) scope).value s m
 taken scope name s m frames cells position held is =
     let found = found_local frames scope.locals name.text m cells position held is in
     let entity : entity_of scope name.text ≡ Some (Variable IntShape found.spot) = ap (λ e. or_else e (bound_to scope.world.globals name.text)) found.bound in
@@ -100,17 +100,17 @@ assignment_same n frames scope d place from code allowed known one =
 
 -- ---- calls
 
-reading_same : (n : ℕ) (frames : List ℕ) (locals : List Binding) (d : ℕ) (w : World) (name : List ℕ) → IsCall name NoExpressions → Agrees n frames locals d (call_sense w name []) (Do (Getchar (cell d)) ∷ [])
+reading_same : (n : ℕ) (frames : List ℕ) (locals : List Binding) (d : ℕ) (w : World) (name : List ℕ) → IsCall name NoExpressions → Agrees n frames locals d (call_sense w name []) (Do (call_operation name d) ∷ [])
 reading_same n frames locals d w name h =
     let one = read_same n frames locals d in
     let all : Agrees n frames locals d (value_sense IntShape (read_byte [])) (Do (Getchar (cell d)) ∷ []) = record { looks = one; values = one } in
-    subst (λ b. Agrees n frames locals d (if b then value_sense IntShape (read_byte []) else (if bytes_eq name (codes "putchar") then value_sense IntShape (write_byte w []) else (if has_tag w.structs name then struct_made w name [] else called w (function_of w.functions name) []))) (Do (Getchar (cell d)) ∷ [])) (sym h) all
+    subst (λ b. Agrees n frames locals d (if b then value_sense IntShape (read_byte []) else (if bytes_eq name (codes "putchar") then value_sense IntShape (write_byte w []) else (if has_tag w.structs name then struct_made w name [] else called w (function_of w.functions name) []))) (Do (call_by b d) ∷ [])) (sym h) all
 
-writing_same : (n : ℕ) (frames : List ℕ) (locals : List Binding) (d : ℕ) (w : World) (name : List ℕ) (e : Sense) (code : List Statement) → bytes_eq name (codes "getchar") ≡ false → bytes_eq name (codes "putchar") ≡ true → Agrees n frames locals d e code → Agrees n frames locals d (call_sense w name (e ∷ [])) (code ++ Do (Putchar (cell d) (cell d)) ∷ [])
+writing_same : (n : ℕ) (frames : List ℕ) (locals : List Binding) (d : ℕ) (w : World) (name : List ℕ) (e : Sense) (code : List Statement) → bytes_eq name (codes "getchar") ≡ false → bytes_eq name (codes "putchar") ≡ true → Agrees n frames locals d e code → Agrees n frames locals d (call_sense w name (e ∷ [])) (code ++ Do (call_operation name d) ∷ [])
 writing_same n frames locals d w name e code no_read writes argument =
     let one = write_same n frames locals d w e code argument.values in
     let all : Agrees n frames locals d (value_sense IntShape (write_byte w (e ∷ []))) (code ++ Do (Putchar (cell d) (cell d)) ∷ []) = record { looks = one; values = one } in
-    subst (λ b. Agrees n frames locals d (if b then value_sense IntShape (read_byte (e ∷ [])) else (if bytes_eq name (codes "putchar") then value_sense IntShape (write_byte w (e ∷ [])) else (if has_tag w.structs name then struct_made w name (e ∷ []) else called w (function_of w.functions name) (e ∷ [])))) (code ++ Do (Putchar (cell d) (cell d)) ∷ [])) (sym no_read)
+    subst (λ b. Agrees n frames locals d (if b then value_sense IntShape (read_byte (e ∷ [])) else (if bytes_eq name (codes "putchar") then value_sense IntShape (write_byte w (e ∷ [])) else (if has_tag w.structs name then struct_made w name (e ∷ []) else called w (function_of w.functions name) (e ∷ [])))) (code ++ Do (call_by b d) ∷ [])) (sym no_read)
     (subst (λ b. Agrees n frames locals d (if b then value_sense IntShape (write_byte w (e ∷ [])) else (if has_tag w.structs name then struct_made w name (e ∷ []) else called w (function_of w.functions name) (e ∷ []))) (code ++ Do (Putchar (cell d) (cell d)) ∷ [])) (sym writes) all)
 
 -- ---- operators

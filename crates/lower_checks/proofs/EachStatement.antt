@@ -16,7 +16,8 @@ use Rattle.region_types.specs.Faults.{is_plain_int, second_faults, expression_fa
 use Rattle.lower_checks.specs.Lowered.{expression_code, declaration_code, statement_code, block_code}
 use Rattle.lower_checks.proofs.Relations.{names_of, Same}
 use Rattle.lower_checks.proofs.SameLocals.{names_length}
-use Rattle.lower_checks.proofs.NoFaults.{some_fault, none_of, not_else, plain_int}
+use Rattle.region_types.proofs.NoFaults.{some_fault, none_of, not_else}
+use Rattle.lower_checks.proofs.PlainTypes.{plain_int}
 use Rattle.lower_checks.proofs.EachExpression.{expression_same}
 use Rattle.lower_checks.proofs.SameStatements.{RunsAs, falls_same, breaks_same, continues_same, run_same, return_same, choice_same, loop_same, block_in_frame}
 use Rattle.lower_checks.proofs.SameDeclarations.{GoesOnWith, unset_same, value_same}

@@ -1,5 +1,6 @@
 -- Code names no cell beyond those before it and as many more as it has operations, since a new cell is named first by the operation that sets it.
 use Rattle.std.proofs.Common.{◌≡◌, ℕ, suc, ◌+◌, ◌≤◌, List, [], ◌∷◌, ◌++◌, Bool, true, false, length, Option, Some, None, arith}
+use Rattle.std.specs.Prelude.{codes}
 use Rattle.std.specs.Str.{bytes_eq}
 use Rattle.cyc_tree.specs.Tree.{Expression, Expressions, NoExpressions, MoreExpressions, Links, NoLinks, MoreLinks}
 use Rattle.cyc_types.specs.Scope.{Locals, later_or_this, position_of}
@@ -7,7 +8,7 @@ use Rattle.cyc_core.specs.declared.operation.Operation.{Operation}
 use Rattle.cyc_core.specs.declared.operation.Operation.TheVariants.{Move, Binary, Putchar}
 use Rattle.cyc_core.specs.Tree.{Statement, Do, statements_of}
 use Rattle.cyc_core.specs.Cells.{NamesUpTo, AreUpTo, operations_of}
-use Rattle.lower_checks.specs.Lowered.{cell, binary_of, prefix_operation, cell_at, place_cell, truth_code, expression_code, links_code, all_code, any_code, arguments_code}
+use Rattle.lower_checks.specs.Lowered.{cell, binary_of, prefix_operation, cell_at, place_cell, truth_code, expression_code, links_code, all_code, any_code, arguments_code, call_by, call_operation}
 
 -- how many operations code has
 abbrev pub count : List Statement → ℕ
@@ -59,6 +60,10 @@ place_within scope _ = omega arith
 truth_fits : (d : ℕ) → Fits d (truth_code d)
 truth_fits d m h = (omega arith, ((omega arith, omega arith, omega arith), tt))
 
+call_fits : (b : Bool) (d : ℕ) → Fits d (Do (call_by b d) ∷ [])
+call_fits true d = λ m h. (omega arith, tt)
+call_fits false d = λ m h. ((omega arith, omega arith), tt)
+
 mutual
   pub expression_fits : (e : Expression) (scope : Locals) (d : ℕ) → length scope ≤ d → Fits d (expression_code scope e d)
   expression_fits (Expression.Number at value suffix) scope d above = λ m h. (omega arith, tt)
@@ -80,7 +85,8 @@ mutual
   expression_fits (Expression.Assign place value) scope d above =
       both_fit d (expression_code scope value d) (Do (Move (place_cell scope place) (cell d)) ∷ []) (expression_fits value scope d above)
       (λ m h. let within = place_within scope place in ((omega (arith, within, above, h), omega arith), tt))
-  expression_fits (Expression.Call name arguments) scope d above = arguments_fit arguments scope d above
+  expression_fits (Expression.Call name arguments) scope d above =
+      both_fit d (arguments_code scope arguments d) (Do (call_operation name.text d) ∷ []) (arguments_fit arguments scope d above) (call_fits (bytes_eq name.text (codes "getchar")) d)
   expression_fits _ scope d above = λ m h. tt
 
   pub links_fit : (links : Links) (scope : Locals) (d : ℕ) → length scope ≤ d → Fits d (links_code scope links d)
@@ -102,6 +108,5 @@ mutual
       ((omega arith, tt, expression_fits e scope d above m (omega arith)), any_fit es scope d above m (omega arith))
 
   pub arguments_fit : (es : Expressions) (scope : Locals) (d : ℕ) → length scope ≤ d → Fits d (arguments_code scope es d)
-  arguments_fit NoExpressions scope d above = λ m h. (omega arith, tt)
-  arguments_fit (MoreExpressions e es) scope d above =
-      both_fit d (expression_code scope e d) (Do (Putchar (cell d) (cell d)) ∷ []) (expression_fits e scope d above) (λ m h. ((omega arith, omega arith), tt))
+  arguments_fit NoExpressions scope d above = λ m h. tt
+  arguments_fit (MoreExpressions e es) scope d above = expression_fits e scope d above

@@ -7,8 +7,8 @@ use Rattle.cyc_core.specs.declared.operation.Operation.{Operation}
 use Rattle.cyc_core.specs.declared.operation.Operation.TheVariants.{Constant, Binary, Putchar, Move}
 use Rattle.cyc_core.specs.Tree.{Statement, Do, If, Return, NoStatements, statements_of}
 use Rattle.region_types.specs.Faults.{loop_faults, expression_faults, declaration_faults, statement_faults, block_faults}
-use Rattle.lower_checks.specs.Lowered.{cell, binary_of, prefix_word, prefix_operation, place_cell, truth_code, expression_code, links_code, all_code, any_code, arguments_code, declaration_code, statement_code, block_code}
-use Rattle.lower_checks.proofs.NoFaults.{none_of, not_else}
+use Rattle.lower_checks.specs.Lowered.{cell, binary_of, prefix_word, prefix_operation, place_cell, truth_code, expression_code, links_code, all_code, any_code, call_operation, arguments_code, declaration_code, statement_code, block_code}
+use Rattle.region_types.proofs.NoFaults.{none_of, not_else}
 use Rattle.lower_checks.proofs.NeverStuck.{AllStay}
 
 -- nor do these leave a loop that isn't theirs
@@ -45,7 +45,8 @@ mutual
       tested_stay in_loop (expression_code scope first d) (any_code scope others d) d (expression_stays first scope d in_loop) (any_stay others scope d in_loop)
   expression_stays (Expression.Assign place value) scope d in_loop =
       then_does in_loop (expression_code scope value d) (Move (place_cell scope place) (cell d)) (expression_stays value scope d in_loop)
-  expression_stays (Expression.Call name arguments) scope d in_loop = arguments_stay arguments scope d in_loop
+  expression_stays (Expression.Call name arguments) scope d in_loop =
+      then_does in_loop (arguments_code scope arguments d) (call_operation name.text d) (arguments_stay arguments scope d in_loop)
   expression_stays _ scope d in_loop = tt
 
   pub links_stay : (links : Links) (scope : Locals) (d : ℕ) (in_loop : Bool) → CodeStays in_loop (links_code scope links d)
@@ -64,8 +65,8 @@ mutual
   any_stay (MoreExpressions e es) scope d in_loop = ((tt, expression_stays e scope d in_loop), any_stay es scope d in_loop)
 
   pub arguments_stay : (es : Expressions) (scope : Locals) (d : ℕ) (in_loop : Bool) → CodeStays in_loop (arguments_code scope es d)
-  arguments_stay NoExpressions scope d in_loop = (tt, tt)
-  arguments_stay (MoreExpressions e es) scope d in_loop = then_does in_loop (expression_code scope e d) (Putchar (cell d) (cell d)) (expression_stays e scope d in_loop)
+  arguments_stay NoExpressions scope d in_loop = tt
+  arguments_stay (MoreExpressions e es) scope d in_loop = expression_stays e scope d in_loop
 
 -- ---- declarations and statements
 

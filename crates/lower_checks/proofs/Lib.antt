@@ -1,5 +1,4 @@
 pub mod Relations
-pub mod Shape
 pub mod SameRuns
 pub mod SameOperators
 pub mod SameLocals
@@ -7,7 +6,7 @@ pub mod SameExpressions
 pub mod SameTests
 pub mod SameWrites
 pub mod SameMemory
-pub mod NoFaults
+pub mod PlainTypes
 pub mod SameCalls
 pub mod EachExpression
 pub mod SameStatements

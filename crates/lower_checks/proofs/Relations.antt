@@ -25,7 +25,7 @@ names_of [] = []
 names_of (b ∷ bs) = names_of bs ++ b.name ∷ []
 
 -- a local is a cell of a live region, holds this word, and lies in a frame that was begun
-pub record IsHeld (b : Binding) (m : Memory) (word : ℕ) : Type 0 where
+pub record IsShown (b : Binding) (m : Memory) (word : ℕ) : Type 0 where
   pub spot : Spot
   pub frame : ℕ
   pub is_variable : b.entity ≡ Variable IntShape spot
@@ -45,9 +45,9 @@ AreLive [] activations state = Unit {0}
 AreLive (f ∷ fs) activations state = (f < activations) × (state_is_live (state (Frame f)) ≡ true) × AreLive fs activations state
 
 -- each local holds the word of its cell, no two are at one spot, and the frames of the blocks that were entered are live
-abbrev pub AreHeld : List ℕ → List Binding → Memory → Cells → Type 0
-AreHeld frames [] m cells = AreLive frames m.activations m.state
-AreHeld frames (b ∷ bs) m cells = (one : IsHeld b m (cells (length bs))) × AreElsewhere one.spot bs × AreHeld frames bs m cells
+abbrev pub AreShown : List ℕ → List Binding → Memory → Cells → Type 0
+AreShown frames [] m cells = AreLive frames m.activations m.state
+AreShown frames (b ∷ bs) m cells = (one : IsShown b m (cells (length bs))) × AreElsewhere one.spot bs × AreShown frames bs m cells
 
 -- an int or a char, whose operators are those of signed numbers
 abbrev pub IsSigned : IntegerType → Type 0
@@ -61,8 +61,8 @@ AreKept first end old new = (k : ℕ) → first ≤ k → k < end → new k ≡ 
 
 -- What comes after an expression whose value is in a cell: with the locals held, and the temporaries below that cell as they were, both go on alike.
 pub record GoesOn (n : ℕ) (frames : List ℕ) (locals : List Binding) (at : ℕ) (old : Cells) (s : List Scalar → Memory → source.Step) (rest : List Statement) (c : core.Exit → Cells → core.Step) : Type 0 where
-  pub go : (m : Memory) (cells : Cells) (t : IntegerType) (word : ℕ) → IsSigned t → AreHeld frames locals m cells → AreKept (length locals) at old cells → cells at ≡ word → Same n (s (Integer t word ∷ []) m) (core.statements (statements_of rest) c cells)
+  pub go : (m : Memory) (cells : Cells) (t : IntegerType) (word : ℕ) → IsSigned t → AreShown frames locals m cells → AreKept (length locals) at old cells → cells at ≡ word → Same n (s (Integer t word ∷ []) m) (core.statements (statements_of rest) c cells)
 
 -- an act does the same as code that leaves its value in a cell
 pub record LooksAs (n : ℕ) (frames : List ℕ) (locals : List Binding) (at : ℕ) (act : source.Act (List Scalar)) (code : List Statement) : Type 0 where
-  pub same : (m : Memory) (cells : Cells) (s : List Scalar → Memory → source.Step) (rest : List Statement) (c : core.Exit → Cells → core.Step) → length locals ≤ at → AreHeld frames locals m cells → GoesOn n frames locals at cells s rest c → Same n (act s m) (core.statements (statements_of (code ++ rest)) c cells)
+  pub same : (m : Memory) (cells : Cells) (s : List Scalar → Memory → source.Step) (rest : List Statement) (c : core.Exit → Cells → core.Step) → length locals ≤ at → AreShown frames locals m cells → GoesOn n frames locals at cells s rest c → Same n (act s m) (core.statements (statements_of (code ++ rest)) c cells)

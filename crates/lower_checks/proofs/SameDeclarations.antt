@@ -17,7 +17,7 @@ use Rattle.cyc_core.specs.Tree.{Statement, Do, statements_of}
 use Rattle.cyc_core.specs.Meaning as core
 use Rattle.cyc_core.specs.Meaning.{Cells, set_cell}
 use Rattle.lower_checks.specs.Lowered.{cell}
-use Rattle.lower_checks.proofs.Relations.{names_of, Same, AreHeld, LooksAs}
+use Rattle.lower_checks.proofs.Relations.{names_of, Same, AreShown, LooksAs}
 use Rattle.lower_checks.proofs.SameLocals.{names_length}
 use Rattle.lower_checks.proofs.SameExpressions.{set_itself, held_above}
 use Rattle.lower_checks.proofs.SameWrites.{word_cell, others_written}
@@ -41,14 +41,14 @@ stored_first : (m : Memory) (s : Spot) (w : ℕ) (next : Unit {0} → Memory →
 stored_first m s w next blank = rw blank (put_first m s w (λ u. next tt) blank)
 
 -- the block's frame is live
-frame_live : (frame : ℕ) (outer : List ℕ) (bs : List Binding) (m : Memory) (cells : Cells) → AreHeld (frame ∷ outer) bs m cells → is_live m (Frame frame) ≡ true
+frame_live : (frame : ℕ) (outer : List ℕ) (bs : List Binding) (m : Memory) (cells : Cells) → AreShown (frame ∷ outer) bs m cells → is_live m (Frame frame) ≡ true
 frame_live frame outer bs m cells held = let live = live_frames (frame ∷ outer) bs m cells held in live.1
 
-frame_begun : (frame : ℕ) (outer : List ℕ) (bs : List Binding) (m : Memory) (cells : Cells) → AreHeld (frame ∷ outer) bs m cells → frame < m.activations
+frame_begun : (frame : ℕ) (outer : List ℕ) (bs : List Binding) (m : Memory) (cells : Cells) → AreShown (frame ∷ outer) bs m cells → frame < m.activations
 frame_begun frame outer bs m cells held = let live = live_frames (frame ∷ outer) bs m cells held in live.0
 
 -- the local that begins as 0
-object_held : (frame : ℕ) (outer : List ℕ) (bs : List Binding) (name : List ℕ) (m : Memory) (o : Object) (cells : Cells) → AreHeld (frame ∷ outer) bs m cells → o 0 ≡ Some (word_cell (cells (length bs))) → AreHeld (frame ∷ outer) (local_at name (next_spot m (Frame frame)) ∷ bs) (with_object m (Frame frame) o) cells
+object_held : (frame : ℕ) (outer : List ℕ) (bs : List Binding) (name : List ℕ) (m : Memory) (o : Object) (cells : Cells) → AreShown (frame ∷ outer) bs m cells → o 0 ≡ Some (word_cell (cells (length bs))) → AreShown (frame ∷ outer) (local_at name (next_spot m (Frame frame)) ∷ bs) (with_object m (Frame frame) o) cells
 object_held frame outer bs name m o cells held begins = (
   record {
     spot = next_spot m (Frame frame);
@@ -64,7 +64,7 @@ object_held frame outer bs name m o cells held begins = (
 )
 
 -- the local that begins as an initializer's value
-stored_held : (frame : ℕ) (outer : List ℕ) (bs : List Binding) (name : List ℕ) (m : Memory) (o : Object) (cells : Cells) (word : ℕ) → AreHeld (frame ∷ outer) bs m cells → cells (length bs) ≡ word → AreHeld (frame ∷ outer) (local_at name (next_spot m (Frame frame)) ∷ bs) (with_cell (with_object m (Frame frame) o) (next_spot m (Frame frame)) (word_cell word)) cells
+stored_held : (frame : ℕ) (outer : List ℕ) (bs : List Binding) (name : List ℕ) (m : Memory) (o : Object) (cells : Cells) (word : ℕ) → AreShown (frame ∷ outer) bs m cells → cells (length bs) ≡ word → AreShown (frame ∷ outer) (local_at name (next_spot m (Frame frame)) ∷ bs) (with_cell (with_object m (Frame frame) o) (next_spot m (Frame frame)) (word_cell word)) cells
 stored_held frame outer bs name m o cells word held is =
     let apart = new_elsewhere (frame ∷ outer) bs m cells (Frame frame) held in (
       record {
@@ -101,7 +101,7 @@ unset_same n outer scope name act others after = record {
 }
 
 -- a value is there, and the local is made with it
-with_value_same : (n : ℕ) (outer : List ℕ) (scope : Scope) (name : List ℕ) (act : Scope → Act Flow) (others : List Statement) (m : Memory) (cells : Cells) (next : Flow → Memory → source.Step) (rest : List Statement) (c : core.Exit → Cells → core.Step) (word : ℕ) → GoesOnWith n (scope.frame ∷ outer) scope name act others → AreHeld (scope.frame ∷ outer) scope.locals m cells → cells (length scope.locals) ≡ word → WaysOn n (scope.frame ∷ outer) scope.locals next rest c → Same n (local_with scope name IntShape (Integer AsInt word ∷ []) act next m) (core.statements (statements_of (others ++ rest)) c cells)
+with_value_same : (n : ℕ) (outer : List ℕ) (scope : Scope) (name : List ℕ) (act : Scope → Act Flow) (others : List Statement) (m : Memory) (cells : Cells) (next : Flow → Memory → source.Step) (rest : List Statement) (c : core.Exit → Cells → core.Step) (word : ℕ) → GoesOnWith n (scope.frame ∷ outer) scope name act others → AreShown (scope.frame ∷ outer) scope.locals m cells → cells (length scope.locals) ≡ word → WaysOn n (scope.frame ∷ outer) scope.locals next rest c → Same n (local_with scope name IntShape (Integer AsInt word ∷ []) act next m) (core.statements (statements_of (others ++ rest)) c cells)
 with_value_same n outer scope name act others m cells next rest c word after held is ways =
     let o : Object = blank_object (cells_of scope.world IntShape) in
     let spot : Spot = next_spot m (Frame scope.frame) in
@@ -118,7 +118,7 @@ with_value_same n outer scope name act others m cells next rest c word after hel
 pub value_same : (n : ℕ) (outer : List ℕ) (scope : Scope) (name : List ℕ) (act : Scope → Act Flow) (others : List Statement) (e : Sense) (code : List Statement) → LooksAs n (scope.frame ∷ outer) scope.locals (length (names_of scope.locals)) e.value code → GoesOnWith n (scope.frame ∷ outer) scope name act others → RunsAs n (scope.frame ∷ outer) scope.locals (initialised scope name IntShape e act) (code ++ others)
 value_same n outer scope name act others e code one after = record {
   same = λ m cells next rest c held ways.
-      let values : List Scalar → Memory → source.Step = λ vs. conversions.converted scope.world IntShape vs (λ us. local_with scope name IntShape us act next) in
+      let values : List Scalar → Memory → source.Step = λ vs. conversions.converted scope.world IntShape e.shape vs (λ us. local_with scope name IntShape us act next) in
       let above : length scope.locals ≤ length (names_of scope.locals) = let same = names_length scope.locals in omega arith in
       subst (λ l. Same n (e.value values m) (core.statements (statements_of l) c cells)) (sym (append_assoc code others rest))
       (one.same m cells values (others ++ rest) c above held (record {

@@ -25,7 +25,7 @@ use Rattle.lower_checks.proofs.SameOperators.{truth_word, signed_two}
 use Rattle.cyc_core.specs.Meaning as core
 use Rattle.cyc_core.specs.Meaning.{Cells, set_cell, two, truth}
 use Rattle.lower_checks.specs.Lowered.{cell, binary_of, cell_of, truth_code, cell_at as cell_at_position}
-use Rattle.lower_checks.proofs.Relations.{names_of, Same, IsHeld, AreHeld, AreKept, IsSigned, GoesOn, LooksAs}
+use Rattle.lower_checks.proofs.Relations.{names_of, Same, IsShown, AreShown, AreKept, IsSigned, GoesOn, LooksAs}
 
 -- ---- a cell above the locals
 
@@ -36,7 +36,7 @@ pub set_other : (d k w : ℕ) (cells : Cells) → k < d → set_cell (cell d) w 
 set_other d k w cells h = let e : nat_eq k d ≡ false = grind (arith, nat_tests) in ap (λ b. if b then w else cells k) e
 
 -- the same local, whose cell has the same word
-abbrev pub held_word : (b : Binding) (m : Memory) (old new : ℕ) → old ≡ new → IsHeld b m old → IsHeld b m new
+abbrev pub held_word : (b : Binding) (m : Memory) (old new : ℕ) → old ≡ new → IsShown b m old → IsShown b m new
 held_word b m old new same held = record {
   spot = held.spot;
   frame = held.frame;
@@ -47,7 +47,7 @@ held_word b m old new same held = record {
   holds = held.holds ∙ ap (λ w. Some (record { shape = IntShape; content = Holds (Integer AsInt w) })) same;
 }
 
-pub held_above : (frames : List ℕ) (bs : List Binding) (m : Memory) (cells : Cells) (d w : ℕ) → length bs ≤ d → AreHeld frames bs m cells → AreHeld frames bs m (set_cell (cell d) w cells)
+pub held_above : (frames : List ℕ) (bs : List Binding) (m : Memory) (cells : Cells) (d w : ℕ) → length bs ≤ d → AreShown frames bs m cells → AreShown frames bs m (set_cell (cell d) w cells)
 held_above frames [] m cells d w h held = held
 held_above frames (b ∷ bs) m cells d w h (one, apart, others) =
     let same = sym (set_other d (length bs) w cells (omega arith)) in
@@ -57,7 +57,7 @@ pub kept_above : (first d w : ℕ) (old cells : Cells) → AreKept first d old c
 kept_above first d w old cells kept = λ k h g. set_other d k w cells g ∙ kept k h g
 
 -- a word that is put into the cell
-pub put_same : (n : ℕ) (frames : List ℕ) (locals : List Binding) (d : ℕ) (old cells : Cells) (m : Memory) (s : List Scalar → Memory → source.Step) (rest : List Statement) (c : core.Exit → Cells → core.Step) (t : IntegerType) (word : ℕ) → IsSigned t → length locals ≤ d → AreHeld frames locals m cells → AreKept (length locals) d old cells → GoesOn n frames locals d old s rest c → Same n (s (Integer t word ∷ []) m) (core.statements (statements_of rest) c (set_cell (cell d) word cells))
+pub put_same : (n : ℕ) (frames : List ℕ) (locals : List Binding) (d : ℕ) (old cells : Cells) (m : Memory) (s : List Scalar → Memory → source.Step) (rest : List Statement) (c : core.Exit → Cells → core.Step) (t : IntegerType) (word : ℕ) → IsSigned t → length locals ≤ d → AreShown frames locals m cells → AreKept (length locals) d old cells → GoesOn n frames locals d old s rest c → Same n (s (Integer t word ∷ []) m) (core.statements (statements_of rest) c (set_cell (cell d) word cells))
 put_same n frames locals d old cells m s rest c t word signed above held kept after =
     after.go m (set_cell (cell d) word cells) t word signed (held_above frames locals m cells d word above held) (kept_above (length locals) d word old cells kept) (set_itself d word cells)
 
@@ -73,7 +73,7 @@ applied_same n frames locals d o left right first second one two_ = record { sam
     last : Statement
     last = Do (Binary (binary_of o) (cell d) (cell d) (cell (d + 1)))
 
-    both : (m : Memory) (cells : Cells) (s : List Scalar → Memory → source.Step) (rest : List Statement) (c : core.Exit → Cells → core.Step) → length locals ≤ d → AreHeld frames locals m cells → GoesOn n frames locals d cells s rest c → Same n ((applied o left right).look s m) (core.statements (statements_of ((first ++ (second ++ last ∷ [])) ++ rest)) c cells)
+    both : (m : Memory) (cells : Cells) (s : List Scalar → Memory → source.Step) (rest : List Statement) (c : core.Exit → Cells → core.Step) → length locals ≤ d → AreShown frames locals m cells → GoesOn n frames locals d cells s rest c → Same n ((applied o left right).look s m) (core.statements (statements_of ((first ++ (second ++ last ∷ [])) ++ rest)) c cells)
     both m cells s rest c above held after =
         let results : Scalar → Scalar → Memory → source.Step = λ x y m2. source.need (operated m2 o x y) (λ r. source.give (r ∷ []) s) m2 in
         let rights : Scalar → Memory → source.Step = λ x m1. right.look (λ vs. conversions.one vs (λ y. results x y)) m1 in
@@ -100,7 +100,7 @@ read_held w spot m word s holds = rw holds refl
 pub variable_same : (n : ℕ) (frames : List ℕ) (scope : Scope) (d : ℕ) (name : Name) (position : ℕ) → position_of (names_of scope.locals) name.text ≡ Some position → LooksAs n frames scope.locals d (sense (Expression.Variable name) scope).look (Do (Move (cell d) (cell_of (names_of scope.locals) name)) ∷ [])
 variable_same n frames scope d name position is = record { same = read }
   where
-    read : (m : Memory) (cells : Cells) (s : List Scalar → Memory → source.Step) (rest : List Statement) (c : core.Exit → Cells → core.Step) → length scope.locals ≤ d → AreHeld frames scope.locals m cells → GoesOn n frames scope.locals d cells s rest c → Same n ((sense (Expression.Variable name) scope).look s m) (core.statements (statements_of (Do (Move (cell d) (cell_of (names_of scope.locals) name)) ∷ rest)) c cells)
+    read : (m : Memory) (cells : Cells) (s : List Scalar → Memory → source.Step) (rest : List Statement) (c : core.Exit → Cells → core.Step) → length scope.locals ≤ d → AreShown frames scope.locals m cells → GoesOn n frames scope.locals d cells s rest c → Same n ((sense (Expression.Variable name) scope).look s m) (core.statements (statements_of (Do (Move (cell d) (cell_of (names_of scope.locals) name)) ∷ rest)) c cells)
     read m cells s rest c above held after =
         let found = found_local frames scope.locals name.text m cells position held is in
         let entity : entity_of scope name.text ≡ Some (Variable IntShape found.spot) = ap (λ e. or_else e (bound_to scope.world.globals name.text)) found.bound in
@@ -123,7 +123,7 @@ not_same n frames locals d operand code one = record { same = both }
     last : Statement
     last = Do (Binary binary.Equal (cell d) (cell d) (cell (d + 1)))
 
-    both : (m : Memory) (cells : Cells) (s : List Scalar → Memory → source.Step) (rest : List Statement) (c : core.Exit → Cells → core.Step) → length locals ≤ d → AreHeld frames locals m cells → GoesOn n frames locals d cells s rest c → Same n ((tested (inverted (calls.truth operand))).look s m) (core.statements (statements_of ((Do (Constant (cell d) 0) ∷ (code ++ last ∷ [])) ++ rest)) c cells)
+    both : (m : Memory) (cells : Cells) (s : List Scalar → Memory → source.Step) (rest : List Statement) (c : core.Exit → Cells → core.Step) → length locals ≤ d → AreShown frames locals m cells → GoesOn n frames locals d cells s rest c → Same n ((tested (inverted (calls.truth operand))).look s m) (core.statements (statements_of ((Do (Constant (cell d) 0) ∷ (code ++ last ∷ [])) ++ rest)) c cells)
     both m cells s rest c above held after =
         let results : Bool → Memory → source.Step = λ b m2. source.choose b (source.give false) (source.give true) (λ t. source.give (truth_value t ∷ []) s) m2 in
         let first : Cells = set_cell (cell d) 0 cells in
@@ -141,7 +141,7 @@ not_same n frames locals d operand code one = record { same = both }
 -- ---- `&&` and `||`
 
 -- 0 stays 0, and another word becomes 1
-pub truth_same : (n : ℕ) (frames : List ℕ) (locals : List Binding) (d : ℕ) (old cells : Cells) (m : Memory) (s : List Scalar → Memory → source.Step) (rest : List Statement) (c : core.Exit → Cells → core.Step) (word : ℕ) → length locals ≤ d → AreHeld frames locals m cells → AreKept (length locals) d old cells → cells d ≡ word → GoesOn n frames locals d old s rest c → Same n (s (truth_value (not (nat_eq word 0)) ∷ []) m) (core.statements (statements_of (truth_code d ++ rest)) c cells)
+pub truth_same : (n : ℕ) (frames : List ℕ) (locals : List Binding) (d : ℕ) (old cells : Cells) (m : Memory) (s : List Scalar → Memory → source.Step) (rest : List Statement) (c : core.Exit → Cells → core.Step) (word : ℕ) → length locals ≤ d → AreShown frames locals m cells → AreKept (length locals) d old cells → cells d ≡ word → GoesOn n frames locals d old s rest c → Same n (s (truth_value (not (nat_eq word 0)) ∷ []) m) (core.statements (statements_of (truth_code d ++ rest)) c cells)
 truth_same n frames locals d old cells m s rest c word above held kept is after =
     let zeroed : Cells = set_cell (cell (d + 1)) 0 cells in
     let here : zeroed d ≡ word = set_other (d + 1) d 0 cells (omega arith) ∙ is in

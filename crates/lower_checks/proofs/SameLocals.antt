@@ -9,7 +9,7 @@ use Rattle.source_meaning.specs.Memory.{AsInt, Spot, Integer, Holds, Memory, cel
 use Rattle.source_meaning.specs.Steps.{Variable, Binding}
 use Rattle.source_meaning.specs.Places.{bound_to}
 use Rattle.cyc_core.specs.Meaning.{Cells}
-use Rattle.lower_checks.proofs.Relations.{names_of, IsHeld, AreHeld}
+use Rattle.lower_checks.proofs.Relations.{names_of, IsShown, AreShown}
 
 pub names_length : (bs : List Binding) → length (names_of bs) ≡ length bs
 names_length [] = refl
@@ -22,7 +22,7 @@ pub record Found (bs : List Binding) (name : List ℕ) (m : Memory) (cells : Cel
   pub below : position < length bs
   pub holds : cell_at m spot ≡ Some (record { shape = IntShape; content = Holds (Integer AsInt (cells position)) })
 
-found_by : (is_this : Bool) (b : Binding) (bs : List Binding) (name : List ℕ) (m : Memory) (cells : Cells) (position : ℕ) → bytes_eq b.name name ≡ is_this → IsHeld b m (cells (length bs)) → (position_of (names_of bs) name ≡ Some position → Found bs name m cells position) → (if is_this then Some (length bs) else position_of (names_of bs) name) ≡ Some position → Found (b ∷ bs) name m cells position
+found_by : (is_this : Bool) (b : Binding) (bs : List Binding) (name : List ℕ) (m : Memory) (cells : Cells) (position : ℕ) → bytes_eq b.name name ≡ is_this → IsShown b m (cells (length bs)) → (position_of (names_of bs) name ≡ Some position → Found bs name m cells position) → (if is_this then Some (length bs) else position_of (names_of bs) name) ≡ Some position → Found (b ∷ bs) name m cells position
 found_by true b bs name m cells position this held others is =
     let here : length bs ≡ position = cc in
     record {
@@ -40,7 +40,7 @@ found_by false b bs name m cells position this held others is =
       holds = found.holds;
     }
 
-pub found_local : (frames : List ℕ) (bs : List Binding) (name : List ℕ) (m : Memory) (cells : Cells) (position : ℕ) → AreHeld frames bs m cells → position_of (names_of bs) name ≡ Some position → Found bs name m cells position
+pub found_local : (frames : List ℕ) (bs : List Binding) (name : List ℕ) (m : Memory) (cells : Cells) (position : ℕ) → AreShown frames bs m cells → position_of (names_of bs) name ≡ Some position → Found bs name m cells position
 found_local frames [] name m cells position held is = absurd (cc)
 found_local frames (b ∷ bs) name m cells position (one, apart, others) is =
     found_by (bytes_eq b.name name) b bs name m cells position refl one (found_local frames bs name m cells position others) (ap (λ n. if bytes_eq b.name name then Some n else position_of (names_of bs) name) (sym (names_length bs)) ∙ sym (position_more (names_of bs) b.name name) ∙ is)

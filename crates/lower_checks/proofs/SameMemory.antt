@@ -8,12 +8,12 @@ use Rattle.source_meaning.specs.Memory.{Region, Frame, Spot, Object, State, Live
 use Rattle.source_meaning.specs.Steps.{Variable, Binding}
 use Rattle.source_meaning.proofs.Cases.{region_itself, region_is, older_is_kept, elsewhere_is_kept, cells_elsewhere_are_kept}
 use Rattle.cyc_core.specs.Meaning.{Cells}
-use Rattle.lower_checks.proofs.Relations.{IsHeld, AreElsewhere, AreLive, AreHeld}
+use Rattle.lower_checks.proofs.Relations.{IsShown, AreElsewhere, AreLive, AreShown}
 use Rattle.lower_checks.proofs.SameWrites.{same_place}
 
 -- ---- frames
 
-pub live_frames : (frames : List ℕ) (bs : List Binding) (m : Memory) (cells : Cells) → AreHeld frames bs m cells → AreLive frames m.activations m.state
+pub live_frames : (frames : List ℕ) (bs : List Binding) (m : Memory) (cells : Cells) → AreShown frames bs m cells → AreLive frames m.activations m.state
 live_frames frames [] m cells held = held
 live_frames frames (b ∷ bs) m cells (one, apart, others) = live_frames frames bs m cells others
 
@@ -45,14 +45,14 @@ abbrev pub AreOutside : ℕ → List Binding → Type 0
 AreOutside k [] = Unit {0}
 AreOutside k (b ∷ bs) = ((t : Spot) → b.entity ≡ Variable IntShape t → same_region t.region (Frame k) ≡ false) × AreOutside k bs
 
-outside_by : (b : Binding) (m : Memory) (word : ℕ) (held : IsHeld b m word) (t : Spot) → b.entity ≡ Variable IntShape t → same_region t.region (Frame m.activations) ≡ false
+outside_by : (b : Binding) (m : Memory) (word : ℕ) (held : IsShown b m word) (t : Spot) → b.entity ≡ Variable IntShape t → same_region t.region (Frame m.activations) ≡ false
 outside_by b m word held t is =
     let there : held.spot ≡ t = same_place held.spot t (sym held.is_variable ∙ is) in
     ap (λ s. same_region s.region (Frame m.activations)) (sym there)
     ∙ ap (λ r. same_region r (Frame m.activations)) held.in_frame
     ∙ other_frame held.frame m.activations held.begun
 
-pub outside_next : (frames : List ℕ) (bs : List Binding) (m : Memory) (cells : Cells) → AreHeld frames bs m cells → AreOutside m.activations bs
+pub outside_next : (frames : List ℕ) (bs : List Binding) (m : Memory) (cells : Cells) → AreShown frames bs m cells → AreOutside m.activations bs
 outside_next frames [] m cells held = tt
 outside_next frames (b ∷ bs) m cells (one, apart, others) =
     (outside_by b m (cells (length bs)) one, outside_next frames bs m cells others)
@@ -61,7 +61,7 @@ outside_next frames (b ∷ bs) m cells (one, apart, others) =
 abbrev pub entered : Memory → Memory
 entered m = with_state (record m { activations = m.activations + 1 }) (Frame m.activations) Live
 
-abbrev entered_local : (b : Binding) (m : Memory) (word : ℕ) → IsHeld b m word → IsHeld b (entered m) word
+abbrev entered_local : (b : Binding) (m : Memory) (word : ℕ) → IsShown b m word → IsShown b (entered m) word
 entered_local b m word held = record {
   spot = held.spot;
   frame = held.frame;
@@ -72,7 +72,7 @@ entered_local b m word held = record {
   holds = cells_elsewhere_are_kept (record m { activations = m.activations + 1 }) (Frame m.activations) Live held.spot (outside_by b m word held held.spot held.is_variable) ∙ held.holds;
 }
 
-pub entered_held : (frames : List ℕ) (bs : List Binding) (m : Memory) (cells : Cells) → AreHeld frames bs m cells → AreHeld (m.activations ∷ frames) bs (entered m) cells
+pub entered_held : (frames : List ℕ) (bs : List Binding) (m : Memory) (cells : Cells) → AreShown frames bs m cells → AreShown (m.activations ∷ frames) bs (entered m) cells
 entered_held frames [] m cells held = (
   omega arith,
   ap (λ b. state_is_live (if b then Live else m.state (Frame m.activations))) (eq-eqb m.activations m.activations refl),
@@ -85,7 +85,7 @@ entered_held frames (b ∷ bs) m cells (one, apart, others) =
 abbrev pub left : ℕ → Memory → Memory
 left k m = with_state m (Frame k) Dead
 
-abbrev left_local : (k : ℕ) (b : Binding) (m : Memory) (word : ℕ) (held : IsHeld b m word) → same_region held.spot.region (Frame k) ≡ false → IsHeld b (left k m) word
+abbrev left_local : (k : ℕ) (b : Binding) (m : Memory) (word : ℕ) (held : IsShown b m word) → same_region held.spot.region (Frame k) ≡ false → IsShown b (left k m) word
 left_local k b m word held outside = record {
   spot = held.spot;
   frame = held.frame;
@@ -96,7 +96,7 @@ left_local k b m word held outside = record {
   holds = cells_elsewhere_are_kept m (Frame k) Dead held.spot outside ∙ held.holds;
 }
 
-pub left_held : (k : ℕ) (frames : List ℕ) (bs : List Binding) (m : Memory) (cells : Cells) → AreBelow k frames → AreOutside k bs → AreHeld (k ∷ frames) bs m cells → AreHeld frames bs (left k m) cells
+pub left_held : (k : ℕ) (frames : List ℕ) (bs : List Binding) (m : Memory) (cells : Cells) → AreBelow k frames → AreOutside k bs → AreShown (k ∷ frames) bs m cells → AreShown frames bs (left k m) cells
 left_held k frames [] m cells below outside (begun, one, others) = live_kept frames k m.activations m.activations Dead m.state below (omega arith) others
 left_held k frames (b ∷ bs) m cells below (outside, outsides) (one, apart, others) =
     (left_local k b m (cells (length bs)) one (outside one.spot one.is_variable), apart, left_held k frames bs m cells below outsides others)
@@ -115,12 +115,12 @@ apart_by true m r t is made =
 older_apart : (m : Memory) (r : Region) (t : Spot) → t.object < m.objects t.region → same_spot t (next_spot m r) ≡ false
 older_apart m r t made = apart_by (same_region t.region r) m r t refl made
 
-new_by : (b : Binding) (m : Memory) (r : Region) (word : ℕ) (held : IsHeld b m word) (t : Spot) → b.entity ≡ Variable IntShape t → same_spot t (next_spot m r) ≡ false
+new_by : (b : Binding) (m : Memory) (r : Region) (word : ℕ) (held : IsShown b m word) (t : Spot) → b.entity ≡ Variable IntShape t → same_spot t (next_spot m r) ≡ false
 new_by b m r word held t is =
     let there : held.spot ≡ t = same_place held.spot t (sym held.is_variable ∙ is) in
     subst (λ s. same_spot s (next_spot m r) ≡ false) there (older_apart m r held.spot held.made)
 
-pub new_elsewhere : (frames : List ℕ) (bs : List Binding) (m : Memory) (cells : Cells) (r : Region) → AreHeld frames bs m cells → AreElsewhere (next_spot m r) bs
+pub new_elsewhere : (frames : List ℕ) (bs : List Binding) (m : Memory) (cells : Cells) (r : Region) → AreShown frames bs m cells → AreElsewhere (next_spot m r) bs
 new_elsewhere frames [] m cells r held = tt
 new_elsewhere frames (b ∷ bs) m cells r (one, apart, others) =
     (new_by b m r (cells (length bs)) one, new_elsewhere frames bs m cells r others)
@@ -141,7 +141,7 @@ more_by true m r t is made =
     let less : t.object < m.objects r = subst (λ q. t.object < m.objects q) same made in
     omega arith
 
-abbrev older_local : (b : Binding) (m : Memory) (r : Region) (o : Object) (word : ℕ) → IsHeld b m word → IsHeld b (with_object m r o) word
+abbrev older_local : (b : Binding) (m : Memory) (r : Region) (o : Object) (word : ℕ) → IsShown b m word → IsShown b (with_object m r o) word
 older_local b m r o word held = record {
   spot = held.spot;
   frame = held.frame;
@@ -152,7 +152,7 @@ older_local b m r o word held = record {
   holds = seen_by (same_region held.spot.region r) m r o held.spot refl held.made ∙ held.holds;
 }
 
-pub older_held : (frames : List ℕ) (bs : List Binding) (m : Memory) (cells : Cells) (r : Region) (o : Object) → AreHeld frames bs m cells → AreHeld frames bs (with_object m r o) cells
+pub older_held : (frames : List ℕ) (bs : List Binding) (m : Memory) (cells : Cells) (r : Region) (o : Object) → AreShown frames bs m cells → AreShown frames bs (with_object m r o) cells
 older_held frames [] m cells r o held = held
 older_held frames (b ∷ bs) m cells r o (one, apart, others) =
     (older_local b m r o (cells (length bs)) one, apart, older_held frames bs m cells r o others)

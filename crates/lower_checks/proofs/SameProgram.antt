@@ -17,13 +17,14 @@ use Rattle.cyc_core.specs.declared.operation.Operation.TheVariants.{Constant}
 use Rattle.cyc_core.specs.Tree.{Statement, Do, Return, statements_of}
 use Rattle.cyc_core.specs.Meaning as core
 use Rattle.cyc_core.specs.Meaning.{Cells}
-use Rattle.region_types.specs.Faults.{no_effect, no_items, is_plain_int, has_main_form, main_faults, defines_main, item_faults, items_faults, program_faults, block_faults}
+use Rattle.region_types.specs.Faults.{main_faults, defines_main, item_faults, items_faults, program_faults, block_faults}
 use Rattle.lower_checks.specs.Lowered.{cell, block_code, main_code, program_code}
 use Rattle.lower_checks.specs.Agreeing.{SameOutcome}
 use Rattle.lower_checks.proofs.Relations.{Same}
-use Rattle.lower_checks.proofs.Shape.{none_after, main_first}
+use Rattle.region_types.proofs.NoFaults.{none_after, main_first, main_form}
 use Rattle.lower_checks.proofs.SameRuns.{stops_same, called_same, returned_same}
-use Rattle.lower_checks.proofs.NoFaults.{some_fault, none_of, not_else, nothing_in, both_true, plain_int}
+use Rattle.region_types.proofs.NoFaults.{some_fault, none_of}
+use Rattle.lower_checks.proofs.PlainTypes.{plain_int}
 use Rattle.lower_checks.proofs.SameStatements.{WaysOn, RunsAs, block_in_frame}
 use Rattle.lower_checks.proofs.EachStatement.{items_same}
 
@@ -84,14 +85,11 @@ begun_by p m f = (source.need f >>= λ g. entered g (world_of p) [] >>= conversi
 
 main_same : (n : ℕ) (f : tree.Function) (cells : Cells) → is_main f.name.text ≡ true → main_faults f ≡ [] → Same n (start (tree.FunctionItem f ∷ [])) (core.statements (statements_of (main_code f)) core.finished cells)
 main_same n f cells named h =
-    let whole = not_else (has_main_form f) f.name.at (block_faults [] 0 false f.body) h in
-    let form = both_true (is_plain_int f.result && no_items f.parameters && no_effect f.effect) (no_items f.bounds) whole.0 in
-    let three = both_true (is_plain_int f.result && no_items f.parameters) (no_effect f.effect) form.0 in
-    let two = both_true (is_plain_int f.result) (no_items f.parameters) three.0 in
+    let form = main_form f h in
     let p : Program = tree.FunctionItem f ∷ [] in
-    let result : settled (written f.result) ≡ IntShape = ap settled (plain_int f.result two.0) in
+    let result : settled (written f.result) ≡ IntShape = ap settled (plain_int f.result form.result) in
     subst (λ b. Same n (begun_by p (first_memory p) (if b then Some (routine_of f) else None)) (core.statements (statements_of (main_code f)) core.finished cells)) (sym named)
-    (main_entered n (routine_of f) (world_of p) (first_memory p) cells (no_parts f.parameters (nothing_in f.parameters two.1)) result named whole.1)
+    (main_entered n (routine_of f) (world_of p) (first_memory p) cells (no_parts f.parameters form.parameters) result named form.body)
 
 -- ---- programs
 

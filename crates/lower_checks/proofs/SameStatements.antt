@@ -19,20 +19,20 @@ use Rattle.cyc_core.specs.Tree.{Statement, If, While, Break, Continue, Return, s
 use Rattle.cyc_core.specs.Meaning as core
 use Rattle.cyc_core.specs.Meaning.{Cells}
 use Rattle.lower_checks.specs.Lowered.{cell}
-use Rattle.lower_checks.proofs.Relations.{Same, AreHeld, LooksAs}
+use Rattle.lower_checks.proofs.Relations.{Same, AreShown, LooksAs}
 use Rattle.lower_checks.proofs.SameRuns.{turns_same, less_fuel}
 use Rattle.lower_checks.proofs.SameMemory.{below_begun, live_frames, outside_next, entered, entered_held, left, left_held}
 
 -- What comes after a statement for each way out of it: with the locals held, both go on alike.
 pub record WaysOn (n : ℕ) (frames : List ℕ) (locals : List Binding) (next : Flow → Memory → source.Step) (rest : List Statement) (c : core.Exit → Cells → core.Step) : Type 0 where
-  pub falls : (m : Memory) (cells : Cells) → AreHeld frames locals m cells → Same n (next source.Falls m) (core.statements (statements_of rest) c cells)
-  pub breaks : (m : Memory) (cells : Cells) → AreHeld frames locals m cells → Same n (next source.Breaks m) (c core.Breaks cells)
-  pub continues : (m : Memory) (cells : Cells) → AreHeld frames locals m cells → Same n (next source.Continues m) (c core.Continues cells)
-  pub returns : (m : Memory) (cells : Cells) (word : ℕ) → AreHeld frames locals m cells → Same n (next (source.Returns (Integer AsInt word ∷ [])) m) (c (core.Returns word) cells)
+  pub falls : (m : Memory) (cells : Cells) → AreShown frames locals m cells → Same n (next source.Falls m) (core.statements (statements_of rest) c cells)
+  pub breaks : (m : Memory) (cells : Cells) → AreShown frames locals m cells → Same n (next source.Breaks m) (c core.Breaks cells)
+  pub continues : (m : Memory) (cells : Cells) → AreShown frames locals m cells → Same n (next source.Continues m) (c core.Continues cells)
+  pub returns : (m : Memory) (cells : Cells) (word : ℕ) → AreShown frames locals m cells → Same n (next (source.Returns (Integer AsInt word ∷ [])) m) (c (core.Returns word) cells)
 
 -- an act does the same as the code of a statement
 pub record RunsAs (n : ℕ) (frames : List ℕ) (locals : List Binding) (act : Act Flow) (code : List Statement) : Type 0 where
-  pub same : (m : Memory) (cells : Cells) (next : Flow → Memory → source.Step) (rest : List Statement) (c : core.Exit → Cells → core.Step) → AreHeld frames locals m cells → WaysOn n frames locals next rest c → Same n (act next m) (core.statements (statements_of (code ++ rest)) c cells)
+  pub same : (m : Memory) (cells : Cells) (next : Flow → Memory → source.Step) (rest : List Statement) (c : core.Exit → Cells → core.Step) → AreShown frames locals m cells → WaysOn n frames locals next rest c → Same n (act next m) (core.statements (statements_of (code ++ rest)) c cells)
 
 -- ---- ways on
 
@@ -59,7 +59,7 @@ ways_more n frames locals b next rest c ways = record {
 }
 
 -- code with nothing after it
-run_alone : (n : ℕ) (frames : List ℕ) (locals : List Binding) (act : Act Flow) (code : List Statement) (m : Memory) (cells : Cells) (next : Flow → Memory → source.Step) (c : core.Exit → Cells → core.Step) → RunsAs n frames locals act code → AreHeld frames locals m cells → WaysOn n frames locals next [] c → Same n (act next m) (core.statements (statements_of code) c cells)
+run_alone : (n : ℕ) (frames : List ℕ) (locals : List Binding) (act : Act Flow) (code : List Statement) (m : Memory) (cells : Cells) (next : Flow → Memory → source.Step) (c : core.Exit → Cells → core.Step) → RunsAs n frames locals act code → AreShown frames locals m cells → WaysOn n frames locals next [] c → Same n (act next m) (core.statements (statements_of code) c cells)
 run_alone n frames locals act code m cells next c runs held ways =
     subst (λ l. Same n (act next m) (core.statements (statements_of l) c cells)) (append-nil code) (runs.same m cells next [] c held ways)
 
@@ -81,24 +81,24 @@ run_same n frames locals d e code above one = record {
       one.same m cells (λ vs. next source.Falls) rest c above held (record { go = λ m2 cells2 t x signed held2 kept2 is2. ways.falls m2 cells2 held2 });
 }
 
-return_int : (n : ℕ) (frames : List ℕ) (locals : List Binding) (w : World) (d : ℕ) (e : Sense) (code : List Statement) → length locals ≤ d → LooksAs n frames locals d e.value code → RunsAs n frames locals (e.value >>= conversions.converted w IntShape >>= λ vs. source.give (source.Returns vs)) (code ++ Return (cell d) ∷ [])
+return_int : (n : ℕ) (frames : List ℕ) (locals : List Binding) (w : World) (d : ℕ) (e : Sense) (code : List Statement) → length locals ≤ d → LooksAs n frames locals d e.value code → RunsAs n frames locals (e.value >>= conversions.converted w IntShape e.shape >>= λ vs. source.give (source.Returns vs)) (code ++ Return (cell d) ∷ [])
 return_int n frames locals w d e code above one = record {
   same = λ m cells next rest c held ways.
-      subst (λ l. Same n (e.value (λ vs. conversions.converted w IntShape vs (λ us. next (source.Returns us))) m) (core.statements (statements_of l) c cells)) (sym (append_assoc code (Return (cell d) ∷ []) rest))
-      (one.same m cells (λ vs. conversions.converted w IntShape vs (λ us. next (source.Returns us))) (Return (cell d) ∷ rest) c above held (record {
+      subst (λ l. Same n (e.value (λ vs. conversions.converted w IntShape e.shape vs (λ us. next (source.Returns us))) m) (core.statements (statements_of l) c cells)) (sym (append_assoc code (Return (cell d) ∷ []) rest))
+      (one.same m cells (λ vs. conversions.converted w IntShape e.shape vs (λ us. next (source.Returns us))) (Return (cell d) ∷ rest) c above held (record {
         go = λ m2 cells2 t x signed held2 kept2 is2. subst (λ v. Same n (next (source.Returns (Integer AsInt x ∷ [])) m2) (c (core.Returns v) cells2)) (sym is2) (ways.returns m2 cells2 x held2);
       }));
 }
 
 -- the result is converted to `int`
-pub return_same : (n : ℕ) (frames : List ℕ) (scope : Scope) (d : ℕ) (e : Sense) (code : List Statement) → scope.result ≡ IntShape → length scope.locals ≤ d → LooksAs n frames scope.locals d e.value code → RunsAs n frames scope.locals (e.value >>= conversions.converted scope.world scope.result >>= λ vs. source.give (source.Returns vs)) (code ++ Return (cell d) ∷ [])
+pub return_same : (n : ℕ) (frames : List ℕ) (scope : Scope) (d : ℕ) (e : Sense) (code : List Statement) → scope.result ≡ IntShape → length scope.locals ≤ d → LooksAs n frames scope.locals d e.value code → RunsAs n frames scope.locals (e.value >>= conversions.converted scope.world scope.result e.shape >>= λ vs. source.give (source.Returns vs)) (code ++ Return (cell d) ∷ [])
 return_same n frames scope d e code result above one =
-    subst (λ r. RunsAs n frames scope.locals (e.value >>= conversions.converted scope.world r >>= λ vs. source.give (source.Returns vs)) (code ++ Return (cell d) ∷ [])) (sym result)
+    subst (λ r. RunsAs n frames scope.locals (e.value >>= conversions.converted scope.world r e.shape >>= λ vs. source.give (source.Returns vs)) (code ++ Return (cell d) ∷ [])) (sym result)
     (return_int n frames scope.locals scope.world d e code above one)
 
 -- ---- one of two statements
 
-choice_by : (b : Bool) (n : ℕ) (frames : List ℕ) (locals : List Binding) (d word : ℕ) (first second : Act Flow) (these those : List Statement) (m : Memory) (cells : Cells) (next : Flow → Memory → source.Step) (rest : List Statement) (c : core.Exit → Cells → core.Step) → nat_eq word 0 ≡ b → cells d ≡ word → RunsAs n frames locals first these → RunsAs n frames locals second those → AreHeld frames locals m cells → WaysOn n frames locals next rest c → Same n (source.choose (not (nat_eq word 0)) first second next m) (core.statements (statements_of (If (cell d) (statements_of these) (statements_of those) ∷ rest)) c cells)
+choice_by : (b : Bool) (n : ℕ) (frames : List ℕ) (locals : List Binding) (d word : ℕ) (first second : Act Flow) (these those : List Statement) (m : Memory) (cells : Cells) (next : Flow → Memory → source.Step) (rest : List Statement) (c : core.Exit → Cells → core.Step) → nat_eq word 0 ≡ b → cells d ≡ word → RunsAs n frames locals first these → RunsAs n frames locals second those → AreShown frames locals m cells → WaysOn n frames locals next rest c → Same n (source.choose (not (nat_eq word 0)) first second next m) (core.statements (statements_of (If (cell d) (statements_of these) (statements_of those) ∷ rest)) c cells)
 choice_by true n frames locals d word first second these those m cells next rest c test is one other held ways =
     let after : core.Exit → Cells → core.Step = λ exit. core.falls_to exit (core.statements (statements_of rest) c) c in
     let here : nat_eq (cells d) 0 ≡ true = ap (λ w. nat_eq w 0) is ∙ test in
@@ -126,10 +126,10 @@ choice_same n frames locals d condition test first second these those above look
 
 -- a loop does the same as its code, with so much fuel
 pub record LoopsAs (n : ℕ) (frames : List ℕ) (scope : Scope) (condition : Expression) (body : tree.Statement) (code : Statement) : Type 0 where
-  pub same : (m : Memory) (cells : Cells) (next : Flow → Memory → source.Step) (c : core.Exit → Cells → core.Step) → AreHeld frames scope.locals m cells → WaysOn n frames scope.locals next [] c → Same n (meaning.loop condition body scope next m) (core.statement code c cells)
+  pub same : (m : Memory) (cells : Cells) (next : Flow → Memory → source.Step) (c : core.Exit → Cells → core.Step) → AreShown frames scope.locals m cells → WaysOn n frames scope.locals next [] c → Same n (meaning.loop condition body scope next m) (core.statement code c cells)
 
 -- a turn, after which comes the loop with less fuel
-turn_same : (n j : ℕ) (frames : List ℕ) (scope : Scope) (condition : Expression) (body : tree.Statement) (d : ℕ) (test these : List Statement) (m : Memory) (cells : Cells) (next : Flow → Memory → source.Step) (c : core.Exit → Cells → core.Step) → suc j ≤ n → RunsAs j frames scope.locals (meaning.statement body scope) these → LoopsAs j frames scope condition body (While (statements_of test) (cell d) (statements_of these)) → AreHeld frames scope.locals m cells → WaysOn n frames scope.locals next [] c → Same j (programs.turned condition body scope next m) (core.turned (statements_of test) (cell d) (statements_of these) c cells)
+turn_same : (n j : ℕ) (frames : List ℕ) (scope : Scope) (condition : Expression) (body : tree.Statement) (d : ℕ) (test these : List Statement) (m : Memory) (cells : Cells) (next : Flow → Memory → source.Step) (c : core.Exit → Cells → core.Step) → suc j ≤ n → RunsAs j frames scope.locals (meaning.statement body scope) these → LoopsAs j frames scope condition body (While (statements_of test) (cell d) (statements_of these)) → AreShown frames scope.locals m cells → WaysOn n frames scope.locals next [] c → Same j (programs.turned condition body scope next m) (core.turned (statements_of test) (cell d) (statements_of these) c cells)
 turn_same n j frames scope condition body d test these m cells next c less runs again held ways =
     let fewer = ways_less n j frames scope.locals next [] c (omega arith) ways in
     let code : Statement = While (statements_of test) (cell d) (statements_of these) in
@@ -140,7 +140,7 @@ turn_same n j frames scope condition body d test these m cells next c less runs 
       returns = λ m2 cells2 word held2. fewer.returns m2 cells2 word held2;
     })
 
-loop_by : (b : Bool) (n : ℕ) (frames : List ℕ) (scope : Scope) (condition : Expression) (body : tree.Statement) (d word : ℕ) (test these : List Statement) (m : Memory) (cells : Cells) (next : Flow → Memory → source.Step) (c : core.Exit → Cells → core.Step) → nat_eq word 0 ≡ b → cells d ≡ word → ((j : ℕ) → RunsAs j frames scope.locals (meaning.statement body scope) these) → ((j : ℕ) → suc j ≤ n → LoopsAs j frames scope condition body (While (statements_of test) (cell d) (statements_of these))) → AreHeld frames scope.locals m cells → WaysOn n frames scope.locals next [] c → Same n (source.choose (not (nat_eq word 0)) (λ s m2. source.Turns condition body scope s m2) (source.give source.Falls) next m) (if nat_eq (cells d) 0 then c core.Falls cells else core.Turns (statements_of test) (cell d) (statements_of these) c cells)
+loop_by : (b : Bool) (n : ℕ) (frames : List ℕ) (scope : Scope) (condition : Expression) (body : tree.Statement) (d word : ℕ) (test these : List Statement) (m : Memory) (cells : Cells) (next : Flow → Memory → source.Step) (c : core.Exit → Cells → core.Step) → nat_eq word 0 ≡ b → cells d ≡ word → ((j : ℕ) → RunsAs j frames scope.locals (meaning.statement body scope) these) → ((j : ℕ) → suc j ≤ n → LoopsAs j frames scope condition body (While (statements_of test) (cell d) (statements_of these))) → AreShown frames scope.locals m cells → WaysOn n frames scope.locals next [] c → Same n (source.choose (not (nat_eq word 0)) (λ s m2. source.Turns condition body scope s m2) (source.give source.Falls) next m) (if nat_eq (cells d) 0 then c core.Falls cells else core.Turns (statements_of test) (cell d) (statements_of these) c cells)
 loop_by true n frames scope condition body d word test these m cells next c tested is runs again held ways =
     let here : nat_eq (cells d) 0 ≡ true = ap (λ w. nat_eq w 0) is ∙ tested in
     subst (λ x. Same n (source.choose (not x) (λ s m2. source.Turns condition body scope s m2) (source.give source.Falls) next m) (if nat_eq (cells d) 0 then c core.Falls cells else core.Turns (statements_of test) (cell d) (statements_of these) c cells)) (sym tested)

@@ -12,12 +12,12 @@ use Rattle.cyc_core.specs.Tree.{Statement, If, NoStatements, statements_of}
 use Rattle.cyc_core.specs.Meaning as core
 use Rattle.cyc_core.specs.Meaning.{Cells}
 use Rattle.lower_checks.specs.Lowered.{cell, truth_code}
-use Rattle.lower_checks.proofs.Relations.{Same, AreHeld, AreKept, GoesOn, LooksAs}
+use Rattle.lower_checks.proofs.Relations.{Same, AreShown, AreKept, GoesOn, LooksAs}
 use Rattle.lower_checks.proofs.SameExpressions.{truth_same}
 
 -- after operands of `&&`, the last of which gave the word in the cell
 pub record AllAs (n : ℕ) (frames : List ℕ) (locals : List Binding) (d : ℕ) (es : List Sense) (code : List Statement) : Type 0 where
-  pub same : (m : Memory) (old cells : Cells) (s : List Scalar → Memory → source.Step) (rest : List Statement) (c : core.Exit → Cells → core.Step) (word : ℕ) → length locals ≤ d → AreHeld frames locals m cells → AreKept (length locals) d old cells → cells d ≡ word → GoesOn n frames locals d old s rest c → Same n (source.choose (not (nat_eq word 0)) (all_true es) (source.give false) (λ t. source.give (truth_value t ∷ []) s) m) (core.statements (statements_of ((code ++ truth_code d) ++ rest)) c cells)
+  pub same : (m : Memory) (old cells : Cells) (s : List Scalar → Memory → source.Step) (rest : List Statement) (c : core.Exit → Cells → core.Step) (word : ℕ) → length locals ≤ d → AreShown frames locals m cells → AreKept (length locals) d old cells → cells d ≡ word → GoesOn n frames locals d old s rest c → Same n (source.choose (not (nat_eq word 0)) (all_true es) (source.give false) (λ t. source.give (truth_value t ∷ []) s) m) (core.statements (statements_of ((code ++ truth_code d) ++ rest)) c cells)
 
 all_none_left : (b : Bool) (s : List Scalar → Memory → source.Step) (m : Memory) → source.choose b (all_true []) (source.give false) (λ t. source.give (truth_value t ∷ []) s) m ≡ s (truth_value b ∷ []) m
 all_none_left true s m = refl
@@ -29,7 +29,7 @@ all_none n frames locals d = record { same = λ m old cells s rest c word above 
 pub all_more : (n : ℕ) (frames : List ℕ) (locals : List Binding) (d : ℕ) (e : Sense) (es : List Sense) (code others : List Statement) → LooksAs n frames locals d e.look code → AllAs n frames locals d es others → AllAs n frames locals d (e ∷ es) ((If (cell d) (statements_of code) NoStatements ∷ []) ++ others)
 all_more n frames locals d e es code others one more = record { same = λ m old cells s rest c word above held kept is after. by_test (nat_eq word 0) m old cells s rest c word refl above held kept is after }
   where
-    by_test : (b : Bool) (m : Memory) (old cells : Cells) (s : List Scalar → Memory → source.Step) (rest : List Statement) (c : core.Exit → Cells → core.Step) (word : ℕ) → nat_eq word 0 ≡ b → length locals ≤ d → AreHeld frames locals m cells → AreKept (length locals) d old cells → cells d ≡ word → GoesOn n frames locals d old s rest c → Same n (source.choose (not (nat_eq word 0)) (all_true (e ∷ es)) (source.give false) (λ t. source.give (truth_value t ∷ []) s) m) (core.statements (statements_of (((If (cell d) (statements_of code) NoStatements ∷ others) ++ truth_code d) ++ rest)) c cells)
+    by_test : (b : Bool) (m : Memory) (old cells : Cells) (s : List Scalar → Memory → source.Step) (rest : List Statement) (c : core.Exit → Cells → core.Step) (word : ℕ) → nat_eq word 0 ≡ b → length locals ≤ d → AreShown frames locals m cells → AreKept (length locals) d old cells → cells d ≡ word → GoesOn n frames locals d old s rest c → Same n (source.choose (not (nat_eq word 0)) (all_true (e ∷ es)) (source.give false) (λ t. source.give (truth_value t ∷ []) s) m) (core.statements (statements_of (((If (cell d) (statements_of code) NoStatements ∷ others) ++ truth_code d) ++ rest)) c cells)
     by_test true m old cells s rest c word test above held kept is after =
         let next : core.Exit → Cells → core.Step = λ exit. core.falls_to exit (core.statements (statements_of ((others ++ truth_code d) ++ rest)) c) c in
         let here : nat_eq (cells d) 0 ≡ true = ap (λ w. nat_eq w 0) is ∙ test in
@@ -53,7 +53,7 @@ all_same n frames locals d e es first others one more = record {
 
 -- after operands of `||`, the last of which gave the word in the cell
 pub record AnyAs (n : ℕ) (frames : List ℕ) (locals : List Binding) (d : ℕ) (es : List Sense) (code : List Statement) : Type 0 where
-  pub same : (m : Memory) (old cells : Cells) (s : List Scalar → Memory → source.Step) (rest : List Statement) (c : core.Exit → Cells → core.Step) (word : ℕ) → length locals ≤ d → AreHeld frames locals m cells → AreKept (length locals) d old cells → cells d ≡ word → GoesOn n frames locals d old s rest c → Same n (source.choose (not (nat_eq word 0)) (source.give true) (any_true es) (λ t. source.give (truth_value t ∷ []) s) m) (core.statements (statements_of ((code ++ truth_code d) ++ rest)) c cells)
+  pub same : (m : Memory) (old cells : Cells) (s : List Scalar → Memory → source.Step) (rest : List Statement) (c : core.Exit → Cells → core.Step) (word : ℕ) → length locals ≤ d → AreShown frames locals m cells → AreKept (length locals) d old cells → cells d ≡ word → GoesOn n frames locals d old s rest c → Same n (source.choose (not (nat_eq word 0)) (source.give true) (any_true es) (λ t. source.give (truth_value t ∷ []) s) m) (core.statements (statements_of ((code ++ truth_code d) ++ rest)) c cells)
 
 any_none_left : (b : Bool) (s : List Scalar → Memory → source.Step) (m : Memory) → source.choose b (source.give true) (any_true []) (λ t. source.give (truth_value t ∷ []) s) m ≡ s (truth_value b ∷ []) m
 any_none_left true s m = refl
@@ -65,7 +65,7 @@ any_none n frames locals d = record { same = λ m old cells s rest c word above 
 pub any_more : (n : ℕ) (frames : List ℕ) (locals : List Binding) (d : ℕ) (e : Sense) (es : List Sense) (code others : List Statement) → LooksAs n frames locals d e.look code → AnyAs n frames locals d es others → AnyAs n frames locals d (e ∷ es) ((If (cell d) NoStatements (statements_of code) ∷ []) ++ others)
 any_more n frames locals d e es code others one more = record { same = λ m old cells s rest c word above held kept is after. by_test (nat_eq word 0) m old cells s rest c word refl above held kept is after }
   where
-    by_test : (b : Bool) (m : Memory) (old cells : Cells) (s : List Scalar → Memory → source.Step) (rest : List Statement) (c : core.Exit → Cells → core.Step) (word : ℕ) → nat_eq word 0 ≡ b → length locals ≤ d → AreHeld frames locals m cells → AreKept (length locals) d old cells → cells d ≡ word → GoesOn n frames locals d old s rest c → Same n (source.choose (not (nat_eq word 0)) (source.give true) (any_true (e ∷ es)) (λ t. source.give (truth_value t ∷ []) s) m) (core.statements (statements_of (((If (cell d) NoStatements (statements_of code) ∷ others) ++ truth_code d) ++ rest)) c cells)
+    by_test : (b : Bool) (m : Memory) (old cells : Cells) (s : List Scalar → Memory → source.Step) (rest : List Statement) (c : core.Exit → Cells → core.Step) (word : ℕ) → nat_eq word 0 ≡ b → length locals ≤ d → AreShown frames locals m cells → AreKept (length locals) d old cells → cells d ≡ word → GoesOn n frames locals d old s rest c → Same n (source.choose (not (nat_eq word 0)) (source.give true) (any_true (e ∷ es)) (λ t. source.give (truth_value t ∷ []) s) m) (core.statements (statements_of (((If (cell d) NoStatements (statements_of code) ∷ others) ++ truth_code d) ++ rest)) c cells)
     by_test true m old cells s rest c word test above held kept is after =
         let next : core.Exit → Cells → core.Step = λ exit. core.falls_to exit (core.statements (statements_of ((others ++ truth_code d) ++ rest)) c) c in
         let here : nat_eq (cells d) 0 ≡ true = ap (λ w. nat_eq w 0) is ∙ test in

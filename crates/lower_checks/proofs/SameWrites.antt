@@ -14,7 +14,7 @@ use Rattle.source_meaning.specs.Values.{put_content, write_cells}
 use Rattle.source_meaning.proofs.Cases.{written_is_seen, other_is_kept}
 use Rattle.cyc_core.specs.Meaning.{Cells, set_cell}
 use Rattle.lower_checks.specs.Lowered.{cell}
-use Rattle.lower_checks.proofs.Relations.{names_of, IsHeld, AreElsewhere, AreHeld}
+use Rattle.lower_checks.proofs.Relations.{names_of, IsShown, AreElsewhere, AreShown}
 use Rattle.lower_checks.proofs.SameLocals.{names_length, found_local}
 use Rattle.lower_checks.proofs.SameExpressions.{set_itself, set_other, held_word}
 
@@ -69,7 +69,7 @@ pub seen_is_live : (m : Memory) (s : Spot) (c : Cell) → cell_at m s ≡ Some c
 seen_is_live m s c is = live_by (is_live m s.region) (m.cells s) c is
 
 -- a local that is elsewhere
-abbrev pub other_written : (b : Binding) (m : Memory) (word : ℕ) (s : Spot) (c : Cell) (held : IsHeld b m word) → same_spot held.spot s ≡ false → IsHeld b (with_cell m s c) word
+abbrev pub other_written : (b : Binding) (m : Memory) (word : ℕ) (s : Spot) (c : Cell) (held : IsShown b m word) → same_spot held.spot s ≡ false → IsShown b (with_cell m s c) word
 other_written b m word s c held apart = record {
   spot = held.spot;
   frame = held.frame;
@@ -81,7 +81,7 @@ other_written b m word s c held apart = record {
 }
 
 -- the local itself
-abbrev pub itself_written : (b : Binding) (m : Memory) (old word : ℕ) (held : IsHeld b m old) → IsHeld b (with_cell m held.spot (word_cell word)) word
+abbrev pub itself_written : (b : Binding) (m : Memory) (old word : ℕ) (held : IsShown b m old) → IsShown b (with_cell m held.spot (word_cell word)) word
 itself_written b m old word held = record {
   spot = held.spot;
   frame = held.frame;
@@ -92,13 +92,13 @@ itself_written b m old word held = record {
   holds = written_is_seen m held.spot (word_cell word) (seen_is_live m held.spot (word_cell old) held.holds);
 }
 
-pub others_written : (frames : List ℕ) (bs : List Binding) (m : Memory) (cells : Cells) (s : Spot) (c : Cell) → AreElsewhere s bs → AreHeld frames bs m cells → AreHeld frames bs (with_cell m s c) cells
+pub others_written : (frames : List ℕ) (bs : List Binding) (m : Memory) (cells : Cells) (s : Spot) (c : Cell) → AreElsewhere s bs → AreShown frames bs m cells → AreShown frames bs (with_cell m s c) cells
 others_written frames [] m cells s c elsewhere held = held
 others_written frames (b ∷ bs) m cells s c (here, rest) (one, apart, others) =
     (other_written b m (cells (length bs)) s c one (here one.spot one.is_variable), apart, others_written frames bs m cells s c rest others)
 
 -- the same words
-pub held_words : (frames : List ℕ) (bs : List Binding) (m : Memory) (old new : Cells) → ((k : ℕ) → k < length bs → new k ≡ old k) → AreHeld frames bs m old → AreHeld frames bs m new
+pub held_words : (frames : List ℕ) (bs : List Binding) (m : Memory) (old new : Cells) → ((k : ℕ) → k < length bs → new k ≡ old k) → AreShown frames bs m old → AreShown frames bs m new
 held_words frames [] m old new same held = held
 held_words frames (b ∷ bs) m old new same (one, apart, others) =
     (held_word b m (old (length bs)) (new (length bs)) (sym (same (length bs) (omega arith))) one, apart, held_words frames bs m old new (λ k h. same k (omega arith)) others)
@@ -108,14 +108,14 @@ held_words frames (b ∷ bs) m old new same (one, apart, others) =
 pub set_later : (p k w : ℕ) (cells : Cells) → p < k → set_cell (cell p) w cells k ≡ cells k
 set_later p k w cells h = let e : nat_eq k p ≡ false = grind (arith, nat_tests) in ap (λ b. if b then w else cells k) e
 
-first_written : (frames : List ℕ) (b : Binding) (bs : List Binding) (m : Memory) (cells : Cells) (w : ℕ) (one : IsHeld b m (cells (length bs))) → AreElsewhere one.spot bs → AreHeld frames bs m cells → AreHeld frames (b ∷ bs) (with_cell m one.spot (word_cell w)) (set_cell (cell (length bs)) w cells)
+first_written : (frames : List ℕ) (b : Binding) (bs : List Binding) (m : Memory) (cells : Cells) (w : ℕ) (one : IsShown b m (cells (length bs))) → AreElsewhere one.spot bs → AreShown frames bs m cells → AreShown frames (b ∷ bs) (with_cell m one.spot (word_cell w)) (set_cell (cell (length bs)) w cells)
 first_written frames b bs m cells w one apart others = (
   held_word b (with_cell m one.spot (word_cell w)) w (set_cell (cell (length bs)) w cells (length bs)) (sym (set_itself (length bs) w cells)) (itself_written b m (cells (length bs)) w one),
   apart,
   held_words frames bs (with_cell m one.spot (word_cell w)) cells (set_cell (cell (length bs)) w cells) (λ k h. set_other (length bs) k w cells h) (others_written frames bs m cells one.spot (word_cell w) apart others),
 )
 
-later_written : (frames : List ℕ) (b : Binding) (bs : List Binding) (name : List ℕ) (m : Memory) (cells : Cells) (position w : ℕ) (spot : Spot) (one : IsHeld b m (cells (length bs))) → AreElsewhere one.spot bs → bound_to bs name ≡ Some (Variable IntShape spot) → position < length bs → AreHeld frames bs (with_cell m spot (word_cell w)) (set_cell (cell position) w cells) → AreHeld frames (b ∷ bs) (with_cell m spot (word_cell w)) (set_cell (cell position) w cells)
+later_written : (frames : List ℕ) (b : Binding) (bs : List Binding) (name : List ℕ) (m : Memory) (cells : Cells) (position w : ℕ) (spot : Spot) (one : IsShown b m (cells (length bs))) → AreElsewhere one.spot bs → bound_to bs name ≡ Some (Variable IntShape spot) → position < length bs → AreShown frames bs (with_cell m spot (word_cell w)) (set_cell (cell position) w cells) → AreShown frames (b ∷ bs) (with_cell m spot (word_cell w)) (set_cell (cell position) w cells)
 later_written frames b bs name m cells position w spot one apart bound below others = (
   held_word b (with_cell m spot (word_cell w)) (cells (length bs)) (set_cell (cell position) w cells (length bs)) (sym (set_later position (length bs) w cells below))
       (other_written b m (cells (length bs)) spot (word_cell w) one (spot_turned one.spot spot ∙ elsewhere_bound one.spot spot bs name apart bound)),
@@ -123,19 +123,19 @@ later_written frames b bs name m cells position w spot one apart bound below oth
   others,
 )
 
-written_by : (is_this : Bool) (frames : List ℕ) (b : Binding) (bs : List Binding) (name : List ℕ) (m : Memory) (cells : Cells) (position w : ℕ) (spot : Spot) (one : IsHeld b m (cells (length bs))) → AreElsewhere one.spot bs → AreHeld frames bs m cells → (bound_to bs name ≡ Some (Variable IntShape spot) → position_of (names_of bs) name ≡ Some position → AreHeld frames bs (with_cell m spot (word_cell w)) (set_cell (cell position) w cells)) → (if is_this then Some b.entity else bound_to bs name) ≡ Some (Variable IntShape spot) → (if is_this then Some (length bs) else position_of (names_of bs) name) ≡ Some position → AreHeld frames (b ∷ bs) (with_cell m spot (word_cell w)) (set_cell (cell position) w cells)
+written_by : (is_this : Bool) (frames : List ℕ) (b : Binding) (bs : List Binding) (name : List ℕ) (m : Memory) (cells : Cells) (position w : ℕ) (spot : Spot) (one : IsShown b m (cells (length bs))) → AreElsewhere one.spot bs → AreShown frames bs m cells → (bound_to bs name ≡ Some (Variable IntShape spot) → position_of (names_of bs) name ≡ Some position → AreShown frames bs (with_cell m spot (word_cell w)) (set_cell (cell position) w cells)) → (if is_this then Some b.entity else bound_to bs name) ≡ Some (Variable IntShape spot) → (if is_this then Some (length bs) else position_of (names_of bs) name) ≡ Some position → AreShown frames (b ∷ bs) (with_cell m spot (word_cell w)) (set_cell (cell position) w cells)
 written_by true frames b bs name m cells position w spot one apart held others bound is =
     let here : length bs ≡ position = cc in
     let there : one.spot ≡ spot = same_place one.spot spot (sym one.is_variable ∙ some_entity b.entity (Variable IntShape spot) bound) in
-    subst (λ s. AreHeld frames (b ∷ bs) (with_cell m s (word_cell w)) (set_cell (cell position) w cells)) there
-    (subst (λ p. AreHeld frames (b ∷ bs) (with_cell m one.spot (word_cell w)) (set_cell (cell p) w cells)) here
+    subst (λ s. AreShown frames (b ∷ bs) (with_cell m s (word_cell w)) (set_cell (cell position) w cells)) there
+    (subst (λ p. AreShown frames (b ∷ bs) (with_cell m one.spot (word_cell w)) (set_cell (cell p) w cells)) here
     (first_written frames b bs m cells w one apart held))
 written_by false frames b bs name m cells position w spot one apart held others bound is =
     let found = found_local frames bs name m cells position held is in
     later_written frames b bs name m cells position w spot one apart bound found.below (others bound is)
 
 -- a word is written to the local that a name means, and to its cell
-pub written_held : (frames : List ℕ) (bs : List Binding) (name : List ℕ) (m : Memory) (cells : Cells) (position w : ℕ) (spot : Spot) → AreHeld frames bs m cells → bound_to bs name ≡ Some (Variable IntShape spot) → position_of (names_of bs) name ≡ Some position → AreHeld frames bs (with_cell m spot (word_cell w)) (set_cell (cell position) w cells)
+pub written_held : (frames : List ℕ) (bs : List Binding) (name : List ℕ) (m : Memory) (cells : Cells) (position w : ℕ) (spot : Spot) → AreShown frames bs m cells → bound_to bs name ≡ Some (Variable IntShape spot) → position_of (names_of bs) name ≡ Some position → AreShown frames bs (with_cell m spot (word_cell w)) (set_cell (cell position) w cells)
 written_held frames [] name m cells position w spot held bound is = absurd (cc)
 written_held frames (b ∷ bs) name m cells position w spot (one, apart, others) bound is =
     written_by (bytes_eq b.name name) frames b bs name m cells position w spot one apart others (λ h g. written_held frames bs name m cells position w spot others h g) bound

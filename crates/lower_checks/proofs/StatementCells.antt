@@ -8,8 +8,8 @@ use Rattle.cyc_core.specs.declared.operation.Operation.TheVariants.{Constant, Mo
 use Rattle.cyc_core.specs.Tree.{Statement, Do, If, Return, NoStatements, statements_of}
 use Rattle.cyc_core.specs.Cells.{IsLeastFor}
 use Rattle.region_types.specs.Faults.{is_plain_int, second_faults, expression_faults, links_faults, local_faults, declaration_faults, statement_faults, block_faults, program_faults}
-use Rattle.lower_checks.specs.Lowered.{cell, place_cell, truth_code, expression_code, links_code, all_code, any_code, declaration_code, statement_code, block_code, main_code, program_code}
-use Rattle.lower_checks.proofs.NoFaults.{some_fault, none_of, not_else}
+use Rattle.lower_checks.specs.Lowered.{cell, place_cell, truth_code, expression_code, links_code, all_code, any_code, declaration_code, statement_code, block_code, main_code, program_code, call_operation, arguments_code}
+use Rattle.region_types.proofs.NoFaults.{some_fault, none_of, not_else}
 use Rattle.lower_checks.proofs.ExpressionCells.{count, Fits, count_both, both_up_to, both_fit, expression_fits}
 use Rattle.lower_checks.proofs.MainAlone.{main_alone}
 
@@ -36,8 +36,7 @@ expression_does (Expression.Chain first others) scope d h =
 expression_does (Expression.AllOf first others) scope d h = ends_with_truth (expression_code scope first d ++ all_code scope others d) d
 expression_does (Expression.AnyOf first others) scope d h = ends_with_truth (expression_code scope first d ++ any_code scope others d) d
 expression_does (Expression.Assign place value) scope d h = ends_with (expression_code scope value d) (Do (Move (place_cell scope place) (cell d))) (omega arith)
-expression_does (Expression.Call name NoExpressions) scope d h = omega arith
-expression_does (Expression.Call name (MoreExpressions e es)) scope d h = ends_with (expression_code scope e d) (Do (Putchar (cell d) (cell d))) (omega arith)
+expression_does (Expression.Call name arguments) scope d h = ends_with (arguments_code scope arguments d) (Do (call_operation name.text d)) (omega arith)
 expression_does (Expression.Text at _) scope d h = absurd (some_fault _ [] h)
 expression_does (Expression.Null at) scope d h = absurd (some_fault _ [] h)
 expression_does (Expression.HeapRegion at) scope d h = absurd (some_fault _ [] h)

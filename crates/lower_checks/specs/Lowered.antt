@@ -1,6 +1,7 @@
 -- What a checked program is lowered to. The locals that are visible have the first cells, in the order of their declarations. An expression leaves its value in the
 -- cell that is given, and uses the cells above it, which are free again afterwards.
-use Rattle.std.specs.Prelude.{ℕ, ◌+◌, ◌%◌, List, [], ◌∷◌, ◌++◌, Option, Some, None, length}
+use Rattle.std.specs.Prelude.{ℕ, ◌+◌, ◌%◌, Bool, true, false, List, [], ◌∷◌, ◌++◌, Option, Some, None, length, codes}
+use Rattle.std.specs.Str.{bytes_eq}
 use Rattle.cyc_tree.specs.declared.expression.Operator.{Operator}
 use Rattle.cyc_tree.specs.declared.expression.Operator.TheVariants as operator
 use Rattle.cyc_tree.specs.declared.expression.Prefix.{Prefix}
@@ -9,6 +10,7 @@ use Rattle.cyc_tree.specs.Tree as tree
 use Rattle.cyc_tree.specs.Tree.{Expression, Expressions, NoExpressions, MoreExpressions, Links, NoLinks, MoreLinks, Declaration, BlockItems, NoItems, Declare, Execute, Item, Program, local_of}
 use Rattle.cyc_types.specs.Scope.{Locals, position_of}
 use Rattle.cyc_core.specs.declared.operation.Cell.{Cell}
+use Rattle.cyc_core.specs.declared.operation.Operation.{Operation}
 use Rattle.cyc_core.specs.declared.operation.Operation.TheVariants.{Constant, Move, Binary, Getchar, Putchar}
 use Rattle.cyc_core.specs.declared.operation.Binary.TheVariants as binary
 use Rattle.cyc_core.specs.declared.operation.Binary.{Binary as Operation_on_two}
@@ -36,7 +38,7 @@ binary_of operator.Multiply = binary.Multiply
 binary_of operator.Divide = binary.Divide
 binary_of operator.Remainder = binary.Remainder
 
--- a prefix operator is an operation on a word and its operand: `-e` is 0 - e, `!e` is 0 == e, and `~e` is all ones ^ e; the others are not brought yet
+-- a prefix operator is an operation on a word and its operand: `-e` is 0 - e, `!e` is 0 == e, and `~e` is all ones ^ e; the others are not supported yet
 abbrev pub prefix_word : Prefix → ℕ
 prefix_word prefix.Negate = 0
 prefix_word prefix.Not = 0
@@ -74,6 +76,14 @@ place_cell scope _ = cell 0
 abbrev pub truth_code : ℕ → List Statement
 truth_code d = Do (Constant (cell (d + 1)) 0) ∷ Do (Binary binary.NotEqual (cell d) (cell d) (cell (d + 1))) ∷ []
 
+-- what a function that every program has does, by its name: `getchar` leaves a word in a cell, and `putchar` writes the one that is there
+abbrev pub call_by : Bool → ℕ → Operation
+call_by true d = Getchar (cell d)
+call_by false d = Putchar (cell d) (cell d)
+
+abbrev pub call_operation : List ℕ → ℕ → Operation
+call_operation name d = call_by (bytes_eq name (codes "getchar")) d
+
 abbrev mutual
   pub expression_code : Locals → Expression → ℕ → List Statement
   expression_code scope (Expression.Number at value suffix) d = Do (Constant (cell d) value) ∷ []
@@ -85,7 +95,7 @@ abbrev mutual
   expression_code scope (Expression.AllOf first others) d = expression_code scope first d ++ all_code scope others d ++ truth_code d
   expression_code scope (Expression.AnyOf first others) d = expression_code scope first d ++ any_code scope others d ++ truth_code d
   expression_code scope (Expression.Assign place value) d = expression_code scope value d ++ (Do (Move (place_cell scope place) (cell d)) ∷ [])
-  expression_code scope (Expression.Call name arguments) d = arguments_code scope arguments d
+  expression_code scope (Expression.Call name arguments) d = arguments_code scope arguments d ++ (Do (call_operation name.text d) ∷ [])
   expression_code scope _ d = []
 
   -- each operand goes into the next cell, and the result into the chain's
@@ -106,10 +116,10 @@ abbrev mutual
   any_code scope (MoreExpressions first others) d =
       (If (cell d) NoStatements (statements_of (expression_code scope first d)) ∷ []) ++ any_code scope others d
 
-  -- `getchar` takes no argument, and `putchar` one
+  -- of the arguments of a call: no function that every program has takes more than one
   pub arguments_code : Locals → Expressions → ℕ → List Statement
-  arguments_code scope NoExpressions d = Do (Getchar (cell d)) ∷ []
-  arguments_code scope (MoreExpressions first others) d = expression_code scope first d ++ (Do (Putchar (cell d) (cell d)) ∷ [])
+  arguments_code scope NoExpressions d = []
+  arguments_code scope (MoreExpressions first others) d = expression_code scope first d
 
 -- a local takes the next cell, and begins as 0 or as its initializer's value
 abbrev pub declaration_code : Locals → Declaration → List Statement

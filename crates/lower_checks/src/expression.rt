@@ -2,7 +2,7 @@
 
 ghost use Rattle.std.specs.Prelude.{◌≡◌, ◌+◌, ◌++◌, OnOk, IfOk, map};
 ghost use Rattle.cyc_tree.specs.View.{expression_tree, expressions_of, link_tree, links_of, name_tree};
-ghost use Rattle.lower_checks.specs.Lowered.{binary_of, prefix_word, prefix_operation, prefixed_by, cell_of, place_cell, truth_code, expression_code, links_code, all_code, any_code, arguments_code};
+ghost use Rattle.lower_checks.specs.Lowered.{binary_of, prefix_word, prefix_operation, prefixed_by, cell_of, place_cell, truth_code, call_operation, expression_code, links_code, all_code, any_code, arguments_code};
 
 use cyc_core::{Binary, Body, Cell, Operation};
 use cyc_tree::{Expression, Link, Name, Operator, Prefix};
@@ -76,6 +76,17 @@ fn place_cell(scope: &Scope<'_>, place: &Expression) -> Cell
     }
 }
 
+/// What the function of a name that every program has does with the word in a cell.
+fn call_operation(name: &Name, cell: usize) -> Operation
+    ensures { result ≡ call_operation (name_tree name.now).text cell }
+{
+    if name.text.as_slice() == b"getchar".as_slice() {
+        Operation::Getchar(Cell(cell))
+    } else {
+        Operation::Putchar(Cell(cell), Cell(cell))
+    }
+}
+
 /// Appends what makes 1 of a word that isn't 0.
 fn lower_truth(body: &mut Body, cell: usize) -> Result<(), AllocError>
     ensures { OnOk result (body.new ≡ body.old ++ truth_code cell) }
@@ -127,7 +138,10 @@ pub fn lower_expression(
             lower_expression(alloc, body, scope, value, cell)?;
             body.push_operation(Operation::Move(place_cell(scope, place), to))
         }
-        Expression::Call(_, arguments) => lower_call(alloc, body, scope, arguments, cell),
+        Expression::Call(name, arguments) => {
+            lower_arguments(alloc, body, scope, arguments, cell)?;
+            body.push_operation(call_operation(name, cell))
+        }
         // no accepted program has another form as yet
         _ => Ok(()),
     }
@@ -211,9 +225,9 @@ fn lower_any(
     Ok(())
 }
 
-/// Appends what calls `getchar`, which takes no argument, or `putchar`, which takes one.
+/// Appends what leaves a call's argument in a cell, where there is one.
 #[cycle(expression)]
-fn lower_call(
+fn lower_arguments(
     alloc: Global,
     body: &mut Body,
     scope: &Scope<'_>,
@@ -222,12 +236,8 @@ fn lower_call(
 ) -> Result<(), AllocError>
     ensures { OnOk result (body.new ≡ body.old ++ arguments_code scope.now (expressions_of (map expression_tree arguments.now)) cell) }
 {
-    let to = Cell(cell);
     match arguments {
-        [] => body.push_operation(Operation::Getchar(to)),
-        [argument, ..] => {
-            lower_expression(alloc, body, scope, argument, cell)?;
-            body.push_operation(Operation::Putchar(to, to))
-        }
+        [] => Ok(()),
+        [argument, ..] => lower_expression(alloc, body, scope, argument, cell),
     }
 }

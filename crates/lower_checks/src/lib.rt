@@ -6,9 +6,7 @@
 #![tactic(auto)]
 
 mod expression;
-mod laws;
 mod program;
 mod statement;
 
-pub use laws::never_stuck;
 pub use program::lower;

@@ -34,7 +34,7 @@ fn lower_main(alloc: Global, function: &Function) -> Result<Core, AllocError>
 }
 
 /// Lowers the one function of a checked program.
-fn lower_program(alloc: Global, checked: &Checked<'_>) -> Result<Core, AllocError>
+fn lower_program(alloc: Global, checked: &Checked) -> Result<Core, AllocError>
     ensures accepted { IsAccepted checked.now }
     ensures code { IfOk result (λ core. core.main.body ≡ program_code checked.now) }
     ensures cells { IfOk result (λ core. AreUpTo core.main.last.0 core.main.body) }
@@ -50,7 +50,7 @@ fn lower_program(alloc: Global, checked: &Checked<'_>) -> Result<Core, AllocErro
 }
 
 /// The Core of a checked program. Fails only where no host memory is left.
-pub fn lower(alloc: Global, checked: &Checked<'_>) -> Result<Core, AllocError>
+pub fn lower(alloc: Global, checked: &Checked) -> Result<Core, AllocError>
     ensures code { IfOk result (λ core. core.main.body ≡ program_code checked.now) }
     // the function does what the program does, on each input and with each amount of fuel
     ensures meaning { IfOk result (λ core. DoesAsSource checked.now core.main.body) }

@@ -1,13 +1,15 @@
 -- What no fault means, of a program and of each form.
-use Rattle.std.proofs.Common.{◌≡◌, ℕ, ◌^◌, List, [], ◌∷◌, ◌++◌, Bool, true, false, ◌||◌, ◌&&◌, nat_eq, nat_lt, Option, Some, None, refl, ap, ◌∙◌, arith}
+use Rattle.std.proofs.Common.{◌≡◌, ℕ, ◌^◌, List, [], ◌∷◌, ◌++◌, Bool, true, false, ◌||◌, ◌&&◌, nat_eq, nat_lt, Option, Some, None, refl, sym, ap, ◌∙◌, arith, length}
 use Rattle.std.specs.Prelude.{is_some, codes, if◌then◌else◌}
 use Rattle.std.specs.Str.{bytes_eq}
 use Rattle.std.proofs.lemmas.Bool.Decides.{nat_tests}
 use Rattle.cyc_tree.specs.Tree as tree
 use Rattle.cyc_tree.specs.Tree.{Item, Expression, Expressions, NoExpressions, MoreExpressions}
+use Rattle.cyc_tree.specs.declared.item.Item as code_item
+use Rattle.cyc_tree.specs.View.{program_item_tree, program_tree}
 use Rattle.cyc_types.specs.Scope.{Locals, position_of}
 use Rattle.region_types.specs.declared.fault.Fault.{Fault}
-use Rattle.region_types.specs.Faults.{sooner_of, earliest, main_faults, defines_main, item_faults, items_faults, first_fault, named, mistyped, is_main, parameters_of, variable_faults, count_of, own_after, count_faults, called, call_faults, is_place, place_faults, no_items, is_int, is_plain_int}
+use Rattle.region_types.specs.Faults.{sooner_of, earliest, main_faults, defines_main, item_faults, items_faults, first_fault, named, mistyped, is_main, parameters_of, variable_faults, count_of, own_after, count_faults, called, call_faults, is_place, place_faults, no_items, is_int, is_plain_int, block_faults, form_faults, head_form, result_form, parameter_form, effect_form, bound_form, or_else}
 
 pub some_fault : (f : Fault) (fs : List Fault) → f ∷ fs ≡ [] → ⊥
 some_fault f fs h = cc
@@ -157,3 +159,45 @@ item_main (tree.StructItem s) h = cc
 item_main (tree.UnionItem u) h = cc
 item_main (tree.GlobalItem g) h = cc
 item_main (tree.FunctionItem f) h = (main_first (is_main f.name.text) f.result.at f h).0
+
+-- what `main` has without a fault
+pub record IsMainForm (f : tree.Function) : Type 0 where
+  pub result : is_plain_int f.result ≡ true
+  pub parameters : f.parameters ≡ []
+  pub body : block_faults [] 0 false f.body ≡ []
+
+no_form : (o : Option ℕ) → form_faults o ≡ [] → o ≡ None
+no_form None h = refl
+no_form (Some at) h = absurd (some_fault _ [] h)
+
+neither_form : (o other : Option ℕ) → or_else o other ≡ None → (o ≡ None) × (other ≡ None)
+neither_form None other h = (refl, h)
+neither_form (Some at) other h = absurd (cc)
+
+no_result_form : (b : Bool) (at : ℕ) → (if b then None else Some at) ≡ None → b ≡ true
+no_result_form true at h = refl
+no_result_form false at h = absurd (cc)
+
+no_parameter_form : (ps : List tree.Member) → parameter_form ps ≡ None → ps ≡ []
+no_parameter_form [] h = refl
+no_parameter_form (p ∷ ps) h = absurd (cc)
+
+pub main_form : (f : tree.Function) → main_faults f ≡ [] → IsMainForm f
+main_form f h =
+    let both = none_of (form_faults (head_form f)) (block_faults [] 0 false f.body) h in
+    let head = neither_form (result_form f.result) (or_else (parameter_form f.parameters) (or_else (effect_form f.effect) (bound_form f.bounds))) (no_form (head_form f) both.0) in
+    let rest = neither_form (parameter_form f.parameters) (or_else (effect_form f.effect) (bound_form f.bounds)) head.1 in
+    record { result = no_result_form (is_plain_int f.result) f.result.at head.0; parameters = no_parameter_form f.parameters rest.0; body = both.1 }
+
+-- an accepted program is one item
+pub one_item : (items : List code_item.Item) → first_fault (program_tree items) ≡ None → length items ≡ 1
+one_item [] h = absurd (let e = none_at_all (items_faults false []) h in cc)
+one_item (i ∷ []) h = refl
+one_item (i ∷ j ∷ others) h =
+    let first = program_item_tree i in
+    let rest = program_tree (j ∷ others) in
+    let all = none_at_all (items_faults false (first ∷ rest)) h in
+    let seen = item_main first (nothing_first (item_faults false first) (items_faults (false || defines_main first) rest) all) in
+    let after = nothing_after (item_faults false first) (items_faults (false || defines_main first) rest) all in
+    let none = none_after rest (ap (λ b. items_faults b rest) (sym seen) ∙ after) in
+    absurd (cc)

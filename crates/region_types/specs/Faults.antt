@@ -1,6 +1,6 @@
 -- The faults of a program: each phrase that breaks a rule of names or types, with the rule and the place.
--- Brought so far is `main` alone: locals of type `int`, all operators on integers, calls of `getchar` and `putchar`, and all statements but those on unions, unique
--- pointers and keys. A form that isn't brought is the fault Typing at its first token, and its parts aren't judged. A phrase with a part at fault isn't judged either.
+-- Supported so far is `main` alone: locals of type `int`, all operators on integers, calls of `getchar` and `putchar`, and all statements but those on unions, unique
+-- pointers and keys. A form that isn't supported is the fault Typing at its first token, and its parts aren't judged. A phrase with a part at fault isn't judged either.
 -- A local whose declaration is at fault is a local all the same. Its uses stand after that fault, so what they are judged to be leaves the first fault as it is.
 use Rattle.std.specs.Prelude.{ℕ, ◌+◌, ◌*◌, List, [], ◌∷◌, ◌++◌, Bool, true, false, ◌||◌, ◌&&◌, nat_eq, nat_le, nat_lt, length, if◌then◌else◌, Option, Some, None, is_some, codes}
 use Rattle.std.specs.Str.{bytes_eq}
@@ -8,7 +8,7 @@ use Rattle.cyc_tree.specs.declared.expression.Prefix.TheVariants.{Negate, Not, C
 use Rattle.cyc_tree.specs.Tree as tree
 use Rattle.cyc_tree.specs.Tree.{Expression, Expressions, NoExpressions, MoreExpressions, Links, NoLinks, MoreLinks, Statement, BlockItems, NoItems, Declare, Execute, Item, Program}
 use Rattle.cyc_tree.specs.Tree.{Declaration, Unset, Elements, Value, local_of}
-use Rattle.cyc_tree.specs.Places.{expression_place, end_of_text}
+use Rattle.cyc_tree.specs.Places.{expression_place, region_place, end_of_text}
 use Rattle.cyc_types.specs.Scope.{Locals, position_of}
 use Rattle.region_types.specs.declared.fault.Fault.{Fault}
 use Rattle.region_types.specs.declared.fault.FaultKind.{FaultKind}
@@ -182,7 +182,7 @@ is_plain_int t = is_int t.base && no_items t.pointers
 
 -- ---- declarations and statements
 
--- a local's initializer, in the scope before it; arrays aren't brought
+-- a local's initializer, in the scope before it; arrays aren't supported
 abbrev pub local_faults : Locals → ℕ → tree.Name → tree.Initializer → ℕ → List Fault
 local_faults scope outer name Unset at = second_faults scope outer name
 local_faults scope outer name (Elements count) at = mistyped at
@@ -229,18 +229,43 @@ abbrev mutual
 
 -- ---- items
 
--- an effect that isn't written
-abbrev pub no_effect : Option (List tree.RegionName) → Bool
-no_effect None = true
-no_effect (Some regions) = false
+-- The head of `main` is `int main()`. Another form in it isn't supported: a result's type other than `int`, a parameter, a region name of an effect (one
+-- without region names says nothing), a bound. Each stands at its first token.
+abbrev pub result_form : tree.TypeName → Option ℕ
+result_form of = (if is_plain_int of then None else Some of.at)
 
--- `int main()`: the type `int` alone, and no parameters, effect or bounds
-abbrev pub has_main_form : tree.Function → Bool
-has_main_form f = is_plain_int f.result && no_items f.parameters && no_effect f.effect && no_items f.bounds
+abbrev pub parameter_form : List tree.Member → Option ℕ
+parameter_form [] = None
+parameter_form (p ∷ others) = Some p.of.at
 
--- `main`: its form, at its name, and its body
+abbrev pub region_form : List tree.RegionName → Option ℕ
+region_form [] = None
+region_form (r ∷ others) = Some (region_place r)
+
+abbrev pub effect_form : Option (List tree.RegionName) → Option ℕ
+effect_form None = None
+effect_form (Some regions) = region_form regions
+
+abbrev pub bound_form : List tree.Bound → Option ℕ
+bound_form [] = None
+bound_form (b ∷ others) = Some (region_place b.longer)
+
+-- one place, or else another
+abbrev pub or_else : Option ℕ → Option ℕ → Option ℕ
+or_else (Some at) other = Some at
+or_else None other = other
+
+-- the first such form of a head
+abbrev pub head_form : tree.Function → Option ℕ
+head_form f = or_else (result_form f.result) (or_else (parameter_form f.parameters) (or_else (effect_form f.effect) (bound_form f.bounds)))
+
+abbrev pub form_faults : Option ℕ → List Fault
+form_faults None = []
+form_faults (Some at) = mistyped at
+
+-- `main`: its head, and its body
 abbrev pub main_faults : tree.Function → List Fault
-main_faults f = (if has_main_form f then block_faults [] 0 false f.body else mistyped f.name.at)
+main_faults f = form_faults (head_form f) ++ block_faults [] 0 false f.body
 
 -- a function of the name `main`
 abbrev pub defines_main : Item → Bool
@@ -249,7 +274,7 @@ defines_main (tree.UnionItem u) = false
 defines_main (tree.GlobalItem g) = false
 defines_main (tree.FunctionItem f) = is_main f.name.text
 
--- an item, where `main` was seen before or not: a second `main` is a second name, and another item isn't brought yet
+-- an item, where `main` was seen before or not: a second `main` is a second name, and another item isn't supported yet
 abbrev pub item_faults : Bool → Item → List Fault
 item_faults seen (tree.StructItem s) = mistyped s.at
 item_faults seen (tree.UnionItem u) = mistyped u.at

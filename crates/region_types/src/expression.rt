@@ -11,7 +11,7 @@ use cyc_types::Scope;
 /// The greatest number without suffix that is an `int`.
 const GREATEST_INT: u32 = 2147483647;
 
-/// A phrase of a wrong type or form, or of a form that isn't brought yet.
+/// A phrase of a wrong type or form, or of a form that isn't supported yet.
 pub fn mistyped(at: u32) -> Option<Fault>
     ensures { result ≡ earliest (mistyped at) }
 {

@@ -1,36 +1,83 @@
 // The faults of items.
 
 ghost use Rattle.std.specs.Prelude.{◌≡◌, map, false, IfOk};
-ghost use Rattle.cyc_tree.specs.View.{function_tree, program_item_tree};
-ghost use Rattle.region_types.specs.Faults.{has_main_form, earliest, main_faults, defines_main, item_faults, items_faults};
+ghost use Rattle.cyc_tree.specs.View.{bound_tree, effect_tree, function_tree, member_tree, program_item_tree, region_tree, type_tree};
+ghost use Rattle.region_types.specs.Faults.{result_form, parameter_form, region_form, effect_form, bound_form, head_form, earliest, main_faults, defines_main, item_faults, items_faults};
 
 use crate::expression::{is_main, mistyped, named};
 use crate::fault::{Fault, sooner};
 use crate::program::Typed;
 use crate::statement::{block_fault, is_plain_int};
-use cyc_tree::{END_OF_TEXT, Function, Item, Program};
+use cyc_tree::{Bound, END_OF_TEXT, Function, Item, Member, Program, RegionName, TypeName};
 use cyc_types::Scope;
 use std::alloc::{AllocError, Global};
 
-/// Whether a function has the form of `main`: `int`, with no parameters, effect or bounds.
-fn has_main_form(function: &Function) -> bool
-    ensures { result ≡ has_main_form (function_tree function.now) }
+/// The place of a result's type that isn't `int`.
+fn result_form(of: &TypeName) -> Option<u32>
+    ensures { result ≡ result_form (type_tree of.now) }
 {
-    is_plain_int(&function.result)
-        && function.parameters.is_empty()
-        && function.effect.is_none()
-        && function.bounds.is_empty()
+    if is_plain_int(of) { None } else { Some(of.at) }
+}
+
+/// The place of the first parameter.
+fn parameter_form(parameters: &[Member]) -> Option<u32>
+    ensures { result ≡ parameter_form (map member_tree parameters.now) }
+{
+    match parameters.first() {
+        Some(parameter) => Some(parameter.of.at),
+        None => None,
+    }
+}
+
+/// The place of the first of some region names.
+fn region_form(regions: &[RegionName]) -> Option<u32>
+    ensures { result ≡ region_form (map region_tree regions.now) }
+{
+    match regions.first() {
+        Some(region) => Some(region.place()),
+        None => None,
+    }
+}
+
+/// The place of the first region name of an effect.
+fn effect_form(effect: &Option<Vec<RegionName>>) -> Option<u32>
+    ensures { result ≡ effect_form (effect_tree effect.now) }
+{
+    match effect {
+        Some(regions) => region_form(regions),
+        None => None,
+    }
+}
+
+/// The place of the first bound.
+fn bound_form(bounds: &[Bound]) -> Option<u32>
+    ensures { result ≡ bound_form (map bound_tree bounds.now) }
+{
+    match bounds.first() {
+        Some(bound) => Some(bound.longer.place()),
+        None => None,
+    }
+}
+
+/// The place of the first form in the head of `main` that isn't supported.
+fn head_form(function: &Function) -> Option<u32>
+    ensures { result ≡ head_form (function_tree function.now) }
+{
+    result_form(&function.result)
+        .or(parameter_form(&function.parameters))
+        .or(effect_form(&function.effect))
+        .or(bound_form(&function.bounds))
 }
 
 /// The first fault of `main`.
 fn main_fault(alloc: Global, function: &Function) -> Result<Option<Fault>, AllocError>
     ensures { IfOk result (λ found. found ≡ earliest (main_faults (function_tree function.now))) }
 {
-    if has_main_form(function) {
-        let mut scope = Scope::new(alloc);
-        block_fault(&mut scope, false, &function.body)
-    } else {
-        Ok(mistyped(function.name.at))
+    let mut scope = Scope::new(alloc);
+    let body = block_fault(&mut scope, false, &function.body)?;
+    match head_form(function) {
+        Some(at) => Ok(sooner(mistyped(at), body)),
+        None => Ok(body),
     }
 }
 
@@ -80,9 +127,9 @@ fn items_fault(alloc: Global, items: &[Item]) -> Result<Option<Fault>, AllocErro
 }
 
 /// Looks at a program's names and types. Fails only where no host memory is left.
-pub fn typed<'p>(alloc: Global, program: &'p Program) -> Result<Typed<'p>, AllocError>
-    ensures { IfOk result (λ t. t ≡ program.entry.now) }
+pub fn typed(alloc: Global, program: &Program) -> Result<Typed, AllocError>
+    ensures { IfOk result (λ t. t ≡ program.now) }
 {
     let fault = items_fault(alloc, program.items())?;
-    Ok(Typed::new(program, fault))
+    Ok(Typed::new(program.clone()?, fault))
 }

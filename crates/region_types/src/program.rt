@@ -9,12 +9,12 @@ use std::marker::Model;
 
 /// A program, with its first fault of names and types. A contract sees it as the program.
 #[derive(Drop)]
-pub struct Typed<'p> {
-    program: &'p Program,
+pub struct Typed {
+    program: Program,
     fault: Option<Fault>,
 }
 
-impl<'p> Model for Typed<'p> {
+impl Model for Typed {
     ghost use Rattle.std.specs.Prelude.{◌≡◌};
     ghost use Rattle.cyc_tree.specs.Tree.{Program as Tree};
     ghost use Rattle.cyc_tree.specs.Stored.{coded_program};
@@ -24,23 +24,30 @@ impl<'p> Model for Typed<'p> {
 
     ghost coded = { coded_program };
 
-    ghost view = { λ t. t.program.now };
+    ghost view = { λ t. t.program };
 
-    ghost invariant = { λ t. t.fault ≡ first_fault t.program.now };
+    ghost invariant = { λ t. t.fault ≡ first_fault t.program };
 }
 
-impl<'p> Typed<'p> {
+impl Typed {
     /// A program whose first fault this is.
-    pub(crate) fn new(program: &'p Program, fault: Option<Fault>) -> Self
-        requires { fault ≡ first_fault program.now }
-        ensures { result ≡ program.entry.now }
+    pub(crate) fn new(program: Program, fault: Option<Fault>) -> Self
+        requires { fault ≡ first_fault program }
+        ensures { result ≡ program }
     {
         Typed { program, fault }
     }
 
     /// The program.
-    pub fn program(&self) -> &'p Program
+    pub fn program(&self) -> &Program
         ensures { result.now ≡ self.now }
+    {
+        &self.program
+    }
+
+    /// The program, without what was found out of it.
+    pub fn into_program(self) -> Program
+        ensures { result ≡ self }
     {
         self.program
     }

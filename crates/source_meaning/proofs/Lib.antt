@@ -13,5 +13,8 @@ pub mod CallSamples
 pub mod ConversionSamples
 pub mod BeginningSamples
 pub mod StuckSamples
+pub mod MoveSamples
 pub mod Cases
 pub mod PlainExpressions
+pub mod Quiet
+mod ShapeSamples

@@ -79,7 +79,7 @@ counted e = value_sense UnsignedShape (e.look >>= one >>= elements_left >>= λ n
 abbrev pub converted_all : World → List Shape → List Sense → Act (List (List Scalar))
 converted_all w [] [] = give []
 converted_all w (s ∷ ss) (e ∷ es) =
-    e.value >>= converted w s >>= λ vs. converted_all w ss es >>= λ vss. give (vs ∷ vss)
+    e.value >>= converted w s e.shape >>= λ vs. converted_all w ss es >>= λ vss. give (vs ∷ vss)
 converted_all w [] (e ∷ es) = stuck
 converted_all w (s ∷ ss) [] = stuck
 
@@ -135,7 +135,7 @@ abbrev pub union_made : World → List ℕ → List ℕ → Sense → Sense
 union_made w tag f e =
     let parts = parts_of w.unions tag in
     value_sense (UnionShape tag)
-    (e.value >>= converted w (part_shape parts f) >>= one >>= λ v. need (part_position parts f) >>= λ k. give (Tagged k v ∷ []))
+    (e.value >>= converted w (part_shape parts f) e.shape >>= one >>= λ v. need (part_position parts f) >>= λ k. give (Tagged k v ∷ []))
 
 -- `new` and `rnew`: the handle is evaluated, then the value, then memory is asked for, and then the value is stored
 abbrev pub made : World → Act Maker → Owner → Sense → Sense

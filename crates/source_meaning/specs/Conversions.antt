@@ -1,10 +1,10 @@
 -- Conversions: what a value becomes where it is stored, passed or returned.
-use Rattle.std.specs.Prelude.{ℕ, ◌*◌, ◌%◌, Bool, true, false, Option, Some, None, List, [], ◌∷◌, length, nat_lt, if◌then◌else◌}
+use Rattle.std.specs.Prelude.{ℕ, ◌*◌, ◌%◌, Bool, true, false, ◌&&◌, Option, Some, None, List, [], ◌∷◌, length, nat_lt, if◌then◌else◌}
 use Rattle.cyc_words.specs.declared.faults.Kind.TheVariants.{NullException, ArrayBounds}
-use Rattle.source_meaning.specs.Shapes.{Shape, IntShape, UnsignedShape, CharShape, ThinShape, FatShape}
+use Rattle.source_meaning.specs.Shapes.{Owner, Shared, Shape, IntShape, UnsignedShape, CharShape, ThinShape, FatShape, same_shape, goes_to, pointee}
 use Rattle.source_meaning.specs.Sizes.{cells_by, struct_cells, extent_by, struct_extent, union_extent}
 use Rattle.source_meaning.specs.Memory.{AsInt, AsUnsigned, AsChar, Spot, Span, Scalar, Integer, Thin, Wide, beyond}
-use Rattle.source_meaning.specs.Steps.{World, Act, give, ◌>>=◌, stuck, raise}
+use Rattle.source_meaning.specs.Steps.{World, Act, give, ◌>>=◌, ◌>>◌, stuck, raise, check}
 
 -- the scalar cells of a shape in a program
 abbrev pub cells_of : World → Shape → List Shape
@@ -36,21 +36,34 @@ abbrev pub thin_to_fat : Option Spot → Scalar
 thin_to_fat None = Wide None
 thin_to_fat (Some s) = Wide (Some (record { first = s; count = 1; index = 0 }))
 
--- between integers the low bits are kept; other types are equal
-abbrev pub converted_scalar : World → Shape → Scalar → Act Scalar
-converted_scalar w IntShape (Integer t x) = give (Integer AsInt x)
-converted_scalar w UnsignedShape (Integer t x) = give (Integer AsUnsigned x)
-converted_scalar w CharShape (Integer t x) = give (Integer AsChar (x % 256))
-converted_scalar w (ThinShape may_be_null owner to) (Thin p) = thin_to_thin may_be_null p
-converted_scalar w (ThinShape may_be_null owner to) (Wide p) = fat_to_thin may_be_null (length (cells_of w to)) p
-converted_scalar w (FatShape to) (Thin p) = give (thin_to_fat p)
-converted_scalar w (FatShape to) (Wide p) = give (Wide p)
-converted_scalar w s v = give v
+-- a pointer leads to what the place's shape says, as the shape of its own type does
+abbrev pub leads : Owner → Shape → Shape → Act (Unit {0})
+leads owner to from = check (goes_to owner from && same_shape to (pointee from))
+
+-- NULL leads nowhere
+abbrev pub thin_leads : Owner → Shape → Shape → Option Spot → Act (Unit {0})
+thin_leads owner to from None = give tt
+thin_leads owner to from (Some s) = leads owner to from
+
+abbrev pub fat_leads : Owner → Shape → Shape → Option Span → Act (Unit {0})
+fat_leads owner to from None = give tt
+fat_leads owner to from (Some s) = leads owner to from
+
+-- A value of the second shape becomes one of the first. Between integers the low bits are kept; other types are equal.
+abbrev pub converted_scalar : World → Shape → Shape → Scalar → Act Scalar
+converted_scalar w IntShape from (Integer t x) = give (Integer AsInt x)
+converted_scalar w UnsignedShape from (Integer t x) = give (Integer AsUnsigned x)
+converted_scalar w CharShape from (Integer t x) = give (Integer AsChar (x % 256))
+converted_scalar w (ThinShape may_be_null owner to) from (Thin p) = thin_leads owner to from p >> thin_to_thin may_be_null p
+converted_scalar w (ThinShape may_be_null owner to) from (Wide p) = fat_leads owner to from p >> fat_to_thin may_be_null (length (cells_of w to)) p
+converted_scalar w (FatShape to) from (Thin p) = thin_leads Shared to from p >> give (thin_to_fat p)
+converted_scalar w (FatShape to) from (Wide p) = fat_leads Shared to from p >> give (Wide p)
+converted_scalar w s from v = check (same_shape s from) >> give v
 
 -- a value of one cell is converted; a struct's cells are of equal types
-abbrev pub converted : World → Shape → List Scalar → Act (List Scalar)
-converted w s (v ∷ []) = converted_scalar w s v >>= λ c. give (c ∷ [])
-converted w s vs = give vs
+abbrev pub converted : World → Shape → Shape → List Scalar → Act (List Scalar)
+converted w s from (v ∷ []) = converted_scalar w s from v >>= λ c. give (c ∷ [])
+converted w s from vs = check (same_shape s from) >> give vs
 
 -- a value of one cell, where one is needed
 abbrev pub one : List Scalar → Act Scalar

@@ -1,7 +1,7 @@
 -- What an expression denotes, and the expressions that name places.
 use Rattle.std.specs.Prelude.{ℕ, false, Option, Some, None, List, [], ◌∷◌, length, nat_eq, bytes_eq, if◌then◌else◌}
 use Rattle.cyc_words.specs.Words.{sum_of}
-use Rattle.source_meaning.specs.Shapes.{Shared, Shape, VoidShape, ThinShape, FatShape, StructShape, ArrayShape, Part, parts_of, part_shape, pointee}
+use Rattle.source_meaning.specs.Shapes.{Shared, Alone, Shape, VoidShape, ThinShape, FatShape, KeyShape, StructShape, UnionShape, ArrayShape, Part, parts_of, part_shape, pointee}
 use Rattle.source_meaning.specs.Sizes.{cells_before}
 use Rattle.source_meaning.specs.Memory.{Spot, Scalar, Thin, Wide, beyond}
 use Rattle.source_meaning.specs.Steps.{Entity, Variable, Fixed, Binding, World, Scope, Act, give, ◌>>=◌, ◌>>◌, stuck}
@@ -105,8 +105,16 @@ member w e f =
 abbrev pub address_of : Sense → Sense
 address_of e = value_sense (ThinShape false Shared e.shape) (e.place >>= λ s. give (Thin (Some s) ∷ []))
 
--- an assignment: the value is evaluated and converted before its place is evaluated; what is stored is the value of the whole
+-- what an assignment gives: what is stored; a struct, a union, a unique pointer and a key give nothing
+abbrev pub given_by : Shape → List Scalar → List Scalar
+given_by (StructShape tag) vs = []
+given_by (UnionShape tag) vs = []
+given_by (ThinShape may_be_null Alone to) vs = []
+given_by KeyShape vs = []
+given_by s vs = vs
+
+-- an assignment: the value is evaluated and converted before its place is evaluated
 abbrev pub assigned : World → Sense → Sense → Sense
 assigned w to from =
     value_sense to.shape
-    (from.value >>= converted w to.shape >>= λ vs. to.place >>= λ s. write_cells s vs >> give vs)
+    (from.value >>= converted w to.shape from.shape >>= λ vs. to.place >>= λ s. write_cells s vs >> give (given_by to.shape vs))

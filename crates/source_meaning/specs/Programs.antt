@@ -1,11 +1,11 @@
 -- What a program does on an input, with n units of fuel.
-use Rattle.std.specs.Prelude.{ℕ, suc, ◌+◌, ◌%◌, ◌^◌, Bool, None, List, [], ◌∷◌, ◌++◌, map, length, slice_get, option_and_then, bytes_eq, codes, if◌then◌else◌}
+use Rattle.std.specs.Prelude.{ℕ, suc, ◌+◌, ◌%◌, ◌^◌, Bool, true, None, List, [], ◌∷◌, ◌++◌, map, length, slice_get, option_and_then, bytes_eq, codes, if◌then◌else◌}
 use Rattle.cyc_tree.specs.Tree as tree
 use Rattle.cyc_tree.specs.Tree.{Expression, Statement, Constant, Initial, Function, Item, Program, Structure}
 use Rattle.cyc_words.specs.Words.{difference_of}
 use Rattle.cyc_words.specs.Events.{Called, Returned, SourceEnding}
-use Rattle.source_meaning.specs.Shapes.{Shape, VoidShape, CharShape, ArrayShape, Layout, Part, part_of, written, settled}
-use Rattle.source_meaning.specs.Memory.{AsInt, AsChar, Born, Spot, Scalar, Integer, Thin, Holds, Cell, Object, object_of, Live, Dead, Memory, same_region, blank_object}
+use Rattle.source_meaning.specs.Shapes.{Shared, Shape, IntShape, UnsignedShape, VoidShape, CharShape, ThinShape, FatShape, ArrayShape, Layout, Part, part_of, written, settled}
+use Rattle.source_meaning.specs.Memory.{IntegerType, AsInt, AsUnsigned, AsChar, Born, Spot, Scalar, Integer, Thin, Holds, Cell, Object, object_of, Live, Dead, Memory, same_region, blank_object}
 use Rattle.source_meaning.specs.Steps.{Variable, Binding, Routine, World, Scope, Flow, Falls, Breaks, Continues, Returns, Step, Stops, Act, give, ◌>>=◌, ◌>>◌, stuck, need, say, Outcome, Bodies, run}
 use Rattle.source_meaning.specs.Conversions.{cells_of, converted, one, integer}
 use Rattle.source_meaning.specs.Values.{write_cells}
@@ -100,6 +100,19 @@ constant_value strings (Constant.Character at byte) = give (Integer AsChar (byte
 constant_value strings (Constant.Text at bytes) = need (string_at strings at)
 constant_value strings (Constant.Null at) = give (Thin None)
 
+abbrev pub integer_shape : IntegerType → Shape
+integer_shape AsInt = IntShape
+integer_shape AsUnsigned = UnsignedShape
+integer_shape AsChar = CharShape
+
+-- the shape of a constant
+abbrev pub constant_shape : Constant → Shape
+constant_shape (Constant.Number at value suffix) = integer_shape (number_type value suffix)
+constant_shape (Constant.Negative at value suffix) = integer_shape (number_type value suffix)
+constant_shape (Constant.Character at byte) = CharShape
+constant_shape (Constant.Text at bytes) = FatShape CharShape
+constant_shape (Constant.Null at) = ThinShape true Shared VoidShape
+
 -- a global's object, before its constant is stored
 abbrev pub global_object : World → Initial → Shape → Object
 global_object w Initial.Unset s = first_object w s
@@ -116,7 +129,7 @@ global_objects w (_ ∷ items) = global_objects w items
 abbrev pub global_stored : World → Initial → Shape → Spot → Act (Unit {0})
 global_stored w Initial.Unset s at = give tt
 global_stored w (Initial.Elements count) s at = give tt
-global_stored w (Initial.Given c) s at = constant_value w.strings c >>= λ v. converted w s (v ∷ []) >>= λ vs. write_cells at vs
+global_stored w (Initial.Given c) s at = constant_value w.strings c >>= λ v. converted w s (constant_shape c) (v ∷ []) >>= λ vs. write_cells at vs
 
 -- the constants of all globals; their objects are numbered from k on
 abbrev pub globals_stored : World → List Item → ℕ → Act (Unit {0})

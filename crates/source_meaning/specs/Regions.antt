@@ -38,7 +38,7 @@ local_with scope name s vs rest =
 -- a local with an initializer, whose value is converted to the local's type
 abbrev pub initialised : Scope → List ℕ → Shape → Sense → (Scope → Act Flow) → Act Flow
 initialised scope name s e rest =
-    e.value >>= converted scope.world s >>= λ vs. local_with scope name s vs rest
+    e.value >>= converted scope.world s e.shape >>= λ vs. local_with scope name s vs rest
 
 -- a local that is named as an operand
 pub record Operand : Type 0 where
@@ -125,5 +125,5 @@ local_freed scope name freed = operand scope name >>= λ x. read_cell x.at >>= �
 -- An alias is a copy of the pointer for the rest of the block, and the pointer is lent meanwhile. Where its type leaves a region out, the pointer's has it.
 abbrev pub aliased : Scope → Shape → List ℕ → List ℕ → (Scope → Act Flow) → Act Flow
 aliased scope s alias pointer rest =
-    operand scope pointer >>= λ x. read_cell x.at >>= λ v. converted_scalar scope.world (settled_by s x.shape) v >>= λ c.
+    operand scope pointer >>= λ x. read_cell x.at >>= λ v. converted_scalar scope.world (settled_by s x.shape) x.shape v >>= λ c.
     lending x.at v (local_with scope alias (settled_by s x.shape) (c ∷ []) rest)

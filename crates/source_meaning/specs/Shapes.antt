@@ -1,5 +1,5 @@
 -- What a type means at run time: a shape. A shape is a type without its region names, except that it says which pointers are unique.
-use Rattle.std.specs.Prelude.{ℕ, ◌+◌, Bool, true, false, Option, Some, None, List, [], ◌∷◌, bytes_eq, if◌then◌else◌, option_map}
+use Rattle.std.specs.Prelude.{ℕ, ◌+◌, Bool, true, false, ◌&&◌, nat_eq, Option, Some, None, List, [], ◌∷◌, bytes_eq, if◌then◌else◌, option_map}
 use Rattle.cyc_tree.specs.declared.name.Sign.{Sign}
 use Rattle.cyc_tree.specs.declared.name.Sign.TheVariants.{Nullable, NotNull, Fat}
 use Rattle.cyc_tree.specs.Tree as tree
@@ -131,3 +131,38 @@ abbrev pub pointee : Shape → Shape
 pointee (ThinShape may_be_null owner to) = to
 pointee (FatShape to) = to
 pointee s = VoidShape
+
+-- ---- equal shapes
+
+abbrev pub same_bool : Bool → Bool → Bool
+same_bool true b = b
+same_bool false true = false
+same_bool false false = true
+
+abbrev pub same_owner : Owner → Owner → Bool
+same_owner Shared Shared = true
+same_owner Alone Alone = true
+same_owner Unsaid Unsaid = true
+same_owner a b = false
+
+-- shapes are the same whole: what pointers lead to, and which union it is
+abbrev pub same_shape : Shape → Shape → Bool
+same_shape IntShape IntShape = true
+same_shape UnsignedShape UnsignedShape = true
+same_shape CharShape CharShape = true
+same_shape VoidShape VoidShape = true
+same_shape (ThinShape m o s) (ThinShape n q t) = same_bool m n && (same_owner o q && same_shape s t)
+same_shape (FatShape s) (FatShape t) = same_shape s t
+same_shape HandleShape HandleShape = true
+same_shape KeyShape KeyShape = true
+same_shape (StructShape a) (StructShape b) = bytes_eq a b
+same_shape (UnionShape a) (UnionShape b) = bytes_eq a b
+same_shape (ArrayShape j s) (ArrayShape k t) = nat_eq j k && same_shape s t
+same_shape s t = false
+
+-- whether a pointer of a shape may go where the owner is this: nothing becomes unique
+abbrev pub goes_to : Owner → Shape → Bool
+goes_to Alone (ThinShape may_be_null Alone to) = true
+goes_to Alone s = false
+goes_to Shared s = true
+goes_to Unsaid s = true

@@ -2,9 +2,9 @@
 use Rattle.std.specs.Prelude.{ℕ, Bool, false, Option, Some, None, List, [], ◌∷◌, map, nat_eq, if◌then◌else◌}
 use Rattle.cyc_tree.specs.Tree as tree
 use Rattle.cyc_tree.specs.Tree.{Expression, Initializer, Declaration, Statement, BlockItems, NoItems, Declare, Execute, Clauses, NoClauses, MoreClauses, Case, Default}
-use Rattle.source_meaning.specs.Shapes.{ArrayShape, UnionShape, Shape, Part, parts_of, part_position, part_shape, written, settled, settled_by}
+use Rattle.source_meaning.specs.Shapes.{ArrayShape, UnionShape, Shape, Part, parts_of, part_position, part_shape, written, settled, settled_by, same_shape}
 use Rattle.source_meaning.specs.Memory.{Scalar, Tagged, Object, object_of, array_of, first_cell}
-use Rattle.source_meaning.specs.Steps.{Scope, World, Flow, Falls, Breaks, Continues, Returns, Turns, Act, give, ◌>>=◌, ◌>>◌, stuck, need, choose}
+use Rattle.source_meaning.specs.Steps.{Scope, World, Flow, Falls, Breaks, Continues, Returns, Turns, Act, give, ◌>>=◌, ◌>>◌, stuck, need, choose, check}
 use Rattle.source_meaning.specs.Conversions.{cells_of, one, converted}
 use Rattle.source_meaning.specs.Values.{read_cells, write_cells}
 use Rattle.source_meaning.specs.Places.{Sense, or_else}
@@ -45,8 +45,8 @@ loop condition body scope =
 -- The left place goes first. Both cells are read and written when both places are known; none may be Lent, Gone or Blank.
 abbrev pub exchanged : Sense → Sense → Act (Unit {0})
 exchanged a b =
-    a.place >>= λ s. b.place >>= λ t. read_cells 1 s >>= λ vs. read_cells 1 t >>= λ us.
-    write_cells s us >> write_cells t vs
+    check (same_shape a.shape b.shape) >> (a.place >>= λ s. b.place >>= λ t. read_cells 1 s >>= λ vs. read_cells 1 t >>= λ us.
+    write_cells s us >> write_cells t vs)
 
 -- ---- declarations
 
@@ -118,7 +118,7 @@ abbrev mutual
   statement (Statement.Return at None) scope = give (Returns [])
   -- the result is converted before any region is left
   statement (Statement.Return at (Some e)) scope =
-      let a = sense e scope in a.value >>= converted scope.world scope.result >>= λ vs. give (Returns vs)
+      let a = sense e scope in a.value >>= converted scope.world scope.result a.shape >>= λ vs. give (Returns vs)
   statement (Statement.FreeUnique at pointer) scope = local_freed scope pointer.text pointer_freed >> give Falls
   statement (Statement.FreeKey at key) scope = local_freed scope key.text key_freed >> give Falls
 

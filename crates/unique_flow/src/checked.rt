@@ -1,6 +1,6 @@
 // A program that was checked.
 
-ghost use Rattle.std.specs.Prelude.{◌≡◌, IsOk, IfOk};
+ghost use Rattle.std.specs.Prelude.{◌≡◌, IfOk, IfErr};
 ghost use Rattle.unique_flow.specs.Accepted.{IsAccepted};
 
 use crate::fault::FlowFault;
@@ -11,11 +11,11 @@ use std::marker::Model;
 
 /// An accepted program. A contract sees it as the program.
 #[derive(Drop)]
-pub struct Checked<'p> {
-    program: &'p Program,
+pub struct Checked {
+    program: Program,
 }
 
-impl<'p> Model for Checked<'p> {
+impl Model for Checked {
     ghost use Rattle.cyc_tree.specs.Tree.{Program as Tree};
     ghost use Rattle.cyc_tree.specs.Stored.{coded_program};
     ghost use Rattle.unique_flow.specs.Accepted.{IsAccepted};
@@ -24,27 +24,29 @@ impl<'p> Model for Checked<'p> {
 
     ghost coded = { coded_program };
 
-    ghost view = { λ c. c.program.now };
+    ghost view = { λ c. c.program };
 
-    ghost invariant = { λ c. IsAccepted c.program.now };
+    ghost invariant = { λ c. IsAccepted c.program };
 }
 
-impl<'p> Checked<'p> {
+impl Checked {
     /// The program, which is accepted.
-    pub fn program(&self) -> &'p Program
+    pub fn program(&self) -> &Program
         ensures same { result.now ≡ self.now }
         ensures accepted { IsAccepted self.now }
     {
-        self.program
+        &self.program
     }
 }
 
 /// Looks at a program's flow. As yet each program that comes here is accepted, and no memory is taken.
-pub fn flow<'p>(_alloc: Global, effected: Effected<'p>) -> Result<Checked<'p>, FlowFault>
-    ensures answered { IsOk result }
-    ensures same { IfOk result (λ c. c ≡ effected.entry) }
+pub fn flow(_alloc: Global, effected: Effected) -> Result<Checked, FlowFault>
+    // the program is answered as it is
+    ensures same { IfOk result (λ c. c ≡ effected) }
+    // an accepted program is refused only for want of memory
+    ensures exact { IsAccepted effected → IfErr result (λ fault. fault ≡ FlowFault.Memory) }
 {
     Ok(Checked {
-        program: effected.program(),
+        program: effected.into_program(),
     })
 }

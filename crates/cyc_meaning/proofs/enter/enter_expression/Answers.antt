@@ -76,18 +76,18 @@ returns-in-Assign c =
     let known = c.args.locals.now in
     arrived_from c.evaluate-in-Assign.result _ _ _ ws _ _ known
     (ap (λ e. Evaluate (expression_tree e)) c.in-Assign.is ∙ ap Evaluate (assign_tree c.in-Assign.place c.in-Assign.value)
-    ∙ ap₂ (λ p v. Evaluate (Tree.Assign (expression_tree p) (expression_tree v))) (sym c.deref-in-Assign-2.ensures) (sym c.deref-in-Assign.ensures))
-    (assign_move (expression_tree c.deref-in-Assign-2.result.now) (expression_tree c.deref-in-Assign.result.now) ws known)
+    ∙ ap₂ (λ p v. Evaluate (Tree.Assign (expression_tree p) (expression_tree v))) (sym c.deref-in-Assign.ensures) (sym c.deref-value.ensures))
+    (assign_move (expression_tree c.deref-in-Assign.result.now) (expression_tree c.deref-value.result.now) ws known)
     c.evaluate-in-Assign.ensures
 
 pub returns-in-Call : goal.returns-in-Call
 returns-in-Call c =
     let ws = waits_of c.args.stack.now.items in
     let known = c.args.locals.now in
-    let name = name_tree c.in-Call.field-0 in
+    let name = name_tree c.in-Call.name in
     IfOk-weaker c.enter_call.result _ _
     (λ due move. task_same _ _ _ ws _ known known
-    (ap (λ e. Evaluate (expression_tree e)) c.in-Call.is ∙ ap Evaluate (call_tree c.in-Call.field-0 c.in-Call.arguments)
+    (ap (λ e. Evaluate (expression_tree e)) c.in-Call.is ∙ ap Evaluate (call_tree c.in-Call.name c.in-Call.arguments)
     ∙ ap (λ es. Evaluate (Tree.Call name (expressions_of (map expression_tree es)))) (sym c.deref-in-Call.ensures.value))
-    (move name known))
+    (move known))
     c.enter_call.ensures

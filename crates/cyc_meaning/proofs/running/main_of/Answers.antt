@@ -1,6 +1,6 @@
 use Rattle.std.proofs.Common.{ap, ◌∙◌, rules}
 use Rattle.region_types.specs.Faults.{first_fault}
-use Rattle.cyc_meaning.proofs.Mains.{one_item}
+use Rattle.region_types.proofs.NoFaults.{one_item}
 use Rattle.cyc_meaning.proofs.running.main_of.Goals as goal
 
 pub unreachable-requires : goal.unreachable-requires

@@ -1,4 +1,5 @@
 use Rattle.std.proofs.Common.{◌∷◌, ap, ◌∙◌}
+use Rattle.cyc_tree.specs.View.{expression_tree}
 use Rattle.cyc_meaning.specs.Numbers.{scalar_of}
 use Rattle.cyc_meaning.specs.Pendings.{Have, next_of, wait_of, waits_of}
 use Rattle.cyc_meaning.proofs.TakeMoves.{move_from, left_from, block_missed}
@@ -15,7 +16,7 @@ returns-in-Tests c =
 pub returns-in-Assign : goal.returns-in-Assign
 returns-in-Assign c =
     let others = waits_of c.next.new.stack.items in
-    move_from (Have (scalar_of c.args.value)) (next_of c.take_assigned.result) _ (waits_of c.args.stack.now.items) others c.args.locals.now c.take_assigned.new.locals (c.in-Some.ensures.some ∙ ap (λ p. wait_of p ∷ others) c.in-Assign.is) (c.take_assigned.ensures others)
+    move_from (Have (scalar_of c.args.value)) (next_of c.take_assigned.result) _ (waits_of c.args.stack.now.items) others c.args.locals.now c.take_assigned.new.locals (c.in-Some.ensures.some ∙ ap (λ p. wait_of p ∷ others) c.in-Assign.is) (c.take_assigned.ensures (expression_tree c.in-Assign.field-1.now) others)
 
 pub returns-in-Condition : goal.returns-in-Condition
 returns-in-Condition c =

@@ -6,7 +6,7 @@ use Rattle.cyc_core.specs.Tree.{Statement, statements_of}
 use Rattle.cyc_core.specs.Cells.{IsLeastFor, operations_of}
 use Rattle.cyc_core.specs.Orderly.{IsNeverStuck}
 use Rattle.lower_checks.specs.Agreeing.{DoesAsSource}
-use Rattle.lower_checks.proofs.Shape.{none_at_all}
+use Rattle.region_types.proofs.NoFaults.{none_at_all}
 use Rattle.lower_checks.proofs.SameProgram.{outcomes_same}
 use Rattle.lower_checks.proofs.InOrder.{code_in_order}
 use Rattle.lower_checks.proofs.StatementCells.{program_has_few}

@@ -1,6 +1,6 @@
 use Rattle.std.proofs.Common.{ap, ◌∙◌, rules}
 use Rattle.region_types.specs.Faults.{first_fault}
-use Rattle.lower_checks.proofs.Shape.{one_item}
+use Rattle.region_types.proofs.NoFaults.{one_item}
 use Rattle.lower_checks.proofs.program.lower_program.Goals as goal
 
 pub unreachable-requires : goal.unreachable-requires

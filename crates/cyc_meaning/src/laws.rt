@@ -7,7 +7,7 @@ ghost use Rattle.source_meaning.specs.Programs.{source};
 use unique_flow::Checked;
 
 /// No run of a checked program is out of order, on any input and with any amount of fuel. The call does nothing.
-pub fn never_stuck(checked: &Checked<'_>)
+pub fn never_stuck(checked: &Checked)
     ensures { (input : List ℕ) (n : ℕ) → (source checked.now input n).ending ≢ SourceEnding.Stuck }
 {
     // a checked program is an accepted one

@@ -11,7 +11,7 @@ names_of [] = []
 names_of (b ∷ bs) = names_of bs ++ b.name ∷ []
 
 -- a local is a cell of a frame that was begun, and holds this word
-pub record IsHeld (b : Binding) (m : Memory) (word : ℕ) : Type 0 where
+pub record IsShown (b : Binding) (m : Memory) (word : ℕ) : Type 0 where
   pub spot : Spot
   pub frame : ℕ
   pub is_variable : b.entity ≡ Variable IntShape spot
@@ -26,9 +26,9 @@ AreElsewhere s [] = Unit {0}
 AreElsewhere s (b ∷ bs) = ((t : Spot) → b.entity ≡ Variable IntShape t → same_spot t s ≡ false) × AreElsewhere s bs
 
 -- each local holds its word, and no two are at one spot
-abbrev pub AreHeld : List Binding → Memory → (ℕ → ℕ) → Type 0
-AreHeld [] m words = Unit {0}
-AreHeld (b ∷ bs) m words = (one : IsHeld b m (words (length bs))) × AreElsewhere one.spot bs × AreHeld bs m words
+abbrev pub AreShown : List Binding → Memory → (ℕ → ℕ) → Type 0
+AreShown [] m words = Unit {0}
+AreShown (b ∷ bs) m words = (one : IsShown b m (words (length bs))) × AreElsewhere one.spot bs × AreShown bs m words
 
 -- a local that is in a frame of a lower number
 pub record IsBelow (n : ℕ) (b : Binding) : Type 0 where

@@ -5,6 +5,7 @@ use Rattle.cyc_image.specs.Format.{code_limit}
 use Rattle.cyc_lexer.specs.Lexing.{Token, AreTokens}
 use Rattle.cyc_lexer.proofs.TextSteps.{same_tokens, tokens_or_fault, refused_within}
 use Rattle.cyc_tree.specs.Tree.{Program}
+use Rattle.cyc_tree.proofs.DeepestPhrases.{none_too_deep}
 use Rattle.cyc_parser.specs.Grammar.{IsProgram}
 use Rattle.cyc_parser.specs.Refusals.{IsUnexpectedFirst, IsTooDeepAt, GoNoFurther}
 use Rattle.cyc_parser.proofs.WholePrograms.{one_program}
@@ -39,9 +40,9 @@ unexpected text p place spelled none =
 pub too_deep : (text : List ℕ) (p : Program) (place : Place) → IsTextOf text p → AreNoProgram text IsTooDeepAt place → ⊥
 too_deep text p place spelled none =
     let d = none.refused in
-    let over = d.deep p d.others (subst (IsProgram p) d.parts (spells text p none.tokens spelled none.lexed)) in
-    let within = spelled.nested in
-    omega (arith, over, within)
+    let over = d.first p d.others (subst (IsProgram p) d.parts (spells text p none.tokens spelled none.lexed)) in
+    let none_deep = none_too_deep p spelled.nested in
+    cc
 
 pub broken : (text : List ℕ) (p : Program) (k : FaultKind) (place : Place) → IsAcceptedAs text p → IsBroken text k place → ⊥
 broken text p k place accepted breaks =

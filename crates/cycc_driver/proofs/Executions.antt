@@ -5,7 +5,8 @@ use Rattle.std.proofs.lemmas.List.{take-append-drop}
 use Rattle.std.proofs.lemmas.Bool.{cases_lt}
 use Rattle.std.specs.Io.KnownBytes.{Appends}
 use Rattle.cyc_words.specs.Words.{word}
-use Rattle.cyc_words.specs.Events.{Event, ByteRead, ByteWritten, RegionNew, RegionAlloc, RegionFree, UniqueAlloc, UniqueFree, KeyNew, KeyOpen, KeyClose, KeyFree, SourceEnding, output, visible}
+use Rattle.cyc_words.specs.Events.{Event, ByteRead, SourceEnding, output, visible}
+use Rattle.cyc_words.proofs.Events.{output_append}
 use Rattle.cyc_tree.specs.Tree.{Program}
 use Rattle.source_meaning.specs.Programs.{source}
 use Rattle.rv32_machine.specs.Arrays.{Arrays, IsStart, lengths_of, state_of}
@@ -14,25 +15,11 @@ use Rattle.rv32_machine.specs.Run.{Run, run_steps, from}
 use Rattle.rv32_machine.specs.Implements.{IsBeginning, AgreesIn}
 use Rattle.cyc_host.specs.declared.ending.Ending.{Ending}
 use Rattle.cyc_host.specs.declared.ending.Ending.TheVariants as ending
-use Rattle.cyc_host.specs.Hosted.{Written, EndsAs, IsHostedToTheEnd}
+use Rattle.cyc_host.specs.Hosted.{Written, EndsAs, IsHosted}
 use Rattle.cycc_driver.specs.Outcome.{WritesBeginning, WritesAll, EndsAsProgram, IsTextImage, IsTextRun}
 use Rattle.cycc_driver.proofs.Longer.{same_state, runs_before}
 
 -- ---- output
-
-output-append : (first more : List Event) → output (first ++ more) ≡ output first ++ output more
-output-append [] more = refl
-output-append (ByteWritten b ∷ es) more = ap (λ l. b ∷ l) (output-append es more)
-output-append (ByteRead b ∷ es) more = output-append es more
-output-append (RegionNew r ∷ es) more = output-append es more
-output-append (RegionAlloc r n ∷ es) more = output-append es more
-output-append (RegionFree r ∷ es) more = output-append es more
-output-append (UniqueAlloc b n ∷ es) more = output-append es more
-output-append (UniqueFree b ∷ es) more = output-append es more
-output-append (KeyNew k ∷ es) more = output-append es more
-output-append (KeyOpen k ∷ es) more = output-append es more
-output-append (KeyClose k ∷ es) more = output-append es more
-output-append (KeyFree k ∷ es) more = output-append es more
 
 -- what a run has shown is the beginning of what is meant
 shown_begins : (mode : Mode) (shown meant : List Event) (e : SourceEnding) → AgreesIn mode shown meant e → IsBeginning shown meant
@@ -62,7 +49,7 @@ module _ (program : Program) (input : List ℕ) (r : Run) (fuel : ℕ) (old new 
         fuel = fuel;
         bytes = bytes;
         others = others ++ output begins.0;
-        begins = ap output begins.1 ∙ output-append r.events begins.0 ∙ ap (λ l. l ++ output begins.0) parts ∙ append_assoc bytes others (output begins.0);
+        begins = ap output begins.1 ∙ output_append r.events begins.0 ∙ ap (λ l. l ++ output begins.0) parts ∙ append_assoc bytes others (output begins.0);
         written = written;
       }
 
@@ -95,30 +82,31 @@ runs_on n s input steps count end starts at goes_on =
 -- a run of the image of a text, from its start on
 pub text_run : (text bytes : List ℕ) (pages steps : ℕ) (why : Ending) (made : IsTextImage text pages bytes) (start : Arrays) → IsStart made.parts start → (end : State)
     → {reader_old reader_new writer_old writer_new : Option (List ℕ)}
-    → IsHostedToTheEnd why (lengths_of start) steps (state_of start) end reader_old reader_new writer_old writer_new → (why ≡ ending.StepLimit → 0 < steps → end.mode ≡ Runs)
+    → IsHosted why (lengths_of start) steps (state_of start) end reader_old reader_new writer_old writer_new → (why ≡ ending.StepLimit → 0 < steps → end.mode ≡ Runs)
     → IsTextRun text pages steps why reader_old reader_new writer_old writer_new
 text_run text bytes pages steps why made start starts end {reader_old} {reader_new} {writer_old} {writer_new} hosted goes_on =
     let n = lengths_of start in
     let s = state_of start in
-    let h = hosted.hosted in
+    let h = hosted in
     let does = made.implemented start starts h.input h.bytes in
     let agrees = does.each_run h.count in
     record {
       program = made.program;
       accepted = made.accepted;
       parts = made.parts;
-      made = made.made;
+      as_asked = made.as_asked;
       implemented = made.implemented;
       start = start;
       starts = starts;
       end = end;
       hosted = hosted;
       ends = ends made.program h.input (run_steps n h.count (from s h.input)) agrees.0 writer_old writer_new why n steps h.count end agrees.1 h.ends h.written;
-      limit = λ at_limit more none fuel count over reached.
+      limit = λ more none fuel count over reached within at_limit.
           let at : EndsAs ending.StepLimit n steps h.count (run_steps n h.count (from s h.input)).state end = subst (λ (w : Ending). EndsAs w n steps h.count (run_steps n h.count (from s h.input)).state end) at_limit h.ends in
           let same = same_state n h.count s h.input more none in
-          runs_before n count steps (from s (h.input ++ more)) (source made.program (h.input ++ more) fuel).ending
+          let later : steps < count = runs_before n count steps (from s (h.input ++ more)) (source made.program (h.input ++ more) fuel).ending
           (visible (source made.program (h.input ++ more) fuel).events) over reached.1
           (ap (λ k. (run_steps n k (from s (h.input ++ more))).state.mode) (sym at.1) ∙ ap (λ (x : State). x.mode) same
-          ∙ runs_on n s h.input steps h.count end starts.runs at (goes_on at_limit));
+          ∙ runs_on n s h.input steps h.count end starts.runs at (goes_on at_limit)) in
+          omega (arith, later, within);
     }

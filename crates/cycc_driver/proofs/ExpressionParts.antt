@@ -3,13 +3,13 @@ use Rattle.std.proofs.Common.{◌≡◌, ℕ, ◌+◌, ◌*◌, ◌≤◌, List,
 use Rattle.cyc_lexer.specs.declared.token.Sign.{Sign}
 use Rattle.cyc_tree.specs.Tree.{Expression, Expressions, NoExpressions, MoreExpressions, Links, NoLinks, MoreLinks, Suffixes, NoSuffixes, Index, Dot, Arrow, Made, One, Array}
 use Rattle.cyc_core.specs.declared.operation.Operation.{Operation}
-use Rattle.cyc_core.specs.declared.operation.Operation.TheVariants.{Move, Binary, Putchar}
+use Rattle.cyc_core.specs.declared.operation.Operation.TheVariants.{Move, Binary}
 use Rattle.cyc_core.specs.Tree.{Statement, Do, statements_of}
 use Rattle.cyc_core.specs.Cells.{parts_of}
 use Rattle.cyc_types.specs.Scope.{Locals}
 use Rattle.cyc_parser.specs.Phrases.{Tokens, InParentheses}
 use Rattle.cyc_parser.specs.ExpressionGrammar.{level_of, IsExpression, AreArguments, AreOperands, AreLinks, AreSuffixes, IsMade}
-use Rattle.lower_checks.specs.Lowered.{cell, binary_of, prefix_operation, place_cell, truth_code, expression_code, links_code, all_code, any_code, arguments_code}
+use Rattle.lower_checks.specs.Lowered.{cell, binary_of, prefix_operation, place_cell, truth_code, expression_code, links_code, all_code, any_code, call_operation, arguments_code}
 use Rattle.cycc_driver.proofs.Shorter.{one_taken, keyword_taken, sign_taken, name_taken, string_taken, none_taken}
 
 -- how many parts code has
@@ -53,7 +53,13 @@ mutual
   expression_parts (Expression.UniqueRegion at) scope d from to is = omega (arith, one_taken is)
   expression_parts (Expression.Variable name) scope d from to is = omega (arith, name_taken is)
   expression_parts (Expression.Call name arguments) scope d from to (a, b, called, opened, are) =
-      omega (arith, name_taken called, sign_taken opened, arguments_parts arguments scope d b to are)
+      omega (
+        arith,
+        name_taken called,
+        sign_taken opened,
+        arguments_parts arguments scope d b to are,
+        parts_both (arguments_code scope arguments d) (Do (call_operation name.text d) ∷ []),
+      )
   expression_parts (Expression.MakeUnion tag member value) scope d from to (a, b, c, made, dot, named, is) =
       omega (
         arith,
@@ -130,7 +136,6 @@ mutual
         expression_parts first scope d from a is,
         operands_shorter others _ _ a b are,
         sign_taken closed,
-        parts_both (expression_code scope first d) (Do (Putchar (cell d) (cell d)) ∷ []),
       )
 
   -- operands that have no code

@@ -11,14 +11,13 @@ use Rattle.lower_checks.specs.Agreeing.{DoesAsSource}
 use Rattle.rv32_select.specs.declared.labelled.Line.{Line}
 use Rattle.rv32_select.specs.Lines.{code_length, place_of}
 use Rattle.rv32_select.specs.Running.{HasRoom, DoesAsCore, core_meaning}
-use Rattle.rv32_layout.specs.Placed.{code_limit}
+use Rattle.cyc_image.specs.Format.{code_limit}
 use Rattle.rv32_layout.specs.Holding.{BeginsWith}
 use Rattle.rv32_machine.specs.Arrays.{lengths_of, state_of}
 use Rattle.rv32_machine.specs.State.{State, Lengths}
 use Rattle.rv32_machine.specs.Run.{run_steps, from}
 use Rattle.rv32_machine.specs.Implements.{Meaning, IsBeginning, AgreesIn, EndsWith, Implements}
-use Rattle.unique_flow.specs.Accepted.{IsAccepted}
-use Rattle.cycc_driver.specs.Texts.{IsTextOf}
+use Rattle.cycc_driver.specs.Texts.{IsAcceptedAs}
 use Rattle.cycc_driver.specs.Outcome.{source_meaning, IsImplementedBy, IsTextImage}
 
 -- ---- meanings that are the same
@@ -69,13 +68,13 @@ implemented program last body lines bytes parts layers code entry fits start sta
     (λ fuel. sym ((layers.as_source (λ _. 0) input fuel).events)) (λ fuel. sym ((layers.as_source (λ _. 0) input fuel).ending)) does
 
 -- the image of an accepted text
-pub text_image : (text bytes code : List ℕ) (program : Program) (parts : Contents) (pages : ℕ) → IsTextOf text program → IsAccepted program → IsImage bytes parts → parts.code ≡ code
-    → parts.entry ≡ 0 → parts.statics ≡ [] → parts.pages ≡ pages → ((p : Contents) → p.code ≡ code → p.entry ≡ 0 → Fits p → IsImplementedBy program p) → IsTextImage text pages bytes
-text_image text bytes code program parts pages spelled accepted image is_code from_first no_data as_asked does = record {
+pub text_image : (text bytes code : List ℕ) (program : Program) (parts : Contents) (pages : ℕ) → IsAcceptedAs text program → IsImage bytes parts → parts.code ≡ code
+    → parts.entry ≡ 0 → parts.pages ≡ pages → ((p : Contents) → p.code ≡ code → p.entry ≡ 0 → Fits p → IsImplementedBy program p) → IsTextImage text pages bytes
+text_image text bytes code program parts pages accepted image is_code from_first as_asked does = record {
   program = program;
-  accepted = record { spelled = spelled; accepted = accepted };
+  accepted = accepted;
   parts = parts;
   image = image;
-  made = record { from_first = from_first; no_data = no_data; as_asked = as_asked };
+  as_asked = as_asked;
   implemented = does parts is_code from_first image.fits;
 }

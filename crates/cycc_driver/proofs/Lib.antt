@@ -1,4 +1,3 @@
-pub mod Beginnings
 pub mod Longer
 pub mod Implementing
 pub mod Breaking

@@ -8,7 +8,7 @@ use Rattle.rv32_machine.specs.State.{State, Lengths, Stop, Runs, Over}
 use Rattle.rv32_machine.specs.Step.{Shown, Nothing, Writes, Asks, Stops, step}
 use Rattle.rv32_machine.specs.Run.{Run, answer_from, after_step, run_step, run_steps, from}
 use Rattle.rv32_machine.specs.Implements.{EndsWith}
-use Rattle.rv32_select.proofs.LongerRuns.{steps-add, over_steps, steps_show}
+use Rattle.rv32_machine.proofs.LongerRuns.{run_more, over_steps, steps_show}
 use Rattle.cycc_driver.specs.Outcome.{IsOver}
 
 -- ---- more input
@@ -70,6 +70,6 @@ runs_before n count steps r e meant over ends runs = ⊎_elim (λ less. less) (�
     still : count ≤ steps → ⊥
     still within =
         let o = ended_is_over e meant (run_steps n count r) over ends in
-        let later = ap (λ k. run_steps n k r) (sym (add-sub_of_le within)) ∙ steps-add n count (steps - count) r ∙ over_steps n (steps - count) (run_steps n count r) o.0 o.1 in
+        let later = ap (λ k. run_steps n k r) (sym (add-sub_of_le within)) ∙ run_more n count (steps - count) r ∙ over_steps n (steps - count) (run_steps n count r) o.0 o.1 in
         let same : Runs ≡ Over o.0 = sym runs ∙ ap (λ (x : Run). x.state.mode) later ∙ o.1 in
         absurd (cc)

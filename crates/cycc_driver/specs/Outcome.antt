@@ -1,5 +1,5 @@
 -- What a compiled text is, and what its run is.
-use Rattle.std.specs.Prelude.{◌≡◌, ℕ, ◌<◌, ◌≤◌, ◌%◌, List, [], ◌++◌, length, Option, None, Contains}
+use Rattle.std.specs.Prelude.{◌≡◌, ◌≢◌, ℕ, ◌<◌, ◌≤◌, ◌%◌, List, [], ◌++◌, length, Option, None, Contains}
 use Rattle.std.specs.Io.KnownBytes.{Appends}
 use Rattle.cyc_words.specs.Words.{word}
 use Rattle.cyc_words.specs.Events.{ByteRead, SourceEnding, output, visible}
@@ -12,7 +12,7 @@ use Rattle.rv32_machine.specs.Run.{AreBytes, run_steps, from}
 use Rattle.rv32_machine.specs.Implements.{Meaning, Implements, Reaches}
 use Rattle.cyc_host.specs.declared.ending.Ending.{Ending}
 use Rattle.cyc_host.specs.declared.ending.Ending.TheVariants as ending
-use Rattle.cyc_host.specs.Hosted.{IsHostedToTheEnd}
+use Rattle.cyc_host.specs.Hosted.{IsHosted}
 use Rattle.cycc_driver.specs.Texts.{IsAcceptedAs}
 
 -- ---- images
@@ -26,19 +26,13 @@ abbrev pub IsImplementedBy : Program → Contents → Type 0
 IsImplementedBy program parts =
     (start : Arrays) → IsStart parts start → (input : List ℕ) → AreBytes input → Implements (lengths_of start) (state_of start) input (source_meaning program input)
 
--- Parts of an image that begins at its first instruction, has no data, since no form is brought yet that needs data, and has so many pages.
-pub record AreAsAsked (pages : ℕ) (parts : Contents) : Type 0 where
-  pub from_first : parts.entry ≡ 0
-  pub no_data : parts.statics ≡ []
-  pub as_asked : parts.pages ≡ pages
-
 -- The image of an accepted text, with so many pages: it implements the program that the text spells.
 pub record IsTextImage (text : List ℕ) (pages : ℕ) (bytes : List ℕ) : Type 0 where
   pub program : Program
   pub accepted : IsAcceptedAs text program
   pub parts : Contents
   pub image : IsImage bytes parts
-  pub made : AreAsAsked pages parts
+  pub as_asked : parts.pages ≡ pages
   pub implemented : IsImplementedBy program parts
 
 -- what `compile` puts into an image as its code: whole words, some, and no more than the limit
@@ -86,16 +80,17 @@ pub record IsTextRun (text : List ℕ) (pages steps : ℕ) (why : Ending) (reade
   pub program : Program
   pub accepted : IsAcceptedAs text program
   pub parts : Contents
-  pub made : AreAsAsked pages parts
+  pub as_asked : parts.pages ≡ pages
   pub implemented : IsImplementedBy program parts
   pub start : Arrays
   pub starts : IsStart parts start
   pub end : State
-  pub hosted : IsHostedToTheEnd why (lengths_of start) steps (state_of start) end reader_old reader_new writer_old writer_new
+  pub hosted : IsHosted why (lengths_of start) steps (state_of start) end reader_old reader_new writer_old writer_new
   -- what is written, on the bytes that the reader gave, is the program's, and the ending is its
-  pub ends : EndsAsProgram why program hosted.hosted.input writer_old writer_new
-  -- The step limit ends it only where more steps were needed: on each input that begins with what was read, and is that where its end was told, the image comes to
-  -- the program's end by no number of steps up to the limit.
-  pub limit : why ≡ ending.StepLimit → (more : List ℕ) → (Contains (run_steps (lengths_of start) hosted.hosted.count (from (state_of start) hosted.hosted.input)).events (ByteRead None) → more ≡ [])
-      → (fuel count : ℕ) → IsOver (source program (hosted.hosted.input ++ more) fuel).ending
-      → Reaches (run_steps (lengths_of start) count (from (state_of start) (hosted.hosted.input ++ more))) (source_meaning program (hosted.hosted.input ++ more)) fuel → steps < count
+  pub ends : EndsAsProgram why program hosted.input writer_old writer_new
+  -- The step limit isn't what ended it where enough steps were given: where, on some input that begins with what was read, and is that where its end was told, the
+  -- image comes to the program's end by a number of steps up to the limit.
+  pub limit : (more : List ℕ) → (Contains (run_steps (lengths_of start) hosted.count (from (state_of start) hosted.input)).events (ByteRead None) → more ≡ [])
+      → (fuel count : ℕ) → IsOver (source program (hosted.input ++ more) fuel).ending
+      → Reaches (run_steps (lengths_of start) count (from (state_of start) (hosted.input ++ more))) (source_meaning program (hosted.input ++ more)) fuel
+      → count ≤ steps → why ≢ ending.StepLimit

@@ -42,7 +42,7 @@ pub record IsBroken (text : List ℕ) (k : FaultKind) (place : Place) : Type 0 w
   pub first : first_fault program ≡ Some (record { kind = k; at = at })
   pub there : IsPlaceOf text at place
 
--- Why a text is refused before its code is made. No rule of flow is brought yet.
+-- Why a text is refused before its code is made. No rule of flow is supported yet.
 abbrev pub IsRefusedFor : CompileFault → List ℕ → Type 0
 IsRefusedFor (fault.Lex place) text = IsNoTokens text place
 IsRefusedFor (fault.Parse place) text = AreNoProgram text IsUnexpectedFirst place

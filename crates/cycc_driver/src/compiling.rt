@@ -23,7 +23,7 @@ use std::alloc::Global;
 use unique_flow::{Checked, flow};
 
 /// The program that a text spells.
-pub(crate) fn parsed(alloc: Global, text: &[u8]) -> Result<Program, CompileFault>
+fn parsed(alloc: Global, text: &[u8]) -> Result<Program, CompileFault>
     ensures found { IfOk result (λ program. IsTextOf text.now program) }
     ensures refused { IfErr result (λ fault. IsRefusedFor fault text.now) }
 {
@@ -37,15 +37,11 @@ pub(crate) fn parsed(alloc: Global, text: &[u8]) -> Result<Program, CompileFault
     }
 }
 
-/// The program of a text, where it is accepted.
-pub(crate) fn checked<'p>(
-    alloc: Global,
-    text: &[u8],
-    program: &'p Program,
-) -> Result<Checked<'p>, CompileFault>
-    ensures same { IfOk result (λ c. c ≡ program.entry.now) }
-    ensures accepted { IfOk result (λ _. IsAccepted program.entry.now) }
-    ensures refused { IsTextOf text.now program.entry.now → IfErr result (λ fault. IsRefusedFor fault text.now) }
+/// The checked program, where it is accepted.
+fn checked(alloc: Global, text: &[u8], program: &Program) -> Result<Checked, CompileFault>
+    ensures same { IfOk result (λ c. c ≡ program.now) }
+    ensures accepted { IfOk result (λ _. IsAccepted program.now) }
+    ensures refused { IsTextOf text.now program.now → IfErr result (λ fault. IsRefusedFor fault text.now) }
 {
     let typed = typed(alloc, program)?;
     let effected = match effects(alloc, typed) {
@@ -58,8 +54,23 @@ pub(crate) fn checked<'p>(
     }
 }
 
-/// Whether a text is accepted. Refuses it with the first fault of the first phase that has one: the
-/// tokens, the grammar, names and types, and flow. `Memory` comes where no host memory is left.
+/// The accepted program of a text.
+///
+/// Refuses a text that isn't accepted with the first fault of the first phase that has one: the tokens, the grammar,
+/// names and types, and flow. `Memory` comes where no host memory is left.
+pub fn front(alloc: Global, text: &[u8]) -> Result<Checked, CompileFault>
+    // the program that the text spells, in which no rule is broken
+    ensures accepted { IfOk result (λ checked. IsAcceptedAs text.now checked) }
+    // its tokens are none, or are no program, at the place; or it spells a program whose first fault is this one, at the place
+    ensures refused { IfErr result (λ fault. IsRefusedFor fault text.now) }
+    // a text that is accepted is refused only for want of memory
+    ensures exact { (program : Tree) → IsAcceptedAs text.now program → IfErr result (λ fault. fault ≡ CompileFault.Memory) }
+{
+    let program = parsed(alloc, text)?;
+    Ok(checked(alloc, text, &program)?)
+}
+
+/// Whether a text is accepted. Refuses what `front` refuses, with the same fault.
 pub fn check(alloc: Global, text: &[u8]) -> Result<(), CompileFault>
     // the text spells a program in which no rule is broken
     ensures accepted { IfOk result (λ _. (program : Tree) × IsAcceptedAs text.now program) }
@@ -68,9 +79,10 @@ pub fn check(alloc: Global, text: &[u8]) -> Result<(), CompileFault>
     // a text that is accepted is refused only for want of memory
     ensures exact { (program : Tree) → IsAcceptedAs text.now program → IfErr result (λ fault. fault ≡ CompileFault.Memory) }
 {
-    let program = parsed(alloc, text)?;
-    checked(alloc, text, &program)?;
-    Ok(())
+    match front(alloc, text) {
+        Ok(_) => Ok(()),
+        Err(fault) => Err(fault),
+    }
 }
 
 /// A text spells one program, and an accepted one is refused only for want of memory; an image also where the bound on
@@ -90,7 +102,7 @@ pub fn one_fault()
 {}
 
 /// The code of an accepted program.
-fn code_of(alloc: Global, checked: &Checked<'_>) -> Result<Code, CompileFault>
+fn code_of(alloc: Global, checked: &Checked) -> Result<Code, CompileFault>
     ensures code { IfOk result (λ code. IsCode code.bytes.items) }
     // an image with this code implements the program
     ensures implemented { IfOk result (λ code. (parts : Contents) → parts.code ≡ code.bytes.items → parts.entry ≡ 0 → Fits parts → IsImplementedBy checked.now parts) }
@@ -102,8 +114,6 @@ fn code_of(alloc: Global, checked: &Checked<'_>) -> Result<Code, CompileFault>
         Ok(code) => Ok(code),
         Err(LayoutFault::TooLarge) => Err(CompileFault::TooLarge(Place { line: 1, column: 1 })),
         Err(LayoutFault::Memory) => Err(CompileFault::Memory),
-        // the code begins with the move of the stack pointer
-        Err(LayoutFault::TooFar) => unreachable!(),
     }
 }
 
@@ -119,8 +129,10 @@ pub fn compile(alloc: Global, text: &[u8], pages: u32) -> Result<Vec<u8>, Compil
     // the fault is that of `check`, or the code of an accepted text is too large
     ensures refused { IfErr result (λ fault. HasNoImageFor fault text.now) }
 {
-    let program = parsed(alloc, text)?;
-    let checked = checked(alloc, text, &program)?;
+    let checked = match front(alloc, text) {
+        Ok(checked) => checked,
+        Err(fault) => return Err(fault),
+    };
     let code = match code_of(alloc, &checked) {
         Ok(code) => code,
         Err(fault) => return Err(fault),

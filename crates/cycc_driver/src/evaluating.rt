@@ -1,15 +1,15 @@
 // Evaluations of a text.
 
-ghost use Rattle.std.specs.Prelude.{◌≢◌, Ok, IfOk, IfErr};
+ghost use Rattle.std.specs.Prelude.{◌≡◌, ◌≢◌, Ok, IfOk, IfErr};
 ghost use Rattle.cyc_meaning.specs.declared.ending.EvalEnding.TheVariants.{Stuck};
+ghost use Rattle.cyc_meaning.specs.Evaluated.{reads_failed, writes_failed};
 ghost use Rattle.cycc_driver.specs.Refusals.{IsRefusedFor};
 ghost use Rattle.cycc_driver.specs.Evaluated.{IsTextEvaluated};
 
-use crate::compiling::{checked, parsed};
+use crate::compiling::front;
 use crate::fault::CompileFault;
-use cyc_words::{Input, Output};
-use lower_checks::never_stuck;
 use cyc_meaning::{EvalEnding, eval};
+use cyc_words::{Input, Output};
 use std::alloc::Global;
 
 /// Runs a text by the meaning of its source, with so many units of fuel: a turn of a loop takes one, and a call of
@@ -28,11 +28,16 @@ pub fn evaluate<R: Input, W: Output>(
         (R.remaining reader.old) (R.remaining reader.new) (W.contents writer.old) (W.contents writer.new)) }
     // no accepted program is ever out of order
     ensures never_stuck { result ≢ Ok Stuck }
-    // the fault is that of `check`
+    // a device's fault comes where just one call of that device failed, and any other ending where none did
+    ensures reads { IfOk result (λ ending. R.fault_count reader.new ≡ reads_failed ending (R.fault_count reader.old)) }
+    ensures writes { IfOk result (λ ending. W.fault_count writer.new ≡ writes_failed ending (W.fault_count writer.old)) }
+    // the fault is that of `check`, and nothing was read or written
     ensures refused { IfErr result (λ fault. IsRefusedFor fault text.now) }
+    ensures untouched { IfErr result (λ _. (reader.new ≡ reader.old) × (writer.new ≡ writer.old)) }
 {
-    let program = parsed(alloc, text)?;
-    let checked = checked(alloc, text, &program)?;
-    never_stuck(&checked);
+    let checked = match front(alloc, text) {
+        Ok(checked) => checked,
+        Err(fault) => return Err(fault),
+    };
     Ok(eval(alloc, &checked, reader, writer, fuel))
 }

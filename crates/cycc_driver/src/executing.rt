@@ -1,6 +1,7 @@
 // Runs of a text.
 
-ghost use Rattle.std.specs.Prelude.{◌≤◌, IfOk, IfErr};
+ghost use Rattle.std.specs.Prelude.{◌≡◌, ◌≤◌, IfOk, IfErr};
+ghost use Rattle.cyc_host.specs.Failures.{reads_failed, writes_failed};
 ghost use Rattle.cycc_driver.specs.Refusals.{HasNoImageFor};
 ghost use Rattle.cycc_driver.specs.Outcome.{IsTextRun};
 
@@ -35,8 +36,12 @@ pub fn execute<R: Input, W: Output>(
     // what is written is the program's output on the bytes that the reader gave, and the ending is its; or the run was stopped after a beginning of it
     ensures run { IfOk result (λ ending. IsTextRun text.now limits.pages limits.steps ending
         (R.remaining reader.old) (R.remaining reader.new) (W.contents writer.old) (W.contents writer.new)) }
-    // the fault is that of `compile`
+    // a device's fault comes where just one call of that device failed, and any other ending where none did
+    ensures reads { IfOk result (λ ending. R.fault_count reader.new ≡ reads_failed ending (R.fault_count reader.old)) }
+    ensures writes { IfOk result (λ ending. W.fault_count writer.new ≡ writes_failed ending (W.fault_count writer.old)) }
+    // the fault is that of `compile`, and nothing was read or written
     ensures refused { IfErr result (λ fault. HasNoImageFor fault text.now) }
+    ensures untouched { IfErr result (λ _. (reader.new ≡ reader.old) × (writer.new ≡ writer.old)) }
 {
     let bytes = compile(alloc, text, limits.pages)?;
     let image = match load(alloc, &bytes) {

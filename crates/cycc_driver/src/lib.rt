@@ -1,7 +1,8 @@
 //! The compiler: from a text to an image, and to what it does.
 //!
-//! `check` says whether a text is accepted, `compile` gives its image, `execute` runs it between a
-//! reader and a writer, and `evaluate` runs it by the meaning of its source. Each refuses with the first fault of the first phase that has one, by line and column.
+//! `front` gives the accepted program of a text, `check` says whether there is one, `compile` gives its image, `execute`
+//! runs it between a reader and a writer, and `evaluate` runs it by the meaning of its source. Each refuses with the first
+//! fault of the first phase that has one, by line and column.
 //! Stands on all layers.
 #![tactic(auto)]
 
@@ -10,13 +11,13 @@ mod evaluating;
 mod executing;
 mod fault;
 
-pub use compiling::{accepted_or_refused, check, compile, one_fault};
+pub use compiling::{accepted_or_refused, check, compile, front, one_fault};
 pub use cyc_host::{Ending, run};
 pub use cyc_image::{Image, ImageFault, load};
+pub use cyc_meaning::{EvalEnding, eval, never_stuck};
 pub use cyc_words::{Counted, Input, Kind, MachineFault, Output};
 pub use evaluating::evaluate;
 pub use executing::{Limits, execute};
 pub use fault::{CompileFault, Place};
 pub use rv32_isa::{Instr, decode};
 pub use rv32_machine::{Event, Machine};
-pub use cyc_meaning::EvalEnding;

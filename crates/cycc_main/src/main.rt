@@ -1,23 +1,13 @@
 //! `cycc`: checks, compiles and runs a source file, and runs and prints an image.
 //!
-//! `main` reads the words, the file and the standard streams, and writes OUT. All else is in `answer`, which tests call: what is
-//! printed, and the exit status. Stands on `cycc_driver`, and on `clap` for the words.
+//! `main` reads the words, the file and the standard streams, and writes OUT. All else is in `answer` of `cycc_answer`:
+//! what is printed, and the exit status. The words are read by `command_line`.
 #![tactic(auto)]
 
-mod answer;
-mod command;
-mod images;
-mod lines;
-mod status;
-#[cfg(test)]
-mod tests;
-mod words;
-
-use crate::answer::{Answer, answer_of};
-use crate::command::Command;
-use crate::status::{FILE_FAULT, MEMORY, USAGE};
-use crate::words::command_of;
-use clap::error::ErrorKind;
+use command_line::status::{FILE_FAULT, MEMORY, SUCCESS, usage_status};
+use command_line::{Command, command_of};
+use cycc_answer::longest_file;
+pub use cycc_answer::{Answer, answer};
 use cycc_driver::Counted;
 use std::fs::File;
 use std::io::Read;
@@ -47,12 +37,20 @@ fn file_fault(rt: &HostRuntime, what: &str, path: &str, error: &io::Error) -> u8
     }
 }
 
+/// Writes OUT, and answers the status.
+fn written(rt: &HostRuntime, path: &str, image: &[u8]) -> u8 {
+    match fs::write(rt, path, image) {
+        Ok(()) => SUCCESS,
+        Err(error) => file_fault(rt, "write", path, &error),
+    }
+}
+
 /// Answers a command on a file that was read, and writes OUT where there is an image for it.
 fn answered(rt: &HostRuntime, command: &Command<'_>, file: &[u8]) -> u8 {
     let mut reader = Counted::new(rt.stdin());
     let mut writer = Counted::new(rt.stdout());
     let mut faults = rt.stderr();
-    let answer = answer_of(
+    let answer = answer(
         rt.alloc(),
         command,
         file,
@@ -60,26 +58,13 @@ fn answered(rt: &HostRuntime, command: &Command<'_>, file: &[u8]) -> u8 {
         &mut writer,
         &mut faults,
     );
-    match (answer, command) {
-        (
-            Ok(
-                Answer {
-                    image: Some(image),
-                    ..
-                },
-            ),
-            Command::Compile { output, .. },
-        ) => {
-            match fs::write(rt, *output, image.as_slice()) {
-                Ok(()) => 0,
-                Err(error) => file_fault(rt, "write", output, &error),
-            }
-        }
-        (Ok(answer), _) => answer.status,
-        (Err(_), _) => {
-            let _ = eprintln!(rt; "out of memory");
-            MEMORY
-        }
+    let Ok(answer) = answer else {
+        let _ = eprintln!(rt; "out of memory");
+        return MEMORY;
+    };
+    match (&answer.image, command) {
+        (Some(image), Command::Compile { output, .. }) => written(rt, output, image.as_slice()),
+        _ => answer.status,
     }
 }
 
@@ -90,15 +75,11 @@ fn run(rt: &HostRuntime) -> io::Result<u8> {
         Ok(command) => command,
         Err(error) => {
             error.print(rt)?;
-            return Ok(match error.kind() {
-                ErrorKind::DisplayHelp | ErrorKind::DisplayVersion => 0,
-                ErrorKind::OutOfMemory => MEMORY,
-                _ => USAGE,
-            });
+            return Ok(usage_status(&error));
         }
     };
     let path = command.input();
-    match bytes_of(rt, path, command.longest_file()) {
+    match bytes_of(rt, path, longest_file(&command)) {
         Ok(file) => Ok(answered(rt, &command, &file)),
         Err(error) => Ok(file_fault(rt, "read", path, &error)),
     }

@@ -1,8 +1,8 @@
 use Rattle.std.proofs.Common.{◌<◌, sym, arith, subst}
 use Rattle.cyc_core.specs.Tree.{statements_of}
 use Rattle.rv32_select.specs.Lines.{code_length}
-use Rattle.rv32_layout.proofs.Lines.{length_is_of_words}
-use Rattle.cycc_driver.proofs.Beginnings.{some_code}
+use Rattle.rv32_select.proofs.Codes.{length_is_of_words}
+use Rattle.rv32_select.proofs.FirstLines.{some_code}
 use Rattle.cycc_driver.proofs.Implementing.{implemented}
 use Rattle.cycc_driver.proofs.compiling.code_of.Goals as goal
 
@@ -13,7 +13,7 @@ returns-in-Ok c =
     let made = c.in_ok-core.ensures in
     let selected = c.in_ok-labelled.ensures in
     let placed = c.in-Ok.ensures in
-    let some : 0 < code_length lines = subst (λ l. 0 < code_length l) (sym selected.code) (some_code core.main.last (statements_of core.main.body)) in
+    let some : 0 < code_length lines = some_code lines c.in_ok-labelled.labelled.starts in
     let words = length_is_of_words lines in
     record {
       code = record {

@@ -13,4 +13,4 @@ returns-clause-run g c =
     let same : image ≡ made.parts = elim all [ inl h ↦ cc h | inr h ↦ absurd (cc h) ] in
     let starts = subst (λ parts. IsStart parts c.in_ok-machine.machine) same c.in_ok-machine.ensures in
     text_run c.args.text.now c.in_ok-bytes.bytes.items c.args.limits.pages c.args.limits.steps c.run.result made c.in_ok-machine.machine starts (state_of c.run.new.machine)
-    c.run.ensures.at_end c.run.ensures.goes_on
+    c.run.ensures.hosted c.run.ensures.goes_on

@@ -1,0 +1,98 @@
+// What the command line asks for.
+
+ghost use Rattle.std.specs.Prelude.{◌≡◌, ◌≤◌, ◌↔◌, IsSome, IfSome};
+
+use std::marker::Model;
+
+/// A number of arena pages, 1 to 4,096.
+#[derive(Clone, Copy, PartialEq, Eq, Debug)]
+pub struct Pages {
+    number: u32,
+}
+
+impl Model for Pages {
+    ghost use Rattle.std.specs.Prelude.{ℕ, ◌≤◌};
+
+    ghost Value = { ℕ };
+
+    ghost view = { λ p. p.number };
+
+    ghost invariant = { λ p. (1 ≤ p.number) × (p.number ≤ 4096) };
+
+    ghost inverse = { λ n. record { number = n } };
+}
+
+impl Pages {
+    /// The pages of this number; none where it is not 1 to 4,096.
+    pub fn new(number: u32) -> Option<Pages>
+        ensures some { IsSome result ↔ ((1 ≤ number) × (number ≤ 4096)) }
+        ensures value { IfSome result (λ p. p ≡ number) }
+    {
+        if 1 <= number && number <= 4096 {
+            Some(Pages { number })
+        } else {
+            None
+        }
+    }
+
+    /// The number of pages.
+    pub fn number(self) -> u32
+        ensures value { result ≡ self }
+        ensures some { 1 ≤ result }
+        ensures within { result ≤ 4096 }
+    {
+        self.number
+    }
+}
+
+/// A command, with its words.
+#[derive(Clone, Copy, PartialEq, Eq, Debug)]
+pub enum Command<'a> {
+    /// Says whether a source is accepted.
+    Check {
+        input: &'a str,
+    },
+    /// Writes a source's image.
+    Compile {
+        input: &'a str,
+        output: &'a str,
+        pages: Pages,
+    },
+    /// Compiles a source and runs it, for at most so many instructions.
+    Run {
+        input: &'a str,
+        pages: Pages,
+        steps: u64,
+        shows_ending: bool,
+    },
+    /// Runs a source by its meaning, with so many units of fuel.
+    Eval {
+        input: &'a str,
+        fuel: u64,
+        shows_ending: bool,
+    },
+    /// Runs an image, for at most so many instructions.
+    Exec {
+        input: &'a str,
+        steps: u64,
+        shows_ending: bool,
+    },
+    /// Prints an image.
+    Dump {
+        input: &'a str,
+    },
+}
+
+impl<'a> Command<'a> {
+    /// The path of the file that the command reads.
+    pub fn input(&self) -> &'a str {
+        match self {
+            Command::Check { input }
+            | Command::Compile { input, .. }
+            | Command::Run { input, .. }
+            | Command::Eval { input, .. }
+            | Command::Exec { input, .. }
+            | Command::Dump { input } => input,
+        }
+    }
+}

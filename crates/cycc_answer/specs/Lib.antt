@@ -1,0 +1,3 @@
+pub mod Statuses
+pub mod Answers
+pub mod Commands

@@ -1,0 +1,88 @@
+// What a command is answered.
+
+ghost use Rattle.std.specs.Prelude.{◌≡◌, ◌+◌, IfOk};
+ghost use Rattle.std.specs.Option.{option_map};
+ghost use Rattle.cyc_lexer.specs.Lexing.{text_limit};
+ghost use Rattle.cyc_image.specs.Format.{header_length, code_limit, data_limit};
+ghost use Rattle.cycc_answer.specs.Commands.{IsAnswered, longest};
+
+use crate::images::{dump, exec};
+use crate::lines::Told;
+use crate::result::Answer;
+use crate::sources::{checked, compiled, interpreted, ran};
+use command_line::Command;
+use cycc_driver::{Input, Limits, Output};
+use std::alloc::{AllocError, Global};
+use std::io::Write;
+
+/// The most bytes of a source that are read: one more than a text may have.
+const SOURCE_BYTES: u64 = 1048577;
+
+/// The most bytes of an image that are read: one more than an image may have.
+const IMAGE_BYTES: u64 = 2097177;
+
+/// The most bytes of a command's file that are read: one more than a text, or an image, may have.
+pub fn longest_file(command: &Command<'_>) -> u64
+    ensures { result ≡ longest command.now + 1 }
+{
+    match command {
+        Command::Check { .. }
+        | Command::Compile { .. }
+        | Command::Run { .. }
+        | Command::Eval { .. } => SOURCE_BYTES,
+        Command::Exec { .. } | Command::Dump { .. } => IMAGE_BYTES,
+    }
+}
+
+/// Answers a command on the bytes of its file: what is written, what is said on standard error, the exit status, and the
+/// bytes for OUT. An Err is want of memory, of which nothing was said: status 7.
+pub fn answer<R: Input, W: Output, E: Write>(
+    alloc: Global,
+    command: &Command<'_>,
+    file: &[u8],
+    reader: &mut R,
+    writer: &mut W,
+    faults: &mut E,
+) -> Result<Answer, AllocError>
+    // the status says how the command ended, and there is an image exactly where a `compile` succeeded
+    ensures { IfOk result (λ a. IsAnswered command.now file.now
+        (R.remaining reader.old) (R.remaining reader.new) (W.contents writer.old) (W.contents writer.new)
+        (option_map (λ bytes. bytes.items) a.image) a.status) }
+{
+    match *command {
+        Command::Check { input } => {
+            Ok(Answer::plain(checked(alloc, input, file, writer, faults)?))
+        }
+        Command::Compile { input, pages, .. } => compiled(alloc, input, pages, file, faults),
+        Command::Run {
+            input,
+            pages,
+            steps,
+            shows_ending,
+        } => {
+            let told = Told::new(input, shows_ending);
+            let limits = Limits {
+                pages: pages.number(),
+                steps,
+            };
+            Ok(Answer::plain(ran(alloc, told, limits, file, reader, writer, faults)?))
+        }
+        Command::Eval {
+            input,
+            fuel,
+            shows_ending,
+        } => {
+            let told = Told::new(input, shows_ending);
+            Ok(Answer::plain(interpreted(alloc, told, fuel, file, reader, writer, faults)?))
+        }
+        Command::Exec {
+            input,
+            steps,
+            shows_ending,
+        } => {
+            let told = Told::new(input, shows_ending);
+            Ok(Answer::plain(exec(alloc, told, steps, file, reader, writer, faults)?))
+        }
+        Command::Dump { input } => Ok(Answer::plain(dump(alloc, input, file, writer, faults)?)),
+    }
+}

@@ -1,0 +1,100 @@
+// Commands on images.
+
+ghost use Rattle.std.specs.Prelude.{◌≡◌, ◌≢◌, ◌⊎◌, IfOk, IfErr, length};
+ghost use Rattle.cyc_image.specs.Format.{IsImage};
+ghost use Rattle.cycc_answer.specs.Answers.{IsExec, IsDumped, IsNoImageFor};
+
+use crate::lines::{Told, ended, printed, unloaded};
+use byteorder::{ByteOrder, LittleEndian};
+use cyc_host::GATHERED_BYTES;
+use cycc_driver::{Image, ImageFault, Input, Machine, Output, decode, load, run};
+use rv32_machine::CODE_BASE;
+use std::alloc::{AllocError, Global};
+use std::io::Write;
+
+/// The image that the bytes are.
+fn loaded(alloc: Global, file: &[u8]) -> Result<Image, ImageFault>
+    ensures found { IfOk result (λ image. IsImage file.now image) }
+    ensures refused { IfErr result (IsNoImageFor file.now) }
+{
+    load(alloc, file)
+}
+
+/// Runs an image between a reader and a writer, and answers the status.
+pub fn exec<R: Input, W: Output, E: Write>(
+    alloc: Global,
+    told: Told<'_>,
+    steps: u64,
+    file: &[u8],
+    reader: &mut R,
+    writer: &mut W,
+    faults: &mut E,
+) -> Result<u8, AllocError>
+    ensures { IfOk result (IsExec file.now steps
+        (R.remaining reader.old) (R.remaining reader.new) (W.contents writer.old) (W.contents writer.new)) }
+{
+    let image = match loaded(alloc, file) {
+        Ok(image) => image,
+        Err(fault) => return unloaded(alloc, told.input, fault, faults),
+    };
+    let mut machine = Machine::new(alloc, &image)?;
+    let ending = run(&mut machine, reader, writer, steps);
+    ended(alloc, ending, Some(machine.pc()), told.shows_ending, faults)
+}
+
+/// Prints an image's header and its code, and answers the status.
+pub fn dump<W: Output, E: Write>(
+    alloc: Global,
+    input: &str,
+    file: &[u8],
+    writer: &mut W,
+    faults: &mut E,
+) -> Result<u8, AllocError>
+    ensures { IfOk result (IsDumped file.now) }
+{
+    let image = match loaded(alloc, file) {
+        Ok(image) => image,
+        Err(fault) => return unloaded(alloc, input, fault, faults),
+    };
+    let header = header_of(alloc, &image)?;
+    let succeeded = writer.write_all(header.as_bytes()).is_ok();
+    if !succeeded {
+        return Ok(printed(false, faults));
+    }
+    let succeeded = print_code(alloc, image.code(), writer)?;
+    Ok(printed(succeeded, faults))
+}
+
+/// The first line of a dump.
+fn header_of(alloc: Global, image: &Image) -> Result<String, AllocError> {
+    let entry = image.entry();
+    let code = image.code().len();
+    let data = image.statics().len();
+    let pages = image.pages();
+    format!(in alloc; "entry {entry} code {code} data {data} pages {pages}\n")
+}
+
+/// Prints code a line a word. False where a write failed.
+fn print_code<W: Output>(alloc: Global, code: &[u8], writer: &mut W) -> Result<bool, AllocError> {
+    let mut text = String::new(alloc);
+    let mut at = CODE_BASE;
+    for bytes in code.chunks_exact(4) {
+        text.push_str(line_of(alloc, at, LittleEndian::read_u32(bytes))?.as_str())?;
+        if text.len() >= GATHERED_BYTES {
+            if writer.write_all(text.as_bytes()).is_err() {
+                return Ok(false);
+            }
+            text.clear();
+        }
+        at = at.wrapping_add(4);
+    }
+    Ok(writer.write_all(text.as_bytes()).is_ok())
+}
+
+/// The line of a word: its address, the word and its text.
+fn line_of(alloc: Global, at: u32, word: u32) -> Result<String, AllocError> {
+    match decode(word) {
+        Some(instruction) => format!(in alloc; "{at:08x} {word:08x} {instruction}\n"),
+        None => format!(in alloc; "{at:08x} {word:08x} illegal\n"),
+    }
+}

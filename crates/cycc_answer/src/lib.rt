@@ -1,0 +1,15 @@
+//! What `cycc` answers to a command.
+//!
+//! `answer` does all that a command asks for but to read the words and the file and to write OUT: what is written, what is
+//! said on standard error, the exit status, and the bytes for OUT. Stands on `command_line` and `cycc_driver`.
+#![tactic(auto)]
+
+mod answering;
+mod images;
+mod lines;
+mod result;
+mod sources;
+
+pub use answering::{answer, longest_file};
+pub use lines::{ended, refused};
+pub use result::Answer;

@@ -1,0 +1,91 @@
+// Commands on sources.
+
+ghost use Rattle.std.specs.Prelude.{◌≡◌, ◌≤◌, IfOk};
+ghost use Rattle.std.specs.Option.{option_map};
+ghost use Rattle.cycc_answer.specs.Answers.{IsChecked, IsCompiled, IsRun, IsEval};
+
+use crate::lines::{Told, ended, evaluated, printed, refused};
+use crate::result::Answer;
+use command_line::Pages;
+use command_line::status::SUCCESS;
+use cycc_driver::{Input, Limits, Output, check, compile, evaluate, execute};
+use std::alloc::{AllocError, Global};
+use std::io::Write;
+
+/// Says whether a source is accepted, and answers the status.
+pub fn checked<W: Output, E: Write>(
+    alloc: Global,
+    input: &str,
+    file: &[u8],
+    writer: &mut W,
+    faults: &mut E,
+) -> Result<u8, AllocError>
+    ensures { IfOk result (IsChecked file.now) }
+{
+    match check(alloc, file) {
+        Ok(()) => {
+            let succeeded = writer.write_all(b"accepted\n").is_ok();
+            Ok(printed(succeeded, faults))
+        }
+        Err(fault) => refused(alloc, input, fault, faults),
+    }
+}
+
+/// Compiles a source, and answers with its image.
+pub fn compiled<E: Write>(
+    alloc: Global,
+    input: &str,
+    pages: Pages,
+    file: &[u8],
+    faults: &mut E,
+) -> Result<Answer, AllocError>
+    ensures { IfOk result (λ a. IsCompiled file.now pages (option_map (λ bytes. bytes.items) a.image) a.status) }
+{
+    match compile(alloc, file, pages.number()) {
+        Ok(image) => Ok(Answer {
+            status: SUCCESS,
+            image: Some(image),
+        }),
+        Err(fault) => Ok(Answer::plain(refused(alloc, input, fault, faults)?)),
+    }
+}
+
+/// Compiles a source and runs its image between a reader and a writer, and answers the status.
+pub fn ran<R: Input, W: Output, E: Write>(
+    alloc: Global,
+    told: Told<'_>,
+    limits: Limits,
+    file: &[u8],
+    reader: &mut R,
+    writer: &mut W,
+    faults: &mut E,
+) -> Result<u8, AllocError>
+    requires some { 1 ≤ limits.pages }
+    requires within { limits.pages ≤ 4096 }
+    ensures { IfOk result (IsRun file.now limits.pages limits.steps
+        (R.remaining reader.old) (R.remaining reader.new) (W.contents writer.old) (W.contents writer.new)) }
+{
+    match execute(alloc, file, reader, writer, limits) {
+        Ok(ending) => ended(alloc, ending, None, told.shows_ending, faults),
+        Err(fault) => refused(alloc, told.input, fault, faults),
+    }
+}
+
+/// Runs a source by its meaning between a reader and a writer, and answers the status.
+pub fn interpreted<R: Input, W: Output, E: Write>(
+    alloc: Global,
+    told: Told<'_>,
+    fuel: u64,
+    file: &[u8],
+    reader: &mut R,
+    writer: &mut W,
+    faults: &mut E,
+) -> Result<u8, AllocError>
+    ensures { IfOk result (IsEval file.now fuel
+        (R.remaining reader.old) (R.remaining reader.new) (W.contents writer.old) (W.contents writer.new)) }
+{
+    match evaluate(alloc, file, reader, writer, fuel) {
+        Ok(ending) => evaluated(alloc, ending, told.shows_ending, faults),
+        Err(fault) => refused(alloc, told.input, fault, faults),
+    }
+}

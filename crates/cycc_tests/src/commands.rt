@@ -1,0 +1,152 @@
+// Whole commands: what is written and said, and the status.
+
+use crate::command_cases::{AND_OR, NESTED_LOOPS, OPERATORS, REFUSED, STATEMENTS, VALUES};
+use command_line::command_of;
+use cycc_answer::answer;
+use cycc_driver::{Counted, load};
+use std::alloc::{AllocError, Global};
+use std::process::Abort;
+use std::test::Fail;
+
+/// The bytes that a text means: `-` is none, `$` a line's end, and `#` with two hexadecimal digits a byte.
+pub fn bytes_of(alloc: Global, text: &str) -> Result<Vec<u8>, Fail> {
+    let mut bytes = Vec::new(alloc);
+    if text == "-" {
+        return Ok(bytes);
+    }
+    for (number, piece) in text.split('#').enumerate() {
+        let mut rest = piece;
+        if number > 0 {
+            let digits = piece.get(..2).ok_or("no byte")?;
+            bytes.push(u8::from_str_radix(digits, 16)?)?;
+            rest = piece.get(2..).ok_or("no byte")?;
+        }
+        for byte in rest.bytes() {
+            bytes.push(if byte == b'$' { b'\n' } else { byte })?;
+        }
+    }
+    Ok(bytes)
+}
+
+/// The text that means these bytes.
+pub fn text_of(alloc: Global, bytes: &[u8]) -> Result<String, AllocError> {
+    if bytes.is_empty() {
+        return String::from_str(alloc, "-");
+    }
+    let mut text = String::new(alloc);
+    for byte in bytes {
+        match *byte {
+            b'\n' => text.push('$')?,
+            b' '..=b'~' => text.push(char::from(*byte))?,
+            byte => text.push_str(format!(in alloc; "#{byte:02x}")?.as_str())?,
+        }
+    }
+    Ok(text)
+}
+
+/// What a command answers on an input and a file: the status, what is said and what is written, and the pages of an image, parted by ` | `.
+pub fn shown(alloc: Global, words: &str, input: &[u8], file: &[u8]) -> Result<String, Fail> {
+    let words: Vec<&str> = words.split(' ').collect(alloc)?;
+    let command = command_of(alloc, words.as_slice())?;
+    let mut reader = Counted::new(input);
+    let mut writer = Counted::new(Vec::new(alloc));
+    let mut said = Vec::new(alloc);
+    let answer = answer(alloc, &command, file, &mut reader, &mut writer, &mut said)?;
+    let status = answer.status;
+    let said = text_of(alloc, &said)?;
+    let output = text_of(alloc, &writer.into_inner())?;
+    match answer.image {
+        Some(image) => {
+            let pages = load(alloc, &image)?.pages();
+            Ok(format!(in alloc; "{status} | {said} | {output} | {pages} pages")?)
+        }
+        None => Ok(format!(in alloc; "{status} | {said} | {output}")?),
+    }
+}
+
+/// Asserts what each of some commands answers on a source, with no input.
+fn expect_all(
+    rt: &(impl Abort + AllocGlobal),
+    commands: &[&str],
+    wanted: &str,
+    source: &str,
+) -> Result<(), Fail> {
+    let file = bytes_of(rt.alloc(), source)?;
+    for words in commands {
+        let found = shown(rt.alloc(), words, b"", &file)?;
+        assert_eq!(rt; found.as_str(), wanted, "{words}: {source}");
+    }
+    Ok(())
+}
+
+#[test]
+fn programs_run_as_by_their_meaning(rt: HostRuntime) -> Result<(), Fail> {
+    for table in [VALUES, STATEMENTS, NESTED_LOOPS, AND_OR, OPERATORS] {
+        for line in table.lines() {
+            let (wanted, source) = line.split_once(" <- ").ok_or("no source")?;
+            let commands = ["cycc run IN --ending", "cycc eval IN --ending"];
+            expect_all(&rt, commands.as_slice(), wanted, source)?;
+        }
+    }
+    Ok(())
+}
+
+#[test]
+fn refusals_have_their_places(rt: HostRuntime) -> Result<(), Fail> {
+    for line in REFUSED.lines() {
+        let (fault, source) = line.split_once(" <- ").ok_or("no source")?;
+        let wanted = format!(in rt.alloc(); "8 | IN:{fault}$ | -")?;
+        let commands = [
+            "cycc check IN",
+            "cycc run IN --ending",
+            "cycc eval IN",
+            "cycc compile IN OUT",
+        ];
+        expect_all(&rt, commands.as_slice(), wanted.as_str(), source)?;
+    }
+    Ok(())
+}
+
+/// Commands with their inputs. A line has what is answered, the words behind `cycc`, the input, and the source.
+const COMMANDS: &str = "\
+0 | - | accepted$ <- check IN <- - <- int main() { putchar(72); return 0; }
+0 | - | - | 1024 pages <- compile IN OUT <- - <- int main() { putchar(72); return 0; }
+0 | - | - | 1 pages <- compile IN OUT --pages 1 <- - <- int main() { }
+0 | - | - | 4096 pages <- compile IN OUT --pages 4096 <- - <- int main() { }
+0 | - | H <- run IN <- - <- int main() { putchar(72); return 0; }
+1 | - | H <- run IN <- - <- int main() { putchar(72); return 7; }
+4 | step limit$ | - <- run IN --ending --steps 0 <- - <- int main() { putchar(72); return 0; }
+4 | step limit$ | H <- run IN --ending --steps 11 <- - <- int main() { putchar(72); return 0; }
+0 | ended 0$ | H <- run IN --ending --steps 12 <- - <- int main() { putchar(72); return 0; }
+0 | ended 0$ | H <- run IN --ending --steps 18446744073709551615 <- - <- int main() { putchar(72); return 0; }
+4 | step limit$ | - <- run IN --ending --steps 1000 <- - <- int main() { while (1) ; }
+4 | - | - <- run IN --steps 1000 <- - <- int main() { while (1) ; }
+4 | step limit$ | - <- eval IN --ending --steps 1000 <- - <- int main() { while (1) ; }
+4 | step limit$ | - <- eval IN --ending --steps 0 <- - <- int main() { int i = 0; while (i < 3) { putchar(65 + i); i = i + 1; } return 9; }
+4 | step limit$ | A <- eval IN --ending --steps 2 <- - <- int main() { int i = 0; while (i < 3) { putchar(65 + i); i = i + 1; } return 9; }
+4 | step limit$ | AB <- eval IN --ending --steps 5 <- - <- int main() { int i = 0; while (i < 3) { putchar(65 + i); i = i + 1; } return 9; }
+1 | ended 9$ | ABC <- eval IN --ending --steps 6 <- - <- int main() { int i = 0; while (i < 3) { putchar(65 + i); i = i + 1; } return 9; }
+1 | ended 9$ | ABC <- eval IN --ending --steps 7 <- - <- int main() { int i = 0; while (i < 3) { putchar(65 + i); i = i + 1; } return 9; }
+1 | ended -1$ | A,- <- run IN --ending <- #60#1f <- int main() { putchar(getchar() - getchar()); putchar(putchar(300) + 1); return getchar(); }
+0 | ended 0$ | - <- run IN --ending <- - <- int main() { int c = getchar(); while (c >= 0) { putchar(c); c = getchar(); } }
+0 | ended 0$ | #00 <- run IN --ending <- #00 <- int main() { int c = getchar(); while (c >= 0) { putchar(c); c = getchar(); } }
+0 | ended 0$ | #ff <- run IN --ending <- #ff <- int main() { int c = getchar(); while (c >= 0) { putchar(c); c = getchar(); } }
+0 | ended 0$ | a#00#ff$z <- run IN --ending <- a#00#ff$z <- int main() { int c = getchar(); while (c >= 0) { putchar(c); c = getchar(); } }
+0 | ended 0$ | - <- eval IN --ending --steps 1000 <- - <- int main() { int c = getchar(); while (c >= 0) { putchar(c); c = getchar(); } }
+0 | ended 0$ | #00 <- eval IN --ending --steps 1000 <- #00 <- int main() { int c = getchar(); while (c >= 0) { putchar(c); c = getchar(); } }
+0 | ended 0$ | #ff <- eval IN --ending --steps 1000 <- #ff <- int main() { int c = getchar(); while (c >= 0) { putchar(c); c = getchar(); } }
+0 | ended 0$ | a#00#ff$z <- eval IN --ending --steps 1000 <- a#00#ff$z <- int main() { int c = getchar(); while (c >= 0) { putchar(c); c = getchar(); } }";
+
+#[test]
+fn commands_have_their_answers(rt: HostRuntime) -> Result<(), Fail> {
+    for line in COMMANDS.lines() {
+        let (wanted, line) = line.split_once(" <- ").ok_or("no words")?;
+        let (words, line) = line.split_once(" <- ").ok_or("no input")?;
+        let (input, source) = line.split_once(" <- ").ok_or("no source")?;
+        let words = format!(in rt.alloc(); "cycc {words}")?;
+        let input = bytes_of(rt.alloc(), input)?;
+        let found = shown(rt.alloc(), words.as_str(), &input, source.as_bytes())?;
+        assert_eq!(rt; found.as_str(), wanted, "{words}: {source}");
+    }
+    Ok(())
+}

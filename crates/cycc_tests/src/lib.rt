@@ -1,0 +1,34 @@
+//! Tests of the crates below, on whole texts: what no clause of theirs says.
+//!
+//! A crate with tests is proved twice, so those of the crates that take long stand here, where nothing
+//! else is proved.
+#![tactic(auto)]
+
+#[cfg(test)]
+mod command_cases;
+#[cfg(test)]
+mod commands;
+#[cfg(test)]
+mod devices;
+#[cfg(test)]
+mod evaluations;
+#[cfg(test)]
+mod faults;
+#[cfg(test)]
+mod images;
+#[cfg(test)]
+mod large_texts;
+#[cfg(test)]
+mod lexed_texts;
+#[cfg(test)]
+mod made_trees;
+#[cfg(test)]
+mod nested_texts;
+#[cfg(test)]
+mod parsed_texts;
+#[cfg(test)]
+mod parsed_trees;
+#[cfg(test)]
+mod refused_texts;
+#[cfg(test)]
+mod usage;

@@ -1,0 +1,90 @@
+// Trees made by hand: their nesting counted by hand, and the places of their parts.
+
+use cyc_tree::{
+    Base, BlockItem, Declaration, Expression, Function, Initial, Initializer, Item, Link, Name,
+    Operator, Prefix, Program, Statement, TypeName, nesting,
+};
+use std::alloc::{AllocError, Global};
+use std::test::Fail;
+
+fn name(alloc: Global, text: &str) -> Result<Name, AllocError> {
+    Ok(Name {
+        at: 0,
+        text: Vec::from_slice(alloc, text.as_bytes())?,
+    })
+}
+
+fn int(alloc: Global) -> TypeName {
+    TypeName {
+        at: 0,
+        base: Base::Int,
+        pointers: Vec::new(alloc),
+    }
+}
+
+// `(1) + f(-2)`
+fn sum(alloc: Global) -> Result<Expression, AllocError> {
+    let one = Box::new(alloc, Expression::Number(0, 1, false))?;
+    let two = Box::new(alloc, Expression::Number(0, 2, false))?;
+    let minus_two = Expression::Prefixed(0, Prefix::Negate, two);
+    let call = Expression::Call(name(alloc, "f")?, vec![in alloc; minus_two]?);
+    let link = Link {
+        operator: Operator::Add,
+        operand: call,
+    };
+    let first = Box::new(alloc, Expression::Grouped(0, one))?;
+    Ok(Expression::Chain(first, vec![in alloc; link]?))
+}
+
+// `int main() { .. }`
+fn main_of(alloc: Global, statement: Statement) -> Result<Item, AllocError> {
+    Ok(Item::Function(Function {
+        result: int(alloc),
+        name: name(alloc, "main")?,
+        parameters: Vec::new(alloc),
+        effect: None,
+        bounds: Vec::new(alloc),
+        body: vec![in alloc; BlockItem::Execute(statement)]?,
+        end: 0,
+    }))
+}
+
+#[test]
+fn of_programs(rt: HostRuntime) -> Result<(), Fail> {
+    let alloc = rt.alloc();
+    assert_eq!(rt; nesting(&Program::new(alloc, Vec::new(alloc))?), 0);
+    let global = Item::Global(cyc_tree::Global {
+        of: int(alloc),
+        name: name(alloc, "x")?,
+        initial: Initial::None,
+    });
+    // the statement alone
+    let empty = main_of(alloc, Statement::Empty(0))?;
+    assert_eq!(rt;
+        nesting(&Program::new(alloc, vec![in alloc; empty, global]?)?),
+        1
+    );
+    // what contains `2`: the block, the `return`, the sum, the call, the argument, and as unary expressions `-2` and `2`
+    let returns = BlockItem::Execute(Statement::Return(0, Some(sum(alloc)?)));
+    let empty = BlockItem::Execute(Statement::Empty(0));
+    let block = Statement::Block(0, vec![in alloc; returns, empty]?);
+    let program = Program::new(alloc, vec![in alloc; main_of(alloc, block)?]?)?;
+    assert_eq!(rt; nesting(&program), 7);
+    Ok(())
+}
+
+#[test]
+fn of_parts(rt: HostRuntime) -> Result<(), Fail> {
+    let alloc = rt.alloc();
+    let mut of = int(alloc);
+    of.at = 12;
+    let local = Declaration::Local(of, name(alloc, "x")?, Initializer::None);
+    assert_eq!(rt; local.place(), 12);
+    assert_eq!(rt; local.local().text.as_slice(), b"x".as_slice());
+    let run = Statement::Run(Expression::Null(7));
+    assert_eq!(rt; run.place(), 7);
+    let program = Program::new(alloc, vec![in alloc; main_of(alloc, run)?]?)?;
+    assert_eq!(rt; program.items().len(), 1);
+    assert_eq!(rt; program.items()[0].place(), 0);
+    Ok(())
+}

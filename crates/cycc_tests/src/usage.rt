@@ -1,0 +1,92 @@
+// The words of the command line.
+
+use command_line::command_of;
+use command_line::status::usage_status;
+use std::test::Fail;
+
+/// Words, and the command that they are.
+const WORDS: &str = r#"
+cycc check a.cyc -> Check { input: "a.cyc" }
+cycc compile a b --pages 7 -> Compile { input: "a", output: "b", pages: Pages { number: 7 } }
+cycc compile a b -> Compile { input: "a", output: "b", pages: Pages { number: 1024 } }
+cycc run a -> Run { input: "a", pages: Pages { number: 1024 }, steps: 4294967295, shows_ending: false }
+cycc run --ending --pages=4096 a --steps 18446744073709551615 -> Run { input: "a", pages: Pages { number: 4096 }, steps: 18446744073709551615, shows_ending: true }
+cycc run a --pages 1 -> Run { input: "a", pages: Pages { number: 1 }, steps: 4294967295, shows_ending: false }
+cycc eval i -> Eval { input: "i", fuel: 4294967295, shows_ending: false }
+cycc eval i --steps 7 --ending -> Eval { input: "i", fuel: 7, shows_ending: true }
+cycc exec i --steps 2 -> Exec { input: "i", steps: 2, shows_ending: false }
+cycc dump i -> Dump { input: "i" }"#;
+
+#[test]
+fn words_are_read(rt: HostRuntime) -> Result<(), Fail> {
+    let alloc = rt.alloc();
+    for line in WORDS.trim_start().lines() {
+        let (words, wanted) = line.split_once(" -> ").ok_or("no command")?;
+        let words: Vec<&str> = words.split(' ').collect(alloc)?;
+        let command = command_of(alloc, words.as_slice())?;
+        let found = format!(in alloc; "{command:?}")?;
+        assert_eq!(rt; found.as_str(), wanted);
+    }
+    Ok(())
+}
+
+/// Words that are no command, with the status.
+const OTHER_WORDS: &str = "\
+9 cycc
+9 cycc check
+9 cycc check a b
+9 cycc check a --pages 1
+9 cycc compile a
+9 cycc compile a b --steps 1
+9 cycc compile a b --pages 0
+9 cycc run
+9 cycc run a --pages 4097
+9 cycc run a --pages x
+9 cycc run a --pages
+9 cycc run a --steps -1
+9 cycc run a --steps 18446744073709551616
+9 cycc run a --endings
+9 cycc exec
+9 cycc exec a --pages 1
+9 cycc dump a b
+9 cycc eval a --pages 1
+9 cycc hello
+9 cycc --version
+0 cycc --help
+0 cycc help run
+0 cycc run --help";
+
+#[test]
+fn other_words_are_usage(rt: HostRuntime) -> Result<(), Fail> {
+    let alloc = rt.alloc();
+    for line in OTHER_WORDS.lines() {
+        let (status, words) = line.split_once(' ').ok_or("no words")?;
+        let words: Vec<&str> = words.split(' ').collect(alloc)?;
+        let error = command_of(alloc, words.as_slice()).err().ok_or("taken")?;
+        assert_eq!(rt; usage_status(&error), status.parse()?, "{line}");
+    }
+    Ok(())
+}
+
+/// What the help of words has to say.
+const HELP: &str = "\
+cycc --help -> 9  the words of the command line are out of order
+cycc check --help -> Outlives
+cycc compile --help -> TooLarge
+cycc run --help -> TooDeep
+cycc eval --help -> Consumed
+cycc exec --help -> Trailing
+cycc dump --help -> Magic";
+
+#[test]
+fn help_names_statuses_and_faults(rt: HostRuntime) -> Result<(), Fail> {
+    let alloc = rt.alloc();
+    for line in HELP.lines() {
+        let (words, wanted) = line.split_once(" -> ").ok_or("no help")?;
+        let words: Vec<&str> = words.split(' ').collect(alloc)?;
+        let error = command_of(alloc, words.as_slice()).err().ok_or("taken")?;
+        let help = format!(in alloc; "{error}")?;
+        assert!(rt; help.as_str().contains(wanted), "{line}");
+    }
+    Ok(())
+}

@@ -37,6 +37,9 @@ const IMAGES: &str = "\
 2 | raised Null_Exception$ | - <- exec IMAGE --ending --steps 100 <- 00300893 00100513 00000073
 2 | raised Array_bounds$ | - <- exec IMAGE --ending --steps 100 <- 00300893 00200513 00000073
 2 | - | - <- exec IMAGE <- 00300893 00200513 00000073
+3 | exhausted$ | - <- exec IMAGE --ending <- 00d00893 fff00513 00000073
+3 | - | - <- exec IMAGE <- 00d00893 fff00513 00000073
+5 | fault BadCall at 0x00010008$ | - <- exec IMAGE <- 00d00893 00100513 00000073
 0 | - | entry 0 code 12 data 0 pages 1$00010000 00000893 addi x17, x0, 0$00010004 00700513 addi x10, x0, 7$00010008 00000073 ecall$ <- dump IMAGE <- 00000893 00700513 00000073
 0 | - | entry 0 code 8 data 0 pages 1$00010000 02b54533 div x10, x10, x11$00010004 00000000 illegal$ <- dump IMAGE <- 02b54533 00000000";
 

@@ -2,13 +2,14 @@
 use Rattle.std.proofs.Common.{◌≡◌, ℕ, ◌+◌, ◌-◌, ◌*◌, ◌/◌, ◌%◌, ◌<◌, ◌≤◌, Bool, true, false, List, length, Option, Some, None, Ok, nat_eq, nat_lt, refl, sym, ap, subst, ◌∙◌, arith, length-set}
 use Rattle.std.specs.Prelude.{slice_index, slice_set, ◌&&◌, if◌then◌else◌}
 use Rattle.std.proofs.lemmas.Bool.Decides.{nat_tests}
-use Rattle.cyc_arena.specs.declared.owner.Owner.{Owner}
-use Rattle.cyc_arena.specs.declared.owner.Owner.TheVariants.{Region, Alone}
-use Rattle.cyc_arena.specs.Counts.{put, without_slot}
-use Rattle.cyc_arena.specs.Holdings.{arena_base}
-use Rattle.cyc_arena.specs.Lawful.{frees_alone, is_alone, unique_free, without_alone}
-use Rattle.cyc_arena.specs.Laws.{Does}
-use Rattle.cyc_arena.specs.Plain.{Plain, IsSound, IsClass, IsInPage, count_of, address_of, owner_in, owner_at, page_at, place_at, counts_of, holdings_of}
+use Rattle.arena_laws.specs.declared.owner.Owner.{Owner}
+use Rattle.arena_laws.specs.declared.owner.Owner.TheVariants.{Region, Alone}
+use Rattle.arena_laws.specs.Classes.{IsClass}
+use Rattle.arena_laws.specs.Counts.{put, without_slot}
+use Rattle.arena_laws.specs.Holdings.{arena_base}
+use Rattle.arena_laws.specs.Lawful.{frees_alone, is_alone, unique_free, without_alone}
+use Rattle.arena_laws.specs.Laws.{Does}
+use Rattle.cyc_arena.specs.Plain.{Plain, IsSound, IsInPage, count_of, address_of, owner_in, owner_at, page_at, place_at, counts_of, holdings_of}
 use Rattle.cyc_arena.proofs.Words.{index_same, index_other, index_set, count_set}
 use Rattle.cyc_arena.proofs.Owners.{owner_below, owner_here}
 use Rattle.cyc_arena.proofs.Seen.{slot_in_page}

@@ -1,12 +1,12 @@
 -- What was shown of a store's fields holds of its value.
 use Rattle.std.proofs.Common.{◌≡◌, ℕ, Bool, true, Option, Some, Result, ap, subst, sym, ◌∙◌}
-use Rattle.cyc_arena.specs.declared.refusal.StoreRefusal.{StoreRefusal}
-use Rattle.cyc_arena.specs.declared.owner.Owner.{Owner}
-use Rattle.cyc_arena.specs.declared.owner.Owner.TheVariants.{Alone}
-use Rattle.cyc_arena.specs.Holdings.{Holdings, is_some}
-use Rattle.cyc_arena.specs.Lawful.{Done}
-use Rattle.cyc_arena.specs.Laws.{Does, Stores}
-use Rattle.cyc_arena.specs.Plain.{Plain, holdings_of, owner_at, standing_at}
+use Rattle.arena_laws.specs.declared.refusal.StoreRefusal.{StoreRefusal}
+use Rattle.arena_laws.specs.declared.owner.Owner.{Owner}
+use Rattle.arena_laws.specs.declared.owner.Owner.TheVariants.{Alone}
+use Rattle.arena_laws.specs.Holdings.{Holdings, is_some}
+use Rattle.arena_laws.specs.Lawful.{Done}
+use Rattle.arena_laws.specs.Laws.{Does, stored}
+use Rattle.cyc_arena.specs.Plain.{Plain, byte_at, holdings_of, owner_at, standing_at}
 
 pub does_along : (law : Holdings → Done) (result : Result ℕ StoreRefusal) (after : Holdings) (fields value : Plain) → fields ≡ value →
     Does result after (law (holdings_of fields)) → Does result after (law (holdings_of value))
@@ -24,9 +24,9 @@ pub there_before : (number : ℕ) (fields value : Plain) → fields ≡ value �
     is_some (standing_at fields.standing number) ≡ true
 there_before number fields value e d = subst (λ m. is_some (standing_at m.standing number) ≡ true) (sym e) d
 
-pub stores_along : (at byte : ℕ) (result : Bool) (after : Holdings) (fields value : Plain) → fields ≡ value →
-    Stores at byte (holdings_of fields) result after → Stores at byte (holdings_of value) result after
-stores_along at byte result after fields value e d = subst (λ m. Stores at byte (holdings_of m) result after) e d
+pub stores_along : (at byte : ℕ) (after : ℕ → ℕ) (fields value : Plain) → fields ≡ value →
+    after ≡ stored at byte (holdings_of fields) (byte_at fields.bytes) → after ≡ stored at byte (holdings_of value) (byte_at value.bytes)
+stores_along at byte after fields value e d = subst (λ m. after ≡ stored at byte (holdings_of m) (byte_at m.bytes)) e d
 
 pub owner_along : (q : ℕ) (owner : Option Owner) (fields value : Plain) → fields ≡ value →
     owner ≡ owner_at fields.owner fields.used fields.slots q → owner ≡ owner_at value.owner value.used value.slots q

@@ -3,9 +3,9 @@ use Rattle.std.proofs.Common.{◌≡◌, ℕ, ◌-◌, ◌<◌, ◌≤◌, true,
 use Rattle.std.specs.Prelude.{slice_index, slice_set, if◌then◌else◌}
 use Rattle.std.proofs.lemmas.Bool.Decides.{nat_tests}
 use Rattle.std.proofs.lemmas.Grind.{common_steps}
-use Rattle.cyc_arena.specs.Counts.{put}
-use Rattle.cyc_arena.specs.Holdings.{arena_base, is_in_arena}
-use Rattle.cyc_arena.specs.Laws.{Stores, loaded}
+use Rattle.arena_laws.specs.Counts.{put}
+use Rattle.arena_laws.specs.Holdings.{arena_base, is_in_arena}
+use Rattle.arena_laws.specs.Laws.{loaded, stored}
 use Rattle.cyc_arena.specs.Plain.{Plain, IsSound, byte_at, holdings_of}
 
 in_arena : (s : Plain) (at : ℕ) → IsSound s → arena_base ≤ at → at - arena_base < length s.bytes → is_in_arena (holdings_of s) at ≡ true
@@ -21,21 +21,18 @@ unfolding byte_at
 byte_set bytes at x b l q = grind (arith, nat_tests, common_steps)
 
 pub load_in : (s : Plain) (at v : ℕ) → IsSound s → arena_base ≤ at → at - arena_base < length s.bytes → v ≡ slice_index s.bytes (at - arena_base) →
-    Some v ≡ loaded at (holdings_of s)
+    Some v ≡ loaded at (holdings_of s) (byte_at s.bytes)
 load_in s at v sound b l e =
     subst (λ t. Some v ≡ (if t then Some (byte_at s.bytes at) else None)) (sym (in_arena s at sound b l)) (ap Some (e ∙ sym (byte_in s.bytes at b)))
 
+pub stored_there : (s : Plain) (at : ℕ) → IsSound s → arena_base ≤ at → at - arena_base < length s.bytes → true ≡ is_in_arena (holdings_of s) at
+stored_there s at sound b l = sym (in_arena s at sound b l)
+
 pub store_in : (s : Plain) (at x : ℕ) → IsSound s → arena_base ≤ at → at - arena_base < length s.bytes →
-    Stores at x (holdings_of s) true (holdings_of (record s { bytes = slice_set s.bytes (at - arena_base) x }))
+    byte_at (slice_set s.bytes (at - arena_base) x) ≡ stored at x (holdings_of s) (byte_at s.bytes)
 store_in s at x sound b l =
-    let before = holdings_of s in
-    let now = holdings_of (record s { bytes = slice_set s.bytes (at - arena_base) x }) in
-    let there = in_arena s at sound b l in
-    let e : now ≡ record before { bytes = put at x before.bytes } = (λ i. record before { bytes = λ q. byte_set s.bytes at x b l q i }) in
-    record {
-      says = sym there;
-      holds = subst (λ t. now ≡ (if t then record before { bytes = put at x before.bytes } else before)) (sym there) e;
-    }
+    subst (λ t. byte_at (slice_set s.bytes (at - arena_base) x) ≡ (if t then put at x (byte_at s.bytes) else byte_at s.bytes))
+    (sym (in_arena s at sound b l)) (λ i q. byte_set s.bytes at x b l q i)
 
 pub bytes_sound : (s : Plain) (k x : ℕ) → IsSound s → IsSound (record s { bytes = slice_set s.bytes k x })
 bytes_sound s k x sound = record {

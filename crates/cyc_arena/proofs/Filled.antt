@@ -3,10 +3,11 @@ use Rattle.std.proofs.Common.{◌≡◌, ℕ, zero, suc, ◌+◌, ◌-◌, ◌*�
 use Rattle.std.specs.Prelude.{slice_index, slice_set, if◌then◌else◌}
 use Rattle.std.proofs.lemmas.Bool.Decides.{nat_tests}
 use Rattle.std.proofs.lemmas.Grind.{common_steps}
-use Rattle.cyc_arena.specs.declared.owner.Owner.TheVariants.{Alone}
-use Rattle.cyc_arena.specs.Counts.{put, slot_needs_page}
-use Rattle.cyc_arena.specs.Holdings.{arena_base}
-use Rattle.cyc_arena.specs.Plain.{Plain, IsSound, IsClass, IsInPage, Finds, count_of, filled, address_of, owner_in, owner_at, page_at, place_at, counts_of, holdings_of}
+use Rattle.arena_laws.specs.declared.owner.Owner.TheVariants.{Alone}
+use Rattle.arena_laws.specs.Classes.{IsClass}
+use Rattle.arena_laws.specs.Counts.{put, slot_needs_page}
+use Rattle.arena_laws.specs.Holdings.{arena_base}
+use Rattle.cyc_arena.specs.Plain.{Plain, IsSound, IsInPage, Finds, count_of, filled, address_of, owner_in, owner_at, page_at, place_at, counts_of, holdings_of}
 use Rattle.cyc_arena.proofs.Words.{index_same, index_other, index_set, count_set, none_found}
 use Rattle.cyc_arena.proofs.Owners.{owner_nobody, owner_class, owner_below, owner_here, owner_there}
 use Rattle.cyc_arena.proofs.Seen.{slot_in_page}

@@ -4,9 +4,9 @@ use Rattle.std.specs.Prelude.{slice_index}
 use Rattle.std.proofs.Math.ListN.{replicate}
 use Rattle.std.proofs.lemmas.List.{length-replicate}
 use Rattle.std.proofs.lemmas.Bool.Decides.{nat_tests}
-use Rattle.cyc_arena.specs.declared.standing.Standing.{Standing}
-use Rattle.cyc_arena.specs.Counts.{fresh_counts}
-use Rattle.cyc_arena.specs.Holdings.{fresh, arena_base, is_none}
+use Rattle.arena_laws.specs.declared.standing.Standing.{Standing}
+use Rattle.arena_laws.specs.Counts.{fresh_counts}
+use Rattle.arena_laws.specs.Holdings.{fresh, arena_base, is_none}
 use Rattle.cyc_arena.specs.Plain.{Plain, IsSound, count_of, byte_at, standing_at, left_of, owner_at, page_at, place_at, counts_of, holdings_of}
 use Rattle.cyc_arena.proofs.Words.{count_none}
 use Rattle.cyc_arena.proofs.Owners.{owner_nobody, owner_below, owner_there}
@@ -63,10 +63,12 @@ module _ (n : ℕ) where
     slots = λ c. count_others (2 * c + 1) (n * 128) (omega arith) i;
   }
 
+  pub made_zeros : byte_at made.bytes ≡ (λ q. 0)
+  made_zeros = λ i q. byte_by (nat_lt q arena_base) q refl i
+
   pub made_holds : holdings_of made ≡ fresh n
   made_holds = λ i. record {
     pages = length-replicate {A = ℕ} n 0 i;
-    bytes = λ q. byte_by (nat_lt q arena_base) q refl i;
     standing = λ h. none_at (n + 1) h i;
     owner = λ q. owner_by (nat_lt q arena_base) q refl i;
     counts = counted i;
@@ -111,6 +113,9 @@ fresh_is n s f = λ i. record { bytes = f.bytes i; owner = f.owner i; used = f.u
 
 pub fresh_holds : (n : ℕ) (s : Plain) → AreFresh n s → holdings_of s ≡ fresh n
 fresh_holds n s f = ap holdings_of (fresh_is n s f) ∙ made_holds n
+
+pub fresh_zeros : (n : ℕ) (s : Plain) → AreFresh n s → byte_at s.bytes ≡ (λ q. 0)
+fresh_zeros n s f = ap byte_at f.bytes ∙ made_zeros n
 
 pub fresh_sound : (n : ℕ) (s : Plain) → AreFresh n s → n ≤ 4096 → IsSound s
 fresh_sound n s f l = subst IsSound (sym (fresh_is n s f)) (made_sound n l)

@@ -1,10 +1,10 @@
 -- A key is opened or closed.
 use Rattle.std.proofs.Common.{◌≡◌, ℕ, ◌<◌, List, length, Option, Some, Ok, refl, subst, arith}
 use Rattle.std.specs.Prelude.{slice_set}
-use Rattle.cyc_arena.specs.declared.standing.Standing.{Standing}
-use Rattle.cyc_arena.specs.declared.standing.Standing.TheVariants.{Opened, Closed}
-use Rattle.cyc_arena.specs.Lawful.{standing_as, key_open, opens, key_close, closes}
-use Rattle.cyc_arena.specs.Laws.{Does}
+use Rattle.arena_laws.specs.declared.standing.Standing.{Standing}
+use Rattle.arena_laws.specs.declared.standing.Standing.TheVariants.{Opened, Closed}
+use Rattle.arena_laws.specs.Lawful.{standing_as, key_open, opens, key_close, closes}
+use Rattle.arena_laws.specs.Laws.{Does}
 use Rattle.cyc_arena.specs.Plain.{Plain, standing_at, holdings_of}
 use Rattle.std.proofs.lemmas.Grind.{common_steps}
 use Rattle.cyc_arena.proofs.Words.{standing_set}

@@ -12,8 +12,3 @@ pub mod Slots
 pub mod Filled
 pub mod Uniques
 pub mod Alone
-pub mod Births
-pub mod Rooms
-pub mod Counting
-pub mod Living
-pub mod Samples

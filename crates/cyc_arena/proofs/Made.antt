@@ -3,12 +3,12 @@ use Rattle.std.proofs.Common.{◌≡◌, ℕ, zero, suc, ◌+◌, ◌-◌, ◌*�
 use Rattle.std.specs.Prelude.{slice_index, slice_set, if◌then◌else◌}
 use Rattle.std.proofs.lemmas.Bool.Decides.{nat_tests}
 use Rattle.std.proofs.lemmas.Grind.{common_steps}
-use Rattle.cyc_arena.specs.declared.refusal.StoreRefusal.TheVariants.{Full}
-use Rattle.cyc_arena.specs.declared.standing.Standing.{Standing}
-use Rattle.cyc_arena.specs.Counts.{put, with_region, is_full}
-use Rattle.cyc_arena.specs.Holdings.{is_none, arena_base}
-use Rattle.cyc_arena.specs.Lawful.{Grants, makes, refuses, with_number, is_new_number}
-use Rattle.cyc_arena.specs.Laws.{Does, made}
+use Rattle.arena_laws.specs.declared.refusal.StoreRefusal.TheVariants.{Full}
+use Rattle.arena_laws.specs.declared.standing.Standing.{Standing}
+use Rattle.arena_laws.specs.Counts.{put, with_region, is_full}
+use Rattle.arena_laws.specs.Holdings.{is_none, arena_base}
+use Rattle.arena_laws.specs.Lawful.{Grants, makes, refuses, with_number, is_new_number}
+use Rattle.arena_laws.specs.Laws.{Does, made}
 use Rattle.cyc_arena.specs.Plain.{Plain, IsSound, IsInPage, Finds, count_of, owner_at, page_at, place_at, standing_at, left_of, counts_of, holdings_of}
 use Rattle.cyc_arena.proofs.Words.{index_same, index_other, index_set, standing_set, count_none, count_set, none_found, some_found}
 use Rattle.cyc_arena.proofs.Owners.{owner_nobody, owner_region, owner_below, owner_there, owner_elsewhere}
@@ -145,7 +145,6 @@ module _ (s : Plain) (p : ℕ) (standing : Standing) (sound : IsSound s) (found 
   pub made_holds : holdings_of after ≡ with_number (p + 1) standing (holdings_of s)
   made_holds = λ i. record {
     pages = length-set s.owner p (2 * (p + 1) + 1) i;
-    bytes = (holdings_of s).bytes;
     standing = λ q. standing_set s.standing (p + 1) (Some standing) q standing_in i;
     owner = λ q. owner_kept q i;
     counts = counted i;

@@ -2,10 +2,10 @@
 use Rattle.std.proofs.Common.{◌≡◌, ℕ, zero, suc, ◌+◌, ◌-◌, ◌*◌, ◌/◌, ◌%◌, ◌<◌, ◌≤◌, true, false, List, Option, Some, None, nat_eq, nat_lt, refl, sym, ap, subst, ◌∙◌, arith}
 use Rattle.std.specs.Prelude.{slice_index, slice_set, ◌&&◌, if◌then◌else◌}
 use Rattle.std.proofs.lemmas.Bool.Decides.{nat_tests}
-use Rattle.cyc_arena.specs.declared.owner.Owner.{Owner}
-use Rattle.cyc_arena.specs.declared.owner.Owner.TheVariants.{Region, Alone}
-use Rattle.cyc_arena.specs.Holdings.{Holdings, arena_base, is_none}
-use Rattle.cyc_arena.specs.Lawful.{is_clear, is_lawful_room}
+use Rattle.arena_laws.specs.declared.owner.Owner.{Owner}
+use Rattle.arena_laws.specs.declared.owner.Owner.TheVariants.{Region, Alone}
+use Rattle.arena_laws.specs.Holdings.{Holdings, arena_base, is_none}
+use Rattle.arena_laws.specs.Lawful.{is_clear, is_lawful_room}
 use Rattle.cyc_arena.specs.Plain.{address_of, owner_in, owner_at, page_at, place_at}
 use Rattle.cyc_arena.proofs.Words.{index_other}
 

@@ -4,12 +4,12 @@ use Rattle.std.proofs.lemmas.List.{get_or_read}
 use Rattle.std.specs.Prelude.{slice_index, slice_set, ◌&&◌, ◌||◌, if◌then◌else◌}
 use Rattle.std.proofs.lemmas.Bool.Decides.{nat_tests}
 use Rattle.std.proofs.lemmas.Grind.{common_steps}
-use Rattle.cyc_arena.specs.declared.standing.Standing.{Standing}
-use Rattle.cyc_arena.specs.Counts.{put, room_of, with_block, block_needs_page, is_full, is_too_long}
-use Rattle.cyc_arena.specs.declared.owner.Owner.TheVariants.{Region}
-use Rattle.cyc_arena.specs.Holdings.{Holdings, is_none, arena_base}
-use Rattle.cyc_arena.specs.Lawful.{Grants, owns, is_in_room, is_lawful_room, with_region_block, takes_blocks}
-use Rattle.cyc_arena.specs.Laws.{Does, is_block_refused, region_alloc}
+use Rattle.arena_laws.specs.declared.standing.Standing.{Standing}
+use Rattle.arena_laws.specs.Counts.{put, room_of, with_block, block_needs_page, is_full, is_too_long}
+use Rattle.arena_laws.specs.declared.owner.Owner.TheVariants.{Region}
+use Rattle.arena_laws.specs.Holdings.{Holdings, is_none, arena_base}
+use Rattle.arena_laws.specs.Lawful.{Grants, owns, is_in_room, is_lawful_room, with_region_block, takes_blocks}
+use Rattle.arena_laws.specs.Laws.{Does, is_block_refused, region_alloc}
 use Rattle.cyc_arena.specs.Plain.{Plain, IsSound, IsInPage, Finds, count_of, owner_at, page_at, place_at, standing_at, left_of, counts_of, holdings_of}
 use Rattle.cyc_arena.proofs.Words.{index_same, index_other, index_set, is_place, count_set, some_found}
 use Rattle.cyc_arena.proofs.Made.{all_taken}
@@ -272,7 +272,6 @@ module _ (s : Plain) (h room : ℕ) (sound : IsSound s) (takes : takes_blocks h 
       pub new_holds : holdings_of after_new ≡ with_region_block h (arena_base + 4096 * p) room (holdings_of s)
       new_holds = λ i. record {
         pages = length-set s.owner p (2 * h + 1) i;
-        bytes = (holdings_of s).bytes;
         standing = (holdings_of s).standing;
         owner = λ q. in_new_by (nat_lt q arena_base) (nat_eq (page_at q) p) q refl refl i;
         counts = counted_new i;

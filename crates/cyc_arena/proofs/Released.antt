@@ -2,11 +2,11 @@
 use Rattle.std.proofs.Common.{◌≡◌, ℕ, zero, suc, ◌+◌, ◌-◌, ◌*◌, ◌/◌, ◌%◌, ◌<◌, ◌≤◌, Bool, true, false, List, [], ◌∷◌, length, Option, Some, None, nat_eq, nat_lt, refl, sym, ap, subst, ◌∙◌, arith, length-set}
 use Rattle.std.specs.Prelude.{slice_index, slice_set, if◌then◌else◌}
 use Rattle.std.proofs.lemmas.Bool.Decides.{nat_tests}
-use Rattle.cyc_arena.specs.declared.standing.Standing.{Standing}
-use Rattle.cyc_arena.specs.Counts.{without_region}
-use Rattle.cyc_arena.specs.declared.owner.Owner.TheVariants.{Region, Alone}
-use Rattle.cyc_arena.specs.Holdings.{is_none, is_some, arena_base}
-use Rattle.cyc_arena.specs.Lawful.{is_of, without_blocks, without_number}
+use Rattle.arena_laws.specs.declared.standing.Standing.{Standing}
+use Rattle.arena_laws.specs.Counts.{without_region}
+use Rattle.arena_laws.specs.declared.owner.Owner.TheVariants.{Region, Alone}
+use Rattle.arena_laws.specs.Holdings.{is_none, is_some, arena_base}
+use Rattle.arena_laws.specs.Lawful.{is_of, without_blocks, without_number}
 use Rattle.cyc_arena.specs.Plain.{Plain, IsSound, IsInPage, IsCleared, count_of, address_of, owner_in, owner_at, page_at, place_at, standing_at, left_of, counts_of, holdings_of}
 use Rattle.cyc_arena.proofs.Words.{index_same, index_other, index_set, is_place, standing_set}
 use Rattle.cyc_arena.proofs.Owners.{owner_below, owner_here, owner_region, owner_nobody}
@@ -136,7 +136,6 @@ module _ (s : Plain) (h : ℕ) (zs : List ℕ) (sound : IsSound s) (there : is_s
   pub released_holds : holdings_of after ≡ without_number h (holdings_of s)
   released_holds = λ i. record {
     pages = cleared.long i;
-    bytes = (holdings_of s).bytes;
     standing = λ q. standing_set s.standing h None q standing_in i;
     owner = λ q. owner_by (nat_lt q arena_base) q refl i;
     counts = counted i;

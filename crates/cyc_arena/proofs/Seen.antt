@@ -5,9 +5,10 @@ use Rattle.std.proofs.Math.Nat.{div-lt_iff_lt-mul}
 use Rattle.std.proofs.lemmas.List.{get_or_read}
 use Rattle.std.proofs.lemmas.Bool.Decides.{nat_tests}
 use Rattle.std.proofs.lemmas.Grind.{common_steps}
-use Rattle.cyc_arena.specs.declared.owner.Owner.TheVariants.{Region, Alone}
-use Rattle.cyc_arena.specs.Holdings.{arena_base}
-use Rattle.cyc_arena.specs.Plain.{Plain, IsSound, IsClass, address_of, owner_in, owner_at, page_at, place_at}
+use Rattle.arena_laws.specs.declared.owner.Owner.TheVariants.{Region, Alone}
+use Rattle.arena_laws.specs.Holdings.{arena_base}
+use Rattle.arena_laws.specs.Classes.{IsClass}
+use Rattle.cyc_arena.specs.Plain.{Plain, IsSound, address_of, owner_in, owner_at, page_at, place_at}
 use Rattle.cyc_arena.proofs.Owners.{owner_nobody, owner_region, owner_class, owner_below, owner_there}
 
 pub seen_below : (s : Plain) (q : ℕ) → q < arena_base → None ≡ owner_at s.owner s.used s.slots q

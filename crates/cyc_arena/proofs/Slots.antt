@@ -4,11 +4,12 @@ use Rattle.std.specs.Prelude.{slice_index, slice_set, ◌&&◌, if◌then◌else
 use Rattle.std.proofs.Math.Nat.{mul-le-mul_right}
 use Rattle.std.proofs.lemmas.Nat.{div-mul-add, div-add-mod'}
 use Rattle.std.proofs.lemmas.Bool.Decides.{nat_tests}
-use Rattle.cyc_arena.specs.declared.owner.Owner.TheVariants.{Alone}
-use Rattle.cyc_arena.specs.Counts.{put, with_slot, slot_needs_page}
-use Rattle.cyc_arena.specs.Holdings.{arena_base}
-use Rattle.cyc_arena.specs.Lawful.{owns, is_in_room, is_lawful_room, with_alone}
-use Rattle.cyc_arena.specs.Plain.{Plain, IsSound, IsClass, IsInPage, count_of, address_of, owner_in, owner_at, page_at, place_at, counts_of, holdings_of}
+use Rattle.arena_laws.specs.declared.owner.Owner.TheVariants.{Alone}
+use Rattle.arena_laws.specs.Classes.{IsClass}
+use Rattle.arena_laws.specs.Counts.{put, with_slot, slot_needs_page}
+use Rattle.arena_laws.specs.Holdings.{arena_base}
+use Rattle.arena_laws.specs.Lawful.{owns, is_in_room, is_lawful_room, with_alone}
+use Rattle.cyc_arena.specs.Plain.{Plain, IsSound, IsInPage, count_of, address_of, owner_in, owner_at, page_at, place_at, counts_of, holdings_of}
 use Rattle.cyc_arena.proofs.Words.{index_same, index_other, index_set, is_place, count_set, some_found}
 use Rattle.cyc_arena.proofs.Owners.{owner_class, owner_below, owner_here, owner_there, is_lawful}
 use Rattle.cyc_arena.proofs.Seen.{slot_in_page}

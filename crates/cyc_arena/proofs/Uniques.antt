@@ -1,11 +1,13 @@
 -- A unique block is granted: a vacant slot of its class, or the first of a page that is cut for it.
 use Rattle.std.proofs.Common.{◌≡◌, ℕ, zero, ◌+◌, ◌-◌, ◌*◌, ◌/◌, ◌%◌, ◌≤◌, Bool, true, false, List, length, Some, None, Ok, refl, sym, ap, subst, ◌∙◌, arith, length-set}
 use Rattle.std.specs.Prelude.{slice_set, nat_le, ◌&&◌, ◌||◌, if◌then◌else◌}
-use Rattle.cyc_arena.specs.Counts.{Counts, put, class_of, with_slot, slot_needs_page, is_full, is_full_for_slot, is_too_long}
-use Rattle.cyc_arena.specs.Holdings.{Holdings, arena_base}
-use Rattle.cyc_arena.specs.Lawful.{Grants, is_lawful_room, with_alone}
-use Rattle.cyc_arena.specs.Laws.{Does, unique_alloc}
-use Rattle.cyc_arena.specs.Plain.{Plain, IsSound, IsClass, IsInPage, Finds, filled, owner_at, counts_of, holdings_of}
+use Rattle.arena_laws.proofs.Classes.{class_is}
+use Rattle.arena_laws.specs.Classes.{IsClass}
+use Rattle.arena_laws.specs.Counts.{Counts, put, class_of, with_slot, slot_needs_page, is_full, is_full_for_slot, is_too_long}
+use Rattle.arena_laws.specs.Holdings.{Holdings, arena_base}
+use Rattle.arena_laws.specs.Lawful.{Grants, is_lawful_room, with_alone}
+use Rattle.arena_laws.specs.Laws.{Does, unique_alloc}
+use Rattle.cyc_arena.specs.Plain.{Plain, IsSound, IsInPage, Finds, filled, owner_at, counts_of, holdings_of}
 use Rattle.cyc_arena.proofs.Words.{some_found}
 use Rattle.cyc_arena.proofs.Made.{all_taken}
 use Rattle.cyc_arena.proofs.Placed.{is_short}
@@ -13,24 +15,6 @@ use Rattle.cyc_arena.proofs.Slots.{taken_holds, taken_sound, taken_lawful, spare
 use Rattle.cyc_arena.proofs.Filled.{cut, cut_sound, cut_owner, cut_counts, first_vacant, needs}
 
 -- ---- classes
-
-class_if : (t : Bool) (a b : ℕ) → IsClass a → IsClass b → IsClass (if t then a else b)
-class_if true a b x y = x
-class_if false a b x y = y
-
-class_here : (a : ℕ) → 4096 / a * a ≡ 4096 → 4096 / a ≤ 128 → a % 8 ≡ 0 → 32 ≤ a → IsClass a
-class_here a w f e s = record { whole = w; few = f; eights = e; some = s }
-
-pub class_is : (bytes : ℕ) → IsClass (class_of bytes)
-class_is bytes =
-    class_if (nat_le bytes 32) 32 _ (class_here 32 refl (omega arith) refl (omega arith))
-    (class_if (nat_le bytes 64) 64 _ (class_here 64 refl (omega arith) refl (omega arith))
-    (class_if (nat_le bytes 128) 128 _ (class_here 128 refl (omega arith) refl (omega arith))
-    (class_if (nat_le bytes 256) 256 _ (class_here 256 refl (omega arith) refl (omega arith))
-    (class_if (nat_le bytes 512) 512 _ (class_here 512 refl (omega arith) refl (omega arith))
-    (class_if (nat_le bytes 1024) 1024 _ (class_here 1024 refl (omega arith) refl (omega arith))
-    (class_if (nat_le bytes 2048) 2048 4096 (class_here 2048 refl (omega arith) refl (omega arith)) (class_here 4096 refl (omega arith) refl
-    (omega arith))))))))
 
 pub is_class : (bytes c : ℕ) → c ≡ class_of bytes → IsClass c
 is_class bytes c e = subst IsClass (sym e) (class_is bytes)

@@ -3,8 +3,8 @@ use Rattle.std.proofs.Common.{◌≡◌, ℕ, zero, suc, ◌+◌, ◌<◌, Bool,
 use Rattle.std.specs.Prelude.{slice_index, slice_set, if◌then◌else◌}
 use Rattle.std.proofs.lemmas.Bool.Decides.{nat_tests}
 use Rattle.std.proofs.lemmas.Grind.{common_steps}
-use Rattle.cyc_arena.specs.declared.standing.Standing.{Standing}
-use Rattle.cyc_arena.specs.Counts.{put}
+use Rattle.arena_laws.specs.declared.standing.Standing.{Standing}
+use Rattle.arena_laws.specs.Counts.{put}
 use Rattle.cyc_arena.specs.Plain.{count_of, standing_at, Finds}
 
 -- the place that was written has the word, the others are as they were

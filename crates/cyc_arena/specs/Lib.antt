@@ -1,8 +1,1 @@
-pub mod Holdings
-pub mod Counts
-pub mod Lawful
-pub mod Laws
-pub mod Pages
-pub mod Calls
-pub mod Blocks
 pub mod Plain

@@ -1,10 +1,11 @@
 -- What the plain store's tables stand for.
 use Rattle.std.specs.Prelude.{◌≡◌, ℕ, zero, suc, ◌+◌, ◌-◌, ◌*◌, ◌/◌, ◌%◌, ◌<◌, ◌≤◌, false, Option, Some, None, List, [], ◌∷◌, length, slice_index, slice_index_or, slice_set, nat_eq, nat_lt, if◌then◌else◌}
-use Rattle.cyc_arena.specs.declared.standing.Standing.{Standing}
-use Rattle.cyc_arena.specs.Counts.{Counts}
-use Rattle.cyc_arena.specs.declared.owner.Owner.{Owner}
-use Rattle.cyc_arena.specs.declared.owner.Owner.TheVariants.{Region, Alone}
-use Rattle.cyc_arena.specs.Holdings.{Holdings, arena_base, is_none}
+use Rattle.arena_laws.specs.declared.standing.Standing.{Standing}
+use Rattle.arena_laws.specs.Classes.{IsClass}
+use Rattle.arena_laws.specs.Counts.{Counts}
+use Rattle.arena_laws.specs.declared.owner.Owner.{Owner}
+use Rattle.arena_laws.specs.declared.owner.Owner.TheVariants.{Region, Alone}
+use Rattle.arena_laws.specs.Holdings.{Holdings, arena_base, is_none}
 
 -- The tables. `bytes` is the arena. Of each page `owner` says whose it is, by a word: 0 nobody's, 2 h + 1 the region's or key's with number h
 -- (the heap's where h is 0), 2 c + 2 cut into slots of c bytes; `used` has the bytes used of a region's page. Of each number (the heap is 0)
@@ -68,18 +69,10 @@ counts_of owner used last slots = record {
 abbrev pub holdings_of : Plain → Holdings
 holdings_of s = record {
   pages = length s.owner;
-  bytes = byte_at s.bytes;
   standing = standing_at s.standing;
   owner = owner_at s.owner s.used s.slots;
   counts = counts_of s.owner s.used s.last s.slots;
 }
-
--- the bytes of a slot: they fill a page, in at most 128 slots
-pub record IsClass (c : ℕ) : Type 0 where
-  pub whole : 4096 / c * c ≡ 4096
-  pub few : 4096 / c ≤ 128
-  pub eights : c % 8 ≡ 0
-  pub some : 32 ≤ c
 
 -- the slot stands in a page of its class
 pub record IsInPage (owner : List ℕ) (u c : ℕ) : Type 0 where

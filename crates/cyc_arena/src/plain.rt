@@ -1,20 +1,18 @@
 // The plain store: tables that are read from their beginning at each call.
 
 ghost use Rattle.std.specs.Prelude.{◌≡◌, ◌<◌, true, IfOk};
-ghost use Rattle.cyc_arena.specs.Counts.{is_full};
-ghost use Rattle.cyc_arena.specs.Holdings.{fresh, is_some};
-ghost use Rattle.cyc_arena.specs.Lawful.{without_number};
-ghost use Rattle.cyc_arena.specs.Laws.{Does, answer_of, is_refused_full, made};
-ghost use Rattle.cyc_arena.specs.Plain.{holdings_of, standing_at};
+ghost use Rattle.arena_laws.specs.Counts.{is_full};
+ghost use Rattle.arena_laws.specs.Holdings.{fresh, is_some};
+ghost use Rattle.arena_laws.specs.Lawful.{without_number};
+ghost use Rattle.arena_laws.specs.Laws.{Does, answer_of, is_refused_full, made};
+ghost use Rattle.cyc_arena.specs.Plain.{byte_at, holdings_of, standing_at};
 ghost use Rattle.raw_pages.specs.Raw.{is_no_page_count, is_pages_fault};
 
-use crate::owner::Owner;
-use crate::refusal::StoreRefusal;
-use crate::standing::Standing;
 use crate::store::BlockStore;
 use crate::tables::{
     BASE, PAGE, PAGE_LIMIT, class_for, clear, fill, find, left_in, room_for, standing_of, takes,
 };
+use arena_laws::{Owner, Standing, StoreRefusal};
 use raw_pages::PagesFault;
 use std::alloc::Global;
 use std::marker::Model;
@@ -46,6 +44,7 @@ impl PlainStore {
     /// looked for first; Memory where the allocator refuses.
     pub fn new(alloc: Global, pages: u32) -> Result<PlainStore, PagesFault>
         ensures made { IfOk result (λ s. holdings_of s ≡ fresh pages) }
+        ensures zeros { IfOk result (λ s. byte_at s.bytes ≡ (λ q. 0)) }
         ensures pages { is_pages_fault result ≡ is_no_page_count pages }
     {
         if pages == 0 || pages > PAGE_LIMIT {
@@ -84,6 +83,7 @@ impl PlainStore {
     fn make(&mut self, standing: Standing) -> Result<u32, StoreRefusal>
         ensures does { Does result (holdings_of self.new) (made standing (answer_of result) (holdings_of self.old)) }
         ensures full { is_refused_full result ≡ is_full (holdings_of self.old).counts }
+        ensures bytes { self.new.bytes ≡ self.old.bytes }
     {
         match find(&self.owner, 0) {
             Some(page) => {
@@ -101,7 +101,8 @@ impl PlainStore {
     // a live number, its blocks and its pages are given back
     fn release(&mut self, number: u32)
         requires { is_some (standing_at self.old.standing number) ≡ true }
-        ensures { holdings_of self.new ≡ without_number number (holdings_of self.old) }
+        ensures holds { holdings_of self.new ≡ without_number number (holdings_of self.old) }
+        ensures bytes { self.new.bytes ≡ self.old.bytes }
     {
         clear(&mut self.owner, 2 * number + 1);
         self.last[number as usize] = 0;
@@ -143,6 +144,8 @@ impl PlainStore {
 
 impl BlockStore for PlainStore {
     ghost holdings = { holdings_of };
+
+    ghost byte_at = { λ s. byte_at s.bytes };
 
     fn region_new(&mut self) -> Result<u32, StoreRefusal> {
         self.make(Standing::Lexical)

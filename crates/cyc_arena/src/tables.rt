@@ -1,11 +1,11 @@
 // The plain store's tables: lists of words, which are looked through from their beginning.
 
 ghost use Rattle.std.specs.Prelude.{◌≡◌, ◌+◌, ◌-◌, ◌≤◌, ◌<◌, length, slice_index};
-ghost use Rattle.cyc_arena.specs.Counts.{class_of, room_of};
-ghost use Rattle.cyc_arena.specs.Lawful.{takes_blocks};
+ghost use Rattle.arena_laws.specs.Counts.{class_of, room_of};
+ghost use Rattle.arena_laws.specs.Lawful.{takes_blocks};
 ghost use Rattle.cyc_arena.specs.Plain.{Finds, IsCleared, filled, left_of, standing_at};
 
-use crate::standing::Standing;
+use arena_laws::Standing;
 
 /// The arena's first address.
 pub(crate) const BASE: u32 = 0x1000_0000;

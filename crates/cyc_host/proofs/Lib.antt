@@ -1,6 +1,5 @@
 pub mod Transfers
 pub mod Written
-pub mod Modes
-pub mod Stepping
+pub mod Answers
 pub mod Progress
 pub mod Unstepped

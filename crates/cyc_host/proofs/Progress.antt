@@ -1,55 +1,65 @@
 -- How far a run has come: what it took, what it wrote and what it has gathered.
-use Rattle.std.proofs.Common.{◌≡◌, ℕ, ◌+◌, ◌<◌, ◌≤◌, ◌⊎◌, Bool, true, false, List, [], ◌∷◌, ◌++◌, Option, Some, None, IfSome, refl, sym, ap, ◌∙◌, subst, inl, inr, append_assoc, append-nil, arith}
+use Rattle.std.proofs.Common.{◌≡◌, ℕ, suc, ◌+◌, ◌<◌, ◌≤◌, ◌⊎◌, Bool, true, false, List, [], ◌∷◌, ◌++◌, Option, Some, None, IfSome, Result, Ok, Err, refl, sym, ap, ◌∙◌, subst, inl, inr, append_assoc, append-nil, arith}
 use Rattle.std.specs.List.{Contains}
 use Rattle.std.specs.Io.KnownBytes.{Appends, Consumes, Keeps, IsAtEnd}
 use Rattle.std.proofs.KnownBytes.{Appends-nil, Appends-trans, Consumes-nil, Consumes-trans, Consumes-kept}
-use Rattle.cyc_words.specs.Events.{Event, ByteRead, ByteWritten, output}
+use Rattle.arena_laws.specs.declared.refusal.StoreRefusal.{StoreRefusal}
+use Rattle.arena_laws.specs.Lawful.{Answer}
+use Rattle.arena_laws.specs.Asked.{Asked, RegionNew, RegionAlloc, RegionFree, UniqueAlloc, UniqueFree, KeyNew, KeyOpen, KeyClose, KeyFree, is_granted}
+use Rattle.cyc_words.specs.Events.{Event, Request, ByteRead, ByteWritten, output}
 use Rattle.cyc_words.proofs.Events.{output_append, told_before}
-use Rattle.rv32_machine.specs.State.{State, Lengths, Stop, Over, Runs}
-use Rattle.rv32_machine.specs.Step.{Shown, Nothing, Writes, Asks, Stops, step, given}
-use Rattle.rv32_machine.specs.Run.{AreBytes, Run, run_steps, from}
+use Rattle.rv32_machine.specs.State.{State, Areas, Stop, Over, Runs}
+use Rattle.rv32_machine.specs.Step.{Shown, Nothing, Writes, Asks, Stops, Told, Silent, Says, step, given}
+use Rattle.rv32_machine.specs.Ledger.{Ledger, unborn, event_of, entered}
+use Rattle.rv32_machine.specs.Run.{AreBytes, Run, answer_from, answers_after, after_call, after_step, refused_by, run_steps, from}
 use Rattle.cyc_host.specs.Transfers.{WritesBut, Answers}
 use Rattle.cyc_host.specs.Hosted.{IsHosted, EndsAs, Written}
 use Rattle.cyc_host.specs.declared.ending.Ending.{Ending}
 use Rattle.cyc_host.specs.declared.ending.Ending.TheVariants as ending
 use Rattle.cyc_host.proofs.Written.{written_then}
-use Rattle.cyc_host.proofs.Modes.{stopped, runs_on, runs_after_write, waits_for, runs_again}
-use Rattle.cyc_host.proofs.Stepping.{one_more_step, after_nothing, after_write, after_ask, after_stop}
+use Rattle.rv32_machine.proofs.Modes.{stopped, runs_on, runs_after_write, waits_for, runs_again, was_free, step_alike, write_is_quiet, ask_is_quiet}
+use Rattle.cyc_host.proofs.Answers.{first, stream, stream_more}
+use Rattle.rv32_machine.proofs.Stepping.{one_more_step, after_nothing, after_write, after_ask, after_stop}
 
--- the machine's step from one state to another, and what it shows
-pub record IsStep (n : Lengths) (old new : State) (shown : Shown) : Type 0 where
-  pub state : new ≡ (step n old).state
-  pub shows : shown ≡ (step n old).shown
+-- the machine's step from one state to another with an answer of the store, and what it shows
+pub record IsStep (n : Areas) (answer : Answer) (old new : State) (shown : Shown) : Type 0 where
+  pub state : new ≡ (step n answer old).state
+  pub shows : shown ≡ (step n answer old).shown
 
-pub step_at : (m n : Lengths) (old new : State) (shown : Shown) → m ≡ n → new ≡ (step m old).state → shown ≡ (step m old).shown → IsStep n old new shown
-step_at m n old new shown same state shows =
-    subst (λ (k : Lengths). IsStep k old new shown) same (record { state = state; shows = shows })
+pub step_at : (m n : Areas) (answer : Answer) (old new : State) (shown : Shown) → m ≡ n → new ≡ (step m answer old).state →
+    shown ≡ (step m answer old).shown → IsStep n answer old new shown
+step_at m n answer old new shown same state shows =
+    subst (λ (k : Areas). IsStep k answer old new shown) same (record { state = state; shows = shows })
 
--- a step that stops leaves the machine over
-pub over_at : {n : Lengths} {old new : State} {why : Stop} → IsStep n old new (Stops why) → new.mode ≡ Over why
-over_at {n} {old} {new} {why} x = ap (λ (s : State). s.mode) x.state ∙ stopped n old why x.shows
+module _ {n : Areas} {answer : Answer} {old : State} where
+  -- a step that stops leaves the machine over
+  pub over_at : {new : State} {why : Stop} → IsStep n answer old new (Stops why) → new.mode ≡ Over why
+  over_at {new} {why} x = ap (λ (s : State). s.mode) x.state ∙ stopped n answer old why x.shows
 
--- a step that doesn't stop leaves it running, with the answer where it asks
-pub runs_at : {n : Lengths} {old new : State} → IsStep n old new Nothing → new.mode ≡ Runs
-runs_at {n} {old} {new} x = ap (λ (s : State). s.mode) x.state ∙ runs_on n old x.shows
+  -- a step that doesn't stop leaves it running, with the answer where it asks
+  pub runs_at : {new : State} → IsStep n answer old new Nothing → new.mode ≡ Runs
+  runs_at {new} x = ap (λ (s : State). s.mode) x.state ∙ runs_on n answer old x.shows
 
-pub runs_at_write : {n : Lengths} {old new : State} {byte : ℕ} → IsStep n old new (Writes byte) → new.mode ≡ Runs
-runs_at_write {n} {old} {new} {byte} x = ap (λ (s : State). s.mode) x.state ∙ runs_after_write n old byte x.shows
+  pub runs_at_write : {new : State} {byte : ℕ} → IsStep n answer old new (Writes byte) → new.mode ≡ Runs
+  runs_at_write {new} {byte} x = ap (λ (s : State). s.mode) x.state ∙ runs_after_write n answer old byte x.shows
 
-pub runs_at_answer : {n : Lengths} {old waiting new : State} (answer : Option ℕ) → IsStep n old waiting Asks → new ≡ given answer waiting → new.mode ≡ Runs
-runs_at_answer {n} {old} {waiting} {new} answer x e =
-    ap (λ (s : State). s.mode) e ∙ runs_again answer waiting (ap (λ (s : State). s.mode) x.state ∙ waits_for n old x.shows)
+  pub runs_at_answer : {waiting new : State} (given_byte : Option ℕ) → IsStep n answer old waiting Asks → new ≡ given given_byte waiting → new.mode ≡ Runs
+  runs_at_answer {waiting} {new} given_byte x e =
+      ap (λ (s : State). s.mode) e ∙ runs_again given_byte waiting (ap (λ (s : State). s.mode) x.state ∙ waits_for n answer old x.shows)
 
 -- bytes, and one more
 bytes_push : (bytes : List ℕ) (byte : ℕ) → AreBytes bytes → byte < 256 → AreBytes (bytes ++ byte ∷ [])
 bytes_push [] byte all below = (below, tt)
 bytes_push (first ∷ rest) byte (fits, all) below = (fits, bytes_push rest byte all below)
 
--- A run of so many steps has taken these bytes and no more, whatever else follows them; after the end nothing follows.
-pub record Progress (n : Lengths) (old : State) (count : ℕ) (is_over : Bool) (now : State)
+-- A run of so many steps has taken these bytes and answers of the store and no more, whatever else follows them; after the input's end no byte follows.
+pub record Progress (n : Areas) (old : State) (count : ℕ) (is_over : Bool) (now : State)
     (reader_old reader_new writer_old writer_new : Option (List ℕ)) (gathered : List ℕ) : Type 0 where
   pub input : List ℕ
+  pub answers : List Answer
   pub events : List Event
+  pub ledger : Ledger
+  pub refused : Option Request
   pub written : List ℕ
   pub consumed : Consumes reader_old reader_new input
   pub bytes : AreBytes input
@@ -57,15 +67,19 @@ pub record Progress (n : Lengths) (old : State) (count : ℕ) (is_over : Bool) (
   pub shows : output events ≡ written ++ gathered
   pub told : Contains events (ByteRead None) → is_over ≡ true
   pub at_end : is_over ≡ true → IsAtEnd reader_new
-  pub ran : (more : List ℕ) → (is_over ≡ true → more ≡ [])
-      → run_steps n count (from old (input ++ more)) ≡ record { state = now; input = more; events = events }
+  pub ran : (more : List ℕ) (others : ℕ → Answer) → (is_over ≡ true → more ≡ [])
+      → run_steps n count (from old (input ++ more) (stream answers others))
+      ≡ record { state = now; input = more; answers = others; events = events; ledger = ledger; refused = refused }
 
-module _ {n : Lengths} {old : State} {reader_old writer_old : Option (List ℕ)} where
+module _ {n : Areas} {old : State} {reader_old writer_old : Option (List ℕ)} where
   -- nothing has been done
   pub begun : Progress n old 0 false old reader_old reader_old writer_old writer_old []
   begun = record {
     input = [];
+    answers = [];
     events = [];
+    ledger = unborn;
+    refused = None;
     written = [];
     consumed = Consumes-nil reader_old;
     bytes = tt;
@@ -73,50 +87,156 @@ module _ {n : Lengths} {old : State} {reader_old writer_old : Option (List ℕ)}
     shows = refl;
     told = λ (k, below, is). absurd (omega arith);
     at_end = λ over. absurd (cc);
-    ran = λ more end. refl;
+    ran = λ more others end. refl;
   }
 
   module _ {count : ℕ} {is_over : Bool} {now : State} {reader writer : Option (List ℕ)} {gathered : List ℕ}
       (p : Progress n old count is_over now reader_old reader writer_old writer gathered) where
+    -- what a step makes of the run so far, whatever follows
+    abbrev run_now : List ℕ → (ℕ → Answer) → Run
+    run_now more others = record { state = now; input = more; answers = others; events = p.events; ledger = p.ledger; refused = p.refused }
+
+    -- a step in which the store isn't free, to this run
+    not_free : (answer : Answer) (next : List ℕ → (ℕ → Answer) → Run) → was_free (step n answer now).told ≡ false
+        → ((more : List ℕ) (others : ℕ → Answer) → after_step (run_now more others) (step n answer now) ≡ next more others)
+        → (more : List ℕ) (others : ℕ → Answer) → (is_over ≡ true → more ≡ [])
+        → run_steps n (count + 1) (from old (p.input ++ more) (stream p.answers others)) ≡ next more others
+    not_free answer next bound made more others end =
+        one_more_step n count _ _ (p.ran more others end)
+        ∙ ap (after_step (run_now more others)) (sym (step_alike n answer (others 0) now bound)) ∙ made more others
+
+    -- a step in which it is, which takes its answer
+    free : (answer : Answer) (next : List ℕ → (ℕ → Answer) → Run)
+        → ((more : List ℕ) (others : ℕ → Answer) → after_step (run_now more (first answer others)) (step n answer now) ≡ next more others)
+        → (more : List ℕ) (others : ℕ → Answer) → (is_over ≡ true → more ≡ [])
+        → run_steps n (count + 1) (from old (p.input ++ more) (stream (p.answers ++ answer ∷ []) others)) ≡ next more others
+    free answer next made more others end =
+        one_more_step n count _ _ (ap (λ f. run_steps n count (from old (p.input ++ more) f)) (stream_more p.answers answer others) ∙ p.ran more (first answer others) end)
+        ∙ made more others
+
+    -- the store's part in a step that shows nothing or stops
+    module _ (answer : Answer) (new : State) (state : new ≡ (step n answer now).state)
+        (calls : (r : Run) → after_step r (step n answer now) ≡ after_call (step n answer now).told r (step n answer now).state) where
+      made : (told : Told) → (step n answer now).told ≡ told → (r : Run) → after_step r (step n answer now) ≡ after_call told r new
+      made told is r = calls r ∙ ap (λ t. after_call t r (step n answer now).state) is ∙ ap (after_call told r) (sym state)
+
+      silent : (step n answer now).told ≡ Silent → Progress n old (count + 1) is_over new reader_old reader writer_old writer gathered
+      silent is = record {
+        input = p.input;
+        answers = p.answers;
+        events = p.events;
+        ledger = p.ledger;
+        refused = p.refused;
+        written = p.written;
+        consumed = p.consumed;
+        bytes = p.bytes;
+        appended = p.appended;
+        shows = p.shows;
+        told = p.told;
+        at_end = p.at_end;
+        ran = not_free answer _ (ap was_free is) (λ more others. made Silent is (run_now more others));
+      }
+
+      -- what it was asked, and carried out
+      event_shows : (asked : Asked) → output (event_of asked p.ledger ∷ []) ≡ []
+      event_shows RegionNew = refl
+      event_shows (RegionAlloc h bytes) = refl
+      event_shows (RegionFree h) = refl
+      event_shows (UniqueAlloc bytes) = refl
+      event_shows (UniqueFree at) = refl
+      event_shows KeyNew = refl
+      event_shows (KeyOpen k) = refl
+      event_shows (KeyClose k) = refl
+      event_shows (KeyFree k) = refl
+
+      no_end : (asked : Asked) → event_of asked p.ledger ≡ ByteRead None → ⊥
+      no_end RegionNew e = absurd (cc)
+      no_end (RegionAlloc h bytes) e = absurd (cc)
+      no_end (RegionFree h) e = absurd (cc)
+      no_end (UniqueAlloc bytes) e = absurd (cc)
+      no_end (UniqueFree at) e = absurd (cc)
+      no_end KeyNew e = absurd (cc)
+      no_end (KeyOpen k) e = absurd (cc)
+      no_end (KeyClose k) e = absurd (cc)
+      no_end (KeyFree k) e = absurd (cc)
+
+      abbrev answers_with : Bool → List Answer
+      answers_with true = p.answers ++ answer ∷ []
+      answers_with false = p.answers
+
+      ran_by : (was : Bool) (asked : Asked) (result : Result ℕ StoreRefusal) → is_granted asked ≡ was → (step n answer now).told ≡ Says asked result →
+          (more : List ℕ) (others : ℕ → Answer) → (is_over ≡ true → more ≡ []) →
+          run_steps n (count + 1) (from old (p.input ++ more) (stream (answers_with was) others))
+          ≡ record (after_call (Says asked result) (run_now more others) new) { answers = others }
+      ran_by true asked (Ok value) g is = free answer _ (λ more others. made (Says asked (Ok value)) is (run_now more (first answer others))
+          ∙ ap (λ b. record (after_call (Says asked (Ok value)) (run_now more others) new) { answers = answers_after b (first answer others) }) g)
+      ran_by true asked (Err why) g is = free answer _ (λ more others. made (Says asked (Err why)) is (run_now more (first answer others))
+          ∙ ap (λ b. record (after_call (Says asked (Err why)) (run_now more others) new) { answers = answers_after b (first answer others) }) g)
+      ran_by false asked (Ok value) g is = not_free answer _ (ap was_free is ∙ g) (λ more others. made (Says asked (Ok value)) is (run_now more others)
+          ∙ ap (λ b. record (after_call (Says asked (Ok value)) (run_now more others) new) { answers = answers_after b others }) g)
+      ran_by false asked (Err why) g is = not_free answer _ (ap was_free is ∙ g) (λ more others. made (Says asked (Err why)) is (run_now more others)
+          ∙ ap (λ b. record (after_call (Says asked (Err why)) (run_now more others) new) { answers = answers_after b others }) g)
+
+      carried_out : (asked : Asked) (value : ℕ) → (step n answer now).told ≡ Says asked (Ok value)
+          → Progress n old (count + 1) is_over new reader_old reader writer_old writer gathered
+      carried_out asked value is = record {
+        input = p.input;
+        answers = answers_with (is_granted asked);
+        events = p.events ++ event_of asked p.ledger ∷ [];
+        ledger = entered asked value p.ledger;
+        refused = p.refused;
+        written = p.written;
+        consumed = p.consumed;
+        bytes = p.bytes;
+        appended = p.appended;
+        shows = output_append p.events (event_of asked p.ledger ∷ []) ∙ ap (λ l. output p.events ++ l) (event_shows asked) ∙ append-nil (output p.events) ∙ p.shows;
+        told = λ has. told_before p.events _ _ p.told (λ e. absurd (no_end asked e)) has;
+        at_end = p.at_end;
+        ran = ran_by (is_granted asked) asked (Ok value) refl is;
+      }
+
+      turned_down : (asked : Asked) (why : StoreRefusal) → (step n answer now).told ≡ Says asked (Err why)
+          → Progress n old (count + 1) is_over new reader_old reader writer_old writer gathered
+      turned_down asked why is = record {
+        input = p.input;
+        answers = answers_with (is_granted asked);
+        events = p.events;
+        ledger = p.ledger;
+        refused = refused_by asked why p.ledger;
+        written = p.written;
+        consumed = p.consumed;
+        bytes = p.bytes;
+        appended = p.appended;
+        shows = p.shows;
+        told = p.told;
+        at_end = p.at_end;
+        ran = ran_by (is_granted asked) asked (Err why) refl is;
+      }
+
+      called_by : (told : Told) → (step n answer now).told ≡ told → Progress n old (count + 1) is_over new reader_old reader writer_old writer gathered
+      called_by Silent is = silent is
+      called_by (Says asked (Ok value)) is = carried_out asked value is
+      called_by (Says asked (Err why)) is = turned_down asked why is
+
     -- a step that shows nothing
-    pub went_on : (new : State) → IsStep n now new Nothing → Progress n old (count + 1) is_over new reader_old reader writer_old writer gathered
-    went_on new x = record {
-      input = p.input;
-      events = p.events;
-      written = p.written;
-      consumed = p.consumed;
-      bytes = p.bytes;
-      appended = p.appended;
-      shows = p.shows;
-      told = p.told;
-      at_end = p.at_end;
-      ran = λ more end. one_more_step n count _ _ (p.ran more end) ∙ after_nothing _ _ x.shows
-          ∙ ap (λ (s : State). record { state = s; input = more; events = p.events }) (sym x.state);
-    }
+    pub went_on : (answer : Answer) (new : State) → IsStep n answer now new Nothing
+        → Progress n old (count + 1) is_over new reader_old reader writer_old writer gathered
+    went_on answer new x = called_by answer new x.state (λ r. after_nothing r (step n answer now) x.shows) (step n answer now).told refl
 
     -- a step that stops
-    pub stopped_at : (new : State) (why : Stop) → IsStep n now new (Stops why)
+    pub stopped_at : (answer : Answer) (new : State) (why : Stop) → IsStep n answer now new (Stops why)
         → Progress n old (count + 1) is_over new reader_old reader writer_old writer gathered
-    stopped_at new why x = record {
-      input = p.input;
-      events = p.events;
-      written = p.written;
-      consumed = p.consumed;
-      bytes = p.bytes;
-      appended = p.appended;
-      shows = p.shows;
-      told = p.told;
-      at_end = p.at_end;
-      ran = λ more end. one_more_step n count _ _ (p.ran more end) ∙ after_stop _ _ why x.shows
-          ∙ ap (λ (s : State). record { state = s; input = more; events = p.events }) (sym x.state);
-    }
+    stopped_at answer new why x = called_by answer new x.state (λ r. after_stop r (step n answer now) why x.shows) (step n answer now).told refl
 
     -- a step that gives a byte, which is gathered
-    pub put_one : (new : State) (byte : ℕ) → IsStep n now new (Writes byte)
+    pub put_one : (answer : Answer) (new : State) (byte : ℕ) → IsStep n answer now new (Writes byte)
         → Progress n old (count + 1) is_over new reader_old reader writer_old writer (gathered ++ byte ∷ [])
-    put_one new byte x = record {
+    put_one answer new byte x = record {
       input = p.input;
+      answers = p.answers;
       events = p.events ++ ByteWritten byte ∷ [];
+      ledger = p.ledger;
+      refused = p.refused;
       written = p.written;
       consumed = p.consumed;
       bytes = p.bytes;
@@ -124,8 +244,8 @@ module _ {n : Lengths} {old : State} {reader_old writer_old : Option (List ℕ)}
       shows = output_append p.events (ByteWritten byte ∷ []) ∙ ap (λ l. l ++ byte ∷ []) p.shows ∙ append_assoc p.written gathered (byte ∷ []);
       told = λ has. told_before p.events _ _ p.told (λ same. (cc)) has;
       at_end = p.at_end;
-      ran = λ more end. one_more_step n count _ _ (p.ran more end) ∙ after_write _ _ byte x.shows
-          ∙ ap (λ (s : State). record { state = s; input = more; events = p.events ++ ByteWritten byte ∷ [] }) (sym x.state);
+      ran = not_free answer _ (write_is_quiet n answer now byte x.shows) (λ more others. after_write (run_now more others) _ byte x.shows
+          ∙ ap (λ (s : State). record (run_now more others) { state = s; events = p.events ++ ByteWritten byte ∷ [] }) (sym x.state));
     }
 
     -- some of what is gathered is written
@@ -133,7 +253,10 @@ module _ {n : Lengths} {old : State} {reader_old writer_old : Option (List ℕ)}
         → Progress n old count is_over now reader_old reader writer_old writer_next rest
     wrote writer_next rest x = record {
       input = p.input;
+      answers = p.answers;
       events = p.events;
+      ledger = p.ledger;
+      refused = p.refused;
       written = p.written ++ x.written;
       consumed = p.consumed;
       bytes = p.bytes;
@@ -149,7 +272,10 @@ module _ {n : Lengths} {old : State} {reader_old writer_old : Option (List ℕ)}
         → Progress n old count is_over now reader_old reader_next writer_old writer gathered
     kept reader_next keeps was_open = record {
       input = p.input;
+      answers = p.answers;
       events = p.events;
+      ledger = p.ledger;
+      refused = p.refused;
       written = p.written;
       consumed = Consumes-kept _ _ _ _ p.consumed keeps;
       bytes = p.bytes;
@@ -161,12 +287,15 @@ module _ {n : Lengths} {old : State} {reader_old writer_old : Option (List ℕ)}
     }
 
     -- a byte was wanted, and the answer is given
-    pub answered : (waiting new : State) (reader_next : Option (List ℕ)) (will_be : Bool) (answer : Option ℕ) → IsStep n now waiting Asks
-        → Answers reader reader_next is_over will_be answer → IfSome answer (λ byte. byte < 256) → new ≡ given answer waiting
+    pub answered : (answer : Answer) (waiting new : State) (reader_next : Option (List ℕ)) (will_be : Bool) (said : Option ℕ) → IsStep n answer now waiting Asks
+        → Answers reader reader_next is_over will_be said → IfSome said (λ byte. byte < 256) → new ≡ given said waiting
         → Progress n old (count + 1) will_be new reader_old reader_next writer_old writer gathered
-    answered waiting new reader_next will_be None x (consumes, ended, end) below e = record {
+    answered answer waiting new reader_next will_be None x (consumes, ended, end) below e = record {
       input = p.input;
+      answers = p.answers;
       events = p.events ++ ByteRead None ∷ [];
+      ledger = p.ledger;
+      refused = p.refused;
       written = p.written;
       consumed = subst (Consumes _ _) (append-nil p.input) (Consumes-trans _ _ _ _ _ p.consumed consumes);
       bytes = p.bytes;
@@ -174,17 +303,21 @@ module _ {n : Lengths} {old : State} {reader_old writer_old : Option (List ℕ)}
       shows = output_append p.events (ByteRead None ∷ []) ∙ append-nil (output p.events) ∙ p.shows;
       told = λ has. ended;
       at_end = λ over. elim end [ inl reached ↦ reached | inr (before, same) ↦ subst IsAtEnd (sym same) (p.at_end before) ];
-      ran = λ more last.
+      ran = λ more others last.
           let none : more ≡ [] = last ended in
-          let P : List ℕ → Type 0 = λ l. run_steps n (count + 1) (from old (p.input ++ l))
-          ≡ record { state = new; input = l; events = p.events ++ ByteRead None ∷ [] } in
+          let P : List ℕ → Type 0 = λ l. run_steps n (count + 1) (from old (p.input ++ l) (stream p.answers others))
+          ≡ record (run_now l others) { state = new; events = p.events ++ ByteRead None ∷ [] } in
           subst P (sym none)
-          (one_more_step n count _ _ (p.ran [] (λ _. refl)) ∙ after_ask (record { state = now; input = []; events = p.events }) _ x.shows
-          ∙ ap (λ (s : State). record { state = s; input = []; events = p.events ++ ByteRead None ∷ [] }) (ap (given None) (sym x.state) ∙ sym e));
+          (not_free answer (λ more others. answer_from more (run_now more others) (step n answer now).state) (ask_is_quiet n answer now x.shows)
+          (λ more others. after_ask (run_now more others) _ x.shows) [] others (λ _. refl)
+          ∙ ap (λ (s : State). record (run_now [] others) { state = s; events = p.events ++ ByteRead None ∷ [] }) (ap (given None) (sym x.state) ∙ sym e));
     }
-    answered waiting new reader_next will_be (Some byte) x (consumes, before, after) below e = record {
+    answered answer waiting new reader_next will_be (Some byte) x (consumes, before, after) below e = record {
       input = p.input ++ byte ∷ [];
+      answers = p.answers;
       events = p.events ++ ByteRead (Some byte) ∷ [];
+      ledger = p.ledger;
+      refused = p.refused;
       written = p.written;
       consumed = Consumes-trans _ _ _ _ _ p.consumed consumes;
       bytes = bytes_push p.input byte p.bytes below;
@@ -192,22 +325,24 @@ module _ {n : Lengths} {old : State} {reader_old writer_old : Option (List ℕ)}
       shows = output_append p.events (ByteRead (Some byte) ∷ []) ∙ append-nil (output p.events) ∙ p.shows;
       told = λ has. absurd (let was : is_over ≡ true = told_before p.events _ _ p.told (λ same. (cc)) has in cc);
       at_end = λ over. absurd (cc);
-      ran = λ more last.
-          let first = ap (λ l. run_steps n (count + 1) (from old l)) (append_assoc p.input (byte ∷ []) more) in
-          first ∙ one_more_step n count _ _ (p.ran (byte ∷ more) (λ over. (cc)))
-          ∙ after_ask (record { state = now; input = byte ∷ more; events = p.events }) _ x.shows
-          ∙ ap (λ (s : State). record { state = s; input = more; events = p.events ++ ByteRead (Some byte) ∷ [] })
+      ran = λ more others last.
+          ap (λ l. run_steps n (count + 1) (from old l (stream p.answers others))) (append_assoc p.input (byte ∷ []) more)
+          ∙ not_free answer (λ more others. answer_from more (run_now more others) (step n answer now).state) (ask_is_quiet n answer now x.shows)
+          (λ more others. after_ask (run_now more others) _ x.shows) (byte ∷ more) others (λ over. (cc))
+          ∙ ap (λ (s : State). record (run_now more others) { state = s; events = p.events ++ ByteRead (Some byte) ∷ [] })
           (ap (given (Some byte)) (sym x.state) ∙ sym e);
     }
 
     -- the run at its end
-    pub hosted : (why : Ending) (limit : ℕ) (final : State) (writer_next : Option (List ℕ)) → count ≤ limit
-        → Written why writer writer_next gathered → EndsAs why n limit count now final → IsHosted why n limit old final reader_old reader writer_old writer_next
-    hosted why limit final writer_next within rest ends =
-        let whole : run_steps n count (from old p.input) ≡ record { state = now; input = []; events = p.events } =
-        ap (λ l. run_steps n count (from old l)) (sym (append-nil p.input)) ∙ p.ran [] (λ _. refl) in
+    pub hosted : (why : Ending) (limit : ℕ) (final : State) (writer_next : Option (List ℕ)) (others : ℕ → Answer) → count ≤ limit
+        → Written why writer writer_next gathered → EndsAs why n limit count (run_now [] others) final
+        → IsHosted why n limit old final reader_old reader writer_old writer_next
+    hosted why limit final writer_next others within rest ends =
+        let whole : run_steps n count (from old p.input (stream p.answers others)) ≡ run_now [] others =
+        ap (λ l. run_steps n count (from old l (stream p.answers others))) (sym (append-nil p.input)) ∙ p.ran [] others (λ _. refl) in
         record {
           input = p.input;
+          answers = stream p.answers others;
           count = count;
           within = within;
           given = p.consumed;
@@ -215,12 +350,12 @@ module _ {n : Lengths} {old : State} {reader_old writer_old : Option (List ℕ)}
           taken = ap (λ (x : Run). x.input) whole;
           written = subst (Written why writer_old writer_next) (sym (ap (λ (x : Run). output x.events) whole ∙ p.shows))
               (written_then why _ _ _ _ _ p.appended rest);
-          ends = subst (λ (s : State). EndsAs why n limit count s final) (sym (ap (λ (x : Run). x.state) whole)) ends;
+          ends = subst (λ (x : Run). EndsAs why n limit count x final) (sym whole) ends;
           at_end = λ has. p.at_end (p.told (subst (λ (es : List Event). Contains es (ByteRead None)) (ap (λ (x : Run). x.events) whole) has));
         }
 
 -- an ending, or a failed write in its place, with the machine at its last state
-pub either_end : (why result : Ending) (n : Lengths) (limit count : ℕ) (now : State)
-    → (result ≡ why) ⊎ (result ≡ ending.WriteFault) → EndsAs why n limit count now now → EndsAs result n limit count now now
-either_end why result n limit count now (inl same) ends = subst (λ (k : Ending). EndsAs k n limit count now now) (sym same) ends
-either_end why result n limit count now (inr failed) ends = subst (λ (k : Ending). EndsAs k n limit count now now) (sym failed) (inl refl)
+pub either_end : (why result : Ending) (n : Areas) (limit count : ℕ) (now : Run)
+    → (result ≡ why) ⊎ (result ≡ ending.WriteFault) → EndsAs why n limit count now now.state → EndsAs result n limit count now now.state
+either_end why result n limit count now (inl same) ends = subst (λ (k : Ending). EndsAs k n limit count now now.state) (sym same) ends
+either_end why result n limit count now (inr failed) ends = subst (λ (k : Ending). EndsAs k n limit count now now.state) (sym failed) (inl refl)

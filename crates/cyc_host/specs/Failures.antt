@@ -14,6 +14,7 @@ abbrev pub reads_failed : Ending → ℕ → ℕ
 reads_failed (ending.Ended status) count = count
 reads_failed (ending.Raised kind) count = count
 reads_failed ending.Exhausted count = count
+reads_failed ending.HostMemory count = count
 reads_failed ending.StepLimit count = count
 reads_failed (ending.Fault fault) count = count
 reads_failed ending.ReadFault count = one_more count
@@ -24,6 +25,7 @@ abbrev pub writes_failed : Ending → ℕ → ℕ
 writes_failed (ending.Ended status) count = count
 writes_failed (ending.Raised kind) count = count
 writes_failed ending.Exhausted count = count
+writes_failed ending.HostMemory count = count
 writes_failed ending.StepLimit count = count
 writes_failed (ending.Fault fault) count = count
 writes_failed ending.ReadFault count = count

@@ -3,9 +3,10 @@ use Rattle.std.specs.Prelude.{◌≡◌, ℕ, ◌<◌, ◌≤◌, ◌⊎◌, Lis
 use Rattle.std.specs.Io.KnownBytes.{Appends, Consumes, IsAtEnd}
 use Rattle.cyc_words.specs.Events.{output, ByteRead}
 use Rattle.cyc_words.specs.Words.{word}
-use Rattle.rv32_machine.specs.State.{State, Lengths, Stop, Over}
+use Rattle.rv32_machine.specs.State.{State, Areas, Stop, Over}
 use Rattle.rv32_machine.specs.Step.{step, Asks}
-use Rattle.rv32_machine.specs.Run.{AreBytes, run_steps, from}
+use Rattle.arena_laws.specs.Lawful.{Answer}
+use Rattle.rv32_machine.specs.Run.{Run, AreBytes, run_steps, from}
 use Rattle.cyc_host.specs.declared.ending.Ending.{Ending}
 use Rattle.cyc_host.specs.declared.ending.Ending.TheVariants as ending
 
@@ -15,31 +16,34 @@ Written ending.WriteFault old new bytes = (count : ℕ) × Appends old new (take
 Written (ending.Ended status) old new bytes = Appends old new bytes
 Written (ending.Raised kind) old new bytes = Appends old new bytes
 Written ending.Exhausted old new bytes = Appends old new bytes
+Written ending.HostMemory old new bytes = Appends old new bytes
 Written ending.StepLimit old new bytes = Appends old new bytes
 Written (ending.Fault fault) old new bytes = Appends old new bytes
 Written ending.ReadFault old new bytes = Appends old new bytes
 
--- The state in which so many of at most `limit` steps have left the machine, and why the run ended there. A read fault leaves it
--- waiting, by one step more, so that another run reads again; at a step limit another run goes on. A write fault before a read leaves
--- it waiting too.
-abbrev pub EndsAs : Ending → Lengths → (limit count : ℕ) → (left now : State) → Type 0
-EndsAs (ending.Ended status) n limit count left now = (now ≡ left) × (left.mode ≡ Over (Stop.Ended (word status)))
-EndsAs (ending.Raised kind) n limit count left now = (now ≡ left) × (left.mode ≡ Over (Stop.Raised kind))
-EndsAs ending.Exhausted n limit count left now = (now ≡ left) × (left.mode ≡ Over Stop.Exhausted)
-EndsAs (ending.Fault fault) n limit count left now = (now ≡ left) × (left.mode ≡ Over (Stop.Fault fault))
-EndsAs ending.StepLimit n limit count left now = (now ≡ left) × (count ≡ limit)
-EndsAs ending.ReadFault n limit count left now = (count < limit) × ((now ≡ (step n left).state) × ((step n left).shown ≡ Asks))
-EndsAs ending.WriteFault n limit count left now = (now ≡ left) ⊎ ((count < limit) × (now ≡ (step n left).state))
+-- The run in which so many of at most `limit` steps have left the machine, and why it ended there. A read fault leaves the machine waiting, by one step more, so
+-- that another run reads again; at a step limit another run goes on. A write fault before a read leaves it waiting too.
+abbrev pub EndsAs : Ending → Areas → (limit count : ℕ) → (left : Run) → (now : State) → Type 0
+EndsAs (ending.Ended status) n limit count left now = (now ≡ left.state) × (left.state.mode ≡ Over (Stop.Ended (word status)))
+EndsAs (ending.Raised kind) n limit count left now = (now ≡ left.state) × (left.state.mode ≡ Over (Stop.Raised kind))
+EndsAs ending.Exhausted n limit count left now = (now ≡ left.state) × (left.state.mode ≡ Over Stop.Exhausted)
+EndsAs ending.HostMemory n limit count left now = (now ≡ left.state) × (left.state.mode ≡ Over Stop.Lacking)
+EndsAs (ending.Fault fault) n limit count left now = (now ≡ left.state) × (left.state.mode ≡ Over (Stop.Fault fault))
+EndsAs ending.StepLimit n limit count left now = (now ≡ left.state) × (count ≡ limit)
+EndsAs ending.ReadFault n limit count left now =
+    (count < limit) × ((now ≡ (step n (left.answers 0) left.state).state) × ((step n (left.answers 0) left.state).shown ≡ Asks))
+EndsAs ending.WriteFault n limit count left now = (now ≡ left.state) ⊎ ((count < limit) × (now ≡ (step n (left.answers 0) left.state).state))
 
--- A run of at most `limit` steps, from one state to another: of so many steps, on the bytes that the reader gave, all of which were taken.
--- The machine was told of the input's end only where the reader is at its end.
-pub record IsHosted (why : Ending) (n : Lengths) (limit : ℕ) (old new : State) (reader_old reader_new writer_old writer_new : Option (List ℕ)) : Type 0 where
+-- A run of at most `limit` steps, from one state to another: of so many steps, on the bytes that the reader gave, all of which were taken, over a store that gave
+-- these answers. The machine was told of the input's end only where the reader is at its end.
+pub record IsHosted (why : Ending) (n : Areas) (limit : ℕ) (old new : State) (reader_old reader_new writer_old writer_new : Option (List ℕ)) : Type 0 where
   pub input : List ℕ
+  pub answers : ℕ → Answer
   pub count : ℕ
   pub within : count ≤ limit
   pub given : Consumes reader_old reader_new input
   pub bytes : AreBytes input
-  pub taken : (run_steps n count (from old input)).input ≡ []
-  pub written : Written why writer_old writer_new (output (run_steps n count (from old input)).events)
-  pub ends : EndsAs why n limit count (run_steps n count (from old input)).state new
-  pub at_end : Contains (run_steps n count (from old input)).events (ByteRead None) → IsAtEnd reader_new
+  pub taken : (run_steps n count (from old input answers)).input ≡ []
+  pub written : Written why writer_old writer_new (output (run_steps n count (from old input answers)).events)
+  pub ends : EndsAs why n limit count (run_steps n count (from old input answers)) new
+  pub at_end : Contains (run_steps n count (from old input answers)).events (ByteRead None) → IsAtEnd reader_new

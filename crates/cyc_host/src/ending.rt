@@ -11,6 +11,8 @@ pub enum Ending {
     Raised(Kind),
     /// The store or the stack had no room.
     Exhausted,
+    /// The store lacked host memory.
+    HostMemory,
     /// The given number of steps was made. Another run goes on from there.
     StepLimit,
     /// The machine stopped at a fault.

@@ -1,13 +1,14 @@
 // The loop of a run.
 
 ghost use Rattle.std.specs.Prelude.{◌≡◌, ◌≢◌, ◌<◌, ◌⊎◌};
-ghost use Rattle.rv32_machine.specs.Arrays.{lengths_of, state_of};
+ghost use Rattle.rv32_machine.specs.Arrays.{areas_of, arrays, state_of};
 ghost use Rattle.rv32_machine.specs.State.{Runs};
 ghost use Rattle.cyc_host.specs.Failures.{reads_failed, writes_failed};
 ghost use Rattle.cyc_host.specs.Hosted.{IsHosted, Written};
 
 use crate::ending::Ending;
 use crate::transfer::{Gathered, read};
+use cyc_arena::BlockStore;
 use cyc_words::{Input, Output};
 use rv32_machine::{Event, Machine};
 
@@ -28,19 +29,21 @@ fn finish<W: Output>(gathered: &mut Gathered, writer: &mut W, ending: Ending) ->
 ///
 /// Output is written when 4,096 bytes are gathered, before each read and at each ending. `WriteFault` comes in place of any
 /// other ending, where a write failed or took no byte; `ReadFault` where a read failed. After a failed call neither device is
-/// called again. A byte that is asked for at the last step is still answered. Takes no memory.
-pub fn run<R: Input, W: Output>(
-    machine: &mut Machine,
+/// called again. A byte that is asked for at the last step is still answered. Takes no memory but what the store takes.
+pub fn run<S: BlockStore, R: Input, W: Output>(
+    machine: &mut Machine<S>,
     reader: &mut R,
     writer: &mut W,
     steps: u64,
 ) -> Ending
-    // what is written is the output of the machine's run on the bytes that the reader gave, and the ending is the machine's
-    ensures hosted { IsHosted result (lengths_of machine.old) steps (state_of machine.old) (state_of machine.new)
+    // what is written is the output of the machine's run on the bytes that the reader gave and with the answers that its store
+    // gave, and the ending is the machine's
+    ensures hosted { let seen = arrays S.holdings S.byte_at in
+        IsHosted result (areas_of (seen machine.old)) steps (state_of (seen machine.old)) (state_of (seen machine.new))
         (R.remaining reader.old) (R.remaining reader.new) (W.contents writer.old) (W.contents writer.new) }
     // at the step limit the machine runs on
-    ensures goes_on { result ≡ Ending.StepLimit → 0 < steps → (state_of machine.new).mode ≡ Runs }
-    ensures lengths { lengths_of machine.new ≡ lengths_of machine.old }
+    ensures goes_on { result ≡ Ending.StepLimit → 0 < steps → (state_of (arrays S.holdings S.byte_at machine.new)).mode ≡ Runs }
+    ensures areas { let seen = arrays S.holdings S.byte_at in areas_of (seen machine.new) ≡ areas_of (seen machine.old) }
     // each device's fault comes where just one call of that device failed, and any other ending where none did
     ensures reads { R.fault_count reader.new ≡ reads_failed result (R.fault_count reader.old) }
     ensures writes { W.fault_count writer.new ≡ writes_failed result (W.fault_count writer.old) }
@@ -69,6 +72,7 @@ pub fn run<R: Input, W: Output>(
             Event::Ended(status) => return finish(&mut gathered, writer, Ending::Ended(status)),
             Event::Raised(kind) => return finish(&mut gathered, writer, Ending::Raised(kind)),
             Event::Exhausted => return finish(&mut gathered, writer, Ending::Exhausted),
+            Event::HostMemory => return finish(&mut gathered, writer, Ending::HostMemory),
             Event::Fault(fault) => return finish(&mut gathered, writer, Ending::Fault(fault)),
         }
     }

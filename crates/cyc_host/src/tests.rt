@@ -2,6 +2,7 @@
 
 use super::*;
 use arrayvec::ArrayVec;
+use cyc_arena::PlainStore;
 use cyc_image::{Parts, load, write};
 use cyc_words::{Counted, Input, Kind, MachineFault, Output};
 use rv32_isa::decode;
@@ -102,8 +103,8 @@ impl Write for Tape {
 
 type Word = (u32, &'static str);
 
-// the machine of an image of one page with these words, at its first instruction
-fn machine_of(alloc: Global, words: &[Word]) -> Result<Machine, Fail> {
+// the machine of an image of one page with these words, at its first instruction, over a store of one page
+fn machine_of(alloc: Global, words: &[Word]) -> Result<Machine<PlainStore>, Fail> {
     let mut code = Vec::new(alloc);
     for (word, _) in words {
         code.extend_from_slice(&word.to_le_bytes())?;
@@ -119,7 +120,11 @@ fn machine_of(alloc: Global, words: &[Word]) -> Result<Machine, Fail> {
     }
     let bytes = write(alloc, &parts)?;
     let image = load(alloc, &bytes)?;
-    Ok(Machine::new(alloc, &image)?)
+    let store = PlainStore::new(alloc, image.pages())?;
+    match Machine::new(alloc, &image, store) {
+        Ok(machine) => Ok(machine),
+        Err(_) => Err(Fail::from("no memory for the machine")),
+    }
 }
 
 // puts out each byte that it gets, in six steps, and ends with 0 at the end of the input

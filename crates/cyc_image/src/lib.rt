@@ -13,8 +13,6 @@ mod laws;
 mod layout;
 mod loading;
 mod parts;
-#[cfg(test)]
-mod tests;
 
 pub use fault::ImageFault;
 pub use image::Image;

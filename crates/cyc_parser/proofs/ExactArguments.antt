@@ -5,7 +5,7 @@ use Rattle.cyc_lexer.specs.declared.token.TokenKind.{TokenKind}
 use Rattle.cyc_lexer.specs.declared.token.TokenKind.TheVariants as kind
 use Rattle.cyc_tree.specs.Tree.{Expression, Expressions, NoExpressions, MoreExpressions}
 use Rattle.cyc_tree.specs.View.{expressions_of}
-use Rattle.cyc_tree.specs.PartNesting.{argument_nesting, expression_nesting}
+use Rattle.cyc_tree.proofs.PartNesting.{argument_nesting, expression_nesting}
 use Rattle.cyc_parser.specs.Phrases.{Tokens, SignAt, IsSign}
 use Rattle.cyc_parser.specs.ExpressionGrammar.{AreArguments}
 use Rattle.cyc_parser.specs.Tests.{continues, is_sign, begins_unary}

@@ -5,7 +5,7 @@ use Rattle.cyc_lexer.specs.declared.token.Sign.TheVariants as sign_of
 use Rattle.cyc_lexer.specs.declared.token.TokenKind.{TokenKind}
 use Rattle.cyc_lexer.specs.declared.token.TokenKind.TheVariants as kind
 use Rattle.cyc_tree.specs.Tree.{Expression, Chain, Assign, NoLinks, MoreLinks}
-use Rattle.cyc_tree.specs.PartNesting.{inner_nesting, expression_nesting}
+use Rattle.cyc_tree.proofs.PartNesting.{inner_nesting, expression_nesting}
 use Rattle.cyc_parser.specs.Phrases.{Tokens, SignAt}
 use Rattle.cyc_parser.specs.ExpressionGrammar.{IsExpression, binds, unary_level}
 use Rattle.cyc_parser.specs.Tests.{continues, is_sign}

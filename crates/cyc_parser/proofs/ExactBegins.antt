@@ -13,7 +13,7 @@ use Rattle.cyc_tree.specs.declared.expression.Prefix.TheVariants as prefix
 use Rattle.cyc_tree.specs.Tree.{Expression, Number, Character, Text, Null, HeapRegion, UniqueRegion, Variable, Call, MakeUnion, NumElts, Grouped}
 use Rattle.cyc_tree.specs.Tree.{Suffixed, Prefixed, New, NewIn, Chain, AllOf, AnyOf, Assign, NoExpressions, MoreExpressions, NoLinks, MoreLinks}
 use Rattle.cyc_tree.specs.Tree.{NoSuffixes, Index, Dot, Arrow, One}
-use Rattle.cyc_tree.specs.PartNesting.{inner_nesting}
+use Rattle.cyc_tree.proofs.PartNesting.{inner_nesting}
 use Rattle.cyc_parser.specs.Phrases.{Tokens, InParentheses}
 use Rattle.cyc_parser.specs.ExpressionGrammar.{IsExpression, binds, unary_level, prefix_sign}
 use Rattle.cyc_parser.specs.Tests.{begins_unary}

@@ -7,7 +7,7 @@ use Rattle.cyc_lexer.specs.declared.token.Sign.TheVariants as sign_of
 use Rattle.cyc_lexer.specs.declared.token.TokenKind.{TokenKind}
 use Rattle.cyc_tree.specs.Tree.{Expression, Statement, Switch, Pattern, Case, Default, BlockItems, Clauses, NoClauses, MoreClauses}
 use Rattle.cyc_tree.specs.View.{OneItem, OneClause, items_of, clauses_of}
-use Rattle.cyc_tree.specs.PartNesting.{expression_nesting, items_nesting, clauses_nesting}
+use Rattle.cyc_tree.proofs.PartNesting.{expression_nesting, items_nesting, clauses_nesting}
 use Rattle.cyc_parser.specs.Phrases.{Tokens, KeywordAt, IsKeyword, IsSign, IsName}
 use Rattle.cyc_parser.specs.StatementGrammar.{IsPattern, AreItems, AreClauses, ends_open}
 use Rattle.cyc_parser.specs.Tests.{is_keyword, begins_clause, continues}

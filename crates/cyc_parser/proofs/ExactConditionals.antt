@@ -2,7 +2,7 @@
 use Rattle.std.proofs.Common.{◌≡◌, ◌⊎◌, ◌&&◌, ℕ, suc, max, Bool, true, false, [], ◌∷◌, Ok, Err, refl, sym, subst, ◌∙◌, inl, inr}
 use Rattle.cyc_lexer.specs.declared.token.Keyword.TheVariants as word
 use Rattle.cyc_tree.specs.Tree.{Expression, Statement, If, IfElse, While}
-use Rattle.cyc_tree.specs.PartNesting.{expression_nesting, statement_nesting}
+use Rattle.cyc_tree.proofs.PartNesting.{expression_nesting, statement_nesting}
 use Rattle.cyc_parser.specs.declared.fault.ParseFault.{ParseFault}
 use Rattle.cyc_parser.specs.declared.fault.ParseFault.TheVariants.{Parse, TooDeep, Memory}
 use Rattle.cyc_parser.specs.Phrases.{Tokens, KeywordAt}

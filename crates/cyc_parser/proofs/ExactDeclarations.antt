@@ -7,7 +7,7 @@ use Rattle.cyc_lexer.specs.declared.token.TokenKind.{TokenKind}
 use Rattle.cyc_lexer.specs.declared.token.TokenKind.TheVariants as kind
 use Rattle.cyc_tree.specs.Tree as tree
 use Rattle.cyc_tree.specs.Tree.{Name, RegionName, TypeName, Base, Int, Unsigned, Char, Void, Struct, Union, Handle, Key, Expression, Declaration, Local, Open, Alias, NewKey}
-use Rattle.cyc_tree.specs.PartNesting.{initializer_nesting}
+use Rattle.cyc_tree.proofs.PartNesting.{initializer_nesting}
 use Rattle.cyc_parser.specs.Phrases.{Tokens, KeywordAt, IsName}
 use Rattle.cyc_parser.specs.TypeGrammar.{IsOneRegion, IsBase, IsType}
 use Rattle.cyc_parser.specs.StatementGrammar.{IsCount, IsInitializer, IsNameInParentheses, IsDeclaration}

@@ -6,7 +6,7 @@ use Rattle.cyc_lexer.specs.declared.token.TokenKind.TheVariants as kind
 use Rattle.cyc_tree.specs.Tree.{Name, Expression, Number, Character, Text, Null, HeapRegion, UniqueRegion, Variable, Call, MakeUnion, NumElts}
 use Rattle.cyc_tree.specs.Tree.{Grouped, Chain, NoLinks, MoreLinks}
 use Rattle.cyc_tree.specs.View.{expressions_of}
-use Rattle.cyc_tree.specs.PartNesting.{inner_nesting, argument_nesting, expression_nesting}
+use Rattle.cyc_tree.proofs.PartNesting.{inner_nesting, argument_nesting, expression_nesting}
 use Rattle.cyc_parser.specs.Phrases.{Tokens, SignAt, IsSign, IsName}
 use Rattle.cyc_parser.specs.ExpressionGrammar.{primary_level}
 use Rattle.cyc_parser.specs.Tests.{continues, is_sign, is_identifier, is_literal}

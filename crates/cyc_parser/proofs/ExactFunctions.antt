@@ -3,7 +3,7 @@ use Rattle.std.proofs.Common.{◌≡◌, ℕ, Bool, false, List, [], ◌∷◌, 
 use Rattle.cyc_lexer.specs.declared.token.Sign.TheVariants as sign_of
 use Rattle.cyc_lexer.specs.declared.token.TokenKind.{TokenKind}
 use Rattle.cyc_lexer.specs.declared.token.TokenKind.TheVariants as kind
-use Rattle.cyc_tree.specs.PartNesting.{items_nesting}
+use Rattle.cyc_tree.proofs.PartNesting.{items_nesting}
 use Rattle.cyc_tree.specs.Tree as tree
 use Rattle.cyc_tree.specs.Tree.{Name, RegionName, TypeName, Member, Bound, Function, BlockItems, NoItems}
 use Rattle.cyc_tree.specs.View.{OneItem, items_of}

@@ -5,7 +5,7 @@ use Rattle.cyc_lexer.specs.declared.token.Sign.{Sign}
 use Rattle.cyc_lexer.specs.declared.token.TokenKind.{TokenKind}
 use Rattle.cyc_tree.specs.Tree.{Expression, Expressions, NoExpressions, MoreExpressions}
 use Rattle.cyc_tree.specs.View.{expressions_of}
-use Rattle.cyc_tree.specs.PartNesting.{inner_nesting, expression_nesting}
+use Rattle.cyc_tree.proofs.PartNesting.{inner_nesting, expression_nesting}
 use Rattle.cyc_parser.specs.Phrases.{Tokens, InParentheses, SignAt}
 use Rattle.cyc_parser.specs.ExpressionGrammar.{IsExpression, AreOperands, binds}
 use Rattle.cyc_parser.specs.Tests.{continues, strength, is_sign, sign_number}

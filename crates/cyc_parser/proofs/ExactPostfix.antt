@@ -8,7 +8,7 @@ use Rattle.cyc_lexer.specs.declared.token.TokenKind.TheVariants as kind
 use Rattle.cyc_tree.specs.Tree.{Name, Expression, Variable, Call, MakeUnion, Suffixed, Chain, NoLinks, MoreLinks, Suffixes, NoSuffixes, Index, Dot}
 use Rattle.cyc_tree.specs.Tree.{Arrow}
 use Rattle.cyc_tree.specs.View.{OneSuffix, suffixes_of, expressions_of}
-use Rattle.cyc_tree.specs.PartNesting.{inner_nesting, suffix_nesting}
+use Rattle.cyc_tree.proofs.PartNesting.{inner_nesting, suffix_nesting}
 use Rattle.cyc_parser.specs.Phrases.{Tokens}
 use Rattle.cyc_parser.specs.ExpressionGrammar.{IsExpression, AreSuffixes, binds, unary_level, primary_level}
 use Rattle.cyc_parser.specs.Tests.{continues, is_sign, is_identifier}

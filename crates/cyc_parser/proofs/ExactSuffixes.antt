@@ -8,7 +8,7 @@ use Rattle.cyc_lexer.specs.declared.token.TokenKind.{TokenKind}
 use Rattle.cyc_lexer.specs.declared.token.TokenKind.TheVariants as kind
 use Rattle.cyc_tree.specs.Tree.{Name, Expression, Suffixes, NoSuffixes, Index, Dot, Arrow}
 use Rattle.cyc_tree.specs.View.{OneSuffix, suffixes_of}
-use Rattle.cyc_tree.specs.PartNesting.{expression_nesting, suffix_nesting}
+use Rattle.cyc_tree.proofs.PartNesting.{expression_nesting, suffix_nesting}
 use Rattle.cyc_parser.specs.Phrases.{Tokens, SignAt, IsSign, IsName}
 use Rattle.cyc_parser.specs.ExpressionGrammar.{AreSuffixes, unary_level}
 use Rattle.cyc_parser.specs.Tests.{continues, is_sign, begins_suffix}

@@ -3,7 +3,7 @@ use Rattle.std.proofs.Common.{◌≡◌, ℕ, Bool, true, false, List, [], ◌�
 use Rattle.cyc_lexer.specs.declared.token.Sign.TheVariants as sign_of
 use Rattle.cyc_lexer.specs.declared.token.TokenKind.{TokenKind}
 use Rattle.cyc_lexer.specs.declared.token.TokenKind.TheVariants as kind
-use Rattle.cyc_tree.specs.PartNesting.{item_nesting, items_nesting}
+use Rattle.cyc_tree.proofs.PartNesting.{item_nesting, items_nesting}
 use Rattle.cyc_tree.specs.Tree.{Name, Pointer, TypeName, Initial, Given, Item, StructItem, UnionItem, GlobalItem, FunctionItem}
 use Rattle.cyc_parser.specs.Phrases.{Tokens, SignAt, IsSign, IsName, Each}
 use Rattle.cyc_parser.specs.TypeGrammar.{IsPointer, IsType}

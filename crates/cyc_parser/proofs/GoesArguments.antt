@@ -5,7 +5,7 @@ use Rattle.cyc_lexer.specs.declared.token.Sign.TheVariants as sign_of
 use Rattle.cyc_lexer.specs.declared.token.TokenKind.TheVariants as kind
 use Rattle.cyc_tree.specs.Tree.{Expression}
 use Rattle.cyc_tree.specs.View.{expressions_of}
-use Rattle.cyc_tree.specs.PartNesting.{argument_nesting, expression_nesting}
+use Rattle.cyc_tree.proofs.PartNesting.{argument_nesting, expression_nesting}
 use Rattle.cyc_tree.specs.Depths.{first_deeper, expression_starts, argument_starts}
 use Rattle.cyc_parser.specs.Phrases.{Tokens, IsSign, InParentheses}
 use Rattle.cyc_parser.specs.ExpressionGrammar.{IsExpression}

@@ -4,7 +4,7 @@ use Rattle.cyc_lexer.specs.declared.token.Keyword.TheVariants as word
 use Rattle.cyc_lexer.specs.declared.token.Sign.TheVariants as sign_of
 use Rattle.cyc_tree.specs.Tree as tree
 use Rattle.cyc_tree.specs.Tree.{Name, TypeName, Expression, Declaration, Local, Open, Alias, NewKey}
-use Rattle.cyc_tree.specs.PartNesting.{declaration_nesting}
+use Rattle.cyc_tree.proofs.PartNesting.{declaration_nesting}
 use Rattle.cyc_tree.specs.Depths.{first_deeper, expression_starts, declaration_starts}
 use Rattle.cyc_parser.specs.Phrases.{Tokens, IsSign}
 use Rattle.cyc_parser.specs.ExpressionGrammar.{IsExpression}

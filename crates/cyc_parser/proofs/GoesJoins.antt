@@ -6,7 +6,7 @@ use Rattle.cyc_lexer.specs.declared.token.Sign.TheVariants as sign_of
 use Rattle.cyc_lexer.specs.declared.token.TokenKind.{TokenKind}
 use Rattle.cyc_tree.specs.Tree.{Expression}
 use Rattle.cyc_tree.specs.View.{expressions_of}
-use Rattle.cyc_tree.specs.PartNesting.{inner_nesting, operand_nesting}
+use Rattle.cyc_tree.proofs.PartNesting.{inner_nesting, operand_nesting}
 use Rattle.cyc_tree.specs.Depths.{inner_starts, operand_starts, first_deeper}
 use Rattle.cyc_parser.specs.Phrases.{Tokens}
 use Rattle.cyc_parser.specs.ExpressionGrammar.{IsExpression, binds, unary_level}

@@ -7,7 +7,7 @@ use Rattle.cyc_lexer.specs.declared.token.Sign.TheVariants as sign_of
 use Rattle.cyc_lexer.specs.declared.token.TokenKind.{TokenKind}
 use Rattle.cyc_lexer.specs.declared.token.TokenKind.TheVariants as kind
 use Rattle.cyc_tree.specs.Tree.{Name, Expression, Number, Statement, Empty, Block, Run, Exchange, If, IfElse, While, Switch, Break, Continue, Return, FreeUnique, FreeKey, NoItems, Default, NoClauses, MoreClauses}
-use Rattle.cyc_tree.specs.PartNesting.{statement_nesting}
+use Rattle.cyc_tree.proofs.PartNesting.{statement_nesting}
 use Rattle.cyc_parser.specs.Phrases.{Tokens, IsSign, InParentheses}
 use Rattle.cyc_parser.specs.ExpressionGrammar.{IsExpression}
 use Rattle.cyc_parser.specs.StatementGrammar.{IsNameInParentheses, IsStatement}

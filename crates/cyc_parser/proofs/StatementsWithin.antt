@@ -4,7 +4,7 @@ use Rattle.cyc_lexer.specs.declared.token.Keyword.TheVariants as word
 use Rattle.cyc_lexer.specs.declared.token.TokenKind.{TokenKind}
 use Rattle.cyc_tree.specs.Tree.{Declaration, Statement}
 use Rattle.cyc_tree.specs.View.{OneItem, items_of}
-use Rattle.cyc_tree.specs.PartNesting.{declaration_nesting, statement_nesting, items_nesting}
+use Rattle.cyc_tree.proofs.PartNesting.{declaration_nesting, statement_nesting, items_nesting}
 use Rattle.cyc_parser.specs.Phrases.{Tokens}
 use Rattle.cyc_parser.specs.StatementGrammar.{IsDeclaration, IsStatement, AreItems, ends_open}
 use Rattle.cyc_parser.specs.Tests.{is_keyword, begins_item}

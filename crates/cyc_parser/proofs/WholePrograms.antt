@@ -4,8 +4,8 @@ use Rattle.std.proofs.lemmas.List.{append-nil}
 use Rattle.cyc_lexer.specs.Lexing.{Token}
 use Rattle.cyc_tree.specs.Tree.{Item, Program}
 use Rattle.cyc_tree.specs.Depths.{nesting, nesting_limit, too_deep_at}
-use Rattle.cyc_tree.specs.PartNesting.{program_nesting}
-use Rattle.cyc_tree.proofs.DeepestPhrases.{nesting_is}
+use Rattle.cyc_tree.proofs.PartNesting.{program_nesting}
+use Rattle.cyc_tree.proofs.PartDepths.{nesting_is}
 use Rattle.cyc_parser.specs.declared.fault.ParseFault.{ParseFault}
 use Rattle.cyc_parser.specs.declared.fault.ParseFault.TheVariants.{Parse, TooDeep, Memory}
 use Rattle.cyc_parser.specs.Phrases.{Tokens}

@@ -12,7 +12,7 @@ use crate::first::{begins_declarator, begins_type};
 use crate::statement::block_items;
 use crate::type_name::{pointers, regions, typed_name};
 use cyc_lexer::{Keyword, Sign};
-use cyc_tree::{Base, Bound, Function, Member, Name, RegionName, TypeName};
+use cyc_tree::{Base, Bound, Bounds, Function, Member, Name, RegionNames, TypeName};
 use std::alloc::Global;
 
 /// The most statements, expressions and unary expressions that may contain a token.
@@ -101,7 +101,7 @@ fn void_parameter(alloc: Global, cursor: &mut Cursor<'_, '_>) -> Parsed<Option<M
 
 /// Reads the effect of a function, where one is written.
 #[tactic(auto, unfolding(crate::specs::ReadPrograms::effect))]
-fn effect(alloc: Global, cursor: &mut Cursor<'_, '_>) -> Parsed<Option<Vec<RegionName>>>
+fn effect(alloc: Global, cursor: &mut Cursor<'_, '_>) -> Parsed<Option<RegionNames>>
     ensures reads { Gives (λ effect. option_map (λ regions. map region_tree regions.items) effect) result cursor.new (effect_at cursor.old) }
     ensures shorter { OnOk result (length cursor.new ≤ length cursor.old) }
 {
@@ -113,7 +113,7 @@ fn effect(alloc: Global, cursor: &mut Cursor<'_, '_>) -> Parsed<Option<Vec<Regio
     let effect = if cursor.is_region() {
         regions(alloc, cursor)?
     } else {
-        Vec::new(alloc)
+        RegionNames::new(alloc)
     };
     cursor.sign(Sign::RightBrace)?;
     Ok(Some(effect))
@@ -121,11 +121,11 @@ fn effect(alloc: Global, cursor: &mut Cursor<'_, '_>) -> Parsed<Option<Vec<Regio
 
 /// Reads the bounds of a function, where such are written.
 #[tactic(auto, unfolding(crate::specs::ReadPrograms::bounds))]
-fn bounds(alloc: Global, cursor: &mut Cursor<'_, '_>) -> Parsed<Vec<Bound>>
+fn bounds(alloc: Global, cursor: &mut Cursor<'_, '_>) -> Parsed<Bounds>
     ensures reads { Gives (λ bounds. map bound_tree bounds.items) result cursor.new (bounds_at cursor.old) }
     ensures shorter { OnOk result (length cursor.new ≤ length cursor.old) }
 {
-    let mut bounds = Vec::new(alloc);
+    let mut bounds = Bounds::new(alloc);
     if !cursor.is_sign(Sign::Colon) {
         return Ok(bounds);
     }

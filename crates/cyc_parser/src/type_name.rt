@@ -10,7 +10,7 @@ use crate::cursor::Cursor;
 use crate::fault::{ParseFault, Parsed};
 use crate::first::begins_pointer;
 use cyc_lexer::{Keyword, Sign, TokenKind};
-use cyc_tree::{Base, Member, Pointer, RegionName, TypeName};
+use cyc_tree::{Base, Member, Pointer, RegionName, RegionNames, TypeName};
 use std::alloc::Global;
 
 /// Reads a type.
@@ -139,12 +139,12 @@ pub fn one_region(alloc: Global, cursor: &mut Cursor<'_, '_>) -> Parsed<RegionNa
 
 /// Reads the region names in angle brackets that may stand after a tag.
 #[tactic(auto, unfolding(crate::specs::ReadTypes::region_list))]
-pub fn region_list(alloc: Global, cursor: &mut Cursor<'_, '_>) -> Parsed<Vec<RegionName>>
+pub fn region_list(alloc: Global, cursor: &mut Cursor<'_, '_>) -> Parsed<RegionNames>
     ensures reads { Gives (λ regions. map region_tree regions.items) result cursor.new (region_list_at cursor.old) }
     ensures shorter { OnOk result (length cursor.new ≤ length cursor.old) }
 {
     if !cursor.is_sign(Sign::Less) {
-        return Ok(Vec::new(alloc));
+        return Ok(RegionNames::new(alloc));
     }
     cursor.sign(Sign::Less)?;
     let regions = regions(alloc, cursor)?;
@@ -154,11 +154,11 @@ pub fn region_list(alloc: Global, cursor: &mut Cursor<'_, '_>) -> Parsed<Vec<Reg
 
 /// Reads region names with commas between them, of which there is one at least.
 #[tactic(auto, unfolding(crate::specs::ReadTypes::regions))]
-pub fn regions(alloc: Global, cursor: &mut Cursor<'_, '_>) -> Parsed<Vec<RegionName>>
+pub fn regions(alloc: Global, cursor: &mut Cursor<'_, '_>) -> Parsed<RegionNames>
     ensures reads { Gives (λ regions. map region_tree regions.items) result cursor.new (regions_at cursor.old) }
     ensures shorter { OnOk result (length cursor.new < length cursor.old) }
 {
-    let mut regions = Vec::new(alloc);
+    let mut regions = RegionNames::new(alloc);
     regions.push(cursor.region(alloc)?)?;
     'more: while cursor.is_sign(Sign::Comma) {
         cursor.sign(Sign::Comma)?;

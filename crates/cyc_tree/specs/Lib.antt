@@ -2,6 +2,5 @@ pub mod Tree
 pub mod View
 pub mod Places
 pub mod Depths
-pub mod PartNesting
 pub mod StoredNames
 pub mod Stored

@@ -1,6 +1,6 @@
 -- The pure tree that a tree of the code stands for.
-use Rattle.std.specs.Prelude.{ℕ, List, [], ◌∷◌, map, Option, option_map, Vec}
-use Rattle.std.specs.Global.{Global}
+use Rattle.std.specs.Prelude.{ℕ, List, [], ◌∷◌, map, Option, option_map}
+use Rattle.smallvec.specs.SmallVec.{SmallVec}
 use Rattle.cyc_tree.specs.declared.name.Name as code_name
 use Rattle.cyc_tree.specs.declared.name.RegionName as code_region
 use Rattle.cyc_tree.specs.declared.name.RegionName.TheVariants as region
@@ -234,7 +234,7 @@ abbrev pub bound_tree : code_bound.Bound → tree.Bound
 bound_tree b = record { longer = region_tree b.longer; shorter = region_tree b.shorter }
 
 -- an effect, where one is written
-abbrev pub effect_tree : Option (Vec code_region.RegionName Global) → Option (List tree.RegionName)
+abbrev pub effect_tree : Option (SmallVec code_region.RegionName) → Option (List tree.RegionName)
 effect_tree effect = option_map (λ regions. map region_tree regions.items) effect
 
 abbrev pub function_tree : code_function.Function → tree.Function

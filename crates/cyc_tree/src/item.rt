@@ -3,9 +3,11 @@
 ghost use Rattle.std.specs.Prelude.{◌≡◌, IfOk};
 ghost use Rattle.cyc_tree.specs.View.{program_tree};
 
-use crate::name::{Name, RegionName, TypeName};
+use crate::name::{Name, RegionName, RegionNames, TypeName};
 use crate::statement::BlockItem;
+use smallvec::SmallVec;
 use std::alloc::{AllocError, Global as Heap};
+use std::default::MadeWith;
 use std::marker::Model;
 use std::rc::Rc;
 
@@ -25,7 +27,7 @@ pub struct Structure {
     /// The place of its first token.
     pub at: u32,
     pub tag: Name,
-    pub regions: Vec<RegionName>,
+    pub regions: RegionNames,
     pub members: Vec<Member>,
 }
 
@@ -68,6 +70,19 @@ pub struct Bound {
     pub shorter: RegionName,
 }
 
+// What the places of a short list hold that no bound is in.
+impl MadeWith<Heap> for Bound {
+    fn made_with(alloc: Heap) -> Self {
+        Bound {
+            longer: RegionName::made_with(alloc),
+            shorter: RegionName::made_with(alloc),
+        }
+    }
+}
+
+/// Bounds, in order. Two lie in the list itself, and more than two in an allocation.
+pub type Bounds = SmallVec<Bound, 2>;
+
 /// A function of the program.
 #[derive(Drop)]
 pub struct Function {
@@ -75,8 +90,8 @@ pub struct Function {
     pub name: Name,
     pub parameters: Vec<Member>,
     /// The effect, where one is written.
-    pub effect: Option<Vec<RegionName>>,
-    pub bounds: Vec<Bound>,
+    pub effect: Option<RegionNames>,
+    pub bounds: Bounds,
     pub body: Vec<BlockItem>,
     /// The place of the closing brace.
     pub end: u32,

@@ -15,9 +15,10 @@ mod statement;
 
 pub use expression::{Expression, Link, Made, Operator, Prefix, Suffix};
 pub use item::{
-    Bound, Constant, END_OF_TEXT, Function, Global, Initial, Item, Member, Program, Structure,
+    Bound, Bounds, Constant, END_OF_TEXT, Function, Global, Initial, Item, Member, Program,
+    Structure,
 };
 pub use laws::deepest;
-pub use name::{Base, Name, Pointer, RegionName, Sign, TypeName};
+pub use name::{Base, Name, Pointer, RegionName, RegionNames, Sign, TypeName};
 pub use nested::nesting;
 pub use statement::{BlockItem, Clause, Declaration, Initializer, Pattern, Statement};

@@ -1,5 +1,9 @@
 // Names, and types as they are written.
 
+use smallvec::SmallVec;
+use std::alloc::Global;
+use std::default::MadeWith;
+
 /// A name: where it stands, and its spelling.
 #[derive(PartialEq, Eq, Debug, Drop)]
 pub struct Name {
@@ -34,6 +38,16 @@ impl RegionName {
     }
 }
 
+// What the places of a short list hold that no region name is in.
+impl MadeWith<Global> for RegionName {
+    fn made_with(_alloc: Global) -> Self {
+        RegionName::Heap(0)
+    }
+}
+
+/// Region names, in order. Two lie in the list itself, and more than two in an allocation.
+pub type RegionNames = SmallVec<RegionName, 2>;
+
 /// What a type begins with.
 #[derive(Drop)]
 pub enum Base {
@@ -42,9 +56,9 @@ pub enum Base {
     Char,
     Void,
     /// A struct by its tag, with the region arguments that are written.
-    Struct(Name, Vec<RegionName>),
+    Struct(Name, RegionNames),
     /// A tagged union by its tag, with the region arguments that are written.
-    Union(Name, Vec<RegionName>),
+    Union(Name, RegionNames),
     /// A region's handle.
     Handle(RegionName),
     /// A dynamic region's key.

@@ -2,8 +2,7 @@
 
 ghost use Rattle.std.specs.Prelude.{◌≡◌, ◌-◌, ◌^◌, min, map};
 ghost use Rattle.cyc_tree.specs.View.{expression_tree, expressions_of, link_tree, links_of, suffix_tree, suffixes_of, made_tree, initializer_tree, declaration_tree, statement_tree, item_tree, items_of, clause_tree, clauses_of, program_item_tree};
-ghost use Rattle.cyc_tree.specs.Depths.{nesting};
-ghost use Rattle.cyc_tree.specs.PartNesting.{inner_nesting, expression_nesting, argument_nesting, operand_nesting, link_nesting, suffix_nesting, made_nesting, declaration_nesting, statement_nesting, items_nesting, clauses_nesting, item_nesting};
+ghost use Rattle.cyc_tree.specs.Depths.{inner_starts, expression_starts, argument_starts, operand_starts, link_starts, suffix_starts, made_starts, declaration_starts, statement_starts, items_starts, clauses_starts, item_starts, greatest_depth, nesting};
 
 use crate::expression::{Expression, Link, Made, Suffix};
 use crate::item::{Item, Program};
@@ -11,8 +10,9 @@ use crate::statement::{BlockItem, Clause, Declaration, Initializer, Statement};
 
 /// The nesting of an expression that itself is not counted.
 #[cycle(expressions)]
+#[tactic(auto, using(crate::proofs::NestingSteps::in_expressions))]
 fn inner_nesting(expression: &Expression) -> u32
-    ensures { result ≡ min (inner_nesting (expression_tree expression.now)) (2 ^ 32 - 1) }
+    ensures { result ≡ min (greatest_depth (inner_starts 0 (expression_tree expression.now))) (2 ^ 32 - 1) }
 {
     match expression {
         Expression::Call(_, arguments) => argument_nesting(arguments).saturating_add(1),
@@ -38,16 +38,18 @@ fn inner_nesting(expression: &Expression) -> u32
 
 /// The nesting of a whole expression.
 #[cycle(expressions)]
+#[tactic(auto, using(crate::proofs::NestingSteps::in_expressions))]
 fn expression_nesting(expression: &Expression) -> u32
-    ensures { result ≡ min (expression_nesting (expression_tree expression.now)) (2 ^ 32 - 1) }
+    ensures { result ≡ min (greatest_depth (expression_starts 0 (expression_tree expression.now))) (2 ^ 32 - 1) }
 {
     inner_nesting(expression).saturating_add(1)
 }
 
 /// The nesting of arguments.
 #[cycle(expressions)]
+#[tactic(auto, using(crate::proofs::NestingSteps::in_expressions))]
 fn argument_nesting(arguments: &[Expression]) -> u32
-    ensures { result ≡ min (argument_nesting (expressions_of (map expression_tree arguments.now))) (2 ^ 32 - 1) }
+    ensures { result ≡ min (greatest_depth (argument_starts 0 (expressions_of (map expression_tree arguments.now)))) (2 ^ 32 - 1) }
 {
     let mut greatest = 0;
     'each: for argument in arguments {
@@ -58,8 +60,9 @@ fn argument_nesting(arguments: &[Expression]) -> u32
 
 /// The nesting of operands.
 #[cycle(expressions)]
+#[tactic(auto, using(crate::proofs::NestingSteps::in_expressions))]
 fn operand_nesting(operands: &[Expression]) -> u32
-    ensures { result ≡ min (operand_nesting (expressions_of (map expression_tree operands.now))) (2 ^ 32 - 1) }
+    ensures { result ≡ min (greatest_depth (operand_starts 0 (expressions_of (map expression_tree operands.now)))) (2 ^ 32 - 1) }
 {
     let mut greatest = 0;
     'each: for operand in operands {
@@ -70,8 +73,9 @@ fn operand_nesting(operands: &[Expression]) -> u32
 
 /// The nesting of the operands of a chain after the first.
 #[cycle(expressions)]
+#[tactic(auto, using(crate::proofs::NestingSteps::in_expressions))]
 fn link_nesting(links: &[Link]) -> u32
-    ensures { result ≡ min (link_nesting (links_of (map link_tree links.now))) (2 ^ 32 - 1) }
+    ensures { result ≡ min (greatest_depth (link_starts 0 (links_of (map link_tree links.now)))) (2 ^ 32 - 1) }
 {
     let mut greatest = 0;
     'each: for link in links {
@@ -82,8 +86,9 @@ fn link_nesting(links: &[Link]) -> u32
 
 /// The nesting of what stands after a primary.
 #[cycle(expressions)]
+#[tactic(auto, using(crate::proofs::NestingSteps::in_expressions))]
 fn suffix_nesting(suffixes: &[Suffix]) -> u32
-    ensures { result ≡ min (suffix_nesting (suffixes_of (map suffix_tree suffixes.now))) (2 ^ 32 - 1) }
+    ensures { result ≡ min (greatest_depth (suffix_starts 0 (suffixes_of (map suffix_tree suffixes.now)))) (2 ^ 32 - 1) }
 {
     let mut greatest = 0;
     'each: for suffix in suffixes {
@@ -96,8 +101,9 @@ fn suffix_nesting(suffixes: &[Suffix]) -> u32
 
 /// The nesting of what `new` and `rnew` make.
 #[cycle(expressions)]
+#[tactic(auto, using(crate::proofs::NestingSteps::in_expressions))]
 fn made_nesting(made: &Made) -> u32
-    ensures { result ≡ min (made_nesting (made_tree made.now)) (2 ^ 32 - 1) }
+    ensures { result ≡ min (greatest_depth (made_starts 0 (made_tree made.now))) (2 ^ 32 - 1) }
 {
     match made {
         Made::One(value) => inner_nesting(value),
@@ -109,7 +115,7 @@ fn made_nesting(made: &Made) -> u32
 
 /// The nesting of a declaration.
 fn declaration_nesting(declaration: &Declaration) -> u32
-    ensures { result ≡ min (declaration_nesting (declaration_tree declaration.now)) (2 ^ 32 - 1) }
+    ensures { result ≡ min (greatest_depth (declaration_starts 0 (declaration_tree declaration.now))) (2 ^ 32 - 1) }
 {
     match declaration {
         Declaration::Local(_, _, Initializer::Value(value)) => expression_nesting(value),
@@ -119,31 +125,41 @@ fn declaration_nesting(declaration: &Declaration) -> u32
 
 /// The nesting of a statement.
 #[cycle(statements)]
+#[tactic(auto, using(crate::proofs::NestingSteps::in_statements))]
 fn statement_nesting(statement: &Statement) -> u32
-    ensures { result ≡ min (statement_nesting (statement_tree statement.now)) (2 ^ 32 - 1) }
+    ensures { result ≡ min (greatest_depth (statement_starts 0 (statement_tree statement.now))) (2 ^ 32 - 1) }
 {
-    let inner = match statement {
-        Statement::Block(_, items) => items_nesting(items),
-        Statement::Run(value) | Statement::Return(_, Some(value)) => expression_nesting(value),
-        Statement::Exchange(left, right) => expression_nesting(left).max(expression_nesting(right)),
+    match statement {
+        Statement::Block(_, items) => items_nesting(items).saturating_add(1),
+        Statement::Run(value) => expression_nesting(value).saturating_add(1),
+        Statement::Return(_, value) => match value {
+            Some(value) => expression_nesting(value).saturating_add(1),
+            None => 1,
+        },
+        Statement::Exchange(left, right) => expression_nesting(left)
+            .max(expression_nesting(right))
+            .saturating_add(1),
         Statement::If(_, condition, body) | Statement::While(_, condition, body) => {
-            expression_nesting(condition).max(statement_nesting(body))
+            expression_nesting(condition)
+                .max(statement_nesting(body))
+                .saturating_add(1)
         }
         Statement::IfElse(_, condition, body, otherwise) => expression_nesting(condition)
             .max(statement_nesting(body))
-            .max(statement_nesting(otherwise)),
-        Statement::Switch(_, place, clauses) => {
-            expression_nesting(place).max(clauses_nesting(clauses))
-        }
-        _ => 0,
-    };
-    inner.saturating_add(1)
+            .max(statement_nesting(otherwise))
+            .saturating_add(1),
+        Statement::Switch(_, place, clauses) => expression_nesting(place)
+            .max(clauses_nesting(clauses))
+            .saturating_add(1),
+        _ => 1,
+    }
 }
 
 /// The nesting of a block's items.
 #[cycle(statements)]
+#[tactic(auto, using(crate::proofs::NestingSteps::in_statements))]
 fn items_nesting(items: &[BlockItem]) -> u32
-    ensures { result ≡ min (items_nesting (items_of (map item_tree items.now))) (2 ^ 32 - 1) }
+    ensures { result ≡ min (greatest_depth (items_starts 0 (items_of (map item_tree items.now)))) (2 ^ 32 - 1) }
 {
     let mut greatest = 0;
     'each: for item in items {
@@ -158,8 +174,9 @@ fn items_nesting(items: &[BlockItem]) -> u32
 
 /// The nesting of the clauses of a `switch`.
 #[cycle(statements)]
+#[tactic(auto, using(crate::proofs::NestingSteps::in_statements))]
 fn clauses_nesting(clauses: &[Clause]) -> u32
-    ensures { result ≡ min (clauses_nesting (clauses_of (map clause_tree clauses.now))) (2 ^ 32 - 1) }
+    ensures { result ≡ min (greatest_depth (clauses_starts 0 (clauses_of (map clause_tree clauses.now)))) (2 ^ 32 - 1) }
 {
     let mut greatest = 0;
     'each: for clause in clauses {
@@ -170,7 +187,7 @@ fn clauses_nesting(clauses: &[Clause]) -> u32
 
 /// The nesting of an item.
 fn item_nesting(item: &Item) -> u32
-    ensures { result ≡ min (item_nesting (program_item_tree item.now)) (2 ^ 32 - 1) }
+    ensures { result ≡ min (greatest_depth (item_starts (program_item_tree item.now))) (2 ^ 32 - 1) }
 {
     match item {
         Item::Function(function) => items_nesting(&function.body),

@@ -96,6 +96,8 @@ pub data MachineEnding : Type 0 where
   Refused : (request : Request) → MachineEnding
   -- the stack has no room for a frame
   NoStack : MachineEnding
+  -- the store lacked host memory
+  Lacking : MachineEnding
   Fault : (fault : MachineFault) → MachineEnding
   -- it goes on
   Running : MachineEnding

@@ -9,8 +9,6 @@
 mod arithmetic;
 mod devices;
 mod faults;
-#[cfg(test)]
-mod tests;
 
 pub use arithmetic::{
     add32, div32, divu32, lt32, ltu32, mul32, mulh32, mulhsu32, mulhu32, rem32, remu32, sar32,

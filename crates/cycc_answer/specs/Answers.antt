@@ -1,10 +1,12 @@
 -- What the status and the image of an answer say.
-use Rattle.std.specs.Prelude.{◌≡◌, ◌⊎◌, ℕ, List, Option, Some, None}
+use Rattle.std.specs.Prelude.{◌≡◌, ◌⊎◌, ℕ, List, Option, Some, None, codes}
+use Rattle.std.specs.Io.KnownBytes.{Appends}
 use Rattle.cyc_image.specs.declared.fault.ImageFault.{ImageFault}
 use Rattle.cyc_image.specs.declared.fault.ImageFault.TheVariants as image
 use Rattle.cyc_image.specs.Format.{Contents, IsImage, IsShort, RefusedAsMagic, RefusedAsVersion, RefusedAsLimit, RefusedAsEntry, RefusedAsTrailing}
 use Rattle.cyc_tree.specs.Tree.{Program}
-use Rattle.rv32_machine.specs.Arrays.{Arrays, IsStart, lengths_of, state_of}
+use Rattle.arena_laws.specs.Holdings.{Holdings}
+use Rattle.rv32_machine.specs.Arrays.{Arrays, IsStart, areas_of, state_of}
 use Rattle.rv32_machine.specs.State.{State}
 use Rattle.cyc_host.specs.declared.ending.Ending.{Ending}
 use Rattle.cyc_host.specs.Hosted.{IsHosted}
@@ -25,14 +27,14 @@ pub record IsRefused (Refused : CompileFault → Type 0) (status : ℕ) : Type 0
   pub shown : status ≡ refused_status fault
 
 -- an accepted source, of which that was printed, or the writer failed
-pub record IsAccepted (text : List ℕ) (status : ℕ) : Type 0 where
+pub record IsAccepted (text : List ℕ) (writer_old writer_new : Option (List ℕ)) (status : ℕ) : Type 0 where
   pub program : Program
   pub accepted : IsAcceptedAs text program
-  pub shown : (status ≡ 0) ⊎ (status ≡ 6)
+  pub shown : ((status ≡ 0) × Appends writer_old writer_new (codes "accepted\n")) ⊎ (status ≡ 6)
 
 -- what `check` says
-abbrev pub IsChecked : List ℕ → ℕ → Type 0
-IsChecked text status = IsAccepted text status ⊎ IsRefused (λ fault. IsRefusedFor fault text) status
+abbrev pub IsChecked : (text : List ℕ) (writer_old writer_new : Option (List ℕ)) → ℕ → Type 0
+IsChecked text writer_old writer_new status = IsAccepted text writer_old writer_new status ⊎ IsRefused (λ fault. IsRefusedFor fault text) status
 
 -- what `compile` says: there is an image exactly where the status is 0, and it is the source's
 abbrev pub IsCompiled : List ℕ → ℕ → Option (List ℕ) → ℕ → Type 0
@@ -84,10 +86,12 @@ pub record HasExecuted (bytes : List ℕ) (steps : ℕ) (reader_old reader_new w
   pub parts : Contents
   pub image : IsImage bytes parts
   pub start : Arrays
-  pub starts : IsStart parts start
+  pub holdings : Holdings
+  pub arena : ℕ → ℕ
+  pub starts : IsStart parts holdings arena start
   pub end : State
   pub why : Ending
-  pub hosted : IsHosted why (lengths_of start) steps (state_of start) end reader_old reader_new writer_old writer_new
+  pub hosted : IsHosted why (areas_of start) steps (state_of start) end reader_old reader_new writer_old writer_new
   pub shown : status ≡ status_of why
 
 -- what `exec` says

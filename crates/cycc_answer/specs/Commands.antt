@@ -17,7 +17,7 @@ longest (command.Dump input) = header_length + code_limit + data_limit
 
 -- The answer to a command on a file, with what a reader held and a writer has before it and after. Only `compile` answers with an image.
 abbrev pub IsAnswered : Command → (file : List ℕ) (reader_old reader_new writer_old writer_new : Option (List ℕ)) (bytes : Option (List ℕ)) (status : ℕ) → Type 0
-IsAnswered (command.Check input) file reader_old reader_new writer_old writer_new bytes status = (bytes ≡ None) × IsChecked file status
+IsAnswered (command.Check input) file reader_old reader_new writer_old writer_new bytes status = (bytes ≡ None) × IsChecked file writer_old writer_new status
 IsAnswered (command.Compile input output pages) file reader_old reader_new writer_old writer_new bytes status = IsCompiled file pages bytes status
 IsAnswered (command.Run input pages steps shows_ending) file reader_old reader_new writer_old writer_new bytes status =
     (bytes ≡ None) × IsRun file pages steps reader_old reader_new writer_old writer_new status

@@ -1,3 +1,4 @@
 pub mod Statuses
 pub mod Answers
 pub mod Commands
+pub mod Devices

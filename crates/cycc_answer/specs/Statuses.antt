@@ -16,7 +16,7 @@ ended_status (pos zero) = 0
 ended_status (pos (suc n)) = 1
 ended_status (negsuc n) = 1
 
--- of a run: 2 raised, 3 exhausted, 4 at the step limit, 5 at a machine fault, 6 where the input or the output failed
+-- of a run: 2 raised, 3 exhausted, 4 at the step limit, 5 at a machine fault, 6 where the input or the output failed, 7 without host memory
 abbrev pub status_of : Ending → ℕ
 status_of (ending.Ended number) = ended_status number
 status_of (ending.Raised kind) = 2
@@ -25,6 +25,7 @@ status_of ending.StepLimit = 4
 status_of (ending.Fault fault) = 5
 status_of ending.ReadFault = 6
 status_of ending.WriteFault = 6
+status_of ending.HostMemory = 7
 
 -- of an evaluation: 2 raised, 4 where the fuel is used up, 5 stuck, 6 where the input or the output failed, 7 without host memory
 abbrev pub evaluated_status : EvalEnding → ℕ

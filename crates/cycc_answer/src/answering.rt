@@ -1,10 +1,11 @@
 // What a command is answered.
 
-ghost use Rattle.std.specs.Prelude.{◌≡◌, ◌+◌, IfOk};
+ghost use Rattle.std.specs.Prelude.{◌≡◌, ◌+◌, IfOk, true};
 ghost use Rattle.std.specs.Option.{option_map};
 ghost use Rattle.cyc_lexer.specs.Lexing.{text_limit};
 ghost use Rattle.cyc_image.specs.Format.{header_length, code_limit, data_limit};
 ghost use Rattle.cycc_answer.specs.Commands.{IsAnswered, longest};
+ghost use Rattle.cycc_answer.specs.Devices.{AreCounted, runs};
 
 use crate::images::{dump, exec};
 use crate::lines::Told;
@@ -45,9 +46,14 @@ pub fn answer<R: Input, W: Output, E: Write>(
     faults: &mut E,
 ) -> Result<Answer, AllocError>
     // the status says how the command ended, and there is an image exactly where a `compile` succeeded
-    ensures { IfOk result (λ a. IsAnswered command.now file.now
+    ensures answer { IfOk result (λ a. IsAnswered command.now file.now
         (R.remaining reader.old) (R.remaining reader.new) (W.contents writer.old) (W.contents writer.new)
         (option_map (λ bytes. bytes.items) a.image) a.status) }
+    // a refusal leaves the reader and the writer as they were
+    ensures untouched { IfOk result (λ a. a.status ≡ 8 → (reader.new ≡ reader.old) × (writer.new ≡ writer.old)) }
+    // of a run: where the status is 6 just one call of one device failed, and at every other status none
+    ensures devices { runs command.now ≡ true → IfOk result (λ a. AreCounted a.status
+        (R.fault_count reader.old) (R.fault_count reader.new) (W.fault_count writer.old) (W.fault_count writer.new)) }
 {
     match *command {
         Command::Check { input } => {

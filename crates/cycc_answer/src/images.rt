@@ -3,9 +3,11 @@
 ghost use Rattle.std.specs.Prelude.{◌≡◌, ◌≢◌, ◌⊎◌, IfOk, IfErr, length};
 ghost use Rattle.cyc_image.specs.Format.{IsImage};
 ghost use Rattle.cycc_answer.specs.Answers.{IsExec, IsDumped, IsNoImageFor};
+ghost use Rattle.cycc_answer.specs.Devices.{AreCounted};
 
 use crate::lines::{Told, ended, printed, unloaded};
 use byteorder::{ByteOrder, LittleEndian};
+use cyc_arena::{PagesFault, PlainStore};
 use cyc_host::GATHERED_BYTES;
 use cycc_driver::{Image, ImageFault, Input, Machine, Output, decode, load, run};
 use rv32_machine::CODE_BASE;
@@ -30,14 +32,26 @@ pub fn exec<R: Input, W: Output, E: Write>(
     writer: &mut W,
     faults: &mut E,
 ) -> Result<u8, AllocError>
-    ensures { IfOk result (IsExec file.now steps
+    ensures run { IfOk result (IsExec file.now steps
         (R.remaining reader.old) (R.remaining reader.new) (W.contents writer.old) (W.contents writer.new)) }
+    // a refusal leaves the reader and the writer as they were
+    ensures untouched { IfOk result (λ status. status ≡ 8 → (reader.new ≡ reader.old) × (writer.new ≡ writer.old)) }
+    // where the status is 6 just one call of one device failed, and at every other status none
+    ensures devices { IfOk result (λ status. AreCounted status
+        (R.fault_count reader.old) (R.fault_count reader.new) (W.fault_count writer.old) (W.fault_count writer.new)) }
 {
     let image = match loaded(alloc, file) {
         Ok(image) => image,
         Err(fault) => return unloaded(alloc, told.input, fault, faults),
     };
-    let mut machine = Machine::new(alloc, &image)?;
+    let store = match PlainStore::new(alloc, image.pages()) {
+        Ok(store) => store,
+        Err(PagesFault::Memory) => return Err(AllocError),
+        Err(PagesFault::Pages) => unreachable!(),
+    };
+    let Ok(mut machine) = Machine::new(alloc, &image, store) else {
+        return Err(AllocError);
+    };
     let ending = run(&mut machine, reader, writer, steps);
     ended(alloc, ending, Some(machine.pc()), told.shows_ending, faults)
 }
@@ -50,7 +64,9 @@ pub fn dump<W: Output, E: Write>(
     writer: &mut W,
     faults: &mut E,
 ) -> Result<u8, AllocError>
-    ensures { IfOk result (IsDumped file.now) }
+    ensures dumped { IfOk result (IsDumped file.now) }
+    // a refusal leaves the writer as it was
+    ensures untouched { IfOk result (λ status. status ≡ 8 → writer.new ≡ writer.old) }
 {
     let image = match loaded(alloc, file) {
         Ok(image) => image,

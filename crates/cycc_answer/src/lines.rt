@@ -1,6 +1,6 @@
 // Lines on standard error, and the statuses that go with them.
 
-ghost use Rattle.std.specs.Prelude.{◌≡◌, ◌⊎◌, IfOk};
+ghost use Rattle.std.specs.Prelude.{◌≡◌, IfOk, if◌then◌else◌};
 ghost use Rattle.cycc_answer.specs.Statuses.{status_of, evaluated_status, refused_status, unloaded_status};
 
 use command_line::status::{
@@ -87,6 +87,7 @@ fn status_of_ending(ending: Ending) -> u8
         Ending::StepLimit => STEP_LIMIT,
         Ending::Fault(_) => MACHINE_FAULT,
         Ending::ReadFault | Ending::WriteFault => FILE_FAULT,
+        Ending::HostMemory => MEMORY,
     }
 }
 
@@ -103,6 +104,7 @@ fn line_of(alloc: Global, ending: Ending, pc: Option<u32>) -> Result<String, All
         },
         Ending::ReadFault => String::from_str(alloc, "read fault"),
         Ending::WriteFault => String::from_str(alloc, "write fault"),
+        Ending::HostMemory => String::from_str(alloc, "out of memory"),
     }
 }
 
@@ -149,7 +151,7 @@ pub fn evaluated<E: Write>(
 
 /// The status of what was printed on standard output: a failed write is said.
 pub fn printed<E: Write>(succeeded: bool, faults: &mut E) -> u8
-    ensures { (result ≡ 0) ⊎ (result ≡ 6) }
+    ensures { result ≡ (if succeeded then 0 else 6) }
 {
     if succeeded {
         SUCCESS

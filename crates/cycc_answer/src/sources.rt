@@ -3,6 +3,7 @@
 ghost use Rattle.std.specs.Prelude.{◌≡◌, ◌≤◌, IfOk};
 ghost use Rattle.std.specs.Option.{option_map};
 ghost use Rattle.cycc_answer.specs.Answers.{IsChecked, IsCompiled, IsRun, IsEval};
+ghost use Rattle.cycc_answer.specs.Devices.{AreCounted};
 
 use crate::lines::{Told, ended, evaluated, printed, refused};
 use crate::result::Answer;
@@ -20,7 +21,9 @@ pub fn checked<W: Output, E: Write>(
     writer: &mut W,
     faults: &mut E,
 ) -> Result<u8, AllocError>
-    ensures { IfOk result (IsChecked file.now) }
+    ensures checked { IfOk result (IsChecked file.now (W.contents writer.old) (W.contents writer.new)) }
+    // a refusal leaves the writer as it was
+    ensures untouched { IfOk result (λ status. status ≡ 8 → writer.new ≡ writer.old) }
 {
     match check(alloc, file) {
         Ok(()) => {
@@ -62,8 +65,13 @@ pub fn ran<R: Input, W: Output, E: Write>(
 ) -> Result<u8, AllocError>
     requires some { 1 ≤ limits.pages }
     requires within { limits.pages ≤ 4096 }
-    ensures { IfOk result (IsRun file.now limits.pages limits.steps
+    ensures run { IfOk result (IsRun file.now limits.pages limits.steps
         (R.remaining reader.old) (R.remaining reader.new) (W.contents writer.old) (W.contents writer.new)) }
+    // a refusal leaves the reader and the writer as they were
+    ensures untouched { IfOk result (λ status. status ≡ 8 → (reader.new ≡ reader.old) × (writer.new ≡ writer.old)) }
+    // where the status is 6 just one call of one device failed, and at every other status none
+    ensures devices { IfOk result (λ status. AreCounted status
+        (R.fault_count reader.old) (R.fault_count reader.new) (W.fault_count writer.old) (W.fault_count writer.new)) }
 {
     match execute(alloc, file, reader, writer, limits) {
         Ok(ending) => ended(alloc, ending, None, told.shows_ending, faults),
@@ -81,8 +89,13 @@ pub fn interpreted<R: Input, W: Output, E: Write>(
     writer: &mut W,
     faults: &mut E,
 ) -> Result<u8, AllocError>
-    ensures { IfOk result (IsEval file.now fuel
+    ensures evaluated { IfOk result (IsEval file.now fuel
         (R.remaining reader.old) (R.remaining reader.new) (W.contents writer.old) (W.contents writer.new)) }
+    // a refusal leaves the reader and the writer as they were
+    ensures untouched { IfOk result (λ status. status ≡ 8 → (reader.new ≡ reader.old) × (writer.new ≡ writer.old)) }
+    // where the status is 6 just one call of one device failed, and at every other status none
+    ensures devices { IfOk result (λ status. AreCounted status
+        (R.fault_count reader.old) (R.fault_count reader.new) (W.fault_count writer.old) (W.fault_count writer.new)) }
 {
     match evaluate(alloc, file, reader, writer, fuel) {
         Ok(ending) => evaluated(alloc, ending, told.shows_ending, faults),

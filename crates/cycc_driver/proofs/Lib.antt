@@ -1,4 +1,5 @@
 pub mod Longer
+pub mod Joined
 pub mod Implementing
 pub mod Breaking
 pub mod Shorter

@@ -1,13 +1,17 @@
 -- A run on an input, and on that input with more behind it: where the input's end wasn't told, both do the same.
-use Rattle.std.proofs.Common.{◌≡◌, ℕ, zero, suc, ◌-◌, ◌≤◌, ◌<◌, List, [], ◌∷◌, ◌++◌, None, refl, sym, ap, subst, ◌∙◌, arith, append-nil, add-sub_of_le, ⊎_elim}
+use Rattle.std.proofs.Common.{◌≡◌, ℕ, zero, suc, ◌-◌, ◌≤◌, ◌<◌, List, [], ◌∷◌, ◌++◌, true, Option, None, Ok, Err, inl, inr, refl, sym, ap, subst, ◌∙◌, arith, append-nil, add-sub_of_le, ⊎_elim}
 use Rattle.std.proofs.lemmas.Bool.{cases_lt}
 use Rattle.std.proofs.lemmas.List.Elements.{Contains-append_left, Contains-append_right}
 use Rattle.std.specs.List.{Contains}
-use Rattle.cyc_words.specs.Events.{Event, ByteRead, SourceEnding}
-use Rattle.rv32_machine.specs.State.{State, Lengths, Stop, Runs, Over}
-use Rattle.rv32_machine.specs.Step.{Shown, Nothing, Writes, Asks, Stops, step}
-use Rattle.rv32_machine.specs.Run.{Run, answer_from, after_step, run_step, run_steps, from}
-use Rattle.rv32_machine.specs.Implements.{EndsWith}
+use Rattle.cyc_words.specs.Events.{Event, ByteRead, visible, SourceEnding, Request, MachineEnding}
+use Rattle.arena_laws.specs.declared.refusal.StoreRefusal.{StoreRefusal}
+use Rattle.arena_laws.specs.declared.refusal.StoreRefusal.TheVariants as refusal
+use Rattle.arena_laws.specs.Asked.{Asked}
+use Rattle.arena_laws.specs.Lawful.{Answer}
+use Rattle.rv32_machine.specs.State.{State, Areas, Stop, Mode, Runs, Waits, Over}
+use Rattle.rv32_machine.specs.Step.{Shown, Nothing, Writes, Asks, Stops, Told, Silent, Says, step}
+use Rattle.rv32_machine.specs.Run.{Run, answer_from, refused_by, after_call, after_step, run_step, run_steps, from, ending_in, ending_of}
+use Rattle.rv32_machine.specs.Implements.{Meaning, is_cut_short, EndsWith, Reaches}
 use Rattle.rv32_machine.proofs.LongerRuns.{run_more, over_steps, steps_show}
 use Rattle.cycc_driver.specs.Outcome.{IsOver}
 
@@ -21,55 +25,87 @@ with_more more r = record r { input = r.input ++ more }
 abbrev IsTold : Run → Type 0
 IsTold r = Contains r.events (ByteRead None)
 
-told_then : (n : Lengths) (count : ℕ) (r : Run) → IsTold r → IsTold (run_steps n count r)
+told_then : (n : Areas) (count : ℕ) (r : Run) → IsTold r → IsTold (run_steps n count r)
 told_then n count r told =
     let shown = steps_show n count r in
     subst (λ es. Contains es (ByteRead None)) (sym shown.1) (Contains-append_left r.events shown.0 (ByteRead None) told)
 
-ask_longer : (more input : List ℕ) (r : Run) (s : State) → r.input ≡ input → (IsTold (answer_from input r s) → ⊥) → answer_from (input ++ more) (with_more more r) s ≡ with_more more (answer_from input r s)
+ask_longer : (more input : List ℕ) (r : Run) (s : State) → r.input ≡ input → (IsTold (answer_from input r s) → ⊥)
+    → answer_from (input ++ more) (with_more more r) s ≡ with_more more (answer_from input r s)
 ask_longer more [] r s is untold = absurd (untold (Contains-append_right r.events (ByteRead None ∷ []) (ByteRead None) (0, omega arith, refl)))
 ask_longer more (byte ∷ rest) r s is untold = refl
 
-step_longer : (more : List ℕ) (r : Run) (shown : Shown) (s : State) → (IsTold (after_step r (record { shown = shown; state = s })) → ⊥)
-    → after_step (with_more more r) (record { shown = shown; state = s }) ≡ with_more more (after_step r (record { shown = shown; state = s }))
-step_longer more r Nothing s untold = refl
-step_longer more r (Writes byte) s untold = refl
-step_longer more r (Stops why) s untold = refl
-step_longer more r Asks s untold = ask_longer more r.input r s refl untold
+call_longer : (more : List ℕ) (r : Run) (told : Told) (s : State) → after_call told (with_more more r) s ≡ with_more more (after_call told r s)
+call_longer more r Silent s = refl
+call_longer more r (Says asked (Ok number)) s = refl
+call_longer more r (Says asked (Err why)) s = refl
 
-steps_longer : (n : Lengths) (count : ℕ) (more : List ℕ) (r : Run) → (IsTold (run_steps n count r) → ⊥) → run_steps n count (with_more more r) ≡ with_more more (run_steps n count r)
+step_longer : (more : List ℕ) (r : Run) (shown : Shown) (told : Told) (s : State)
+    → (IsTold (after_step r (record { shown = shown; told = told; state = s })) → ⊥)
+    → after_step (with_more more r) (record { shown = shown; told = told; state = s })
+    ≡ with_more more (after_step r (record { shown = shown; told = told; state = s }))
+step_longer more r Nothing told s untold = call_longer more r told s
+step_longer more r (Writes byte) told s untold = refl
+step_longer more r (Stops why) told s untold = call_longer more r told s
+step_longer more r Asks told s untold = ask_longer more r.input r s refl untold
+
+steps_longer : (n : Areas) (count : ℕ) (more : List ℕ) (r : Run) → (IsTold (run_steps n count r) → ⊥)
+    → run_steps n count (with_more more r) ≡ with_more more (run_steps n count r)
 steps_longer n zero more r untold = refl
 steps_longer n (suc count) more r untold =
-    ap (run_steps n count) (step_longer more r (step n r.state).shown (step n r.state).state (λ told. untold (told_then n count (run_step n r) told)))
+    let x = step n (r.answers 0) r.state in
+    ap (run_steps n count) (step_longer more r x.shown x.told x.state (λ told. untold (told_then n count (run_step n r) told)))
     ∙ steps_longer n count more (run_step n r) untold
 
 -- more input, or none where the end was told: the state is the same
-pub same_state : (n : Lengths) (count : ℕ) (s : State) (input more : List ℕ) → (IsTold (run_steps n count (from s input)) → more ≡ [])
-    → (run_steps n count (from s (input ++ more))).state ≡ (run_steps n count (from s input)).state
-same_state n count s input [] none = ap (λ l. (run_steps n count (from s l)).state) (append-nil input)
-same_state n count s input (byte ∷ more) none =
-    ap (λ (r : Run). r.state) (steps_longer n count (byte ∷ more) (from s input) (λ told. cons_is_some (none told)))
+pub same_state : (n : Areas) (count : ℕ) (s : State) (input : List ℕ) (answers : ℕ → Answer) (more : List ℕ)
+    → (IsTold (run_steps n count (from s input answers)) → more ≡ [])
+    → (run_steps n count (from s (input ++ more) answers)).state ≡ (run_steps n count (from s input answers)).state
+same_state n count s input answers [] none = ap (λ l. (run_steps n count (from s l answers)).state) (append-nil input)
+same_state n count s input answers (byte ∷ more) none =
+    ap (λ (r : Run). r.state) (steps_longer n count (byte ∷ more) (from s input answers) (λ told. cons_is_some (none told)))
   where
     cons_is_some : byte ∷ more ≡ [] → ⊥
     cons_is_some same = absurd (cc)
 
 -- ---- runs that are over
 
--- a run that is over in some way is over after more steps
-ended_is_over : (e : SourceEnding) (meant : List Event) (r : Run) → IsOver e → EndsWith e meant r → (why : Stop) × (r.state.mode ≡ Over why)
-ended_is_over (SourceEnding.Ended status) meant r over ends = (Stop.Ended status, ends.0)
-ended_is_over (SourceEnding.Raised kind) meant r over ends = (Stop.Raised kind, ends.0)
-ended_is_over SourceEnding.Running meant r over ends = absurd over
-ended_is_over SourceEnding.Stuck meant r over ends = absurd over
+-- a run that doesn't go on is over
+ended_is_over : (mode : Mode) (refused : Option Request) → (ending_in mode refused ≡ MachineEnding.Running → ⊥) → (why : Stop) × (mode ≡ Over why)
+ended_is_over Runs refused ended = absurd (ended refl)
+ended_is_over Waits refused ended = absurd (ended refl)
+ended_is_over (Over why) refused ended = (why, refl)
+
+-- so is one that was cut short, or has come as far as a meaning that is over
+cut_is_over : (e : MachineEnding) → is_cut_short e ≡ true → e ≡ MachineEnding.Running → ⊥
+cut_is_over MachineEnding.Running cut runs = absurd (cc cut)
+cut_is_over MachineEnding.Lacking cut runs = absurd (cc runs)
+cut_is_over (MachineEnding.Ended status) cut runs = absurd (cc runs)
+cut_is_over (MachineEnding.Raised kind) cut runs = absurd (cc runs)
+cut_is_over (MachineEnding.Refused q) cut runs = absurd (cc runs)
+cut_is_over MachineEnding.NoStack cut runs = absurd (cc runs)
+cut_is_over (MachineEnding.Fault fault) cut runs = absurd (cc runs)
+
+ends_over : (e : SourceEnding) (meant : List Event) (r : Run) → IsOver e → EndsWith e meant r → ending_of r ≡ MachineEnding.Running → ⊥
+ends_over (SourceEnding.Ended status) meant r over ends runs = absurd (cc (ends.0, runs))
+ends_over (SourceEnding.Raised kind) meant r over ends runs = absurd (cc (ends.0, runs))
+ends_over SourceEnding.Running meant r over ends runs = over
+ends_over SourceEnding.Stuck meant r over ends runs = over
+
+reached_is_over : (r : Run) (m : Meaning) (fuel : ℕ) → IsOver (m.ending fuel) → Reaches r m fuel → (why : Stop) × (r.state.mode ≡ Over why)
+reached_is_over r m fuel over (inl cut) = ended_is_over r.state.mode r.refused (cut_is_over (ending_of r) cut)
+reached_is_over r m fuel over (inr (begins, ends)) =
+    ended_is_over r.state.mode r.refused (ends_over (m.ending fuel) (visible (m.events fuel)) r over ends)
 
 -- so one that runs after so many steps has ended in none of them
-pub runs_before : (n : Lengths) (count steps : ℕ) (r : Run) (e : SourceEnding) (meant : List Event) → IsOver e → EndsWith e meant (run_steps n count r)
+pub runs_before : (n : Areas) (count steps : ℕ) (r : Run) (m : Meaning) (fuel : ℕ) → IsOver (m.ending fuel) → Reaches (run_steps n count r) m fuel
     → (run_steps n steps r).state.mode ≡ Runs → steps < count
-runs_before n count steps r e meant over ends runs = ⊎_elim (λ less. less) (λ within. absurd (still within)) (cases_lt steps count)
+runs_before n count steps r m fuel over reached runs = ⊎_elim (λ less. less) (λ within. absurd (still within)) (cases_lt steps count)
   where
     still : count ≤ steps → ⊥
     still within =
-        let o = ended_is_over e meant (run_steps n count r) over ends in
-        let later = ap (λ k. run_steps n k r) (sym (add-sub_of_le within)) ∙ run_more n count (steps - count) r ∙ over_steps n (steps - count) (run_steps n count r) o.0 o.1 in
+        let o = reached_is_over (run_steps n count r) m fuel over reached in
+        let later = ap (λ k. run_steps n k r) (sym (add-sub_of_le within)) ∙ run_more n count (steps - count) r
+        ∙ over_steps n (steps - count) (run_steps n count r) o.0 o.1 in
         let same : Runs ≡ Over o.0 = sym runs ∙ ap (λ (x : Run). x.state.mode) later ∙ o.1 in
         absurd (cc)

@@ -1,15 +1,17 @@
 -- What a compiled text is, and what its run is.
-use Rattle.std.specs.Prelude.{◌≡◌, ◌≢◌, ℕ, ◌<◌, ◌≤◌, ◌%◌, List, [], ◌++◌, length, Option, None, Contains}
+use Rattle.std.specs.Prelude.{◌≡◌, ◌≢◌, ℕ, ◌<◌, ◌≤◌, ◌%◌, ◌⊎◌, List, [], ◌++◌, length, Option, None, Contains}
 use Rattle.std.specs.Io.KnownBytes.{Appends}
 use Rattle.cyc_words.specs.Words.{word}
-use Rattle.cyc_words.specs.Events.{ByteRead, SourceEnding, output, visible}
+use Rattle.cyc_words.specs.Events.{Event, SourceEvent, ByteRead, SourceEnding, Request, output, visible}
 use Rattle.cyc_tree.specs.Tree.{Program}
 use Rattle.source_meaning.specs.Programs.{source}
 use Rattle.cyc_image.specs.Format.{Contents, IsImage, code_limit}
-use Rattle.rv32_machine.specs.Arrays.{Arrays, IsStart, lengths_of, state_of}
-use Rattle.rv32_machine.specs.State.{State}
+use Rattle.rv32_machine.specs.Arrays.{Arrays, IsStart, areas_of, state_of}
+use Rattle.arena_laws.specs.Holdings.{Holdings}
+use Rattle.arena_laws.specs.Lawful.{Answer}
+use Rattle.rv32_machine.specs.State.{State, Areas}
 use Rattle.rv32_machine.specs.Run.{AreBytes, run_steps, from}
-use Rattle.rv32_machine.specs.Implements.{Meaning, Implements, Reaches}
+use Rattle.rv32_machine.specs.Implements.{Meaning, Implements, Reaches, IsCut, IsRefused, HasNoFrame, active_after}
 use Rattle.cyc_host.specs.declared.ending.Ending.{Ending}
 use Rattle.cyc_host.specs.declared.ending.Ending.TheVariants as ending
 use Rattle.cyc_host.specs.Hosted.{IsHosted}
@@ -19,12 +21,17 @@ use Rattle.cycc_driver.specs.Texts.{IsAcceptedAs}
 
 -- what a program does on an input
 abbrev pub source_meaning : Program → List ℕ → Meaning
-source_meaning program input = record { events = λ fuel. visible (source program input fuel).events; ending = λ fuel. (source program input fuel).ending }
+source_meaning program input = record { events = λ fuel. (source program input fuel).events; ending = λ fuel. (source program input fuel).ending }
 
--- A machine that starts with these parts of an image does what the program does, on each input of bytes.
+-- how many bytes the frame of a function may take, where a run is refused its frame: with one function, whose frame has room, there is none
+abbrev pub frame_bound : List ℕ → ℕ
+frame_bound name = 0
+
+-- A machine that starts with these parts of an image does what the program does, on each input of bytes, over any store and whatever that answers.
 abbrev pub IsImplementedBy : Program → Contents → Type 0
 IsImplementedBy program parts =
-    (start : Arrays) → IsStart parts start → (input : List ℕ) → AreBytes input → Implements (lengths_of start) (state_of start) input (source_meaning program input)
+    (holdings : Holdings) (arena : ℕ → ℕ) (start : Arrays) → IsStart parts holdings arena start → (input : List ℕ) → AreBytes input
+    → Implements frame_bound (areas_of start) (state_of start) input (source_meaning program input)
 
 -- The image of an accepted text, with so many pages: it implements the program that the text spells.
 pub record IsTextImage (text : List ℕ) (pages : ℕ) (bytes : List ℕ) : Type 0 where
@@ -57,16 +64,28 @@ pub record WritesAll (program : Program) (input : List ℕ) (end : SourceEnding)
   pub ends : (source program input fuel).ending ≡ end
   pub written : Appends old new (output (visible (source program input fuel).events))
 
--- The run ends as the program does on the input, with its output; or it was stopped before, after a beginning of it. No run ends at a fault, and none is refused
--- anything.
-abbrev pub EndsAsProgram : Ending → Program → List ℕ → Option (List ℕ) → Option (List ℕ) → Type 0
-EndsAsProgram (ending.Ended status) program input old new = WritesAll program input (SourceEnding.Ended (word status)) old new
-EndsAsProgram (ending.Raised kind) program input old new = WritesAll program input (SourceEnding.Raised kind) old new
-EndsAsProgram ending.Exhausted program input old new = ⊥
-EndsAsProgram (ending.Fault fault) program input old new = ⊥
-EndsAsProgram ending.StepLimit program input old new = WritesBeginning program input old new
-EndsAsProgram ending.ReadFault program input old new = WritesBeginning program input old new
-EndsAsProgram ending.WriteFault program input old new = WritesBeginning program input old new
+-- of an event holds that it wants room: a request of the store, or a call whose frame, with those of the active functions, may take more bytes than the stack has
+abbrev pub WantsRoom : Areas → List SourceEvent → SourceEvent → Type 0
+WantsRoom n before next = ((q : Request) × IsRefused q next) ⊎ HasNoFrame frame_bound n.stack (active_after [] before) next
+
+-- what the program writes up to an event that wants room was written
+pub record WritesToCut (n : Areas) (program : Program) (input : List ℕ) (old new : Option (List ℕ)) : Type 0 where
+  pub fuel : ℕ
+  pub shown : List Event
+  pub cut : IsCut shown (source program input fuel).events (WantsRoom n)
+  pub written : Appends old new (output shown)
+
+-- The run ends as the program does on the input, with its output; or it was stopped before, after a beginning of it: where it is exhausted, up to the event that
+-- had no room. No run ends at a fault.
+abbrev pub EndsAsProgram : Ending → Areas → Program → List ℕ → Option (List ℕ) → Option (List ℕ) → Type 0
+EndsAsProgram (ending.Ended status) n program input old new = WritesAll program input (SourceEnding.Ended (word status)) old new
+EndsAsProgram (ending.Raised kind) n program input old new = WritesAll program input (SourceEnding.Raised kind) old new
+EndsAsProgram ending.Exhausted n program input old new = WritesToCut n program input old new
+EndsAsProgram ending.HostMemory n program input old new = WritesBeginning program input old new
+EndsAsProgram (ending.Fault fault) n program input old new = ⊥
+EndsAsProgram ending.StepLimit n program input old new = WritesBeginning program input old new
+EndsAsProgram ending.ReadFault n program input old new = WritesBeginning program input old new
+EndsAsProgram ending.WriteFault n program input old new = WritesBeginning program input old new
 
 -- a meaning is over
 abbrev pub IsOver : SourceEnding → Type 0
@@ -82,15 +101,19 @@ pub record IsTextRun (text : List ℕ) (pages steps : ℕ) (why : Ending) (reade
   pub parts : Contents
   pub as_asked : parts.pages ≡ pages
   pub implemented : IsImplementedBy program parts
+  pub holdings : Holdings
+  pub arena : ℕ → ℕ
   pub start : Arrays
-  pub starts : IsStart parts start
+  pub starts : IsStart parts holdings arena start
   pub end : State
-  pub hosted : IsHosted why (lengths_of start) steps (state_of start) end reader_old reader_new writer_old writer_new
+  pub hosted : IsHosted why (areas_of start) steps (state_of start) end reader_old reader_new writer_old writer_new
   -- what is written, on the bytes that the reader gave, is the program's, and the ending is its
-  pub ends : EndsAsProgram why program hosted.input writer_old writer_new
+  pub ends : EndsAsProgram why (areas_of start) program hosted.input writer_old writer_new
   -- The step limit isn't what ended it where enough steps were given: where, on some input that begins with what was read, and is that where its end was told, the
-  -- image comes to the program's end by a number of steps up to the limit.
-  pub limit : (more : List ℕ) → (Contains (run_steps (lengths_of start) hosted.count (from (state_of start) hosted.input)).events (ByteRead None) → more ≡ [])
+  -- image comes to the program's end by a number of steps up to the limit, whatever the store answers.
+  pub limit : (more : List ℕ)
+      → (Contains (run_steps (areas_of start) hosted.count (from (state_of start) hosted.input hosted.answers)).events (ByteRead None) → more ≡ [])
       → (fuel count : ℕ) → IsOver (source program (hosted.input ++ more) fuel).ending
-      → Reaches (run_steps (lengths_of start) count (from (state_of start) (hosted.input ++ more))) (source_meaning program (hosted.input ++ more)) fuel
+      → ((answers : ℕ → Answer) →
+      Reaches (run_steps (areas_of start) count (from (state_of start) (hosted.input ++ more) answers)) (source_meaning program (hosted.input ++ more)) fuel)
       → count ≤ steps → why ≢ ending.StepLimit

@@ -7,6 +7,7 @@ ghost use Rattle.cycc_driver.specs.Outcome.{IsTextRun};
 
 use crate::compiling::compile;
 use crate::fault::CompileFault;
+use cyc_arena::{PagesFault, PlainStore};
 use cyc_host::{Ending, run};
 use cyc_image::{ImageFault, load};
 use cyc_words::{Input, Output};
@@ -23,7 +24,7 @@ pub struct Limits {
 /// Compiles a text and runs its image.
 ///
 /// Refuses what `compile` refuses, before anything is read or written, and with `Memory` also where
-/// no host memory is left for the machine. Otherwise answers how the run ended.
+/// no host memory is left for the machine and its store, a `PlainStore`. Otherwise answers how the run ended.
 pub fn execute<R: Input, W: Output>(
     alloc: Global,
     text: &[u8],
@@ -49,6 +50,13 @@ pub fn execute<R: Input, W: Output>(
         Err(ImageFault::Memory) => return Err(CompileFault::Memory),
         Err(_) => unreachable!(),
     };
-    let mut machine = Machine::new(alloc, &image)?;
+    let store = match PlainStore::new(alloc, limits.pages) {
+        Ok(store) => store,
+        Err(PagesFault::Memory) => return Err(CompileFault::Memory),
+        Err(PagesFault::Pages) => unreachable!(),
+    };
+    let Ok(mut machine) = Machine::new(alloc, &image, store) else {
+        return Err(CompileFault::Memory);
+    };
     Ok(run(&mut machine, reader, writer, limits.steps))
 }

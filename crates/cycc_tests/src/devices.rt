@@ -78,8 +78,12 @@ fn other_endings_have_their_lines(rt: HostRuntime) -> Result<(), Fail> {
     let mut said = Vec::new(alloc);
     let exhausted = ended(alloc, Ending::Exhausted, None, true, &mut said)?;
     let quiet = ended(alloc, Ending::Exhausted, None, false, &mut said)?;
+    let lacking = ended(alloc, Ending::HostMemory, None, false, &mut said)?;
     let memory = refused(alloc, "IN", CompileFault::Memory, &mut said)?;
-    assert_eq!(rt; (exhausted, quiet, memory), (3, 3, 7));
-    assert_eq!(rt; text_of(alloc, &said)?.as_str(), "exhausted$out of memory$");
+    assert_eq!(rt; (exhausted, quiet, lacking, memory), (3, 3, 7, 7));
+    assert_eq!(rt;
+        text_of(alloc, &said)?.as_str(),
+        "exhausted$out of memory$out of memory$"
+    );
     Ok(())
 }

@@ -8,7 +8,9 @@ use crate::expression::{is_main, mistyped, named};
 use crate::fault::{Fault, sooner};
 use crate::program::Typed;
 use crate::statement::{block_fault, is_plain_int};
-use cyc_tree::{Bound, END_OF_TEXT, Function, Item, Member, Program, RegionName, TypeName};
+use cyc_tree::{
+    Bound, END_OF_TEXT, Function, Item, Member, Program, RegionName, RegionNames, TypeName,
+};
 use cyc_types::Scope;
 use std::alloc::{AllocError, Global};
 
@@ -40,7 +42,7 @@ fn region_form(regions: &[RegionName]) -> Option<u32>
 }
 
 /// The place of the first region name of an effect.
-fn effect_form(effect: &Option<Vec<RegionName>>) -> Option<u32>
+fn effect_form(effect: &Option<RegionNames>) -> Option<u32>
     ensures { result ≡ effect_form (effect_tree effect.now) }
 {
     match effect {

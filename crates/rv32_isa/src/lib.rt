@@ -11,8 +11,6 @@ mod encoding;
 mod immediates;
 mod instruction;
 mod operands;
-#[cfg(test)]
-mod tests;
 mod text;
 
 pub use decoding::{decode, rows_are_apart};

@@ -8,9 +8,8 @@ use Rattle.std.proofs.lemmas.Bool.{cond-false}
 use Rattle.std.proofs.lemmas.Bool.Decides.{nat_tests}
 use Rattle.rv32_isa.specs.Table.{decoded}
 use Rattle.rv32_isa.specs.declared.instruction.Instr.{Instr}
-use Rattle.rv32_machine.specs.State.{Lengths, code_base, stack_base, word_at}
-use Rattle.rv32_machine.specs.Arrays.{bytes_in, lengths_of}
-use Rattle.rv32_machine.proofs.Bytes.{in_code}
+use Rattle.rv32_machine.specs.State.{Areas, code_base, stack_base, word_at}
+use Rattle.rv32_machine.specs.Arrays.{bytes_in, byte_at, areas_of}
 use Rattle.rv32_select.specs.declared.labelled.Line.{Line}
 use Rattle.rv32_select.specs.declared.labelled.Line.TheVariants.{Plain, Label, Jump, JumpIfZero}
 use Rattle.rv32_select.specs.Lines.{size_of, code_length, place_of, instructions_of, instructions_from, labels_placed, AreOnce}
@@ -56,7 +55,7 @@ length_behind (first ∷ front) line = omega (arith, length_behind front line)
 
 -- ---- instructions
 
-instrs_parts : (n : Lengths) (bytes : ℕ → ℕ) (first second : List Instr) (at next : ℕ) → next ≡ at + 4 * length first → HasInstrs n bytes at (first ++ second)
+instrs_parts : (n : Areas) (bytes : ℕ → ℕ) (first second : List Instr) (at next : ℕ) → next ≡ at + 4 * length first → HasInstrs n bytes at (first ++ second)
     → HasInstrs n bytes at first × HasInstrs n bytes next second
 instrs_parts n bytes [] second at next behind has = (tt, subst (λ a. HasInstrs n bytes a second) (omega arith) has)
 instrs_parts n bytes (instr ∷ first) second at next behind has =
@@ -64,7 +63,7 @@ instrs_parts n bytes (instr ∷ first) second at next behind has =
     ((has.0, others.0), others.1)
 
 -- where the code has the instructions of lines, the first of which is behind others, it has the lines
-has_lines : (n : Lengths) (bytes : ℕ → ℕ) (all front lines : List Line) (at : ℕ) → all ≡ front ++ lines → at ≡ code_length front → AreOnce (labels_placed all)
+has_lines : (n : Areas) (bytes : ℕ → ℕ) (all front lines : List Line) (at : ℕ) → all ≡ front ++ lines → at ≡ code_length front → AreOnce (labels_placed all)
     → HasInstrs n bytes (code_base + at) (instructions_from (place_of all) at lines) → HasLines n bytes (place_of all) at lines
 has_lines n bytes all front [] at whole there once has = tt
 has_lines n bytes all front (line ∷ lines) at whole there once has =
@@ -79,68 +78,80 @@ has_lines n bytes all front (line ∷ lines) at whole there once has =
 
 -- ---- words
 
--- a byte of the code that is behind others
-code_byte : (code statics stack front rest : List ℕ) (at i : ℕ) → code ≡ front ++ rest → at ≡ code_base + (length front + i) → i < length rest
-    → bytes_in code statics stack at ≡ slice_index rest i
-code_byte code statics stack front rest at i whole there within =
-    in_code code statics stack at (length front + i) there (omega (arith, ap length whole, length-append front rest))
-    ∙ ap (λ bytes. slice_index bytes (length front + i)) whole ∙ get_or-append-add front rest i 0
+-- a byte of the code
+code_byte : (code statics stack : List ℕ) (pages : ℕ) (arena : ℕ → ℕ) (at k : ℕ) → at ≡ code_base + k → k < length code
+    → bytes_in pages arena code statics stack at ≡ slice_index code k
+unfolding bytes_in
+code_byte code statics stack pages arena at k there within = grind (arith, nat_tests)
 
 -- the word whose bytes these are
 word_is : (bytes : ℕ → ℕ) (at word : ℕ) → word < 2 ^ 32 → bytes at ≡ word % 2 ^ 8 → bytes (at + 1) ≡ word / 2 ^ 8 % 2 ^ 8
     → bytes (at + 2) ≡ word / 2 ^ 16 % 2 ^ 8 → bytes (at + 3) ≡ word / 2 ^ 24 → word_at bytes at ≡ word
 word_is bytes at word small first second third fourth = omega arith
 
-has_instr : (n : Lengths) (code statics stack front spelled rest : List ℕ) (at : ℕ) (instr : Instr) → n.code ≡ length code → code ≡ front ++ (spelled ++ rest)
-    → at ≡ code_base + length front → IsWord instr spelled → HasInstr n (bytes_in code statics stack) at instr
-has_instr n code statics stack front spelled rest at instr long whole there is =
-    let bytes = bytes_in code statics stack in
-    let all : code ≡ front ++ (word_bytes is.word ++ rest) = whole ∙ ap (λ w. front ++ (w ++ rest)) is.spelled in
-    let some : length code ≡ length front + (4 + length rest) = omega (arith, ap length all, length-append front (word_bytes is.word ++ rest)) in
-    let first = code_byte code statics stack front (word_bytes is.word ++ rest) at 0 all (omega arith) (omega arith) in
-    let second = code_byte code statics stack front (word_bytes is.word ++ rest) (at + 1) 1 all (omega arith) (omega arith) in
-    let third = code_byte code statics stack front (word_bytes is.word ++ rest) (at + 2) 2 all (omega arith) (omega arith) in
-    let fourth = code_byte code statics stack front (word_bytes is.word ++ rest) (at + 3) 3 all (omega arith) (omega arith) in
-    record {
-      within = grind (arith, nat_tests);
-      decodes = subst (λ w. decoded w ≡ Some instr) (sym (word_is bytes at is.word is.is_word first second third fourth)) is.decodes;
-    }
+module _ (n : Areas) (code statics stack : List ℕ) (pages : ℕ) (arena : ℕ → ℕ) (long : n.code ≡ length code) where
+  abbrev memory : ℕ → ℕ
+  memory = bytes_in pages arena code statics stack
 
-has_instrs : (n : Lengths) (code statics stack front words : List ℕ) (at : ℕ) (instrs : List Instr) → n.code ≡ length code → code ≡ front ++ words
-    → at ≡ code_base + length front → AreWords instrs words → HasInstrs n (bytes_in code statics stack) at instrs
-has_instrs n code statics stack front words at [] long whole there are = tt
-has_instrs n code statics stack front words at (instr ∷ instrs) long whole there (spelled, rest, parts, is, more) =
-    let all : code ≡ front ++ (spelled ++ rest) = whole ∙ ap (λ w. front ++ w) parts in (
-      has_instr n code statics stack front spelled rest at instr long all there is,
-      has_instrs n code statics stack (front ++ spelled) rest (at + 4) instrs long (all ∙ sym (append_assoc front spelled rest))
-          (omega (arith, length-append front spelled, ap length is.spelled)) more,
-    )
+  -- a byte of the code that is behind others
+  byte_behind : (front rest : List ℕ) (at i : ℕ) → code ≡ front ++ rest → at ≡ code_base + (length front + i) → i < length rest → memory at ≡ slice_index rest i
+  byte_behind front rest at i whole there within =
+      code_byte code statics stack pages arena at (length front + i) there (omega (arith, ap length whole, length-append front rest))
+      ∙ ap (λ bytes. slice_index bytes (length front + i)) whole ∙ get_or-append-add front rest i 0
+
+  has_instr : (front spelled rest : List ℕ) (at : ℕ) (instr : Instr) → code ≡ front ++ (spelled ++ rest) → at ≡ code_base + length front → IsWord instr spelled
+      → HasInstr n memory at instr
+  has_instr front spelled rest at instr whole there is =
+      let behind = word_bytes is.word ++ rest in
+      let all : code ≡ front ++ behind = whole ∙ ap (λ w. front ++ (w ++ rest)) is.spelled in
+      let some : length code ≡ length front + (4 + length rest) = omega (arith, ap length all, length-append front behind) in
+      let first = byte_behind front behind at 0 all (omega arith) (omega arith) in
+      let second = byte_behind front behind (at + 1) 1 all (omega arith) (omega arith) in
+      let third = byte_behind front behind (at + 2) 2 all (omega arith) (omega arith) in
+      let fourth = byte_behind front behind (at + 3) 3 all (omega arith) (omega arith) in
+      record {
+        within = grind (arith, nat_tests);
+        decodes = subst (λ w. decoded w ≡ Some instr) (sym (word_is memory at is.word is.is_word first second third fourth)) is.decodes;
+      }
+
+  has_instrs : (front words : List ℕ) (at : ℕ) (instrs : List Instr) → code ≡ front ++ words → at ≡ code_base + length front → AreWords instrs words
+      → HasInstrs n memory at instrs
+  has_instrs front words at [] whole there are = tt
+  has_instrs front words at (instr ∷ instrs) whole there (spelled, rest, parts, is, more) =
+      let all : code ≡ front ++ (spelled ++ rest) = whole ∙ ap (λ w. front ++ w) parts in (
+        has_instr front spelled rest at instr all there is,
+        has_instrs (front ++ spelled) rest (at + 4) instrs (all ∙ sym (append_assoc front spelled rest))
+            (omega (arith, length-append front spelled, ap length is.spelled)) more,
+      )
 
 -- ---- the start
 
 -- a byte of the stack, behind areas that are no longer than images have them
-stack_byte : (code statics stack : List ℕ) (at k : ℕ) → length code ≤ 2 ^ 20 → length statics ≤ 2 ^ 20 → at ≡ stack_base + k → k < 2 ^ 20
-    → bytes_in code statics stack at ≡ slice_index stack k
+stack_byte : (code statics stack : List ℕ) (pages : ℕ) (arena : ℕ → ℕ) (at k : ℕ) → length code ≤ 2 ^ 20 → length statics ≤ 2 ^ 20 → at ≡ stack_base + k
+    → k < length stack → bytes_in pages arena code statics stack at ≡ slice_index stack k
 unfolding bytes_in
-stack_byte code statics stack at k code_within statics_within there below = grind (arith, nat_tests)
+stack_byte code statics stack pages arena at k code_within statics_within there below = grind (arith, nat_tests)
 
 pub begins_with : (lines : List Line) (bytes : List ℕ) → ArePlaced lines bytes → code_length lines ≤ code_limit → AreOnce (labels_placed lines)
     → BeginsWith lines bytes
-begins_with lines bytes placed within once image m same first fits start =
+begins_with lines bytes placed within once image holdings arena m same first fits start =
     let code : m.code ≡ bytes = start.code ∙ same in
     let code_within : length m.code ≤ 2 ^ 20 = omega (arith, ap length start.code, fits.code_within) in
     let statics_within : length m.statics ≤ 2 ^ 20 = omega (arith, ap length start.statics, fits.data_within) in
     record {
       runs = start.runs;
       at_first = omega (arith, start.at_entry);
-      pointer = start.registers 2 (omega arith);
-      zeros = λ at above below. stack_byte m.code m.statics m.stack at (at - stack_base) code_within statics_within (omega arith) (omega arith)
-          ∙ start.zeros (at - stack_base);
+      pointer = omega (arith, start.registers 2 (omega arith), start.stack);
+      zeros = λ at above below. stack_byte m.code m.statics m.stack m.holdings.pages m.arena at (at - stack_base) code_within statics_within
+          (omega arith) (omega arith) ∙ start.zeros (at - stack_base);
       code_within = code_within;
+      stack_words = omega (arith, start.stack);
+      stack_within = omega (arith, start.stack);
       labels = λ label. record {
         aligned = place_is_of_words lines label;
         within = omega (arith, place_within_length lines label);
       };
-      has = has_lines (lengths_of m) (bytes_in m.code m.statics m.stack) lines [] lines 0 refl refl once
-          (has_instrs (lengths_of m) m.code m.statics m.stack [] bytes code_base (instructions_from (place_of lines) 0 lines) refl code refl placed);
+      has = has_lines (areas_of m) (byte_at m) lines [] lines 0 refl refl once
+          (has_instrs (areas_of m) m.code m.statics m.stack m.holdings.pages m.arena refl [] bytes code_base (instructions_from (place_of lines) 0 lines)
+          code refl placed);
     }

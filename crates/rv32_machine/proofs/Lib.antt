@@ -1,9 +1,12 @@
 pub mod Bytes
 pub mod Moves
+pub mod Asking
 pub mod Starts
 pub mod Stores
 pub mod Writes
 pub mod LongerRuns
+pub mod Modes
+pub mod Stepping
 pub mod Splices
 mod SampleRuns
 mod ImmediateSamples
@@ -17,4 +20,5 @@ mod JumpSamples
 mod BranchSamples
 mod OffsetSamples
 mod CallSamples
+mod RequestSamples
 mod WordSamples

@@ -1,5 +1,6 @@
 pub mod State
 pub mod Step
+pub mod Ledger
 pub mod Run
 pub mod Arrays
 pub mod Places

@@ -2,6 +2,7 @@
 
 ghost use Rattle.std.specs.Prelude.{◌≡◌, ◌≤◌, ◌-◌, ◌^◌, Some, None, if◌then◌else◌};
 ghost use Rattle.rv32_machine.specs.State.{is_within};
+ghost use Rattle.rv32_machine.specs.Arrays.{stack_length};
 ghost use Rattle.rv32_machine.specs.Places.{Locates};
 
 /// Where the code begins.
@@ -13,13 +14,19 @@ pub const DATA_BASE: u32 = 0x0020_0000;
 /// Where the stack begins.
 pub const STACK_BASE: u32 = 0x0040_0000;
 
-/// Where the stack ends.
-pub const STACK_END: u32 = 0x0050_0000;
-
 /// The stack's length in bytes.
-pub const STACK_LENGTH: usize = 0x0010_0000;
+pub const STACK_LENGTH: u32 = 0x0010_0000;
 
-/// An offset in an area.
+/// Where the stack ends.
+pub const STACK_END: u32 = STACK_BASE + STACK_LENGTH;
+
+/// Where the arena begins.
+pub const ARENA_BASE: u32 = 0x1000_0000;
+
+/// The bytes of a page of the arena.
+pub const PAGE: u32 = 4096;
+
+/// The area that an address lies in, and its offset there.
 #[derive(Clone, Copy)]
 pub enum Place {
     /// In the code.
@@ -28,11 +35,13 @@ pub enum Place {
     Statics(usize),
     /// In the stack.
     Stack(usize),
+    /// In the arena, whose bytes the store has by their addresses.
+    Arena,
 }
 
 // the offset in the area of this base and length, where so many bytes from an address on lie in it
 fn offset_in(base: u32, length: usize, at: u32, width: usize) -> Option<usize>
-    requires length { length ≤ 2 ^ 20 }
+    requires length { length ≤ 2 ^ 24 }
     requires width { width ≤ 4 }
     ensures { result ≡ (if is_within base length at width then Some (at - base) else None) }
 {
@@ -48,13 +57,14 @@ fn offset_in(base: u32, length: usize, at: u32, width: usize) -> Option<usize>
 }
 
 /// The place of so many bytes from an address on, where they lie in one area.
-pub fn locate(code: usize, statics: usize, at: u32, width: usize) -> Option<Place>
+pub fn locate(code: usize, statics: usize, pages: u32, at: u32, width: usize) -> Option<Place>
     requires code { code ≤ 2 ^ 20 }
     requires statics { statics ≤ 2 ^ 20 }
+    requires pages { pages ≤ 4096 }
     requires width { width ≤ 4 }
-    ensures { Locates record { code = code; statics = statics } at width result }
+    ensures { Locates record { code = code; statics = statics; stack = stack_length; pages = pages } at width result }
 {
-    if let Some(offset) = offset_in(STACK_BASE, STACK_LENGTH, at, width) {
+    if let Some(offset) = offset_in(STACK_BASE, STACK_LENGTH as usize, at, width) {
         return Some(Place::Stack(offset));
     }
     if let Some(offset) = offset_in(DATA_BASE, statics, at, width) {
@@ -62,6 +72,9 @@ pub fn locate(code: usize, statics: usize, at: u32, width: usize) -> Option<Plac
     }
     if let Some(offset) = offset_in(CODE_BASE, code, at, width) {
         return Some(Place::Code(offset));
+    }
+    if offset_in(ARENA_BASE, (pages * PAGE) as usize, at, width).is_some() {
+        return Some(Place::Arena);
     }
     None
 }

@@ -1,22 +1,28 @@
-// ECALL: the number is in x17, the argument in x10.
+// ECALL: the number is in x17, the arguments in x10 and x11.
 
 ghost use Rattle.rv32_machine.specs.State.{Ended, Raised, register_of};
-ghost use Rattle.rv32_machine.specs.Step.{a0, a7, calls, raises, refuses_frame, stop};
-ghost use Rattle.rv32_machine.specs.Arrays.{Steps, state_of};
+ghost use Rattle.rv32_machine.specs.Step.{a0, a1, a7, calls, calls_host, raises, refuses_frame, stop};
+ghost use Rattle.rv32_machine.specs.Arrays.{Steps, answer_seen, areas_of, arrays, state_of};
 
 use crate::areas::{STACK_BASE, STACK_END};
 use crate::event::Event;
 use crate::machine::Machine;
-use crate::numbers::{EXIT, GETCHAR, PUTCHAR, RAISE, STACK_REFUSED};
+use crate::numbers::{
+    EXIT, GETCHAR, KEY_CLOSE, KEY_FREE, KEY_NEW, KEY_OPEN, PUTCHAR, RAISE, REGION_ALLOC,
+    REGION_FREE, REGION_NEW, STACK_REFUSED, UNIQUE_ALLOC, UNIQUE_FREE,
+};
 use crate::phase::Phase;
+use cyc_arena::BlockStore;
 use cyc_words::{Kind, MachineFault};
 use rv32_isa::Register;
 
-impl Machine {
-    /// A call of the environment: 0 exits, 1 writes a byte, 2 asks for one, 3 raises, 13 refuses a frame.
+impl<S: BlockStore> Machine<S> {
+    /// A call of the environment: 0 exits, 1 writes a byte, 2 asks for one, 3 raises, 4 to 12 ask the
+    /// store, 13 refuses a frame.
     pub(crate) fn calls(&mut self) -> Event
-        ensures { Steps self.old self.new result (calls (register_of (state_of self.old) a7)
-            (register_of (state_of self.old) a0) (state_of self.old)) }
+        ensures { let seen = arrays S.holdings S.byte_at in Steps (seen self.old) (seen self.new) result (calls (areas_of (seen self.old)) (answer_seen result (seen self.new))
+            (register_of (state_of (seen self.old)) a7) (register_of (state_of (seen self.old)) a0)
+            (register_of (state_of (seen self.old)) a1) (state_of (seen self.old))) }
     {
         let argument = self.register(Register::ARGUMENT_0);
         match self.register(Register::ARGUMENT_7) {
@@ -24,6 +30,15 @@ impl Machine {
             PUTCHAR => self.writes(argument),
             GETCHAR => self.asks(),
             RAISE => self.raises(argument),
+            REGION_NEW => self.region_new(),
+            REGION_ALLOC => self.region_alloc(argument, self.register(Register::ARGUMENT_1)),
+            REGION_FREE => self.region_free(argument),
+            UNIQUE_ALLOC => self.unique_alloc(argument),
+            UNIQUE_FREE => self.unique_free(argument),
+            KEY_NEW => self.key_new(),
+            KEY_OPEN => self.key_open(argument),
+            KEY_CLOSE => self.key_close(argument),
+            KEY_FREE => self.key_free(argument),
             STACK_REFUSED => self.refuses_frame(argument),
             _ => self.fault(MachineFault::BadCall),
         }
@@ -31,7 +46,7 @@ impl Machine {
 
     // ends with a status
     fn exits(&mut self, status: u32) -> Event
-        ensures { Steps self.old self.new result (stop (Ended status) (state_of self.old)) }
+        ensures { let seen = arrays S.holdings S.byte_at in Steps (seen self.old) (seen self.new) result (stop (Ended status) (state_of (seen self.old))) }
     {
         self.phase = Phase::Ended(status);
         Event::Ended(status.cast_signed())
@@ -39,7 +54,7 @@ impl Machine {
 
     // writes the low byte of a value, which x10 gets
     fn writes(&mut self, value: u32) -> Event
-        ensures { Steps self.old self.new result (calls 1 value (state_of self.old)) }
+        ensures { let seen = arrays S.holdings S.byte_at in Steps (seen self.old) (seen self.new) result (calls_host (areas_of (seen self.old)) 1 value (state_of (seen self.old))) }
     {
         let byte = (value % 0x100) as u8;
         self.gives(Register::ARGUMENT_0, u32::from(byte));
@@ -48,7 +63,7 @@ impl Machine {
 
     // waits for a byte
     fn asks(&mut self) -> Event
-        ensures { Steps self.old self.new result (calls 2 0 (state_of self.old)) }
+        ensures { let seen = arrays S.holdings S.byte_at in Steps (seen self.old) (seen self.new) result (calls_host (areas_of (seen self.old)) 2 0 (state_of (seen self.old))) }
     {
         self.phase = Phase::Waits;
         Event::Get
@@ -56,7 +71,7 @@ impl Machine {
 
     // stops with a failed check of the source
     fn raises(&mut self, number: u32) -> Event
-        ensures { Steps self.old self.new result (raises number (state_of self.old)) }
+        ensures { let seen = arrays S.holdings S.byte_at in Steps (seen self.old) (seen self.new) result (raises number (state_of (seen self.old))) }
     {
         match number {
             1 => self.raise(Kind::NullException),
@@ -67,7 +82,7 @@ impl Machine {
 
     // stops where the stack has fewer bytes below x2 than a frame takes
     fn refuses_frame(&mut self, bytes: u32) -> Event
-        ensures { Steps self.old self.new result (refuses_frame bytes (state_of self.old)) }
+        ensures { let seen = arrays S.holdings S.byte_at in Steps (seen self.old) (seen self.new) result (refuses_frame (areas_of (seen self.old)) bytes (state_of (seen self.old))) }
     {
         let top = self.register(Register::STACK_POINTER);
         if STACK_BASE <= top && top <= STACK_END && top - STACK_BASE < bytes {
@@ -80,7 +95,7 @@ impl Machine {
 
     // stops with a failed check of this kind
     fn raise(&mut self, kind: Kind) -> Event
-        ensures { Steps self.old self.new result (stop (Raised kind) (state_of self.old)) }
+        ensures { let seen = arrays S.holdings S.byte_at in Steps (seen self.old) (seen self.new) result (stop (Raised kind) (state_of (seen self.old))) }
     {
         self.phase = Phase::Raised(kind);
         Event::Raised(kind)

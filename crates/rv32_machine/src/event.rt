@@ -17,6 +17,8 @@ pub enum Event {
     Raised(Kind),
     /// It stopped since the store or the stack had no room.
     Exhausted,
+    /// It stopped since the store lacked host memory.
+    HostMemory,
     /// It stopped at a fault, before the instruction.
     Fault(MachineFault),
 }

@@ -1,12 +1,14 @@
-//! The machine: RV32IM with the memory map and the calls of docs/MACHINE.md.
+//! The machine: RV32IM with the memory map and the calls of docs/MACHINE.md, over any store.
 //!
 //! `Machine::new` makes the arrays for an image and decodes its code. `step` executes one
-//! instruction, for every instruction and every fault as specs/Step.antt says, and takes no memory.
-//! `give` answers a `getchar`. Stands on `rv32_isa`, `cyc_words`, `cyc_image` and `byteorder`.
+//! instruction, for every instruction, call and fault as specs/Step.antt says, with the answers that
+//! the store gave. `give` answers a `getchar`. Stands on `rv32_isa`, `cyc_words`, `cyc_image`,
+//! `arena_laws`, `cyc_arena` and `byteorder`.
 #![tactic(auto)]
 
 mod access;
 mod areas;
+mod arena;
 mod calls;
 mod decoded;
 mod event;
@@ -17,6 +19,7 @@ mod motion;
 mod numbers;
 mod phase;
 mod registers;
+mod requests;
 #[cfg(test)]
 mod tests;
 
@@ -24,4 +27,7 @@ pub use areas::CODE_BASE;
 pub use cyc_words::{Kind, MachineFault};
 pub use event::Event;
 pub use machine::Machine;
-pub use numbers::{EXIT, GETCHAR, PUTCHAR, RAISE, STACK_REFUSED};
+pub use numbers::{
+    EXIT, GETCHAR, KEY_CLOSE, KEY_FREE, KEY_NEW, KEY_OPEN, PUTCHAR, RAISE, REGION_ALLOC,
+    REGION_FREE, REGION_NEW, STACK_REFUSED, UNIQUE_ALLOC, UNIQUE_FREE,
+};

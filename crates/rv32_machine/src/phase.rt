@@ -14,8 +14,10 @@ pub enum Phase {
     Ended(u32),
     /// It stopped at a failed check of the source.
     Raised(Kind),
-    /// It stopped since the stack had no room.
+    /// It stopped since the store or the stack had no room.
     Exhausted,
+    /// It stopped since the store lacked host memory.
+    HostMemory,
     /// It stopped at a fault.
     Fault(MachineFault),
 }

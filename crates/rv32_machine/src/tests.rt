@@ -1,12 +1,18 @@
-// Runs of short images, worked out by hand.
+// Runs of short images over a plain store, worked out by hand.
 
 use super::*;
+use cyc_arena::{BlockStore, PlainStore};
 use cyc_image::{Parts, load, write};
 use std::alloc::Global;
 use std::test::Fail;
 
-// the machine of an image of one page with these words and this data, at its first instruction
-fn machine_of(alloc: Global, words: &[u32], statics: &[u8]) -> Result<Machine, Fail> {
+// the machine of an image of so many pages with these words and this data, at its first instruction, over a store of as many
+fn machine_over(
+    alloc: Global,
+    words: &[u32],
+    statics: &[u8],
+    pages: u32,
+) -> Result<Machine<PlainStore>, Fail> {
     let mut code = Vec::new(alloc);
     for word in words {
         code.extend_from_slice(&word.to_le_bytes())?;
@@ -15,18 +21,36 @@ fn machine_of(alloc: Global, words: &[u32], statics: &[u8]) -> Result<Machine, F
         entry: 0,
         code: &code,
         statics,
-        pages: 1,
+        pages,
     };
     if !parts.fits() {
         return Err(Fail::from("the parts do not fit"));
     }
     let bytes = write(alloc, &parts)?;
     let image = load(alloc, &bytes)?;
-    Ok(Machine::new(alloc, &image)?)
+    let store = PlainStore::new(alloc, image.pages())?;
+    match Machine::new(alloc, &image, store) {
+        Ok(machine) => Ok(machine),
+        Err(_) => Err(Fail::from("no memory for the machine")),
+    }
+}
+
+// the machine of an image of one page
+fn machine_of(alloc: Global, words: &[u32], statics: &[u8]) -> Result<Machine<PlainStore>, Fail> {
+    machine_over(alloc, words, statics, 1)
+}
+
+// words in hexadecimal, one space apart
+fn words_of(alloc: Global, text: &str) -> Result<Vec<u32>, Fail> {
+    let mut words = Vec::new(alloc);
+    for digits in text.split(' ') {
+        words.push(u32::from_str_radix(digits, 16)?)?;
+    }
+    Ok(words)
 }
 
 // the event that is not Next, of at most 20 steps
-fn event_of(machine: &mut Machine) -> Event {
+fn event_of(machine: &mut Machine<PlainStore>) -> Event {
     for _ in 0..20 {
         let event = machine.step();
         if event != Event::Next {
@@ -38,37 +62,137 @@ fn event_of(machine: &mut Machine) -> Event {
 
 const BASE: u32 = 0x0001_0000;
 
-#[test]
-fn faults_stop_before_the_instruction(rt: HostRuntime) -> Result<(), Fail> {
-    for (words, fault, at) in [
-        ([0x0000_0893].as_slice(), MachineFault::Access, BASE + 4),
-        ([0x0000_0000].as_slice(), MachineFault::Illegal, BASE),
-        ([0x0010_0073].as_slice(), MachineFault::Break, BASE),
-        ([0x0010_2083].as_slice(), MachineFault::Misaligned, BASE),
-        ([0x0000_2083].as_slice(), MachineFault::Access, BASE),
-        ([0x0020_006F].as_slice(), MachineFault::Misaligned, BASE),
-        (
-            [0x0030_0893, 0x0030_0513, 0x0000_0073].as_slice(),
-            MachineFault::BadCall,
-            BASE + 8,
-        ),
-        (
-            [0x0060_0893, 0x0090_0513, 0x0000_0073].as_slice(),
-            MachineFault::BadCall,
-            BASE + 8,
-        ),
-        (
-            [0x00D0_0893, 0x0010_0513, 0x0000_0073].as_slice(),
-            MachineFault::BadCall,
-            BASE + 8,
-        ),
-    ] {
-        let mut machine = machine_of(rt.alloc(), words, b"")?;
+// how a machine stops and where, what x10 has then, and its words
+const STOPS: &str = "\
+Fault(Access) at 10004 with 0 <- 00000893
+Fault(Illegal) at 10000 with 0 <- 00000000
+Fault(Break) at 10000 with 0 <- 00100073
+Fault(Misaligned) at 10000 with 0 <- 00102083
+Fault(Access) at 10000 with 0 <- 00002083
+Fault(Misaligned) at 10000 with 0 <- 0020006F
+Ended(0) at 10008 with 0 <- 00001163 00000893 00000073
+Fault(BadCall) at 10008 with 3 <- 00300893 00300513 00000073
+Exhausted at 10008 with ffffffff <- 00D00893 FFF00513 00000073
+Fault(BadCall) at 10008 with 1 <- 00D00893 00100513 00000073
+Fault(BadCall) at 10004 with 0 <- 00E00893 00000073";
+
+// the same of images that load from the arena, store to it, or jump there
+const ARENA_STOPS: &str = "\
+Fault(Access) at 10008 with 0 <- 100012B7 FE028FA3 00028023
+Fault(Access) at 10000000 with 0 <- 100002B7 00028067
+Fault(Access) at 10004 with 0 <- 100002B7 FFF28083
+Fault(Misaligned) at 10004 with 0 <- 100002B7 0022A083
+Fault(Access) at 10004 with 0 <- 100012B7 0002D083
+Fault(Access) at 1000c with 500000 <- 100012B7 FE22AE23 FFC2A503 0002A083";
+
+// the same of images that ask the store, in order or not
+const CALL_STOPS: &str = "\
+Exhausted at 10008 with 1 <- 00400893 00000073 00000073
+Exhausted at 10008 with 1 <- 00900893 00000073 00000073
+Fault(BadCall) at 1000c with 9 <- 00500893 00900513 00800593 00000073
+Fault(BadCall) at 10010 with 9 <- 00500893 00900513 000015B7 00158593 00000073
+Exhausted at 1000c with 0 <- 00500893 000015B7 00158593 00000073
+Exhausted at 1000c with 1001 <- 00700893 00001537 00150513 00000073
+Fault(BadCall) at 10004 with 0 <- 00600893 00000073
+Fault(BadCall) at 10008 with 9 <- 00600893 00900513 00000073
+Fault(BadCall) at 10010 with 1 <- 00400893 00000073 00600893 00000073 00000073
+Fault(BadCall) at 10018 with 1 <- 00400893 00000073 00600893 00000073 00500893 00800593 00000073
+Fault(BadCall) at 10008 with 10000000 <- 00800893 10000537 00000073
+Fault(BadCall) at 10014 with 10000000 <- 00700893 00800513 00000073 00800893 00000073 00000073
+Fault(BadCall) at 10014 with 10000008 <- 00700893 00800513 00000073 00850513 00800893 00000073
+Fault(BadCall) at 10008 with 1 <- 00A00893 00100513 00000073
+Fault(BadCall) at 10008 with 1 <- 00B00893 00100513 00000073
+Fault(BadCall) at 10008 with 1 <- 00C00893 00100513 00000073
+Fault(BadCall) at 1000c with 1 <- 00900893 00000073 00600893 00000073
+Fault(BadCall) at 1000c with 1 <- 00900893 00000073 00B00893 00000073
+Fault(BadCall) at 10010 with 1 <- 00900893 00000073 00500893 00800593 00000073
+Fault(BadCall) at 10010 with 1 <- 00900893 00000073 00A00893 00000073 00000073
+Fault(BadCall) at 10014 with 1 <- 00900893 00000073 00A00893 00000073 00C00893 00000073
+Ended(1) at 10014 with 1 <- 00900893 00000073 00C00893 00000073 00000893 00000073";
+
+// runs each image of a table, looks at where it stopped, and steps it again
+fn check_stops(alloc: Global, table: &str) -> Result<(), Fail> {
+    for line in table.lines() {
+        let (wanted, text) = line.split_once(" <- ").ok_or("no words")?;
+        let words = words_of(alloc, text)?;
+        let mut machine = machine_of(alloc, &words, b"")?;
         for _ in 0..2 {
-            assert_eq!(rt; event_of(&mut machine), Event::Fault(fault));
-            assert_eq!(rt; machine.pc(), at);
-            assert_eq!(rt; machine.reg(1), 0);
+            let event = event_of(&mut machine);
+            let (pc, number) = (machine.pc(), machine.reg(10));
+            let shown = format!(in alloc; "{event:?} at {pc:x} with {number:x}")?;
+            if shown.as_str() != wanted || machine.reg(1) != 0 {
+                let told = format!(in alloc; "{shown} for {line}")?;
+                return Err(Fail::from(told.as_str()));
+            }
         }
+    }
+    Ok(())
+}
+
+#[test]
+fn a_stop_is_before_the_instruction(rt: HostRuntime) -> Result<(), Fail> {
+    check_stops(rt.alloc(), STOPS)
+}
+
+#[test]
+fn no_access_leaves_the_arena(rt: HostRuntime) -> Result<(), Fail> {
+    check_stops(rt.alloc(), ARENA_STOPS)
+}
+
+#[test]
+fn calls_out_of_order_stop(rt: HostRuntime) -> Result<(), Fail> {
+    check_stops(rt.alloc(), CALL_STOPS)
+}
+
+#[test]
+fn a_store_of_one_page_has_no_second_region(rt: HostRuntime) -> Result<(), Fail> {
+    // region_new, and again, and a third time
+    let words = [0x0040_0893, 0x0000_0073, 0x0000_0073, 0x0000_0073];
+    for (pages, refused_at) in [(1, BASE + 8), (2, BASE + 12)] {
+        let mut machine = machine_over(rt.alloc(), &words, b"", pages)?;
+        for _ in 0..2 {
+            assert_eq!(rt; event_of(&mut machine), Event::Exhausted);
+            assert_eq!(rt; (machine.pc(), machine.reg(10)), (refused_at, pages));
+        }
+    }
+    Ok(())
+}
+
+#[test]
+fn grants_and_frees_change_no_byte(rt: HostRuntime) -> Result<(), Fail> {
+    // a region, a block of 8 bytes in it, whose address goes to x5, and 0x12345000 stored there; the region is freed, and the
+    // next one made; then bytes 0 to 2 of what stands there go to x12 to x14, and byte 4 to x15
+    let text =
+        "00400893 00000073 00050313 00500893 00800593 00000073 00050293 123453B7 0072A023 00030513 00600893 00000073 \
+00400893 00000073 0002C603 0012C683 0022C703 0042C783 00100073";
+    let words = words_of(rt.alloc(), text)?;
+    let mut machine = machine_of(rt.alloc(), &words, b"")?;
+    assert_eq!(rt; event_of(&mut machine), Event::Fault(MachineFault::Break));
+    for (register, value) in [(12, 0), (13, 0x50), (14, 0x34), (15, 0)] {
+        assert_eq!(rt; machine.reg(register), value, "x{register}");
+    }
+    Ok(())
+}
+
+#[test]
+fn where_memory_lacks_the_store_comes_back(rt: HostRuntime) -> Result<(), Fail> {
+    let code = 0x0010_0073u32.to_le_bytes();
+    let parts = Parts {
+        entry: 0,
+        code: &code,
+        statics: b"",
+        pages: 1,
+    };
+    if !parts.fits() {
+        return Err(Fail::from("the parts do not fit"));
+    }
+    let image = load(rt.alloc(), &write(rt.alloc(), &parts)?)?;
+    let mut store = PlainStore::new(rt.alloc(), image.pages())?;
+    assert!(rt; store.store8(0x1000_0000, 7));
+    match Machine::new(rt.alloc(), &image, store) {
+        Ok(machine) => assert_eq!(rt; (machine.pc(), machine.reg(2)), (BASE, 0x0050_0000)),
+        // as under rt try --test --fail-alloc
+        Err(back) => assert_eq!(rt; back.load8(0x1000_0000), Some(7)),
     }
     Ok(())
 }

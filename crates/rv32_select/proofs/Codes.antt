@@ -1,7 +1,7 @@
 -- What lines of code are made of: their lengths and parts, and the registers that instructions leave.
 use Rattle.std.proofs.Common.{◌≡◌, ℕ, zero, suc, ◌+◌, ◌%◌, List, [], ◌∷◌, ◌++◌, Bool, true, false, nat_eq, if◌then◌else◌, refl, arith}
 use Rattle.std.proofs.lemmas.Bool.Decides.{nat_tests}
-use Rattle.rv32_machine.specs.State.{Lengths, set_register}
+use Rattle.rv32_machine.specs.State.{Areas, set_register}
 use Rattle.rv32_select.specs.declared.labelled.Line.{Line}
 use Rattle.rv32_select.specs.declared.labelled.Line.TheVariants.{Plain, Label, Jump, JumpIfZero}
 use Rattle.rv32_select.specs.Lines.{size_of, code_length}
@@ -25,7 +25,7 @@ length_is_of_words (JumpIfZero register l ∷ lines) = omega (arith, length_is_o
 pub word_behind : (place : ℕ) (lines : List Line) → place % 4 ≡ 0 → (place + code_length lines) % 4 ≡ 0
 word_behind place lines aligned = omega (arith, length_is_of_words lines)
 
-module _ (n : Lengths) (bytes places : ℕ → ℕ) where
+module _ (n : Areas) (bytes places : ℕ → ℕ) where
   pub first_lines : (at : ℕ) (first second : List Line) → HasLines n bytes places at (first ++ second) → HasLines n bytes places at first
   first_lines at [] second has = tt
   first_lines at (line ∷ first) second (instrs, label, others) = (instrs, label, first_lines (at + size_of line) first second others)

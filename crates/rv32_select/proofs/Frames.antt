@@ -15,21 +15,22 @@ use Rattle.rv32_select.proofs.Slots.{Puts, loads_cell, saves_cell}
 -- the bytes are those of a frame with these cells
 pub record Shows (x : Activation) (cells : Cells) (bytes : ℕ → ℕ) : Type 0 where
   pub shows : (c : ℕ) → c ≤ x.last → word_at bytes (x.base + 4 * c) ≡ cells c
-  pub small : (at : ℕ) → stack_base ≤ at → at < stack_end → bytes at < 256
+  pub small : (at : ℕ) → stack_base ≤ at → at < stack_end x.areas → bytes at < 256
   pub kept : IsKeptBelow x.bytes bytes
 
 module _ (x : Activation) (order : IsInOrder x) where
   -- a machine at a place, written out
-  pub written_out : (cells : Cells) (place : ℕ) (s : State) → IsAtPlace x cells place s → s ≡ state_at place s.registers s.bytes
-  written_out cells place s at = λ i. record { pc = at.there i; registers = s.registers; bytes = s.bytes; mode = at.stands.runs i }
+  pub written_out : (cells : Cells) (place : ℕ) (s : State) → IsAtPlace x cells place s → s ≡ state_at x.held place s.registers s.bytes
+  written_out cells place s at =
+      λ i. record { pc = at.there i; registers = s.registers; bytes = s.bytes; holdings = at.stands.held i; mode = at.stands.runs i }
 
   pub shown : (cells : Cells) (s : State) → Stands x cells s → Shows x cells s.bytes
   shown cells s stands = record { shows = stands.shows; small = stands.small; kept = stands.kept }
 
   pub is_at : (cells : Cells) (place : ℕ) (registers bytes : ℕ → ℕ) → place % 4 ≡ 0 → registers 2 ≡ x.base → Shows x cells bytes
-      → IsAtPlace x cells place (state_at place registers bytes)
+      → IsAtPlace x cells place (state_at x.held place registers bytes)
   is_at cells place registers bytes aligned pointer frame = record {
-    stands = record { runs = refl; pointer = pointer; shows = frame.shows; small = frame.small; kept = frame.kept };
+    stands = record { runs = refl; held = refl; pointer = pointer; shows = frame.shows; small = frame.small; kept = frame.kept };
     there = refl;
     aligned = aligned;
   }
@@ -78,11 +79,11 @@ module _ (x : Activation) (order : IsInOrder x) where
     -- a register is saved, and the machine comes behind the code that does so
     pub saves : place % 4 ≡ 0 → (r value : ℕ) → ((scratch : ℕ) → set_register 7 scratch registers (suc r) ≡ value) → value < 2 ^ 32
         → Has x place (save_code (suc r) (slot_of cell))
-        → Comes x (set_cell cell value cells) (place + code_length (save_code (suc r) (slot_of cell))) (state_at place registers bytes)
+        → Comes x (set_cell cell value cells) (place + code_length (save_code (suc r) (slot_of cell))) (state_at x.held place registers bytes)
     saves aligned r value reads below has =
         let done = saves_cell x order place registers bytes frame.kept pointer cell named r value reads has in
         record {
-          next = state_at (place + code_length (save_code (suc r) (slot_of cell))) (set_register 7 done.scratch registers)
+          next = state_at x.held (place + code_length (save_code (suc r) (slot_of cell))) (set_register 7 done.scratch registers)
               (set_word (x.base + 4 * cell.0) value bytes);
           moves = done.moves;
           there = is_at (set_cell cell value cells) _ (set_register 7 done.scratch registers) (set_word (x.base + 4 * cell.0) value bytes)

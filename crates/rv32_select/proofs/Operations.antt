@@ -18,22 +18,22 @@ use Rattle.rv32_select.proofs.Frames.{Shows, cell_below, loads, saves}
 
 module _ (x : Activation) where
   pub has_first : (place : ℕ) (first second : List Line) → Has x place (first ++ second) → Has x place first
-  has_first place first second has = first_lines x.lengths x.bytes x.places place first second has
+  has_first place first second has = first_lines x.areas x.bytes x.places place first second has
 
   pub has_second : (place : ℕ) (first second : List Line) → Has x place (first ++ second) → Has x (place + code_length first) second
-  has_second place first second has = other_lines x.lengths x.bytes x.places place first second has
+  has_second place first second has = other_lines x.areas x.bytes x.places place first second has
 
   -- the machine comes to where it comes from a state that it moves to
-  pub comes_from : (cells : Cells) (place : ℕ) (s t : State) → Moves x.lengths s t → Comes x cells place t → Comes x cells place s
-  comes_from cells place s t m c = record { next = c.next; moves = and_then x.lengths s t c.next m c.moves; there = c.there }
+  pub comes_from : (cells : Cells) (place : ℕ) (s t : State) → Moves x.areas s t → Comes x cells place t → Comes x cells place s
+  comes_from cells place s t m c = record { next = c.next; moves = and_then x.areas s t c.next m c.moves; there = c.there }
 
   -- to the place behind code and more code
   pub behind : (s : State) (place : ℕ) (first second : List Line) (registers bytes : ℕ → ℕ)
-      → Moves x.lengths s (state_at (place + code_length first + code_length second) registers bytes)
-      → Moves x.lengths s (state_at (place + code_length (first ++ second)) registers bytes)
+      → Moves x.areas s (state_at x.held (place + code_length first + code_length second) registers bytes)
+      → Moves x.areas s (state_at x.held (place + code_length (first ++ second)) registers bytes)
   behind s place first second registers bytes m =
       let e : place + code_length first + code_length second ≡ place + code_length (first ++ second) = omega (arith, length_of_both first second) in
-      subst (λ p. Moves x.lengths s (state_at p registers bytes)) e m
+      subst (λ p. Moves x.areas s (state_at x.held p registers bytes)) e m
 
   pub comes_behind : (cells : Cells) (place : ℕ) (first second : List Line) (s : State)
       → Comes x cells (place + code_length first + code_length second) s → Comes x cells (place + code_length (first ++ second)) s
@@ -45,7 +45,7 @@ module _ (x : Activation) (order : IsInOrder x) (cells : Cells) (place : ℕ) (a
     (pointer : registers 2 ≡ x.base) (frame : Shows x cells bytes)
     (to : Cell) (named : to.0 ≤ x.last) where
   pub constant : (w : ℕ) → Has x place (operation_code (Constant to w))
-      → Comes x (set_cell to (w % 2 ^ 32) cells) (place + code_length (operation_code (Constant to w))) (state_at place registers bytes)
+      → Comes x (set_cell to (w % 2 ^ 32) cells) (place + code_length (operation_code (Constant to w))) (state_at x.held place registers bytes)
   constant word has =
       let w = word % 2 ^ 32 in
       let first = constant_code 5 w in
@@ -57,7 +57,7 @@ module _ (x : Activation) (order : IsInOrder x) (cells : Cells) (place : ℕ) (a
       (has_second x place first second has)))
 
   pub move : (from : Cell) → from.0 ≤ x.last → Has x place (operation_code (Move to from))
-      → Comes x (set_cell to (cells from.0) cells) (place + code_length (operation_code (Move to from))) (state_at place registers bytes)
+      → Comes x (set_cell to (cells from.0) cells) (place + code_length (operation_code (Move to from))) (state_at x.held place registers bytes)
   move from from_named has =
       let first = load_code 5 (slot_of from) in
       let second = save_code 5 (slot_of to) in
@@ -70,13 +70,13 @@ module _ (x : Activation) (order : IsInOrder x) (cells : Cells) (place : ℕ) (a
   pub operation_on_two : (o : core_binary.Binary) (left right : Cell) → left.0 ≤ x.last → right.0 ≤ x.last
       → Has x place (operation_code (Binary o to left right))
       → Comes x (set_cell to (two o (cells left.0) (cells right.0)) cells) (place + code_length (operation_code (Binary o to left right)))
-      (state_at place registers bytes)
+      (state_at x.held place registers bytes)
   operation_on_two o left right left_named right_named has =
       let first = load_code 5 (slot_of left) in
       let second = load_code 6 (slot_of right) in
       let third = binary_code o in
       let fourth = save_code 5 (slot_of to) in
-      let s = state_at place registers bytes in
+      let s = state_at x.held place registers bytes in
       let p1 = place + code_length first in
       let p2 = place + code_length (first ++ second) in
       let p3 = place + code_length (first ++ second ++ third) in
@@ -95,9 +95,9 @@ module _ (x : Activation) (order : IsInOrder x) (cells : Cells) (place : ℕ) (a
       let m4 = saves x order cells p3 r3 bytes pointer frame to named (word_behind place (first ++ second ++ third) aligned) 4 (two o a b) (λ _. refl)
       (two_below o a b a_below b_below) (has_second x place (first ++ second ++ third) fourth has) in
       let moved2 = behind x s place first second r2 bytes
-      (and_then x.lengths s (state_at p1 r1 bytes) (state_at (p1 + code_length second) r2 bytes) m1.moves m2.moves) in
+      (and_then x.areas s (state_at x.held p1 r1 bytes) (state_at x.held (p1 + code_length second) r2 bytes) m1.moves m2.moves) in
       let moved3 = behind x s place (first ++ second) third r3 bytes
-      (and_then x.lengths s (state_at p2 r2 bytes) (state_at (p2 + code_length third) r3 bytes) moved2 m3) in
+      (and_then x.areas s (state_at x.held p2 r2 bytes) (state_at x.held (p2 + code_length third) r3 bytes) moved2 m3) in
       let kept = set_cell to (two o a b) cells in
       comes_behind x kept place (first ++ second ++ third) fourth s
-      (comes_from x kept (p3 + code_length fourth) s (state_at p3 r3 bytes) moved3 m4)
+      (comes_from x kept (p3 + code_length fourth) s (state_at x.held p3 r3 bytes) moved3 m4)

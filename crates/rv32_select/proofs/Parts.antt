@@ -1,5 +1,5 @@
 -- The parts of statements, each from a machine at the place of its lines: operations, tests, jumps and returns.
-use Rattle.std.proofs.Common.{◌≡◌, ℕ, zero, suc, ◌+◌, ◌≤◌, List, [], ◌∷◌, ◌++◌, true, false, nat_eq, refl, sym, subst, arith}
+use Rattle.std.proofs.Common.{◌≡◌, ℕ, zero, suc, ◌+◌, ◌≤◌, List, [], ◌∷◌, ◌++◌, true, false, nat_eq, refl, sym, subst, arith, append-nil}
 use Rattle.rv32_machine.specs.State.{State, Stop, Over}
 use Rattle.cyc_core.specs.declared.operation.Cell.{Cell}
 use Rattle.cyc_core.specs.declared.operation.Operation.{Operation}
@@ -21,13 +21,13 @@ use Rattle.rv32_select.proofs.Jumps.{jumps_to, fails, holds}
 
 module _ (x : Activation) (order : IsInOrder x) where
   -- a state at a place may be written out
-  from_written : (cells : Cells) (place : ℕ) (s : State) (P : State → Type 0) → IsAtPlace x cells place s → P (state_at place s.registers s.bytes) → P s
+  from_written : (cells : Cells) (place : ℕ) (s : State) (P : State → Type 0) → IsAtPlace x cells place s → P (state_at x.held place s.registers s.bytes) → P s
   from_written cells place s P at h = subst P (sym (written_out x order cells place s at)) h
 
   -- An operation does as its meaning, and comes to its end.
   operation_out : (o : Operation) (place most : ℕ) (next : Cells → Step) (cells : Cells) (s : State) → NamesUpTo x.last o → Has x place (operation_code o)
       → IsAtPlace x cells place s → GoesFrom x most (place + code_length (operation_code o)) next
-      → Goes x.lengths most (core.does o next cells) (state_at place s.registers s.bytes)
+      → Goes x.areas most (core.does o next cells) (state_at x.held place s.registers s.bytes)
   operation_out (Constant to word) place most next cells s named has at go =
       goes_on x most _ _ _ _ (constant x order cells place at.aligned s.registers s.bytes at.stands.pointer
       (shown x order cells s at.stands) to named word has) (go _)
@@ -41,8 +41,9 @@ module _ (x : Activation) (order : IsInOrder x) where
   operation_out (Getchar to) place most next cells s named has at go = record { at = each }
     where
       each : (fuel : ℕ) → fuel ≤ most → (input : List ℕ) → AreBytes input
-          → Leads x.lengths fuel (core.does (Getchar to) next cells) (state_at place s.registers s.bytes) input
-      each zero within input bytes = record { count = 0; events = refl; ends = refl; paid = λ _. omega arith; lawful = tt }
+          → Leads x.areas fuel (core.does (Getchar to) next cells) (state_at x.held place s.registers s.bytes) input
+      each zero within input bytes =
+          record { count = 0; led = λ r. record { events = sym (append-nil r.events); ends = refl; lawful = tt }; paid = λ _. omega arith }
       each (suc fuel) within [] bytes =
           getchar_at_end x order cells place at.aligned s.registers s.bytes at.stands.pointer (shown x order cells s at.stands) fuel next to named has
           (λ t there. (go _ t there).at fuel (omega arith) [] tt)
@@ -53,8 +54,9 @@ module _ (x : Activation) (order : IsInOrder x) where
   operation_out (Putchar to from) place most next cells s named has at go = record { at = each }
     where
       each : (fuel : ℕ) → fuel ≤ most → (input : List ℕ) → AreBytes input
-          → Leads x.lengths fuel (core.does (Putchar to from) next cells) (state_at place s.registers s.bytes) input
-      each zero within input bytes = record { count = 0; events = refl; ends = refl; paid = λ _. omega arith; lawful = tt }
+          → Leads x.areas fuel (core.does (Putchar to from) next cells) (state_at x.held place s.registers s.bytes) input
+      each zero within input bytes =
+          record { count = 0; led = λ r. record { events = sym (append-nil r.events); ends = refl; lawful = tt }; paid = λ _. omega arith }
       each (suc fuel) within input bytes =
           putchar x order cells place at.aligned s.registers s.bytes at.stands.pointer
           (shown x order cells s at.stands) fuel next to from named.0 named.1 has input
@@ -63,7 +65,7 @@ module _ (x : Activation) (order : IsInOrder x) where
   operation : (o : Operation) (place most : ℕ) (next : Cells → Step) → NamesUpTo x.last o → Has x place (operation_code o)
       → GoesFrom x most (place + code_length (operation_code o)) next → GoesFrom x most place (core.does o next)
   operation o place most next named has go cells s at =
-      from_written cells place s (Goes x.lengths most (core.does o next cells)) at (operation_out o place most next cells s named has at go)
+      from_written cells place s (Goes x.areas most (core.does o next cells)) at (operation_out o place most next cells s named has at go)
 
   -- a test comes to its label where the cell's word is 0
   test_fails : (cell : Cell) (label place : ℕ) (cells : Cells) (s : State) → cell.0 ≤ x.last → Has x place (test_code cell label)
@@ -88,11 +90,11 @@ module _ (x : Activation) (order : IsInOrder x) where
   -- a return ends the run with the cell's word as its status
   returns : (cell : Cell) (place most : ℕ) (c : Step) (cells : Cells) (s : State) → cell.0 ≤ x.last
       → Has x place (load_code argument_register (slot_of cell) ++ call_code 0) → IsAtPlace x cells place s
-      → ((t : State) → t.mode ≡ Over (Stop.Ended (cells cell.0)) → Goes x.lengths most c t) → Goes x.lengths most c s
+      → ((t : State) → t.mode ≡ Over (Stop.Ended (cells cell.0)) → Goes x.areas most c t) → Goes x.areas most c s
   returns cell place most c cells s named has at go =
       let end = returned x order cells place s.registers s.bytes at.stands.pointer (shown x order cells s at.stands) cell named has in
-      from_written cells place s (Goes x.lengths most c) at
-      (goes_from x.lengths (state_at place s.registers s.bytes) end.last most c end.moves (go end.last end.over))
+      from_written cells place s (Goes x.areas most c) at
+      (goes_from x.areas (state_at x.held place s.registers s.bytes) end.last most c end.moves (go end.last end.over))
 
 -- all of them
 pub parts : (x : Activation) → IsInOrder x → Parts x

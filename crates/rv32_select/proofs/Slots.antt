@@ -2,7 +2,7 @@
 use Rattle.std.proofs.Common.{◌≡◌, ℕ, suc, ◌+◌, ◌*◌, ◌%◌, ◌^◌, ◌<◌, ◌≤◌, List, [], ◌∷◌, Bool, true, false, if◌then◌else◌, refl, sym, ap, subst, ◌∙◌, arith}
 use Rattle.cyc_words.specs.Words.{word, sum_of}
 use Rattle.rv32_isa.specs.declared.instruction.Instr.TheVariants.{Lui, Lw, Sw, Addi, Add}
-use Rattle.rv32_machine.specs.State.{stack_base, stack_end, set_register, set_word, word_at}
+use Rattle.rv32_machine.specs.State.{State, stack_base, stack_end, set_register, set_word, word_at}
 use Rattle.cyc_core.specs.declared.operation.Cell.{Cell}
 use Rattle.rv32_select.specs.declared.labelled.Line.{Line}
 use Rattle.rv32_select.specs.declared.labelled.Line.TheVariants.{Plain}
@@ -17,12 +17,12 @@ use Rattle.rv32_select.proofs.Steps.{state_at, IsKeptBelow, gives_value, loads_w
 -- the machine comes behind code that puts a value into a register, and may have left an address in x7
 pub record Puts (x : Activation) (place behind to value : ℕ) (registers bytes : ℕ → ℕ) : Type 0 where
   pub scratch : ℕ
-  pub moves : Moves x.lengths (state_at place registers bytes) (state_at behind (set_register to value (set_register 7 scratch registers)) bytes)
+  pub moves : Moves x.areas (state_at x.held place registers bytes) (state_at x.held behind (set_register to value (set_register 7 scratch registers)) bytes)
 
 -- the same for code that puts a value into a slot
 pub record Saves (x : Activation) (place behind at value : ℕ) (registers bytes : ℕ → ℕ) : Type 0 where
   pub scratch : ℕ
-  pub moves : Moves x.lengths (state_at place registers bytes) (state_at behind (set_register 7 scratch registers) (set_word at value bytes))
+  pub moves : Moves x.areas (state_at x.held place registers bytes) (state_at x.held behind (set_register 7 scratch registers) (set_word at value bytes))
 
 -- the code of each, where its word or offset is short and where it isn't
 abbrev constant_lines : Bool → ℕ → List Line
@@ -39,59 +39,65 @@ save_lines short from offset =
     else Plain (Lui 7 (upper_of offset)) ∷ Plain (Add 7 7 2) ∷ Plain (Sw 7 from (lower_of offset)) ∷ [])
 
 module _ (x : Activation) (order : IsInOrder x) (place : ℕ) (registers bytes : ℕ → ℕ) (below : IsKeptBelow x.bytes bytes) where
+  abbrev now : State
+  now = state_at x.held place registers bytes
+
   -- a word into x5
   pub puts_constant : (w : ℕ) → w < 2 ^ 32 → Has x place (constant_code 5 w)
-      → Moves x.lengths (state_at place registers bytes) (state_at (place + code_length (constant_code 5 w)) (set_register 5 w registers) bytes)
+      → Moves x.areas now (state_at x.held (place + code_length (constant_code 5 w)) (set_register 5 w registers) bytes)
   puts_constant w few has = by (is_short w) refl has
     where
       by : (short : Bool) → is_short w ≡ short → Has x place (constant_lines short w)
-          → Moves x.lengths (state_at place registers bytes) (state_at (place + code_length (constant_lines short w)) (set_register 5 w registers) bytes)
+          → Moves x.areas now (state_at x.held (place + code_length (constant_lines short w)) (set_register 5 w registers) bytes)
       by true short has =
           let value : sum_of 0 (word (lower_of w)) ≡ w = omega (arith, short_word w short few) in
-          subst (λ v. Moves x.lengths (state_at place registers bytes) (state_at (place + 4) (set_register 5 v registers) bytes)) value
-          (gives_value x.lengths x.bytes order.code_within place registers bytes below (Addi 5 0 (lower_of w)) has.0.0 5 (sum_of 0 (word (lower_of w))) refl tt)
+          subst (λ v. Moves x.areas now (state_at x.held (place + 4) (set_register 5 v registers) bytes)) value
+          (gives_value x.areas x.held x.bytes order.code_within place registers bytes below (Addi 5 0 (lower_of w)) has.0.0 5 (sum_of 0 (word (lower_of w)))
+          (λ _. refl) (λ _. tt))
       by false long has =
           let upper = upper_of w * 2 ^ 12 in
           let both = sum_of upper (word (lower_of w)) in
           let value : both ≡ w = omega (arith, parts_joined w) in
-          let first = gives_value x.lengths x.bytes order.code_within place registers bytes below (Lui 5 (upper_of w)) has.0.0 5 upper refl tt in
-          let second = gives_value x.lengths x.bytes order.code_within (place + 4) (set_register 5 upper registers) bytes below (Addi 5 5 (lower_of w))
-          has.2.0.0 5 both refl tt in
+          let first = gives_value x.areas x.held x.bytes order.code_within place registers bytes below (Lui 5 (upper_of w)) has.0.0 5 upper (λ _. refl)
+          (λ _. tt) in
+          let second = gives_value x.areas x.held x.bytes order.code_within (place + 4) (set_register 5 upper registers) bytes below (Addi 5 5 (lower_of w))
+          has.2.0.0 5 both (λ _. refl) (λ _. tt) in
           let e : place + 4 + 4 ≡ place + 8 = omega arith in
-          subst (λ p. Moves x.lengths (state_at place registers bytes) (state_at p (set_register 5 w registers) bytes)) e
-          (subst (λ v. Moves x.lengths (state_at place registers bytes) (state_at (place + 4 + 4) (set_register 5 v registers) bytes)) value
-          (subst (λ f. Moves x.lengths (state_at place registers bytes) (state_at (place + 4 + 4) f bytes)) (set_again 5 upper both registers)
-          (and_then x.lengths _ _ _ first second)))
+          subst (λ p. Moves x.areas now (state_at x.held p (set_register 5 w registers) bytes)) e
+          (subst (λ v. Moves x.areas now (state_at x.held (place + 4 + 4) (set_register 5 v registers) bytes)) value
+          (subst (λ f. Moves x.areas now (state_at x.held (place + 4 + 4) f bytes)) (set_again 5 upper both registers)
+          (and_then x.areas _ _ _ first second)))
 
   -- the upper part of an offset and the stack pointer, into x7
   far_base : (offset : ℕ) (last : Line)
       → Has x place (Plain (Lui 7 (upper_of offset)) ∷ Plain (Add 7 7 2) ∷ last ∷ [])
-      → Moves x.lengths (state_at place registers bytes)
-      (state_at (place + 4 + 4) (set_register 7 (sum_of (upper_of offset * 2 ^ 12) (registers 2)) registers) bytes)
+      → Moves x.areas now
+      (state_at x.held (place + 4 + 4) (set_register 7 (sum_of (upper_of offset * 2 ^ 12) (registers 2)) registers) bytes)
   far_base offset last has =
       let upper = upper_of offset * 2 ^ 12 in
       let value = sum_of upper (registers 2) in
-      let first = gives_value x.lengths x.bytes order.code_within place registers bytes below (Lui 7 (upper_of offset)) has.0.0 7 upper refl tt in
-      let second = gives_value x.lengths x.bytes order.code_within (place + 4) (set_register 7 upper registers) bytes below
-      (Add 7 7 2) has.2.0.0 7 value refl tt in
-      subst (λ f. Moves x.lengths (state_at place registers bytes) (state_at (place + 4 + 4) f bytes)) (set_again 7 upper value registers)
-      (and_then x.lengths _ _ _ first second)
+      let first = gives_value x.areas x.held x.bytes order.code_within place registers bytes below (Lui 7 (upper_of offset)) has.0.0 7 upper (λ _. refl)
+      (λ _. tt) in
+      let second = gives_value x.areas x.held x.bytes order.code_within (place + 4) (set_register 7 upper registers) bytes below
+      (Add 7 7 2) has.2.0.0 7 value (λ _. refl) (λ _. tt) in
+      subst (λ f. Moves x.areas now (state_at x.held (place + 4 + 4) f bytes)) (set_again 7 upper value registers)
+      (and_then x.areas _ _ _ first second)
 
   module _ (pointer : registers 2 ≡ x.base) (cell : Cell) (named : cell.0 ≤ x.last) where
     slot : slot_of cell ≡ 4 * cell.0
-    slot = let room = order.room in slot_is cell (omega arith)
+    slot = let room = order.room in let within = order.stack_within in slot_is cell (omega arith)
 
     -- where the slot's address is computed from the stack pointer, or from the upper part of it
     near_address : is_short (slot_of cell) ≡ true → sum_of (registers 2) (word (lower_of (slot_of cell))) ≡ x.base + 4 * cell.0
     near_address short =
-        let room = order.room in
+        let room = order.room in let within = order.stack_within in
         let e = slot in
         let part = short_word (slot_of cell) short (omega arith) in
         omega arith
 
     far_address : sum_of (sum_of (upper_of (slot_of cell) * 2 ^ 12) (registers 2)) (word (lower_of (slot_of cell))) ≡ x.base + 4 * cell.0
     far_address =
-        let room = order.room in
+        let room = order.room in let within = order.stack_within in
         let e = slot in
         let sum = parts_added (slot_of cell) (registers 2) in
         omega arith
@@ -102,7 +108,7 @@ module _ (x : Activation) (order : IsInOrder x) (place : ℕ) (registers bytes :
     above : stack_base ≤ x.base + 4 * cell.0
     above = omega (arith, order.above)
 
-    room : x.base + 4 * cell.0 + 4 ≤ stack_end
+    room : x.base + 4 * cell.0 + 4 ≤ stack_end x.areas
     room = omega (arith, order.room)
 
     over : registers 2 ≤ x.base + 4 * cell.0
@@ -119,10 +125,10 @@ module _ (x : Activation) (order : IsInOrder x) (place : ℕ) (registers bytes :
             to (word_at bytes (x.base + 4 * cell.0)) registers bytes
         by true short has = record {
           scratch = registers 7;
-          moves = subst (λ f. Moves x.lengths (state_at place registers bytes)
-              (state_at (place + 4) (set_register to (word_at bytes (x.base + 4 * cell.0)) f) bytes))
+          moves = subst (λ f. Moves x.areas now
+              (state_at x.held (place + 4) (set_register to (word_at bytes (x.base + 4 * cell.0)) f) bytes))
               (sym (set_old 7 registers))
-              (loads_word x.lengths x.bytes order.code_within place registers bytes below (x.base + 4 * cell.0) at_word above room over to 2
+              (loads_word x.areas x.held x.bytes order.code_within place registers bytes below (x.base + 4 * cell.0) at_word above room over to 2
               (lower_of (slot_of cell)) has.0.0 (near_address short));
         }
         by false long has = record {
@@ -131,10 +137,10 @@ module _ (x : Activation) (order : IsInOrder x) (place : ℕ) (registers bytes :
               let base = sum_of (upper_of (slot_of cell) * 2 ^ 12) (registers 2) in
               let scratched = set_register 7 base registers in
               let e : place + 4 + 4 + 4 ≡ place + 12 = omega arith in
-              subst (λ p. Moves x.lengths (state_at place registers bytes)
-              (state_at p (set_register to (word_at bytes (x.base + 4 * cell.0)) scratched) bytes)) e
-              (and_then x.lengths _ _ _ (far_base (slot_of cell) (Plain (Lw to 7 (lower_of (slot_of cell)))) has)
-              (loads_word x.lengths x.bytes order.code_within (place + 4 + 4) scratched bytes below (x.base + 4 * cell.0) at_word above room over to 7
+              subst (λ p. Moves x.areas now
+              (state_at x.held p (set_register to (word_at bytes (x.base + 4 * cell.0)) scratched) bytes)) e
+              (and_then x.areas _ _ _ (far_base (slot_of cell) (Plain (Lw to 7 (lower_of (slot_of cell)))) has)
+              (loads_word x.areas x.held x.bytes order.code_within (place + 4 + 4) scratched bytes below (x.base + 4 * cell.0) at_word above room over to 7
               (lower_of (slot_of cell)) has.2.2.0.0 far_address));
         }
 
@@ -147,11 +153,11 @@ module _ (x : Activation) (order : IsInOrder x) (place : ℕ) (registers bytes :
             → Saves x place (place + code_length (save_lines short (suc r) (slot_of cell))) (x.base + 4 * cell.0) value registers bytes
         by true short has = record {
           scratch = registers 7;
-          moves = subst (λ f. Moves x.lengths (state_at place registers bytes) (state_at (place + 4) f (set_word (x.base + 4 * cell.0) value bytes)))
+          moves = subst (λ f. Moves x.areas now (state_at x.held (place + 4) f (set_word (x.base + 4 * cell.0) value bytes)))
               (sym (set_old 7 registers))
-              (subst (λ v. Moves x.lengths (state_at place registers bytes) (state_at (place + 4) registers (set_word (x.base + 4 * cell.0) v bytes)))
+              (subst (λ v. Moves x.areas now (state_at x.held (place + 4) registers (set_word (x.base + 4 * cell.0) v bytes)))
               (sym (ap (λ f. f (suc r)) (set_old 7 registers)) ∙ reads (registers 7))
-              (stores_word x.lengths x.bytes order.code_within place registers bytes below (x.base + 4 * cell.0) at_word above room over 2 (suc r)
+              (stores_word x.areas x.held x.bytes order.code_within place registers bytes below (x.base + 4 * cell.0) at_word above room over 2 (suc r)
               (lower_of (slot_of cell)) has.0.0 (near_address short)));
         }
         by false long has = record {
@@ -160,10 +166,10 @@ module _ (x : Activation) (order : IsInOrder x) (place : ℕ) (registers bytes :
               let base = sum_of (upper_of (slot_of cell) * 2 ^ 12) (registers 2) in
               let scratched = set_register 7 base registers in
               let e : place + 4 + 4 + 4 ≡ place + 12 = omega arith in
-              subst (λ p. Moves x.lengths (state_at place registers bytes) (state_at p scratched (set_word (x.base + 4 * cell.0) value bytes))) e
-              (subst (λ v. Moves x.lengths (state_at place registers bytes) (state_at (place + 4 + 4 + 4) scratched (set_word (x.base + 4 * cell.0) v bytes)))
+              subst (λ p. Moves x.areas now (state_at x.held p scratched (set_word (x.base + 4 * cell.0) value bytes))) e
+              (subst (λ v. Moves x.areas now (state_at x.held (place + 4 + 4 + 4) scratched (set_word (x.base + 4 * cell.0) v bytes)))
               (reads base)
-              (and_then x.lengths _ _ _ (far_base (slot_of cell) (Plain (Sw 7 (suc r) (lower_of (slot_of cell)))) has)
-              (stores_word x.lengths x.bytes order.code_within (place + 4 + 4) scratched bytes below (x.base + 4 * cell.0) at_word above room over 7 (suc r)
-              (lower_of (slot_of cell)) has.2.2.0.0 far_address)));
+              (and_then x.areas _ _ _ (far_base (slot_of cell) (Plain (Sw 7 (suc r) (lower_of (slot_of cell)))) has)
+              (stores_word x.areas x.held x.bytes order.code_within (place + 4 + 4) scratched bytes below (x.base + 4 * cell.0) at_word above room over 7
+              (suc r) (lower_of (slot_of cell)) has.2.2.0.0 far_address)));
         }

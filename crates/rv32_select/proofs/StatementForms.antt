@@ -21,7 +21,7 @@ pub record WaysOut (x : Activation) (most end out again : ℕ) (k : Exit → Cel
   pub falls : GoesFrom x most end (k Falls)
   pub breaks : GoesFrom x most (x.places out) (k Breaks)
   pub continues : GoesFrom x most (x.places again) (k Continues)
-  pub returns : (cells : Cells) (w : ℕ) (s : State) → s.mode ≡ Over (Stop.Ended w) → Goes x.lengths most (k (Returns w) cells) s
+  pub returns : (cells : Cells) (w : ℕ) (s : State) → s.mode ≡ Over (Stop.Ended w) → Goes x.areas most (k (Returns w) cells) s
 
 -- lines do the same as a part of a function, wherever they stand, with each amount of fuel and whatever comes after it
 pub record Does (x : Activation) (lines : List Line) (out again : ℕ) (part : (Exit → Cells → Step) → Cells → Step) : Type 0 where
@@ -33,10 +33,10 @@ pub record Does (x : Activation) (lines : List Line) (out again : ℕ) (part : (
 -- with less fuel
 ways_less : (x : Activation) (most j end out again : ℕ) (k : Exit → Cells → Step) → j ≤ most → WaysOut x most end out again k → WaysOut x j end out again k
 ways_less x most j end out again k less ways = record {
-  falls = λ cells s there. less_fuel x.lengths most j (k Falls cells) s less (ways.falls cells s there);
-  breaks = λ cells s there. less_fuel x.lengths most j (k Breaks cells) s less (ways.breaks cells s there);
-  continues = λ cells s there. less_fuel x.lengths most j (k Continues cells) s less (ways.continues cells s there);
-  returns = λ cells w s over. less_fuel x.lengths most j (k (Returns w) cells) s less (ways.returns cells w s over);
+  falls = λ cells s there. less_fuel x.areas most j (k Falls cells) s less (ways.falls cells s there);
+  breaks = λ cells s there. less_fuel x.areas most j (k Breaks cells) s less (ways.breaks cells s there);
+  continues = λ cells s there. less_fuel x.areas most j (k Continues cells) s less (ways.continues cells s there);
+  returns = λ cells w s over. less_fuel x.areas most j (k (Returns w) cells) s less (ways.returns cells w s over);
 }
 
 -- with another end
@@ -53,9 +53,9 @@ has_same : (x : Activation) (p q : ℕ) (lines : List Line) → p ≡ q → Has 
 has_same x p q lines same has = subst (λ place. Has x place lines) same has
 
 comes_goes : (x : Activation) (most place : ℕ) (next : Cells → Step) (cells : Cells) (s : State) → GoesFrom x most place next → Comes x cells place s
-    → Goes x.lengths most (next cells) s
+    → Goes x.areas most (next cells) s
 comes_goes x most place next cells s goes comes =
-    moves_goes x.lengths most (next cells) s comes.next comes.moves (goes cells comes.next comes.there)
+    moves_goes x.areas most (next cells) s comes.next comes.moves (goes cells comes.next comes.there)
 
 jump_goes : (x : Activation) (most label place : ℕ) (next : Cells → Step) → Parts x → Has x place (Jump label ∷ []) → GoesFrom x most (x.places label) next
     → GoesFrom x most place next
@@ -67,14 +67,14 @@ jump_goes x most label place next parts has goes cells s there =
 module _ (x : Activation) (most : ℕ) (cell : Cell) (label place : ℕ) (at_zero otherwise : Cells → Step) (parts : Parts x) (named : cell.0 ≤ x.last)
     (has : Has x place (test_code cell label)) (goes : GoesFrom x most (x.places label) at_zero) where
   test_by : (b : Bool) (cells : Cells) (s : State) → nat_eq (cells cell.0) 0 ≡ b → IsAtPlace x cells place s
-      → (Comes x cells (place + code_length (test_code cell label)) s → Goes x.lengths most (otherwise cells) s)
-      → Goes x.lengths most (if b then at_zero cells else otherwise cells) s
+      → (Comes x cells (place + code_length (test_code cell label)) s → Goes x.areas most (otherwise cells) s)
+      → Goes x.areas most (if b then at_zero cells else otherwise cells) s
   test_by true cells s is there holds = comes_goes x most (x.places label) at_zero cells s goes (parts.test_fails cell label place cells s named has is there)
   test_by false cells s is there holds = holds (parts.test_holds cell label place cells s named has is there)
 
   -- a test, and what follows at its label and behind it
   test_goes : ((cells : Cells) (s : State) → IsAtPlace x cells place s → Comes x cells (place + code_length (test_code cell label)) s
-      → Goes x.lengths most (otherwise cells) s) → GoesFrom x most place (λ cells. if nat_eq (cells cell.0) 0 then at_zero cells else otherwise cells)
+      → Goes x.areas most (otherwise cells) s) → GoesFrom x most place (λ cells. if nat_eq (cells cell.0) 0 then at_zero cells else otherwise cells)
   test_goes holds cells s there = test_by (nat_eq (cells cell.0) 0) cells s refl there (holds cells s there)
 
 -- ---- simple statements
@@ -108,7 +108,7 @@ sequence_does x first second out again s ss one others = record {
       let middle = place + code_length first in
       let end = place + code_length (first ++ second) in
       let at_end : end ≡ middle + code_length second = omega (arith, length_of_both first second) in
-      let both = both_lines x.lengths x.bytes x.places place first second has in
+      let both = both_lines x.areas x.bytes x.places place first second has in
       let falls = from_same x most end (middle + code_length second) (k Falls) at_end ways.falls in
       one.goes place most (λ exit. core.falls_to exit (core.statements ss k) k) both.0 (record {
         falls = others.goes middle most k both.1 (ways_to x most end (middle + code_length second) out again k falls ways);
@@ -139,10 +139,10 @@ choice_parts : (x : Activation) (place next behind : ℕ) (test first second : L
 choice_parts x place next behind test first second has =
     let skip : List Line = Jump behind ∷ Label next ∷ [] in
     let last : List Line = Label behind ∷ [] in
-    let d = both_lines x.lengths x.bytes x.places place (test ++ first ++ skip ++ second) last has in
-    let c = both_lines x.lengths x.bytes x.places place (test ++ first ++ skip) second d.0 in
-    let b = both_lines x.lengths x.bytes x.places place (test ++ first) skip c.0 in
-    let a = both_lines x.lengths x.bytes x.places place test first b.0 in
+    let d = both_lines x.areas x.bytes x.places place (test ++ first ++ skip ++ second) last has in
+    let c = both_lines x.areas x.bytes x.places place (test ++ first ++ skip) second d.0 in
+    let b = both_lines x.areas x.bytes x.places place (test ++ first) skip c.0 in
+    let a = both_lines x.areas x.bytes x.places place test first b.0 in
     let to_skip = length_of_both test first in
     let to_those = length_of_both (test ++ first) skip in
     let to_last = length_of_both (test ++ first ++ skip) second in
@@ -201,9 +201,9 @@ loop_parts : (x : Activation) (place next behind : ℕ) (test first second : Lis
 loop_parts x place next behind test first second has =
     let last : List Line = Jump next ∷ Label behind ∷ [] in
     let here = has_same x (place + 0) place (first ++ test ++ second ++ last) (omega arith) has.2 in
-    let c = both_lines x.lengths x.bytes x.places place (first ++ test ++ second) last here in
-    let b = both_lines x.lengths x.bytes x.places place (first ++ test) second c.0 in
-    let a = both_lines x.lengths x.bytes x.places place first test b.0 in
+    let c = both_lines x.areas x.bytes x.places place (first ++ test ++ second) last here in
+    let b = both_lines x.areas x.bytes x.places place (first ++ test) second c.0 in
+    let a = both_lines x.areas x.bytes x.places place first test b.0 in
     let body = place + code_length (first ++ test) in
     let to_body = length_of_both first test in
     let to_last = length_of_both (first ++ test) second in
@@ -254,7 +254,7 @@ module _ (x : Activation) (place next behind end out again : ℕ) (test : Statem
       λ j less. from_same x j l.body (l.tested + code_length (test_code cell behind)) turn (sym l.at_body) (turn_goes j (goes j less) (fewer j less)) in
       let at_label = from_same x most end (x.places behind) (k Falls) (sym l.label_end) ways.falls in
       let tested = test_goes x most cell behind l.tested (k Falls) (core.Turns test cell body k) parts named l.tests at_label
-      (λ cells s there comes. turns_goes x.lengths most test cell body k cells s comes.next there.stands.runs comes.moves
+      (λ cells s there comes. turns_goes x.areas most test cell body k cells s comes.next there.stands.runs comes.moves
       (λ j less. turns j less cells comes.next comes.there)) in
       one.goes place most (λ exit. core.falls_to exit on_test k) l.has_first (record {
         falls = from_same x most l.tested (place + code_length first) on_test (sym l.at_tested) tested;

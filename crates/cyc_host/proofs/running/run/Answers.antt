@@ -4,7 +4,9 @@ use mir.Val.{SFits}
 use mir.Syntax.{w32}
 use Rattle.std.proofs.KnownBytes.{Appends-nil}
 use Rattle.cyc_words.specs.Words.{word}
-use Rattle.rv32_machine.specs.Arrays.{lengths_of, state_of}
+use Rattle.rv32_machine.specs.declared.event.Event.TheVariants as event
+use Rattle.rv32_machine.specs.Arrays.{answer_seen, areas_of, arrays, state_of}
+use Rattle.arena_laws.specs.Lawful.{Refuses}
 use Rattle.rv32_machine.specs.State.{Stop}
 use Rattle.rv32_machine.specs.Step.{Nothing, Writes, Asks, Stops}
 use Rattle.cyc_host.specs.declared.ending.Ending.TheVariants as ending
@@ -17,113 +19,131 @@ pub steps-init : goal.steps-init
 steps-init g c = record {
   reads = search rules;
   writes = search rules;
-  lengths = refl;
+  areas = refl;
   going = inl refl;
   progress = subst (Progress _ _ 0 false _ _ _ _ _) (sym c.new-gathered.ensures) begun;
 }
 
 pub returns-then-is_err-clause-hosted : goal.returns-then-is_err-clause-hosted
 returns-then-is_err-clause-hosted g c =
+    let seen = arrays g.S.BlockStore.holdings g.S.BlockStore.byte_at in
     let i = c.steps.invariant in
-    let x : IsStep (lengths_of c.args.machine.now) (state_of c.steps.machine) (state_of c.step.new.self) (Writes c.in-Put.byte) =
-    step_at _ _ _ _ _ i.lengths c.in-Put.ensures.state c.in-Put.ensures.event in
-    hosted (put_one i.progress _ c.in-Put.byte x) ending.WriteFault _ _ _ (omega arith)
+    let x : IsStep (areas_of (seen c.args.machine.now)) _ (state_of (seen c.steps.machine)) (state_of (seen c.step.new.self)) (Writes c.in-Put.byte) =
+    step_at _ _ _ _ _ _ i.areas c.in-Put.ensures.state c.in-Put.ensures.event in
+    hosted (put_one i.progress _ _ c.in-Put.byte x) ending.WriteFault _ _ _ (λ k. Refuses) (omega arith)
     (of_err c.put.result c.put.ensures.some (sym c.is_err.ensures.value ∙ c.if-is_err.true)) (inl refl)
 
 pub returns-then-is_err-2-clause-hosted : goal.returns-then-is_err-2-clause-hosted
 returns-then-is_err-2-clause-hosted g c =
+    let seen = arrays g.S.BlockStore.holdings g.S.BlockStore.byte_at in
     let i = c.steps.invariant in
-    let x : IsStep (lengths_of c.args.machine.now) (state_of c.steps.machine) (state_of c.step.new.self) Asks =
-    step_at _ _ _ _ _ i.lengths c.in-Get.ensures.state c.in-Get.ensures.event in
-    hosted i.progress ending.WriteFault _ _ _ (omega arith)
+    let x : IsStep (areas_of (seen c.args.machine.now)) _ (state_of (seen c.steps.machine)) (state_of (seen c.step.new.self)) Asks =
+    step_at _ _ _ _ _ _ i.areas c.in-Get.ensures.state c.in-Get.ensures.event in
+    hosted i.progress ending.WriteFault _ _ _ (λ k. answer_seen event.Get (seen c.step.new.self)) (omega arith)
     (of_err c.flush.result c.flush.ensures.some (sym c.is_err-in-Get.ensures.value ∙ c.if-is_err-2.true)) (inr (omega arith, x.state))
 
 pub returns-in-Err-clause-hosted : goal.returns-in-Err-clause-hosted
 returns-in-Err-clause-hosted g c =
+    let seen = arrays g.S.BlockStore.holdings g.S.BlockStore.byte_at in
     let i = c.steps.invariant in
-    let x : IsStep (lengths_of c.args.machine.now) (state_of c.steps.machine) (state_of c.step.new.self) Asks =
-    step_at _ _ _ _ _ i.lengths c.in-Get.ensures.state c.in-Get.ensures.event in
+    let x : IsStep (areas_of (seen c.args.machine.now)) _ (state_of (seen c.steps.machine)) (state_of (seen c.step.new.self)) Asks =
+    step_at _ _ _ _ _ _ i.areas c.in-Get.ensures.state c.in-Get.ensures.event in
     let flushed = wrote i.progress _ []
     (all_written _ _ _ (of_ok c.flush.result c.flush.ensures.all (sym c.is_err-in-Get.ensures.value ∙ c.if-is_err-2.false))) in
-    hosted (kept flushed _ c.in-Err.ensures.kept c.in-Err.ensures.asked) ending.ReadFault _ _ _ (omega arith) (Appends-nil _)
+    hosted (kept flushed _ c.in-Err.ensures.kept c.in-Err.ensures.asked) ending.ReadFault _ _ _ (λ k. answer_seen event.Get (seen c.step.new.self)) (omega arith) (Appends-nil _)
     (omega arith, (x.state, sym x.shows))
 
 pub returns-in-Ended-clause-hosted : goal.returns-in-Ended-clause-hosted
 returns-in-Ended-clause-hosted g c =
+    let seen = arrays g.S.BlockStore.holdings g.S.BlockStore.byte_at in
     let i = c.steps.invariant in
-    let x : IsStep (lengths_of c.args.machine.now) (state_of c.steps.machine) (state_of c.step.new.self) (Stops (Stop.Ended (word c.in-Ended.status))) =
-    step_at _ _ _ _ _ i.lengths c.in-Ended.ensures.state c.in-Ended.ensures.event in
+    let x : IsStep (areas_of (seen c.args.machine.now)) _ (state_of (seen c.steps.machine)) (state_of (seen c.step.new.self)) (Stops (Stop.Ended (word c.in-Ended.status))) =
+    step_at _ _ _ _ _ _ i.areas c.in-Ended.ensures.state c.in-Ended.ensures.event in
     let fits : SFits w32 c.in-Ended.status = search rules in
-    hosted (stopped_at i.progress _ _ x) c.finish.result _ _ _ (omega arith) c.finish.ensures.written
+    hosted (stopped_at i.progress _ _ _ x) c.finish.result _ _ _ (λ k. Refuses) (omega arith) c.finish.ensures.written
     (either_end (ending.Ended c.in-Ended.status) _ _ _ _ _ (simp (to_z-of_z w32 c.in-Ended.status fits) at c.finish.ensures.same) (refl, over_at x))
 
 pub returns-in-Raised-clause-hosted : goal.returns-in-Raised-clause-hosted
 returns-in-Raised-clause-hosted g c =
+    let seen = arrays g.S.BlockStore.holdings g.S.BlockStore.byte_at in
     let i = c.steps.invariant in
-    let x : IsStep (lengths_of c.args.machine.now) (state_of c.steps.machine) (state_of c.step.new.self) (Stops (Stop.Raised c.in-Raised.kind)) =
-    step_at _ _ _ _ _ i.lengths c.in-Raised.ensures.state c.in-Raised.ensures.event in
-    hosted (stopped_at i.progress _ _ x) c.finish-in-Raised.result _ _ _ (omega arith) c.finish-in-Raised.ensures.written
+    let x : IsStep (areas_of (seen c.args.machine.now)) _ (state_of (seen c.steps.machine)) (state_of (seen c.step.new.self)) (Stops (Stop.Raised c.in-Raised.kind)) =
+    step_at _ _ _ _ _ _ i.areas c.in-Raised.ensures.state c.in-Raised.ensures.event in
+    hosted (stopped_at i.progress _ _ _ x) c.finish-in-Raised.result _ _ _ (λ k. Refuses) (omega arith) c.finish-in-Raised.ensures.written
     (either_end (ending.Raised c.in-Raised.kind) _ _ _ _ _ c.finish-in-Raised.ensures.same (refl, over_at x))
 
 pub returns-in-Exhausted-clause-hosted : goal.returns-in-Exhausted-clause-hosted
 returns-in-Exhausted-clause-hosted g c =
+    let seen = arrays g.S.BlockStore.holdings g.S.BlockStore.byte_at in
     let i = c.steps.invariant in
-    let x : IsStep (lengths_of c.args.machine.now) (state_of c.steps.machine) (state_of c.step.new.self) (Stops Stop.Exhausted) =
-    step_at _ _ _ _ _ i.lengths c.in-Exhausted.ensures.state c.in-Exhausted.ensures.event in
-    hosted (stopped_at i.progress _ _ x) c.finish-in-Exhausted.result _ _ _ (omega arith) c.finish-in-Exhausted.ensures.written
+    let x : IsStep (areas_of (seen c.args.machine.now)) _ (state_of (seen c.steps.machine)) (state_of (seen c.step.new.self)) (Stops Stop.Exhausted) =
+    step_at _ _ _ _ _ _ i.areas c.in-Exhausted.ensures.state c.in-Exhausted.ensures.event in
+    hosted (stopped_at i.progress _ _ _ x) c.finish-in-Exhausted.result _ _ _ (λ k. Refuses) (omega arith) c.finish-in-Exhausted.ensures.written
     (either_end ending.Exhausted _ _ _ _ _ c.finish-in-Exhausted.ensures.same (refl, over_at x))
+
+pub returns-in-HostMemory-clause-hosted : goal.returns-in-HostMemory-clause-hosted
+returns-in-HostMemory-clause-hosted g c =
+    let seen = arrays g.S.BlockStore.holdings g.S.BlockStore.byte_at in
+    let i = c.steps.invariant in
+    let x : IsStep (areas_of (seen c.args.machine.now)) _ (state_of (seen c.steps.machine)) (state_of (seen c.step.new.self)) (Stops Stop.Lacking) =
+    step_at _ _ _ _ _ _ i.areas c.in-HostMemory.ensures.state c.in-HostMemory.ensures.event in
+    hosted (stopped_at i.progress _ _ _ x) c.finish-in-HostMemory.result _ _ _ (λ k. Refuses) (omega arith) c.finish-in-HostMemory.ensures.written
+    (either_end ending.HostMemory _ _ _ _ _ c.finish-in-HostMemory.ensures.same (refl, over_at x))
 
 pub returns-in-Fault-clause-hosted : goal.returns-in-Fault-clause-hosted
 returns-in-Fault-clause-hosted g c =
+    let seen = arrays g.S.BlockStore.holdings g.S.BlockStore.byte_at in
     let i = c.steps.invariant in
-    let x : IsStep (lengths_of c.args.machine.now) (state_of c.steps.machine) (state_of c.step.new.self) (Stops (Stop.Fault c.in-Fault.fault)) =
-    step_at _ _ _ _ _ i.lengths c.in-Fault.ensures.state c.in-Fault.ensures.event in
-    hosted (stopped_at i.progress _ _ x) c.finish-in-Fault.result _ _ _ (omega arith) c.finish-in-Fault.ensures.written
+    let x : IsStep (areas_of (seen c.args.machine.now)) _ (state_of (seen c.steps.machine)) (state_of (seen c.step.new.self)) (Stops (Stop.Fault c.in-Fault.fault)) =
+    step_at _ _ _ _ _ _ i.areas c.in-Fault.ensures.state c.in-Fault.ensures.event in
+    hosted (stopped_at i.progress _ _ _ x) c.finish-in-Fault.result _ _ _ (λ k. Refuses) (omega arith) c.finish-in-Fault.ensures.written
     (either_end (ending.Fault c.in-Fault.fault) _ _ _ _ _ c.finish-in-Fault.ensures.same (refl, over_at x))
 
 pub returns-clause-hosted : goal.returns-clause-hosted
 returns-clause-hosted g c =
+    let seen = arrays g.S.BlockStore.holdings g.S.BlockStore.byte_at in
     let i = c.steps.invariant in
-    hosted i.progress c.finish-2.result _ _ _ (omega arith) c.finish-2.ensures.written
+    hosted i.progress c.finish-2.result _ _ _ (λ k. Refuses) (omega arith) c.finish-2.ensures.written
     (either_end ending.StepLimit _ _ _ _ _ c.finish-2.ensures.same (refl, omega arith))
 
 pub steps-preserved : goal.steps-preserved
 steps-preserved g c =
+    let seen = arrays g.S.BlockStore.holdings g.S.BlockStore.byte_at in
     let i = c.steps.invariant in
-    let n = lengths_of c.args.machine.now in
+    let n = areas_of (seen c.args.machine.now) in
     elim c.match-step.branch [
       | in-Next w ↦
-          let x : IsStep n (state_of c.steps.machine) (state_of c.step.new.self) Nothing =
-          step_at _ _ _ _ _ i.lengths w.in-Next.ensures.state w.in-Next.ensures.event in
+          let x : IsStep n _ (state_of (seen c.steps.machine)) (state_of (seen c.step.new.self)) Nothing =
+          step_at _ _ _ _ _ _ i.areas w.in-Next.ensures.state w.in-Next.ensures.event in
           rw (w.machine-is, w.reader-is, w.writer-is, w.gathered-is, w.is_over-is) (record {
             reads = i.reads;
             writes = i.writes;
-            lengths = w.in-Next.ensures.lengths ∙ i.lengths;
+            areas = w.in-Next.ensures.areas ∙ i.areas;
             going = inr (runs_at x);
-            progress = went_on i.progress _ x;
+            progress = went_on i.progress _ _ x;
           })
       | in-Put+else-is_err w ↦
-          let x : IsStep n (state_of c.steps.machine) (state_of c.step.new.self) (Writes w.in-Put.byte) =
-          step_at _ _ _ _ _ i.lengths w.in-Put.ensures.state w.in-Put.ensures.event in
+          let x : IsStep n _ (state_of (seen c.steps.machine)) (state_of (seen c.step.new.self)) (Writes w.in-Put.byte) =
+          step_at _ _ _ _ _ _ i.areas w.in-Put.ensures.state w.in-Put.ensures.event in
           let moved = of_ok w.put.result w.put.ensures.all (sym w.is_err.ensures.value ∙ w.if-is_err.false) in
           rw (w.machine-is, w.reader-is, w.writer-is, w.gathered-is, w.is_over-is) (record {
             reads = i.reads;
             writes = counted_ok w.put.result _ _ w.put.ensures.counted (sym w.is_err.ensures.value ∙ w.if-is_err.false) ∙ i.writes;
-            lengths = w.in-Put.ensures.lengths ∙ i.lengths;
+            areas = w.in-Put.ensures.areas ∙ i.areas;
             going = inr (runs_at_write x);
-            progress = wrote (put_one i.progress _ w.in-Put.byte x) _ _ moved;
+            progress = wrote (put_one i.progress _ _ w.in-Put.byte x) _ _ moved;
           })
       | in-Get+else-is_err-2+in-Ok w ↦
-          let x : IsStep n (state_of c.steps.machine) (state_of c.step.new.self) Asks =
-          step_at _ _ _ _ _ i.lengths w.in-Get.ensures.state w.in-Get.ensures.event in
+          let x : IsStep n _ (state_of (seen c.steps.machine)) (state_of (seen c.step.new.self)) Asks =
+          step_at _ _ _ _ _ _ i.areas w.in-Get.ensures.state w.in-Get.ensures.event in
           let flushed = wrote i.progress _ []
           (all_written _ _ _ (of_ok w.flush.result w.flush.ensures.all (sym w.is_err-in-Get.ensures.value ∙ w.if-is_err-2.false))) in
           rw (w.machine-is, w.reader-is, w.writer-is, w.gathered-is, w.is_over-is) (record {
             reads = w.in-Ok.ensures.counted ∙ i.reads;
             writes = counted_ok w.flush.result _ _ w.flush.ensures.counted (sym w.is_err-in-Get.ensures.value ∙ w.if-is_err-2.false) ∙ i.writes;
-            lengths = w.give.ensures.lengths ∙ w.in-Get.ensures.lengths ∙ i.lengths;
+            areas = w.give.ensures.areas ∙ w.in-Get.ensures.areas ∙ i.areas;
             going = inr (runs_at_answer w.in-Ok.answer x w.give.ensures.state);
             progress = subst (Progress _ _ _ _ _ _ _ _ _) (sym w.flush.ensures.empty)
-                (answered flushed _ _ _ _ _ x w.in-Ok.ensures.answer (search rules) w.give.ensures.state);
+                (answered flushed _ _ _ _ _ _ x w.in-Ok.ensures.answer (search rules) w.give.ensures.state);
           })
     ]

@@ -19,7 +19,7 @@ pub more-preserved : goal.more-preserved
 more-preserved c =
     let shorter : length c.bound-in-more.new.cursor < length c.more.cursor = omega (arith, c.in_ok-sign-2.ensures.shorter, c.in_ok-bound-2.ensures.shorter) in (
       comma_pushed bound_tree bound c.more.bounds.items c.push-in-more.new.self.items c.in_ok-bound-2.field-0 c.in_ok-sign-2.field-0 c.more.cursor
-          c.sign-in-more.new.self c.bound-in-more.new.cursor (bounds c.args.cursor.now) c.in_ok-push-2.ensures.items (sym c.is_sign-in-more.ensures ∙ c.more-test.true)
+          c.sign-in-more.new.self c.bound-in-more.new.cursor (bounds c.args.cursor.now) c.in_ok-push-2.ensures.ok (sym c.is_sign-in-more.ensures ∙ c.more-test.true)
           c.in_ok-sign-2.ensures.reads c.in_ok-bound-2.ensures.reads shorter c.more.invariant.0,
       omega (arith, shorter, c.more.invariant.1),
     )

@@ -19,7 +19,7 @@ pub more-preserved : goal.more-preserved
 more-preserved c =
     let shorter : length c.region-in-more.new.self < length c.more.cursor = omega (arith, c.in_ok-sign.ensures.shorter, c.in_ok-region-2.ensures.shorter) in (
       comma_pushed region_tree region c.more.regions.items c.push-in-more.new.self.items c.in_ok-region-2.field-0 c.in_ok-sign.field-0 c.more.cursor c.sign.new.self
-          c.region-in-more.new.self (regions c.args.cursor.now) c.in_ok-push-2.ensures.items (sym c.is_sign.ensures ∙ c.more-test.true) c.in_ok-sign.ensures.reads
+          c.region-in-more.new.self (regions c.args.cursor.now) c.in_ok-push-2.ensures.ok (sym c.is_sign.ensures ∙ c.more-test.true) c.in_ok-sign.ensures.reads
           c.in_ok-region-2.ensures.reads shorter c.more.invariant.0,
       omega (arith, shorter, c.more.invariant.1),
     )

@@ -1,6 +1,7 @@
 use Rattle.std.proofs.Common.{◌≡◌, inl, inr, sym, subst}
 use Rattle.cyc_image.specs.Format.{Contents, IsImage}
-use Rattle.rv32_machine.specs.Arrays.{IsStart, state_of}
+use Rattle.rv32_machine.specs.Arrays.{IsStart, arrays, state_of}
+use Rattle.cyc_arena.specs.Plain.{byte_at, holdings_of}
 use Rattle.cycc_driver.proofs.Executions.{text_run}
 use Rattle.cycc_driver.proofs.executing.execute.Goals as goal
 
@@ -11,6 +12,9 @@ returns-clause-run g c =
     let bytes : IsImage c.deref.result.now made.parts = subst (λ b. IsImage b made.parts) (sym c.deref.ensures.value) made.image in
     let all = c.in-Ok.ensures.all made.parts bytes in
     let same : image ≡ made.parts = elim all [ inl h ↦ cc h | inr h ↦ absurd (cc h) ] in
-    let starts = subst (λ parts. IsStart parts c.in_ok-machine.machine) same c.in_ok-machine.ensures in
-    text_run c.args.text.now c.in_ok-bytes.bytes.items c.args.limits.pages c.args.limits.steps c.run.result made c.in_ok-machine.machine starts (state_of c.run.new.machine)
+    let start = arrays holdings_of (λ s. byte_at s.bytes) c.in-Ok-new-2.machine in
+    let end = arrays holdings_of (λ s. byte_at s.bytes) c.run.new.machine in
+    let starts : IsStart made.parts (holdings_of c.in-Ok-new.store) (byte_at c.in-Ok-new.store.bytes) start =
+    subst (λ parts. IsStart parts (holdings_of c.in-Ok-new.store) (byte_at c.in-Ok-new.store.bytes) start) same c.in-Ok-new-2.ensures.starts in
+    text_run c.args.text.now c.in_ok-bytes.bytes.items c.args.limits.pages c.args.limits.steps c.run.result made _ _ start starts (state_of end)
     c.run.ensures.hosted c.run.ensures.goes_on

@@ -1,8 +1,8 @@
 use Rattle.std.proofs.Common.{subst, sym, ◌+◌, true, false}
 use Rattle.std.specs.Prelude.{Some, None}
-use Rattle.cyc_arena.specs.Counts.{is_full}
-use Rattle.cyc_arena.specs.Lawful.{Grants}
-use Rattle.cyc_arena.specs.Laws.{made}
+use Rattle.arena_laws.specs.Counts.{is_full}
+use Rattle.arena_laws.specs.Lawful.{Grants}
+use Rattle.arena_laws.specs.Laws.{made}
 use Rattle.cyc_arena.specs.Plain.{Finds}
 use Rattle.cyc_arena.proofs.Along.{does_along, test_along}
 use Rattle.cyc_arena.proofs.Made.{made_sound, made_does, not_full, all_taken}

@@ -1,8 +1,8 @@
 use Rattle.std.proofs.Common.{subst, ◌≡◌, ◌+◌, ◌-◌, ◌*◌, true, false, arith}
 use Rattle.std.specs.Prelude.{Some, None}
-use Rattle.cyc_arena.specs.Holdings.{arena_base}
-use Rattle.cyc_arena.specs.Lawful.{Grants, takes_blocks}
-use Rattle.cyc_arena.specs.Laws.{region_alloc, is_block_refused}
+use Rattle.arena_laws.specs.Holdings.{arena_base}
+use Rattle.arena_laws.specs.Lawful.{Grants, takes_blocks}
+use Rattle.arena_laws.specs.Laws.{region_alloc, is_block_refused}
 use Rattle.cyc_arena.specs.Plain.{Finds, standing_at}
 use Rattle.cyc_arena.proofs.Along.{does_along, test_along}
 use Rattle.cyc_arena.proofs.Placed.{last_place, cut, taken, refused}

@@ -1,9 +1,9 @@
 use Rattle.std.proofs.Common.{subst, ◌≡◌, ◌+◌, ◌*◌, ◌/◌, ◌%◌, ◌∙◌, length, ap, true, false, arith}
 use Rattle.std.specs.Prelude.{Some, None}
-use Rattle.cyc_arena.specs.Counts.{is_full_for_slot}
-use Rattle.cyc_arena.specs.Holdings.{arena_base}
-use Rattle.cyc_arena.specs.Lawful.{Grants}
-use Rattle.cyc_arena.specs.Laws.{unique_alloc}
+use Rattle.arena_laws.specs.Counts.{is_full_for_slot}
+use Rattle.arena_laws.specs.Holdings.{arena_base}
+use Rattle.arena_laws.specs.Lawful.{Grants}
+use Rattle.arena_laws.specs.Laws.{unique_alloc}
 use Rattle.cyc_arena.specs.Plain.{Finds}
 use Rattle.cyc_arena.proofs.Along.{does_along, test_along}
 use Rattle.cyc_arena.proofs.Filled.{filled_long}

@@ -1,5 +1,5 @@
 use Rattle.std.proofs.Common.{arith}
-use Rattle.cyc_arena.specs.Lawful.{unique_free}
+use Rattle.arena_laws.specs.Lawful.{unique_free}
 use Rattle.cyc_arena.proofs.Along.{does_along, alone_before}
 use Rattle.cyc_arena.proofs.Alone.{freed_does, freed_sound, slot_of}
 use Rattle.cyc_arena.proofs.plain.PlainStoreBlockStore.unique_free.Goals as goal
@@ -40,8 +40,8 @@ invariant_of-self c =
     c.in-Some-Alone.field-0-is c.if-from-at.false in
     freed_sound _ c.args.at c.in-Some-Alone.room c.self.invariant alone
 
-pub returns-else-from-at : goal.returns-else-from-at
-returns-else-from-at c =
+pub returns-else-from-at-clause-does : goal.returns-else-from-at-clause-does
+returns-else-from-at-clause-does c =
     let alone = alone_before c.args.at c.owner_of.result _ _ c.in-Some-Alone.room _ _ c.self.view_is c.owner_of.ensures c.in-Some-Alone.is
     c.in-Some-Alone.field-0-is c.if-from-at.false in
-    record { does = does_along (unique_free c.args.at) _ _ _ _ c.self.view_is (freed_does _ c.args.at c.in-Some-Alone.room c.self.invariant alone) }
+    does_along (unique_free c.args.at) _ _ _ _ c.self.view_is (freed_does _ c.args.at c.in-Some-Alone.room c.self.invariant alone)

@@ -1,0 +1,6 @@
+pub mod Classes
+pub mod Births
+pub mod Rooms
+pub mod Counting
+pub mod Living
+pub mod Samples

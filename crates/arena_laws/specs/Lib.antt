@@ -1,0 +1,9 @@
+pub mod Counts
+pub mod Classes
+pub mod Holdings
+pub mod Lawful
+pub mod Asked
+pub mod Laws
+pub mod Pages
+pub mod Calls
+pub mod Blocks

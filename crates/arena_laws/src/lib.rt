@@ -1,0 +1,17 @@
+//! The laws of a store of regions over an arena, as definitions: what a store holds, as numbers
+//! alone, and what each call makes of it.
+//!
+//! specs/Lawful has what any lawful store may do, specs/Laws the same with Full exactly where the
+//! counts of pages say so. `refused_by_count` and `live_blocks` are laws on lists of calls. Who
+//! stands on this crate meets no store. Stands on nothing but `thiserror`.
+#![tactic(auto)]
+
+mod laws;
+mod owner;
+mod refusal;
+mod standing;
+
+pub use laws::{live_blocks, refused_by_count};
+pub use owner::Owner;
+pub use refusal::StoreRefusal;
+pub use standing::Standing;

@@ -1,0 +1,64 @@
+-- The failed calls of a run, by its ending.
+use Rattle.std.proofs.Common.{◌≡◌, ◌≢◌, ℕ, ℤ, pos, negsuc, zero, suc, Result, Ok, Err, IfOk, inl, inr, arith}
+use Rattle.cyc_words.specs.Devices.{one_more}
+use Rattle.cyc_host.specs.Failures.{reads_failed, writes_failed}
+use Rattle.cyc_host.specs.declared.ending.Ending.{Ending}
+use Rattle.cyc_host.specs.declared.ending.Ending.TheVariants as ending
+use Rattle.cyc_meaning.specs.Evaluated.{reads_failed as eval_reads_failed, writes_failed as eval_writes_failed}
+use Rattle.cyc_meaning.specs.declared.ending.EvalEnding.{EvalEnding}
+use Rattle.cyc_meaning.specs.declared.ending.EvalEnding.TheVariants as eval
+use Rattle.cycc_answer.specs.Statuses.{ended_status, status_of, evaluated_status}
+use Rattle.cycc_answer.specs.Devices.{AreCounted}
+
+module _ (status r_old r_new w_old w_new : ℕ) where
+  none_failed : status ≢ 6 → r_new ≡ r_old → w_new ≡ w_old → AreCounted status r_old r_new w_old w_new
+  none_failed other reads writes = record { failed = λ six. absurd (other six); none = λ _. (reads, writes) }
+
+  read_failed : status ≡ 6 → r_new ≡ one_more r_old → w_new ≡ w_old → AreCounted status r_old r_new w_old w_new
+  read_failed six reads writes = record { failed = λ _. inl (reads, writes); none = λ other. absurd (other six) }
+
+  write_failed : status ≡ 6 → r_new ≡ r_old → w_new ≡ one_more w_old → AreCounted status r_old r_new w_old w_new
+  write_failed six reads writes = record { failed = λ _. inr (reads, writes); none = λ other. absurd (other six) }
+
+  -- the status of a program that ended is 0 or 1
+  ended : (number : ℤ) → status ≡ ended_status number → r_new ≡ r_old → w_new ≡ w_old → AreCounted status r_old r_new w_old w_new
+  ended (pos zero) shown = none_failed (λ six. omega arith)
+  ended (pos (suc n)) shown = none_failed (λ six. omega arith)
+  ended (negsuc n) shown = none_failed (λ six. omega arith)
+
+  run : (why : Ending) → status ≡ status_of why → r_new ≡ reads_failed why r_old → w_new ≡ writes_failed why w_old
+      → AreCounted status r_old r_new w_old w_new
+  run (ending.Ended number) shown = ended number shown
+  run (ending.Raised kind) shown = none_failed (λ six. omega arith)
+  run ending.Exhausted shown = none_failed (λ six. omega arith)
+  run ending.StepLimit shown = none_failed (λ six. omega arith)
+  run (ending.Fault fault) shown = none_failed (λ six. omega arith)
+  run ending.ReadFault shown = read_failed shown
+  run ending.WriteFault shown = write_failed shown
+  run ending.HostMemory shown = none_failed (λ six. omega arith)
+
+  evaluation : (why : EvalEnding) → status ≡ evaluated_status why → r_new ≡ eval_reads_failed why r_old → w_new ≡ eval_writes_failed why w_old
+      → AreCounted status r_old r_new w_old w_new
+  evaluation (eval.Ended number) shown = ended number shown
+  evaluation (eval.Raised kind) shown = none_failed (λ six. omega arith)
+  evaluation eval.Running shown = none_failed (λ six. omega arith)
+  evaluation eval.Stuck shown = none_failed (λ six. omega arith)
+  evaluation eval.ReadFault shown = read_failed shown
+  evaluation eval.WriteFault shown = write_failed shown
+  evaluation eval.HostMemory shown = none_failed (λ six. omega arith)
+
+-- what follows of each value, where one is answered
+pub weakened : {A E : Type 0} (r : Result A E) (P Q : A → Type 0) → ((a : A) → P a → Q a) → IfOk r P → IfOk r Q
+weakened (Ok a) P Q f h = f a h
+weakened (Err e) P Q f h = tt
+
+module _ {E : Type 0} (result : Result ℕ E) (r_old r_new w_old w_new : ℕ) where
+  -- of a machine's run
+  pub of_run : (why : Ending) → IfOk result (λ status. status ≡ status_of why) → r_new ≡ reads_failed why r_old → w_new ≡ writes_failed why w_old
+      → IfOk result (λ status. AreCounted status r_old r_new w_old w_new)
+  of_run why shown reads writes = weakened result _ _ (λ status s. run status r_old r_new w_old w_new why s reads writes) shown
+
+  -- of an evaluation
+  pub of_evaluation : (why : EvalEnding) → IfOk result (λ status. status ≡ evaluated_status why) → r_new ≡ eval_reads_failed why r_old
+      → w_new ≡ eval_writes_failed why w_old → IfOk result (λ status. AreCounted status r_old r_new w_old w_new)
+  of_evaluation why shown reads writes = weakened result _ _ (λ status s. evaluation status r_old r_new w_old w_new why s reads writes) shown

@@ -1,0 +1,289 @@
+-- What each step makes of a pool's chains.
+use Rattle.std.proofs.Common.{◌≡◌, ℕ, zero, suc, ◌+◌, ◌-◌, ◌%◌, ◌<◌, ◌≤◌, Bool, true, false, [], ◌∷◌, ◌++◌, length, nat_eq, nat_lt, refl, sym, ap, subst, ◌∙◌, arith, length-append}
+use Rattle.std.specs.Prelude.{if◌then◌else◌}
+use Rattle.std.proofs.lemmas.Bool.Decides.{nat_tests}
+use Rattle.arena_laws.specs.Counts.{put}
+use Rattle.region_runtime.specs.Chains.{follow, times, last_or}
+use Rattle.region_runtime.specs.Headers.{link_of, owner_of, used_of, newest_of, count_of, heap_mark, taken_mark, is_live_number, pages_of}
+use Rattle.region_runtime.specs.Pool.{Shape, free_in}
+use Rattle.region_runtime.specs.Sound.{AreChains, IsOrdered, freed_of, no_page, uses}
+use Rattle.region_runtime.specs.Steps.{next_page, with_first, with_freed, with_heap_page, with_newest, with_taken, without_page}
+use Rattle.region_runtime.proofs.Words.{live_some, live_own}
+use Rattle.region_runtime.proofs.Chains.{times_append, follow_zero, follow_more, follow_kept, follow_length, follow_spliced, length_least}
+use Rattle.region_runtime.proofs.Freeing.{all_freed}
+use Rattle.region_runtime.proofs.Places.{page_in_hand, freed_in_hand, unused_in_hand, hand_used, hand_not_free, hand_unused, hand_off, hand_not_first, hand_marked, hand_grown, hand_started, first_there, live_small, uses_there, uses_marked}
+
+pub pages_are : (word : ℕ → ℕ → ℕ) (h : ℕ) → pages_of word h ≡ follow (link_of word) (count_of word h) (newest_of word h)
+unfolding pages_of
+pages_are word h = refl
+
+module _ (t : Shape) (s : IsOrdered t no_page) where
+  pub few_used : t.ever_used ≤ 4096
+  few_used = let a = s.few in let b = s.begun in omega (arith, a, b)
+
+  -- ---- a page is taken in hand
+
+  pub freed_least : t.freed ≤ t.ever_used
+  freed_least =
+      let l = length_least t.ever_used (freed_of t) (λ x. let o = s.chains.once x in omega (arith, o)) in
+      let n = follow_length (link_of t.word) t.freed t.first_freed in omega (arith, l, n)
+
+  first_in_hand : (n : ℕ) → t.freed ≡ suc n → IsOrdered (record t { first_freed = t.word t.first_freed 0; freed = t.freed - 1 }) (page_in_hand t.first_freed)
+  first_in_hand n e = record {
+    few = s.few;
+    begun = s.begun;
+    chains = let less : t.freed - 1 ≡ n = omega (arith, e) in
+        subst (λ k. AreChains (follow (link_of t.word) k (t.word t.first_freed 0)) (owner_of t.word) (pages_of t.word) t.ever_used
+        (page_in_hand t.first_freed)) (sym less)
+        (freed_in_hand (owner_of t.word) (pages_of t.word) t.ever_used t.first_freed (follow (link_of t.word) n (t.word t.first_freed 0))
+        (subst (λ xs. AreChains xs (owner_of t.word) (pages_of t.word) t.ever_used no_page)
+        (ap (λ k. follow (link_of t.word) k t.first_freed) e ∙ follow_more (link_of t.word) n t.first_freed) s.chains));
+    rounded = s.rounded;
+    within = s.within;
+    heap = s.heap;
+  }
+
+  unused_taken : t.freed ≡ 0 → t.ever_used < t.pages → IsOrdered (record t { ever_used = t.ever_used + 1 }) (page_in_hand t.ever_used)
+  unused_taken e l = record {
+    few = s.few;
+    begun = omega (arith, l);
+    chains = unused_in_hand (owner_of t.word) (pages_of t.word) t.ever_used (freed_of t) s.chains;
+    rounded = s.rounded;
+    within = s.within;
+    heap = s.heap;
+  }
+
+  pub page_taken : nat_eq (free_in t) 0 ≡ false → IsOrdered (without_page t) (page_in_hand (next_page t))
+  unfolding without_page
+  page_taken f = by_freed t.freed refl
+    where
+      by_freed : (n : ℕ) → t.freed ≡ n → IsOrdered (if nat_lt 0 t.freed then record t {
+        first_freed = t.word t.first_freed 0;
+        freed = t.freed - 1;
+      } else record t { ever_used = t.ever_used + 1 }) (page_in_hand (if nat_lt 0 t.freed then t.first_freed else t.ever_used))
+      by_freed (suc n) e =
+          let some : nat_lt 0 t.freed ≡ true = grind (arith, nat_tests) in rw some (first_in_hand n e)
+      by_freed zero e =
+          let none : nat_lt 0 t.freed ≡ false = grind (arith, nat_tests) in
+          let l : t.ever_used < t.pages = grind (arith, nat_tests) in rw none (unused_taken e l)
+
+  -- ---- a live region's words
+
+  pub live_within : (h : ℕ) → is_live_number (owner_of t.word) h ≡ true → (q : ℕ) → 0 < times q (pages_of t.word h) → q < t.ever_used
+  live_within h e q l =
+      let u = uses_there (freed_of t) (owner_of t.word) (pages_of t.word) t.ever_used no_page few_used s.chains h q e l in
+      let o = s.chains.once q in grind (arith, nat_tests)
+
+  pub count_least : (h : ℕ) → is_live_number (owner_of t.word) h ≡ true → count_of t.word h + t.freed ≤ 4096
+  count_least h e =
+      let l = length_least t.ever_used (pages_of t.word h ++ freed_of t) each in
+      let n = length-append (pages_of t.word h) (freed_of t) in
+      let a = follow_length (link_of t.word) t.freed t.first_freed in
+      let b = ap length (pages_are t.word h) ∙ follow_length (link_of t.word) (count_of t.word h) (newest_of t.word h) in
+      let f = few_used in omega (arith, l, n, a, b, f)
+    where
+      most : (x : ℕ) (b : Bool) → nat_lt 0 (times x (pages_of t.word h)) ≡ b → times x (pages_of t.word h) ≤ uses (owner_of t.word) (pages_of t.word) x
+      most x false l = grind (arith, nat_tests)
+      most x true l =
+          let u = uses_there (freed_of t) (owner_of t.word) (pages_of t.word) t.ever_used no_page few_used s.chains h x e (grind (arith, nat_tests)) in
+          omega (arith, u)
+
+      each : (x : ℕ) → times x (pages_of t.word h ++ freed_of t) + (if nat_lt x t.ever_used then 0 else 1) ≤ 1
+      each x =
+          let n = times_append x (pages_of t.word h) (freed_of t) in let m = most x (nat_lt 0 (times x (pages_of t.word h))) refl in
+          let o = s.chains.once x in omega (arith, n, m, o)
+
+  -- ---- a region's pages are freed
+  module _ (h : ℕ) (live : is_live_number (owner_of t.word) h ≡ true) where
+    first_off : (g : ℕ) → nat_eq g h ≡ false → is_live_number (owner_of t.word) g ≡ true → times (h - 1) (pages_of t.word g) ≡ 0
+    first_off g e d = by_times (nat_lt 0 (times (h - 1) (pages_of t.word g))) refl
+      where
+        by_times : (b : Bool) → nat_lt 0 (times (h - 1) (pages_of t.word g)) ≡ b → times (h - 1) (pages_of t.word g) ≡ 0
+        by_times false l = grind (arith, nat_tests)
+        by_times true l =
+            let n = s.chains.named g (h - 1) d (grind (arith, nat_tests)) in let o = live_own (owner_of t.word) h live in
+            absurd (grind (arith, nat_tests))
+
+    abbrev pub after : Shape
+    after = with_freed h t
+
+    pub others : (g : ℕ) → nat_eq g h ≡ false → is_live_number (owner_of t.word) g ≡ true → pages_of after.word g ≡ pages_of t.word g
+    others g e d =
+        let a = live_some (owner_of t.word) g d in let b = live_some (owner_of t.word) h live in
+        let n : nat_eq (g - 1) (h - 1) ≡ false = grind (arith, nat_tests) in
+        pages_are after.word g
+        ∙ follow_kept (link_of t.word) (h - 1) t.first_freed (count_of t.word g) (newest_of t.word g) (ap (times (h - 1)) (sym
+        (pages_are t.word g)) ∙ first_off g e d)
+        ∙ sym (pages_are t.word g)
+
+    spliced : freed_of after ≡ pages_of t.word h ++ freed_of t
+    spliced =
+        let b = live_some (owner_of t.word) h live in
+        let there = first_there (freed_of t) (owner_of t.word) (pages_of t.word) t.ever_used no_page few_used s.chains h live in
+        let u = uses_there (freed_of t) (owner_of t.word) (pages_of t.word) t.ever_used no_page few_used s.chains h (h - 1) live there in
+        let o = s.chains.once (h - 1) in
+        let e = pages_are t.word h in
+        follow_spliced (link_of t.word) (count_of t.word h) (newest_of t.word h) h (h - 1) t.freed t.first_freed (grind (arith, nat_tests))
+        (ap (last_or h) (sym e) ∙ s.chains.first h live)
+        (ap (times (h - 1)) (sym e) ∙ (let k : times (h - 1) (pages_of t.word h) ≡ 1 = omega (arith, there, u, o) in k))
+        (let k : times (h - 1) (freed_of t) ≡ 0 = omega (arith, there, u, o) in k)
+        ∙ ap (λ xs. xs ++ freed_of t) (sym e)
+
+    pub freed_chains : AreChains (pages_of t.word h ++ freed_of t) (put (h - 1) 0 (owner_of t.word)) (pages_of after.word) t.ever_used no_page
+    freed_chains = all_freed (freed_of t) (owner_of t.word) (pages_of t.word) t.ever_used few_used s.chains h live (pages_of after.word) others
+
+    pub freed_ordered : IsOrdered after no_page
+    freed_ordered = record {
+      few = s.few;
+      begun = s.begun;
+      chains = subst (λ xs. AreChains xs (put (h - 1) 0 (owner_of t.word)) (pages_of after.word) t.ever_used no_page) (sym spliced) freed_chains;
+      rounded = s.rounded;
+      within = s.within;
+      heap = λ p e. heap_by p (nat_eq p (h - 1)) refl (s.heap p e);
+    }
+      where
+        heap_by : (p : ℕ) (b : Bool) → nat_eq p (h - 1) ≡ b → owner_of t.word p ≡ heap_mark → (if b then 0 else owner_of t.word p) ≡ heap_mark
+        heap_by p false e o = o
+        heap_by p true e o =
+            let same : p ≡ h - 1 = grind (arith, nat_tests) in let own = live_own (owner_of t.word) h live in
+            let m = live_small (freed_of t) (owner_of t.word) (pages_of t.word) t.ever_used no_page few_used s.chains h live in
+            let n : owner_of t.word p ≡ h = ap (owner_of t.word) same ∙ own in absurd (omega (arith, n, m, o))
+
+-- ---- a page in hand gets a place
+
+module _ (t : Shape) (p : ℕ) (s : IsOrdered t (page_in_hand p)) where
+  pub hand_few : t.ever_used ≤ 4096
+  hand_few = let a = s.few in let b = s.begun in omega (arith, a, b)
+
+  pub hand_within : p < t.pages
+  hand_within =
+      let u = hand_used (freed_of t) (owner_of t.word) (pages_of t.word) t.ever_used p hand_few s.chains in let b = s.begun in omega (arith, u, b)
+
+  pub hand_small : p < 4096
+  hand_small = let w = hand_within in let f = s.few in omega (arith, w, f)
+
+  -- the heap's last page is another
+  heap_other : (q w : ℕ) → owner_of t.word q ≡ heap_mark → put p w (owner_of t.word) q ≡ heap_mark
+  heap_other q w e = by_page (nat_eq q p) refl
+    where
+      by_page : (b : Bool) → nat_eq q p ≡ b → (if b then w else owner_of t.word q) ≡ heap_mark
+      by_page false d = e
+      by_page true d =
+          let same : q ≡ p = grind (arith, nat_tests) in
+          let u = uses_marked (owner_of t.word) (pages_of t.word) q (omega (arith, e)) in
+          let z = hand_unused (freed_of t) (owner_of t.word) (pages_of t.word) t.ever_used p hand_few s.chains in
+          let v : uses (owner_of t.word) (pages_of t.word) q ≡ 0 = ap (uses (owner_of t.word) (pages_of t.word)) same ∙ z in
+          absurd (omega (arith, u, v))
+
+  put_used : (used : ℕ → ℕ) (x : ℕ) (test : ℕ → Type 0) → test x → ((q : ℕ) → test (used q)) → (q : ℕ) → test (put p x used q)
+  put_used used x test a f q = by_page (nat_eq q p)
+    where
+      by_page : (b : Bool) → test (if b then x else used q)
+      by_page true = a
+      by_page false = f q
+
+  -- its taker's
+  pub taken_ordered : IsOrdered (with_taken p t) no_page
+  taken_ordered = record {
+    few = s.few;
+    begun = s.begun;
+    chains = hand_marked (freed_of t) (owner_of t.word) (pages_of t.word) t.ever_used p hand_few s.chains taken_mark (pages_of (with_taken p t).word)
+        (omega arith) hand_small (λ g e. pages_are (with_taken p t).word g ∙ sym (pages_are t.word g));
+    rounded = s.rounded;
+    within = s.within;
+    heap = λ q e. heap_other q taken_mark (s.heap q e);
+  }
+
+  -- the heap's last
+  pub heap_ordered : (room : ℕ) → room % 8 ≡ 0 → room ≤ 4096 → IsOrdered (with_heap_page p room t) no_page
+  heap_ordered room a b = record {
+    few = s.few;
+    begun = s.begun;
+    chains = hand_marked (freed_of t) (owner_of t.word) (pages_of t.word) t.ever_used p hand_few s.chains heap_mark (pages_of
+        (with_heap_page p room t).word)
+        (omega arith) hand_small (λ g e. pages_are (with_heap_page p room t).word g ∙ sym (pages_are t.word g));
+    rounded = put_used (used_of t.word) room (λ n. n % 8 ≡ 0) a s.rounded;
+    within = put_used (used_of t.word) room (λ n. n ≤ 4096) b s.within;
+    heap = λ q e. let same : nat_eq q p ≡ true = grind (arith, nat_tests) in rw same refl;
+  }
+
+  -- a region's first
+  pub started_others : (g : ℕ) → nat_eq g (p + 1) ≡ false → is_live_number (owner_of t.word) g ≡ true →
+      pages_of (with_first p t).word g ≡ pages_of t.word g
+  started_others g e d =
+      let l = live_some (owner_of t.word) g d in
+      let n : nat_eq (g - 1) p ≡ false = grind (arith, nat_tests) in
+      let c : count_of (with_first p t).word g ≡ count_of t.word g = rw n refl in
+      let m : newest_of (with_first p t).word g ≡ newest_of t.word g = rw n refl in
+      pages_are (with_first p t).word g ∙ ap (λ k. follow (link_of t.word) k (newest_of (with_first p t).word g)) c
+      ∙ ap (λ k. follow (link_of t.word) (count_of t.word g) k) m ∙ sym (pages_are t.word g)
+
+  pub started_pages : pages_of (with_first p t).word (p + 1) ≡ p ∷ []
+  started_pages =
+      let same : p + 1 - 1 ≡ p = omega arith in
+      let n : nat_eq (p + 1 - 1) p ≡ true = grind (arith, nat_tests) in
+      let c : count_of (with_first p t).word (p + 1) ≡ 1 = rw n refl in
+      let m : newest_of (with_first p t).word (p + 1) ≡ p = rw n refl in
+      pages_are (with_first p t).word (p + 1) ∙ ap (λ k. follow (link_of t.word) k (newest_of (with_first p t).word (p + 1))) c
+      ∙ ap (λ k. follow (link_of t.word) 1 k) m ∙ follow_more (link_of t.word) 0 p ∙ ap (λ xs. p ∷ xs) (follow_zero (link_of t.word) (t.word p 0))
+
+  pub first_ordered : IsOrdered (with_first p t) no_page
+  first_ordered = record {
+    few = s.few;
+    begun = s.begun;
+    chains = hand_started (freed_of t) (owner_of t.word) (pages_of t.word) t.ever_used p hand_few s.chains (pages_of (with_first p t).word) hand_small
+        started_pages started_others;
+    rounded = put_used (used_of t.word) 0 (λ n. n % 8 ≡ 0) refl s.rounded;
+    within = put_used (used_of t.word) 0 (λ n. n ≤ 4096) (omega arith) s.within;
+    heap = λ q e. heap_other q (p + 1) (s.heap q e);
+  }
+
+  -- a live region's newest
+  module _ (h room : ℕ) (live : is_live_number (owner_of t.word) h ≡ true) where
+    abbrev pub grown : Shape
+    grown = with_newest h p room t
+
+    pub not_first : nat_eq p (h - 1) ≡ false
+    not_first = hand_not_first (freed_of t) (owner_of t.word) (pages_of t.word) t.ever_used p hand_few s.chains h live
+
+    pub grown_others : (g : ℕ) → nat_eq g h ≡ false → is_live_number (owner_of t.word) g ≡ true → pages_of grown.word g ≡ pages_of t.word g
+    grown_others g e d =
+        let a = live_some (owner_of t.word) g d in let b = live_some (owner_of t.word) h live in
+        let n : nat_eq (g - 1) (h - 1) ≡ false = grind (arith, nat_tests) in
+        let c : count_of grown.word g ≡ count_of t.word g = rw n refl in
+        let m : newest_of grown.word g ≡ newest_of t.word g = rw n refl in
+        let off = hand_off (freed_of t) (owner_of t.word) (pages_of t.word) t.ever_used p hand_few s.chains g d in
+        pages_are grown.word g ∙ ap (λ k. follow (link_of grown.word) k (newest_of grown.word g)) c
+        ∙ ap (λ k. follow (link_of grown.word) (count_of t.word g) k) m
+        ∙ follow_kept (link_of t.word) p (newest_of t.word h) (count_of t.word g) (newest_of t.word g) (ap (times p) (sym (pages_are t.word g)) ∙ off)
+        ∙ sym (pages_are t.word g)
+
+    pub grown_pages : pages_of grown.word h ≡ p ∷ pages_of t.word h
+    grown_pages =
+        let n : nat_eq (h - 1) (h - 1) ≡ true = grind (arith, nat_tests) in
+        let c : count_of grown.word h ≡ count_of t.word h + 1 = rw n refl in
+        let m : newest_of grown.word h ≡ p = rw n refl in
+        let more : count_of t.word h + 1 ≡ suc (count_of t.word h) = omega arith in
+        let here : link_of grown.word p ≡ newest_of t.word h = (let r : nat_eq p p ≡ true = grind (arith, nat_tests) in rw r refl) in
+        let off = hand_off (freed_of t) (owner_of t.word) (pages_of t.word) t.ever_used p hand_few s.chains h live in
+        pages_are grown.word h ∙ ap (λ k. follow (link_of grown.word) k (newest_of grown.word h)) (c ∙ more)
+        ∙ ap (λ k. follow (link_of grown.word) (suc (count_of t.word h)) k) m ∙ follow_more (link_of grown.word) (count_of t.word h) p
+        ∙ ap (λ k. p ∷ follow (link_of grown.word) (count_of t.word h) k) here
+        ∙ ap (λ xs. p ∷ xs) (follow_kept (link_of t.word) p (newest_of t.word h) (count_of t.word h) (newest_of t.word h) (ap (times p)
+        (sym (pages_are t.word h)) ∙ off) ∙ sym (pages_are t.word h))
+
+    free_kept : freed_of grown ≡ freed_of t
+    free_kept =
+        follow_kept (link_of t.word) p (newest_of t.word h) t.freed t.first_freed
+        (hand_not_free (freed_of t) (owner_of t.word) (pages_of t.word) t.ever_used p hand_few s.chains)
+
+    pub grown_ordered : room % 8 ≡ 0 → room ≤ 4096 → IsOrdered grown no_page
+    grown_ordered a b = record {
+      few = s.few;
+      begun = s.begun;
+      chains = subst (λ xs. AreChains xs (put p h (owner_of t.word)) (pages_of grown.word) t.ever_used no_page) (sym free_kept)
+          (hand_grown (freed_of t) (owner_of t.word) (pages_of t.word) t.ever_used p hand_few s.chains h (pages_of grown.word) live grown_pages grown_others);
+      rounded = put_used (used_of t.word) room (λ n. n % 8 ≡ 0) a s.rounded;
+      within = put_used (used_of t.word) room (λ n. n ≤ 4096) b s.within;
+      heap = λ q e. heap_other q h (s.heap q e);
+    }

@@ -1,0 +1,332 @@
+-- A block is cut from a last page, or from the front of a page that is taken for it.
+use Rattle.std.proofs.Common.{◌≡◌, ℕ, zero, suc, ◌+◌, ◌-◌, ◌*◌, ◌%◌, ◌<◌, ◌≤◌, Bool, true, false, Option, Some, None, Ok, Err, nat_eq, refl, sym, ap, subst, ◌∙◌, arith}
+use Rattle.std.specs.Prelude.{if◌then◌else◌, ◌&&◌}
+use Rattle.std.proofs.lemmas.Bool.Decides.{nat_tests}
+use Rattle.arena_laws.specs.declared.refusal.StoreRefusal.TheVariants.{Full, BadHandle}
+use Rattle.arena_laws.specs.declared.standing.Standing.TheVariants.{Lexical}
+use Rattle.arena_laws.specs.declared.owner.Owner.TheVariants.{Region}
+use Rattle.arena_laws.specs.Counts.{put, room_of, block_needs_page, is_full, is_too_long, with_block}
+use Rattle.arena_laws.specs.Holdings.{Holdings, arena_base}
+use Rattle.arena_laws.specs.Lawful.{Grants, Refuses, owns, is_lawful_room, takes_blocks, with_region_block}
+use Rattle.arena_laws.specs.Laws.{Does, is_block_refused, region_alloc}
+use Rattle.region_runtime.specs.Headers.{put_word, owner_of, used_of, newest_of, count_of, heap_mark, is_live_number, pages_of, holder_of, holder_by}
+use Rattle.region_runtime.specs.Pool.{Shape, free_in, last_of, taken_by, left_of, owner_at, counts_of, holdings_of, tag_by, is_taken_by, word_by}
+use Rattle.region_runtime.specs.Sound.{AreChains, IsOrdered, freed_of}
+use Rattle.region_runtime.specs.Steps.{with_word, with_heap_page, with_newest}
+use Rattle.region_runtime.proofs.Words.{live_some, last_of_heap, last_of_region, last_of_other}
+use Rattle.region_runtime.proofs.Places.{page_in_hand, live_small, live_same, grown_live}
+use Rattle.region_runtime.proofs.Ordered.{pages_are, hand_within, hand_few, hand_small, grown_pages, grown_others}
+use Rattle.region_runtime.proofs.Holders.{holder_heap, holder_taken, hand_nobody, hand_unmarked, marked_others, grown_holder}
+use Rattle.region_runtime.proofs.Owners.{owner_empty, owner_cut, clear_cut, is_lawful}
+use Rattle.region_runtime.proofs.Held.{marked_put, marked_kept, taken_heap, taken_region, taken_other, last_held, last_within, last_differs, left_other, left_here}
+use Rattle.region_runtime.proofs.Tags.{word_other, tag_same, taken_same, taken_owner, words_same}
+
+-- a room that is granted is granted by the law
+pub granted : (s : Holdings) (h bytes at : ℕ) → takes_blocks h (s.standing h) ≡ true → is_too_long bytes ≡ false →
+    (block_needs_page h (room_of bytes) s.counts && is_full s.counts) ≡ false → is_lawful_room s at (room_of bytes) ≡ true →
+    (after : Holdings) → after ≡ with_region_block h at (room_of bytes) s → Does (Ok at) after (region_alloc h bytes (Grants at) s)
+granted s h bytes at t l f r after e = rw (t, l, f, r) (record { says = refl; holds = e })
+
+-- and one that is refused
+pub refused : (s : Holdings) (h bytes : ℕ) → is_block_refused h bytes s ≡ true → Does (Err Full) s (region_alloc h bytes Refuses s)
+refused s h bytes e = rw e (record { says = refl; holds = refl })
+
+pub bad_handle : (s : Holdings) (h bytes : ℕ) → takes_blocks h (s.standing h) ≡ false → Does (Err BadHandle) s (region_alloc h bytes Refuses s)
+bad_handle s h bytes e = rw e (record { says = refl; holds = refl })
+
+-- a room is a multiple of 8, from 8 to 4,096 bytes
+pub record IsRoom (room : ℕ) : Type 0 where
+  pub eights : room % 8 ≡ 0
+  pub most : room ≤ 4096
+  pub some : 8 ≤ room
+
+pub is_room : (bytes room : ℕ) → bytes ≤ 4096 → room ≡ room_of bytes → IsRoom room
+is_room bytes room l e = record { eights = grind (arith, nat_tests); most = grind (arith, nat_tests); some = grind (arith, nat_tests) }
+
+pub is_short : (bytes : ℕ) → bytes ≤ 4096 → is_too_long bytes ≡ false
+is_short bytes l = grind (arith, nat_tests)
+
+-- ---- in a last page
+
+module _ (t : Shape) (in_hand : ℕ → ℕ) (s : IsOrdered t in_hand) (h q u room : ℕ) (last : last_of t h ≡ q + 1) (used : used_of t.word q ≡ u)
+    (fits : u + room ≤ 4096) (eights : room % 8 ≡ 0) where
+  abbrev pub cut : Shape
+  cut = with_word q 2 (u + room) t
+
+  same_pages : pages_of cut.word ≡ pages_of t.word
+  same_pages = λ i g. (pages_are cut.word g ∙ sym (pages_are t.word g)) i
+
+  put_used : (test : ℕ → Type 0) → test (u + room) → ((p : ℕ) → test (used_of t.word p)) → (p : ℕ) → test (put q (u + room) (used_of t.word) p)
+  put_used test a f p = by_page (nat_eq p q)
+    where
+      by_page : (b : Bool) → test (if b then u + room else used_of t.word p)
+      by_page true = a
+      by_page false = f p
+
+  pub cut_ordered : IsOrdered cut in_hand
+  cut_ordered = record {
+    few = s.few;
+    begun = s.begun;
+    chains = subst (λ c. AreChains (freed_of t) (owner_of t.word) c t.ever_used in_hand) (sym same_pages) s.chains;
+    rounded = put_used (λ n. n % 8 ≡ 0) (let r = s.rounded q in omega (arith, r, used, eights)) s.rounded;
+    within = put_used (λ n. n ≤ 4096) fits s.within;
+    heap = s.heap;
+  }
+
+  mine : holder_of t.word q ≡ Some h
+  mine = last_held t in_hand s h q last
+
+  pub cut_within : q < t.pages
+  cut_within = let l = last_within t in_hand s h q last in let b = s.begun in omega (arith, l, b)
+
+  owners : (r : ℕ) → owner_at (holder_of cut.word) (used_of cut.word) r ≡ owns (arena_base + 4096 * q + u) room (Region h) (owner_at (holder_of t.word)
+      (used_of t.word)) r
+  owners r =
+      ap (λ c. owner_at (holder_by (owner_of t.word) c) (used_of cut.word) r) same_pages
+      ∙ owner_cut (holder_of t.word) (used_of t.word) q h u room mine used fits r
+
+  takens : (g : ℕ) → taken_by cut g ≡ taken_by t g
+  unfolding taken_by
+  takens g = refl
+
+  lasts : (g : ℕ) → last_of cut g ≡ last_of t g
+  unfolding last_of
+  lasts g = refl
+
+  pub left_now : left_of (used_of t.word) (last_of t h) ≡ 4096 - u
+  left_now = left_there (last_of t h) last
+    where
+      left_there : (r : ℕ) → r ≡ q + 1 → left_of (used_of t.word) r ≡ 4096 - u
+      left_there zero e = absurd (omega (arith, e))
+      left_there (suc k) e = let n : k ≡ q = omega (arith, e) in ap (λ m. 4096 - used_of t.word m) n ∙ ap (λ m. 4096 - m) used
+
+  left : (g : ℕ) → left_of (used_of cut.word) (last_of cut g) ≡ put h (left_of (used_of t.word) (last_of t h) - room) (λ k. left_of (used_of t.word)
+      (last_of t k)) g
+  left g = by_number (nat_eq g h) refl
+    where
+      by_number : (b : Bool) → nat_eq g h ≡ b → left_of (used_of cut.word) (last_of cut g) ≡ (if b then left_of (used_of t.word) (last_of t h) - room
+          else left_of (used_of t.word) (last_of t g))
+      by_number true e =
+          let same : g ≡ h = grind (arith, nat_tests) in
+          left_here (used_of t.word) q (u + room) (last_of cut g) (lasts g ∙ ap (last_of t) same ∙ last) ∙ (let l = left_now in omega (arith, l))
+      by_number false e =
+          ap (left_of (used_of cut.word)) (lasts g)
+          ∙ left_other (used_of t.word) q (u + room) (last_of t g) (last_differs t in_hand s g q (Some h) mine (λ k. some_differs k))
+        where
+          some_differs : Some h ≡ Some g → ⊥
+          some_differs k = let n : h ≡ g = cc in grind (arith, nat_tests)
+
+  pub no_page_needed : block_needs_page h room (counts_of t) ≡ false
+  no_page_needed = let l = left_now in grind (arith, nat_tests)
+
+  lefts : counts_of cut ≡ record (counts_of t) { left = put h (left_of (used_of t.word) (last_of t h) - room) (λ k. left_of (used_of t.word) (last_of t k)) }
+  lefts = λ i. record (counts_of t) { taken = λ g. takens g i; left = λ g. left g i }
+
+  counted : counts_of cut ≡ with_block h room (counts_of t)
+  counted = rw (no_page_needed) lefts
+
+  pub cut_holds : holdings_of cut ≡ with_region_block h (arena_base + 4096 * q + u) room (holdings_of t)
+  cut_holds = λ i. record (holdings_of t) { owner = λ r. owners r i; counts = counted i }
+
+  pub cut_lawful : is_lawful_room (holdings_of t) (arena_base + 4096 * q + u) room ≡ true
+  cut_lawful =
+      is_lawful (holdings_of t) (arena_base + 4096 * q + u) room (let r = s.rounded q in omega (arith, r, used)) (omega arith)
+      (let b = cut_within in omega (arith, b, fits))
+      (clear_cut (holder_of t.word) (used_of t.word) q h u room mine used fits)
+
+  pub cut_tags : tag_by cut.word ≡ tag_by t.word
+  cut_tags = λ i g. tag_same t.word cut.word g refl (λ d. refl) i
+
+  pub cut_taken : is_taken_by cut.word ≡ is_taken_by t.word
+  cut_taken = λ i r. taken_same t.word cut.word r refl i
+
+  -- a page of a block isn't taken
+  not_taken_there : is_taken_by t.word q ≡ false
+  not_taken_there = by_test (is_taken_by t.word q) refl
+    where
+      by_test : (b : Bool) → is_taken_by t.word q ≡ b → is_taken_by t.word q ≡ false
+      by_test false e = e
+      by_test true e = let n = holder_taken (owner_of t.word) (pages_of t.word) q (taken_owner t.word q e) in let m = mine in cc
+
+  pub cut_words : word_by cut.word ≡ word_by t.word
+  cut_words = λ i r f. words_same t.word cut.word r f (taken_same t.word cut.word r refl) (λ d. by_page r f (nat_eq r q) refl d) i
+    where
+      by_page : (r f : ℕ) (b : Bool) → nat_eq r q ≡ b → is_taken_by t.word r ≡ true → cut.word r f ≡ t.word r f
+      by_page r f false e d = word_other q 2 (u + room) t.word r f e
+      by_page r f true e d = let same : r ≡ q = grind (arith, nat_tests) in let n = ap (is_taken_by t.word) same ∙ not_taken_there in cc
+
+-- ---- in a page in hand
+
+-- what a page with a block makes of the holdings
+abbrev pub placed : ℕ → ℕ → ℕ → Holdings → Holdings
+placed h at room k = record k {
+  owner = owns at room (Region h) k.owner;
+  counts = record (k.counts) { taken = put h (k.counts.taken h + 1) k.counts.taken; left = put h (4096 - room) k.counts.left };
+}
+
+owner_new : (holder : ℕ → Option ℕ) (used : ℕ → ℕ) (p h room : ℕ) → holder p ≡ None → room ≤ 4096 → (q : ℕ) →
+    owner_at (put p (Some h) holder) (put p room used) q ≡ owns (arena_base + 4096 * p) room (Region h) (owner_at holder used) q
+owner_new holder used p h room n m q =
+    let r : nat_eq p p ≡ true = grind (arith, nat_tests) in
+    let c = owner_cut (put p (Some h) holder) (put p 0 used) p h 0 room (rw r refl) (rw r refl) (omega (arith, m)) q in
+    let a : arena_base + 4096 * p + 0 ≡ arena_base + 4096 * p = omega arith in
+    let z : put p (0 + room) (put p 0 used) ≡ put p room used = (λ i k. twice k i) in
+    sym (ap (λ f. owner_at (put p (Some h) holder) f q) z) ∙ c
+    ∙ ap (λ n. owns n room (Region h) (owner_at (put p (Some h) holder) (put p 0 used)) q) a
+    ∙ ap (λ f. owns (arena_base + 4096 * p) room (Region h) f q) (λ i k. owner_empty holder used p (Some h) n k i)
+  where
+    twice : (k : ℕ) → put p (0 + room) (put p 0 used) k ≡ put p room used k
+    twice k = let z : 0 + room ≡ room = omega arith in by_page (nat_eq k p) z
+      where
+        by_page : (b : Bool) → 0 + room ≡ room → (if b then 0 + room else (if b then 0 else used k)) ≡ (if b then room else used k)
+        by_page true z = z
+        by_page false z = refl
+
+module _ (u : Shape) (p : ℕ) (s : IsOrdered u (page_in_hand p)) (room : ℕ) (eights : room % 8 ≡ 0) (most : room ≤ 4096) where
+  pub few : u.ever_used ≤ 4096
+  few = hand_few u p s
+
+  pub nobody : holder_of u.word p ≡ None
+  nobody = hand_nobody (freed_of u) (owner_of u.word) (pages_of u.word) u.ever_used p few s.chains
+
+  pub unmarked : owner_of u.word p ≤ 4096
+  unmarked = hand_unmarked (freed_of u) (owner_of u.word) (pages_of u.word) u.ever_used p few s.chains
+
+  -- it is the last page of nobody
+  no_last : (g : ℕ) → nat_eq (last_of u g) (p + 1) ≡ false
+  no_last g = last_differs u (page_in_hand p) s g p None nobody (λ k. cc)
+
+  -- ---- of the heap
+  abbrev pub heaped : Shape
+  heaped = with_heap_page p room u
+
+  pub heap_live : (g : ℕ) → is_live_number (owner_of heaped.word) g ≡ is_live_number (owner_of u.word) g
+  heap_live = live_same (freed_of u) (owner_of u.word) (pages_of u.word) u.ever_used p few s.chains heap_mark (let l = hand_small u p s in grind
+      (arith, nat_tests))
+
+  heap_holder : (q : ℕ) → holder_of heaped.word q ≡ put p (Some 0) (holder_of u.word) q
+  heap_holder q = by_page (nat_eq q p) refl
+    where
+      by_page : (b : Bool) → nat_eq q p ≡ b → holder_of heaped.word q ≡ (if b then Some 0 else holder_of u.word q)
+      by_page true e = holder_heap (owner_of heaped.word) (pages_of heaped.word) q (rw e refl)
+      by_page false e =
+          marked_others (freed_of u) (owner_of u.word) (pages_of u.word) u.ever_used p few s.chains heap_mark (pages_of heaped.word) (omega arith) (hand_small
+          u p s) (λ g d. pages_are heaped.word g ∙ sym (pages_are u.word g)) q e
+
+  heap_taken : (g : ℕ) → taken_by heaped g ≡ put 0 (taken_by u 0 + 1) (taken_by u) g
+  heap_taken zero =
+      let m = marked_put heap_mark (owner_of u.word) p heap_mark u.pages in let w = hand_within u p s in let k = unmarked in
+      let a = taken_heap heaped in let b = taken_heap u in grind (arith, nat_tests)
+  heap_taken (suc g) = by_live (is_live_number (owner_of u.word) (suc g)) refl ∙ (let n : nat_eq (suc g) 0 ≡ false = grind (arith, nat_tests) in rw n refl)
+    where
+      by_live : (c : Bool) → is_live_number (owner_of u.word) (suc g) ≡ c → taken_by heaped (suc g) ≡ taken_by u (suc g)
+      by_live true d = taken_region heaped (suc g) (heap_live (suc g) ∙ d) ∙ sym (taken_region u (suc g) d)
+      by_live false d = taken_other heaped (suc g) (omega arith) (heap_live (suc g) ∙ d) ∙ sym (taken_other u (suc g) (omega arith) d)
+
+  heap_lasts : (g : ℕ) → 0 < g → last_of heaped g ≡ last_of u g
+  heap_lasts g l = by_live (is_live_number (owner_of u.word) g) refl
+    where
+      by_live : (c : Bool) → is_live_number (owner_of u.word) g ≡ c → last_of heaped g ≡ last_of u g
+      by_live true d = last_of_region heaped g (heap_live g ∙ d) ∙ sym (last_of_region u g d)
+      by_live false d = last_of_other heaped g l (heap_live g ∙ d) ∙ sym (last_of_other u g l d)
+
+  heap_left : (g : ℕ) → left_of (used_of heaped.word) (last_of heaped g) ≡ put 0 (4096 - room) (λ k. left_of (used_of u.word) (last_of u k)) g
+  heap_left zero = left_here (used_of u.word) p room (last_of heaped 0) (last_of_heap heaped 0 refl)
+  heap_left (suc g) =
+      ap (left_of (used_of heaped.word)) (heap_lasts (suc g) (omega arith)) ∙ left_other (used_of u.word) p room (last_of u (suc g)) (no_last (suc g))
+      ∙ (let n : nat_eq (suc g) 0 ≡ false = grind (arith, nat_tests) in rw n refl)
+
+  pub heaped_holds : holdings_of heaped ≡ placed 0 (arena_base + 4096 * p) room (holdings_of u)
+  heaped_holds = λ i. record {
+    pages = u.pages;
+    standing = λ g. if heap_live g i then Some Lexical else None;
+    owner = λ q. (ap (λ f. owner_at f (put p room (used_of u.word)) q) (λ j r. heap_holder r j) ∙ owner_new (holder_of u.word) (used_of u.word) p 0
+        room nobody most q) i;
+    counts = record { free = free_in u; taken = λ g. heap_taken g i; left = λ g. heap_left g i; class_pages = λ c. 0; slots = λ c. 0 };
+  }
+
+  pub heap_now : owner_of heaped.word p ≡ heap_mark
+  heap_now = let r : nat_eq p p ≡ true = grind (arith, nat_tests) in rw r refl
+
+  pub heap_others : (q f : ℕ) → nat_eq q p ≡ false → heaped.word q f ≡ u.word q f
+  heap_others q f n = word_other p 1 heap_mark (put_word p 2 room u.word) q f n ∙ word_other p 2 room u.word q f n
+
+  -- ---- of a live region
+  module _ (h : ℕ) (live : is_live_number (owner_of u.word) h ≡ true) where
+    abbrev pub newest : Shape
+    newest = with_newest h p room u
+
+    pub region_live : (g : ℕ) → is_live_number (owner_of newest.word) g ≡ is_live_number (owner_of u.word) g
+    region_live =
+        grown_live (freed_of u) (owner_of u.word) (pages_of u.word) u.ever_used p few s.chains h (pages_of newest.word) live (grown_pages u p s h room live)
+        (grown_others u p s h room live)
+
+    region_holder : (q : ℕ) → holder_of newest.word q ≡ put p (Some h) (holder_of u.word) q
+    region_holder =
+        grown_holder (freed_of u) (owner_of u.word) (pages_of u.word) u.ever_used p few s.chains h (pages_of newest.word) live
+        (grown_pages u p s h room live) (grown_others u p s h room live)
+
+    -- the region's own words, and those of others
+    region_count : (g : ℕ) → nat_eq g h ≡ true → count_of newest.word g ≡ count_of u.word h + 1
+    region_count g e = let n : nat_eq (g - 1) (h - 1) ≡ true = grind (arith, nat_tests) in rw n refl
+
+    region_newest : (g : ℕ) → nat_eq g h ≡ true → newest_of newest.word g ≡ p
+    region_newest g e = let n : nat_eq (g - 1) (h - 1) ≡ true = grind (arith, nat_tests) in rw n refl
+
+    pub other_first : (g : ℕ) → 0 < g → nat_eq g h ≡ false → nat_eq (g - 1) (h - 1) ≡ false
+    other_first g l e = let k = live_some (owner_of u.word) h live in grind (arith, nat_tests)
+
+    some_number : nat_eq 0 h ≡ false
+    some_number = let k = live_some (owner_of u.word) h live in grind (arith, nat_tests)
+
+    region_taken : (g : ℕ) → taken_by newest g ≡ put h (taken_by u h + 1) (taken_by u) g
+    region_taken g = by_number g (nat_eq g h) refl
+      where
+        by_number : (g : ℕ) (b : Bool) → nat_eq g h ≡ b → taken_by newest g ≡ (if b then taken_by u h + 1 else taken_by u g)
+        by_number g true e =
+            let same : g ≡ h = grind (arith, nat_tests) in
+            taken_region newest g (region_live g ∙ ap (is_live_number (owner_of u.word)) same ∙ live) ∙ region_count g e
+            ∙ ap (λ n. n + 1) (sym (taken_region u h live))
+        by_number zero false e =
+            taken_heap newest ∙ marked_kept heap_mark (owner_of u.word) p h u.pages (let k = unmarked in grind (arith, nat_tests))
+            (let k = live_small (freed_of u) (owner_of u.word) (pages_of u.word) u.ever_used (page_in_hand p) few s.chains h live in grind
+            (arith, nat_tests))
+            ∙ sym (taken_heap u)
+        by_number (suc g) false e = by_live (is_live_number (owner_of u.word) (suc g)) refl
+          where
+            by_live : (c : Bool) → is_live_number (owner_of u.word) (suc g) ≡ c → taken_by newest (suc g) ≡ taken_by u (suc g)
+            by_live true d =
+                let n = other_first (suc g) (omega arith) e in
+                taken_region newest (suc g) (region_live (suc g) ∙ d) ∙ (rw n refl) ∙ sym (taken_region u (suc g) d)
+            by_live false d = taken_other newest (suc g) (omega arith) (region_live (suc g) ∙ d) ∙ sym (taken_other u (suc g) (omega arith) d)
+
+    region_lasts : (g : ℕ) → nat_eq g h ≡ false → last_of newest g ≡ last_of u g
+    region_lasts zero e = last_of_heap newest 0 refl ∙ sym (last_of_heap u 0 refl)
+    region_lasts (suc g) e = by_live (is_live_number (owner_of u.word) (suc g)) refl
+      where
+        by_live : (c : Bool) → is_live_number (owner_of u.word) (suc g) ≡ c → last_of newest (suc g) ≡ last_of u (suc g)
+        by_live true d =
+            let n = other_first (suc g) (omega arith) e in
+            last_of_region newest (suc g) (region_live (suc g) ∙ d) ∙ (rw n refl) ∙ sym (last_of_region u (suc g) d)
+        by_live false d = last_of_other newest (suc g) (omega arith) (region_live (suc g) ∙ d) ∙ sym (last_of_other u (suc g) (omega arith) d)
+
+    region_left : (g : ℕ) → left_of (used_of newest.word) (last_of newest g) ≡ put h (4096 - room) (λ k. left_of (used_of u.word) (last_of u k)) g
+    region_left g = by_number (nat_eq g h) refl
+      where
+        by_number : (b : Bool) → nat_eq g h ≡ b → left_of (used_of newest.word) (last_of newest g) ≡ (if b then 4096 - room else left_of
+            (used_of u.word) (last_of u g))
+        by_number true e =
+            let same : g ≡ h = grind (arith, nat_tests) in
+            left_here (used_of u.word) p room (last_of newest g) (last_of_region newest g (region_live g ∙ ap (is_live_number (owner_of u.word)) same
+            ∙ live) ∙ ap (λ n. n + 1) (region_newest g e))
+        by_number false e =
+            ap (left_of (used_of newest.word)) (region_lasts g e) ∙ left_other (used_of u.word) p room (last_of u g) (no_last g)
+
+    pub newest_holds : holdings_of newest ≡ placed h (arena_base + 4096 * p) room (holdings_of u)
+    newest_holds = λ i. record {
+      pages = u.pages;
+      standing = λ g. if region_live g i then Some Lexical else None;
+      owner = λ q. (ap (λ f. owner_at f (put p room (used_of u.word)) q) (λ j r. region_holder r j) ∙ owner_new (holder_of u.word) (used_of u.word) p h
+          room nobody most q) i;
+      counts = record { free = free_in u; taken = λ g. region_taken g i; left = λ g. region_left g i; class_pages = λ c. 0; slots = λ c. 0 };
+    }

@@ -1,0 +1,12 @@
+use Rattle.std.proofs.Common.{arith}
+use Rattle.region_runtime.proofs.Words.{known_none, known_beyond, known_here}
+use Rattle.region_runtime.proofs.book.Book.knows.Goals as goal
+
+pub returns-then-number-eq0-clause-value : goal.returns-then-number-eq0-clause-value
+returns-then-number-eq0-clause-value c = known_none _ c.args.number c.if-number-eq0.true
+
+pub returns-then-number-pages-clause-value : goal.returns-then-number-pages-clause-value
+returns-then-number-pages-clause-value c = known_beyond _ c.args.number (omega arith)
+
+pub returns-clause-value : goal.returns-clause-value
+returns-clause-value c = known_here _ c.args.number _ c.if-number-eq0.false c.read.ensures.value

@@ -1,0 +1,461 @@
+use Rattle.std.proofs.Common.{◌∙◌, refl, ap, sym, subst, arith, ◌<◌, ◌≤◌, ◌+◌, ◌-◌, ◌*◌, ◌/◌, length, nat_eq}
+use Rattle.arena_laws.specs.Lawful.{takes_blocks}
+use Rattle.region_runtime.specs.Headers.{word_in, owner_of, used_of}
+use Rattle.region_runtime.specs.Pool.{standing_by, last_of, left_of}
+use Rattle.region_runtime.specs.Steps.{pool_of, seen, next_page, with_page, with_word, without_page}
+use Rattle.region_runtime.proofs.Words.{free_seen, live_page}
+use Rattle.region_runtime.proofs.Serves.{serves_live}
+use Rattle.region_runtime.proofs.Along.{apart, bytes_along, next_within, pages_few}
+use Rattle.region_runtime.proofs.Told.{last_in, last_fits, last_some, cut_says, grow_says, hand_other, count_small}
+use Rattle.region_runtime.proofs.pool.Pool.region_alloc.Goals as goal
+
+pub returns-then-not-serves-clause-bytes : goal.returns-then-not-serves-clause-bytes
+returns-then-not-serves-clause-bytes c =
+    bytes_along _ _ (pool_of c.serves.new.self) c.self.view_is (ap (λ r. r.bytes) (c.serves.ensures.raw ∙ c.begin.ensures.raw))
+
+pub returns-then-not-serves-clause-apart : goal.returns-then-not-serves-clause-apart
+returns-then-not-serves-clause-apart c = apart (pool_of c.serves.new.self)
+
+pub returns-then-bytes-gt-PAGE-clause-bytes : goal.returns-then-bytes-gt-PAGE-clause-bytes
+returns-then-bytes-gt-PAGE-clause-bytes c =
+    bytes_along _ _ (pool_of c.serves.new.self) c.self.view_is (ap (λ r. r.bytes) (c.serves.ensures.raw ∙ c.begin.ensures.raw))
+
+pub returns-then-bytes-gt-PAGE-clause-apart : goal.returns-then-bytes-gt-PAGE-clause-apart
+returns-then-bytes-gt-PAGE-clause-apart c = apart (pool_of c.serves.new.self)
+
+-- the number's page is there
+pub last-last-requires-clause-first : goal.last-last-requires-clause-first
+last-last-requires-clause-first c =
+    let h = c.args.handle.0 in
+    λ l. subst (λ r. h - 1 < length r.words / 16) (sym (c.serves.ensures.raw ∙ c.begin.ensures.raw))
+    (live_page c.self.inside.book.raw.words h (serves_live _ h (ap (λ t. takes_blocks c.args.handle.0 (standing_by (owner_of t.word) c.args.handle.0))
+    (sym c.begin.ensures.shape) ∙ sym c.serves.ensures.value
+    ∙ c.if-not-serves.false) l))
+
+pub last-last-requires-clause-page : goal.last-last-requires-clause-page
+last-last-requires-clause-page c =
+    subst (λ t. last_of t c.args.handle.0 ≤ t.pages) (sym (c.serves.ensures.shape ∙ c.begin.ensures.shape))
+    (last_in (pool_of c.self.inside.book) c.self.invariant c.args.handle.0)
+
+pub left-requires-clause-page : goal.left-requires-clause-page
+left-requires-clause-page c =
+    let e = c.last-last.ensures.value ∙ ap (λ t. last_of t c.args.handle.0) (c.serves.ensures.shape ∙ c.begin.ensures.shape) in
+    subst (λ r. c.last-last.result ≤ length r.words / 16) (sym (c.last-last.ensures.raw ∙ c.serves.ensures.raw ∙ c.begin.ensures.raw))
+    (subst (λ k. k ≤ length c.self.inside.book.raw.words / 16) (sym e) (last_in (pool_of c.self.inside.book) c.self.invariant c.args.handle.0))
+
+pub cut-requires-clause-page : goal.cut-requires-clause-page
+cut-requires-clause-page c =
+    let t = seen c.self.inside.book in
+    let h = c.args.handle.0 in
+    let raws = c.left.ensures.raw ∙ c.last-last.ensures.raw ∙ c.serves.ensures.raw ∙ c.begin.ensures.raw in
+    let shapes = c.left.ensures.shape ∙ c.last-last.ensures.shape ∙ c.serves.ensures.shape ∙ c.begin.ensures.shape in
+    let last_is = c.last-last.ensures.value ∙ ap (λ k. last_of k h) (c.serves.ensures.shape ∙ c.begin.ensures.shape) in
+    let left_is = c.left.ensures.value ∙ ap (λ k. left_of (used_of k.word) c.last-last.result) (c.last-last.ensures.shape ∙ c.serves.ensures.shape
+    ∙ c.begin.ensures.shape) in
+    let s = last_some (pool_of c.self.inside.book) c.args.self.now (pool_of c.self.inside.book) c.self.view_is c.self.invariant refl refl h c.args.bytes
+    (ap (λ t. takes_blocks c.args.handle.0 (standing_by (owner_of t.word) c.args.handle.0)) (sym c.begin.ensures.shape) ∙ sym c.serves.ensures.value
+    ∙ c.if-not-serves.false)
+    c.room_for-room.result c.if-bytes-gt-PAGE.false c.room_for-room.ensures c.last-last.result c.left.result last_is left_is c.if-room-left.true in
+    let l = last_in (pool_of c.self.inside.book) c.self.invariant h in
+    subst (λ r. c.last-last.result - 1 < length r.words / 16) (sym raws) (omega (arith, s, l, last_is))
+
+pub cut-requires-clause-within : goal.cut-requires-clause-within
+cut-requires-clause-within c =
+    let t = seen c.self.inside.book in
+    let h = c.args.handle.0 in
+    let raws = c.left.ensures.raw ∙ c.last-last.ensures.raw ∙ c.serves.ensures.raw ∙ c.begin.ensures.raw in
+    let shapes = c.left.ensures.shape ∙ c.last-last.ensures.shape ∙ c.serves.ensures.shape ∙ c.begin.ensures.shape in
+    let last_is = c.last-last.ensures.value ∙ ap (λ k. last_of k h) (c.serves.ensures.shape ∙ c.begin.ensures.shape) in
+    let left_is = c.left.ensures.value ∙ ap (λ k. left_of (used_of k.word) c.last-last.result) (c.last-last.ensures.shape ∙ c.serves.ensures.shape
+    ∙ c.begin.ensures.shape) in
+    let f = last_fits (pool_of c.self.inside.book) c.args.self.now (pool_of c.self.inside.book) c.self.view_is c.self.invariant refl refl h c.args.bytes
+    (ap (λ t. takes_blocks c.args.handle.0 (standing_by (owner_of t.word) c.args.handle.0)) (sym c.begin.ensures.shape) ∙ sym c.serves.ensures.value
+    ∙ c.if-not-serves.false)
+    c.room_for-room.result c.if-bytes-gt-PAGE.false c.room_for-room.ensures c.last-last.result c.left.result last_is left_is c.if-room-left.true in
+    subst (λ k. used_of k.word (c.last-last.result - 1) + c.room_for-room.result ≤ 4096) (sym shapes) f
+
+pub invariant_of-self-then-room-left : goal.invariant_of-self-then-room-left
+invariant_of-self-then-room-left c =
+    let t = seen c.self.inside.book in
+    let h = c.args.handle.0 in
+    let raws = c.left.ensures.raw ∙ c.last-last.ensures.raw ∙ c.serves.ensures.raw ∙ c.begin.ensures.raw in
+    let shapes = c.left.ensures.shape ∙ c.last-last.ensures.shape ∙ c.serves.ensures.shape ∙ c.begin.ensures.shape in
+    let last_is = c.last-last.ensures.value ∙ ap (λ k. last_of k h) (c.serves.ensures.shape ∙ c.begin.ensures.shape) in
+    let left_is = c.left.ensures.value ∙ ap (λ k. left_of (used_of k.word) c.last-last.result) (c.last-last.ensures.shape ∙ c.serves.ensures.shape
+    ∙ c.begin.ensures.shape) in
+    (cut_says (pool_of c.self.inside.book) c.args.self.now (pool_of c.cut.new.self) c.self.view_is c.self.invariant (c.cut.ensures.long
+    ∙ ap (λ r. length r.words) raws)
+    (c.cut.ensures.bytes ∙ ap (λ r. r.bytes) raws) h c.args.bytes
+    (ap (λ t. takes_blocks c.args.handle.0 (standing_by (owner_of t.word) c.args.handle.0)) (sym c.begin.ensures.shape) ∙ sym c.serves.ensures.value
+    ∙ c.if-not-serves.false)
+    c.room_for-room.result c.if-bytes-gt-PAGE.false c.room_for-room.ensures c.last-last.result c.left.result last_is left_is
+    c.if-room-left.true c.cut.result (c.cut.ensures.value
+    ∙ ap (λ k. 268435456 + 4096 * (c.last-last.result - 1) + used_of k.word (c.last-last.result - 1)) shapes)
+    (c.cut.ensures.shape ∙ ap (λ k. with_word (c.last-last.result - 1) 2 (used_of k.word (c.last-last.result - 1) + c.room_for-room.result) k) shapes)).sound
+
+pub returns-then-room-left-clause-does : goal.returns-then-room-left-clause-does
+returns-then-room-left-clause-does c =
+    let t = seen c.self.inside.book in
+    let h = c.args.handle.0 in
+    let raws = c.left.ensures.raw ∙ c.last-last.ensures.raw ∙ c.serves.ensures.raw ∙ c.begin.ensures.raw in
+    let shapes = c.left.ensures.shape ∙ c.last-last.ensures.shape ∙ c.serves.ensures.shape ∙ c.begin.ensures.shape in
+    let last_is = c.last-last.ensures.value ∙ ap (λ k. last_of k h) (c.serves.ensures.shape ∙ c.begin.ensures.shape) in
+    let left_is = c.left.ensures.value ∙ ap (λ k. left_of (used_of k.word) c.last-last.result) (c.last-last.ensures.shape ∙ c.serves.ensures.shape
+    ∙ c.begin.ensures.shape) in
+    (cut_says (pool_of c.self.inside.book) c.args.self.now (pool_of c.cut.new.self) c.self.view_is c.self.invariant (c.cut.ensures.long
+    ∙ ap (λ r. length r.words) raws)
+    (c.cut.ensures.bytes ∙ ap (λ r. r.bytes) raws) h c.args.bytes
+    (ap (λ t. takes_blocks c.args.handle.0 (standing_by (owner_of t.word) c.args.handle.0)) (sym c.begin.ensures.shape) ∙ sym c.serves.ensures.value
+    ∙ c.if-not-serves.false)
+    c.room_for-room.result c.if-bytes-gt-PAGE.false c.room_for-room.ensures c.last-last.result c.left.result last_is left_is
+    c.if-room-left.true c.cut.result (c.cut.ensures.value
+    ∙ ap (λ k. 268435456 + 4096 * (c.last-last.result - 1) + used_of k.word (c.last-last.result - 1)) shapes)
+    (c.cut.ensures.shape ∙ ap (λ k. with_word (c.last-last.result - 1) 2 (used_of k.word (c.last-last.result - 1) + c.room_for-room.result) k) shapes)).does
+
+pub returns-then-room-left-clause-full : goal.returns-then-room-left-clause-full
+returns-then-room-left-clause-full c =
+    let t = seen c.self.inside.book in
+    let h = c.args.handle.0 in
+    let raws = c.left.ensures.raw ∙ c.last-last.ensures.raw ∙ c.serves.ensures.raw ∙ c.begin.ensures.raw in
+    let shapes = c.left.ensures.shape ∙ c.last-last.ensures.shape ∙ c.serves.ensures.shape ∙ c.begin.ensures.shape in
+    let last_is = c.last-last.ensures.value ∙ ap (λ k. last_of k h) (c.serves.ensures.shape ∙ c.begin.ensures.shape) in
+    let left_is = c.left.ensures.value ∙ ap (λ k. left_of (used_of k.word) c.last-last.result) (c.last-last.ensures.shape ∙ c.serves.ensures.shape
+    ∙ c.begin.ensures.shape) in
+    (cut_says (pool_of c.self.inside.book) c.args.self.now (pool_of c.cut.new.self) c.self.view_is c.self.invariant (c.cut.ensures.long
+    ∙ ap (λ r. length r.words) raws)
+    (c.cut.ensures.bytes ∙ ap (λ r. r.bytes) raws) h c.args.bytes
+    (ap (λ t. takes_blocks c.args.handle.0 (standing_by (owner_of t.word) c.args.handle.0)) (sym c.begin.ensures.shape) ∙ sym c.serves.ensures.value
+    ∙ c.if-not-serves.false)
+    c.room_for-room.result c.if-bytes-gt-PAGE.false c.room_for-room.ensures c.last-last.result c.left.result last_is left_is
+    c.if-room-left.true c.cut.result (c.cut.ensures.value
+    ∙ ap (λ k. 268435456 + 4096 * (c.last-last.result - 1) + used_of k.word (c.last-last.result - 1)) shapes)
+    (c.cut.ensures.shape ∙ ap (λ k. with_word (c.last-last.result - 1) 2 (used_of k.word (c.last-last.result - 1) + c.room_for-room.result) k) shapes)).full
+
+pub returns-then-room-left-clause-tags : goal.returns-then-room-left-clause-tags
+returns-then-room-left-clause-tags c =
+    let t = seen c.self.inside.book in
+    let h = c.args.handle.0 in
+    let raws = c.left.ensures.raw ∙ c.last-last.ensures.raw ∙ c.serves.ensures.raw ∙ c.begin.ensures.raw in
+    let shapes = c.left.ensures.shape ∙ c.last-last.ensures.shape ∙ c.serves.ensures.shape ∙ c.begin.ensures.shape in
+    let last_is = c.last-last.ensures.value ∙ ap (λ k. last_of k h) (c.serves.ensures.shape ∙ c.begin.ensures.shape) in
+    let left_is = c.left.ensures.value ∙ ap (λ k. left_of (used_of k.word) c.last-last.result) (c.last-last.ensures.shape ∙ c.serves.ensures.shape
+    ∙ c.begin.ensures.shape) in
+    (cut_says (pool_of c.self.inside.book) c.args.self.now (pool_of c.cut.new.self) c.self.view_is c.self.invariant (c.cut.ensures.long
+    ∙ ap (λ r. length r.words) raws)
+    (c.cut.ensures.bytes ∙ ap (λ r. r.bytes) raws) h c.args.bytes
+    (ap (λ t. takes_blocks c.args.handle.0 (standing_by (owner_of t.word) c.args.handle.0)) (sym c.begin.ensures.shape) ∙ sym c.serves.ensures.value
+    ∙ c.if-not-serves.false)
+    c.room_for-room.result c.if-bytes-gt-PAGE.false c.room_for-room.ensures c.last-last.result c.left.result last_is left_is
+    c.if-room-left.true c.cut.result (c.cut.ensures.value
+    ∙ ap (λ k. 268435456 + 4096 * (c.last-last.result - 1) + used_of k.word (c.last-last.result - 1)) shapes)
+    (c.cut.ensures.shape ∙ ap (λ k. with_word (c.last-last.result - 1) 2 (used_of k.word (c.last-last.result - 1) + c.room_for-room.result) k) shapes)).tags
+
+pub returns-then-room-left-clause-taken : goal.returns-then-room-left-clause-taken
+returns-then-room-left-clause-taken c =
+    let t = seen c.self.inside.book in
+    let h = c.args.handle.0 in
+    let raws = c.left.ensures.raw ∙ c.last-last.ensures.raw ∙ c.serves.ensures.raw ∙ c.begin.ensures.raw in
+    let shapes = c.left.ensures.shape ∙ c.last-last.ensures.shape ∙ c.serves.ensures.shape ∙ c.begin.ensures.shape in
+    let last_is = c.last-last.ensures.value ∙ ap (λ k. last_of k h) (c.serves.ensures.shape ∙ c.begin.ensures.shape) in
+    let left_is = c.left.ensures.value ∙ ap (λ k. left_of (used_of k.word) c.last-last.result) (c.last-last.ensures.shape ∙ c.serves.ensures.shape
+    ∙ c.begin.ensures.shape) in
+    (cut_says (pool_of c.self.inside.book) c.args.self.now (pool_of c.cut.new.self) c.self.view_is c.self.invariant (c.cut.ensures.long
+    ∙ ap (λ r. length r.words) raws)
+    (c.cut.ensures.bytes ∙ ap (λ r. r.bytes) raws) h c.args.bytes
+    (ap (λ t. takes_blocks c.args.handle.0 (standing_by (owner_of t.word) c.args.handle.0)) (sym c.begin.ensures.shape) ∙ sym c.serves.ensures.value
+    ∙ c.if-not-serves.false)
+    c.room_for-room.result c.if-bytes-gt-PAGE.false c.room_for-room.ensures c.last-last.result c.left.result last_is left_is
+    c.if-room-left.true c.cut.result (c.cut.ensures.value
+    ∙ ap (λ k. 268435456 + 4096 * (c.last-last.result - 1) + used_of k.word (c.last-last.result - 1)) shapes)
+    (c.cut.ensures.shape ∙ ap (λ k. with_word (c.last-last.result - 1) 2 (used_of k.word (c.last-last.result - 1) + c.room_for-room.result) k) shapes)).taken
+
+pub returns-then-room-left-clause-words : goal.returns-then-room-left-clause-words
+returns-then-room-left-clause-words c =
+    let t = seen c.self.inside.book in
+    let h = c.args.handle.0 in
+    let raws = c.left.ensures.raw ∙ c.last-last.ensures.raw ∙ c.serves.ensures.raw ∙ c.begin.ensures.raw in
+    let shapes = c.left.ensures.shape ∙ c.last-last.ensures.shape ∙ c.serves.ensures.shape ∙ c.begin.ensures.shape in
+    let last_is = c.last-last.ensures.value ∙ ap (λ k. last_of k h) (c.serves.ensures.shape ∙ c.begin.ensures.shape) in
+    let left_is = c.left.ensures.value ∙ ap (λ k. left_of (used_of k.word) c.last-last.result) (c.last-last.ensures.shape ∙ c.serves.ensures.shape
+    ∙ c.begin.ensures.shape) in
+    (cut_says (pool_of c.self.inside.book) c.args.self.now (pool_of c.cut.new.self) c.self.view_is c.self.invariant (c.cut.ensures.long
+    ∙ ap (λ r. length r.words) raws)
+    (c.cut.ensures.bytes ∙ ap (λ r. r.bytes) raws) h c.args.bytes
+    (ap (λ t. takes_blocks c.args.handle.0 (standing_by (owner_of t.word) c.args.handle.0)) (sym c.begin.ensures.shape) ∙ sym c.serves.ensures.value
+    ∙ c.if-not-serves.false)
+    c.room_for-room.result c.if-bytes-gt-PAGE.false c.room_for-room.ensures c.last-last.result c.left.result last_is left_is
+    c.if-room-left.true c.cut.result (c.cut.ensures.value
+    ∙ ap (λ k. 268435456 + 4096 * (c.last-last.result - 1) + used_of k.word (c.last-last.result - 1)) shapes)
+    (c.cut.ensures.shape ∙ ap (λ k. with_word (c.last-last.result - 1) 2 (used_of k.word (c.last-last.result - 1) + c.room_for-room.result) k) shapes)).words
+
+pub returns-then-room-left-clause-bytes : goal.returns-then-room-left-clause-bytes
+returns-then-room-left-clause-bytes c =
+    let t = seen c.self.inside.book in
+    let h = c.args.handle.0 in
+    let raws = c.left.ensures.raw ∙ c.last-last.ensures.raw ∙ c.serves.ensures.raw ∙ c.begin.ensures.raw in
+    let shapes = c.left.ensures.shape ∙ c.last-last.ensures.shape ∙ c.serves.ensures.shape ∙ c.begin.ensures.shape in
+    let last_is = c.last-last.ensures.value ∙ ap (λ k. last_of k h) (c.serves.ensures.shape ∙ c.begin.ensures.shape) in
+    let left_is = c.left.ensures.value ∙ ap (λ k. left_of (used_of k.word) c.last-last.result) (c.last-last.ensures.shape ∙ c.serves.ensures.shape
+    ∙ c.begin.ensures.shape) in
+    (cut_says (pool_of c.self.inside.book) c.args.self.now (pool_of c.cut.new.self) c.self.view_is c.self.invariant (c.cut.ensures.long
+    ∙ ap (λ r. length r.words) raws)
+    (c.cut.ensures.bytes ∙ ap (λ r. r.bytes) raws) h c.args.bytes
+    (ap (λ t. takes_blocks c.args.handle.0 (standing_by (owner_of t.word) c.args.handle.0)) (sym c.begin.ensures.shape) ∙ sym c.serves.ensures.value
+    ∙ c.if-not-serves.false)
+    c.room_for-room.result c.if-bytes-gt-PAGE.false c.room_for-room.ensures c.last-last.result c.left.result last_is left_is
+    c.if-room-left.true c.cut.result (c.cut.ensures.value
+    ∙ ap (λ k. 268435456 + 4096 * (c.last-last.result - 1) + used_of k.word (c.last-last.result - 1)) shapes)
+    (c.cut.ensures.shape ∙ ap (λ k. with_word (c.last-last.result - 1) 2 (used_of k.word (c.last-last.result - 1) + c.room_for-room.result) k) shapes)).bytes
+
+pub returns-then-room-left-clause-apart : goal.returns-then-room-left-clause-apart
+returns-then-room-left-clause-apart c = apart (pool_of c.cut.new.self)
+
+pub returns-then-is_full-clause-bytes : goal.returns-then-is_full-clause-bytes
+returns-then-is_full-clause-bytes c =
+    bytes_along _ _ (pool_of c.left.new.self) c.self.view_is (ap (λ r. r.bytes) (c.left.ensures.raw ∙ c.last-last.ensures.raw ∙ c.serves.ensures.raw
+    ∙ c.begin.ensures.raw))
+
+pub returns-then-is_full-clause-apart : goal.returns-then-is_full-clause-apart
+returns-then-is_full-clause-apart c = apart (pool_of c.left.new.self)
+
+pub take-page-requires-clause-page : goal.take-page-requires-clause-page
+take-page-requires-clause-page c =
+    let t = seen c.self.inside.book in
+    let h = c.args.handle.0 in
+    let raws = c.left.ensures.raw ∙ c.last-last.ensures.raw ∙ c.serves.ensures.raw ∙ c.begin.ensures.raw in
+    let shapes = c.left.ensures.shape ∙ c.last-last.ensures.shape ∙ c.serves.ensures.shape ∙ c.begin.ensures.shape in
+    let last_is = c.last-last.ensures.value ∙ ap (λ k. last_of k h) (c.serves.ensures.shape ∙ c.begin.ensures.shape) in
+    let left_is = c.left.ensures.value ∙ ap (λ k. left_of (used_of k.word) c.last-last.result) (c.last-last.ensures.shape ∙ c.serves.ensures.shape
+    ∙ c.begin.ensures.shape) in
+    let n = next_within (pool_of c.self.inside.book) c.self.invariant (free_seen t _ _ shapes c.is_full.ensures c.if-is_full.false) in
+    subst (λ k. next_page k < k.pages) (sym shapes) n
+
+pub grow-requires-clause-page : goal.grow-requires-clause-page
+grow-requires-clause-page c =
+    let t = seen c.self.inside.book in
+    let h = c.args.handle.0 in
+    let raws = c.left.ensures.raw ∙ c.last-last.ensures.raw ∙ c.serves.ensures.raw ∙ c.begin.ensures.raw in
+    let shapes = c.left.ensures.shape ∙ c.last-last.ensures.shape ∙ c.serves.ensures.shape ∙ c.begin.ensures.shape in
+    let last_is = c.last-last.ensures.value ∙ ap (λ k. last_of k h) (c.serves.ensures.shape ∙ c.begin.ensures.shape) in
+    let left_is = c.left.ensures.value ∙ ap (λ k. left_of (used_of k.word) c.last-last.result) (c.last-last.ensures.shape ∙ c.serves.ensures.shape
+    ∙ c.begin.ensures.shape) in
+    let n = next_within (pool_of c.self.inside.book) c.self.invariant (free_seen t _ _ shapes c.is_full.ensures c.if-is_full.false) in
+    let e = c.take-page.ensures.page ∙ ap next_page shapes in
+    subst (λ r. c.take-page.result < length r.words / 16) (sym (c.take-page.ensures.raw ∙ raws))
+    (subst (λ k. k < length c.self.inside.book.raw.words / 16) (sym e) n)
+
+pub grow-requires-clause-first : goal.grow-requires-clause-first
+grow-requires-clause-first c =
+    let t = seen c.self.inside.book in
+    let h = c.args.handle.0 in
+    let raws = c.left.ensures.raw ∙ c.last-last.ensures.raw ∙ c.serves.ensures.raw ∙ c.begin.ensures.raw in
+    let shapes = c.left.ensures.shape ∙ c.last-last.ensures.shape ∙ c.serves.ensures.shape ∙ c.begin.ensures.shape in
+    let last_is = c.last-last.ensures.value ∙ ap (λ k. last_of k h) (c.serves.ensures.shape ∙ c.begin.ensures.shape) in
+    let left_is = c.left.ensures.value ∙ ap (λ k. left_of (used_of k.word) c.last-last.result) (c.last-last.ensures.shape ∙ c.serves.ensures.shape
+    ∙ c.begin.ensures.shape) in
+    λ l. subst (λ r. h - 1 < length r.words / 16) (sym (c.take-page.ensures.raw ∙ raws))
+    (live_page c.self.inside.book.raw.words h (serves_live _ h (ap (λ t. takes_blocks c.args.handle.0 (standing_by (owner_of t.word) c.args.handle.0))
+    (sym c.begin.ensures.shape) ∙ sym c.serves.ensures.value
+    ∙ c.if-not-serves.false) l))
+
+pub grow-requires-clause-other : goal.grow-requires-clause-other
+grow-requires-clause-other c =
+    let t = seen c.self.inside.book in
+    let h = c.args.handle.0 in
+    let raws = c.left.ensures.raw ∙ c.last-last.ensures.raw ∙ c.serves.ensures.raw ∙ c.begin.ensures.raw in
+    let shapes = c.left.ensures.shape ∙ c.last-last.ensures.shape ∙ c.serves.ensures.shape ∙ c.begin.ensures.shape in
+    let last_is = c.last-last.ensures.value ∙ ap (λ k. last_of k h) (c.serves.ensures.shape ∙ c.begin.ensures.shape) in
+    let left_is = c.left.ensures.value ∙ ap (λ k. left_of (used_of k.word) c.last-last.result) (c.last-last.ensures.shape ∙ c.serves.ensures.shape
+    ∙ c.begin.ensures.shape) in
+    let e = c.take-page.ensures.page ∙ ap next_page shapes in
+    λ l. ap (λ k. nat_eq k (h - 1)) e
+    ∙ hand_other t c.self.invariant.ordered (free_seen t _ _ shapes c.is_full.ensures c.if-is_full.false) h (serves_live _ h (ap
+    (λ t. takes_blocks c.args.handle.0 (standing_by (owner_of t.word) c.args.handle.0)) (sym c.begin.ensures.shape) ∙ sym c.serves.ensures.value
+    ∙ c.if-not-serves.false) l)
+
+pub grow-requires-clause-few : goal.grow-requires-clause-few
+grow-requires-clause-few c =
+    let t = seen c.self.inside.book in
+    let h = c.args.handle.0 in
+    let raws = c.left.ensures.raw ∙ c.last-last.ensures.raw ∙ c.serves.ensures.raw ∙ c.begin.ensures.raw in
+    let shapes = c.left.ensures.shape ∙ c.last-last.ensures.shape ∙ c.serves.ensures.shape ∙ c.begin.ensures.shape in
+    let last_is = c.last-last.ensures.value ∙ ap (λ k. last_of k h) (c.serves.ensures.shape ∙ c.begin.ensures.shape) in
+    let left_is = c.left.ensures.value ∙ ap (λ k. left_of (used_of k.word) c.last-last.result) (c.last-last.ensures.shape ∙ c.serves.ensures.shape
+    ∙ c.begin.ensures.shape) in
+    λ l. subst (λ r. word_in r.words (h - 1) 4 ≤ 4096) (sym (c.take-page.ensures.raw ∙ raws))
+    (count_small t c.self.invariant.ordered h (serves_live _ h (ap (λ t. takes_blocks c.args.handle.0 (standing_by (owner_of t.word) c.args.handle.0))
+    (sym c.begin.ensures.shape) ∙ sym c.serves.ensures.value
+    ∙ c.if-not-serves.false) l))
+
+pub overflow_mul-result : goal.overflow_mul-result
+overflow_mul-result c =
+    let t = seen c.self.inside.book in
+    let h = c.args.handle.0 in
+    let raws = c.left.ensures.raw ∙ c.last-last.ensures.raw ∙ c.serves.ensures.raw ∙ c.begin.ensures.raw in
+    let shapes = c.left.ensures.shape ∙ c.last-last.ensures.shape ∙ c.serves.ensures.shape ∙ c.begin.ensures.shape in
+    let last_is = c.last-last.ensures.value ∙ ap (λ k. last_of k h) (c.serves.ensures.shape ∙ c.begin.ensures.shape) in
+    let left_is = c.left.ensures.value ∙ ap (λ k. left_of (used_of k.word) c.last-last.result) (c.last-last.ensures.shape ∙ c.serves.ensures.shape
+    ∙ c.begin.ensures.shape) in
+    let n = next_within (pool_of c.self.inside.book) c.self.invariant (free_seen t _ _ shapes c.is_full.ensures c.if-is_full.false) in
+    let e = c.take-page.ensures.page ∙ ap next_page shapes in
+    let f = pages_few (pool_of c.self.inside.book) c.self.invariant in omega (arith, n, f, e)
+
+pub overflow_add-result : goal.overflow_add-result
+overflow_add-result c =
+    let t = seen c.self.inside.book in
+    let h = c.args.handle.0 in
+    let raws = c.left.ensures.raw ∙ c.last-last.ensures.raw ∙ c.serves.ensures.raw ∙ c.begin.ensures.raw in
+    let shapes = c.left.ensures.shape ∙ c.last-last.ensures.shape ∙ c.serves.ensures.shape ∙ c.begin.ensures.shape in
+    let last_is = c.last-last.ensures.value ∙ ap (λ k. last_of k h) (c.serves.ensures.shape ∙ c.begin.ensures.shape) in
+    let left_is = c.left.ensures.value ∙ ap (λ k. left_of (used_of k.word) c.last-last.result) (c.last-last.ensures.shape ∙ c.serves.ensures.shape
+    ∙ c.begin.ensures.shape) in
+    let n = next_within (pool_of c.self.inside.book) c.self.invariant (free_seen t _ _ shapes c.is_full.ensures c.if-is_full.false) in
+    let e = c.take-page.ensures.page ∙ ap next_page shapes in
+    let f = pages_few (pool_of c.self.inside.book) c.self.invariant in omega (arith, n, f, e)
+
+pub invariant_of-self-2 : goal.invariant_of-self-2
+invariant_of-self-2 c =
+    let t = seen c.self.inside.book in
+    let h = c.args.handle.0 in
+    let raws = c.left.ensures.raw ∙ c.last-last.ensures.raw ∙ c.serves.ensures.raw ∙ c.begin.ensures.raw in
+    let shapes = c.left.ensures.shape ∙ c.last-last.ensures.shape ∙ c.serves.ensures.shape ∙ c.begin.ensures.shape in
+    let last_is = c.last-last.ensures.value ∙ ap (λ k. last_of k h) (c.serves.ensures.shape ∙ c.begin.ensures.shape) in
+    let left_is = c.left.ensures.value ∙ ap (λ k. left_of (used_of k.word) c.last-last.result) (c.last-last.ensures.shape ∙ c.serves.ensures.shape
+    ∙ c.begin.ensures.shape) in
+    (grow_says (pool_of c.self.inside.book) c.args.self.now (pool_of c.grow.new.self) c.self.view_is c.self.invariant (c.grow.ensures.long
+    ∙ ap (λ r. length r.words) (c.take-page.ensures.raw ∙ raws))
+    (c.grow.ensures.bytes ∙ ap (λ r. r.bytes) (c.take-page.ensures.raw ∙ raws)) h c.args.bytes
+    (ap (λ t. takes_blocks c.args.handle.0 (standing_by (owner_of t.word) c.args.handle.0)) (sym c.begin.ensures.shape) ∙ sym c.serves.ensures.value
+    ∙ c.if-not-serves.false)
+    c.room_for-room.result c.if-bytes-gt-PAGE.false c.room_for-room.ensures c.last-last.result c.left.result last_is left_is
+    c.if-room-left.false c.take-page.result (free_seen t _ _ shapes c.is_full.ensures c.if-is_full.false) (c.take-page.ensures.page ∙ ap next_page shapes)
+    (c.grow.ensures.shape ∙ ap (with_page h c.take-page.result c.room_for-room.result) (c.take-page.ensures.shape ∙ ap without_page shapes))).sound
+
+pub returns-clause-does : goal.returns-clause-does
+returns-clause-does c =
+    let t = seen c.self.inside.book in
+    let h = c.args.handle.0 in
+    let raws = c.left.ensures.raw ∙ c.last-last.ensures.raw ∙ c.serves.ensures.raw ∙ c.begin.ensures.raw in
+    let shapes = c.left.ensures.shape ∙ c.last-last.ensures.shape ∙ c.serves.ensures.shape ∙ c.begin.ensures.shape in
+    let last_is = c.last-last.ensures.value ∙ ap (λ k. last_of k h) (c.serves.ensures.shape ∙ c.begin.ensures.shape) in
+    let left_is = c.left.ensures.value ∙ ap (λ k. left_of (used_of k.word) c.last-last.result) (c.last-last.ensures.shape ∙ c.serves.ensures.shape
+    ∙ c.begin.ensures.shape) in
+    (grow_says (pool_of c.self.inside.book) c.args.self.now (pool_of c.grow.new.self) c.self.view_is c.self.invariant (c.grow.ensures.long
+    ∙ ap (λ r. length r.words) (c.take-page.ensures.raw ∙ raws))
+    (c.grow.ensures.bytes ∙ ap (λ r. r.bytes) (c.take-page.ensures.raw ∙ raws)) h c.args.bytes
+    (ap (λ t. takes_blocks c.args.handle.0 (standing_by (owner_of t.word) c.args.handle.0)) (sym c.begin.ensures.shape) ∙ sym c.serves.ensures.value
+    ∙ c.if-not-serves.false)
+    c.room_for-room.result c.if-bytes-gt-PAGE.false c.room_for-room.ensures c.last-last.result c.left.result last_is left_is
+    c.if-room-left.false c.take-page.result (free_seen t _ _ shapes c.is_full.ensures c.if-is_full.false) (c.take-page.ensures.page ∙ ap next_page shapes)
+    (c.grow.ensures.shape ∙ ap (with_page h c.take-page.result c.room_for-room.result) (c.take-page.ensures.shape ∙ ap without_page shapes))).does
+
+pub returns-clause-full : goal.returns-clause-full
+returns-clause-full c =
+    let t = seen c.self.inside.book in
+    let h = c.args.handle.0 in
+    let raws = c.left.ensures.raw ∙ c.last-last.ensures.raw ∙ c.serves.ensures.raw ∙ c.begin.ensures.raw in
+    let shapes = c.left.ensures.shape ∙ c.last-last.ensures.shape ∙ c.serves.ensures.shape ∙ c.begin.ensures.shape in
+    let last_is = c.last-last.ensures.value ∙ ap (λ k. last_of k h) (c.serves.ensures.shape ∙ c.begin.ensures.shape) in
+    let left_is = c.left.ensures.value ∙ ap (λ k. left_of (used_of k.word) c.last-last.result) (c.last-last.ensures.shape ∙ c.serves.ensures.shape
+    ∙ c.begin.ensures.shape) in
+    (grow_says (pool_of c.self.inside.book) c.args.self.now (pool_of c.grow.new.self) c.self.view_is c.self.invariant (c.grow.ensures.long
+    ∙ ap (λ r. length r.words) (c.take-page.ensures.raw ∙ raws))
+    (c.grow.ensures.bytes ∙ ap (λ r. r.bytes) (c.take-page.ensures.raw ∙ raws)) h c.args.bytes
+    (ap (λ t. takes_blocks c.args.handle.0 (standing_by (owner_of t.word) c.args.handle.0)) (sym c.begin.ensures.shape) ∙ sym c.serves.ensures.value
+    ∙ c.if-not-serves.false)
+    c.room_for-room.result c.if-bytes-gt-PAGE.false c.room_for-room.ensures c.last-last.result c.left.result last_is left_is
+    c.if-room-left.false c.take-page.result (free_seen t _ _ shapes c.is_full.ensures c.if-is_full.false) (c.take-page.ensures.page ∙ ap next_page shapes)
+    (c.grow.ensures.shape ∙ ap (with_page h c.take-page.result c.room_for-room.result) (c.take-page.ensures.shape ∙ ap without_page shapes))).full
+
+pub returns-clause-tags : goal.returns-clause-tags
+returns-clause-tags c =
+    let t = seen c.self.inside.book in
+    let h = c.args.handle.0 in
+    let raws = c.left.ensures.raw ∙ c.last-last.ensures.raw ∙ c.serves.ensures.raw ∙ c.begin.ensures.raw in
+    let shapes = c.left.ensures.shape ∙ c.last-last.ensures.shape ∙ c.serves.ensures.shape ∙ c.begin.ensures.shape in
+    let last_is = c.last-last.ensures.value ∙ ap (λ k. last_of k h) (c.serves.ensures.shape ∙ c.begin.ensures.shape) in
+    let left_is = c.left.ensures.value ∙ ap (λ k. left_of (used_of k.word) c.last-last.result) (c.last-last.ensures.shape ∙ c.serves.ensures.shape
+    ∙ c.begin.ensures.shape) in
+    (grow_says (pool_of c.self.inside.book) c.args.self.now (pool_of c.grow.new.self) c.self.view_is c.self.invariant (c.grow.ensures.long
+    ∙ ap (λ r. length r.words) (c.take-page.ensures.raw ∙ raws))
+    (c.grow.ensures.bytes ∙ ap (λ r. r.bytes) (c.take-page.ensures.raw ∙ raws)) h c.args.bytes
+    (ap (λ t. takes_blocks c.args.handle.0 (standing_by (owner_of t.word) c.args.handle.0)) (sym c.begin.ensures.shape) ∙ sym c.serves.ensures.value
+    ∙ c.if-not-serves.false)
+    c.room_for-room.result c.if-bytes-gt-PAGE.false c.room_for-room.ensures c.last-last.result c.left.result last_is left_is
+    c.if-room-left.false c.take-page.result (free_seen t _ _ shapes c.is_full.ensures c.if-is_full.false) (c.take-page.ensures.page ∙ ap next_page shapes)
+    (c.grow.ensures.shape ∙ ap (with_page h c.take-page.result c.room_for-room.result) (c.take-page.ensures.shape ∙ ap without_page shapes))).tags
+
+pub returns-clause-taken : goal.returns-clause-taken
+returns-clause-taken c =
+    let t = seen c.self.inside.book in
+    let h = c.args.handle.0 in
+    let raws = c.left.ensures.raw ∙ c.last-last.ensures.raw ∙ c.serves.ensures.raw ∙ c.begin.ensures.raw in
+    let shapes = c.left.ensures.shape ∙ c.last-last.ensures.shape ∙ c.serves.ensures.shape ∙ c.begin.ensures.shape in
+    let last_is = c.last-last.ensures.value ∙ ap (λ k. last_of k h) (c.serves.ensures.shape ∙ c.begin.ensures.shape) in
+    let left_is = c.left.ensures.value ∙ ap (λ k. left_of (used_of k.word) c.last-last.result) (c.last-last.ensures.shape ∙ c.serves.ensures.shape
+    ∙ c.begin.ensures.shape) in
+    (grow_says (pool_of c.self.inside.book) c.args.self.now (pool_of c.grow.new.self) c.self.view_is c.self.invariant (c.grow.ensures.long
+    ∙ ap (λ r. length r.words) (c.take-page.ensures.raw ∙ raws))
+    (c.grow.ensures.bytes ∙ ap (λ r. r.bytes) (c.take-page.ensures.raw ∙ raws)) h c.args.bytes
+    (ap (λ t. takes_blocks c.args.handle.0 (standing_by (owner_of t.word) c.args.handle.0)) (sym c.begin.ensures.shape) ∙ sym c.serves.ensures.value
+    ∙ c.if-not-serves.false)
+    c.room_for-room.result c.if-bytes-gt-PAGE.false c.room_for-room.ensures c.last-last.result c.left.result last_is left_is
+    c.if-room-left.false c.take-page.result (free_seen t _ _ shapes c.is_full.ensures c.if-is_full.false) (c.take-page.ensures.page ∙ ap next_page shapes)
+    (c.grow.ensures.shape ∙ ap (with_page h c.take-page.result c.room_for-room.result) (c.take-page.ensures.shape ∙ ap without_page shapes))).taken
+
+pub returns-clause-words : goal.returns-clause-words
+returns-clause-words c =
+    let t = seen c.self.inside.book in
+    let h = c.args.handle.0 in
+    let raws = c.left.ensures.raw ∙ c.last-last.ensures.raw ∙ c.serves.ensures.raw ∙ c.begin.ensures.raw in
+    let shapes = c.left.ensures.shape ∙ c.last-last.ensures.shape ∙ c.serves.ensures.shape ∙ c.begin.ensures.shape in
+    let last_is = c.last-last.ensures.value ∙ ap (λ k. last_of k h) (c.serves.ensures.shape ∙ c.begin.ensures.shape) in
+    let left_is = c.left.ensures.value ∙ ap (λ k. left_of (used_of k.word) c.last-last.result) (c.last-last.ensures.shape ∙ c.serves.ensures.shape
+    ∙ c.begin.ensures.shape) in
+    (grow_says (pool_of c.self.inside.book) c.args.self.now (pool_of c.grow.new.self) c.self.view_is c.self.invariant (c.grow.ensures.long
+    ∙ ap (λ r. length r.words) (c.take-page.ensures.raw ∙ raws))
+    (c.grow.ensures.bytes ∙ ap (λ r. r.bytes) (c.take-page.ensures.raw ∙ raws)) h c.args.bytes
+    (ap (λ t. takes_blocks c.args.handle.0 (standing_by (owner_of t.word) c.args.handle.0)) (sym c.begin.ensures.shape) ∙ sym c.serves.ensures.value
+    ∙ c.if-not-serves.false)
+    c.room_for-room.result c.if-bytes-gt-PAGE.false c.room_for-room.ensures c.last-last.result c.left.result last_is left_is
+    c.if-room-left.false c.take-page.result (free_seen t _ _ shapes c.is_full.ensures c.if-is_full.false) (c.take-page.ensures.page ∙ ap next_page shapes)
+    (c.grow.ensures.shape ∙ ap (with_page h c.take-page.result c.room_for-room.result) (c.take-page.ensures.shape ∙ ap without_page shapes))).words
+
+pub returns-clause-bytes : goal.returns-clause-bytes
+returns-clause-bytes c =
+    let t = seen c.self.inside.book in
+    let h = c.args.handle.0 in
+    let raws = c.left.ensures.raw ∙ c.last-last.ensures.raw ∙ c.serves.ensures.raw ∙ c.begin.ensures.raw in
+    let shapes = c.left.ensures.shape ∙ c.last-last.ensures.shape ∙ c.serves.ensures.shape ∙ c.begin.ensures.shape in
+    let last_is = c.last-last.ensures.value ∙ ap (λ k. last_of k h) (c.serves.ensures.shape ∙ c.begin.ensures.shape) in
+    let left_is = c.left.ensures.value ∙ ap (λ k. left_of (used_of k.word) c.last-last.result) (c.last-last.ensures.shape ∙ c.serves.ensures.shape
+    ∙ c.begin.ensures.shape) in
+    (grow_says (pool_of c.self.inside.book) c.args.self.now (pool_of c.grow.new.self) c.self.view_is c.self.invariant (c.grow.ensures.long
+    ∙ ap (λ r. length r.words) (c.take-page.ensures.raw ∙ raws))
+    (c.grow.ensures.bytes ∙ ap (λ r. r.bytes) (c.take-page.ensures.raw ∙ raws)) h c.args.bytes
+    (ap (λ t. takes_blocks c.args.handle.0 (standing_by (owner_of t.word) c.args.handle.0)) (sym c.begin.ensures.shape) ∙ sym c.serves.ensures.value
+    ∙ c.if-not-serves.false)
+    c.room_for-room.result c.if-bytes-gt-PAGE.false c.room_for-room.ensures c.last-last.result c.left.result last_is left_is
+    c.if-room-left.false c.take-page.result (free_seen t _ _ shapes c.is_full.ensures c.if-is_full.false) (c.take-page.ensures.page ∙ ap next_page shapes)
+    (c.grow.ensures.shape ∙ ap (with_page h c.take-page.result c.room_for-room.result) (c.take-page.ensures.shape ∙ ap without_page shapes))).bytes
+
+pub returns-clause-fresh : goal.returns-clause-fresh
+returns-clause-fresh c =
+    let t = seen c.self.inside.book in
+    let h = c.args.handle.0 in
+    let raws = c.left.ensures.raw ∙ c.last-last.ensures.raw ∙ c.serves.ensures.raw ∙ c.begin.ensures.raw in
+    let shapes = c.left.ensures.shape ∙ c.last-last.ensures.shape ∙ c.serves.ensures.shape ∙ c.begin.ensures.shape in
+    let last_is = c.last-last.ensures.value ∙ ap (λ k. last_of k h) (c.serves.ensures.shape ∙ c.begin.ensures.shape) in
+    let left_is = c.left.ensures.value ∙ ap (λ k. left_of (used_of k.word) c.last-last.result) (c.last-last.ensures.shape ∙ c.serves.ensures.shape
+    ∙ c.begin.ensures.shape) in
+    (grow_says (pool_of c.self.inside.book) c.args.self.now (pool_of c.grow.new.self) c.self.view_is c.self.invariant (c.grow.ensures.long
+    ∙ ap (λ r. length r.words) (c.take-page.ensures.raw ∙ raws))
+    (c.grow.ensures.bytes ∙ ap (λ r. r.bytes) (c.take-page.ensures.raw ∙ raws)) h c.args.bytes
+    (ap (λ t. takes_blocks c.args.handle.0 (standing_by (owner_of t.word) c.args.handle.0)) (sym c.begin.ensures.shape) ∙ sym c.serves.ensures.value
+    ∙ c.if-not-serves.false)
+    c.room_for-room.result c.if-bytes-gt-PAGE.false c.room_for-room.ensures c.last-last.result c.left.result last_is left_is
+    c.if-room-left.false c.take-page.result (free_seen t _ _ shapes c.is_full.ensures c.if-is_full.false) (c.take-page.ensures.page ∙ ap next_page shapes)
+    (c.grow.ensures.shape ∙ ap (with_page h c.take-page.result c.room_for-room.result) (c.take-page.ensures.shape ∙ ap without_page shapes))).fresh
+
+pub returns-clause-apart : goal.returns-clause-apart
+returns-clause-apart c = apart (pool_of c.grow.new.self)

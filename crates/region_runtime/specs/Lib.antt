@@ -1,0 +1,6 @@
+pub mod Chains
+pub mod Headers
+pub mod Pool
+pub mod Sound
+pub mod Steps
+pub mod Calls

@@ -1,0 +1,359 @@
+// A pool's headers and fields, which are read and written word by word, and counted.
+
+ghost use Rattle.std.specs.Prelude.{◌≡◌, ◌+◌, ◌-◌, ◌*◌, ◌/◌, ◌<◌, ◌≤◌, ℕ, length, nat_eq, slice_set, true, false, ◌||◌};
+ghost use Rattle.raw_pages.specs.Raw.{count};
+ghost use Rattle.arena_laws.specs.Counts.{is_full};
+ghost use Rattle.arena_laws.specs.Holdings.{arena_base};
+ghost use Rattle.arena_laws.specs.Lawful.{takes_blocks};
+ghost use Rattle.region_runtime.specs.Headers.{word_in, owner_of, newest_of, count_of, is_live_number, used_of, tag_in};
+ghost use Rattle.region_runtime.specs.Pool.{counts_of, last_of, left_of, changed_words, is_taken_by, standing_by};
+ghost use Rattle.region_runtime.specs.Steps.{next_page, seen, with_first, with_freed, with_heap_page, with_newest, with_page, with_taken, with_word, without_page};
+
+use raw_pages::RawPages;
+
+/// The field of the next page on a chain.
+pub(crate) const LINK: u32 = 0;
+
+/// The field of whose a page is: a region's number, a mark, or 0. A freed page may keep a stale one.
+pub(crate) const OWNER: u32 = 1;
+
+/// The field of the bytes used of a page.
+pub(crate) const USED: u32 = 2;
+
+/// The field of a region's newest page, in its first page.
+pub(crate) const NEWEST: u32 = 3;
+
+/// The field of how many pages a region has, in its first page.
+pub(crate) const COUNT: u32 = 4;
+
+/// The field of a region's tag, in its first page.
+pub(crate) const TAG: u32 = 5;
+
+/// The owner of the heap's pages.
+pub(crate) const HEAP: u32 = 4097;
+
+/// The owner of pages got by `take_page`.
+pub(crate) const TAKEN: u32 = 4098;
+
+/// The bytes of a page.
+pub(crate) const PAGE: u32 = 4096;
+
+/// The arena's first address.
+pub(crate) const BASE: u32 = 0x1000_0000;
+
+/// The pages with their headers, and what is known of them beside: the first page of the chain of
+/// freed pages and how many it has, how many pages were ever used, the heap's last page and one, and
+/// how many header words were touched.
+#[derive(Drop)]
+pub(crate) struct Book {
+    pub(crate) raw: RawPages,
+    pub(crate) first_freed: u32,
+    pub(crate) freed: u32,
+    pub(crate) ever_used: u32,
+    pub(crate) heap_last: u32,
+    pub(crate) touched: u32,
+}
+
+impl Book {
+    // reads a header word, and counts it
+    fn read(&mut self, page: u32, field: u32) -> u32
+        requires page { page < count self.old.raw }
+        requires field { field < 16 }
+        requires few { self.old.touched < 64 }
+        ensures value { result ≡ word_in self.old.raw.words page field }
+        ensures raw { self.new.raw ≡ self.old.raw }
+        ensures shape { seen self.new ≡ seen self.old }
+        ensures touched { self.new.touched ≡ self.old.touched + 1 }
+    {
+        self.touched += 1;
+        self.raw.word(page, field)
+    }
+
+    // writes a header word, and counts it
+    fn write(&mut self, page: u32, field: u32, value: u32)
+        requires page { page < count self.old.raw }
+        requires field { field < 16 }
+        requires few { self.old.touched < 64 }
+        ensures words { self.new.raw.words ≡ slice_set self.old.raw.words (16 * page + field) value }
+        ensures shape { seen self.new ≡ with_word page field value (seen self.old) }
+        ensures bytes { self.new.raw.bytes ≡ self.old.raw.bytes }
+        ensures touched { self.new.touched ≡ self.old.touched + 1 }
+    {
+        self.touched += 1;
+        self.raw.set_word(page, field, value);
+    }
+
+    // no header word is touched yet
+    pub(crate) fn begin(&mut self)
+        ensures raw { self.new.raw ≡ self.old.raw }
+        ensures shape { seen self.new ≡ seen self.old }
+        ensures touched { self.new.touched ≡ 0 }
+    {
+        self.touched = 0;
+    }
+
+    // whether a number is a live region's
+    pub(crate) fn knows(&mut self, number: u32) -> bool
+        requires few { self.old.touched < 60 }
+        ensures value { result ≡ is_live_number (owner_of (seen self.old).word) number }
+        ensures raw { self.new.raw ≡ self.old.raw }
+        ensures shape { seen self.new ≡ seen self.old }
+        ensures touched { self.new.touched ≤ self.old.touched + 1 }
+    {
+        if number == 0 {
+            return false;
+        }
+        if number > self.raw.pages() {
+            return false;
+        }
+        self.read(number - 1, OWNER) == number
+    }
+
+    // whether blocks are taken under a number: the heap's, or a live region's
+    pub(crate) fn serves(&mut self, number: u32) -> bool
+        requires few { self.old.touched < 60 }
+        ensures value { result ≡ takes_blocks number (standing_by (owner_of (seen self.old).word) number) }
+        ensures raw { self.new.raw ≡ self.old.raw }
+        ensures shape { seen self.new ≡ seen self.old }
+        ensures touched { self.new.touched ≤ self.old.touched + 1 }
+    {
+        if number == 0 {
+            return true;
+        }
+        self.knows(number)
+    }
+
+    // whether no page is free
+    pub(crate) fn is_full(&self) -> bool
+        requires { self.now.ever_used ≤ count self.now.raw }
+        ensures { result ≡ is_full (counts_of (seen self.now)) }
+    {
+        self.freed == 0 && self.ever_used == self.raw.pages()
+    }
+
+    // takes the next free page out of the free ones
+    #[tactic(auto, unfolding(crate::specs::Steps::without_page))]
+    pub(crate) fn take(&mut self) -> u32
+        requires page { next_page (seen self.old) < count self.old.raw }
+        requires small { count self.old.raw ≤ 4096 }
+        requires few { self.old.touched < 60 }
+        ensures page { result ≡ next_page (seen self.old) }
+        ensures raw { self.new.raw ≡ self.old.raw }
+        ensures shape { seen self.new ≡ without_page (seen self.old) }
+        ensures touched { self.new.touched ≤ self.old.touched + 1 }
+    {
+        if self.freed > 0 {
+            let page = self.first_freed;
+            self.first_freed = self.read(page, LINK);
+            self.freed -= 1;
+            page
+        } else {
+            let page = self.ever_used;
+            self.ever_used += 1;
+            page
+        }
+    }
+
+    // makes a page the first of a region with its number
+    pub(crate) fn start(&mut self, page: u32)
+        requires page { page < count self.old.raw }
+        requires small { page < 4096 }
+        requires few { self.old.touched < 50 }
+        ensures shape { seen self.new ≡ with_first page (seen self.old) }
+        ensures long { length self.new.raw.words ≡ length self.old.raw.words }
+        ensures bytes { self.new.raw.bytes ≡ self.old.raw.bytes }
+    {
+        self.write(page, OWNER, page + 1);
+        self.write(page, USED, 0);
+        self.write(page, NEWEST, page);
+        self.write(page, COUNT, 1);
+        self.write(page, TAG, 0);
+    }
+
+    // the last page, and one, of the heap or a live region
+    pub(crate) fn last(&mut self, number: u32) -> u32
+        requires live { 0 < number → is_live_number (owner_of (seen self.old).word) number ≡ true }
+        requires first { 0 < number → number - 1 < count self.old.raw }
+        requires page { last_of (seen self.old) number ≤ count self.old.raw }
+        requires small { count self.old.raw ≤ 4096 }
+        requires few { self.old.touched < 60 }
+        ensures value { result ≡ last_of (seen self.old) number }
+        ensures raw { self.new.raw ≡ self.old.raw }
+        ensures shape { seen self.new ≡ seen self.old }
+        ensures touched { self.new.touched ≤ self.old.touched + 1 }
+    {
+        if number == 0 {
+            self.heap_last
+        } else {
+            self.read(number - 1, NEWEST) + 1
+        }
+    }
+
+    // what is left of a last page, which is named by its number and one
+    pub(crate) fn left(&mut self, last: u32) -> u32
+        requires page { last ≤ count self.old.raw }
+        requires within { used_of (seen self.old).word (last - 1) ≤ 4096 }
+        requires few { self.old.touched < 60 }
+        ensures value { result ≡ left_of (used_of (seen self.old).word) last }
+        ensures raw { self.new.raw ≡ self.old.raw }
+        ensures shape { seen self.new ≡ seen self.old }
+        ensures touched { self.new.touched ≤ self.old.touched + 1 }
+    {
+        if last == 0 {
+            0
+        } else {
+            PAGE - self.read(last - 1, USED)
+        }
+    }
+
+    // cuts a block of so many bytes from a last page: its address
+    pub(crate) fn cut(&mut self, page: u32, room: u32) -> u32
+        requires page { page < count self.old.raw }
+        requires small { count self.old.raw ≤ 4096 }
+        requires within { used_of (seen self.old).word page + room ≤ 4096 }
+        requires few { self.old.touched < 60 }
+        ensures value { result ≡ arena_base + 4096 * page + used_of (seen self.old).word page }
+        ensures shape { seen self.new ≡ with_word page 2 (used_of (seen self.old).word page + room) (seen self.old) }
+        ensures long { length self.new.raw.words ≡ length self.old.raw.words }
+        ensures bytes { self.new.raw.bytes ≡ self.old.raw.bytes }
+    {
+        let used = self.read(page, USED);
+        self.write(page, USED, used + room);
+        BASE + PAGE * page + used
+    }
+
+    // makes a page the last of the heap, with a block of so many bytes
+    fn grow_heap(&mut self, page: u32, room: u32)
+        requires page { page < count self.old.raw }
+        requires small { count self.old.raw ≤ 4096 }
+        requires few { self.old.touched < 50 }
+        ensures shape { seen self.new ≡ with_heap_page page room (seen self.old) }
+        ensures long { length self.new.raw.words ≡ length self.old.raw.words }
+        ensures bytes { self.new.raw.bytes ≡ self.old.raw.bytes }
+    {
+        self.write(page, USED, room);
+        self.write(page, OWNER, HEAP);
+        self.heap_last = page + 1;
+    }
+
+    // makes a page the newest of a live region, with a block of so many bytes
+    fn grow_region(&mut self, number: u32, page: u32, room: u32)
+        requires page { page < count self.old.raw }
+        requires some { 0 < number }
+        requires first { number - 1 < count self.old.raw }
+        requires other { nat_eq page (number - 1) ≡ false }
+        requires small { count_of (seen self.old).word number ≤ 4096 }
+        requires few { self.old.touched < 50 }
+        ensures shape { seen self.new ≡ with_newest number page room (seen self.old) }
+        ensures long { length self.new.raw.words ≡ length self.old.raw.words }
+        ensures bytes { self.new.raw.bytes ≡ self.old.raw.bytes }
+    {
+        let newest = self.read(number - 1, NEWEST);
+        let pages = self.read(number - 1, COUNT);
+        self.write(page, USED, room);
+        self.write(page, OWNER, number);
+        self.write(page, LINK, newest);
+        self.write(number - 1, NEWEST, page);
+        self.write(number - 1, COUNT, pages + 1);
+    }
+
+    // makes a page the last of the heap or a live region, with a block of so many bytes
+    pub(crate) fn grow(&mut self, number: u32, page: u32, room: u32)
+        requires page { page < count self.old.raw }
+        requires first { 0 < number → number - 1 < count self.old.raw }
+        requires other { 0 < number → nat_eq page (number - 1) ≡ false }
+        requires small { count self.old.raw ≤ 4096 }
+        requires few { 0 < number → count_of (seen self.old).word number ≤ 4096 }
+        requires touches { self.old.touched < 50 }
+        ensures shape { seen self.new ≡ with_page number page room (seen self.old) }
+        ensures long { length self.new.raw.words ≡ length self.old.raw.words }
+        ensures bytes { self.new.raw.bytes ≡ self.old.raw.bytes }
+    {
+        if number == 0 {
+            self.grow_heap(page, room);
+        } else {
+            self.grow_region(number, page, room);
+        }
+    }
+
+    // puts a live region's chain before that of the freed pages, and its number is live no more
+    pub(crate) fn splice(&mut self, number: u32)
+        requires some { 0 < number }
+        requires first { number - 1 < count self.old.raw }
+        requires small { count_of (seen self.old).word number + self.old.freed ≤ 4096 }
+        requires few { self.old.touched < 50 }
+        ensures shape { seen self.new ≡ with_freed number (seen self.old) }
+        ensures long { length self.new.raw.words ≡ length self.old.raw.words }
+        ensures bytes { self.new.raw.bytes ≡ self.old.raw.bytes }
+        ensures changed { changed_words self.old.raw.words self.new.raw.words ≤ 2 }
+        ensures touched { self.new.touched ≤ self.old.touched + 4 }
+    {
+        let newest = self.read(number - 1, NEWEST);
+        let pages = self.read(number - 1, COUNT);
+        self.write(number - 1, LINK, self.first_freed);
+        self.write(number - 1, OWNER, 0);
+        self.first_freed = newest;
+        self.freed = pages + self.freed;
+    }
+
+    // makes a page its taker's
+    pub(crate) fn mark_taken(&mut self, page: u32)
+        requires page { page < count self.old.raw }
+        requires few { self.old.touched < 60 }
+        ensures shape { seen self.new ≡ with_taken page (seen self.old) }
+        ensures long { length self.new.raw.words ≡ length self.old.raw.words }
+        ensures bytes { self.new.raw.bytes ≡ self.old.raw.bytes }
+    {
+        self.write(page, OWNER, TAKEN);
+    }
+
+    // a live region's tag
+    pub(crate) fn tag(&mut self, number: u32) -> u32
+        requires some { 0 < number }
+        requires first { number - 1 < count self.old.raw }
+        requires few { self.old.touched < 60 }
+        ensures value { result ≡ tag_in (seen self.old).word number }
+        ensures raw { self.new.raw ≡ self.old.raw }
+        ensures shape { seen self.new ≡ seen self.old }
+    {
+        self.read(number - 1, TAG)
+    }
+
+    // sets a live region's tag
+    pub(crate) fn set_tag(&mut self, number: u32, value: u32)
+        requires some { 0 < number }
+        requires first { number - 1 < count self.old.raw }
+        requires few { self.old.touched < 60 }
+        ensures shape { seen self.new ≡ with_word (number - 1) 5 value (seen self.old) }
+        ensures long { length self.new.raw.words ≡ length self.old.raw.words }
+        ensures bytes { self.new.raw.bytes ≡ self.old.raw.bytes }
+    {
+        self.write(number - 1, TAG, value);
+    }
+
+    // whether a page was got by `take_page`
+    pub(crate) fn is_taken(&mut self, page: u32) -> bool
+        requires few { self.old.touched < 60 }
+        ensures value { result ≡ is_taken_by (seen self.old).word page }
+        ensures raw { self.new.raw ≡ self.old.raw }
+        ensures shape { seen self.new ≡ seen self.old }
+        ensures touched { self.new.touched ≤ self.old.touched + 1 }
+    {
+        if page >= self.raw.pages() {
+            return false;
+        }
+        self.read(page, OWNER) == TAKEN
+    }
+
+    // sets a word of a taken page
+    pub(crate) fn set_own_word(&mut self, page: u32, field: u32, value: u32)
+        requires page { page < count self.old.raw }
+        requires field { field < 16 }
+        requires few { self.old.touched < 60 }
+        ensures shape { seen self.new ≡ with_word page field value (seen self.old) }
+        ensures long { length self.new.raw.words ≡ length self.old.raw.words }
+        ensures bytes { self.new.raw.bytes ≡ self.old.raw.bytes }
+    {
+        self.write(page, field, value);
+    }
+}

@@ -1,8 +1,8 @@
 // Trees made by hand: their nesting counted by hand, and the places of their parts.
 
 use cyc_tree::{
-    Base, BlockItem, Declaration, Expression, Function, Initial, Initializer, Item, Link, Name,
-    Operator, Prefix, Program, Statement, TypeName, nesting,
+    Base, BlockItem, Bounds, Declaration, Expression, Function, Initial, Initializer, Item, Link,
+    Name, Operator, Prefix, Program, Statement, TypeName, nesting,
 };
 use std::alloc::{AllocError, Global};
 use std::test::Fail;
@@ -43,7 +43,7 @@ fn main_of(alloc: Global, statement: Statement) -> Result<Item, AllocError> {
         name: name(alloc, "main")?,
         parameters: Vec::new(alloc),
         effect: None,
-        bounds: Vec::new(alloc),
+        bounds: Bounds::new(alloc),
         body: vec![in alloc; BlockItem::Execute(statement)]?,
         end: 0,
     }))

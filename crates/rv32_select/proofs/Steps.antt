@@ -7,6 +7,7 @@ use Rattle.rv32_isa.specs.declared.instruction.Instr.{Instr}
 use Rattle.rv32_isa.specs.declared.instruction.Instr.TheVariants.{Lw, Sw}
 use Rattle.arena_laws.specs.Holdings.{Holdings}
 use Rattle.arena_laws.specs.Lawful.{Answer}
+use Rattle.rv32_machine.proofs.Bytes.{within_true, within_both}
 use Rattle.rv32_machine.specs.State.{State, Areas, Runs, code_base, data_base, stack_base, stack_end, is_within, is_readable, is_writable, register_of, set_register, set_word, word_at}
 use Rattle.rv32_machine.specs.Step.{Nothing, Silent, step, effect, gives, jumps, onward, following, address, loads, stores}
 use Rattle.rv32_machine.specs.Run.{Run}
@@ -24,16 +25,10 @@ state_at held place registers bytes = record { pc = code_base + place; registers
 abbrev pub IsKeptBelow : (ℕ → ℕ) → (ℕ → ℕ) → Type 0
 IsKeptBelow kept bytes = (q : ℕ) → q < stack_base → bytes q ≡ kept q
 
-within_ends : (base len at width : ℕ) → is_within base len at width ≡ true → at + width ≤ base + len
-within_ends base len at width h = grind (arith, nat_tests)
-
-within_from : (base len at width : ℕ) → base ≤ at → at + width ≤ base + len → is_within base len at width ≡ true
-within_from base len at width above below = grind (arith, nat_tests)
-
 -- the code of an activation: its areas, what the store holds, and the bytes that it was made with
 module _ (n : Areas) (held : Holdings) (kept : ℕ → ℕ) (few : n.code ≤ 2 ^ 20) where
   pub is_in_code : (place : ℕ) (instr : Instr) → HasInstr n kept (code_base + place) instr → place + 4 ≤ 2 ^ 20
-  is_in_code place instr has = omega (arith, within_ends code_base n.code (code_base + place) 4 has.within)
+  is_in_code place instr has = omega (arith, (within_both code_base n.code (code_base + place) 4 has.within).1)
 
   module _ (place : ℕ) (registers bytes : ℕ → ℕ) (below : IsKeptBelow kept bytes) (instr : Instr) (has : HasInstr n kept (code_base + place) instr) where
     is_next : decoded (word_at bytes (code_base + place)) ≡ Some instr
@@ -96,7 +91,7 @@ module _ (n : Areas) (held : Holdings) (kept : ℕ → ℕ) (few : n.code ≤ 2 
     here = state_at held place registers bytes
 
     in_stack : is_within stack_base n.stack at 4 ≡ true
-    in_stack = within_from stack_base n.stack at 4 above room
+    in_stack = within_true stack_base n.stack at 4 above room
 
     writable : is_writable n at 4 ≡ true
     writable = or_right (is_within data_base n.statics at 4) _ (or_left _ _ in_stack)

@@ -1,6 +1,8 @@
--- What is asked of a store, and what any lawful store makes of it.
+-- What is asked of a store, what any lawful store makes of it, and which calls its counts refuse.
 use Rattle.std.specs.Prelude.{ℕ, Bool, true, false}
+use Rattle.arena_laws.specs.Counts.{is_full, is_full_for_slot}
 use Rattle.arena_laws.specs.Holdings.{Holdings}
+use Rattle.arena_laws.specs.Laws.{is_block_refused}
 use Rattle.arena_laws.specs.Lawful.{Answer, Done, region_new, region_alloc, region_free, unique_alloc, unique_free, key_new, key_open, key_close, key_free}
 
 -- a call with its arguments, in order or not
@@ -50,3 +52,15 @@ gives_number KeyNew = true
 gives_number (KeyOpen k) = true
 gives_number (KeyClose k) = false
 gives_number (KeyFree k) = false
+
+-- the counts refuse the call: its block is longer than a page, or a page is needed and none is free
+abbrev pub is_short : Asked → Holdings → Bool
+is_short RegionNew s = is_full s.counts
+is_short (RegionAlloc h bytes) s = is_block_refused h bytes s
+is_short (RegionFree h) s = false
+is_short (UniqueAlloc bytes) s = is_full_for_slot bytes s.counts
+is_short (UniqueFree at) s = false
+is_short KeyNew s = is_full s.counts
+is_short (KeyOpen k) s = false
+is_short (KeyClose k) s = false
+is_short (KeyFree k) s = false

@@ -1,5 +1,6 @@
 pub mod Transfers
 pub mod Written
 pub mod Answers
+pub mod OneStep
 pub mod Progress
 pub mod Unstepped

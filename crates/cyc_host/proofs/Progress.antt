@@ -1,5 +1,5 @@
 -- How far a run has come: what it took, what it wrote and what it has gathered.
-use Rattle.std.proofs.Common.{◌≡◌, ℕ, suc, ◌+◌, ◌<◌, ◌≤◌, ◌⊎◌, Bool, true, false, List, [], ◌∷◌, ◌++◌, Option, Some, None, IfSome, Result, Ok, Err, refl, sym, ap, ◌∙◌, subst, inl, inr, append_assoc, append-nil, arith}
+use Rattle.std.proofs.Common.{◌≡◌, ℕ, ◌+◌, ◌<◌, ◌≤◌, ◌⊎◌, Bool, true, false, List, [], ◌∷◌, ◌++◌, Option, Some, None, IfSome, Result, Ok, Err, refl, sym, ap, ◌∙◌, subst, inl, inr, append_assoc, append-nil, arith}
 use Rattle.std.specs.List.{Contains}
 use Rattle.std.specs.Io.KnownBytes.{Appends, Consumes, Keeps, IsAtEnd}
 use Rattle.std.proofs.KnownBytes.{Appends-nil, Appends-trans, Consumes-nil, Consumes-trans, Consumes-kept}
@@ -8,44 +8,20 @@ use Rattle.arena_laws.specs.Lawful.{Answer}
 use Rattle.arena_laws.specs.Asked.{Asked, RegionNew, RegionAlloc, RegionFree, UniqueAlloc, UniqueFree, KeyNew, KeyOpen, KeyClose, KeyFree, is_granted}
 use Rattle.cyc_words.specs.Events.{Event, Request, ByteRead, ByteWritten, output}
 use Rattle.cyc_words.proofs.Events.{output_append, told_before}
-use Rattle.rv32_machine.specs.State.{State, Areas, Stop, Over, Runs}
-use Rattle.rv32_machine.specs.Step.{Shown, Nothing, Writes, Asks, Stops, Told, Silent, Says, step, given}
+use Rattle.rv32_machine.specs.State.{State, Areas, Stop}
+use Rattle.rv32_machine.specs.Step.{Stepped, Shown, Nothing, Writes, Asks, Stops, Told, Silent, Says, step, given}
 use Rattle.rv32_machine.specs.Ledger.{Ledger, unborn, event_of, entered}
 use Rattle.rv32_machine.specs.Run.{AreBytes, Run, answer_from, answers_after, after_call, after_step, refused_by, run_steps, from}
 use Rattle.cyc_host.specs.Transfers.{WritesBut, Answers}
-use Rattle.cyc_host.specs.Hosted.{IsHosted, EndsAs, Written}
+use Rattle.rv32_machine.specs.Shortage.{IsShortage, asked_at}
+use Rattle.cyc_host.specs.Hosted.{IsHosted, IsExact, EndsAs, Written}
 use Rattle.cyc_host.specs.declared.ending.Ending.{Ending}
 use Rattle.cyc_host.specs.declared.ending.Ending.TheVariants as ending
 use Rattle.cyc_host.proofs.Written.{written_then}
-use Rattle.rv32_machine.proofs.Modes.{stopped, runs_on, runs_after_write, waits_for, runs_again, was_free, step_alike, write_is_quiet, ask_is_quiet}
+use Rattle.rv32_machine.proofs.Modes.{was_free, step_alike, write_is_quiet, ask_is_quiet}
+use Rattle.cyc_host.proofs.OneStep.{IsStep, one_more_exact}
 use Rattle.cyc_host.proofs.Answers.{first, stream, stream_more}
 use Rattle.rv32_machine.proofs.Stepping.{one_more_step, after_nothing, after_write, after_ask, after_stop}
-
--- the machine's step from one state to another with an answer of the store, and what it shows
-pub record IsStep (n : Areas) (answer : Answer) (old new : State) (shown : Shown) : Type 0 where
-  pub state : new ≡ (step n answer old).state
-  pub shows : shown ≡ (step n answer old).shown
-
-pub step_at : (m n : Areas) (answer : Answer) (old new : State) (shown : Shown) → m ≡ n → new ≡ (step m answer old).state →
-    shown ≡ (step m answer old).shown → IsStep n answer old new shown
-step_at m n answer old new shown same state shows =
-    subst (λ (k : Areas). IsStep k answer old new shown) same (record { state = state; shows = shows })
-
-module _ {n : Areas} {answer : Answer} {old : State} where
-  -- a step that stops leaves the machine over
-  pub over_at : {new : State} {why : Stop} → IsStep n answer old new (Stops why) → new.mode ≡ Over why
-  over_at {new} {why} x = ap (λ (s : State). s.mode) x.state ∙ stopped n answer old why x.shows
-
-  -- a step that doesn't stop leaves it running, with the answer where it asks
-  pub runs_at : {new : State} → IsStep n answer old new Nothing → new.mode ≡ Runs
-  runs_at {new} x = ap (λ (s : State). s.mode) x.state ∙ runs_on n answer old x.shows
-
-  pub runs_at_write : {new : State} {byte : ℕ} → IsStep n answer old new (Writes byte) → new.mode ≡ Runs
-  runs_at_write {new} {byte} x = ap (λ (s : State). s.mode) x.state ∙ runs_after_write n answer old byte x.shows
-
-  pub runs_at_answer : {waiting new : State} (given_byte : Option ℕ) → IsStep n answer old waiting Asks → new ≡ given given_byte waiting → new.mode ≡ Runs
-  runs_at_answer {waiting} {new} given_byte x e =
-      ap (λ (s : State). s.mode) e ∙ runs_again given_byte waiting (ap (λ (s : State). s.mode) x.state ∙ waits_for n answer old x.shows)
 
 -- bytes, and one more
 bytes_push : (bytes : List ℕ) (byte : ℕ) → AreBytes bytes → byte < 256 → AreBytes (bytes ++ byte ∷ [])
@@ -70,6 +46,8 @@ pub record Progress (n : Areas) (old : State) (count : ℕ) (is_over : Bool) (no
   pub ran : (more : List ℕ) (others : ℕ → Answer) → (is_over ≡ true → more ≡ [])
       → run_steps n count (from old (input ++ more) (stream answers others))
       ≡ record { state = now; input = more; answers = others; events = events; ledger = ledger; refused = refused }
+  pub exact : (more : List ℕ) (others : ℕ → Answer) → (is_over ≡ true → more ≡ []) → (k : ℕ) → k < count
+      → IsExact n (run_steps n k (from old (input ++ more) (stream answers others)))
 
 module _ {n : Areas} {old : State} {reader_old writer_old : Option (List ℕ)} where
   -- nothing has been done
@@ -88,6 +66,7 @@ module _ {n : Areas} {old : State} {reader_old writer_old : Option (List ℕ)} w
     told = λ (k, below, is). absurd (omega arith);
     at_end = λ over. absurd (cc);
     ran = λ more others end. refl;
+    exact = λ more others end k below. absurd (omega arith);
   }
 
   module _ {count : ℕ} {is_over : Bool} {now : State} {reader writer : Option (List ℕ)} {gathered : List ℕ}
@@ -114,11 +93,29 @@ module _ {n : Areas} {old : State} {reader_old writer_old : Option (List ℕ)} w
         one_more_step n count _ _ (ap (λ f. run_steps n count (from old (p.input ++ more) f)) (stream_more p.answers answer others) ∙ p.ran more (first answer others) end)
         ∙ made more others
 
+    -- the same of a step's being exact, where it isn't free
+    exact_not_free : (answer : Answer) (shown : Shown) → was_free (step n answer now).told ≡ false → shown ≡ (step n answer now).shown
+        → IsShortage (asked_at n now) now.holdings shown → (more : List ℕ) (others : ℕ → Answer) → (is_over ≡ true → more ≡ [])
+        → (k : ℕ) → k < count + 1 → IsExact n (run_steps n k (from old (p.input ++ more) (stream p.answers others)))
+    exact_not_free answer shown bound shows exact more others end =
+        let same : (step n answer now).shown ≡ (step n (others 0) now).shown = ap (λ (x : Stepped). x.shown) (step_alike n answer (others 0) now bound) in
+        one_more_exact n count _ (p.exact more others end)
+        (subst (IsExact n) (sym (p.ran more others end)) (subst (IsShortage (asked_at n now) now.holdings) (shows ∙ same) exact))
+
+    -- and where it is
+    exact_free : (answer : Answer) (shown : Shown) → shown ≡ (step n answer now).shown
+        → IsShortage (asked_at n now) now.holdings shown → (more : List ℕ) (others : ℕ → Answer) → (is_over ≡ true → more ≡ [])
+        → (k : ℕ) → k < count + 1 → IsExact n (run_steps n k (from old (p.input ++ more) (stream (p.answers ++ answer ∷ []) others)))
+    exact_free answer shown shows exact more others end k below =
+        subst (λ f. IsExact n (run_steps n k (from old (p.input ++ more) f))) (sym (stream_more p.answers answer others))
+        (one_more_exact n count _ (p.exact more (first answer others) end)
+        (subst (IsExact n) (sym (p.ran more (first answer others) end)) (subst (IsShortage (asked_at n now) now.holdings) shows exact)) k below)
+
     -- the store's part in a step that shows nothing or stops
-    module _ (answer : Answer) (new : State) (state : new ≡ (step n answer now).state)
+    module _ (answer : Answer) (new : State) (shown : Shown) (x : IsStep n answer now new shown)
         (calls : (r : Run) → after_step r (step n answer now) ≡ after_call (step n answer now).told r (step n answer now).state) where
       made : (told : Told) → (step n answer now).told ≡ told → (r : Run) → after_step r (step n answer now) ≡ after_call told r new
-      made told is r = calls r ∙ ap (λ t. after_call t r (step n answer now).state) is ∙ ap (after_call told r) (sym state)
+      made told is r = calls r ∙ ap (λ t. after_call t r (step n answer now).state) is ∙ ap (after_call told r) (sym x.state)
 
       silent : (step n answer now).told ≡ Silent → Progress n old (count + 1) is_over new reader_old reader writer_old writer gathered
       silent is = record {
@@ -135,6 +132,7 @@ module _ {n : Areas} {old : State} {reader_old writer_old : Option (List ℕ)} w
         told = p.told;
         at_end = p.at_end;
         ran = not_free answer _ (ap was_free is) (λ more others. made Silent is (run_now more others));
+        exact = exact_not_free answer shown (ap was_free is) x.shows x.exact;
       }
 
       -- what it was asked, and carried out
@@ -177,6 +175,12 @@ module _ {n : Areas} {old : State} {reader_old writer_old : Option (List ℕ)} w
       ran_by false asked (Err why) g is = not_free answer _ (ap was_free is ∙ g) (λ more others. made (Says asked (Err why)) is (run_now more others)
           ∙ ap (λ b. record (after_call (Says asked (Err why)) (run_now more others) new) { answers = answers_after b others }) g)
 
+      exact_by : (was : Bool) (asked : Asked) (result : Result ℕ StoreRefusal) → is_granted asked ≡ was → (step n answer now).told ≡ Says asked result →
+          (more : List ℕ) (others : ℕ → Answer) → (is_over ≡ true → more ≡ []) → (k : ℕ) → k < count + 1 →
+          IsExact n (run_steps n k (from old (p.input ++ more) (stream (answers_with was) others)))
+      exact_by true asked result g is = exact_free answer shown x.shows x.exact
+      exact_by false asked result g is = exact_not_free answer shown (ap was_free is ∙ g) x.shows x.exact
+
       carried_out : (asked : Asked) (value : ℕ) → (step n answer now).told ≡ Says asked (Ok value)
           → Progress n old (count + 1) is_over new reader_old reader writer_old writer gathered
       carried_out asked value is = record {
@@ -193,6 +197,7 @@ module _ {n : Areas} {old : State} {reader_old writer_old : Option (List ℕ)} w
         told = λ has. told_before p.events _ _ p.told (λ e. absurd (no_end asked e)) has;
         at_end = p.at_end;
         ran = ran_by (is_granted asked) asked (Ok value) refl is;
+        exact = exact_by (is_granted asked) asked (Ok value) refl is;
       }
 
       turned_down : (asked : Asked) (why : StoreRefusal) → (step n answer now).told ≡ Says asked (Err why)
@@ -211,6 +216,7 @@ module _ {n : Areas} {old : State} {reader_old writer_old : Option (List ℕ)} w
         told = p.told;
         at_end = p.at_end;
         ran = ran_by (is_granted asked) asked (Err why) refl is;
+        exact = exact_by (is_granted asked) asked (Err why) refl is;
       }
 
       called_by : (told : Told) → (step n answer now).told ≡ told → Progress n old (count + 1) is_over new reader_old reader writer_old writer gathered
@@ -221,12 +227,12 @@ module _ {n : Areas} {old : State} {reader_old writer_old : Option (List ℕ)} w
     -- a step that shows nothing
     pub went_on : (answer : Answer) (new : State) → IsStep n answer now new Nothing
         → Progress n old (count + 1) is_over new reader_old reader writer_old writer gathered
-    went_on answer new x = called_by answer new x.state (λ r. after_nothing r (step n answer now) x.shows) (step n answer now).told refl
+    went_on answer new x = called_by answer new Nothing x (λ r. after_nothing r (step n answer now) x.shows) (step n answer now).told refl
 
     -- a step that stops
     pub stopped_at : (answer : Answer) (new : State) (why : Stop) → IsStep n answer now new (Stops why)
         → Progress n old (count + 1) is_over new reader_old reader writer_old writer gathered
-    stopped_at answer new why x = called_by answer new x.state (λ r. after_stop r (step n answer now) why x.shows) (step n answer now).told refl
+    stopped_at answer new why x = called_by answer new (Stops why) x (λ r. after_stop r (step n answer now) why x.shows) (step n answer now).told refl
 
     -- a step that gives a byte, which is gathered
     pub put_one : (answer : Answer) (new : State) (byte : ℕ) → IsStep n answer now new (Writes byte)
@@ -246,6 +252,7 @@ module _ {n : Areas} {old : State} {reader_old writer_old : Option (List ℕ)} w
       at_end = p.at_end;
       ran = not_free answer _ (write_is_quiet n answer now byte x.shows) (λ more others. after_write (run_now more others) _ byte x.shows
           ∙ ap (λ (s : State). record (run_now more others) { state = s; events = p.events ++ ByteWritten byte ∷ [] }) (sym x.state));
+      exact = exact_not_free answer (Writes byte) (write_is_quiet n answer now byte x.shows) x.shows x.exact;
     }
 
     -- some of what is gathered is written
@@ -265,6 +272,7 @@ module _ {n : Areas} {old : State} {reader_old writer_old : Option (List ℕ)} w
       told = p.told;
       at_end = p.at_end;
       ran = p.ran;
+      exact = p.exact;
     }
 
     -- a read took nothing
@@ -284,6 +292,7 @@ module _ {n : Areas} {old : State} {reader_old writer_old : Option (List ℕ)} w
       told = p.told;
       at_end = λ over. absurd (cc);
       ran = p.ran;
+      exact = p.exact;
     }
 
     -- a byte was wanted, and the answer is given
@@ -311,6 +320,8 @@ module _ {n : Areas} {old : State} {reader_old writer_old : Option (List ℕ)} w
           (not_free answer (λ more others. answer_from more (run_now more others) (step n answer now).state) (ask_is_quiet n answer now x.shows)
           (λ more others. after_ask (run_now more others) _ x.shows) [] others (λ _. refl)
           ∙ ap (λ (s : State). record (run_now [] others) { state = s; events = p.events ++ ByteRead None ∷ [] }) (ap (given None) (sym x.state) ∙ sym e));
+      exact = λ more others last.
+          exact_not_free answer Asks (ask_is_quiet n answer now x.shows) x.shows x.exact more others (λ _. last ended);
     }
     answered answer waiting new reader_next will_be (Some byte) x (consumes, before, after) below e = record {
       input = p.input ++ byte ∷ [];
@@ -331,6 +342,9 @@ module _ {n : Areas} {old : State} {reader_old writer_old : Option (List ℕ)} w
           (λ more others. after_ask (run_now more others) _ x.shows) (byte ∷ more) others (λ over. (cc))
           ∙ ap (λ (s : State). record (run_now more others) { state = s; events = p.events ++ ByteRead (Some byte) ∷ [] })
           (ap (given (Some byte)) (sym x.state) ∙ sym e);
+      exact = λ more others last k below.
+          subst (λ l. IsExact n (run_steps n k (from old l (stream p.answers others)))) (sym (append_assoc p.input (byte ∷ []) more))
+          (exact_not_free answer Asks (ask_is_quiet n answer now x.shows) x.shows x.exact (byte ∷ more) others (λ over. (cc)) k below);
     }
 
     -- the run at its end
@@ -352,6 +366,8 @@ module _ {n : Areas} {old : State} {reader_old writer_old : Option (List ℕ)} w
               (written_then why _ _ _ _ _ p.appended rest);
           ends = subst (λ (x : Run). EndsAs why n limit count x final) (sym whole) ends;
           at_end = λ has. p.at_end (p.told (subst (λ (es : List Event). Contains es (ByteRead None)) (ap (λ (x : Run). x.events) whole) has));
+          exact = λ k below. subst (λ l. IsExact n (run_steps n k (from old l (stream p.answers others)))) (append-nil p.input)
+              (p.exact [] others (λ _. refl) k below);
         }
 
 -- an ending, or a failed write in its place, with the machine at its last state

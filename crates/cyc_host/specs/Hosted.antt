@@ -7,6 +7,7 @@ use Rattle.rv32_machine.specs.State.{State, Areas, Stop, Over}
 use Rattle.rv32_machine.specs.Step.{step, Asks}
 use Rattle.arena_laws.specs.Lawful.{Answer}
 use Rattle.rv32_machine.specs.Run.{Run, AreBytes, run_steps, from}
+use Rattle.rv32_machine.specs.Shortage.{IsShortage, asked_at}
 use Rattle.cyc_host.specs.declared.ending.Ending.{Ending}
 use Rattle.cyc_host.specs.declared.ending.Ending.TheVariants as ending
 
@@ -34,8 +35,13 @@ EndsAs ending.ReadFault n limit count left now =
     (count < limit) × ((now ≡ (step n (left.answers 0) left.state).state) × ((step n (left.answers 0) left.state).shown ≡ Asks))
 EndsAs ending.WriteFault n limit count left now = (now ≡ left.state) ⊎ ((count < limit) × (now ≡ (step n (left.answers 0) left.state).state))
 
+-- Where the next step of a run asks the store, it shows Exhausted exactly where the store's counts refuse the call.
+abbrev pub IsExact : Areas → Run → Type 0
+IsExact n r = IsShortage (asked_at n r.state) r.state.holdings (step n (r.answers 0) r.state).shown
+
 -- A run of at most `limit` steps, from one state to another: of so many steps, on the bytes that the reader gave, all of which were taken, over a store that gave
--- these answers. The machine was told of the input's end only where the reader is at its end.
+-- these answers. The machine was told of the input's end only where the reader is at its end, and the store refused for
+-- want of room exactly where its counts do.
 pub record IsHosted (why : Ending) (n : Areas) (limit : ℕ) (old new : State) (reader_old reader_new writer_old writer_new : Option (List ℕ)) : Type 0 where
   pub input : List ℕ
   pub answers : ℕ → Answer
@@ -47,3 +53,4 @@ pub record IsHosted (why : Ending) (n : Areas) (limit : ℕ) (old new : State) (
   pub written : Written why writer_old writer_new (output (run_steps n count (from old input answers)).events)
   pub ends : EndsAs why n limit count (run_steps n count (from old input answers)) new
   pub at_end : Contains (run_steps n count (from old input answers)).events (ByteRead None) → IsAtEnd reader_new
+  pub exact : (k : ℕ) → k < count → IsExact n (run_steps n k (from old input answers))

@@ -3,6 +3,7 @@ pub mod Moves
 pub mod Asking
 pub mod Starts
 pub mod Stores
+pub mod StackPlaces
 pub mod Writes
 pub mod LongerRuns
 pub mod Modes

@@ -3,6 +3,7 @@ pub mod Step
 pub mod Ledger
 pub mod Run
 pub mod Arrays
+pub mod Shortage
 pub mod Places
 pub mod Audit
 pub mod Implements

@@ -39,8 +39,8 @@ pub enum Place {
     Arena,
 }
 
-// the offset in the area of this base and length, where so many bytes from an address on lie in it
-fn offset_in(base: u32, length: usize, at: u32, width: usize) -> Option<usize>
+/// The offset in the area of this base and length, where so many bytes from an address on lie in it.
+pub fn offset_in(base: u32, length: usize, at: u32, width: usize) -> Option<usize>
     requires length { length ≤ 2 ^ 24 }
     requires width { width ≤ 4 }
     ensures { result ≡ (if is_within base length at width then Some (at - base) else None) }

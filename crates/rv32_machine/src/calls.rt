@@ -1,8 +1,9 @@
 // ECALL: the number is in x17, the arguments in x10 and x11.
 
 ghost use Rattle.rv32_machine.specs.State.{Ended, Raised, register_of};
-ghost use Rattle.rv32_machine.specs.Step.{a0, a1, a7, calls, calls_host, raises, refuses_frame, stop};
-ghost use Rattle.rv32_machine.specs.Arrays.{Steps, answer_seen, areas_of, arrays, state_of};
+ghost use Rattle.rv32_machine.specs.Step.{a0, a1, a7, asked_by, calls, calls_host, raises, refuses_frame, stop};
+ghost use Rattle.rv32_machine.specs.Shortage.{IsShortage};
+ghost use Rattle.rv32_machine.specs.Arrays.{Steps, answer_seen, areas_of, arrays, shown_of, state_of};
 
 use crate::areas::{STACK_BASE, STACK_END};
 use crate::event::Event;
@@ -20,9 +21,11 @@ impl<S: BlockStore> Machine<S> {
     /// A call of the environment: 0 exits, 1 writes a byte, 2 asks for one, 3 raises, 4 to 12 ask the
     /// store, 13 refuses a frame.
     pub(crate) fn calls(&mut self) -> Event
-        ensures { let seen = arrays S.holdings S.byte_at in Steps (seen self.old) (seen self.new) result (calls (areas_of (seen self.old)) (answer_seen result (seen self.new))
+        ensures step { let seen = arrays S.holdings S.byte_at in Steps (seen self.old) (seen self.new) result (calls (areas_of (seen self.old)) (answer_seen result (seen self.new))
             (register_of (state_of (seen self.old)) a7) (register_of (state_of (seen self.old)) a0)
             (register_of (state_of (seen self.old)) a1) (state_of (seen self.old))) }
+        ensures full { let seen = arrays S.holdings S.byte_at in IsShortage (asked_by (register_of (state_of (seen self.old)) a7)
+            (register_of (state_of (seen self.old)) a0) (register_of (state_of (seen self.old)) a1)) (seen self.old).holdings (shown_of result) }
     {
         let argument = self.register(Register::ARGUMENT_0);
         match self.register(Register::ARGUMENT_7) {

@@ -20,8 +20,6 @@ mod numbers;
 mod phase;
 mod registers;
 mod requests;
-#[cfg(test)]
-mod tests;
 
 pub use areas::CODE_BASE;
 pub use cyc_words::{Kind, MachineFault};

@@ -1,10 +1,11 @@
 // The calls that ask the store: 4 to 12.
 
-ghost use Rattle.std.specs.Prelude.{true, false};
+ghost use Rattle.std.specs.Prelude.{Some, true, false};
 ghost use Rattle.arena_laws.specs.Laws.{unit_result};
 ghost use Rattle.arena_laws.specs.Asked.{KeyClose, KeyFree, KeyNew, KeyOpen, RegionAlloc, RegionFree, RegionNew, UniqueAlloc, UniqueFree};
 ghost use Rattle.rv32_machine.specs.Step.{asks, settled, stop, stop_by};
-ghost use Rattle.rv32_machine.specs.Arrays.{Steps, answer_seen, arrays, state_of};
+ghost use Rattle.rv32_machine.specs.Shortage.{IsShortage};
+ghost use Rattle.rv32_machine.specs.Arrays.{Steps, answer_seen, arrays, shown_of, state_of};
 
 use crate::event::Event;
 use crate::machine::Machine;
@@ -17,7 +18,8 @@ use rv32_isa::Register;
 impl<S: BlockStore> Machine<S> {
     /// Makes a region: x10 gets its handle.
     pub(crate) fn region_new(&mut self) -> Event
-        ensures { let seen = arrays S.holdings S.byte_at in Steps (seen self.old) (seen self.new) result (asks (answer_seen result (seen self.new)) RegionNew (state_of (seen self.old))) }
+        ensures step { let seen = arrays S.holdings S.byte_at in Steps (seen self.old) (seen self.new) result (asks (answer_seen result (seen self.new)) RegionNew (state_of (seen self.old))) }
+        ensures full { let seen = arrays S.holdings S.byte_at in IsShortage (Some RegionNew) (seen self.old).holdings (shown_of result) }
     {
         let made = self.store.region_new();
         self.numbered(made)
@@ -25,7 +27,8 @@ impl<S: BlockStore> Machine<S> {
 
     /// A block of so many bytes in a region: x10 gets its address.
     pub(crate) fn region_alloc(&mut self, handle: u32, bytes: u32) -> Event
-        ensures { let seen = arrays S.holdings S.byte_at in Steps (seen self.old) (seen self.new) result (asks (answer_seen result (seen self.new)) (RegionAlloc handle bytes) (state_of (seen self.old))) }
+        ensures step { let seen = arrays S.holdings S.byte_at in Steps (seen self.old) (seen self.new) result (asks (answer_seen result (seen self.new)) (RegionAlloc handle bytes) (state_of (seen self.old))) }
+        ensures full { let seen = arrays S.holdings S.byte_at in IsShortage (Some (RegionAlloc handle bytes)) (seen self.old).holdings (shown_of result) }
     {
         let made = self.store.region_alloc(handle, bytes);
         self.numbered(made)
@@ -33,7 +36,8 @@ impl<S: BlockStore> Machine<S> {
 
     /// Frees a region.
     pub(crate) fn region_free(&mut self, handle: u32) -> Event
-        ensures { let seen = arrays S.holdings S.byte_at in Steps (seen self.old) (seen self.new) result (asks (answer_seen result (seen self.new)) (RegionFree handle) (state_of (seen self.old))) }
+        ensures step { let seen = arrays S.holdings S.byte_at in Steps (seen self.old) (seen self.new) result (asks (answer_seen result (seen self.new)) (RegionFree handle) (state_of (seen self.old))) }
+        ensures full { let seen = arrays S.holdings S.byte_at in IsShortage (Some (RegionFree handle)) (seen self.old).holdings (shown_of result) }
     {
         let done = self.store.region_free(handle);
         self.finished(done)
@@ -41,7 +45,8 @@ impl<S: BlockStore> Machine<S> {
 
     /// A unique block of so many bytes: x10 gets its address.
     pub(crate) fn unique_alloc(&mut self, bytes: u32) -> Event
-        ensures { let seen = arrays S.holdings S.byte_at in Steps (seen self.old) (seen self.new) result (asks (answer_seen result (seen self.new)) (UniqueAlloc bytes) (state_of (seen self.old))) }
+        ensures step { let seen = arrays S.holdings S.byte_at in Steps (seen self.old) (seen self.new) result (asks (answer_seen result (seen self.new)) (UniqueAlloc bytes) (state_of (seen self.old))) }
+        ensures full { let seen = arrays S.holdings S.byte_at in IsShortage (Some (UniqueAlloc bytes)) (seen self.old).holdings (shown_of result) }
     {
         let made = self.store.unique_alloc(bytes);
         self.numbered(made)
@@ -49,7 +54,8 @@ impl<S: BlockStore> Machine<S> {
 
     /// Frees the unique block at an address.
     pub(crate) fn unique_free(&mut self, at: u32) -> Event
-        ensures { let seen = arrays S.holdings S.byte_at in Steps (seen self.old) (seen self.new) result (asks (answer_seen result (seen self.new)) (UniqueFree at) (state_of (seen self.old))) }
+        ensures step { let seen = arrays S.holdings S.byte_at in Steps (seen self.old) (seen self.new) result (asks (answer_seen result (seen self.new)) (UniqueFree at) (state_of (seen self.old))) }
+        ensures full { let seen = arrays S.holdings S.byte_at in IsShortage (Some (UniqueFree at)) (seen self.old).holdings (shown_of result) }
     {
         let done = self.store.unique_free(at);
         self.finished(done)
@@ -57,7 +63,8 @@ impl<S: BlockStore> Machine<S> {
 
     /// Makes a dynamic region: x10 gets its key.
     pub(crate) fn key_new(&mut self) -> Event
-        ensures { let seen = arrays S.holdings S.byte_at in Steps (seen self.old) (seen self.new) result (asks (answer_seen result (seen self.new)) KeyNew (state_of (seen self.old))) }
+        ensures step { let seen = arrays S.holdings S.byte_at in Steps (seen self.old) (seen self.new) result (asks (answer_seen result (seen self.new)) KeyNew (state_of (seen self.old))) }
+        ensures full { let seen = arrays S.holdings S.byte_at in IsShortage (Some KeyNew) (seen self.old).holdings (shown_of result) }
     {
         let made = self.store.key_new();
         self.numbered(made)
@@ -65,7 +72,8 @@ impl<S: BlockStore> Machine<S> {
 
     /// Opens a key: x10 gets the handle.
     pub(crate) fn key_open(&mut self, key: u32) -> Event
-        ensures { let seen = arrays S.holdings S.byte_at in Steps (seen self.old) (seen self.new) result (asks (answer_seen result (seen self.new)) (KeyOpen key) (state_of (seen self.old))) }
+        ensures step { let seen = arrays S.holdings S.byte_at in Steps (seen self.old) (seen self.new) result (asks (answer_seen result (seen self.new)) (KeyOpen key) (state_of (seen self.old))) }
+        ensures full { let seen = arrays S.holdings S.byte_at in IsShortage (Some (KeyOpen key)) (seen self.old).holdings (shown_of result) }
     {
         let opened = self.store.key_open(key);
         self.numbered(opened)
@@ -73,7 +81,8 @@ impl<S: BlockStore> Machine<S> {
 
     /// Closes a key.
     pub(crate) fn key_close(&mut self, key: u32) -> Event
-        ensures { let seen = arrays S.holdings S.byte_at in Steps (seen self.old) (seen self.new) result (asks (answer_seen result (seen self.new)) (KeyClose key) (state_of (seen self.old))) }
+        ensures step { let seen = arrays S.holdings S.byte_at in Steps (seen self.old) (seen self.new) result (asks (answer_seen result (seen self.new)) (KeyClose key) (state_of (seen self.old))) }
+        ensures full { let seen = arrays S.holdings S.byte_at in IsShortage (Some (KeyClose key)) (seen self.old).holdings (shown_of result) }
     {
         let done = self.store.key_close(key);
         self.finished(done)
@@ -81,7 +90,8 @@ impl<S: BlockStore> Machine<S> {
 
     /// Frees a dynamic region by its key.
     pub(crate) fn key_free(&mut self, key: u32) -> Event
-        ensures { let seen = arrays S.holdings S.byte_at in Steps (seen self.old) (seen self.new) result (asks (answer_seen result (seen self.new)) (KeyFree key) (state_of (seen self.old))) }
+        ensures step { let seen = arrays S.holdings S.byte_at in Steps (seen self.old) (seen self.new) result (asks (answer_seen result (seen self.new)) (KeyFree key) (state_of (seen self.old))) }
+        ensures full { let seen = arrays S.holdings S.byte_at in IsShortage (Some (KeyFree key)) (seen self.old).holdings (shown_of result) }
     {
         let done = self.store.key_free(key);
         self.finished(done)

@@ -11,7 +11,8 @@ use Rattle.rv32_machine.specs.State.{Stop}
 use Rattle.rv32_machine.specs.Step.{Nothing, Writes, Asks, Stops}
 use Rattle.cyc_host.specs.declared.ending.Ending.TheVariants as ending
 use Rattle.cyc_host.proofs.Transfers.{all_written, counted_ok, of_err, of_ok}
-use Rattle.cyc_host.proofs.Progress.{IsStep, step_at, over_at, runs_at, runs_at_write, runs_at_answer, Progress, begun, went_on, stopped_at, put_one, wrote, kept, answered, hosted, either_end}
+use Rattle.cyc_host.proofs.OneStep.{IsStep, step_at, over_at, runs_at, runs_at_write, runs_at_answer}
+use Rattle.cyc_host.proofs.Progress.{Progress, begun, went_on, stopped_at, put_one, wrote, kept, answered, hosted, either_end}
 use Rattle.cyc_host.proofs.running.run.Goals as goal
 use Rattle.cyc_host.proofs.running.run.Goals.{in-Next, in-Put+else-is_err, in-Get+else-is_err-2+in-Ok}
 
@@ -29,7 +30,7 @@ returns-then-is_err-clause-hosted g c =
     let seen = arrays g.S.BlockStore.holdings g.S.BlockStore.byte_at in
     let i = c.steps.invariant in
     let x : IsStep (areas_of (seen c.args.machine.now)) _ (state_of (seen c.steps.machine)) (state_of (seen c.step.new.self)) (Writes c.in-Put.byte) =
-    step_at _ _ _ _ _ _ i.areas c.in-Put.ensures.state c.in-Put.ensures.event in
+    step_at _ _ _ _ _ _ i.areas c.in-Put.ensures.state c.in-Put.ensures.event c.in-Put.ensures.full in
     hosted (put_one i.progress _ _ c.in-Put.byte x) ending.WriteFault _ _ _ (λ k. Refuses) (omega arith)
     (of_err c.put.result c.put.ensures.some (sym c.is_err.ensures.value ∙ c.if-is_err.true)) (inl refl)
 
@@ -38,7 +39,7 @@ returns-then-is_err-2-clause-hosted g c =
     let seen = arrays g.S.BlockStore.holdings g.S.BlockStore.byte_at in
     let i = c.steps.invariant in
     let x : IsStep (areas_of (seen c.args.machine.now)) _ (state_of (seen c.steps.machine)) (state_of (seen c.step.new.self)) Asks =
-    step_at _ _ _ _ _ _ i.areas c.in-Get.ensures.state c.in-Get.ensures.event in
+    step_at _ _ _ _ _ _ i.areas c.in-Get.ensures.state c.in-Get.ensures.event c.in-Get.ensures.full in
     hosted i.progress ending.WriteFault _ _ _ (λ k. answer_seen event.Get (seen c.step.new.self)) (omega arith)
     (of_err c.flush.result c.flush.ensures.some (sym c.is_err-in-Get.ensures.value ∙ c.if-is_err-2.true)) (inr (omega arith, x.state))
 
@@ -47,7 +48,7 @@ returns-in-Err-clause-hosted g c =
     let seen = arrays g.S.BlockStore.holdings g.S.BlockStore.byte_at in
     let i = c.steps.invariant in
     let x : IsStep (areas_of (seen c.args.machine.now)) _ (state_of (seen c.steps.machine)) (state_of (seen c.step.new.self)) Asks =
-    step_at _ _ _ _ _ _ i.areas c.in-Get.ensures.state c.in-Get.ensures.event in
+    step_at _ _ _ _ _ _ i.areas c.in-Get.ensures.state c.in-Get.ensures.event c.in-Get.ensures.full in
     let flushed = wrote i.progress _ []
     (all_written _ _ _ (of_ok c.flush.result c.flush.ensures.all (sym c.is_err-in-Get.ensures.value ∙ c.if-is_err-2.false))) in
     hosted (kept flushed _ c.in-Err.ensures.kept c.in-Err.ensures.asked) ending.ReadFault _ _ _ (λ k. answer_seen event.Get (seen c.step.new.self)) (omega arith) (Appends-nil _)
@@ -58,7 +59,7 @@ returns-in-Ended-clause-hosted g c =
     let seen = arrays g.S.BlockStore.holdings g.S.BlockStore.byte_at in
     let i = c.steps.invariant in
     let x : IsStep (areas_of (seen c.args.machine.now)) _ (state_of (seen c.steps.machine)) (state_of (seen c.step.new.self)) (Stops (Stop.Ended (word c.in-Ended.status))) =
-    step_at _ _ _ _ _ _ i.areas c.in-Ended.ensures.state c.in-Ended.ensures.event in
+    step_at _ _ _ _ _ _ i.areas c.in-Ended.ensures.state c.in-Ended.ensures.event c.in-Ended.ensures.full in
     let fits : SFits w32 c.in-Ended.status = search rules in
     hosted (stopped_at i.progress _ _ _ x) c.finish.result _ _ _ (λ k. Refuses) (omega arith) c.finish.ensures.written
     (either_end (ending.Ended c.in-Ended.status) _ _ _ _ _ (simp (to_z-of_z w32 c.in-Ended.status fits) at c.finish.ensures.same) (refl, over_at x))
@@ -68,7 +69,7 @@ returns-in-Raised-clause-hosted g c =
     let seen = arrays g.S.BlockStore.holdings g.S.BlockStore.byte_at in
     let i = c.steps.invariant in
     let x : IsStep (areas_of (seen c.args.machine.now)) _ (state_of (seen c.steps.machine)) (state_of (seen c.step.new.self)) (Stops (Stop.Raised c.in-Raised.kind)) =
-    step_at _ _ _ _ _ _ i.areas c.in-Raised.ensures.state c.in-Raised.ensures.event in
+    step_at _ _ _ _ _ _ i.areas c.in-Raised.ensures.state c.in-Raised.ensures.event c.in-Raised.ensures.full in
     hosted (stopped_at i.progress _ _ _ x) c.finish-in-Raised.result _ _ _ (λ k. Refuses) (omega arith) c.finish-in-Raised.ensures.written
     (either_end (ending.Raised c.in-Raised.kind) _ _ _ _ _ c.finish-in-Raised.ensures.same (refl, over_at x))
 
@@ -77,7 +78,7 @@ returns-in-Exhausted-clause-hosted g c =
     let seen = arrays g.S.BlockStore.holdings g.S.BlockStore.byte_at in
     let i = c.steps.invariant in
     let x : IsStep (areas_of (seen c.args.machine.now)) _ (state_of (seen c.steps.machine)) (state_of (seen c.step.new.self)) (Stops Stop.Exhausted) =
-    step_at _ _ _ _ _ _ i.areas c.in-Exhausted.ensures.state c.in-Exhausted.ensures.event in
+    step_at _ _ _ _ _ _ i.areas c.in-Exhausted.ensures.state c.in-Exhausted.ensures.event c.in-Exhausted.ensures.full in
     hosted (stopped_at i.progress _ _ _ x) c.finish-in-Exhausted.result _ _ _ (λ k. Refuses) (omega arith) c.finish-in-Exhausted.ensures.written
     (either_end ending.Exhausted _ _ _ _ _ c.finish-in-Exhausted.ensures.same (refl, over_at x))
 
@@ -86,7 +87,7 @@ returns-in-HostMemory-clause-hosted g c =
     let seen = arrays g.S.BlockStore.holdings g.S.BlockStore.byte_at in
     let i = c.steps.invariant in
     let x : IsStep (areas_of (seen c.args.machine.now)) _ (state_of (seen c.steps.machine)) (state_of (seen c.step.new.self)) (Stops Stop.Lacking) =
-    step_at _ _ _ _ _ _ i.areas c.in-HostMemory.ensures.state c.in-HostMemory.ensures.event in
+    step_at _ _ _ _ _ _ i.areas c.in-HostMemory.ensures.state c.in-HostMemory.ensures.event c.in-HostMemory.ensures.full in
     hosted (stopped_at i.progress _ _ _ x) c.finish-in-HostMemory.result _ _ _ (λ k. Refuses) (omega arith) c.finish-in-HostMemory.ensures.written
     (either_end ending.HostMemory _ _ _ _ _ c.finish-in-HostMemory.ensures.same (refl, over_at x))
 
@@ -95,7 +96,7 @@ returns-in-Fault-clause-hosted g c =
     let seen = arrays g.S.BlockStore.holdings g.S.BlockStore.byte_at in
     let i = c.steps.invariant in
     let x : IsStep (areas_of (seen c.args.machine.now)) _ (state_of (seen c.steps.machine)) (state_of (seen c.step.new.self)) (Stops (Stop.Fault c.in-Fault.fault)) =
-    step_at _ _ _ _ _ _ i.areas c.in-Fault.ensures.state c.in-Fault.ensures.event in
+    step_at _ _ _ _ _ _ i.areas c.in-Fault.ensures.state c.in-Fault.ensures.event c.in-Fault.ensures.full in
     hosted (stopped_at i.progress _ _ _ x) c.finish-in-Fault.result _ _ _ (λ k. Refuses) (omega arith) c.finish-in-Fault.ensures.written
     (either_end (ending.Fault c.in-Fault.fault) _ _ _ _ _ c.finish-in-Fault.ensures.same (refl, over_at x))
 
@@ -114,7 +115,7 @@ steps-preserved g c =
     elim c.match-step.branch [
       | in-Next w ↦
           let x : IsStep n _ (state_of (seen c.steps.machine)) (state_of (seen c.step.new.self)) Nothing =
-          step_at _ _ _ _ _ _ i.areas w.in-Next.ensures.state w.in-Next.ensures.event in
+          step_at _ _ _ _ _ _ i.areas w.in-Next.ensures.state w.in-Next.ensures.event w.in-Next.ensures.full in
           rw (w.machine-is, w.reader-is, w.writer-is, w.gathered-is, w.is_over-is) (record {
             reads = i.reads;
             writes = i.writes;
@@ -124,7 +125,7 @@ steps-preserved g c =
           })
       | in-Put+else-is_err w ↦
           let x : IsStep n _ (state_of (seen c.steps.machine)) (state_of (seen c.step.new.self)) (Writes w.in-Put.byte) =
-          step_at _ _ _ _ _ _ i.areas w.in-Put.ensures.state w.in-Put.ensures.event in
+          step_at _ _ _ _ _ _ i.areas w.in-Put.ensures.state w.in-Put.ensures.event w.in-Put.ensures.full in
           let moved = of_ok w.put.result w.put.ensures.all (sym w.is_err.ensures.value ∙ w.if-is_err.false) in
           rw (w.machine-is, w.reader-is, w.writer-is, w.gathered-is, w.is_over-is) (record {
             reads = i.reads;
@@ -135,7 +136,7 @@ steps-preserved g c =
           })
       | in-Get+else-is_err-2+in-Ok w ↦
           let x : IsStep n _ (state_of (seen c.steps.machine)) (state_of (seen c.step.new.self)) Asks =
-          step_at _ _ _ _ _ _ i.areas w.in-Get.ensures.state w.in-Get.ensures.event in
+          step_at _ _ _ _ _ _ i.areas w.in-Get.ensures.state w.in-Get.ensures.event w.in-Get.ensures.full in
           let flushed = wrote i.progress _ []
           (all_written _ _ _ (of_ok w.flush.result w.flush.ensures.all (sym w.is_err-in-Get.ensures.value ∙ w.if-is_err-2.false))) in
           rw (w.machine-is, w.reader-is, w.writer-is, w.gathered-is, w.is_over-is) (record {

@@ -1,8 +1,8 @@
 // Runs of short images that were assembled by hand, with readers and writers that stumble.
 
-use super::*;
 use arrayvec::ArrayVec;
 use cyc_arena::PlainStore;
+use cyc_host::{Ending, run};
 use cyc_image::{Parts, load, write};
 use cyc_words::{Counted, Input, Kind, MachineFault, Output};
 use rv32_isa::decode;

@@ -1,8 +1,9 @@
 // Runs of short images over a plain store, worked out by hand.
 
-use super::*;
 use cyc_arena::{BlockStore, PlainStore};
 use cyc_image::{Parts, load, write};
+use cyc_words::{Kind, MachineFault};
+use rv32_machine::{Event, Machine};
 use std::alloc::Global;
 use std::test::Fail;
 

@@ -1,6 +1,6 @@
 -- A unique block is granted: a vacant slot of its class, or the first of a page that is cut for it.
 use Rattle.std.proofs.Common.{◌≡◌, ℕ, zero, ◌+◌, ◌-◌, ◌*◌, ◌/◌, ◌%◌, ◌≤◌, Bool, true, false, List, length, Some, None, Ok, refl, sym, ap, subst, ◌∙◌, arith, length-set}
-use Rattle.std.specs.Prelude.{slice_set, nat_le, ◌&&◌, ◌||◌, if◌then◌else◌}
+use Rattle.std.specs.Prelude.{slice_set, ◌&&◌, ◌||◌}
 use Rattle.arena_laws.proofs.Classes.{class_is}
 use Rattle.arena_laws.specs.Classes.{IsClass}
 use Rattle.arena_laws.specs.Counts.{Counts, put, class_of, with_slot, slot_needs_page, is_full, is_full_for_slot, is_too_long}

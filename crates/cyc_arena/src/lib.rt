@@ -2,17 +2,19 @@
 //! is read like them.
 //!
 //! `BlockStore` says what each call does, by the laws of `arena_laws`. `PlainStore` meets them by
-//! tables that each call looks through. Stands on `arena_laws`, and on `raw_pages` for
-//! `PagesFault`.
+//! tables that each call looks through, and `PagedStore` by keys over regions with unique blocks,
+//! whose state is in headers of pages. Stands on `arena_laws`, `dynamic_region`, `unique_blocks`,
+//! `region_runtime`, and on `raw_pages` for `PagesFault`.
 #![tactic(auto)]
 
+mod paged;
 mod plain;
 mod store;
 mod tables;
-#[cfg(test)]
-mod tests;
 
 pub use arena_laws::{Owner, Standing, StoreRefusal, live_blocks, refused_by_count};
+pub use paged::PagedStore;
 pub use plain::PlainStore;
 pub use raw_pages::PagesFault;
 pub use store::BlockStore;
+pub use unique_blocks::UniqueBlocks;

@@ -1,10 +1,10 @@
 // The calls of a store, with their laws.
 
 ghost use Rattle.std.specs.Prelude.{◌≡◌, ◌≤◌, ℕ};
-ghost use Rattle.arena_laws.specs.Counts.{is_full, is_full_for_slot};
+ghost use Rattle.arena_laws.specs.Asked.{KeyNew, RegionAlloc, RegionNew, UniqueAlloc, is_short};
 ghost use Rattle.arena_laws.specs.Holdings.{Holdings, is_in_arena, is_live_in};
 ghost use Rattle.arena_laws.specs.Lawful.{key_close, key_free, key_open, region_free, unique_free};
-ghost use Rattle.arena_laws.specs.Laws.{Does, answer_of, is_block_refused, is_refused_full, key_new, loaded, region_alloc, region_new, stored, unique_alloc, unit_result};
+ghost use Rattle.arena_laws.specs.Laws.{Does, answer_of, is_refused_full, key_new, loaded, region_alloc, region_new, stored, unique_alloc, unit_result};
 
 use arena_laws::StoreRefusal;
 
@@ -25,7 +25,7 @@ pub trait BlockStore {
     fn region_new(&mut self) -> Result<u32, StoreRefusal>
         ensures does { Does result (holdings self.new) (region_new (answer_of result) (holdings self.old)) }
         ensures bytes { byte_at self.new ≡ byte_at self.old }
-        ensures full { is_refused_full result ≡ is_full (holdings self.old).counts };
+        ensures full { is_refused_full result ≡ is_short RegionNew (holdings self.old) };
 
     /// A block of so many bytes in the region of a handle: its address, a multiple of 8. Handle 0
     /// is the heap, and an open key's number is its region's handle. The room is the bytes rounded
@@ -35,7 +35,7 @@ pub trait BlockStore {
     fn region_alloc(&mut self, handle: u32, bytes: u32) -> Result<u32, StoreRefusal>
         ensures does { Does result (holdings self.new) (region_alloc handle bytes (answer_of result) (holdings self.old)) }
         ensures bytes { byte_at self.new ≡ byte_at self.old }
-        ensures full { is_refused_full result ≡ is_block_refused handle bytes (holdings self.old) };
+        ensures full { is_refused_full result ≡ is_short (RegionAlloc handle bytes) (holdings self.old) };
 
     /// Frees a lexical region: its blocks and all its pages. BadHandle where the number is no live
     /// lexical region's (the heap's and a key's number too).
@@ -50,7 +50,7 @@ pub trait BlockStore {
     fn unique_alloc(&mut self, bytes: u32) -> Result<u32, StoreRefusal>
         ensures does { Does result (holdings self.new) (unique_alloc bytes (answer_of result) (holdings self.old)) }
         ensures bytes { byte_at self.new ≡ byte_at self.old }
-        ensures full { is_refused_full result ≡ is_full_for_slot bytes (holdings self.old).counts };
+        ensures full { is_refused_full result ≡ is_short (UniqueAlloc bytes) (holdings self.old) };
 
     /// Frees the unique block that begins at an address; its page stays with its class. NotABlock
     /// where no live unique block begins there.
@@ -64,7 +64,7 @@ pub trait BlockStore {
     fn key_new(&mut self) -> Result<u32, StoreRefusal>
         ensures does { Does result (holdings self.new) (key_new (answer_of result) (holdings self.old)) }
         ensures bytes { byte_at self.new ≡ byte_at self.old }
-        ensures full { is_refused_full result ≡ is_full (holdings self.old).counts };
+        ensures full { is_refused_full result ≡ is_short KeyNew (holdings self.old) };
 
     /// Opens a closed key: its handle, which is the key's own number. BadKey where the number is no
     /// live key's, Open where the key is open.

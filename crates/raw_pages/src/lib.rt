@@ -6,8 +6,6 @@
 
 mod fault;
 mod pages;
-#[cfg(test)]
-mod tests;
 
 pub use fault::PagesFault;
 pub use pages::RawPages;

@@ -286,7 +286,7 @@ impl Book {
         ensures long { length self.new.raw.words ≡ length self.old.raw.words }
         ensures bytes { self.new.raw.bytes ≡ self.old.raw.bytes }
         ensures changed { changed_words self.old.raw.words self.new.raw.words ≤ 2 }
-        ensures touched { self.new.touched ≤ self.old.touched + 4 }
+        ensures touched { self.new.touched ≡ self.old.touched + 4 }
     {
         let newest = self.read(number - 1, NEWEST);
         let pages = self.read(number - 1, COUNT);
@@ -315,6 +315,7 @@ impl Book {
         ensures value { result ≡ tag_in (seen self.old).word number }
         ensures raw { self.new.raw ≡ self.old.raw }
         ensures shape { seen self.new ≡ seen self.old }
+        ensures touched { self.new.touched ≡ self.old.touched + 1 }
     {
         self.read(number - 1, TAG)
     }

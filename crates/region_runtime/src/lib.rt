@@ -13,8 +13,6 @@ mod book;
 mod handle;
 mod pool;
 mod refusal;
-#[cfg(test)]
-mod tests;
 mod walk;
 
 pub use handle::Handle;

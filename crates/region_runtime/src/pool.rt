@@ -127,7 +127,8 @@ impl Pool {
         ensures words { word_of self.new ≡ word_of self.old }
         ensures bytes { byte_at self.new ≡ byte_at self.old }
         ensures few { changed_words self.old.words self.new.words ≤ 8 }
-        ensures touched { self.new.touched ≤ 8 }
+        ensures touched { self.new.touched ≤ 5 }
+        ensures counted { changed_words self.old.words self.new.words ≤ self.new.touched }
         ensures fresh { self.new.ever_used ≡ self.old.ever_used }
         ensures apart { AreApart self.new }
     {
@@ -147,6 +148,8 @@ impl Pool {
         ensures taken { is_taken self.new ≡ is_taken self.old }
         ensures words { word_of self.new ≡ word_of self.old }
         ensures bytes { byte_at self.new ≡ byte_at self.old }
+        ensures headers { self.new.words ≡ self.old.words }
+        ensures touched { self.new.touched ≤ 2 }
         ensures fresh { self.new.ever_used ≡ self.old.ever_used }
     {
         self.book.begin();
@@ -258,7 +261,8 @@ impl Pool {
 
     /// How many pages the pool has.
     pub fn pages(&self) -> u32
-        ensures { result ≡ (held self.now).pages }
+        ensures count { result ≡ (held self.now).pages }
+        ensures few { result ≤ 4096 }
     {
         self.book.raw.pages()
     }

@@ -1,7 +1,7 @@
 // A plain store call by call, its refusals and its edges.
 
-use super::*;
-use crate::tables::BASE;
+use crate::BASE;
+use cyc_arena::{BlockStore, PagesFault, PlainStore, StoreRefusal};
 use std::test::Fail;
 
 #[test]

@@ -1,6 +1,6 @@
 // A pool call by call, its refusals and its edges.
 
-use super::*;
+use region_runtime::{Handle, PagesFault, Pool, Refusal};
 use std::test::Fail;
 
 #[test]

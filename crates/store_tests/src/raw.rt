@@ -1,6 +1,6 @@
 // Pages word by word and byte by byte, at their edges.
 
-use super::*;
+use raw_pages::{PagesFault, RawPages};
 use std::test::Fail;
 
 #[test]

@@ -8,13 +8,13 @@ pub returns-then-at-lt-BASE : goal.returns-then-at-lt-BASE
 returns-then-at-lt-BASE c = live_below c.args.self.now c.args.at c.if-at-lt-BASE.true
 
 pub returns-then-page-pages : goal.returns-then-page-pages
-returns-then-page-pages c = live_above c.args.self.now c.args.at c.if-at-lt-BASE.false (let e = c.pages.ensures in let l = c.if-page-pages.true in omega
+returns-then-page-pages c = live_above c.args.self.now c.args.at c.if-at-lt-BASE.false (let e = c.pages.ensures.count in let l = c.if-page-pages.true in omega
     (arith, e, l))
 
 pub returns-then-at-word : goal.returns-then-at-word
 returns-then-at-word c =
     live_waste (pool_of c.self.inside.book) _ c.self.view_is c.args.at _ c.if-at-lt-BASE.false (c.word.ensures
-    ∙ word_read _ _ 2 (let v = ap (λ p. length p.words) c.self.view_is in let e = c.pages.ensures in let l =
+    ∙ word_read _ _ 2 (let v = ap (λ p. length p.words) c.self.view_is in let e = c.pages.ensures.count in let l =
     c.if-page-pages.false in omega (arith, v, e, l)) (omega arith)) c.if-at-word.true
 
 pub is_held-requires-clause-within : goal.is_held-requires-clause-within
@@ -23,6 +23,6 @@ is_held-requires-clause-within c = chain_within (pool_of c.self.inside.book) c.s
 pub returns : goal.returns
 returns c =
     live_held (pool_of c.self.inside.book) _ c.self.view_is c.args.at _ c.if-at-lt-BASE.false (c.word.ensures
-    ∙ word_read _ _ 2 (let v = ap (λ p. length p.words) c.self.view_is in let e = c.pages.ensures in let l =
+    ∙ word_read _ _ 2 (let v = ap (λ p. length p.words) c.self.view_is in let e = c.pages.ensures.count in let l =
     c.if-page-pages.false in omega (arith, v, e, l)) (omega arith))
     c.if-at-word.false _ c.is_held.ensures

@@ -7,4 +7,4 @@ pub returns : goal.returns
 returns c =
     load_in (pool_of c.self.inside.book) _ c.self.view_is c.self.invariant c.args.at _ c.if-at-lt-BASE.false (let v = ap
     (λ p. length p.words) c.self.view_is in let e =
-    c.pages.ensures in let l = c.if-at-pages.false in omega (arith, v, e, l)) c.byte.ensures
+    c.pages.ensures.count in let l = c.if-at-pages.false in omega (arith, v, e, l)) c.byte.ensures

@@ -16,6 +16,11 @@ returns-then-not-knows-clause-few c =
     let e = ap (λ r. r.words) (c.knows.ensures.raw ∙ c.begin.ensures.raw) ∙ ap (λ p. p.words) c.self.view_is in
     let n = ap (changed_words c.args.self.now.words) e ∙ no_change c.args.self.now.words in omega (arith, n)
 
+pub returns-then-not-knows-clause-counted : goal.returns-then-not-knows-clause-counted
+returns-then-not-knows-clause-counted c =
+    let e = ap (λ r. r.words) (c.knows.ensures.raw ∙ c.begin.ensures.raw) ∙ ap (λ p. p.words) c.self.view_is in
+    let n = ap (changed_words c.args.self.now.words) e ∙ no_change c.args.self.now.words in omega (arith, n)
+
 pub returns-then-not-knows-clause-apart : goal.returns-then-not-knows-clause-apart
 returns-then-not-knows-clause-apart c = apart (pool_of c.knows.new.self)
 

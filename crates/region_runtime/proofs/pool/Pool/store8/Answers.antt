@@ -16,7 +16,7 @@ returns-then-at-lt-BASE-clause-apart c = apart _
 pub returns-then-at-pages-clause-bytes : goal.returns-then-at-pages-clause-bytes
 returns-then-at-pages-clause-bytes c =
     store_out (pool_of c.self.inside.book) _ (record (pool_of c.self.inside.book) { touched = 0 }) c.self.view_is c.args.at c.args.byte
-    (above_out (pool_of c.self.inside.book) c.args.at c.if-at-lt-BASE.false (let e = c.pages.ensures in let l = c.if-at-pages.true in omega (arith, e, l)))
+    (above_out (pool_of c.self.inside.book) c.args.at c.if-at-lt-BASE.false (let e = c.pages.ensures.count in let l = c.if-at-pages.true in omega (arith, e, l)))
     (bytes_along (pool_of c.self.inside.book) (pool_of c.self.inside.book) (record (pool_of c.self.inside.book) { touched = 0 }) refl refl)
 
 pub returns-then-at-pages-clause-apart : goal.returns-then-at-pages-clause-apart
@@ -25,7 +25,7 @@ returns-then-at-pages-clause-apart c = apart _
 pub returns-clause-bytes : goal.returns-clause-bytes
 returns-clause-bytes c =
     store_in (pool_of c.self.inside.book) _ _ c.self.view_is c.self.invariant c.args.at c.args.byte c.if-at-lt-BASE.false
-    (let e = c.pages.ensures in let l = c.if-at-pages.false in omega (arith, e, l)) c.set_byte.ensures.bytes
+    (let e = c.pages.ensures.count in let l = c.if-at-pages.false in omega (arith, e, l)) c.set_byte.ensures.bytes
 
 pub returns-clause-apart : goal.returns-clause-apart
 returns-clause-apart c = apart _

@@ -1,0 +1,174 @@
+// The allocator as a store: keys over regions with unique blocks.
+
+ghost use Rattle.std.specs.Prelude.{◌≡◌, ◌≤◌, IfOk};
+ghost use Rattle.arena_laws.specs.Holdings.{fresh};
+ghost use Rattle.arena_laws.specs.Lawful.{key_free, region_free};
+ghost use Rattle.arena_laws.specs.Laws.{Does, unit_result};
+ghost use Rattle.dynamic_region.specs.Calls as key_calls;
+ghost use Rattle.dynamic_region.specs.Keyed.{held_by};
+ghost use Rattle.region_runtime.specs.Calls as region_calls;
+ghost use Rattle.raw_pages.specs.Raw.{is_no_page_count, is_pages_fault};
+ghost use Rattle.region_runtime.specs.Pool.{changed_words};
+ghost use Rattle.unique_blocks.specs.Blocks as blocks;
+
+use crate::store::BlockStore;
+use arena_laws::StoreRefusal;
+use dynamic_region::{Blocks, Handle, Key, KeyRefusal, Keys, Refusal};
+use raw_pages::PagesFault;
+use region_runtime::Pool;
+use std::alloc::Global;
+use unique_blocks::UniqueBlocks;
+
+// a region's refusal, as a store's
+fn of_region(why: Refusal) -> StoreRefusal
+    ensures { result ≡ region_calls.refusal_of why }
+{
+    match why {
+        Refusal::Full => StoreRefusal::Full,
+        Refusal::BadHandle => StoreRefusal::BadHandle,
+    }
+}
+
+// a key's refusal, as a store's
+fn of_key(why: KeyRefusal) -> StoreRefusal
+    ensures { result ≡ key_calls.refusal_of why }
+{
+    match why {
+        KeyRefusal::Full => StoreRefusal::Full,
+        KeyRefusal::BadKey => StoreRefusal::BadKey,
+        KeyRefusal::Open => StoreRefusal::Open,
+        KeyRefusal::NotOpen => StoreRefusal::NotOpen,
+    }
+}
+
+/// A store over regions with unique blocks beside them, which takes memory when it is made and never
+/// again: no call answers Memory. Freeing a region or a key takes the same few header words, whatever
+/// the number of its pages.
+#[derive(Drop)]
+pub struct PagedStore<R: Blocks> {
+    keys: Keys<R>,
+}
+
+impl PagedStore<UniqueBlocks> {
+    /// A store of so many pages, all free, whose bytes are 0. Pages where `pages` isn't 1 to 4,096,
+    /// looked for first; Memory where the allocator refuses.
+    pub fn new(alloc: Global, pages: u32) -> Result<PagedStore<UniqueBlocks>, PagesFault>
+        ensures made { IfOk result (λ s. held_by blocks.held blocks.tag_of s.keys.regions ≡ fresh pages) }
+        ensures zeros { IfOk result (λ s. blocks.byte_at s.keys.regions ≡ (λ q. 0)) }
+        ensures pages { is_pages_fault result ≡ is_no_page_count pages }
+    {
+        let pool = Pool::new(alloc, pages)?;
+        Ok(PagedStore::over(UniqueBlocks::new(pool)))
+    }
+}
+
+impl<R: Blocks> PagedStore<R> {
+    /// A store over regions with unique blocks.
+    pub fn over(blocks: R) -> PagedStore<R>
+        ensures { result.keys.regions ≡ blocks }
+    {
+        PagedStore {
+            keys: Keys::new(blocks),
+        }
+    }
+
+    /// How many header words the last call with `&mut self` read or wrote.
+    pub fn touched(&self) -> u64
+        ensures { result ≡ self.now.keys.touched }
+    {
+        self.keys.touched()
+    }
+}
+
+impl<R: Blocks> BlockStore for PagedStore<R> {
+    ghost holdings = { λ s. held_by R.holdings R.tag_of s.keys.regions };
+
+    ghost byte_at = { λ s. R.byte_at s.keys.regions };
+
+    fn region_new(&mut self) -> Result<u32, StoreRefusal> {
+        match self.keys.region_new() {
+            Some(handle) => Ok(handle.0),
+            None => Err(StoreRefusal::Full),
+        }
+    }
+
+    fn region_alloc(&mut self, handle: u32, bytes: u32) -> Result<u32, StoreRefusal> {
+        match self.keys.region_alloc(Handle(handle), bytes) {
+            Ok(at) => Ok(at),
+            Err(why) => Err(of_region(why)),
+        }
+    }
+
+    fn region_free(&mut self, handle: u32) -> Result<(), StoreRefusal>
+        ensures does { let held = held_by R.holdings R.tag_of in
+            Does (unit_result result) (held self.new.keys.regions) (region_free handle (held self.old.keys.regions)) }
+        ensures bytes { R.byte_at self.new.keys.regions ≡ R.byte_at self.old.keys.regions }
+        ensures few { changed_words (R.headers self.old.keys.regions) (R.headers self.new.keys.regions) ≤ 8 }
+        ensures touched { self.new.keys.touched ≤ 8 }
+        ensures counted { changed_words (R.headers self.old.keys.regions) (R.headers self.new.keys.regions) ≤ self.new.keys.touched }
+    {
+        match self.keys.region_free(Handle(handle)) {
+            Ok(()) => Ok(()),
+            Err(why) => Err(of_region(why)),
+        }
+    }
+
+    fn unique_alloc(&mut self, bytes: u32) -> Result<u32, StoreRefusal> {
+        self.keys.unique_alloc(bytes)
+    }
+
+    fn unique_free(&mut self, at: u32) -> Result<(), StoreRefusal> {
+        self.keys.unique_free(at)
+    }
+
+    fn key_new(&mut self) -> Result<u32, StoreRefusal> {
+        match self.keys.key_new() {
+            Ok(key) => Ok(key.0),
+            Err(why) => Err(of_key(why)),
+        }
+    }
+
+    fn key_open(&mut self, key: u32) -> Result<u32, StoreRefusal> {
+        match self.keys.key_open(Key(key)) {
+            Ok(handle) => Ok(handle.0),
+            Err(why) => Err(of_key(why)),
+        }
+    }
+
+    fn key_close(&mut self, key: u32) -> Result<(), StoreRefusal> {
+        match self.keys.key_close(Key(key)) {
+            Ok(()) => Ok(()),
+            Err(why) => Err(of_key(why)),
+        }
+    }
+
+    fn key_free(&mut self, key: u32) -> Result<(), StoreRefusal>
+        ensures does { let held = held_by R.holdings R.tag_of in
+            Does (unit_result result) (held self.new.keys.regions) (key_free key (held self.old.keys.regions)) }
+        ensures bytes { R.byte_at self.new.keys.regions ≡ R.byte_at self.old.keys.regions }
+        ensures few { changed_words (R.headers self.old.keys.regions) (R.headers self.new.keys.regions) ≤ 8 }
+        ensures touched { self.new.keys.touched ≤ 8 }
+        ensures counted { changed_words (R.headers self.old.keys.regions) (R.headers self.new.keys.regions) ≤ self.new.keys.touched }
+    {
+        match self.keys.key_free(Key(key)) {
+            Ok(()) => Ok(()),
+            Err(why) => Err(of_key(why)),
+        }
+    }
+
+    fn load8(&self, at: u32) -> Option<u8> {
+        self.keys.load8(at)
+    }
+
+    fn store8(&mut self, at: u32, byte: u8) -> bool {
+        self.keys.store8(at, byte)
+    }
+
+    fn is_live(&self, at: u32) -> bool {
+        self.keys.is_live(at)
+    }
+
+    fn pages(&self) -> u32 {
+        self.keys.pages()
+    }
+}

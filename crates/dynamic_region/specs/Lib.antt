@@ -1,0 +1,3 @@
+pub mod Keyed
+pub mod Calls
+pub mod Tagged

@@ -1,0 +1,16 @@
+pub mod Words
+pub mod Tally
+pub mod Classes
+pub mod Vacant
+pub mod Chained
+pub mod Taken
+pub mod Given
+pub mod Places
+pub mod Joined
+pub mod Counted
+pub mod Steps
+pub mod Turned
+pub mod Forgotten
+pub mod Beside
+pub mod Freed
+pub mod Told

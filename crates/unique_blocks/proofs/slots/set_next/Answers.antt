@@ -1,0 +1,8 @@
+use Rattle.std.proofs.Common.{◌∙◌, ap}
+use Rattle.region_runtime.specs.Pool.{word_of}
+use Rattle.unique_blocks.specs.Slots.{slots_by}
+use Rattle.unique_blocks.proofs.Words.{next_put}
+use Rattle.unique_blocks.proofs.slots.set_next.Goals as goal
+
+pub returns-clause-slots : goal.returns-clause-slots
+returns-clause-slots c = ap slots_by c.set_word.ensures.words ∙ next_put (word_of c.args.pool.now) c.args.page c.args.next

@@ -6,7 +6,7 @@ use Rattle.std.specs.Io.KnownBytes.{Appends}
 use Rattle.std.proofs.KnownBytes.{Appends-trans}
 use Rattle.cyc_tree.specs.Tree.{Program, Statement}
 use Rattle.cyc_words.specs.Words.{word}
-use Rattle.cyc_words.specs.Events.{Event, ByteRead, Visible, Returned, SourceEnding, visible, output, bytes_read}
+use Rattle.cyc_words.specs.Events.{Event, ByteRead, SourceEvent, Visible, Returned, SourceEnding, visible, output, bytes_read}
 use Rattle.source_meaning.specs.Memory.{Memory, AsInt, Integer}
 use Rattle.source_meaning.specs.Steps.{Routine, Scope, Step, Outcome, run}
 use Rattle.source_meaning.specs.Programs.{source_bodies, source as source_run}
@@ -85,11 +85,11 @@ module _ {p : Program} {fuel left : ℕ} {is_over : Bool} {s : Step} {reader_old
   run_on n = ap (λ l. source_run p l (x.units + n)) (sym (append-nil x.input)) ∙ x.ran n [] (λ over. refl)
 
   -- the run that had some units more, and showed no byte more with them
-  pub evaluated : (why : EvalEnding) (n : ℕ) (o : Outcome) (writer_next : Option (List ℕ)) → n ≤ left → run source_bodies n s [] ≡ o
+  pub evaluated : (why : EvalEnding) (n : ℕ) (o : Outcome SourceEvent) (writer_next : Option (List ℕ)) → n ≤ left → run source_bodies n s [] ≡ o
       → AreSilent (visible o.events) → Wrote why writer writer_next gathered → EndsAs why p fuel (x.units + n) x.input
       → IsEvaluated why p fuel reader_old reader writer_old writer_next
   evaluated why n o writer_next few runs silent rest ends =
-      let all = ap (λ (r : Outcome). r.events) (run_on n ∙ ap (prepended x.events) runs) in
+      let all = ap (λ (r : Outcome SourceEvent). r.events) (run_on n ∙ ap (prepended x.events) runs) in
       let shown : output (visible (source_run p x.input (x.units + n)).events) ≡ x.written ++ gathered =
       ap (λ es. output (visible es)) all ∙ bytes_append x.events o.events ∙ ap (λ l. output (visible x.events) ++ l) silent.written
       ∙ append-nil (output (visible x.events)) ∙ x.shows in
@@ -107,14 +107,14 @@ module _ {p : Program} {fuel left : ℕ} {is_over : Bool} {s : Step} {reader_old
       }
 
   -- an ending of the run with all its fuel, or a failed write in its place
-  pub either_end : (why result : EvalEnding) (o : Outcome) (writer_next : Option (List ℕ)) → (result ≡ why) ⊎ (result ≡ ending.WriteFault)
+  pub either_end : (why result : EvalEnding) (o : Outcome SourceEvent) (writer_next : Option (List ℕ)) → (result ≡ why) ⊎ (result ≡ ending.WriteFault)
       → run source_bodies left s [] ≡ o → AreSilent (visible o.events) → Wrote result writer writer_next gathered
       → ((source_run p x.input (x.units + left)).ending ≡ o.ending → EndsAs why p fuel (x.units + left) x.input)
       → IsEvaluated result p fuel reader_old reader writer_old writer_next
   either_end why result o writer_next (inl same) runs silent rest ends =
       subst (λ (r : EvalEnding). IsEvaluated r p fuel reader_old reader writer_old writer_next) (sym same)
       (evaluated why left o writer_next (omega arith) runs silent (subst (λ (r : EvalEnding). Wrote r writer writer_next gathered) same rest)
-      (ends (ap (λ (r : Outcome). r.ending) (run_on left ∙ ap (prepended x.events) runs))))
+      (ends (ap (λ (r : Outcome SourceEvent). r.ending) (run_on left ∙ ap (prepended x.events) runs))))
   either_end why result o writer_next (inr failed) runs silent rest ends =
       subst (λ (r : EvalEnding). IsEvaluated r p fuel reader_old reader writer_old writer_next) (sym failed)
       (evaluated ending.WriteFault left o writer_next (omega arith) runs silent (subst (λ
@@ -192,20 +192,22 @@ module _ {p : Program} {fuel left : ℕ} {is_over : Bool} {ws : List Wait} {know
   stopped_reading unread writer_next all =
       let y = x.progress in
       let st = x.stands in
-      let nothing : Outcome = record { events = []; ending = SourceEnding.Running } in
+      let nothing : Outcome SourceEvent = record { events = []; ending = SourceEnding.Running } in
       let k : Option ℕ → Memory → Step = λ b. rest_of x.f ws st.scope st.outer (Got (Integer AsInt (byte_value b) ∷ [])) in
       let stops : run source_bodies 0 x.s [] ≡ nothing = ap (λ (t : Step). run source_bodies 0 t []) st.same in
       let here : source_run p y.input (y.units + 0) ≡ prepended y.events nothing = run_on y 0 ∙ ap (prepended y.events) stops in
       let reads : (byte : ℕ) → IsReadNext p y.input (y.units + 0) byte =
-      λ byte. let then_run : Outcome = run source_bodies 0 (k (Some byte) st.m) [] in (
+      λ byte. let then_run : Outcome SourceEvent = run source_bodies 0 (k (Some byte) st.m) [] in (
         then_run.events,
         let more : suc (y.units + 0) ≡ y.units + 1 = omega arith in
-            ap (λ (r : Outcome). r.events) (ap (source_run p (y.input ++ byte ∷ [])) more ∙ y.ran 1 (byte ∷ []) (λ over. absurd (let bad : true ≡ false = sym over
-            ∙ unread in cc)) ∙ ap (λ (t : Step). prepended y.events (run source_bodies 1 t (byte ∷ []))) st.same)
-            ∙ ap (λ es. es ++ Visible (ByteRead (Some byte)) ∷ then_run.events) (sym (ap (λ (r : Outcome). r.events) here ∙ append-nil y.events)),
+            ap (λ (r : Outcome SourceEvent). r.events) (ap (source_run p (y.input ++ byte ∷ [])) more
+            ∙ y.ran 1 (byte ∷ []) (λ over. absurd (let bad : true ≡ false = sym over ∙ unread in cc))
+            ∙ ap (λ (t : Step). prepended y.events (run source_bodies 1 t (byte ∷ []))) st.same)
+            ∙ ap (λ es. es ++ Visible (ByteRead (Some byte)) ∷ then_run.events)
+            (sym (ap (λ (r : Outcome SourceEvent). r.events) here ∙ append-nil y.events)),
       ) in
       evaluated y ending.ReadFault 0 nothing writer_next (omega arith) stops none_silent all
-      (let spent = y.spent in omega arith, ap (λ (r : Outcome). r.ending) here, reads)
+      (let spent = y.spent in omega arith, ap (λ (r : Outcome SourceEvent). r.ending) here, reads)
 
 module _ {p : Program} {fuel left : ℕ} {is_over : Bool} {ws : List Wait} {known : Known} {reader_old reader writer_old writer : Option (List ℕ)}
     {gathered : List ℕ} (x : Stage p fuel left is_over GetcharDue ws known reader_old reader writer_old writer gathered) (some : 0 < left) where

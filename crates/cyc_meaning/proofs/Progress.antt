@@ -7,13 +7,13 @@ use Rattle.cyc_tree.specs.Tree.{Program, Expression, Statement}
 use Rattle.cyc_words.specs.Events.{Event, ByteRead, ByteWritten, SourceEvent, Visible, Called, Returned, visible, output, bytes_read}
 use Rattle.source_meaning.specs.Memory.{Memory}
 use Rattle.source_meaning.specs.Steps as source
-use Rattle.source_meaning.specs.Steps.{Scope, Step, Stops, Says, Reads, Pays, Turns, Outcome, after, run}
+use Rattle.source_meaning.specs.Steps.{Scope, Step, Stops, Says, Reads, Pays, take_turn, Outcome, after, run}
 use Rattle.source_meaning.specs.Programs.{source_bodies, turned, source as source_run}
 use Rattle.cyc_words.proofs.Events.{output_append, read_append, told_before}
 use Rattle.cyc_host.specs.Transfers.{WritesBut, Answers}
 
 -- these events, and then what a run comes to
-abbrev pub prepended : List SourceEvent → Outcome → Outcome
+abbrev pub prepended : List SourceEvent → Outcome SourceEvent → Outcome SourceEvent
 prepended es o = record { events = es ++ o.events; ending = o.ending }
 
 -- A run has taken these bytes and shown these events with so many units, whatever else follows them; after the end nothing follows. It goes on with a step and what is left of its fuel.
@@ -47,7 +47,7 @@ reads_append xs ys = ap bytes_read (visible_append xs ys) ∙ read_append (visib
 pub bytes_append : (xs ys : List SourceEvent) → output (visible (xs ++ ys)) ≡ output (visible xs) ++ output (visible ys)
 bytes_append xs ys = ap output (visible_append xs ys) ∙ output_append (visible xs) (visible ys)
 
-one_more : (es : List SourceEvent) (e : SourceEvent) (o : Outcome) → prepended es (after e o) ≡ prepended (es ++ e ∷ []) o
+one_more : (es : List SourceEvent) (e : SourceEvent) (o : Outcome SourceEvent) → prepended es (after e o) ≡ prepended (es ++ e ∷ []) o
 one_more es e o = ap (λ l. record { events = l; ending = o.ending }) (sym (append_assoc es (e ∷ []) o.events))
 
 -- ---- steps
@@ -87,7 +87,7 @@ module _ {p : Program} {fuel left : ℕ} {is_over : Bool} {s : Step} {reader_old
 
   -- a turn of a loop, for a unit
   pub turned_once : Progress p fuel left is_over s reader_old reader writer_old writer gathered → 0 < left
-      → (e : Expression) (body : Statement) (scope : Scope) (next : source.Flow → Memory → Step) (m : Memory) → s ≡ Turns e body scope next m
+      → (e : Expression) (body : Statement) (scope : Scope) (next : source.Flow → Memory → Step) (m : Memory) → s ≡ take_turn e body scope next m
       → Progress p fuel (left - 1) is_over (turned e body scope next m) reader_old reader writer_old writer gathered
   turned_once x h e body scope next m is = record {
     input = x.input;

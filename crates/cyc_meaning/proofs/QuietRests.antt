@@ -6,7 +6,7 @@ use Rattle.source_meaning.specs.Shapes.{IntShape}
 use Rattle.source_meaning.specs.Memory.{Memory, Scalar}
 use Rattle.source_meaning.specs.Places.{given_by}
 use Rattle.source_meaning.specs.Steps as source
-use Rattle.source_meaning.specs.Steps.{Routine, Scope, Step, Turns, give}
+use Rattle.source_meaning.specs.Steps.{Routine, Scope, Step, take_turn, give}
 use Rattle.source_meaning.specs.Operators.{operated, is_true}
 use Rattle.source_meaning.specs.Calls.{flat, all_true, any_true}
 use Rattle.source_meaning.specs.Expressions.{sense, senses}
@@ -38,7 +38,7 @@ module _ (k : Rest) (quiet : IsQuietRest k) where
       (λ f m3. quiet (Left f) m3)))
   condition_rest (Statement.While at condition body) scope vs m =
       (one_quiet vs).go _ m (λ v m1. (need_quiet (is_true v)).go _ m1 (λ t m2.
-      (choose_quiet t (λ next m3. Turns condition body scope next m3) (give source.Falls) (record { go = λ next m3 h. tt }) (give_quiet source.Falls)).go _ m2
+      (choose_quiet t (take_turn condition body scope) (give source.Falls) (record { go = λ next m3 h. tt }) (give_quiet source.Falls)).go _ m2
       (λ f m3. quiet (Left f) m3)))
   condition_rest _ scope vs m = tt
 

@@ -6,7 +6,7 @@ use Rattle.cyc_tree.specs.Tree.{Name, Expression, Declaration, Local, Value, Sta
 use Rattle.source_meaning.specs.Shapes.{Shape, IntShape, settled_by}
 use Rattle.source_meaning.specs.Memory.{IntegerType, AsInt, Scalar, Integer, Memory}
 use Rattle.source_meaning.specs.Steps as source
-use Rattle.source_meaning.specs.Steps.{Routine, Scope, Step, Turns, choose, give}
+use Rattle.source_meaning.specs.Steps.{Routine, Scope, Step, choose, give}
 use Rattle.source_meaning.specs.Statements.{block_items}
 use Rattle.source_meaning.specs.Regions.{initialised}
 use Rattle.source_meaning.specs.Expressions.{sense}

@@ -8,7 +8,7 @@ use Rattle.cyc_words.specs.Events.{Visible, ByteWritten, Returned, SourceEnding}
 use Rattle.source_meaning.specs.Shapes.{IntShape}
 use Rattle.source_meaning.specs.Memory.{AsInt, Scalar, Integer, Frame, Dead, Memory, with_state}
 use Rattle.source_meaning.specs.Steps as source
-use Rattle.source_meaning.specs.Steps.{Routine, Scope, Step, Stops, Says, Reads, Pays, Turns, Act, give, need, choose}
+use Rattle.source_meaning.specs.Steps.{Routine, Scope, Step, Stops, Says, Reads, Pays, take_turn, Act, give, need, choose}
 use Rattle.source_meaning.specs.Operators.{operated, is_true, truth_value}
 use Rattle.source_meaning.specs.Conversions.{converted, one, integer}
 use Rattle.source_meaning.specs.Values.{write_cells}
@@ -132,7 +132,7 @@ condition_taken (Statement.If at condition body) scope k vs =
 condition_taken (Statement.IfElse at condition body otherwise) scope k vs =
     one vs (λ v. need (is_true v) (λ t. choose t (statement body scope) (statement otherwise scope) (λ f. k (Left f))))
 condition_taken (Statement.While at condition body) scope k vs =
-    one vs (λ v. need (is_true v) (λ t. choose t (λ next m. Turns condition body scope next m) (give source.Falls) (λ f. k (Left f))))
+    one vs (λ v. need (is_true v) (λ t. choose t (take_turn condition body scope) (give source.Falls) (λ f. k (Left f))))
 condition_taken _ scope k vs = out_of_order
 
 -- a local with its value, and what follows it
@@ -148,7 +148,7 @@ body_left _ scope k f = out_of_order
 
 -- a turn of a loop, whose unit is due
 abbrev pub turn_due : Statement → Scope → Rest → Memory → Step
-turn_due (Statement.While at condition body) scope k m = Turns condition body scope (λ g. k (Left g)) m
+turn_due (Statement.While at condition body) scope k m = take_turn condition body scope (λ g. k (Left g)) m
 turn_due _ scope k m = out_of_order m
 
 -- the value of one decides, or else those after it do

@@ -40,10 +40,10 @@ pays_same n s m c cells same = record { at = paid }
     paid (suc j) h input = let less : j ≤ j = omega arith in (same j h).at j less input
 
 -- a turn of a loop, of both at once, with a unit less
-pub turns_same : (n : ℕ) (condition : Expression) (statement : Statement) (scope : Scope) (s : Flow → Memory → source.Step) (m : Memory) (test : Statements) (cell : Cell) (body : Statements) (c : Exit → Cells → core.Step) (cells : Cells) → ((j : ℕ) → suc j ≤ n → Same j (turned condition statement scope s m) (core.turned test cell body c cells)) → Same n (source.Turns condition statement scope s m) (core.Turns test cell body c cells)
+pub turns_same : (n : ℕ) (condition : Expression) (statement : Statement) (scope : Scope) (s : Flow → Memory → source.Step) (m : Memory) (test : Statements) (cell : Cell) (body : Statements) (c : Exit → Cells → core.Step) (cells : Cells) → ((j : ℕ) → suc j ≤ n → Same j (turned condition statement scope s m) (core.turned test cell body c cells)) → Same n (source.take_turn condition statement scope s m) (core.Turns test cell body c cells)
 turns_same n condition statement scope s m test cell body c cells same = record { at = turn }
   where
-    turn : (k : ℕ) → k ≤ n → (input : List ℕ) → SameOutcome (source.run source_bodies k (source.Turns condition statement scope s m) input) (core.run k (core.Turns test cell body c cells) input)
+    turn : (k : ℕ) → k ≤ n → (input : List ℕ) → SameOutcome (source.run source_bodies k (source.take_turn condition statement scope s m) input) (core.run k (core.Turns test cell body c cells) input)
     turn zero h input = record { events = refl; ending = refl }
     turn (suc j) h input = let less : j ≤ j = omega arith in (same j h).at j less input
 

@@ -140,23 +140,23 @@ turn_same n j frames scope condition body d test these m cells next c less runs 
       returns = λ m2 cells2 word held2. fewer.returns m2 cells2 word held2;
     })
 
-loop_by : (b : Bool) (n : ℕ) (frames : List ℕ) (scope : Scope) (condition : Expression) (body : tree.Statement) (d word : ℕ) (test these : List Statement) (m : Memory) (cells : Cells) (next : Flow → Memory → source.Step) (c : core.Exit → Cells → core.Step) → nat_eq word 0 ≡ b → cells d ≡ word → ((j : ℕ) → RunsAs j frames scope.locals (meaning.statement body scope) these) → ((j : ℕ) → suc j ≤ n → LoopsAs j frames scope condition body (While (statements_of test) (cell d) (statements_of these))) → AreShown frames scope.locals m cells → WaysOn n frames scope.locals next [] c → Same n (source.choose (not (nat_eq word 0)) (λ s m2. source.Turns condition body scope s m2) (source.give source.Falls) next m) (if nat_eq (cells d) 0 then c core.Falls cells else core.Turns (statements_of test) (cell d) (statements_of these) c cells)
+loop_by : (b : Bool) (n : ℕ) (frames : List ℕ) (scope : Scope) (condition : Expression) (body : tree.Statement) (d word : ℕ) (test these : List Statement) (m : Memory) (cells : Cells) (next : Flow → Memory → source.Step) (c : core.Exit → Cells → core.Step) → nat_eq word 0 ≡ b → cells d ≡ word → ((j : ℕ) → RunsAs j frames scope.locals (meaning.statement body scope) these) → ((j : ℕ) → suc j ≤ n → LoopsAs j frames scope condition body (While (statements_of test) (cell d) (statements_of these))) → AreShown frames scope.locals m cells → WaysOn n frames scope.locals next [] c → Same n (source.choose (not (nat_eq word 0)) (λ s m2. source.take_turn condition body scope s m2) (source.give source.Falls) next m) (if nat_eq (cells d) 0 then c core.Falls cells else core.Turns (statements_of test) (cell d) (statements_of these) c cells)
 loop_by true n frames scope condition body d word test these m cells next c tested is runs again held ways =
     let here : nat_eq (cells d) 0 ≡ true = ap (λ w. nat_eq w 0) is ∙ tested in
-    subst (λ x. Same n (source.choose (not x) (λ s m2. source.Turns condition body scope s m2) (source.give source.Falls) next m) (if nat_eq (cells d) 0 then c core.Falls cells else core.Turns (statements_of test) (cell d) (statements_of these) c cells)) (sym tested)
+    subst (λ x. Same n (source.choose (not x) (λ s m2. source.take_turn condition body scope s m2) (source.give source.Falls) next m) (if nat_eq (cells d) 0 then c core.Falls cells else core.Turns (statements_of test) (cell d) (statements_of these) c cells)) (sym tested)
     (subst (λ x. Same n (next source.Falls m) (if x then c core.Falls cells else core.Turns (statements_of test) (cell d) (statements_of these) c cells)) (sym here)
     (ways.falls m cells held))
 loop_by false n frames scope condition body d word test these m cells next c tested is runs again held ways =
     let here : nat_eq (cells d) 0 ≡ false = ap (λ w. nat_eq w 0) is ∙ tested in
-    subst (λ x. Same n (source.choose (not x) (λ s m2. source.Turns condition body scope s m2) (source.give source.Falls) next m) (if nat_eq (cells d) 0 then c core.Falls cells else core.Turns (statements_of test) (cell d) (statements_of these) c cells)) (sym tested)
-    (subst (λ x. Same n (source.Turns condition body scope next m) (if x then c core.Falls cells else core.Turns (statements_of test) (cell d) (statements_of these) c cells)) (sym here)
+    subst (λ x. Same n (source.choose (not x) (λ s m2. source.take_turn condition body scope s m2) (source.give source.Falls) next m) (if nat_eq (cells d) 0 then c core.Falls cells else core.Turns (statements_of test) (cell d) (statements_of these) c cells)) (sym tested)
+    (subst (λ x. Same n (source.take_turn condition body scope next m) (if x then c core.Falls cells else core.Turns (statements_of test) (cell d) (statements_of these) c cells)) (sym here)
     (turns_same n condition body scope next m (statements_of test) (cell d) (statements_of these) c cells
     (λ j less. turn_same n j frames scope condition body d test these m cells next c less (runs j) (again j less) held ways)))
 
 one_loop : (n : ℕ) (frames : List ℕ) (scope : Scope) (condition : Expression) (body : tree.Statement) (d : ℕ) (test these : List Statement) → length scope.locals ≤ d → ((j : ℕ) → LooksAs j frames scope.locals d (sense condition scope).look test) → ((j : ℕ) → RunsAs j frames scope.locals (meaning.statement body scope) these) → ((j : ℕ) → suc j ≤ n → LoopsAs j frames scope condition body (While (statements_of test) (cell d) (statements_of these))) → LoopsAs n frames scope condition body (While (statements_of test) (cell d) (statements_of these))
 one_loop n frames scope condition body d test these above looks runs again = record {
   same = λ m cells next c held ways.
-      let tests : List Scalar → Memory → source.Step = λ vs. conversions.one vs (λ v m2. source.need (is_true v) (λ t m3. source.choose t (λ s m4. source.Turns condition body scope s m4) (source.give source.Falls) next m3) m2) in
+      let tests : List Scalar → Memory → source.Step = λ vs. conversions.one vs (λ v m2. source.need (is_true v) (λ t m3. source.choose t (λ s m4. source.take_turn condition body scope s m4) (source.give source.Falls) next m3) m2) in
       let after : core.Exit → Cells → core.Step = λ exit. core.falls_to exit (λ tested. if nat_eq (tested d) 0 then c core.Falls tested else core.Turns (statements_of test) (cell d) (statements_of these) c tested) c in
       subst (λ l. Same n ((sense condition scope).look tests m) (core.statements (statements_of l) after cells)) (append-nil test)
       ((looks n).same m cells tests [] after above held (record {

@@ -1,6 +1,6 @@
 -- When Core does what a program does.
 use Rattle.std.specs.Prelude.{◌≡◌, ℕ, List}
-use Rattle.cyc_words.specs.Events.{visible}
+use Rattle.cyc_words.specs.Events.{SourceEvent, visible}
 use Rattle.cyc_tree.specs.Tree.{Program}
 use Rattle.source_meaning.specs.Steps as source
 use Rattle.source_meaning.specs.Programs as programs
@@ -9,7 +9,7 @@ use Rattle.cyc_core.specs.Meaning as core
 use Rattle.cyc_core.specs.Meaning.{Cells}
 
 -- what is seen of a source's run is what is shown of Core's, and both end alike
-pub record SameOutcome (s : source.Outcome) (c : core.Outcome) : Type 0 where
+pub record SameOutcome (s : source.Outcome SourceEvent) (c : core.Outcome) : Type 0 where
   pub events : visible s.events ≡ c.events
   pub ending : s.ending ≡ c.ending
 

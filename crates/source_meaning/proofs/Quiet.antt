@@ -11,9 +11,10 @@ use Rattle.cyc_tree.specs.Tree as tree
 use Rattle.cyc_tree.specs.Tree.{Expression, Expressions, NoExpressions, MoreExpressions, Links, NoLinks, MoreLinks, Suffixes, NoSuffixes, Index, Dot, Arrow, Made, One, Array, Initializer, Declaration, Statement, BlockItems, NoItems, Clauses, NoClauses, MoreClauses, Case, Default}
 use Rattle.cyc_words.specs.declared.faults.Kind.{Kind}
 use Rattle.cyc_words.specs.Events.{Event, ByteRead, ByteWritten, SourceEvent, Visible, Called, Returned, visible, output, bytes_read}
+use Rattle.step_trees.specs.Trees.{Calls, Turns}
 use Rattle.source_meaning.specs.Shapes.{parts_of, Owner, Shared, Alone, Shape, IntShape, UnsignedShape, CharShape, VoidShape, ThinShape, FatShape, ArrayShape, UnionShape, HandleShape, KeyShape, part_position, part_shape, part_shapes, pointee, has_tag, written, settled_by, same_shape}
 use Rattle.source_meaning.specs.Memory.{Region, Frame, Born, Spot, Span, Scalar, IntegerType, AsInt, AsUnsigned, AsChar, Integer, Thin, Wide, HandleOf, KeyOf, Tagged, Content, Holds, Blank, Gone, Lent, Object, State, Live, Closed, Dead, Memory, beyond, any_moved, cell_at, is_live, is_closed, is_of, with_state, blank_object}
-use Rattle.source_meaning.specs.Steps.{Entity, Variable, Fixed, Routine, World, Scope, Flow, Falls, Breaks, Continues, Returns, Step, Stops, Says, Reads, Pays, Calls, Turns, Act, give, ◌>>=◌, ◌>>◌, stuck, raise, need, check, choose, finally, run}
+use Rattle.source_meaning.specs.Steps.{Entity, Variable, Fixed, Routine, World, Scope, Flow, Falls, Breaks, Continues, Returns, Step, Stops, Says, Reads, Pays, Act, give, ◌>>=◌, ◌>>◌, stuck, raise, take_turn, need, check, choose, finally, run}
 use Rattle.source_meaning.specs.Operators.{operated, is_true}
 use Rattle.source_meaning.specs.Conversions.{cells_of, element, thin_to_thin, fat_to_thin, thin_leads, fat_leads, converted_scalar, converted, one, integer, accessed}
 use Rattle.source_meaning.specs.Values.{value_held, read_cell, read_cells, put_content, write_cell, write_cells, put_contents, take_cells, is_lent}
@@ -37,8 +38,8 @@ IsQuiet (Stops ending) = Unit {0}
 IsQuiet (Says event step) = IsSilent event × IsQuiet step
 IsQuiet (Reads next) = ⊥
 IsQuiet (Pays next m) = Unit {0}
-IsQuiet (Calls f world arguments next m) = Unit {0}
-IsQuiet (Turns condition body scope next m) = Unit {0}
+IsQuiet (Calls invocation next m) = Unit {0}
+IsQuiet (Turns turn next m) = Unit {0}
 
 -- an act reads and writes no byte before the next unit, where what comes after it doesn't
 pub record Quiet {A : Type 0} (act : Act A) : Type 0 where
@@ -548,7 +549,7 @@ turn_quiet (Returns vs) again x = give_quiet _
 pub loop_quiet : (condition : Expression) (body : Statement) (scope : Scope) → Quiet (loop condition body scope)
 loop_quiet condition body scope = record {
   go = λ next m h. (truth_quiet (sense condition scope) (sense_quiet condition scope)).go _ m (λ t m1.
-      (choose_quiet t (λ k m2. Turns condition body scope k m2) (give Falls) (record { go = λ k m2 i. tt }) (give_quiet Falls)).go next m1 h);
+      (choose_quiet t (take_turn condition body scope) (give Falls) (record { go = λ k m2 i. tt }) (give_quiet Falls)).go next m1 h);
 }
 
 exchanged_quiet : (a b : Sense) → IsQuietSense a → IsQuietSense b → Quiet (exchanged a b)
@@ -702,5 +703,5 @@ silent_run (Stops ending) input h = none_silent
 silent_run (Says event s) input h = silent_after event (run source_bodies 0 s input).events h.0 (silent_run s input h.1)
 silent_run (Reads next) input h = absurd h
 silent_run (Pays next m) input h = none_silent
-silent_run (Calls f world arguments next m) input h = none_silent
-silent_run (Turns condition body scope next m) input h = none_silent
+silent_run (Calls invocation next m) input h = none_silent
+silent_run (Turns turn next m) input h = none_silent

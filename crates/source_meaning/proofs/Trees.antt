@@ -37,5 +37,5 @@ abbrev pub function : TypeName → Name → List Member → BlockItems → Funct
 function result name parameters body =
     record { result = result; name = name; parameters = parameters; effect = None; bounds = []; body = body; end = 0 }
 
-abbrev pub gives : List SourceEvent → SourceEnding → Outcome
+abbrev pub gives : List SourceEvent → SourceEnding → Outcome SourceEvent
 gives events ending = record { events = events; ending = ending }

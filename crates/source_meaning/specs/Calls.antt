@@ -7,7 +7,7 @@ use Rattle.cyc_tree.specs.declared.expression.Prefix.TheVariants.{Negate, Not, C
 use Rattle.cyc_words.specs.Events.{ByteWritten}
 use Rattle.source_meaning.specs.Shapes.{Owner, Shared, Alone, Shape, IntShape, UnsignedShape, CharShape, ThinShape, FatShape, StructShape, UnionShape, parts_of, has_tag, part_position, part_shape, part_shapes}
 use Rattle.source_meaning.specs.Memory.{IntegerType, AsInt, AsUnsigned, AsChar, Spot, Scalar, Integer, Thin, Wide, Tagged, beyond, array_of, blank_cell, blank_object}
-use Rattle.source_meaning.specs.Steps.{Routine, World, Reads, Calls, Act, give, ◌>>=◌, ◌>>◌, stuck, show, pay, memory, need, choose}
+use Rattle.source_meaning.specs.Steps.{Routine, World, Reads, Act, give, ◌>>=◌, ◌>>◌, stuck, show, pay, invoke, memory, need, choose}
 use Rattle.source_meaning.specs.Operators.{truth_value, operated, is_true, operator_shape}
 use Rattle.source_meaning.specs.Conversions.{cells_of, size_of, converted, one, integer}
 use Rattle.source_meaning.specs.Values.{write_cells}
@@ -97,7 +97,7 @@ function_of (f ∷ fs) name = (if bytes_eq f.name name then Some f else function
 abbrev pub called : World → Option Routine → List Sense → Sense
 called w None arguments = no_sense
 called w (Some f) arguments =
-    value_sense f.result (converted_all w (part_shapes f.parameters) arguments >>= λ vss. λ next m. Calls f w vss next m)
+    value_sense f.result (converted_all w (part_shapes f.parameters) arguments >>= λ vss. invoke f w vss)
 
 -- the byte that was read, or -1 at the end of the input
 abbrev pub byte_value : Option ℕ → ℕ

@@ -3,10 +3,10 @@ use Rattle.std.specs.Prelude.{ℕ, suc, ◌+◌, ◌%◌, ◌^◌, Bool, true, N
 use Rattle.cyc_tree.specs.Tree as tree
 use Rattle.cyc_tree.specs.Tree.{Expression, Statement, Constant, Initial, Function, Item, Program, Structure}
 use Rattle.cyc_words.specs.Words.{difference_of}
-use Rattle.cyc_words.specs.Events.{Called, Returned, SourceEnding}
+use Rattle.cyc_words.specs.Events.{ByteRead, SourceEvent, Visible, Called, Returned, SourceEnding}
 use Rattle.source_meaning.specs.Shapes.{Shared, Shape, IntShape, UnsignedShape, VoidShape, CharShape, ThinShape, FatShape, ArrayShape, Layout, Part, part_of, written, settled}
 use Rattle.source_meaning.specs.Memory.{IntegerType, AsInt, AsUnsigned, AsChar, Born, Spot, Scalar, Integer, Thin, Holds, Cell, Object, object_of, Live, Dead, Memory, same_region, blank_object}
-use Rattle.source_meaning.specs.Steps.{Variable, Binding, Routine, World, Scope, Flow, Falls, Breaks, Continues, Returns, Step, Stops, Act, give, ◌>>=◌, ◌>>◌, stuck, need, say, Outcome, Bodies, run}
+use Rattle.source_meaning.specs.Steps.{Variable, Binding, Routine, World, Scope, Flow, Falls, Breaks, Continues, Returns, Step, Stops, SourceBodies, Act, give, ◌>>=◌, ◌>>◌, stuck, need, say, Outcome, run}
 use Rattle.source_meaning.specs.Conversions.{cells_of, converted, one, integer}
 use Rattle.source_meaning.specs.Values.{write_cells}
 use Rattle.source_meaning.specs.Places.{span_at, string_at}
@@ -184,9 +184,13 @@ entered f w arguments =
 abbrev pub turned : Expression → Statement → Scope → Act Flow
 turned condition body scope = statement body scope >>= λ flow. after_turn flow (loop condition body scope)
 
--- the bodies of calls and turns
-abbrev pub source_bodies : Bodies
-source_bodies = record { call = entered; turn = turned }
+-- the bodies of calls and turns; a byte that is read is seen
+abbrev pub source_bodies : SourceBodies
+source_bodies = record {
+  read = λ byte. Visible (ByteRead byte);
+  call = λ c. entered c.routine c.world c.arguments;
+  turn = λ t. turned t.condition t.body t.scope;
+}
 
 -- ---- the whole run
 
@@ -204,5 +208,5 @@ abbrev pub start : Program → Step
 start p = status_of (world_of p) p (λ status m. Stops (SourceEnding.Ended status)) (first_memory p)
 
 -- the events and the ending of a program on an input, with n units of fuel
-abbrev pub source : Program → List ℕ → ℕ → Outcome
+abbrev pub source : Program → List ℕ → ℕ → Outcome SourceEvent
 source p input n = run source_bodies n (start p) input

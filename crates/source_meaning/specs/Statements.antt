@@ -4,7 +4,7 @@ use Rattle.cyc_tree.specs.Tree as tree
 use Rattle.cyc_tree.specs.Tree.{Expression, Initializer, Declaration, Statement, BlockItems, NoItems, Declare, Execute, Clauses, NoClauses, MoreClauses, Case, Default}
 use Rattle.source_meaning.specs.Shapes.{ArrayShape, UnionShape, Shape, Part, parts_of, part_position, part_shape, written, settled, settled_by, same_shape}
 use Rattle.source_meaning.specs.Memory.{Scalar, Tagged, Object, object_of, array_of, first_cell}
-use Rattle.source_meaning.specs.Steps.{Scope, World, Flow, Falls, Breaks, Continues, Returns, Turns, Act, give, ◌>>=◌, ◌>>◌, stuck, need, choose, check}
+use Rattle.source_meaning.specs.Steps.{Scope, World, Flow, Falls, Breaks, Continues, Returns, Act, give, ◌>>=◌, ◌>>◌, stuck, take_turn, need, choose, check}
 use Rattle.source_meaning.specs.Conversions.{cells_of, one, converted}
 use Rattle.source_meaning.specs.Values.{read_cells, write_cells}
 use Rattle.source_meaning.specs.Places.{Sense, or_else}
@@ -38,7 +38,7 @@ after_switch (Returns vs) = Returns vs
 -- a loop: the unit of a turn is due after the test was true and before the body; the last test takes none
 abbrev pub loop : Expression → Statement → Scope → Act Flow
 loop condition body scope =
-    truth (sense condition scope) >>= λ t. choose t (λ next m. Turns condition body scope next m) (give Falls)
+    truth (sense condition scope) >>= λ t. choose t (take_turn condition body scope) (give Falls)
 
 -- ---- exchanges
 

@@ -1,8 +1,10 @@
--- A run as a tree of steps: what is seen of it, what it asks for, and where a unit of fuel is due.
-use Rattle.std.specs.Prelude.{ℕ, zero, suc, Bool, true, false, Option, Some, None, List, [], ◌∷◌}
+-- What is declared and what is in scope; the steps of a source's run, which are a tree; and acts, which make the steps.
+use Rattle.std.specs.Prelude.{ℕ, Bool, true, false, Option, Some, None, List}
 use Rattle.cyc_tree.specs.Tree.{Expression, Statement, BlockItems}
 use Rattle.cyc_words.specs.declared.faults.Kind.{Kind}
-use Rattle.cyc_words.specs.Events.{Event, ByteRead, SourceEvent, Visible, SourceEnding}
+use Rattle.cyc_words.specs.Events.{Event, SourceEvent, Visible, SourceEnding}
+use Rattle.step_trees.specs.Trees.{Tree, Bodies, Calls, Turns}
+pub use Rattle.step_trees.specs.Trees.{Stops, Says, Reads, Pays, Outcome, after, run}
 use Rattle.source_meaning.specs.Shapes.{Shape, Part, Layout}
 use Rattle.source_meaning.specs.Memory.{Memory, Scalar, Spot}
 
@@ -51,20 +53,25 @@ pub data Flow : Type 0 where
   Continues : Flow
   Returns : List Scalar → Flow
 
--- The steps of a run up to those at which a unit is due, for each byte that may be read.
-pub data Step : Type 0 where
-  -- the run is over
-  Stops : SourceEnding → Step
-  -- an event, and what follows
-  Says : SourceEvent → Step → Step
-  -- a byte of input, or its end
-  Reads : (Option ℕ → Step) → Step
-  -- one unit, and what follows
-  Pays : (Memory → Step) → Memory → Step
-  -- one unit, and the body of a function with these arguments
-  Calls : Routine → World → List (List Scalar) → (List Scalar → Memory → Step) → Memory → Step
-  -- one unit, and a turn of a loop
-  Turns : Expression → Statement → Scope → (Flow → Memory → Step) → Memory → Step
+-- a call of a function
+pub record Invocation : Type 0 where
+  pub routine : Routine
+  pub world : World
+  pub arguments : List (List Scalar)
+
+-- a turn of a loop
+pub record LoopTurn : Type 0 where
+  pub condition : Expression
+  pub body : Statement
+  pub scope : Scope
+
+-- the steps of a source's run
+abbrev pub Step : Type 0
+Step = Tree SourceEvent Invocation (List Scalar) Memory LoopTurn Flow Memory
+
+-- what stands in the places of its calls and turns, and how it shows a byte that is read
+abbrev pub SourceBodies : Type 0
+SourceBodies = Bodies SourceEvent Invocation (List Scalar) Memory LoopTurn Flow Memory
 
 -- ---- acts
 
@@ -106,6 +113,14 @@ show event = say (Visible event)
 abbrev pub pay : Act (Unit {0})
 pay = λ next m. Pays (λ m'. next tt m') m
 
+-- one unit, and the body of a function with these arguments
+abbrev pub invoke : Routine → World → List (List Scalar) → Act (List Scalar)
+invoke f w arguments = λ next m. Calls (record { routine = f; world = w; arguments = arguments }) next m
+
+-- one unit, and a turn of a loop
+abbrev pub take_turn : Expression → Statement → Scope → Act Flow
+take_turn condition body scope = λ next m. Turns (record { condition = condition; body = body; scope = scope }) next m
+
 -- the memory as it is
 abbrev pub memory : Act Memory
 memory = λ next m. next m m
@@ -132,46 +147,3 @@ choose false first second = second
 -- whatever way a statement is left, this comes after it
 abbrev pub finally : Act Flow → Act (Unit {0}) → Act Flow
 finally act exit = act >>= λ flow. exit >> give flow
-
--- ---- runs
-
--- what is seen of a run, and how it ends
-pub record Outcome : Type 0 where
-  pub events : List SourceEvent
-  pub ending : SourceEnding
-
--- what is seen before the rest
-abbrev pub after : SourceEvent → Outcome → Outcome
-after event o = record o { events = event ∷ o.events }
-
--- what the steps come to on an input
-abbrev pub Rest : Type 0
-Rest = Step → List ℕ → Outcome
-
--- what stands in the places of calls and turns once their unit is paid
-pub record Bodies : Type 0 where
-  pub call : Routine → World → List (List Scalar) → Act (List Scalar)
-  pub turn : Expression → Statement → Scope → Act Flow
-
--- the steps up to the first at which a unit is due; each read after the end of the input reads the end again
-abbrev pub walk : Bodies → Rest → Step → List ℕ → Outcome
-walk bodies rest (Stops ending) input = record { events = []; ending = ending }
-walk bodies rest (Says event step) input = after event (walk bodies rest step input)
-walk bodies rest (Reads next) [] = after (Visible (ByteRead None)) (walk bodies rest (next None) [])
-walk bodies rest (Reads next) (b ∷ input) = after (Visible (ByteRead (Some b))) (walk bodies rest (next (Some b)) input)
-walk bodies rest (Pays next m) input = rest (next m) input
-walk bodies rest (Calls f world arguments next m) input = rest (bodies.call f world arguments next m) input
-walk bodies rest (Turns condition body scope next m) input = rest (bodies.turn condition body scope next m) input
-
--- a unit is due and none is left
-abbrev pub out_of_fuel : Rest
-out_of_fuel step input = record { events = []; ending = SourceEnding.Running }
-
--- a unit is due and n are left
-abbrev pub spend : Bodies → ℕ → Rest
-spend bodies zero = out_of_fuel
-spend bodies (suc n) = walk bodies (spend bodies n)
-
--- the steps with n units of fuel
-abbrev pub run : Bodies → ℕ → Rest
-run bodies n = walk bodies (spend bodies n)

@@ -1,0 +1,341 @@
+-- Each operation's code does as the operation means, whatever goes on behind it.
+use Rattle.std.specs.Prelude.{slice_get, length, nat_eq, ◌&&◌, if◌then◌else◌}
+use Rattle.std.proofs.Common.{◌≡◌, ℕ, ◌+◌, ◌%◌, ◌^◌, ◌<◌, Bool, true, false, List, ◌∷◌, ◌++◌, Option, Some, None, refl, subst, arith}
+use Rattle.std.proofs.lemmas.Bool.{and_parts, eqb-true}
+use Rattle.cyc_words.specs.Events.{ByteWritten}
+use Rattle.rv32_machine.specs.State.{data_base}
+use Rattle.step_trees.specs.Trees.{Pays, Says}
+use Rattle.core_meaning.specs.Memory.{Spot, Frame, Own, Born, Content, Blank, Word, Null, Pointer, Birth, Part, Memory, is_live, with_part, beyond}
+use Rattle.core_meaning.specs.Core.{
+  Distance,
+  Operation,
+  Constant,
+  NullPointer,
+  Move,
+  Narrow,
+  Apply,
+  LocalAddress,
+  OwnAddress,
+  DataAddress,
+  Offset,
+  Element,
+  Get,
+  Put,
+  Load,
+  Store,
+  Copy,
+  Clear,
+  IsNull,
+  SamePlace,
+  Getchar,
+  Putchar,
+  RegionNew,
+  RegionAlloc,
+  RegionFree,
+  UniqueAlloc,
+  UniqueFree,
+  KeyNew,
+  KeyOpen,
+  KeyClose,
+  KeyFree,
+}
+use Rattle.core_meaning.specs.Words.{two}
+use Rattle.core_meaning.specs.Steps.{Config, Step, Exit, Falls, with_temp, with_memory, word_of, pointer_of, needed, checked, stuck}
+use Rattle.core_meaning.specs.Operations.{does, reached, local_spot, at_once, fitting, is_null}
+use Rattle.core_frames.specs.declared.line.Line.{Line}
+use Rattle.core_frames.specs.Machines.{Machine}
+use Rattle.core_frames.specs.Lines.{code_length}
+use Rattle.core_frames.specs.Frames.{load_code, save_code, slot_of}
+use Rattle.core_frames.specs.Selected.{Surroundings, nth, nth_block, constant_code, read_code, write_code, operation_code}
+use Rattle.core_frames.specs.Lies.{Maps, Activation}
+use Rattle.core_frames.specs.Selectable.{Scope, HasCode, IsLocal}
+use Rattle.core_frames.proofs.Relations.{back_of, FrameShows, World, IsInOrder, Has, Waiting, At, Goes, active_of}
+use Rattle.core_frames.proofs.Moving.{Comes, comes_then, comes_as, goes_from, goes_stuck}
+use Rattle.core_frames.proofs.Bodies.{with_config, IsIn, GoesFrom}
+use Rattle.core_frames.proofs.Forms.{at_config}
+use Rattle.core_frames.proofs.Nests.{BlocksAre, nth_is, local_small, local_found}
+use Rattle.core_frames.proofs.Operations.{having, saving, then_saves, constant_into, constant, move, narrow, apply, null_is, pointer_is}
+use Rattle.core_frames.proofs.Zero.{null_pointer}
+use Rattle.core_frames.proofs.Parts.{load, store, get, put, object_address}
+use Rattle.core_frames.proofs.Streams.{putchar_goes, getchar_goes}
+
+-- ---- what an operation needs
+
+module _ (w : World) (R : Machine → Type 0) (active : List (List ℕ)) (fuel : ℕ) where
+  word_goes : (v : Content) (k : ℕ → Step) → ((n : ℕ) → v ≡ Word n → Goes w fuel (k n) R active) → Goes w fuel (word_of v k) R active
+  word_goes (Word n) k goes = goes n refl
+  word_goes Blank k goes = goes_stuck w R active fuel
+  word_goes Null k goes = goes_stuck w R active fuel
+  word_goes (Pointer s b) k goes = goes_stuck w R active fuel
+  word_goes (Birth d) k goes = goes_stuck w R active fuel
+
+  pointer_goes : (v : Content) (k : Spot → ℕ → Step) → ((s : Spot) (b : ℕ) → v ≡ Pointer s b → Goes w fuel (k s b) R active) → Goes w fuel
+      (pointer_of v k) R active
+  pointer_goes (Pointer s b) k goes = goes s b refl
+  pointer_goes Blank k goes = goes_stuck w R active fuel
+  pointer_goes Null k goes = goes_stuck w R active fuel
+  pointer_goes (Word n) k goes = goes_stuck w R active fuel
+  pointer_goes (Birth d) k goes = goes_stuck w R active fuel
+
+  null_goes : (v : Content) (k : ℕ → Step) → (v ≡ Null → Goes w fuel (k 1) R active) → ((s : Spot) (b : ℕ) → v ≡ Pointer s b → Goes w fuel (k 0) R active)
+      → Goes w fuel (is_null v k) R active
+  null_goes Null k one other = one refl
+  null_goes (Pointer s b) k one other = other s b refl
+  null_goes Blank k one other = goes_stuck w R active fuel
+  null_goes (Word n) k one other = goes_stuck w R active fuel
+  null_goes (Birth d) k one other = goes_stuck w R active fuel
+
+  block_goes : (o : Option ℕ) (k : ℕ → Step) → ((n : ℕ) → o ≡ Some n → Goes w fuel (k n) R active) → Goes w fuel (needed o k) R active
+  block_goes None k goes = goes_stuck w R active fuel
+  block_goes (Some n) k goes = goes n refl
+
+  -- a part that is where it is looked for
+  reached_goes : (m : Memory) (d : Distance) (s : Spot) (b : ℕ) (k : Spot → Part → Step)
+      → ((part : Part) → m.parts (beyond s d.cells) d.part ≡ Some part → is_live (m.standing s.region) ≡ true → part.offset ≡ b + d.bytes → part.width ≡ d.width
+      → Goes w fuel (k (beyond s d.cells) part) R active)
+      → Goes w fuel (reached m d s b k) R active
+  reached_goes m d s b k goes = by (is_live (m.standing s.region)) refl (m.parts (beyond s d.cells) d.part) refl
+    where
+      fits : (part : Part) → m.parts (beyond s d.cells) d.part ≡ Some part → is_live (m.standing s.region) ≡ true → (c : Bool)
+          → (nat_eq part.offset (b + d.bytes) && nat_eq part.width d.width) ≡ c → Goes w fuel (checked c (k (beyond s d.cells) part)) R active
+      fits part is live false e = goes_stuck w R active fuel
+      fits part is live true e =
+          let both = and_parts (nat_eq part.offset (b + d.bytes)) (nat_eq part.width d.width) e in
+          goes part is live (eqb-true part.offset (b + d.bytes) both.0) (eqb-true part.width d.width both.1)
+
+      by : (live : Bool) → is_live (m.standing s.region) ≡ live → (found : Option Part) → m.parts (beyond s d.cells) d.part ≡ found
+          → Goes w fuel (needed (if live then found else None) (λ p. checked (nat_eq p.offset (b + d.bytes) && nat_eq p.width d.width)
+          (k (beyond s d.cells) p))) R active
+      by false e found is = goes_stuck w R active fuel
+      by true e None is = goes_stuck w R active fuel
+      by true e (Some part) is = fits part is e (nat_eq part.offset (b + d.bytes) && nat_eq part.width d.width) refl
+
+-- ---- addresses of unnamed values and data
+
+-- the offsets of an activation's unnamed values aren't large
+abbrev pub OwnSmall : Waiting → Type 0
+OwnSmall x = (o y : ℕ) → slice_get x.unnamed o ≡ Some y → y < 2 ^ 25
+
+-- the offsets of the data aren't large
+abbrev pub DataSmall : World → Type 0
+DataSmall w = (o y : ℕ) → slice_get w.data_offsets o ≡ Some y → y < 2 ^ 25
+
+data_address : (w : World) (order : IsInOrder w) (x : Waiting) (outer : List Waiting) (mem : Memory) (t object place : ℕ) → t < x.fn.temporaries
+    → object < length w.data_offsets → DataSmall w
+    → Has w place (constant_code (data_base + nth w.data_offsets object) ++ saving w order x outer mem 5 t)
+    → Comes w (At w x outer mem place) (At w (having t (Pointer (record { region = Born 0; object = object; cell = 0 }) 0) x) outer mem
+    (place + code_length (constant_code (data_base + nth w.data_offsets object) ++ saving w order x outer mem 5 t)))
+data_address w order x outer mem t object place named is_object small has =
+    let found = nth_is w.data_offsets object is_object in
+    let few = small object (nth w.data_offsets object) found in
+    let v = data_base + nth w.data_offsets object in
+    then_saves w order x outer mem t place (Pointer (record { region = Born 0; object = object; cell = 0 }) 0) (constant_code v) named has
+    (λ has. comes_then w _ _ _ (constant_into w order x outer mem v place (omega (arith, few)) has)
+    (comes_as w _ _ (λ s a. record {
+      maps = a.maps;
+      frame = a.frame;
+      others = a.others;
+      sp = a.sp;
+      stands = a.stands;
+      shows = a.shows;
+      stack = a.stack;
+      holds = (let is = a.holds in (
+        record {
+          base = v;
+          known = a.stands.data_based object (nth w.data_offsets object) found;
+          at = omega (arith, is);
+          positive = omega (arith, is);
+        },
+        omega (arith, is, few),
+      ));
+    })))
+
+-- ---- each
+
+-- the surroundings of an activation's code, and its scope
+abbrev pub surrounding : World → Waiting → List (List ℕ) → ℕ → Surroundings
+surrounding w x blocks low = record { passed = x.fn.passed; own = x.unnamed; blocks = blocks; low = low; statics = w.data_offsets }
+
+abbrev pub scoped : World → Waiting → List ℕ → Scope
+scoped w x ns =
+    record { temporaries = x.fn.temporaries; passed = x.fn.passed; blocks = ns; unnamed = length x.unnamed; data_objects = length w.data_offsets }
+
+module _ (w : World) (order : IsInOrder w) (x : Waiting) (outer : List Waiting) (small : DataSmall w) (own_small : OwnSmall x) (ns : List ℕ)
+    (oss : List (List ℕ)) (low : ℕ)
+    (are : BlocksAre ns x.nest oss) (fuel place : ℕ) (next : Config → Step) where
+  abbrev u : Surroundings
+  u = surrounding w x oss low
+
+  abbrev Ends : List Line → Type 0
+  Ends lines = GoesFrom w x outer fuel (place + code_length lines) next
+
+  abbrev At_first : Config → Machine → Type 0
+  At_first c = At w (with_config x c) outer c.memory place
+
+  abbrev active : List (List ℕ)
+  active = active_of w (x ∷ outer)
+
+  -- with a temporary set, or another memory, what goes on goes on
+  sets : (c : Config) (t : ℕ) (v : Content) (lines : List Line) → IsIn x c → Comes w (At_first c)
+      (At w (having t v (with_config x c)) outer c.memory (place + code_length lines))
+      → Ends lines → Goes w fuel (next (with_temp t v c)) (At_first c) active
+  sets c t v lines is comes ends =
+      goes_from w (At_first c) active fuel (next (with_temp t v c)) (At w (with_config x (with_temp t v c)) outer c.memory (place + code_length lines)) comes
+      (ends (with_temp t v c) (record { blocks = is.blocks; own = is.own }))
+
+  puts_part : (c : Config) (m : Memory) (lines : List Line) → IsIn x c → Comes w (At_first c) (At w (with_config x c) outer m (place + code_length lines))
+      → Ends lines
+      → Goes w fuel (next (with_memory m c)) (At_first c) active
+  puts_part c m lines is comes ends =
+      goes_from w (At_first c) active fuel (next (with_memory m c)) (At w (with_config x (with_memory m c)) outer m (place + code_length lines))
+      (comes_then w _ _ _ comes (comes_as w _ _ (λ s a. at_config w x outer c (with_memory m c) m (place + code_length lines) s refl refl refl a)))
+      (ends (with_memory m c) (record { blocks = is.blocks; own = is.own }))
+
+  abbrev loading_of : ℕ → ℕ → List Line
+  loading_of r t = load_code r (slot_of x.fn.passed t)
+
+  abbrev saving_of : ℕ → ℕ → List Line
+  saving_of r t = save_code r (slot_of x.fn.passed t)
+
+  -- where the code looks for a local, it lies
+  local_few : (out local : ℕ) → IsLocal ns out local → nth (nth_block oss out) local < 2 ^ 25
+  local_few out local has_local = local_small ns x.nest oss out local are has_local
+
+  local_lies : (c : Config) (out local k : ℕ) → IsLocal ns out local → slice_get c.blocks out ≡ Some k → (m : Maps) (a : Activation)
+      → FrameShows w m (with_config x c) (back_of w outer) a → m.base (Frame k) local ≡ Some (a.at + nth (nth_block oss out) local)
+  local_lies c out local k has_local block m a f = (local_found m a.at ns x.nest oss c.blocks a.zones out local k are f.blocks has_local block).known
+
+  -- a read and a write of a part whose width is as the code has it
+  get_goes : (c : Config) (t out local k : ℕ) → IsIn x c → t < x.fn.temporaries → IsLocal ns out local
+      → slice_get c.blocks out ≡ Some k
+      → (part : Part) → c.memory.parts (local_spot k local) 0 ≡ Some part → is_live (c.memory.standing (Frame k)) ≡ true → part.offset ≡ 0
+      → (width : ℕ) → part.width ≡ width → Has w place (read_code width 2 (nth (nth_block oss out) local) ++ saving_of 5 t)
+      → Ends (read_code width 2 (nth (nth_block oss out) local) ++ saving_of 5 t) → Goes w fuel (next (with_temp t part.content c)) (At_first c) active
+  get_goes c t out local k is named has_local block part part_is live offset width wide =
+      subst (λ k. Has w place (read_code k 2 (nth (nth_block oss out) local) ++ saving_of 5 t)
+      → Ends (read_code k 2 (nth (nth_block oss out) local) ++ saving_of 5 t) → Goes w fuel (next (with_temp t part.content c)) (At_first c) active) wide
+      (λ has ends. sets c t part.content (read_code part.width 2 (nth (nth_block oss out) local) ++ saving_of 5 t) is
+      (get w order (with_config x c) outer c.memory (Frame k) local (nth (nth_block oss out) local) (local_few out local has_local)
+      (local_lies c out local k has_local block) part part_is live offset t place named has) ends)
+
+  put_goes : (c : Config) (y out local k : ℕ) → IsIn x c → y < x.fn.temporaries → IsLocal ns out local
+      → slice_get c.blocks out ≡ Some k
+      → (part : Part) → c.memory.parts (local_spot k local) 0 ≡ Some part → is_live (c.memory.standing (Frame k)) ≡ true → part.offset ≡ 0
+      → (width : ℕ) → part.width ≡ width → Has w place (loading_of 6 y ++ write_code width 2 (nth (nth_block oss out) local))
+      → Ends (loading_of 6 y ++ write_code width 2 (nth (nth_block oss out) local))
+      → Goes w fuel (next (with_memory (with_part c.memory (local_spot k local) 0 (record part { content = fitting width (c.temps y) })) c)) (At_first c) active
+  put_goes c y out local k is named has_local block part part_is live offset width wide =
+      subst (λ k'. Has w place (loading_of 6 y ++ write_code k' 2 (nth (nth_block oss out) local)) → Ends
+      (loading_of 6 y ++ write_code k' 2 (nth (nth_block oss out) local))
+      → Goes w fuel (next (with_memory (with_part c.memory (local_spot k local) 0 (record part { content = fitting k' (c.temps y) })) c))
+      (At_first c) active) wide
+      (λ has ends. puts_part c (with_part c.memory (local_spot k local) 0 (record part { content = fitting part.width (c.temps y) }))
+      (loading_of 6 y ++ write_code part.width 2 (nth (nth_block oss out) local)) is
+      (put w order (with_config x c) outer c.memory (Frame k) local (nth (nth_block oss out) local) (local_few out local has_local)
+      (local_lies c out local k has_local block) part part_is live offset y place named has) ends)
+
+  load_goes : (c : Config) (t p cells j off b : ℕ) (s : Spot) → IsIn x c → t < x.fn.temporaries → p < x.fn.temporaries → c.temps p ≡ Pointer s b
+      → (part : Part) → c.memory.parts (beyond s cells) j ≡ Some part → is_live (c.memory.standing s.region) ≡ true → part.offset ≡ b + off
+      → (width : ℕ) → part.width ≡ width → Has w place (loading_of 5 p ++ read_code width 5 off ++ saving_of 5 t) → Ends
+      (loading_of 5 p ++ read_code width 5 off ++ saving_of 5 t)
+      → Goes w fuel (next (with_temp t part.content c)) (At_first c) active
+  load_goes c t p cells j off b s is named named' points part part_is live offset width wide =
+      subst (λ k. Has w place (loading_of 5 p ++ read_code k 5 off ++ saving_of 5 t) → Ends (loading_of 5 p ++ read_code k 5 off ++ saving_of 5 t)
+      → Goes w fuel (next (with_temp t part.content c)) (At_first c) active) wide
+      (λ has ends. sets c t part.content (loading_of 5 p ++ read_code part.width 5 off ++ saving_of 5 t) is
+      (load w order (with_config x c) outer c.memory (beyond s cells) j part part_is live s b off refl refl offset t p place named named' points has) ends)
+
+  store_goes : (c : Config) (p y cells j off b : ℕ) (s : Spot) → IsIn x c → p < x.fn.temporaries → y < x.fn.temporaries → c.temps p ≡ Pointer s b
+      → (part : Part) → c.memory.parts (beyond s cells) j ≡ Some part → is_live (c.memory.standing s.region) ≡ true → part.offset ≡ b + off
+      → (width : ℕ) → part.width ≡ width → Has w place (loading_of 5 p ++ loading_of 6 y ++ write_code width 5 off) → Ends
+      (loading_of 5 p ++ loading_of 6 y ++ write_code width 5 off)
+      → Goes w fuel (next (with_memory (with_part c.memory (beyond s cells) j (record part { content = fitting width (c.temps y) })) c)) (At_first c) active
+  store_goes c p y cells j off b s is named named' points part part_is live offset width wide =
+      subst (λ k. Has w place (loading_of 5 p ++ loading_of 6 y ++ write_code k 5 off) → Ends (loading_of 5 p ++ loading_of 6 y ++ write_code k 5 off)
+      → Goes w fuel (next (with_memory (with_part c.memory (beyond s cells) j (record part { content = fitting k (c.temps y) })) c)) (At_first c) active) wide
+      (λ has ends. puts_part c (with_part c.memory (beyond s cells) j (record part { content = fitting part.width (c.temps y) }))
+      (loading_of 5 p ++ loading_of 6 y ++ write_code part.width 5 off) is
+      (store w order (with_config x c) outer c.memory (beyond s cells) j part part_is live s b off refl refl offset p y place named named' points has) ends)
+
+  pub operation_goes : (o : Operation) → HasCode (scoped w x ns) o → Has w place (operation_code u o) → Ends (operation_code u o)
+      → GoesFrom w x outer fuel place (does o next)
+  operation_goes (Constant t v) named has ends c is =
+      sets c t (Word (v % 2 ^ 32)) (operation_code u (Constant t v)) is
+      (constant w order (with_config x c) outer c.memory t (v % 2 ^ 32) place named (omega arith) has) ends
+  operation_goes (NullPointer t) named has ends c is =
+      sets c t Null (operation_code u (NullPointer t)) is (null_pointer w order (with_config x c) outer c.memory t named place has) ends
+  operation_goes (Move t y) named has ends c is =
+      sets c t (c.temps y) (operation_code u (Move t y)) is (move w order (with_config x c) outer c.memory t y place named.0 named.1 has) ends
+  operation_goes (Narrow t y) named has ends c is =
+      word_goes w (At_first c) active fuel (c.temps y) (λ n. next (with_temp t (Word (n % 256)) c)) (λ n e.
+      sets c t (Word (n % 256)) (operation_code u (Narrow t y)) is (narrow w order (with_config x c) outer c.memory t y n place named.0 named.1 e has) ends)
+  operation_goes (Apply o t y z) named has ends c is =
+      word_goes w (At_first c) active fuel (c.temps y) (λ a. word_of (c.temps z) (λ b. next (with_temp t (Word (two o a b)) c))) (λ a e.
+      word_goes w (At_first c) active fuel (c.temps z) (λ b. next (with_temp t (Word (two o a b)) c)) (λ b e'.
+      sets c t (Word (two o a b)) (operation_code u (Apply o t y z)) is
+      (apply w order (with_config x c) outer c.memory o t y z a b place named.0 named.1 named.2 e e' has) ends))
+  operation_goes (LocalAddress t out local) named has ends c is =
+      block_goes w (At_first c) active fuel (slice_get c.blocks out) (λ k. next (with_temp t (Pointer (local_spot k local) 0) c)) (λ k e.
+      sets c t (Pointer (local_spot k local) 0) (operation_code u (LocalAddress t out local)) is
+      (object_address w order (with_config x c) outer c.memory (Frame k) local (nth (nth_block oss out) local) (local_few out local named.1)
+      (local_lies c out local k named.1 e) t place named.0 has) ends)
+  operation_goes (OwnAddress t object) named has ends c is =
+      let found = nth_is x.unnamed object named.1 in
+      sets c t (Pointer (record { region = Own c.own; object = object; cell = 0 }) 0) (operation_code u (OwnAddress t object)) is
+      (object_address w order (with_config x c) outer c.memory (Own c.own) object (nth x.unnamed object) (own_small object (nth x.unnamed object) found)
+      (λ m a f. f.own_based object (nth x.unnamed object) found) t place named.0 has) ends
+  operation_goes (DataAddress t object) named has ends c is =
+      sets c t (Pointer (record { region = Born 0; object = object; cell = 0 }) 0) (operation_code u (DataAddress t object)) is
+      (data_address w order (with_config x c) outer c.memory t object place named.0 named.1 small has) ends
+  operation_goes (Offset t p cells bytes) named has ends c is = absurd named
+  operation_goes (Element t p i cells bytes) named has ends c is = absurd named
+  operation_goes (Get t out local width) named has ends c is =
+      block_goes w (At_first c) active fuel (slice_get c.blocks out)
+      (λ k. reached c.memory (at_once width) (local_spot k local) 0 (λ there part. next (with_temp t part.content c))) (λ k e.
+      reached_goes w (At_first c) active fuel c.memory (at_once width) (local_spot k local) 0 (λ there part. next (with_temp t part.content c))
+      (λ part found live offset wide.
+      get_goes c t out local k is named.0 named.1 e part found live offset width wide has ends))
+  operation_goes (Put out local width y) named has ends c is =
+      block_goes w (At_first c) active fuel (slice_get c.blocks out)
+      (λ k. reached c.memory (at_once width) (local_spot k local) 0 (λ there part.
+      next (with_memory (with_part c.memory there 0 (record part { content = fitting width (c.temps y) })) c))) (λ k e.
+      reached_goes w (At_first c) active fuel c.memory (at_once width) (local_spot k local) 0
+      (λ there part. next (with_memory (with_part c.memory there 0 (record part { content = fitting width (c.temps y) })) c)) (λ part found live offset wide.
+      put_goes c y out local k is named.0 named.1 e part found live offset width wide has ends))
+  operation_goes (Load t p d) named has ends c is =
+      pointer_goes w (At_first c) active fuel (c.temps p) (λ s b. reached c.memory d s b (λ there part. next (with_temp t part.content c))) (λ s b e.
+      reached_goes w (At_first c) active fuel c.memory d s b (λ there part. next (with_temp t part.content c)) (λ part found live offset wide.
+      load_goes c t p d.cells d.part d.bytes b s is named.0 named.1 e part found live offset d.width wide has ends))
+  operation_goes (Store p d y) named has ends c is =
+      pointer_goes w (At_first c) active fuel (c.temps p)
+      (λ s b. reached c.memory d s b (λ there part. next (with_memory (with_part c.memory there d.part
+      (record part { content = fitting d.width (c.temps y) })) c))) (λ s b e.
+      reached_goes w (At_first c) active fuel c.memory d s b
+      (λ there part. next (with_memory (with_part c.memory there d.part (record part { content = fitting d.width (c.temps y) })) c))
+      (λ part found live offset wide.
+      store_goes c p y d.cells d.part d.bytes b s is named.0 named.1 e part found live offset d.width wide has ends))
+  operation_goes (Copy to from layout) named has ends c is = absurd named
+  operation_goes (Clear p layout count) named has ends c is = absurd named
+  operation_goes (IsNull t p) named has ends c is =
+      null_goes w (At_first c) active fuel (c.temps p) (λ n. next (with_temp t (Word n) c))
+      (λ e. sets c t (Word 1) (operation_code u (IsNull t p)) is (null_is w order (with_config x c) outer c.memory t p place named.0 named.1 has e) ends)
+      (λ s b e. sets c t (Word 0) (operation_code u (IsNull t p)) is (pointer_is w order
+      (with_config x c) outer c.memory t p place named.0 named.1 has s b e) ends)
+  operation_goes (SamePlace t p q) named has ends c is = absurd named
+  operation_goes (Getchar t) named has ends c is =
+      getchar_goes w order (with_config x c) outer c.memory fuel active next c t place named has
+      (λ v. ends (with_temp t v c) (record { blocks = is.blocks; own = is.own }))
+  operation_goes (Putchar t y) named has ends c is =
+      word_goes w (At_first c) active fuel (c.temps y)
+      (λ n. Pays (λ kept. Says (Rattle.core_meaning.specs.Steps.Visible (ByteWritten (n % 256))) (next (with_temp t (Word (n % 256)) kept))) c) (λ n e.
+      putchar_goes w order (with_config x c) outer c.memory fuel active (λ kept. next (with_temp t (Word (n % 256)) kept)) c t place named.0 y n named.1 e has
+      (ends (with_temp t (Word (n % 256)) c) (record { blocks = is.blocks; own = is.own })))
+  operation_goes (RegionNew t) named has ends c is = absurd named
+  operation_goes (RegionAlloc t h n layout) named has ends c is = absurd named
+  operation_goes (RegionFree h) named has ends c is = absurd named
+  operation_goes (UniqueAlloc t layout) named has ends c is = absurd named
+  operation_goes (UniqueFree p) named has ends c is = absurd named
+  operation_goes (KeyNew t) named has ends c is = absurd named
+  operation_goes (KeyOpen k) named has ends c is = absurd named
+  operation_goes (KeyClose k) named has ends c is = absurd named
+  operation_goes (KeyFree k) named has ends c is = absurd named

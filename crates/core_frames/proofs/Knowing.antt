@@ -1,0 +1,101 @@
+-- What is known of births, objects and numbers, when a function is entered and when a frame's regions end.
+use Rattle.std.specs.Prelude.{if◌then◌else◌}
+use Rattle.std.proofs.Common.{◌≡◌, ℕ, ◌+◌, Bool, true, false, Some, refl, sym, ap, ◌∙◌, subst, arith}
+use Rattle.std.proofs.lemmas.Bool.{ne_eqb}
+use Rattle.core_meaning.specs.Memory.{Region, Frame, Own, Born, Standing, Live, Dead, Spot, Part, Memory, same_region, with_standing}
+use Rattle.core_frames.specs.Machines.{Store}
+use Rattle.core_frames.specs.Lies.{Maps, Known, TagOf}
+use Rattle.core_frames.proofs.Fitting.{region_same, none_some}
+
+-- a region of a frame, and not one that was born
+abbrev pub IsOfFrame : Region → Type 0
+IsOfFrame (Frame k) = Unit {0}
+IsOfFrame (Own k) = Unit {0}
+IsOfFrame (Born d) = ⊥
+
+born_other : (d : ℕ) (r : Region) → IsOfFrame r → same_region (Born d) r ≡ false
+born_other d (Frame k) i = refl
+born_other d (Own k) i = refl
+born_other d (Born e) i = absurd i
+
+-- it ends
+pub known_death : (m : Maps) (mem : Memory) (st : Store) (r : Region) → IsOfFrame r → Known m mem st → Known m (with_standing mem r Dead) st
+known_death m mem st r frame k = record {
+  births = k.births;
+  heap = born 0 ∙ k.heap;
+  no_zero = k.no_zero;
+  held = λ h x e. let held = k.held h x e in record {
+    known = held.known;
+    stands = subst (λ (t : Standing). TagOf x t)
+        (sym (born (st.ledger.birth_of h))) held.stands;
+  };
+  numbered = λ d h e alive. k.numbered d h e (λ dead. alive (born d ∙ dead));
+  zero_is_heap = k.zero_is_heap;
+  heap_is_zero = k.heap_is_zero;
+  based = k.based;
+  unmade = k.unmade;
+  unborn = λ d le. let u = k.unborn d le in (born d ∙ u.0, u.1, u.2);
+  unentered = λ q le. let u = k.unentered q le in (dead_still (Frame q) u.0, u.1);
+  uncalled = λ q le. let u = k.uncalled q le in (dead_still (Own q) u.0, u.1);
+}
+  where
+    born : (d : ℕ) → (with_standing mem r Dead).standing (Born d) ≡ mem.standing (Born d)
+    born d = ap (λ c. if c then Dead else mem.standing (Born d)) (born_other d r frame)
+
+    dead_still : (q : Region) → mem.standing q ≡ Dead → (with_standing mem r Dead).standing q ≡ Dead
+    dead_still q e = by (same_region q r)
+      where
+        by : (c : Bool) → (if c then Dead else mem.standing q) ≡ Dead
+        by true = refl
+        by false = e
+
+-- a region of a frame begins, with no object yet: its parts are none
+pub no_parts : (m : Maps) (mem : Memory) (st : Store) (r : Region) → mem.objects r ≡ 0 → Known m mem st → (s : Spot) (j : ℕ) (p : Part)
+    → same_region s.region r ≡ true
+    → mem.parts s j ≡ Some p → ⊥
+no_parts m mem st r none k s j p same has =
+    let is = region_same s.region r same in
+    let zero_objects : mem.objects s.region ≡ 0 = ap (λ q. mem.objects q) is ∙ none in
+    let based = k.based s j p has in
+    none_some based.0 (sym (k.unmade s.region s.object (omega (arith, zero_objects))) ∙ based.1)
+
+other_still : (mem : Memory) (q r : Region) → same_region q r ≡ false → (with_standing mem r Live).standing q ≡ mem.standing q
+other_still mem q r e = ap (λ c. if c then Live else mem.standing q) e
+
+pub known_called : (m : Maps) (mem : Memory) (st : Store) → Known m mem st → Known m
+    (record (with_standing mem (Own mem.calls) Live) { calls = mem.calls + 1 }) st
+known_called m mem st k = record {
+  births = k.births;
+  heap = k.heap;
+  no_zero = k.no_zero;
+  held = λ h x e. let held = k.held h x e in record { known = held.known; stands = held.stands };
+  numbered = k.numbered;
+  zero_is_heap = k.zero_is_heap;
+  heap_is_zero = k.heap_is_zero;
+  based = k.based;
+  unmade = k.unmade;
+  unborn = k.unborn;
+  unentered = k.unentered;
+  uncalled = λ q le.
+      let u = k.uncalled q (omega (arith, le)) in
+      (other_still mem (Own q) (Own mem.calls) (ne_eqb q mem.calls (λ e. omega (arith, e, le))) ∙ u.0, u.1);
+}
+
+pub known_block : (m : Maps) (mem : Memory) (st : Store) → Known m mem st
+    → Known m (record (with_standing mem (Frame mem.activations) Live) { activations = mem.activations + 1 }) st
+known_block m mem st k = record {
+  births = k.births;
+  heap = k.heap;
+  no_zero = k.no_zero;
+  held = λ h x e. let held = k.held h x e in record { known = held.known; stands = held.stands };
+  numbered = k.numbered;
+  zero_is_heap = k.zero_is_heap;
+  heap_is_zero = k.heap_is_zero;
+  based = k.based;
+  unmade = k.unmade;
+  unborn = k.unborn;
+  unentered = λ q le.
+      let u = k.unentered q (omega (arith, le)) in
+      (other_still mem (Frame q) (Frame mem.activations) (ne_eqb q mem.activations (λ e. omega (arith, e, le))) ∙ u.0, u.1);
+  uncalled = k.uncalled;
+}

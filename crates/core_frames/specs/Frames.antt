@@ -1,0 +1,85 @@
+-- The code of frames: words into registers, loads and saves of slots, calls with their arguments and results, prologues and returns.
+use Rattle.std.specs.Prelude.{zero, suc, ℕ, ℤ, pos, ◌+◌, ◌*◌, ◌/◌, ◌%◌, ◌^◌, Bool, ◌||◌, nat_lt, nat_le, if◌then◌else◌, List, [], ◌∷◌, ◌++◌}
+use Rattle.rv32_isa.specs.Numbers.{signed}
+use Rattle.rv32_isa.specs.declared.instruction.Instr.TheVariants.{Lui, Jalr, Bgeu, Lw, Sw, Addi, Add, Sub, Ecall}
+use Rattle.rv32_machine.specs.State.{stack_base}
+use Rattle.core_frames.specs.declared.line.Line.{Line}
+use Rattle.core_frames.specs.declared.line.Line.TheVariants.{Plain, CallTo}
+
+-- ---- words and slots
+
+-- The upper part of a word and the lower one with its sign, from which LUI and ADDI put it together again.
+abbrev pub upper_of : ℕ → ℕ
+upper_of w = (w + 2048) % 2 ^ 32 / 2 ^ 12
+
+abbrev pub lower_of : ℕ → ℤ
+lower_of w = signed 12 (w % 2 ^ 12)
+
+-- the lower part alone is the word
+abbrev pub is_short : ℕ → Bool
+is_short w = nat_lt w 2048 || nat_le 0xfffff800 w
+
+-- a word into a register, by two instructions
+abbrev pub word_code : ℕ → ℕ → List Line
+word_code to w = Plain (Lui to (upper_of w)) ∷ Plain (Addi to to (lower_of w)) ∷ []
+
+-- slot k of a frame stands 4 * k bytes from the stack pointer on
+abbrev pub load_code : ℕ → ℕ → List Line
+load_code to k =
+    (if is_short (4 * k) then Plain (Lw to 2 (lower_of (4 * k))) ∷ []
+    else Plain (Lui 7 (upper_of (4 * k))) ∷ Plain (Add 7 7 2) ∷ Plain (Lw to 7 (lower_of (4 * k))) ∷ [])
+
+abbrev pub save_code : ℕ → ℕ → List Line
+save_code from k =
+    (if is_short (4 * k) then Plain (Sw 2 from (lower_of (4 * k))) ∷ []
+    else Plain (Lui 7 (upper_of (4 * k))) ∷ Plain (Add 7 7 2) ∷ Plain (Sw 7 from (lower_of (4 * k))) ∷ [])
+
+-- ---- frames: slot 0 has the return address, the next `passed` the words for a callee, then come the temporaries
+
+abbrev pub slot_of : ℕ → ℕ → ℕ
+slot_of passed t = 1 + passed + t
+
+-- from a temporary to another slot, and so on for all
+abbrev pub pass_code : ℕ → ℕ → List ℕ → List Line
+pass_code passed k [] = []
+pass_code passed k (t ∷ ts) = load_code 5 (slot_of passed t) ++ save_code 5 (1 + k) ++ pass_code passed (k + 1) ts
+
+-- results come in the registers behind x9
+abbrev pub result_code : ℕ → ℕ → List ℕ → List Line
+result_code passed r [] = []
+result_code passed r (t ∷ ts) = save_code (suc r) (slot_of passed t) ++ result_code passed (suc r) ts
+
+-- the label of a function is its number
+abbrev pub call_code : ℕ → List ℕ → ℕ → List ℕ → List Line
+call_code passed results f arguments = pass_code passed 0 arguments ++ (CallTo f ∷ []) ++ result_code passed 9 results
+
+-- a call of the environment
+abbrev pub environment_code : ℕ → List Line
+environment_code number = Plain (Addi 17 0 (pos number)) ∷ Plain Ecall ∷ []
+
+-- the stack is refused where fewer bytes than the frame's are left of it
+abbrev pub test_code : ℕ → List Line
+test_code bytes =
+    word_code 6 (stack_base + bytes) ++ (Plain (Bgeu 2 6 (pos 20)) ∷ []) ++ word_code 10 bytes ++ environment_code 13
+
+abbrev pub move_code : ℕ → List Line
+move_code bytes = word_code 7 bytes ++ (Plain (Sub 2 2 7) ∷ [])
+
+-- each parameter's word, from the caller's frame above into the slot of its temporary
+abbrev pub take_code : ℕ → ℕ → ℕ → ℕ → List Line
+take_code bytes passed k zero = []
+take_code bytes passed k (suc more) =
+    load_code 5 (bytes / 4 + 1 + k) ++ save_code 5 (slot_of passed k) ++ take_code bytes passed (k + 1) more
+
+abbrev pub prologue_code : ℕ → ℕ → ℕ → List Line
+prologue_code bytes passed parameters = test_code bytes ++ move_code bytes ++ save_code 1 0 ++ take_code bytes passed 0 parameters
+
+abbrev pub values_code : ℕ → ℕ → List ℕ → List Line
+values_code passed r [] = []
+values_code passed r (t ∷ ts) = load_code (suc r) (slot_of passed t) ++ values_code passed (suc r) ts
+
+abbrev pub leave_code : ℕ → List Line
+leave_code bytes = load_code 1 0 ++ word_code 7 bytes ++ (Plain (Add 2 2 7) ∷ Plain (Jalr 0 1 (pos 0)) ∷ [])
+
+abbrev pub return_code : ℕ → ℕ → List ℕ → List Line
+return_code bytes passed values = values_code passed 9 values ++ leave_code bytes

@@ -1,0 +1,11 @@
+pub mod Lines
+pub mod Frames
+pub mod Selected
+pub mod Machines
+pub mod Lies
+pub mod Layouts
+pub mod Statics
+pub mod Running
+pub mod Selectable
+pub mod Bounds
+pub mod Laws

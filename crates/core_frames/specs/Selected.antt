@@ -1,0 +1,350 @@
+-- The lines that each operation, statement, function and program of Core becomes.
+use Rattle.std.specs.Prelude.{ℕ, zero, suc, pos, ◌+◌, ◌-◌, ◌*◌, ◌/◌, ◌%◌, ◌^◌, List, [], ◌∷◌, ◌++◌, nat_le, nat_eq, if◌then◌else◌, length}
+use Rattle.rv32_isa.specs.declared.instruction.Instr.{Instr}
+use Rattle.rv32_isa.specs.declared.instruction.Instr.TheVariants as instr
+use Rattle.rv32_machine.specs.State.{data_base}
+use Rattle.core_meaning.specs.Core.{
+  Binary,
+  Add,
+  Subtract,
+  Multiply,
+  Divide,
+  DivideUnsigned,
+  Remainder,
+  RemainderUnsigned,
+  And,
+  Or,
+  Xor,
+  ShiftLeft,
+  ShiftRight,
+  ShiftRightUnsigned,
+  Equal,
+  NotEqual,
+  Less,
+  LessEqual,
+  LessUnsigned,
+  LessEqualUnsigned,
+  Operation,
+  Constant,
+  NullPointer,
+  Move,
+  Narrow,
+  Apply,
+  LocalAddress,
+  OwnAddress,
+  DataAddress,
+  Offset,
+  Element,
+  Get,
+  Put,
+  Load,
+  Store,
+  Copy,
+  Clear,
+  IsNull,
+  SamePlace,
+  Getchar,
+  Putchar,
+  RegionNew,
+  RegionAlloc,
+  RegionFree,
+  UniqueAlloc,
+  UniqueFree,
+  KeyNew,
+  KeyOpen,
+  KeyClose,
+  KeyFree,
+  Local,
+  Statement,
+  Do,
+  If,
+  While,
+  Block,
+  Break,
+  Continue,
+  Call,
+  Return,
+  Raise,
+  Statements,
+  NoStatements,
+  MoreStatements,
+  Function,
+  Datum,
+  Program,
+}
+use Rattle.core_frames.specs.declared.line.Line.{Line}
+use Rattle.core_frames.specs.declared.line.Line.TheVariants.{Plain, Label, Jump, JumpIfZero, CallTo}
+use Rattle.core_frames.specs.Frames.{
+  upper_of,
+  lower_of,
+  is_short,
+  word_code,
+  load_code,
+  save_code,
+  slot_of,
+  call_code,
+  return_code,
+  prologue_code,
+  environment_code,
+}
+
+-- ---- where locals lie in a frame
+
+-- up to the next multiple of 4
+abbrev pub rounded : ℕ → ℕ
+rounded n = (n + 3) / 4 * 4
+
+abbrev pub bytes_of : Local → ℕ
+bytes_of l = l.count * l.layout.bytes
+
+-- objects one behind the other from an offset on, each at a multiple of 4: where each begins, and where the last ends
+abbrev pub offsets_from : ℕ → List Local → List ℕ
+offsets_from low [] = []
+offsets_from low (l ∷ ls) = rounded low ∷ offsets_from (rounded low + bytes_of l) ls
+
+abbrev pub end_from : ℕ → List Local → ℕ
+end_from low [] = low
+end_from low (l ∷ ls) = end_from (rounded low + bytes_of l) ls
+
+abbrev pub greater : ℕ → ℕ → ℕ
+greater a b = (if nat_le a b then b else a)
+
+-- how high the locals of all blocks of a statement reach that begins at an offset: blocks that aren't in one another share their bytes
+abbrev mutual
+  pub highest : ℕ → Statement → ℕ
+  highest low (Do operation) = low
+  highest low (If t these those) = greater (highest_of low these) (highest_of low those)
+  highest low (While test t body) = greater (highest_of low test) (highest_of low body)
+  highest low (Block locals body) = highest_of (end_from low locals) body
+  highest low Break = low
+  highest low Continue = low
+  highest low (Call results f arguments) = low
+  highest low (Return values) = low
+  highest low (Raise kind) = low
+
+  pub highest_of : ℕ → Statements → ℕ
+  highest_of low NoStatements = low
+  highest_of low (MoreStatements s ss) = greater (highest low s) (highest_of low ss)
+
+-- the words of a frame that are no objects: the return address, what is passed to a callee, and the temporaries
+abbrev pub slots_of : Function → ℕ
+slots_of f = 1 + f.passed + f.temporaries
+
+-- where a function's unnamed values end, and its blocks' locals begin
+abbrev pub own_end : Function → ℕ
+own_end f = end_from (4 * slots_of f) f.own
+
+-- no stack has so many bytes
+abbrev pub too_many : ℕ
+too_many = 2 ^ 25
+
+-- the bytes of a frame: rounded up to 16, and no more than too many
+abbrev pub frame_bytes : Function → ℕ
+frame_bytes f = (if nat_le (highest_of (own_end f) f.body) (too_many - 16) then (highest_of (own_end f) f.body + 15) / 16 * 16 else too_many)
+
+-- ---- the data: each global and string from a multiple of 4 on
+
+abbrev pub datum_local : Datum → Local
+datum_local d = record { layout = d.layout; count = d.count }
+
+abbrev pub datum_locals : List Datum → List Local
+datum_locals [] = []
+datum_locals (d ∷ ds) = datum_local d ∷ datum_locals ds
+
+-- ---- operations
+
+-- What the code of a statement needs of where it stands: how many words its function passes to callees at most, where its unnamed values lie, the offsets of
+-- the locals of the blocks around it, the innermost block first, where the locals of a block within it would begin, and where the program's data lie.
+pub record Surroundings : Type 0 where
+  pub passed : ℕ
+  pub own : List ℕ
+  pub blocks : List (List ℕ)
+  pub low : ℕ
+  pub statics : List ℕ
+
+-- the n-th of a list, or 0 behind it
+abbrev pub nth : List ℕ → ℕ → ℕ
+nth [] k = 0
+nth (x ∷ xs) zero = x
+nth (x ∷ xs) (suc k) = nth xs k
+
+abbrev pub nth_block : List (List ℕ) → ℕ → List ℕ
+nth_block [] k = []
+nth_block (b ∷ bs) zero = b
+nth_block (b ∷ bs) (suc k) = nth_block bs k
+
+-- where a local of the block so many blocks out lies in the frame
+abbrev pub local_offset : Surroundings → ℕ → ℕ → ℕ
+local_offset u out local = nth (nth_block u.blocks out) local
+
+abbrev pub from_temp : Surroundings → ℕ → ℕ → List Line
+from_temp u register t = load_code register (slot_of u.passed t)
+
+abbrev pub to_temp : Surroundings → ℕ → ℕ → List Line
+to_temp u register t = save_code register (slot_of u.passed t)
+
+-- puts a word into x5
+abbrev pub constant_code : ℕ → List Line
+constant_code w = (if is_short w then Plain (instr.Addi 5 0 (lower_of w)) ∷ [] else word_code 5 w)
+
+-- adds so many bytes to the register 7 and leaves in it the address less what a load or store adds; the part that a load or store adds
+abbrev pub far_code : ℕ → ℕ → List Line
+far_code from w = Plain (instr.Lui 7 (upper_of w)) ∷ Plain (instr.Add 7 7 from) ∷ []
+
+-- a byte or a word at so many bytes from a register on, into x5
+abbrev pub read_line : ℕ → ℕ → ℕ → Line
+read_line width from w = (if nat_eq width 1 then Plain (instr.Lbu 5 from (lower_of w)) else Plain (instr.Lw 5 from (lower_of w)))
+
+abbrev pub read_code : ℕ → ℕ → ℕ → List Line
+read_code width from w = (if is_short w then read_line width from w ∷ [] else far_code from w ++ (read_line width 7 w ∷ []))
+
+-- a byte or a word from x6 to so many bytes from a register on
+abbrev pub write_line : ℕ → ℕ → ℕ → Line
+write_line width from w = (if nat_eq width 1 then Plain (instr.Sb from 6 (lower_of w)) else Plain (instr.Sw from 6 (lower_of w)))
+
+abbrev pub write_code : ℕ → ℕ → ℕ → List Line
+write_code width from w = (if is_short w then write_line width from w ∷ [] else far_code from w ++ (write_line width 7 w ∷ []))
+
+-- an instruction on x5 and x6 into x5, and the same with the operands the other way
+abbrev pub applied : (ℕ → ℕ → ℕ → Instr) → Line
+applied make = Plain (make 5 5 6)
+
+abbrev pub swapped : (ℕ → ℕ → ℕ → Instr) → Line
+swapped make = Plain (make 5 6 5)
+
+-- 1 for 0 and 0 for 1
+abbrev pub inverted : Line
+inverted = Plain (instr.Xori 5 5 (pos 1))
+
+abbrev pub binary_code : Binary → List Line
+binary_code Add = applied instr.Add ∷ []
+binary_code Subtract = applied instr.Sub ∷ []
+binary_code Multiply = applied instr.Mul ∷ []
+binary_code Divide = applied instr.Div ∷ []
+binary_code DivideUnsigned = applied instr.Divu ∷ []
+binary_code Remainder = applied instr.Rem ∷ []
+binary_code RemainderUnsigned = applied instr.Remu ∷ []
+binary_code And = applied instr.And ∷ []
+binary_code Or = applied instr.Or ∷ []
+binary_code Xor = applied instr.Xor ∷ []
+binary_code ShiftLeft = applied instr.Sll ∷ []
+binary_code ShiftRight = applied instr.Sra ∷ []
+binary_code ShiftRightUnsigned = applied instr.Srl ∷ []
+binary_code Equal = applied instr.Sub ∷ Plain (instr.Sltiu 5 5 (pos 1)) ∷ []
+binary_code NotEqual = applied instr.Sub ∷ Plain (instr.Sltu 5 0 5) ∷ []
+binary_code Less = applied instr.Slt ∷ []
+binary_code LessEqual = swapped instr.Slt ∷ inverted ∷ []
+binary_code LessUnsigned = applied instr.Sltu ∷ []
+binary_code LessEqualUnsigned = swapped instr.Sltu ∷ inverted ∷ []
+
+-- the address so many bytes from x2 on
+abbrev pub address_code : ℕ → List Line
+address_code w =
+    (if is_short w then Plain (instr.Addi 5 2 (lower_of w)) ∷ [] else word_code 5 w ++ (Plain (instr.Add 5 5 2) ∷ []))
+
+-- The code of an operation. Those on regions, unique blocks and keys, on elements and whole objects have none as yet.
+abbrev pub operation_code : Surroundings → Operation → List Line
+operation_code u (Constant t w) = constant_code (w % 2 ^ 32) ++ to_temp u 5 t
+operation_code u (NullPointer t) = to_temp u 0 t
+operation_code u (Move t x) = from_temp u 5 x ++ to_temp u 5 t
+operation_code u (Narrow t x) = from_temp u 5 x ++ (Plain (instr.Andi 5 5 (pos 255)) ∷ []) ++ to_temp u 5 t
+operation_code u (Apply o t x y) = from_temp u 5 x ++ from_temp u 6 y ++ binary_code o ++ to_temp u 5 t
+operation_code u (LocalAddress t out local) = address_code (local_offset u out local) ++ to_temp u 5 t
+operation_code u (OwnAddress t object) = address_code (nth u.own object) ++ to_temp u 5 t
+operation_code u (DataAddress t object) = constant_code (data_base + nth u.statics object) ++ to_temp u 5 t
+operation_code u (Offset t p cells bytes) = []
+operation_code u (Element t p i cells bytes) = []
+operation_code u (Get t out local width) = read_code width 2 (local_offset u out local) ++ to_temp u 5 t
+operation_code u (Put out local width x) = from_temp u 6 x ++ write_code width 2 (local_offset u out local)
+operation_code u (Load t p d) = from_temp u 5 p ++ read_code d.width 5 d.bytes ++ to_temp u 5 t
+operation_code u (Store p d x) = from_temp u 5 p ++ from_temp u 6 x ++ write_code d.width 5 d.bytes
+operation_code u (Copy to from layout) = []
+operation_code u (Clear p layout count) = []
+operation_code u (IsNull t p) = from_temp u 5 p ++ (Plain (instr.Sltiu 5 5 (pos 1)) ∷ []) ++ to_temp u 5 t
+operation_code u (SamePlace t p q) = from_temp u 5 p ++ from_temp u 6 q ++ binary_code Equal ++ to_temp u 5 t
+operation_code u (Getchar t) = environment_code 2 ++ to_temp u 10 t
+operation_code u (Putchar t x) = from_temp u 10 x ++ environment_code 1 ++ to_temp u 10 t
+operation_code u (RegionNew t) = []
+operation_code u (RegionAlloc t h n layout) = []
+operation_code u (RegionFree h) = []
+operation_code u (UniqueAlloc t layout) = []
+operation_code u (UniqueFree p) = []
+operation_code u (KeyNew t) = []
+operation_code u (KeyOpen k) = []
+operation_code u (KeyClose k) = []
+operation_code u (KeyFree k) = []
+
+-- ---- statements
+
+-- how many labels the code of a statement places
+abbrev mutual
+  pub labels_in : Statement → ℕ
+  labels_in (Do operation) = 0
+  labels_in (If t these those) = labels_of these + labels_of those + 2
+  labels_in (While test t body) = labels_of test + labels_of body + 2
+  labels_in (Block locals body) = labels_of body
+  labels_in Break = 0
+  labels_in Continue = 0
+  labels_in (Call results f arguments) = 0
+  labels_in (Return values) = 0
+  labels_in (Raise kind) = 0
+
+  pub labels_of : Statements → ℕ
+  labels_of NoStatements = 0
+  labels_of (MoreStatements s ss) = labels_in s + labels_of ss
+
+-- goes on where a temporary is neither 0 nor NULL, and at a label where it is
+abbrev pub choice_code : Surroundings → ℕ → ℕ → List Line
+choice_code u t label = from_temp u 5 t ++ (JumpIfZero 5 label ∷ [])
+
+-- the surroundings of what stands in a block with these locals
+abbrev pub within_block : List Local → Surroundings → Surroundings
+within_block locals u = record u { blocks = offsets_from u.low locals ∷ u.blocks; low = end_from u.low locals }
+
+-- The code of a statement of a function whose frame has so many bytes. The labels that it places are numbered from `next` on; a `break` goes to the label
+-- `out`, and a `continue` to `again`. A choice: the test, the first statements and a jump over the others; a label, the others, and a label. A loop: a label,
+-- its test, its body and a jump back; and a label behind it.
+abbrev mutual
+  pub statement_code : (bytes : ℕ) → Surroundings → (next out again : ℕ) → Statement → List Line
+  statement_code bytes u next out again (Do operation) = operation_code u operation
+  statement_code bytes u next out again (If t these those) = let behind = next + 1 + labels_of these in
+      choice_code u t next ++ statements_code bytes u (next + 1) out again these ++ (Jump behind ∷ Label next ∷ []) ++
+      statements_code bytes u (behind + 1) out again those ++ (Label behind ∷ [])
+  statement_code bytes u next out again (While test t body) = let behind = next + 1 + labels_of test in
+      (Label next ∷ []) ++ statements_code bytes u (next + 1) out again test ++ choice_code u t behind ++
+      statements_code bytes u (behind + 1) behind next body ++ (Jump next ∷ Label behind ∷ [])
+  statement_code bytes u next out again (Block locals body) = statements_code bytes (within_block locals u) next out again body
+  statement_code bytes u next out again Break = Jump out ∷ []
+  statement_code bytes u next out again Continue = Jump again ∷ []
+  statement_code bytes u next out again (Call results f arguments) = call_code u.passed results f arguments
+  statement_code bytes u next out again (Return values) = return_code bytes u.passed values
+  statement_code bytes u next out again (Raise kind) = []
+
+  pub statements_code : (bytes : ℕ) → Surroundings → (next out again : ℕ) → Statements → List Line
+  statements_code bytes u next out again NoStatements = []
+  statements_code bytes u next out again (MoreStatements s ss) =
+      statement_code bytes u next out again s ++ statements_code bytes u (next + labels_in s) out again ss
+
+-- ---- functions and programs
+
+-- the surroundings of a function's body
+abbrev pub around : List ℕ → Function → Surroundings
+around statics f = record { passed = f.passed; own = offsets_from (4 * slots_of f) f.own; blocks = []; low = own_end f; statics = statics }
+
+-- a function has its number as its label; `next` is the first label for what stands within it
+abbrev pub function_code : List ℕ → (number next : ℕ) → Function → List Line
+function_code statics number next f =
+    (Label number ∷ []) ++ prologue_code (frame_bytes f) f.passed f.parameters ++
+    statements_code (frame_bytes f) (around statics f) next number number f.body
+
+-- those from a number on
+abbrev pub functions_code : List ℕ → (number next : ℕ) → List Function → List Line
+functions_code statics number next [] = []
+functions_code statics number next (f ∷ fs) =
+    function_code statics number next f ++ functions_code statics (number + 1) (next + labels_of f.body) fs
+
+-- `main` is called, and what it returns is the status of the exit; then come the functions
+abbrev pub program_code : Program → List Line
+program_code p =
+    (CallTo p.main ∷ []) ++ environment_code 0 ++
+    functions_code (offsets_from 0 (datum_locals p.data_objects)) 0 (length p.functions) p.functions

@@ -1,0 +1,4 @@
+mod Arguments
+mod Bodies
+mod Lists
+mod Lookups

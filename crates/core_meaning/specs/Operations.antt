@@ -1,0 +1,231 @@
+-- What each operation of Core does.
+use Rattle.std.specs.Prelude.{ℕ, ◌+◌, ◌-◌, ◌*◌, ◌%◌, ◌^◌, Bool, true, false, ◌&&◌, nat_eq, nat_lt, nat_le, if◌then◌else◌, Option, Some, None, slice_get, length}
+use Rattle.cyc_words.specs.Events as events
+use Rattle.step_trees.specs.Trees.{Says, Reads, Pays}
+use Rattle.core_meaning.specs.Memory.{
+  Region,
+  Frame,
+  Own,
+  Born,
+  Standing,
+  Live,
+  Opened,
+  Single,
+  Closed,
+  Dead,
+  Spot,
+  Content,
+  Blank,
+  Word,
+  Null,
+  Pointer,
+  Birth,
+  Part,
+  Memory,
+  same_region,
+  same_spot,
+  is_live,
+  is_lexical,
+  is_opened,
+  is_single,
+  is_closed,
+  part_at,
+  with_standing,
+  with_part,
+  PartShape,
+  Layout,
+  shape_in,
+  blanks,
+  with_object,
+  first_spot,
+  beyond,
+}
+use Rattle.core_meaning.specs.Core.{
+  Distance,
+  Operation,
+  Constant,
+  NullPointer,
+  Move,
+  Narrow,
+  Apply,
+  LocalAddress,
+  OwnAddress,
+  DataAddress,
+  Offset,
+  Element,
+  Get,
+  Put,
+  Load,
+  Store,
+  Copy,
+  Clear,
+  IsNull,
+  SamePlace,
+  Getchar,
+  Putchar,
+  RegionNew,
+  RegionAlloc,
+  RegionFree,
+  UniqueAlloc,
+  UniqueFree,
+  KeyNew,
+  KeyOpen,
+  KeyClose,
+  KeyFree,
+}
+use Rattle.core_meaning.specs.Words.{truth, two}
+use Rattle.core_meaning.specs.Steps.{Config, with_temp, with_memory, Event, Visible, Step, read_event, stuck, word_of, pointer_of, birth_of, needed, checked}
+
+-- the part at a distance from a pointer has to lie so many bytes on, and to be so wide
+abbrev pub reached : Memory → Distance → Spot → ℕ → (Spot → Part → Step) → Step
+reached m d s b next =
+    needed (part_at m (beyond s d.cells) d.part) (λ p.
+    checked (nat_eq p.offset (b + d.bytes) && nat_eq p.width d.width) (next (beyond s d.cells) p))
+
+-- where a local of the block's activation k begins, and its one part
+abbrev pub local_spot : ℕ → ℕ → Spot
+local_spot k local = record { region = Frame k; object = local; cell = 0 }
+
+abbrev pub at_once : ℕ → Distance
+at_once width = record { cells = 0; bytes = 0; part = 0; width = width }
+
+-- what a part of a width can hold: a byte has the low bits of a word, and nothing else
+abbrev pub low_byte : Content → Content
+low_byte (Word n) = Word (n % 256)
+low_byte Blank = Blank
+low_byte Null = Blank
+low_byte (Pointer s b) = Blank
+low_byte (Birth d) = Blank
+
+abbrev pub fitting : ℕ → Content → Content
+fitting width v = (if nat_eq width 1 then low_byte v else v)
+
+abbrev pub is_null : Content → (ℕ → Step) → Step
+is_null Null next = next 1
+is_null (Pointer s b) next = next 0
+is_null Blank next = stuck
+is_null (Word n) next = stuck
+is_null (Birth d) next = stuck
+
+-- two pointers into live regions, or NULL
+abbrev pub same_place : Memory → Content → Content → (ℕ → Step) → Step
+same_place m Null y next = is_null y next
+same_place m (Pointer s b) Null next = next 0
+same_place m (Pointer s b) (Pointer t c) next =
+    checked (is_live (m.standing s.region) && is_live (m.standing t.region)) (next (truth (same_spot s t)))
+same_place m (Pointer s b) Blank next = stuck
+same_place m (Pointer s b) (Word n) next = stuck
+same_place m (Pointer s b) (Birth d) next = stuck
+same_place m Blank y next = stuck
+same_place m (Word n) y next = stuck
+same_place m (Birth d) y next = stuck
+
+-- so many bytes, and not more than a word says
+abbrev pub saturated : ℕ → ℕ
+saturated n = (if nat_lt n (2 ^ 32) then n else 2 ^ 32 - 1)
+
+-- the parts of an object from a spot on get what those from another have, or what they begin as
+abbrev pub copied : Layout → Spot → Spot → Memory → Memory
+copied l to from m = record m {
+  parts = λ t j. copy_of t j (m.parts t j);
+}
+  where
+    copy_of : Spot → ℕ → Option Part → Option Part
+    copy_of t j None = None
+    copy_of t j (Some p) =
+        (if same_spot (record t { cell = to.cell }) to && (nat_le to.cell t.cell && nat_lt t.cell (to.cell + length l.cells))
+        then from_there p (m.parts (record from { cell = from.cell + (t.cell - to.cell) }) j) else Some p)
+      where
+        from_there : Part → Option Part → Option Part
+        from_there p None = Some p
+        from_there p (Some q) = Some (record p { content = q.content })
+
+abbrev pub first_of : Option PartShape → Content
+first_of None = Blank
+first_of (Some s) = s.first
+
+abbrev pub cleared : Layout → ℕ → Spot → Memory → Memory
+cleared l count to m = record m { parts = λ t j. clear_of t j (m.parts t j) }
+  where
+    clear_of : Spot → ℕ → Option Part → Option Part
+    clear_of t j None = None
+    clear_of t j (Some p) =
+        (if same_spot (record t { cell = to.cell }) to && (nat_le to.cell t.cell && nat_lt t.cell (to.cell + count * length l.cells))
+        then Some (record p { content = first_of (shape_in (slice_get l.cells ((t.cell - to.cell) % length l.cells)) j) }) else Some p)
+
+abbrev pub born : Standing → Memory → Memory
+born now m = with_standing (record m { births = m.births + 1 }) (Born m.births) now
+
+abbrev pub byte_word : Option ℕ → ℕ
+byte_word None = 2 ^ 32 - 1
+byte_word (Some byte) = byte
+
+abbrev pub says : events.Event → Step → Step
+says e next = Says (Visible e) next
+
+-- ---- operations
+
+abbrev pub does : Operation → (Config → Step) → Config → Step
+does (Constant t w) next c = next (with_temp t (Word (w % 2 ^ 32)) c)
+does (NullPointer t) next c = next (with_temp t Null c)
+does (Move t x) next c = next (with_temp t (c.temps x) c)
+does (Narrow t x) next c = word_of (c.temps x) (λ n. next (with_temp t (Word (n % 256)) c))
+does (Apply o t x y) next c = word_of (c.temps x) (λ a. word_of (c.temps y) (λ b. next (with_temp t (Word (two o a b)) c)))
+does (LocalAddress t out local) next c =
+    needed (slice_get c.blocks out) (λ k. next (with_temp t (Pointer (local_spot k local) 0) c))
+does (OwnAddress t object) next c = next (with_temp t (Pointer (record { region = Own c.own; object = object; cell = 0 }) 0) c)
+does (DataAddress t object) next c = next (with_temp t (Pointer (record { region = Born 0; object = object; cell = 0 }) 0) c)
+does (Offset t p cells bytes) next c = pointer_of (c.temps p) (λ s b. next (with_temp t (Pointer (beyond s cells) (b + bytes)) c))
+does (Element t p i cells bytes) next c =
+    pointer_of (c.temps p) (λ s b. word_of (c.temps i) (λ n. next (with_temp t (Pointer (beyond s (n * cells)) (b + n * bytes)) c)))
+does (Get t out local width) next c =
+    needed (slice_get c.blocks out) (λ k. reached c.memory (at_once width) (local_spot k local) 0 (λ there part. next (with_temp t part.content c)))
+does (Put out local width x) next c =
+    needed (slice_get c.blocks out) (λ k. reached c.memory (at_once width) (local_spot k local) 0 (λ there part.
+    next (with_memory (with_part c.memory there 0 (record part { content = fitting width (c.temps x) })) c)))
+does (Load t p d) next c = pointer_of (c.temps p) (λ s b. reached c.memory d s b (λ there part. next (with_temp t part.content c)))
+does (Store p d x) next c =
+    pointer_of (c.temps p) (λ s b. reached c.memory d s b (λ there part.
+    next (with_memory (with_part c.memory there d.part (record part { content = fitting d.width (c.temps x) })) c)))
+does (Copy to from l) next c =
+    pointer_of (c.temps to) (λ s b. pointer_of (c.temps from) (λ t e.
+    checked (is_live (c.memory.standing s.region) && is_live (c.memory.standing t.region)) (next (with_memory (copied l s t c.memory) c))))
+does (Clear p l count) next c =
+    pointer_of (c.temps p) (λ s b. checked (is_live (c.memory.standing s.region)) (next (with_memory (cleared l count s c.memory) c)))
+does (IsNull t p) next c = is_null (c.temps p) (λ n. next (with_temp t (Word n) c))
+does (SamePlace t p q) next c = same_place c.memory (c.temps p) (c.temps q) (λ n. next (with_temp t (Word n) c))
+does (Getchar t) next c = Pays (λ kept. Reads (λ byte. next (with_temp t (Word (byte_word byte)) kept))) c
+does (Putchar t x) next c =
+    word_of (c.temps x) (λ n. Pays (λ kept. says (events.ByteWritten (n % 256)) (next (with_temp t (Word (n % 256)) kept))) c)
+does (RegionNew t) next c =
+    let d = c.memory.births in says (events.RegionNew d) (next (with_temp t (Birth d) (with_memory (born Live c.memory) c)))
+does (RegionAlloc t h n l) next c =
+    birth_of (c.temps h) (λ d. word_of (c.temps n) (λ count. checked (is_live (c.memory.standing (Born d)))
+    (says (events.RegionAlloc d (saturated (count * l.bytes)))
+    (next (with_temp t (Pointer (first_spot c.memory (Born d)) 0) (with_memory (with_object c.memory (Born d) (blanks l count)) c))))))
+does (RegionFree h) next c =
+    birth_of (c.temps h) (λ d. checked (is_lexical (c.memory.standing (Born d)))
+    (says (events.RegionFree d) (next (with_memory (with_standing c.memory (Born d) Dead) c))))
+does (UniqueAlloc t l) next c =
+    let d = c.memory.births in
+    says (events.UniqueAlloc d l.bytes)
+    (next (with_temp t (Pointer (record { region = Born d; object = 0; cell = 0 }) 0) (with_memory (with_object (born Single c.memory) (Born d) (blanks l 1)) c)))
+does (UniqueFree p) next c =
+    pointer_of (c.temps p) (λ s b. freed s.region)
+  where
+    freed : Region → Step
+    freed (Frame k) = stuck
+    freed (Own k) = stuck
+    freed (Born d) = checked (is_single (c.memory.standing (Born d)))
+        (says (events.UniqueFree d) (next (with_memory (with_standing c.memory (Born d) Dead) c)))
+does (KeyNew t) next c =
+    let d = c.memory.births in says (events.KeyNew d) (next (with_temp t (Birth d) (with_memory (born Closed c.memory) c)))
+does (KeyOpen k) next c =
+    birth_of (c.temps k) (λ d. checked (is_closed (c.memory.standing (Born d)))
+    (says (events.KeyOpen d) (next (with_memory (with_standing c.memory (Born d) Opened) c))))
+does (KeyClose k) next c =
+    birth_of (c.temps k) (λ d. checked (is_opened (c.memory.standing (Born d)))
+    (says (events.KeyClose d) (next (with_memory (with_standing c.memory (Born d) Closed) c))))
+does (KeyFree k) next c =
+    birth_of (c.temps k) (λ d. checked (is_closed (c.memory.standing (Born d)))
+    (says (events.KeyFree d) (next (with_memory (with_standing c.memory (Born d) Dead) c))))

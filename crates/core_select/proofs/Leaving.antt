@@ -1,0 +1,23 @@
+-- The place of code behind a block is that before it.
+use Rattle.std.specs.Prelude.{remove}
+use Rattle.std.proofs.Common.{◌≡◌, ℕ, List, [], ◌∷◌, map, refl, sym, ap, ◌∙◌}
+use Rattle.core_meaning.specs.Core.{Local}
+use Rattle.core_frames.specs.Selected.{Surroundings, within_block, offsets_from}
+
+module _ {V : Type 0} (items : V → List ℕ) where
+  others : (vs : List V) (b : List ℕ) (bs : List (List ℕ)) → map items vs ≡ b ∷ bs → map items (remove vs 0) ≡ bs
+  others [] b bs e = absurd cc
+  others (v ∷ vs) b bs e = cc
+
+  pub left_is : (vs : List V) (passed low : ℕ) (statics : List ℕ) (locals : List Local) (outer : Surroundings) (last : ℕ)
+      → record { passed = passed; own = []; blocks = map items vs; low = low; statics = statics } ≡ within_block locals outer → last ≡ outer.low
+      → record { passed = passed; own = []; blocks = map items (remove vs 0); low = last; statics = statics } ≡ outer
+  left_is vs passed low statics locals outer last e e' =
+      let parts = others vs (offsets_from outer.low locals) outer.blocks (ap (λ (u : Surroundings). u.blocks) e) in
+      λ i. record {
+        passed = ap (λ (u : Surroundings). u.passed) e i;
+        own = ap (λ (u : Surroundings). u.own) e i;
+        blocks = parts i;
+        low = e' i;
+        statics = ap (λ (u : Surroundings). u.statics) e i;
+      }

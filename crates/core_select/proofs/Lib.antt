@@ -1,0 +1,6 @@
+mod Sizes
+mod Greatest
+mod Numbers
+mod Leaving
+mod Parameters
+mod Functions

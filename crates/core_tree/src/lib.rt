@@ -1,0 +1,14 @@
+//! Core programs as the code has them: functions of structured statements over flat operations.
+//!
+//! A contract sees a `Program` as one of `core_meaning`, by the folds of specs/Trees: `program_tree`
+//! and its kin. It has the forms that lowering makes today; docs/CORE.md lists them all. Stands on
+//! the definitions of `core_meaning`.
+#![tactic(auto)]
+
+mod operation;
+mod program;
+mod statement;
+
+pub use operation::{Binary, Operation, Temporary, Variable, Width};
+pub use program::{Datum, Function, Program};
+pub use statement::Statement;

@@ -1,0 +1,93 @@
+// Temporaries, locals, and the operations on them.
+
+/// A temporary of a function: a word, named by its number.
+#[derive(Clone, Copy, PartialEq, Eq, Debug)]
+pub struct Temporary(pub u32);
+
+/// A local: that of the block so many blocks out, with this number among the block's locals.
+#[derive(Clone, Copy, PartialEq, Eq, Debug)]
+pub struct Variable {
+    /// How many blocks out the local's block is; 0 is the innermost one.
+    pub out: u32,
+    /// The number of the local in its block, from 0 on.
+    pub index: u32,
+}
+
+/// How wide a local, a global or a part of an object is.
+#[derive(Clone, Copy, PartialEq, Eq, Debug)]
+pub enum Width {
+    /// One byte.
+    Byte,
+    /// Four bytes, at an address that four divides.
+    Word,
+}
+
+/// An operation on two words.
+#[derive(Clone, Copy, PartialEq, Eq, Debug)]
+pub enum Binary {
+    /// The sum, modulo 2^32.
+    Add,
+    /// The difference, modulo 2^32.
+    Subtract,
+    /// The lower word of the product.
+    Multiply,
+    /// The quotient of signed numbers, rounded towards zero; by zero all ones.
+    Divide,
+    /// The quotient of unsigned numbers; by zero all ones.
+    DivideUnsigned,
+    /// What the division of signed numbers leaves; by zero the first.
+    Remainder,
+    /// What the division of unsigned numbers leaves; by zero the first.
+    RemainderUnsigned,
+    /// The bits of both.
+    And,
+    /// The bits of either.
+    Or,
+    /// The bits of one and not of the other.
+    Xor,
+    /// The first shifted to the left by the second modulo 32.
+    ShiftLeft,
+    /// The first shifted to the right by the second modulo 32, filled with its sign.
+    ShiftRight,
+    /// The first shifted to the right by the second modulo 32, filled with zeros.
+    ShiftRightUnsigned,
+    /// 1 where both are equal, else 0.
+    Equal,
+    /// 0 where both are equal, else 1.
+    NotEqual,
+    /// 1 where the first is below the second, both signed, else 0.
+    Less,
+    /// 1 where the first is at most the second, both signed, else 0.
+    LessEqual,
+    /// 1 where the first is below the second, both unsigned, else 0.
+    LessUnsigned,
+    /// 1 where the first is at most the second, both unsigned, else 0.
+    LessEqualUnsigned,
+}
+
+/// What is done in one go. The first temporary is the one that gets the result.
+#[derive(Clone, Copy, PartialEq, Eq, Debug)]
+pub enum Operation {
+    /// The temporary gets the word.
+    Constant(Temporary, u32),
+    /// The first temporary gets the second's word.
+    Move(Temporary, Temporary),
+    /// The first temporary gets the lowest byte of the second's word.
+    Narrow(Temporary, Temporary),
+    /// The first temporary gets the operation's result on the two others.
+    Apply(Binary, Temporary, Temporary, Temporary),
+    /// The temporary gets the address of the global with this number.
+    DataAddress(Temporary, u32),
+    /// The temporary gets what the local holds.
+    Get(Temporary, Variable, Width),
+    /// The local gets the temporary's word, or its lowest byte.
+    Put(Variable, Width, Temporary),
+    /// The first temporary gets what lies where the second points.
+    Load(Temporary, Temporary, Width),
+    /// Where the first temporary points gets the second's word, or its lowest byte.
+    Store(Temporary, Width, Temporary),
+    /// The temporary gets the next byte of the input, or -1 at its end.
+    Getchar(Temporary),
+    /// The second temporary's lowest byte is written, and the first gets it.
+    Putchar(Temporary, Temporary),
+}

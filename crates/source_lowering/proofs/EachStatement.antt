@@ -1,0 +1,310 @@
+-- Each statement that is taken, each block's items, and a function's body with its arguments do the same as their code.
+use Rattle.std.proofs.Common.{◌≡◌, ℕ, suc, ◌+◌, ◌≤◌, List, [], ◌∷◌, ◌++◌, length, Some, None, refl, sym, ap, ◌∙◌, subst, arith}
+use Rattle.cyc_tree.specs.Tree as tree
+use Rattle.cyc_tree.specs.Tree.{Base, TypeName, Pointer, Initializer, Declaration, Statement, BlockItems, NoItems, Declare, Execute}
+use Rattle.source_meaning.specs.Shapes.{Shape, Part, part_shapes, written, settled, settled_by}
+use Rattle.source_meaning.specs.Memory as source
+use Rattle.source_meaning.specs.Memory.{Scalar}
+use Rattle.source_meaning.specs.Steps as steps
+use Rattle.source_meaning.specs.Steps.{World, Variable, Scope, Flow, Act, give}
+use Rattle.source_meaning.specs.Places.{Sense, with_binding}
+use Rattle.source_meaning.specs.Expressions.{sense}
+use Rattle.source_meaning.specs.Regions.{declared, local_with, initialised}
+use Rattle.source_meaning.specs.Statements as meaning_of
+use Rattle.source_meaning.specs.Programs.{with_arguments}
+use Rattle.core_meaning.specs.Memory as core_memory
+use Rattle.core_meaning.specs.Memory.{Content}
+use Rattle.core_meaning.specs.Core as core
+use Rattle.core_meaning.specs.Core.{Program, Do, Put, Statements, MoreStatements}
+use Rattle.core_meaning.specs.Steps.{Config}
+use Rattle.core_meaning.specs.Meaning as meaning
+use Rattle.core_meaning.specs.Meaning.{values_of}
+use Rattle.source_lowering.specs.Lowered.{put, width_of, from_on, conversion_code, static_shape, expression_code}
+use Rattle.source_lowering.specs.Programs.{
+  local_shape,
+  block_shapes,
+  outward,
+  named_here,
+  declaration_code,
+  statement_code,
+  items_code,
+  parameter_names,
+  parameters_code,
+}
+use Rattle.source_lowering.specs.Taken.{IsIntegerBase, IsIntegerType, TakesDeclaration, TakesStatement, TakesItems}
+use Rattle.source_lowering.proofs.Relations.{Later, Place, Fits, SameAt, Next}
+use Rattle.source_lowering.proofs.Keeping.{later_on, later_less, shown_later}
+use Rattle.source_lowering.proofs.Runs.{stuck_same, put_all}
+use Rattle.source_lowering.proofs.Integers.{IsTaken, IsInteger, integer_taken}
+use Rattle.source_lowering.proofs.Names.{AreParameters}
+use Rattle.source_lowering.proofs.Values.{put_three}
+use Rattle.source_lowering.proofs.Variables.{Agrees, value_of}
+use Rattle.source_lowering.proofs.Conversions.{converted_gives}
+use Rattle.source_lowering.proofs.Calls.{AllGiven, CallsAs}
+use Rattle.source_lowering.proofs.EachExpression.{Known, place_in, IsKnown, expression_same}
+use Rattle.source_lowering.proofs.Entering.{AreTaken}
+use Rattle.source_lowering.proofs.Making.{local_spot}
+use Rattle.source_lowering.proofs.Statements.{
+  WaysOn,
+  RunsAs,
+  ways_later,
+  blocks_of,
+  falls_same,
+  breaks_same,
+  continues_same,
+  run_same,
+  return_same,
+  leave_same,
+  choice_same,
+  sequence_same,
+  loop_same,
+}
+use Rattle.source_lowering.proofs.Declaring.{local_with_same, declared_same}
+use Rattle.source_lowering.proofs.Blocks.{locals_outward, integers_outward, block_same}
+
+-- ---- types as they are written
+
+-- an integer's type settles to its shape, whatever its initializer
+pub record IsSettled (t : TypeName) : Type 0 where
+  pub integer : IsInteger (settled (written t))
+  pub by : (s : Shape) → settled_by (written t) s ≡ settled (written t)
+
+base_settled : (b : Base) (ps : List Pointer) (at : ℕ) → ps ≡ [] → IsIntegerBase b → IsSettled (record { at = at; base = b; pointers = ps })
+base_settled b ps at e h = subst (λ z. IsSettled (record { at = at; base = b; pointers = z })) (sym e) (by b h)
+  where
+    by : (of : Base) → IsIntegerBase of → IsSettled (record { at = at; base = of; pointers = [] })
+    by tree.Int h = record { integer = tt; by = λ s. refl }
+    by tree.Unsigned h = record { integer = tt; by = λ s. refl }
+    by tree.Char h = record { integer = tt; by = λ s. refl }
+    by tree.Void h = absurd h
+    by (tree.Struct tag arguments) h = absurd h
+    by (tree.Union tag arguments) h = absurd h
+    by (tree.Handle region) h = absurd h
+    by (tree.Key region) h = absurd h
+
+pub type_settled : (t : TypeName) → IsIntegerType t → IsSettled t
+type_settled t h = base_settled t.base t.pointers t.at h.pointers h.base
+
+-- ---- declarations
+
+-- the place after a declaration, as lowering knows it
+abbrev pub known_more : Known → List ℕ → Shape → List Shape → Known
+known_more k name shape pending =
+    record { program = k.program; names = named_here name shape k.made ∷ k.names; outer = k.outer; made = suc k.made; pending = pending }
+
+abbrev pub scope_more : Scope → Known → List ℕ → Shape → Scope
+scope_more scope k name shape = with_binding scope name (Variable shape (local_spot scope.frame k.made))
+
+pub known_still : (scope : Scope) (k : Known) (name : List ℕ) (shape : Shape) (pending : List Shape) → IsInteger shape → IsKnown scope k
+    → IsKnown (scope_more scope k name shape) (known_more k name shape pending)
+known_still scope k name shape pending integer known = record {
+  world = known.world;
+  locals = (record { frame = scope.frame; in_block = refl; named = refl; is = refl }, known.locals);
+  integers = (integer, known.integers);
+}
+
+unset_same : (n : ℕ) (scope : Scope) (k : Known) (result : Shape) (name : List ℕ) (shape : Shape) (shapes : List Shape) (then_act : Scope → Act Flow)
+    (others : List core.Statement) → IsInteger shape → k.pending ≡ shape ∷ shapes
+    → RunsAs (place_in (scope_more scope k name shape) (known_more k name shape shapes)) n scope.frame result (then_act (scope_more scope k name shape)) others
+    → RunsAs (place_in scope k) n scope.frame result (declared scope name shape (meaning_of.first_object scope.world shape) then_act)
+    ((Do (core.Constant 0 0) ∷ Do (Put 0 k.made (width_of shape) 0) ∷ []) ++ others)
+unset_same n scope k result name shape shapes then_act others integer pending more = record {
+  same = λ m c next rest after fits ways.
+      declared_same (place_in scope k) n scope name shape shapes then_act next m c (put others rest) after refl refl integer pending fits
+      (λ m2 c2 fits2 later2 blocks2.
+      more.same m2 c2 next rest after fits2
+      (ways_later scope.world k.program n scope.frame scope.frame m m2 c c2 result next (meaning.statements rest after) after (omega arith) later2 blocks2
+      ways));
+}
+
+value_same : (n : ℕ) (scope : Scope) (k : Known) (result : Shape) (name : List ℕ) (shape : Shape) (shapes : List Shape) (e : Sense) (from : Shape)
+    (first : List core.Statement) (then_act : Scope → Act Flow) (others : List core.Statement) → IsInteger shape → k.pending ≡ shape ∷ shapes
+    → Agrees (place_in scope k) n 0 e from first
+    → RunsAs (place_in (scope_more scope k name shape) (known_more k name shape shapes)) n scope.frame result (then_act (scope_more scope k name shape)) others
+    → RunsAs (place_in scope k) n scope.frame result (initialised scope name shape e then_act) ((first ++ (conversion_code shape from 0 ++
+    (Do (Put 0 k.made (width_of shape) 0) ∷ []))) ++ others)
+value_same n scope k result name shape shapes e from first then_act others integer pending one more = record {
+  same = λ m c next rest after fits ways.
+      subst (λ z. SameAt p n (initialised scope name shape e then_act next m) (meaning.statements z after c))
+      (sym (put_all (first ++ (conversion_code shape from 0 ++ stores)) others rest ∙ put_three first (conversion_code shape from 0) stores (put others rest)
+      ∙ sym (put_all first (conversion_code shape from 0) (put stores (put others rest)))))
+      ((converted_gives p n 0 shape e from first (integer_taken shape integer) one).same m c (λ vs. local_with scope name shape vs then_act next)
+      (put stores (put others rest)) after fits (record {
+        go = λ m1 c1 vs fits1 later1 kept1 given1.
+            local_with_same p n 0 scope name shape shapes vs then_act next m1 c1 (put others rest) after refl refl integer pending fits1
+            (value_of p.world m1 c1.memory shape vs (c1.temps 0) integer given1) (record {
+              go = λ m2 c2 fits2 later2 temps2 blocks2.
+                  more.same m2 c2 next rest after fits2
+                  (ways_later scope.world k.program n scope.frame scope.frame m m2 c c2 result next (meaning.statements rest after) after (omega arith)
+                  (later_on scope.frame m m1 m2 c.memory c1.memory c2.memory (later_less (suc scope.frame) scope.frame m m1 c.memory c1.memory (omega arith)
+                  later1) later2)
+                  (blocks2 ∙ blocks_of p m m1 c c1 fits fits1) ways);
+            });
+      }));
+}
+  where
+    p : Place
+    p = place_in scope k
+
+    stores : List core.Statement
+    stores = Do (Put 0 k.made (width_of shape) 0) ∷ []
+
+declaration_same : (n : ℕ) (d : Declaration) (scope : Scope) (k : Known) (result : Shape) (shapes : List Shape) (then_act : Scope → Act Flow)
+    (others : List core.Statement) → TakesDeclaration d → IsKnown scope k → CallsAs scope.world k.program n → k.pending ≡ local_shape d ∷ shapes
+    → RunsAs (place_in (scope_more scope k (tree.local_of d).text (local_shape d)) (known_more k (tree.local_of d).text (local_shape d) shapes)) n scope.frame
+    result (then_act (scope_more scope k (tree.local_of d).text (local_shape d))) others
+    → RunsAs (place_in scope k) n scope.frame result (meaning_of.declaration d scope then_act) (declaration_code scope.world k.names d k.made ++ others)
+declaration_same n (tree.Local of name Initializer.Unset) scope k result shapes then_act others h known calls pending more =
+    unset_same n scope k result name.text (settled (written of)) shapes then_act others (type_settled of h.0).integer pending more
+declaration_same n (tree.Local of name (Initializer.Elements count)) scope k result shapes then_act others h known calls pending more = absurd h.1
+declaration_same n (tree.Local of name (Initializer.Value e)) scope k result shapes then_act others h known calls pending more =
+    let type = type_settled of h.0 in
+    subst (λ z. RunsAs (place_in scope k) n scope.frame result (initialised scope name.text z (sense e scope) then_act)
+    (declaration_code scope.world k.names (tree.Local of name (Initializer.Value e)) k.made ++ others)) (sym (type.by (sense e scope).shape))
+    (value_same n scope k result name.text (settled (written of)) shapes (sense e scope) (static_shape scope.world k.names e)
+    (expression_code scope.world k.names e 0) then_act others type.integer pending (expression_same e scope k h.1 known n calls 0) more)
+declaration_same n (tree.Region at region handle) scope k result shapes then_act others h known calls pending more = absurd h
+declaration_same n (tree.Open at region handle key) scope k result shapes then_act others h known calls pending more = absurd h
+declaration_same n (tree.Alias at region of alias pointer) scope k result shapes then_act others h known calls pending more = absurd h
+declaration_same n (tree.NewKey at region key) scope k result shapes then_act others h known calls pending more = absurd h
+
+-- the locals of a block are of integers
+shape_taken : (d : Declaration) → TakesDeclaration d → IsInteger (local_shape d)
+shape_taken (tree.Local of name initializer) h = (type_settled of h.0).integer
+shape_taken (tree.Region at region handle) h = absurd h
+shape_taken (tree.Open at region handle key) h = absurd h
+shape_taken (tree.Alias at region of alias pointer) h = absurd h
+shape_taken (tree.NewKey at region key) h = absurd h
+
+pub shapes_taken : (result : Shape) (items : BlockItems) → TakesItems result items → AreTaken (block_shapes items)
+shapes_taken result NoItems h = tt
+shapes_taken result (Declare d others) h = (integer_taken (local_shape d) (shape_taken d h.0), shapes_taken result others h.1)
+shapes_taken result (Execute s others) h = shapes_taken result others h.1
+
+-- ---- statements
+
+-- a block further in
+abbrev pub known_inside : Scope → Known → List Shape → Known
+known_inside scope k shapes = record { program = k.program; names = outward k.names; outer = scope.frame ∷ k.outer; made = 0; pending = shapes }
+
+known_in_block : (scope : Scope) (k : Known) (frame : ℕ) (shapes : List Shape) → IsKnown scope k
+    → IsKnown (record scope { frame = frame }) (known_inside scope k shapes)
+known_in_block scope k frame shapes known = record {
+  world = known.world;
+  locals = locals_outward frame (scope.frame ∷ k.outer) scope.locals k.names known.locals;
+  integers = integers_outward k.names known.integers;
+}
+
+calls_less : (w : World) (fs : Program) (n j : ℕ) → j ≤ n → CallsAs w fs n → CallsAs w fs j
+calls_less w fs n j less calls i h = calls i (omega (arith, less, h))
+
+mutual
+  pub statement_same : (s : Statement) (scope : Scope) (k : Known) → TakesStatement scope.result s → IsKnown scope k → IsTaken scope.result → (n : ℕ)
+      → CallsAs scope.world k.program n → RunsAs (place_in scope k) n (suc scope.frame) scope.result (meaning_of.statement s scope)
+      (statement_code scope.world scope.result k.names s)
+  statement_same (Statement.Empty at) scope k h known result n calls = falls_same (place_in scope k) n (suc scope.frame) scope.result
+  statement_same (Statement.Block at items) scope k h known result n calls =
+      block_same (place_in scope k) n scope.result (block_shapes items) (λ frame. meaning_of.block_items items (record scope { frame = frame }))
+      (items_code scope.world scope.result (outward k.names) 0 items) (shapes_taken scope.result items h)
+      (λ frame. items_same items (record scope { frame = frame }) (known_inside scope k (block_shapes items)) h
+      (known_in_block scope k frame (block_shapes items) known) result n calls refl)
+  statement_same (Statement.Run e) scope k h known result n calls =
+      run_same (place_in scope k) n scope.result (sense e scope) (static_shape scope.world k.names e) (expression_code scope.world k.names e 0)
+      (expression_same e scope k h known n calls 0).values
+  statement_same (Statement.Exchange left right) scope k h known result n calls = absurd h
+  statement_same (Statement.If at condition body) scope k h known result n calls =
+      choice_same (place_in scope k) n scope.result (sense condition scope) (static_shape scope.world k.names condition)
+      (expression_code scope.world k.names condition 0) (meaning_of.statement body scope) (give steps.Falls)
+      (statement_code scope.world scope.result k.names body) []
+      (expression_same condition scope k h.0 known n calls 0) (statement_same body scope k h.1 known result n calls)
+      (falls_same (place_in scope k) n (suc scope.frame) scope.result)
+  statement_same (Statement.IfElse at condition body otherwise) scope k h known result n calls =
+      choice_same (place_in scope k) n scope.result (sense condition scope) (static_shape scope.world k.names condition)
+      (expression_code scope.world k.names condition 0) (meaning_of.statement body scope) (meaning_of.statement otherwise scope)
+      (statement_code scope.world scope.result k.names body) (statement_code scope.world scope.result k.names otherwise)
+      (expression_same condition scope k h.0 known n calls 0) (statement_same body scope k h.1.0 known result n calls)
+      (statement_same otherwise scope k h.1.1 known result n calls)
+  statement_same (Statement.While at condition body) scope k h known result n calls =
+      loop_same (place_in scope k) n scope.result scope condition body (static_shape scope.world k.names condition)
+      (expression_code scope.world k.names condition 0) (statement_code scope.world scope.result k.names body)
+      (λ j less. expression_same condition scope k h.0 known j (calls_less scope.world k.program n j less calls) 0)
+      (λ j less. statement_same body scope k h.1 known result j (calls_less scope.world k.program n j less calls))
+  statement_same (Statement.Switch at place _) scope k h known result n calls = absurd h
+  statement_same (Statement.Break at) scope k h known result n calls = breaks_same (place_in scope k) n (suc scope.frame) scope.result
+  statement_same (Statement.Continue at) scope k h known result n calls = continues_same (place_in scope k) n (suc scope.frame) scope.result
+  statement_same (Statement.Return at None) scope k h known result n calls = leave_same (place_in scope k) n (suc scope.frame) scope.result h
+  statement_same (Statement.Return at (Some e)) scope k h known result n calls =
+      return_same (place_in scope k) n scope.result (sense e scope) (static_shape scope.world k.names e) (expression_code scope.world k.names e 0) result
+      (expression_same e scope k h known n calls 0)
+  statement_same (Statement.FreeUnique at pointer) scope k h known result n calls = absurd h
+  statement_same (Statement.FreeKey at key) scope k h known result n calls = absurd h
+
+  pub items_same : (items : BlockItems) (scope : Scope) (k : Known) → TakesItems scope.result items → IsKnown scope k → IsTaken scope.result → (n : ℕ)
+      → CallsAs scope.world k.program n → k.pending ≡ block_shapes items → RunsAs (place_in scope k) n scope.frame scope.result
+      (meaning_of.block_items items scope) (items_code scope.world scope.result k.names k.made items)
+  items_same NoItems scope k h known result n calls pending = falls_same (place_in scope k) n scope.frame scope.result
+  items_same (Declare d others) scope k h known result n calls pending =
+      declaration_same n d scope k scope.result (block_shapes others) (meaning_of.block_items others) (items_code scope.world scope.result
+      (named_here (tree.local_of d).text (local_shape d) k.made ∷ k.names) (suc k.made) others) h.0 known calls pending
+      (items_same others (scope_more scope k (tree.local_of d).text (local_shape d)) (known_more k (tree.local_of d).text (local_shape d)
+      (block_shapes others)) h.1
+      (known_still scope k (tree.local_of d).text (local_shape d) (block_shapes others) (shape_taken d h.0) known) result n calls refl)
+  items_same (Execute s others) scope k h known result n calls pending =
+      sequence_same (place_in scope k) n scope.result (meaning_of.statement s scope) (meaning_of.block_items others scope)
+      (statement_code scope.world scope.result k.names s) (items_code scope.world scope.result k.names k.made others)
+      (statement_same s scope k h.0 known result n calls) (items_same others scope k h.1 known result n calls pending)
+
+-- ---- a function's body, whose arguments are in the first temporaries
+
+pub given_later : (b : ℕ) (w : World) (m m' : source.Memory) (c c' : core_memory.Memory) (shapes : List Shape) (vss : List (List Scalar)) (xs : List Content)
+    → Later b m c m' c' → AllGiven w m c shapes vss xs → AllGiven w m' c' shapes vss xs
+given_later b w m m' c c' [] [] [] l h = tt
+given_later b w m m' c c' (s ∷ ss) (vs ∷ vss) (x ∷ xs) l h = (
+  record { value = h.0.value; alone = h.0.alone; shown = shown_later b w m m' c c' s h.0.value (x ∷ []) l h.0.shown },
+  given_later b w m m' c c' ss vss xs
+      l h.1,
+)
+given_later b w m m' c c' [] [] (x ∷ xs) l h = absurd h
+given_later b w m m' c c' [] (vs ∷ vss) xs l h = absurd h
+given_later b w m m' c c' (s ∷ ss) [] xs l h = absurd h
+given_later b w m m' c c' (s ∷ ss) (vs ∷ vss) [] l h = absurd h
+
+same_values : (f g : ℕ → Content) (ts : List ℕ) → ((j : ℕ) → g j ≡ f j) → values_of f ts ≡ values_of g ts
+same_values f g [] e = refl
+same_values f g (t ∷ ts) e = ap (λ z. z ∷ values_of f ts) (sym (e t)) ∙ ap (λ z. g t ∷ z) (same_values f g ts e)
+
+pub body_same : (ps : List Part) (items : BlockItems) (scope : Scope) (k : Known) (total n : ℕ) (vss : List (List Scalar)) → AreParameters ps
+    → TakesItems scope.result items → IsKnown scope k → IsTaken scope.result → CallsAs scope.world k.program n → k.made + length ps ≡ total
+    → k.pending ≡ part_shapes ps ++ block_shapes items
+    → (m : source.Memory) (c : Config) (next : Flow → source.Memory → steps.Step) (rest : Statements) (after : Next) → Fits (place_in scope k) m c
+    → AllGiven scope.world m c.memory (part_shapes ps) vss (values_of c.temps (from_on k.made (length ps)))
+    → WaysOn scope.world k.program n scope.frame m c scope.result next (meaning.statements rest after) after
+    → SameAt (place_in scope k) n (with_arguments ps vss (meaning_of.block_items items) scope next m) (meaning.statements
+    (put (parameters_code ps k.made ++ items_code scope.world scope.result (parameter_names ps k.made k.names) total items) rest) after c)
+body_same [] items scope k total n [] integers h known result calls sum pending m c next rest after fits given ways =
+    let e : k.made ≡ total = omega (arith, sum) in
+    subst (λ z. SameAt (place_in scope k) n (meaning_of.block_items items scope next m) (meaning.statements (put
+    (items_code scope.world scope.result k.names z items) rest) after c)) e
+    ((items_same items scope k h known result n calls pending).same m c next rest after fits ways)
+body_same [] items scope k total n (vs ∷ vss) integers h known result calls sum pending m c next rest after fits given ways = stuck_same scope.world k.program
+    n _
+body_same (p ∷ ps) items scope k total n [] integers h known result calls sum pending m c next rest after fits given ways = stuck_same scope.world k.program n _
+body_same (p ∷ ps) items scope k total n (vs ∷ vss) integers h known result calls sum pending m c next rest after fits given ways =
+    let shapes : List Shape = part_shapes ps ++ block_shapes items in
+    let more : Known = known_more k p.name p.shape shapes in
+    let code : List core.Statement = parameters_code ps (suc k.made) ++ items_code scope.world scope.result (parameter_names ps (suc k.made)
+    (named_here p.name p.shape k.made ∷ k.names)) total items in
+    local_with_same (place_in scope k) n k.made scope p.name p.shape shapes vs (with_arguments ps vss (meaning_of.block_items items)) next m c (put code rest)
+    after refl refl integers.0 pending fits given.0 (record {
+      go = λ m2 c2 fits2 later2 temps2 blocks2.
+          body_same ps items (scope_more scope k p.name p.shape) more total n vss integers.1 h (known_still scope k p.name p.shape shapes integers.0 known)
+          result calls (omega (arith, sum)) refl m2 c2 next rest after fits2
+          (given_later scope.frame scope.world m m2 c.memory c2.memory (part_shapes ps) vss (values_of c2.temps (from_on (suc k.made) (length ps))) later2
+          (subst (λ z. AllGiven scope.world m c.memory (part_shapes ps) vss z) (same_values c.temps c2.temps (from_on (suc k.made) (length ps)) temps2)
+          (subst (λ z. AllGiven scope.world m c.memory (part_shapes ps) vss (values_of c.temps (from_on z (length ps)))) next_is given.1)))
+          (ways_later scope.world k.program n scope.frame scope.frame m m2 c c2 scope.result next (meaning.statements rest after) after (omega arith) later2
+          blocks2 ways);
+    })
+  where
+    next_is : k.made + 1 ≡ suc k.made
+    next_is = omega arith

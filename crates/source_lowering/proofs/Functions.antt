@@ -1,0 +1,306 @@
+-- A function is entered and left, in the source and in Core, with each amount of fuel.
+use Rattle.std.proofs.Common.{
+  ◌≡◌,
+  ℕ,
+  zero,
+  suc,
+  ◌+◌,
+  ◌≤◌,
+  inl,
+  inr,
+  List,
+  [],
+  ◌∷◌,
+  ◌++◌,
+  length,
+  Bool,
+  true,
+  false,
+  nat_eq,
+  Option,
+  Some,
+  None,
+  refl,
+  sym,
+  ap,
+  ◌∙◌,
+  subst,
+  arith,
+}
+use Rattle.std.specs.Prelude.{map, slice_get, if◌then◌else◌}
+use Rattle.std.proofs.lemmas.Bool.{eq-eqb}
+use Rattle.cyc_words.specs.Events as events
+use Rattle.step_trees.specs.Trees.{Says}
+use Rattle.source_meaning.specs.Shapes.{
+  Shape,
+  IntShape,
+  UnsignedShape,
+  CharShape,
+  VoidShape,
+  ThinShape,
+  FatShape,
+  HandleShape,
+  KeyShape,
+  StructShape,
+  UnionShape,
+  ArrayShape,
+  Part,
+  part_shapes,
+}
+use Rattle.source_meaning.specs.Memory as source
+use Rattle.source_meaning.specs.Memory.{AsInt, Integer, Scalar, state_is_live}
+use Rattle.source_meaning.specs.Steps as steps
+use Rattle.source_meaning.specs.Steps.{World, Routine, Scope, Flow, give}
+use Rattle.source_meaning.specs.Regions.{in_block}
+use Rattle.source_meaning.specs.Statements as meaning_of
+use Rattle.source_meaning.specs.Programs.{is_main, result_of, result_at_end, with_arguments}
+use Rattle.core_meaning.specs.Memory as core
+use Rattle.core_meaning.specs.Memory.{Content, Word, with_standing}
+use Rattle.core_meaning.specs.Core.{Program, Function, Statements, NoStatements}
+use Rattle.core_meaning.specs.Steps as core_steps
+use Rattle.core_meaning.specs.Steps.{Config, with_temp}
+use Rattle.core_meaning.specs.Meaning as meaning
+use Rattle.core_meaning.specs.Meaning.{values_of, passed_in}
+use Rattle.source_lowering.specs.Lowered.{number_of, all_of, from_on}
+use Rattle.source_lowering.specs.Programs.{locals_of, block_shapes, end_code, body_code, function_code}
+use Rattle.source_lowering.proofs.Relations.{region_at, at, Shown, Agree, Later, AreLed, Same, Next, BothCalled, BothReturned}
+use Rattle.source_lowering.proofs.Keeping.{later_on, shown_later, held_same, all_led_later}
+use Rattle.source_lowering.proofs.Runs.{stuck_same, says_same}
+use Rattle.source_lowering.proofs.Integers.{IsTaken, integer_taken, word_shown}
+use Rattle.source_lowering.proofs.Names.{AreParameters, IsRoutine, IsPlainWorld}
+use Rattle.source_lowering.proofs.Entering.{source_in, AreTaken, entered_later}
+use Rattle.source_lowering.proofs.Calls.{AllGiven, ResultIs, Returning, EntersAs, CallsAs}
+use Rattle.source_lowering.proofs.Blocks.{result_later, entered_fits, next_out, after_out, ways_out}
+use Rattle.source_lowering.proofs.EachExpression.{Known}
+use Rattle.source_lowering.proofs.EachStatement.{shapes_taken, given_later, body_same}
+
+-- ---- a change that the source doesn't see
+
+live_apart : (r : source.Region) (k : ℕ) (now : core.Standing) (c : core.Memory) → (with_standing c (core.Own k) now).standing (region_at r) ≡ c.standing
+    (region_at r)
+live_apart (source.Frame j) k now c = refl
+live_apart (source.Born j) k now c = refl
+
+-- a function's own region stands otherwise, and calls are counted
+abbrev pub own_standing : core.Memory → ℕ → core.Standing → ℕ → core.Memory
+own_standing c k now calls = record (with_standing c (core.Own k) now) { calls = calls }
+
+own_later : (b : ℕ) (m : source.Memory) (c : core.Memory) (k : ℕ) (now : core.Standing) (calls : ℕ) → Later b m c m (own_standing c k now calls)
+own_later b m c k now calls = record {
+  shapes = λ s shape h. h;
+  parts = λ t j o w h. record { content = h.content; is = h.is };
+  objects = λ j h. refl;
+  begun =
+      omega arith;
+}
+
+own_agree : (w : World) (m : source.Memory) (c : core.Memory) (k : ℕ) (now : core.Standing) (calls : ℕ) → Agree w m c → Agree w m (own_standing c k now calls)
+own_agree w m c k now calls a = record {
+  cells = λ s shape v h. let one = a.cells s shape v h in record {
+    contents = one.contents;
+    shown = shown_later 0 w m m c (own_standing c k now calls) shape v one.contents (own_later 0 m c k now calls) one.shown;
+    held = held_same c (own_standing c k now calls) (at s) 0 one.contents (λ t j. refl) one.held;
+  };
+  live = λ r. a.live r ∙ ap core.is_live (sym (live_apart r k now c));
+  activations = a.activations;
+  unmade = a.unmade;
+  unentered = a.unentered;
+  unbegun = a.unbegun;
+}
+
+-- ---- what is passed
+
+many_given : (w : World) (m : source.Memory) (c : core.Memory) (ps : List Part) (vss : List (List Scalar)) (xs : List Content)
+    → AllGiven w m c (part_shapes ps) vss xs → length xs ≡ length ps
+many_given w m c [] [] [] h = refl
+many_given w m c (p ∷ ps) (vs ∷ vss) (x ∷ xs) h = ap suc (many_given w m c ps vss xs h.1)
+many_given w m c [] [] (x ∷ xs) h = absurd h
+many_given w m c [] (vs ∷ vss) xs h = absurd h
+many_given w m c (p ∷ ps) [] xs h = absurd h
+many_given w m c (p ∷ ps) (vs ∷ vss) [] h = absurd h
+
+values_from : (xs : List Content) (f : ℕ → Content) (d : ℕ) → ((j : ℕ) → f (d + j) ≡ passed_in xs j) → values_of f (from_on d (length xs)) ≡ xs
+values_from [] f d h = refl
+values_from (x ∷ xs) f d h =
+    let here : f d ≡ x = ap f (plus_zero d) ∙ h 0 in
+    ap (λ z. z ∷ values_of f (from_on (d + 1) (length xs))) here ∙
+    ap (λ z. x ∷ z) (values_from xs f (d + 1) (λ j. ap f (plus_one d j) ∙ h (suc j)))
+  where
+    plus_zero : (a : ℕ) → a ≡ a + 0
+    plus_zero a = omega arith
+
+    plus_one : (a j : ℕ) → a + 1 + j ≡ a + suc j
+    plus_one a j = omega arith
+
+-- the arguments are in the first temporaries
+passed_first : (xs : List Content) (n : ℕ) → length xs ≡ n → values_of (passed_in xs) (from_on 0 n) ≡ xs
+passed_first xs n e = subst (λ z. values_of (passed_in xs) (from_on 0 z) ≡ xs) e (values_from xs (passed_in xs) 0 (λ j. ap (passed_in xs) (none j)))
+  where
+    none : (j : ℕ) → 0 + j ≡ j
+    none j = omega arith
+
+-- ---- the numbers of functions
+
+pub mapped : (w : World) (fs : List Routine) (k : ℕ) (f : Routine) → slice_get fs k ≡ Some f → slice_get (map (function_code w) fs) k ≡ Some (function_code w f)
+mapped w [] k f e = absurd (cc e)
+mapped w (g ∷ fs) zero f e = ap (code_in (function_code w g)) e
+  where
+    code_in : Function → Option Routine → Option Function
+    code_in h None = Some h
+    code_in h (Some r) = Some (function_code w r)
+mapped w (g ∷ fs) (suc k) f e = mapped w fs k f e
+
+-- ---- the ways out of a body
+
+-- what comes after a call in the source, by how the body is left
+abbrev left_by : Routine → (List Scalar → source.Memory → steps.Step) → Flow → source.Memory → steps.Step
+left_by f s flow = result_of f flow (λ vs m. Says (events.Returned f.name) (s vs m))
+
+-- and in Core, whose code goes on to the function's end
+abbrev ended : Routine → ℕ → ℕ → (List Content → core.Memory → core_steps.Step) → Next
+ended f number own k = λ exit. meaning.falls_to exit (meaning.statements (all_of (end_code f.result)) (meaning.left number own k)) (meaning.left number own k)
+
+-- a return, with a result
+returned_same : (w : World) (fs : Program) (n number own : ℕ) (f : Routine) (m0 : source.Memory) (c0 : core.Memory)
+    (s : List Scalar → source.Memory → steps.Step) (k : List Content → core.Memory → core_steps.Step) (m : source.Memory) (c : Config) (vs : List Scalar)
+    (xs : List Content) → slice_get w.functions number ≡ Some f → Returning w fs n m0 c0 f.result s k → Agree w m c.memory
+    → Later m0.activations m0 c0 m c.memory → ResultIs w m c.memory f.result vs xs
+    → Same w fs n (Says (events.Returned f.name) (s vs m)) (meaning.left number own k (core_steps.Returns xs) c)
+returned_same w fs n number own f m0 c0 s k m c vs xs numbered goes a l r =
+    let c' : core.Memory = own_standing c.memory own core.Dead c.memory.calls in
+    let more = own_later m0.activations m c.memory own core.Dead c.memory.calls in
+    says_same w fs n (events.Returned f.name) (core_steps.Returned number) (s vs m) (k xs (with_standing c.memory (core.Own own) core.Dead))
+    (BothReturned number f numbered)
+    (goes.go m c' vs xs (own_agree w m c.memory own core.Dead c.memory.calls a) (later_on m0.activations m0 m m c0 c.memory c' l more)
+    (result_later m0.activations w m m c.memory c' f.result vs xs more r))
+
+-- the end of a body without `return`
+end_same : (w : World) (fs : Program) (n number own : ℕ) (f : Routine) (m0 : source.Memory) (c0 : core.Memory) (s : List Scalar → source.Memory → steps.Step)
+    (k : List Content → core.Memory → core_steps.Step) (m : source.Memory) (c : Config) → slice_get w.functions number ≡ Some f → IsRoutine f
+    → Returning w fs n m0 c0 f.result s k → Agree w m c.memory → Later m0.activations m0 c0 m c.memory
+    → Same w fs n (left_by f s steps.Falls m) (ended f number own k core_steps.Falls c)
+end_same w fs n number own f m0 c0 s k m c numbered routine goes a l = by f.result refl routine.result
+  where
+    again : List Scalar → source.Memory → steps.Step
+    again vs m' = Says (events.Returned f.name) (s vs m')
+
+    left : Next
+    left = meaning.left number own k
+
+    nothing : f.result ≡ VoidShape → Same w fs n (result_at_end f VoidShape again m) (meaning.statements (all_of (end_code VoidShape)) left c)
+    nothing e = returned_same w fs n number own f m0 c0 s k m c [] [] numbered goes a l (inr (record {
+      nothing = refl;
+      value = record
+          { void = e; none = refl };
+    }))
+
+    zero_result : f.result ≡ IntShape → Same w fs n (again (Integer AsInt 0 ∷ []) m) (meaning.statements (all_of (end_code IntShape)) left c)
+    zero_result e =
+        let c' : Config = with_temp 0 (Word 0) c in
+        returned_same w fs n number own f m0 c0 s k m c' (Integer AsInt 0 ∷ []) (c'.temps 0 ∷ []) numbered goes a l
+        (inl (record {
+          content = c'.temps 0;
+          alone = refl;
+          value = record {
+            value = Integer AsInt 0;
+            alone = refl;
+            shown = subst (λ z. Shown w m c.memory z (Integer AsInt 0) (c'.temps 0 ∷ [])) (sym e) (word_shown w m c.memory AsInt 0 (omega arith));
+          };
+        }))
+
+    main_alone : (b : Bool) (of : Shape) → is_main f.name ≡ b → f.result ≡ of → (code : Statements) → (of ≡ IntShape → code ≡ all_of (end_code IntShape))
+        → Same w fs n ((if b then give (Integer AsInt 0 ∷ []) else steps.stuck) again m) (meaning.statements code left c)
+    main_alone false of e g code same = stuck_same w fs n _
+    main_alone true of e g code same =
+        let int : f.result ≡ IntShape = routine.main e in
+        subst (λ z. Same w fs n (again (Integer AsInt 0 ∷ []) m) (meaning.statements z left c)) (sym (same (sym g ∙ int))) (zero_result int)
+
+    by : (of : Shape) → f.result ≡ of → IsTaken of → Same w fs n (result_at_end f f.result again m) (meaning.statements (all_of (end_code f.result)) left c)
+    by IntShape e taken = rw e (main_alone (is_main f.name) IntShape refl e (all_of (end_code IntShape)) (λ z. refl))
+    by UnsignedShape e taken = rw e (main_alone (is_main f.name) UnsignedShape refl e (all_of (end_code UnsignedShape)) (λ z. refl))
+    by CharShape e taken = rw e (main_alone (is_main f.name) CharShape refl e (all_of (end_code CharShape)) (λ z. refl))
+    by VoidShape e taken = rw e (nothing e)
+    by (ThinShape may_be_null owner to) e taken = absurd taken
+    by (FatShape to) e taken = absurd taken
+    by HandleShape e taken = absurd taken
+    by KeyShape e taken = absurd taken
+    by (StructShape tag) e taken = absurd taken
+    by (UnionShape tag) e taken = absurd taken
+    by (ArrayShape count of) e taken = absurd taken
+
+-- ---- a function is entered
+
+pub parameters_taken : (ps : List Part) (shapes : List Shape) → AreParameters ps → AreTaken shapes → AreTaken (part_shapes ps ++ shapes)
+parameters_taken [] shapes h g = g
+parameters_taken (p ∷ ps) shapes h g = (integer_taken p.shape h.0, parameters_taken ps shapes h.1 g)
+
+-- the body's block, from memories that agree
+entered_same : (w : World) (fs : Program) (n number own : ℕ) (f : Routine) (vss : List (List Scalar)) (xs : List Content) (m : source.Memory)
+    (c : core.Memory) (c0 : Config) (s : List Scalar → source.Memory → steps.Step) (k : List Content → core.Memory → core_steps.Step)
+    → IsPlainWorld w → CallsAs w fs n → slice_get w.functions number ≡ Some f → IsRoutine f → Agree w m c0.memory → AreLed w m c0.memory w.globals
+    → AllGiven w m c0.memory (part_shapes f.parameters) vss xs → c0.temps ≡ passed_in xs → c0.blocks ≡ [] → Later m.activations m c m c0.memory
+    → Returning w fs n m c f.result s k
+    → Same w fs n (in_block (λ frame. with_arguments f.parameters vss (meaning_of.block_items f.body) (record {
+      world = w;
+      locals = [];
+      frame = frame;
+      result
+          = f.result;
+    })) (left_by f s) m) (meaning.statements (body_code w f) (meaning.left number own k) c0)
+entered_same w fs n number own f vss xs m c c0 s k plain calls numbered routine agree led given temps blocks later goes =
+    body_same f.parameters f.body scope known (length f.parameters) n vss routine.parameters routine.body (record
+    { world = plain; locals = tt; integers = tt }) routine.result calls (omega arith) refl
+    (source_in m) inside (next_out (left_by f s) m.activations) NoStatements (after_out (ended f number own k) c0)
+    (entered_fits w fs [] [] [] shapes m c0 taken agree blocks tt led)
+    (given_later 0 w m (source_in m) c0.memory inside.memory (part_shapes f.parameters) vss (values_of inside.temps (from_on 0 (length f.parameters)))
+    (entered_later 0 w m c0.memory (locals_of w shapes) agree)
+    (subst (λ z. AllGiven w m c0.memory (part_shapes f.parameters) vss z) (sym (ap (λ z. values_of z (from_on 0 (length f.parameters))) temps ∙ passed_first
+    xs (length f.parameters) (many_given w m c0.memory f.parameters vss xs given))) given))
+    (ways_out w fs n m.activations shapes m c0 f.result (left_by f s) (ended f number own k) agree (omega arith) (record {
+      falls = λ m' c' a l e. end_same w fs n number own f m c s k m' c' numbered routine goes a (on m' c' l);
+      breaks = λ m' c' a l e. stuck_same w fs n _;
+      continues = λ m' c' a l e. stuck_same w fs n _;
+      returns = λ m' c' vs ys a l e r. returned_same w fs n number own f m c s k m' c' vs ys numbered goes a (on m' c' l) r;
+    }))
+  where
+    scope : Scope
+    scope = record { world = w; locals = []; frame = m.activations; result = f.result }
+
+    shapes : List Shape
+    shapes = part_shapes f.parameters ++ block_shapes f.body
+
+    known : Known
+    known = record { program = fs; names = []; outer = []; made = 0; pending = shapes }
+
+    taken : AreTaken shapes
+    taken = parameters_taken f.parameters (block_shapes f.body) routine.parameters (shapes_taken f.result f.body routine.body)
+
+    inside : Config
+    inside = meaning.in_block (locals_of w shapes) c0
+
+    on : (m' : source.Memory) (c' : Config) → Later m.activations m c0.memory m' c'.memory → Later m.activations m c m' c'.memory
+    on m' c' l = later_on m.activations m m m' c c0.memory c'.memory later l
+
+-- a call of a function by its number
+pub enters_same : (w : World) (fs : Program) (n : ℕ) → IsPlainWorld w → fs.functions ≡ map (function_code w) w.functions → CallsAs w fs n → EntersAs w fs n
+enters_same w fs n plain functions calls = record {
+  same = λ name f vss xs m c s k numbered routine agree led given goes.
+      let number : ℕ = number_of w.functions name in
+      let found : slice_get fs.functions number ≡ Some (function_code w f) = ap (λ z. slice_get z number) functions ∙ mapped w w.functions number f numbered in
+      let c0 : Config = meaning.entered (function_code w f) xs c in
+      let more = own_later m.activations m c c.calls core.Live (c.calls + 1) in
+      let counted : nat_eq (length xs) (length f.parameters) ≡ true = eq-eqb (length xs) (length f.parameters) (many_given w m c f.parameters vss xs given) in
+      rw (found, counted)
+      (says_same w fs n (events.Called f.name) (core_steps.Called number) _ _ (BothCalled number f numbered)
+      (entered_same w fs n number c.calls f vss xs m c c0 s k plain calls numbered routine (own_agree w m c c.calls core.Live (c.calls + 1) agree)
+      (all_led_later m.activations w m m c c0.memory w.globals more led) (given_later m.activations w m m c c0.memory (part_shapes f.parameters) vss xs more
+      given) refl refl more goes));
+}
+
+-- with each amount of fuel up to one
+enters_to : (n : ℕ) (w : World) (fs : Program) → IsPlainWorld w → fs.functions ≡ map (function_code w) w.functions → (j : ℕ) → j ≤ n → EntersAs w fs j
+enters_to zero w fs plain functions j h = enters_same w fs j plain functions (λ i less. absurd (omega (arith, h, less)))
+enters_to (suc n) w fs plain functions j h = enters_same w fs j plain functions (λ i less. enters_to n w fs plain functions i (omega (arith, h, less)))
+
+pub enters_always : (w : World) (fs : Program) (n : ℕ) → IsPlainWorld w → fs.functions ≡ map (function_code w) w.functions → EntersAs w fs n
+enters_always w fs n plain functions = enters_to n w fs plain functions n (omega arith)

@@ -1,0 +1,394 @@
+-- What keeps the relation: a cell is written, moved or lent; a block is entered and left.
+use Rattle.std.proofs.Common.{
+  ◌≡◌,
+  ℕ,
+  ◌+◌,
+  ◌≤◌,
+  inl,
+  inr,
+  ⊎_elim,
+  suc,
+  List,
+  [],
+  ◌∷◌,
+  Bool,
+  true,
+  false,
+  nat_eq,
+  Option,
+  Some,
+  None,
+  refl,
+  sym,
+  ap,
+  ◌∙◌,
+  subst,
+  arith,
+}
+use Rattle.std.specs.Prelude.{◌&&◌, if◌then◌else◌}
+use Rattle.std.proofs.lemmas.Bool.{eqb-true, eq-eqb, and_parts}
+use Rattle.source_meaning.specs.Shapes.{
+  Shape,
+  IntShape,
+  UnsignedShape,
+  CharShape,
+  VoidShape,
+  ThinShape,
+  FatShape,
+  HandleShape,
+  KeyShape,
+  StructShape,
+  UnionShape,
+  ArrayShape,
+}
+use Rattle.source_meaning.specs.Memory as source
+use Rattle.source_meaning.specs.Memory.{Scalar, Spot, Holds, Cell, same_region, same_spot, with_cell, with_state, state_is_live, Live, Dead}
+use Rattle.source_meaning.specs.Steps.{World, Entity, Variable, Fixed, Binding}
+use Rattle.source_meaning.specs.Conversions.{size_of}
+use Rattle.source_meaning.proofs.Cases.{region_is}
+use Rattle.core_meaning.specs.Memory as core
+use Rattle.core_meaning.specs.Memory.{Content, Part, with_part, with_standing}
+use Rattle.core_meaning.specs.Steps.{Config}
+use Rattle.source_lowering.specs.Layouts.{Placed, placed_of, Piece, pieces_of}
+use Rattle.source_lowering.proofs.Relations.{
+  region_at,
+  at,
+  HasShape,
+  PartIs,
+  PartsAre,
+  AreLaid,
+  APointer,
+  AFat,
+  Shown,
+  PartsHold,
+  IsShown,
+  Agree,
+  Later,
+  Place,
+  Fits,
+  LaterAt,
+  AreMade,
+  ArePending,
+  IsLed,
+  AreLed,
+}
+
+-- ---- regions and spots of Core
+
+pub region_same : (r s : core.Region) → core.same_region r s ≡ true → r ≡ s
+region_same (core.Frame j) (core.Frame k) e = ap (λ n. core.Frame n) (eqb-true j k e)
+region_same (core.Own j) (core.Own k) e = ap (λ n. core.Own n) (eqb-true j k e)
+region_same (core.Born j) (core.Born k) e = ap (λ n. core.Born n) (eqb-true j k e)
+region_same (core.Frame j) (core.Own k) e = absurd (cc e)
+region_same (core.Frame j) (core.Born k) e = absurd (cc e)
+region_same (core.Own j) (core.Frame k) e = absurd (cc e)
+region_same (core.Own j) (core.Born k) e = absurd (cc e)
+region_same (core.Born j) (core.Frame k) e = absurd (cc e)
+region_same (core.Born j) (core.Own k) e = absurd (cc e)
+
+pub region_self : (r : core.Region) → core.same_region r r ≡ true
+region_self (core.Frame j) = eq-eqb j j refl
+region_self (core.Own j) = eq-eqb j j refl
+region_self (core.Born j) = eq-eqb j j refl
+
+pub spot_same : (s t : core.Spot) → core.same_spot s t ≡ true → s ≡ t
+spot_same s t e =
+    let p = and_parts (core.same_region s.region t.region) _ e in
+    let q = and_parts (nat_eq s.object t.object) (nat_eq s.cell t.cell) p.1 in
+    let a = region_same s.region t.region p.0 in
+    let b = eqb-true s.object t.object q.0 in
+    let c = eqb-true s.cell t.cell q.1 in
+    λ i. record { region = a i; object = b i; cell = c i }
+
+-- ---- spots
+
+pub region_as : (q r : source.Region) → core.same_region (region_at q) (region_at r) ≡ same_region q r
+region_as (source.Frame j) (source.Frame k) = refl
+region_as (source.Frame j) (source.Born k) = refl
+region_as (source.Born j) (source.Frame k) = refl
+region_as (source.Born j) (source.Born k) = refl
+
+pub spot_as : (s t : Spot) → core.same_spot (at s) (at t) ≡ same_spot s t
+spot_as s t = ap (λ b. b && (nat_eq s.object t.object && nat_eq s.cell t.cell)) (region_as s.region t.region)
+
+pub spot_is : (s t : Spot) → same_spot s t ≡ true → s ≡ t
+spot_is s t e =
+    let p = and_parts (same_region s.region t.region) _ e in
+    let q = and_parts (nat_eq s.object t.object) (nat_eq s.cell t.cell) p.1 in
+    let a = region_is s.region t.region p.0 in
+    let b = eqb-true s.object t.object q.0 in
+    let c = eqb-true s.cell t.cell q.1 in
+    λ i. record { region = a i; object = b i; cell = c i }
+
+pub core_itself : (t : core.Spot) → core.same_spot t t ≡ true
+core_itself t = rw (region_self t.region, eq-eqb t.object t.object refl, eq-eqb t.cell t.cell refl) refl
+
+-- ---- cells
+
+abbrev shape_in : Shape → Option Cell → Shape
+shape_in s None = s
+shape_in s (Some c) = c.shape
+
+abbrev content_in : source.Content → Option Cell → source.Content
+content_in v None = v
+content_in v (Some c) = c.content
+
+abbrev value_in : Scalar → source.Content → Scalar
+value_in v (Holds u) = u
+value_in v source.Blank = v
+value_in v source.Gone = v
+value_in v source.Lent = v
+
+abbrev cell : Shape → source.Content → Cell
+cell shape content = record { shape = shape; content = content }
+
+-- ---- facts of earlier memories hold in later ones
+
+pub later_self : (b : ℕ) (m : source.Memory) (c : core.Memory) → Later b m c m c
+later_self b m c = record { shapes = λ s shape h. h; parts = λ t j o w h. h; objects = λ k h. refl; begun = omega arith }
+
+pub later_on : (b : ℕ) (m m' m'' : source.Memory) (c c' c'' : core.Memory) → Later b m c m' c' → Later b m' c' m'' c'' → Later b m c m'' c''
+later_on b m m' m'' c c' c'' x y = record {
+  shapes = λ s shape h. y.shapes s shape (x.shapes s shape h);
+  parts = λ t j o w h. y.parts t j o w (x.parts t j o w h);
+  objects = λ k h. y.objects k h ∙ x.objects k h;
+  begun = let f = x.begun in let g = y.begun in omega (arith, f, g);
+}
+
+-- of fewer blocks less is said
+pub later_less : (b b' : ℕ) (m m' : source.Memory) (c c' : core.Memory) → b' ≤ b → Later b m c m' c' → Later b' m c m' c'
+later_less b b' m m' c c' less l = record { shapes = l.shapes; parts = l.parts; objects = λ k h. l.objects k (omega (arith, less, h)); begun = l.begun }
+
+parts_later : (b : ℕ) (m m' : source.Memory) (c c' : core.Memory) (t : core.Spot) (byte j : ℕ) (ps : List Piece) → Later b m c m' c' → PartsAre c t byte j ps
+    → PartsAre c' t byte j ps
+parts_later b m m' c c' t byte j [] l h = tt
+parts_later b m m' c c' t byte j (p ∷ ps) l (one, others) = (l.parts t j (byte + p.offset) p.width one, parts_later b m m' c c' t byte (j + 1) ps l others)
+
+pub laid_later : (b : ℕ) (m m' : source.Memory) (c c' : core.Memory) (s : Spot) (byte : ℕ) (ps : List Placed) → Later b m c m' c' → AreLaid m c s byte ps
+    → AreLaid m' c' s byte ps
+laid_later b m m' c c' s byte [] l h = tt
+laid_later b m m' c c' s byte (p ∷ ps) l (one, others) = (
+  record { has = l.shapes s p.shape one.has; parts = parts_later b m m' c c' (at s) (byte + p.offset) 0 (pieces_of p.shape) l one.parts },
+  laid_later b m m' c c' (source.beyond s 1) byte ps l others,
+)
+
+pub shown_later : (b : ℕ) (w : World) (m m' : source.Memory) (c c' : core.Memory) (shape : Shape) (v : Scalar) (cs : List Content) → Later b m c m' c'
+    → Shown w m c shape v cs → Shown w m' c' shape v cs
+shown_later b w m m' c c' IntShape v cs l h = h
+shown_later b w m m' c c' UnsignedShape v cs l h = h
+shown_later b w m m' c c' CharShape v cs l h = h
+shown_later b w m m' c c' VoidShape v cs l h = h
+shown_later b w m m' c c' (ThinShape n o to) v cs l h =
+    ⊎_elim (λ x. inl x) (λ (p : APointer w m c to v cs). inr (record {
+      spot = p.spot;
+      byte = p.byte;
+      value = p.value;
+      shown = p.shown;
+      leads = laid_later b m
+          m' c c' p.spot p.byte (placed_of w to) l p.leads;
+    })) h
+shown_later b w m m' c c' (FatShape to) v cs l h =
+    ⊎_elim (λ x. inl x) (λ (p : AFat w m c to (size_of w to) v cs). inr (record {
+      span = p.span;
+      byte = p.byte;
+      value = p.value;
+      shown = p.shown;
+      small =
+          p.small;
+      leads = λ k less. laid_later b m m' c c' _ _ (placed_of w to) l (p.leads k less);
+    })) h
+shown_later b w m m' c c' HandleShape v cs l h = h
+shown_later b w m m' c c' KeyShape v cs l h = h
+shown_later b w m m' c c' (StructShape tag) v cs l h = h
+shown_later b w m m' c c' (UnionShape tag) v cs l h = h
+shown_later b w m m' c c' (ArrayShape count of) v cs l h = h
+
+pub led_later : (b : ℕ) (w : World) (m m' : source.Memory) (c c' : core.Memory) (e : Entity) → Later b m c m' c' → IsLed w m c e → IsLed w m' c' e
+led_later b w m m' c c' (Variable shape s) l h = laid_later b m m' c c' s 0 (placed_of w shape) l h
+led_later b w m m' c c' (Fixed shape v) l h = tt
+
+pub all_led_later : (b : ℕ) (w : World) (m m' : source.Memory) (c c' : core.Memory) (bs : List Binding) → Later b m c m' c' → AreLed w m c bs
+    → AreLed w m' c' bs
+all_led_later b w m m' c c' [] l h = tt
+all_led_later b w m m' c c' (x ∷ bs) l (one, others) = (led_later b w m m' c c' x.entity l one, all_led_later b w m m' c c' bs l others)
+
+pub made_later : (b : ℕ) (m m' : source.Memory) (c c' : core.Memory) (t : core.Spot) (byte : ℕ) (ps : List Placed) → Later b m c m' c' → AreMade c t byte ps
+    → AreMade c' t byte ps
+made_later b m m' c c' t byte [] l h = tt
+made_later b m m' c c' t byte (p ∷ ps) l (one, others) =
+    (parts_later b m m' c c' t (byte + p.offset) 0 (pieces_of p.shape) l one, made_later b m m' c c' (core.beyond t 1) byte ps l others)
+
+pub pending_later : (b : ℕ) (w : World) (m m' : source.Memory) (c c' : core.Memory) (frame index : ℕ) (ss : List Shape) → Later b m c m' c'
+    → ArePending w c frame index ss → ArePending w c' frame index ss
+pending_later b w m m' c c' frame index [] l h = tt
+pending_later b w m m' c c' frame index (s ∷ ss) l (one, others) =
+    (made_later b m m' c c' _ 0 (placed_of w s) l one, pending_later b w m m' c c' frame (suc index) ss l others)
+
+-- a place fits later memories that agree
+pub fits_later : (p : Place) (m m' : source.Memory) (c c' : Config) → Fits p m c → Agree p.world m' c'.memory → LaterAt p m c m' c' → c'.blocks ≡ c.blocks
+    → Fits p m' c'
+fits_later p m m' c c' f a l blocks = record {
+  agree = a;
+  blocks = blocks ∙ f.blocks;
+  locals = all_led_later (suc p.frame) p.world m m' c.memory c'.memory p.locals l f.locals;
+  globals = all_led_later (suc p.frame) p.world m m' c.memory c'.memory p.world.globals l f.globals;
+  begun = let g = f.begun in let h = l.begun in omega (arith, g, h);
+  made = l.objects p.frame (omega arith) ∙ f.made;
+  pending = pending_later (suc p.frame) p.world m m' c.memory c'.memory p.frame p.made p.pending l f.pending;
+}
+
+-- ---- a cell gets another content, and no part changes or one does
+
+shape_kept : (m : source.Memory) (s : Spot) (shape : Shape) (old new : source.Content) → m.cells s ≡ Some (cell shape old) → (t : Spot) (other : Shape)
+    → HasShape m t other → HasShape (with_cell m s (cell shape new)) t other
+shape_kept m s shape old new is t other has = by (same_spot t s) refl
+  where
+    by : (b : Bool) → same_spot t s ≡ b → HasShape (with_cell m s (cell shape new)) t other
+    by true e =
+        let same : shape ≡ other = ap (shape_in shape) (sym is ∙ ap m.cells (sym (spot_is t s e)) ∙ has.is) in
+        record { content = new; is = ap (λ b. if b then Some (cell shape new) else m.cells t) e ∙ ap (λ x. Some (cell x new)) same }
+    by false e = record { content = has.content; is = ap (λ b. if b then Some (cell shape new) else m.cells t) e ∙ has.is }
+
+part_kept : (c : core.Memory) (s : core.Spot) (j : ℕ) (old : Part) (x : Content) → c.parts s j ≡ Some old → (t : core.Spot) (i offset width : ℕ)
+    → PartIs c t i offset width → PartIs (with_part c s j (record old { content = x })) t i offset width
+part_kept c s j old x is t i offset width p = by (core.same_spot t s && nat_eq i j) refl
+  where
+    by : (b : Bool) → (core.same_spot t s && nat_eq i j) ≡ b → PartIs (with_part c s j (record old { content = x })) t i offset width
+    by true e =
+        let two = and_parts (core.same_spot t s) (nat_eq i j) e in
+        let here : Some old ≡ Some (record { offset = offset; width = width; content = p.content }) =
+        sym is ∙ ap (λ z. c.parts z j) (sym (spot_same t s two.0)) ∙ ap (λ z. c.parts t z) (sym (eqb-true i j two.1)) ∙ p.is in
+        record { content = x; is = ap (λ b. if b then Some (record old { content = x }) else c.parts t i) e ∙ ap (with_x x) here }
+      where
+        with_x : Content → Option Part → Option Part
+        with_x y None = None
+        with_x y (Some q) = Some (record q { content = y })
+    by false e = record { content = p.content; is = ap (λ b. if b then Some (record old { content = x }) else c.parts t i) e ∙ p.is }
+
+pub later_written : (b : ℕ) (m : source.Memory) (c : core.Memory) (s : Spot) (shape : Shape) (old new : source.Content) (part : Part) (x : Content)
+    → m.cells s ≡ Some (cell shape old) → c.parts (at s) 0 ≡ Some part → Later b m c (with_cell m s (cell shape new))
+    (with_part c (at s) 0 (record part { content = x }))
+later_written b m c s shape old new part x is there = record {
+  shapes = shape_kept m s shape old new is;
+  parts = part_kept c (at s) 0 part x there;
+  objects =
+      λ k h. refl;
+  begun = omega arith;
+}
+
+none_if : (b : Bool) (x y : Option Cell) → b ≡ false → y ≡ None → (if b then x else y) ≡ None
+none_if b x y e h = ap (λ z. if z then x else y) e ∙ h
+
+pub held_other : (c : core.Memory) (s t : core.Spot) (p : Part) (j : ℕ) (cs : List Content) → core.same_spot t s ≡ false → PartsHold c t j cs
+    → PartsHold (with_part c s 0 p) t j cs
+held_other c s t p j [] e h = tt
+held_other c s t p j (x ∷ xs) e ((q, (is, holds)), others) = (
+  (q, (ap (λ b. if b && nat_eq j 0 then Some p else c.parts t j) e ∙ is, holds)),
+  held_other c s t
+      p (j + 1) xs e others,
+)
+
+no_part : (c : core.Memory) (p : Part) → None ≡ Some p → ⊥
+no_part c p e = cc e
+
+unmade_kept : (m : source.Memory) (s : Spot) (shape : Shape) (old new : source.Content) → m.cells s ≡ Some (cell shape old)
+    → ((t : Spot) → m.objects t.region ≤ t.object → m.cells t ≡ None) → (t : Spot) → m.objects t.region ≤ t.object
+    → (with_cell m s (cell shape new)).cells t ≡ None
+unmade_kept m s shape old new is unmade t h = by (same_spot t s) refl
+  where
+    by : (b : Bool) → same_spot t s ≡ b → (with_cell m s (cell shape new)).cells t ≡ None
+    by true e = let none : None ≡ Some (cell shape old) = sym (unmade t h) ∙ ap m.cells (spot_is t s e) ∙ is in absurd (cc none)
+    by false e = none_if (same_spot t s) (Some (cell shape new)) (m.cells t) e (unmade t h)
+
+unentered_kept : (c : core.Memory) (s : core.Spot) (old : Part) (x : Content) → c.parts s 0 ≡ Some old
+    → ((k : ℕ) (t : core.Spot) (j : ℕ) → c.activations ≤ k → t.region ≡ core.Frame k → c.parts t j ≡ None) → (k : ℕ) (t : core.Spot) (j : ℕ)
+    → c.activations ≤ k → t.region ≡ core.Frame k → (with_part c s 0 (record old { content = x })).parts t j ≡ None
+unentered_kept c s old x is un k t j h r = by (core.same_spot t s && nat_eq j 0) refl
+  where
+    by : (b : Bool) → (core.same_spot t s && nat_eq j 0) ≡ b → (with_part c s 0 (record old { content = x })).parts t j ≡ None
+    by true e =
+        let two = and_parts (core.same_spot t s) (nat_eq j 0) e in
+        let none : None ≡ Some old = sym (un k t j h r) ∙ ap (λ z. c.parts z j) (spot_same t s two.0) ∙ ap (λ z. c.parts s z) (eqb-true j 0 two.1) ∙ is in
+        absurd (cc none)
+    by false e = ap (λ b. if b then Some (record old { content = x }) else c.parts t j) e ∙ un k t j h r
+
+abbrev pub m_written : source.Memory → Spot → Shape → Scalar → source.Memory
+m_written m s shape v = with_cell m s (cell shape (Holds v))
+
+abbrev pub c_written : core.Memory → Spot → Part → Content → core.Memory
+c_written c s part x = with_part c (at s) 0 (record part { content = x })
+
+pub held_same : (c c' : core.Memory) (t : core.Spot) (j : ℕ) (cs : List Content) → ((t : core.Spot) (j : ℕ) → c'.parts t j ≡ c.parts t j) → PartsHold c t j cs
+    → PartsHold c' t j cs
+held_same c c' t j [] e h = tt
+held_same c c' t j (x ∷ xs) e ((q, (is, holds)), others) = ((q, (e t j ∙ is, holds)), held_same c c' t (j + 1) xs e others)
+
+-- a value of one part is written in both
+pub agree_written : (w : World) (m : source.Memory) (c : core.Memory) (s : Spot) (shape : Shape) (old : source.Content) (v : Scalar) (part : Part)
+    (x : Content) → Agree w m c → m.cells s ≡ Some (cell shape old) → c.parts (at s) 0 ≡ Some part → Shown w m c shape v (x ∷ [])
+    → Agree w (m_written m s shape v) (c_written c s part x)
+agree_written w m c s shape old v part x a is there shown =
+    let later = later_written 0 m c s shape old (Holds v) part x is there in
+    record {
+      cells = λ t other u h. by (same_spot t s) t other u later refl h;
+      live = a.live;
+      activations = a.activations;
+      unmade = unmade_kept m s shape old (Holds v) is a.unmade;
+      unentered = unentered_kept c (at s) part x there a.unentered;
+      unbegun = a.unbegun;
+    }
+  where
+    here : Later 0 m c (m_written m s shape v) (c_written c s part x) → IsShown w (m_written m s shape v) (c_written c s part x) s shape v
+    here later = record {
+      contents = x ∷ [];
+      shown = shown_later 0 w m (m_written m s shape v) c (c_written c s part x) shape v (x ∷ []) later shown;
+      held = ((record part { content = x }, (rw (core_itself (at s)) refl, refl)), tt);
+    }
+
+    by : (b : Bool) (t : Spot) (other : Shape) (u : Scalar) → Later 0 m c (m_written m s shape v) (c_written c s part x) → same_spot t s ≡ b
+        → (m_written m s shape v).cells t ≡ Some (cell other (Holds u)) → IsShown w (m_written m s shape v) (c_written c s part x) t other u
+    by true t other u later e h =
+        let same : Some (cell shape (Holds v)) ≡ Some (cell other (Holds u)) = sym (ap (λ b. if b then Some (cell shape (Holds v)) else m.cells t) e) ∙ h in
+        subst (λ z. IsShown w (m_written m s shape v) (c_written c s part x) z other u) (sym (spot_is t s e))
+        (subst (λ z. IsShown w (m_written m s shape v) (c_written c s part x) s z u) (ap (shape_in shape) same)
+        (subst (λ z. IsShown w (m_written m s shape v) (c_written c s part x) s shape z) (ap (value_in v) (ap (content_in (Holds v)) same)) (here later)))
+    by false t other u later e h =
+        let before : m.cells t ≡ Some (cell other (Holds u)) = sym (ap (λ b. if b then Some (cell shape (Holds v)) else m.cells t) e) ∙ h in
+        let one = a.cells t other u before in
+        record {
+          contents = one.contents;
+          shown = shown_later 0 w m (m_written m s shape v) c (c_written c s part x) other u one.contents later one.shown;
+          held = held_other c (at s) (at t) (record part { content = x }) 0 one.contents (spot_as t s ∙ e) one.held;
+        }
+
+-- ---- a block is left: its region is dead in both
+
+live_by : (q r : source.Region) (b : Bool) (x : source.State) (y : core.Standing) → same_region q r ≡ b → state_is_live x ≡ core.is_live y
+    → state_is_live (if same_region q r then Dead else x) ≡ core.is_live (if core.same_region (region_at q) (region_at r) then core.Dead else y)
+live_by q r true x y e h = rw (region_as q r, e) refl
+live_by q r false x y e h = rw (region_as q r, e) h
+
+pub left_later : (b : ℕ) (m : source.Memory) (c : core.Memory) (k : ℕ) → Later b m c (with_state m (source.Frame k) Dead)
+    (with_standing c (core.Frame k) core.Dead)
+left_later b m c k = record {
+  shapes = λ t sh g. record { content = g.content; is = g.is };
+  parts = λ t j o x g. record { content = g.content; is = g.is };
+  objects = λ j h. refl;
+  begun = omega arith;
+}
+
+pub agree_left : (w : World) (m : source.Memory) (c : core.Memory) (k : ℕ) → Agree w m c → Agree w (with_state m (source.Frame k) Dead)
+    (with_standing c (core.Frame k) core.Dead)
+agree_left w m c k a = record {
+  cells = λ s shape v h. let one = a.cells s shape v h in record {
+    contents = one.contents;
+    shown = shown_later 0 w m (with_state m (source.Frame k) Dead) c (with_standing c (core.Frame k) core.Dead) shape v one.contents (left_later 0 m c k)
+        one.shown;
+    held = held_same c (with_standing c (core.Frame k) core.Dead) (at s) 0 one.contents (λ t j. refl) one.held;
+  };
+  live = λ q. live_by q (source.Frame k) (same_region q (source.Frame k)) (m.state q) (c.standing (region_at q)) refl (a.live q);
+  activations = a.activations;
+  unmade = a.unmade;
+  unentered = a.unentered;
+  unbegun = a.unbegun;
+}

@@ -1,0 +1,241 @@
+-- The source makes a local, whose object Core has made before.
+use Rattle.std.proofs.Common.{
+  ◌≡◌,
+  ℕ,
+  suc,
+  ◌+◌,
+  ◌<◌,
+  ◌≤◌,
+  List,
+  [],
+  ◌∷◌,
+  length,
+  Bool,
+  true,
+  false,
+  nat_eq,
+  Option,
+  Some,
+  None,
+  refl,
+  sym,
+  ap,
+  ◌∙◌,
+  subst,
+  arith,
+}
+use Rattle.std.specs.Prelude.{◌&&◌, if◌then◌else◌}
+use Rattle.std.proofs.lemmas.Bool.{eqb-true, eq-eqb, and_parts}
+use Rattle.std.proofs.lemmas.Bool.Decides.{nat_tests}
+use Rattle.source_meaning.specs.Shapes.{Shape}
+use Rattle.source_meaning.specs.Memory as source
+use Rattle.source_meaning.specs.Memory.{Scalar, Spot, Holds, Cell, Object, object_of, same_region, with_object, state_is_live}
+use Rattle.source_meaning.specs.Steps.{World}
+use Rattle.source_meaning.proofs.Cases.{region_itself, region_is}
+use Rattle.core_meaning.specs.Memory as core
+use Rattle.core_meaning.specs.Memory.{Content, Part, with_part}
+use Rattle.source_lowering.proofs.Relations.{region_at, at, HasShape, PartIs, IsShown, Agree, Later}
+use Rattle.source_lowering.proofs.Keeping.{held_other, region_as, spot_same, shown_later}
+
+-- the object of one cell
+abbrev pub one_cell : Shape → source.Content → Object
+one_cell shape content = object_of ((record { shape = shape; content = content }) ∷ [])
+
+abbrev pub local_spot : ℕ → ℕ → Spot
+local_spot k index = record { region = source.Frame k; object = index; cell = 0 }
+
+abbrev pub m_made : source.Memory → ℕ → Shape → source.Content → source.Memory
+m_made m k shape content = with_object m (source.Frame k) (one_cell shape content)
+
+abbrev is_here : source.Memory → ℕ → Spot → Bool
+is_here m k t = same_region t.region (source.Frame k) && nat_eq t.object (m.objects (source.Frame k))
+
+-- what is made is at a new spot
+fresh : (m : source.Memory) (k : ℕ) (t : Spot) → ((s : Spot) → m.objects s.region ≤ s.object → m.cells s ≡ None) → is_here m k t ≡ true → m.cells t ≡ None
+fresh m k t unmade e =
+    let two = and_parts (same_region t.region (source.Frame k)) (nat_eq t.object (m.objects (source.Frame k))) e in
+    let r = region_is t.region (source.Frame k) two.0 in
+    let o = eqb-true t.object (m.objects (source.Frame k)) two.1 in
+    unmade t (subst (λ q. m.objects q ≤ t.object) (sym r) (subst (λ z. m.objects (source.Frame k) ≤ z) (sym o) (omega arith)))
+
+made_cell : (m : source.Memory) (k : ℕ) (shape : Shape) (content : source.Content) (t : Spot) (x : Cell)
+    → ((s : Spot) → m.objects s.region ≤ s.object → m.cells s ≡ None) → m.cells t ≡ Some x → (m_made m k shape content).cells t ≡ Some x
+made_cell m k shape content t x unmade is = by (is_here m k t) refl
+  where
+    by : (b : Bool) → is_here m k t ≡ b → (m_made m k shape content).cells t ≡ Some x
+    by true e = let none : None ≡ Some x = sym (fresh m k t unmade e) ∙ is in absurd (cc none)
+    by false e = ap (λ b. if b then one_cell shape content t.cell else m.cells t) e ∙ is
+
+objects_other : (m : source.Memory) (j k : ℕ) (shape : Shape) (content : source.Content) → j < k
+    → (m_made m k shape content).objects (source.Frame j) ≡ m.objects (source.Frame j)
+objects_other m j k shape content h = let no : nat_eq j k ≡ false = grind (arith, nat_tests, h) in ap (λ b. if b then m.objects (source.Frame k) + 1 else
+    m.objects (source.Frame j)) no
+
+pub objects_here : (m : source.Memory) (k : ℕ) (shape : Shape) (content : source.Content) → (m_made m k shape content).objects (source.Frame k) ≡ m.objects
+    (source.Frame k) + 1
+objects_here m k shape content = ap (λ b. if b then m.objects (source.Frame k) + 1 else m.objects (source.Frame k)) (region_itself (source.Frame k))
+
+-- the blocks before this one have no more locals
+pub grown_later : (m : source.Memory) (c : core.Memory) (k : ℕ) (shape : Shape) (content : source.Content)
+    → ((s : Spot) → m.objects s.region ≤ s.object → m.cells s ≡ None) → Later k m c (m_made m k shape content) c
+grown_later m c k shape content unmade = record {
+  shapes = λ s other h. record { content = h.content; is = made_cell m k shape content s _ unmade h.is };
+  parts = λ t j o w h. h;
+  objects = λ j h. objects_other m j k shape content h;
+  begun = omega arith;
+}
+
+-- the new local's own cell
+pub here_is : (m : source.Memory) (k index : ℕ) (shape : Shape) (content : source.Content) → m.objects (source.Frame k) ≡ index
+    → HasShape (m_made m k shape content) (local_spot k index) shape
+here_is m k index shape content e = record {
+  content = content;
+  is = ap (λ b. if b && nat_eq index (m.objects (source.Frame k)) then one_cell shape content 0 else m.cells (local_spot k index))
+      (region_itself (source.Frame k)) ∙
+      ap (λ b. if b then one_cell shape content 0 else m.cells (local_spot k index)) (eq-eqb index (m.objects (source.Frame k)) (sym e));
+}
+
+-- ---- the relation holds where the new cell's value, if there is one, is in its part
+
+abbrev shape_in : Shape → Option Cell → Shape
+shape_in s None = s
+shape_in s (Some c) = c.shape
+
+abbrev content_in : source.Content → Option Cell → source.Content
+content_in v None = v
+content_in v (Some c) = c.content
+
+one_alone : (shape : Shape) (content : source.Content) (k : ℕ) (x : Cell) → one_cell shape content (suc k) ≡ Some x → ⊥
+one_alone shape content k x e = cc e
+
+pub agree_made : (w : World) (m : source.Memory) (c : core.Memory) (k index : ℕ) (shape : Shape) (content : source.Content) → Agree w m c
+    → m.objects (source.Frame k) ≡ index → k < m.activations → ((v : Scalar) → content ≡ Holds v → IsShown w m c (local_spot k index) shape v)
+    → Agree w (m_made m k shape content) c
+agree_made w m c k index shape content a e begun shown = record {
+  cells = λ t other v h. by (is_here m k t) t other v refl h;
+  live = a.live;
+  activations = a.activations;
+  unmade = λ t h. free (is_here m k t) t refl h;
+  unentered = a.unentered;
+  unbegun = λ j h.
+      let two = a.unbegun j h in
+      let no : nat_eq j k ≡ false = grind (arith, nat_tests, h, begun) in
+      (ap (λ b. if b then m.objects (source.Frame k) + 1 else m.objects (source.Frame j)) no ∙ two.0, two.1);
+}
+  where
+    m' : source.Memory
+    m' = m_made m k shape content
+
+    later : Later k m c m' c
+    later = grown_later m c k shape content a.unmade
+
+    kept : (s : Spot) (other : Shape) (v : Scalar) → IsShown w m c s other v → IsShown w m' c s other v
+    kept s other v one = record { contents = one.contents; shown = shown_later k w m m' c c other v one.contents later one.shown; held = one.held }
+
+    here : (t : Spot) (other : Shape) (v : Scalar) → is_here m k t ≡ true → (n : ℕ) → t.cell ≡ n
+        → one_cell shape content n ≡ Some (record { shape = other; content = Holds v }) → IsShown w m' c t other v
+    here t other v e1 Rattle.std.proofs.Common.zero z is =
+        let two = and_parts (same_region t.region (source.Frame k)) (nat_eq t.object (m.objects (source.Frame k))) e1 in
+        let r = region_is t.region (source.Frame k) two.0 in
+        let o : t.object ≡ index = eqb-true t.object (m.objects (source.Frame k)) two.1 ∙ e in
+        let same : local_spot k index ≡ t = λ i. record { region = sym r i; object = sym o i; cell = sym z i } in
+        let there = shown v (ap (content_in content) is) in
+        subst (λ u. IsShown w m' c u other v) same (subst (λ u. IsShown w m' c (local_spot k index) u v) (ap (shape_in shape) is)
+        (kept (local_spot k index) shape v there))
+    here t other v e1 (suc n) z is = absurd (one_alone shape content n _ is)
+
+    by : (b : Bool) (t : Spot) (other : Shape) (v : Scalar) → is_here m k t ≡ b → m'.cells t ≡ Some (record { shape = other; content = Holds v })
+        → IsShown w m' c t other v
+    by true t other v e1 h = here t other v e1 t.cell refl (sym (ap (λ b. if b then one_cell shape content t.cell else m.cells t) e1) ∙ h)
+    by false t other v e1 h = kept t other v (a.cells t other v (sym (ap (λ b. if b then one_cell shape content t.cell else m.cells t) e1) ∙ h))
+
+    grown : (q : source.Region) (b : Bool) → same_region q (source.Frame k) ≡ b → m.objects q ≤ m'.objects q
+    grown q true e1 = subst (λ z. m.objects z ≤ m'.objects z) (sym (region_is q (source.Frame k) e1)) (subst (λ z. m.objects (source.Frame k) ≤ z)
+        (sym (objects_here m k shape content)) (omega arith))
+    grown q false e1 = subst (λ z. m.objects q ≤ z) (sym (ap (λ b. if b then m.objects (source.Frame k) + 1 else m.objects q) e1)) (omega arith)
+
+    free : (b : Bool) (t : Spot) → is_here m k t ≡ b → m'.objects t.region ≤ t.object → m'.cells t ≡ None
+    free true t e1 h =
+        let two = and_parts (same_region t.region (source.Frame k)) (nat_eq t.object (m.objects (source.Frame k))) e1 in
+        let r = region_is t.region (source.Frame k) two.0 in
+        let o = eqb-true t.object (m.objects (source.Frame k)) two.1 in
+        let more : m.objects (source.Frame k) + 1 ≤ t.object = subst (λ z. z ≤ t.object) (objects_here m k shape content)
+        (subst (λ q. m'.objects q ≤ t.object) r h) in
+        absurd (omega (arith, o, more))
+    free false t e1 h =
+        let less : m.objects t.region ≤ t.object = let g = grown t.region (same_region t.region (source.Frame k)) refl in omega (arith, g, h) in
+        ap (λ b. if b then one_cell shape content t.cell else m.cells t) e1 ∙ a.unmade t less
+
+-- ---- Core writes a part of a local that the source makes next
+
+ahead_kept : (c : core.Memory) (s : core.Spot) (old : Part) (x : Content) → c.parts s 0 ≡ Some old → (t : core.Spot) (i offset width : ℕ)
+    → PartIs c t i offset width → PartIs (with_part c s 0 (record old { content = x })) t i offset width
+ahead_kept c s old x is t i offset width p = by (core.same_spot t s && nat_eq i 0) refl
+  where
+    with_x : Content → Option Part → Option Part
+    with_x y None = None
+    with_x y (Some q) = Some (record q { content = y })
+
+    by : (b : Bool) → (core.same_spot t s && nat_eq i 0) ≡ b → PartIs (with_part c s 0 (record old { content = x })) t i offset width
+    by true e =
+        let two = and_parts (core.same_spot t s) (nat_eq i 0) e in
+        let here : Some old ≡ Some (record { offset = offset; width = width; content = p.content }) =
+        sym is ∙ ap (λ z. c.parts z 0) (sym (spot_same t s two.0)) ∙ ap (λ z. c.parts t z) (sym (eqb-true i 0 two.1)) ∙ p.is in
+        record { content = x; is = ap (λ b. if b then Some (record old { content = x }) else c.parts t i) e ∙ ap (with_x x) here }
+    by false e = record { content = p.content; is = ap (λ b. if b then Some (record old { content = x }) else c.parts t i) e ∙ p.is }
+
+pub ahead_later : (b : ℕ) (m : source.Memory) (c : core.Memory) (s : core.Spot) (old : Part) (x : Content) → c.parts s 0 ≡ Some old
+    → Later b m c m (with_part c s 0 (record old { content = x }))
+ahead_later b m c s old x is = record { shapes = λ t shape h. h; parts = ahead_kept c s old x is; objects = λ k h. refl; begun = omega arith }
+
+pub agree_ahead : (w : World) (m : source.Memory) (c : core.Memory) (s : Spot) (old : Part) (x : Content) → Agree w m c → m.cells s ≡ None
+    → c.parts (at s) 0 ≡ Some old → Agree w m (with_part c (at s) 0 (record old { content = x }))
+agree_ahead w m c s old x a none is = record {
+  cells = λ t shape v h. by (core.same_spot (at t) (at s)) t shape v refl h;
+  live = a.live;
+  activations = a.activations;
+  unmade = a.unmade;
+  unentered = λ k t j h r. apart (core.same_spot t (at s) && nat_eq j 0) k t j refl h r;
+  unbegun = a.unbegun;
+}
+  where
+    c' : core.Memory
+    c' = with_part c (at s) 0 (record old { content = x })
+
+    no_cell : (y : Cell) → None ≡ Some y → ⊥
+    no_cell y e = cc e
+
+    spot_of : (q r : source.Region) → core.same_region (region_at q) (region_at r) ≡ true → q ≡ r
+    spot_of q r e = region_is q r (sym (region_as q r) ∙ e)
+
+    same_as : (t u : Spot) → core.same_spot (at t) (at u) ≡ true → t ≡ u
+    same_as t u e =
+        let p = and_parts (core.same_region (region_at t.region) (region_at u.region)) _ e in
+        let q = and_parts (nat_eq t.object u.object) (nat_eq t.cell u.cell) p.1 in
+        let f = spot_of t.region u.region p.0 in
+        let g = eqb-true t.object u.object q.0 in
+        let h = eqb-true t.cell u.cell q.1 in
+        λ i. record { region = f i; object = g i; cell = h i }
+
+    by : (b : Bool) (t : Spot) (shape : Shape) (v : Scalar) → core.same_spot (at t) (at s) ≡ b
+        → m.cells t ≡ Some (record { shape = shape; content = Holds v }) → IsShown w m c' t shape v
+    by true t shape v e h = absurd (no_cell _ (sym none ∙ ap m.cells (sym (same_as t s e)) ∙ h))
+    by false t shape v e h =
+        let one = a.cells t shape v h in
+        record {
+          contents = one.contents;
+          shown = shown_later 0 w m m c c' shape v one.contents (ahead_later 0 m c (at s) old x is) one.shown;
+          held =
+              held_other c (at s) (at t) (record old { content = x }) 0 one.contents e one.held;
+        }
+
+    no_part : (p : Part) → None ≡ Some p → ⊥
+    no_part p e = cc e
+
+    apart : (b : Bool) (k : ℕ) (t : core.Spot) (j : ℕ) → (core.same_spot t (at s) && nat_eq j 0) ≡ b → c.activations ≤ k → t.region ≡ core.Frame k
+        → c'.parts t j ≡ None
+    apart true k t j e h r =
+        let two = and_parts (core.same_spot t (at s)) (nat_eq j 0) e in
+        absurd (no_part old (sym (a.unentered k t j h r) ∙ ap (λ z. c.parts z j) (spot_same t (at s) two.0) ∙ ap (λ z. c.parts (at s) z) (eqb-true j 0 two.1)
+        ∙ is))
+    apart false k t j e h r = ap (λ b. if b then Some (record old { content = x }) else c.parts t j) e ∙ a.unentered k t j h r

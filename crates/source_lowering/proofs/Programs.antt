@@ -1,0 +1,221 @@
+-- The theorem: on each input and with each amount of fuel, Core does what the program does, where the program isn't stuck.
+use Rattle.std.proofs.Common.{◌≡◌, ℕ, suc, ◌⊎◌, inl, ⊎_elim, List, [], ◌∷◌, ◌++◌, map, Some, None, refl, sym, ap, ◌∙◌, subst, arith}
+use Rattle.std.proofs.lemmas.List.{append-nil}
+use Rattle.std.specs.Prelude.{codes, slice_get}
+use Rattle.cyc_words.specs.Events.{SourceEnding}
+use Rattle.step_trees.specs.Trees.{Stops}
+use Rattle.cyc_tree.specs.Tree as tree
+use Rattle.cyc_tree.specs.Tree.{Base, TypeName, Pointer, Member, Function, Item}
+use Rattle.source_meaning.specs.Shapes.{Shape, IntShape, Part, part_of, part_shapes, written, settled}
+use Rattle.source_meaning.specs.Memory as source
+use Rattle.source_meaning.specs.Memory.{Integer, Scalar, Object}
+use Rattle.source_meaning.specs.Steps as steps
+use Rattle.source_meaning.specs.Steps.{World, Routine, need, ◌>>=◌}
+use Rattle.source_meaning.specs.Conversions.{one, integer}
+use Rattle.source_meaning.specs.Calls.{function_of}
+use Rattle.source_meaning.specs.Strings.{program_strings}
+use Rattle.source_meaning.specs.Programs.{
+  global_shape,
+  structs_from,
+  globals_from,
+  functions_of,
+  routine_of,
+  world_of,
+  globals_stored,
+  global_objects,
+  heap_alone,
+  string_object,
+  first_memory,
+  entered,
+  start,
+  source,
+}
+use Rattle.core_meaning.specs.Memory as core_memory
+use Rattle.core_meaning.specs.Memory.{Content, Word}
+use Rattle.core_meaning.specs.Core.{Program}
+use Rattle.core_meaning.specs.Steps as core_steps
+use Rattle.core_meaning.specs.Meaning as meaning
+use Rattle.core_meaning.specs.Meaning.{core}
+use Rattle.source_lowering.specs.Lowered.{number_of}
+use Rattle.source_lowering.specs.Programs.{data_of, program_code}
+use Rattle.source_lowering.specs.Taken.{
+  IsVoidBase,
+  TakesResult,
+  GivesInteger,
+  GivesNothing,
+  TakesFunction,
+  AreIntegers,
+  TakesInitial,
+  TakesProgram,
+  IsLowerable,
+}
+use Rattle.source_lowering.proofs.Relations.{Agree, AreLed, AreBytes, SameOutcome, Same}
+use Rattle.source_lowering.proofs.Runs.{stuck_same, stops_same}
+use Rattle.source_lowering.proofs.Integers.{IsTaken, IsInteger, integer_taken, shown_word}
+use Rattle.source_lowering.proofs.Names.{AreGlobals, AreParameters, IsRoutine, AreRoutines, IsPlainWorld, FoundFunction, find_function}
+use Rattle.source_lowering.proofs.Calls.{AllGiven, OneResult, NoResult, ResultIs, EntersAs}
+use Rattle.source_lowering.proofs.EachStatement.{type_settled}
+use Rattle.source_lowering.proofs.Functions.{enters_always}
+use Rattle.source_lowering.proofs.Heap.{heap_of, heap_agrees, heap_stored, heap_led}
+use Rattle.source_lowering.proofs.Constants.{globals_same}
+
+-- ---- a program of integers
+
+no_structs : (items : List Item) → TakesProgram items → structs_from items [] ≡ []
+no_structs [] h = refl
+no_structs (tree.StructItem s ∷ items) h = absurd h.0
+no_structs (tree.UnionItem u ∷ items) h = absurd h.0
+no_structs (tree.GlobalItem g ∷ items) h = no_structs items h.1
+no_structs (tree.FunctionItem f ∷ items) h = no_structs items h.1
+
+same_shape : (i : tree.Initial) (s : Shape) → TakesInitial i → global_shape i s ≡ s
+same_shape tree.Initial.Unset s h = refl
+same_shape (tree.Initial.Elements count) s h = absurd h
+same_shape (tree.Initial.Given c) s h = refl
+
+globals_are : (items : List Item) (k : ℕ) → TakesProgram items → AreGlobals (globals_from items k)
+globals_are [] k h = tt
+globals_are (tree.StructItem s ∷ items) k h = absurd h.0
+globals_are (tree.UnionItem u ∷ items) k h = absurd h.0
+globals_are (tree.FunctionItem f ∷ items) k h = globals_are items k h.1
+globals_are (tree.GlobalItem g ∷ items) k h = (
+  record {
+    shape = global_shape g.initial (settled (written g.of));
+    number = k;
+    is = refl;
+    integer = subst (λ z. IsInteger z) (sym (same_shape g.initial (settled (written g.of)) h.0.1)) (type_settled g.of h.0.0).integer;
+  },
+  globals_are items (suc k) h.1,
+)
+
+parameters_are : (ms : List Member) → AreIntegers ms → AreParameters (map part_of ms)
+parameters_are [] h = tt
+parameters_are (m ∷ ms) h = ((type_settled m.of h.0).integer, parameters_are ms h.1)
+
+void_taken : (b : Base) (ps : List Pointer) (at : ℕ) → ps ≡ [] → IsVoidBase b → IsTaken (settled (written (record { at = at; base = b; pointers = ps })))
+void_taken b ps at e h = subst (λ z. IsTaken (settled (written (record { at = at; base = b; pointers = z })))) (sym e) (by b h)
+  where
+    by : (of : Base) → IsVoidBase of → IsTaken (settled (written (record { at = at; base = of; pointers = [] })))
+    by tree.Void h = tt
+    by tree.Int h = tt
+    by tree.Unsigned h = tt
+    by tree.Char h = tt
+    by (tree.Struct tag arguments) h = absurd h
+    by (tree.Union tag arguments) h = absurd h
+    by (tree.Handle region) h = absurd h
+    by (tree.Key region) h = absurd h
+
+result_taken : (t : TypeName) → TakesResult t → IsTaken (settled (written t))
+result_taken t (GivesInteger h) = integer_taken (settled (written t)) (type_settled t h).integer
+result_taken t (GivesNothing h) = void_taken t.base t.pointers t.at h.pointers h.base
+
+no_pointers : (t : TypeName) → TakesResult t → t.pointers ≡ []
+no_pointers t (GivesInteger h) = h.pointers
+no_pointers t (GivesNothing h) = h.pointers
+
+int_written : (t : TypeName) → t.pointers ≡ [] → t.base ≡ tree.Int → settled (written t) ≡ IntShape
+int_written t e b =
+    ap (λ z. settled (written (record { at = t.at; base = t.base; pointers = z }))) e ∙ ap (λ z. settled (written
+    (record { at = t.at; base = z; pointers = [] }))) b
+
+routine_is : (f : Function) → TakesFunction f → IsRoutine (routine_of f)
+routine_is f h = record {
+  result = result_taken f.result h.result;
+  main = λ e. int_written f.result (no_pointers f.result h.result) (h.main e);
+  parameters = parameters_are f.parameters h.parameters;
+  body = h.body;
+}
+
+pub routines_are : (items : List Item) → TakesProgram items → AreRoutines (functions_of items)
+routines_are [] h = tt
+routines_are (tree.StructItem s ∷ items) h = absurd h.0
+routines_are (tree.UnionItem u ∷ items) h = absurd h.0
+routines_are (tree.GlobalItem g ∷ items) h = routines_are items h.1
+routines_are (tree.FunctionItem f ∷ items) h = (routine_is f h.0, routines_are items h.1)
+
+world_plain : (p : tree.Program) → TakesProgram p → IsPlainWorld (world_of p)
+world_plain p h = record { structs = no_structs p h; globals = globals_are p 0 h; functions = routines_are p h }
+
+-- ---- `main`
+
+-- what the source does with what `main` gives
+abbrev status : List Scalar → source.Memory → steps.Step
+status vs m = one vs (λ v. integer v (λ n m2. Stops (SourceEnding.Ended n))) m
+
+status_same : (w : World) (fs : Program) (n : ℕ) (shape : Shape) (m : source.Memory) (c : core_memory.Memory) (vs : List Scalar) (xs : List Content)
+    → IsTaken shape → ResultIs w m c shape vs xs → Same w fs n (status vs m) (meaning.status_of xs c)
+status_same w fs n shape m c vs xs taken r =
+    ⊎_elim
+    (λ (o : OneResult w m c shape vs xs).
+    let word = shown_word w m c shape o.value.value o.content taken o.value.shown in
+    subst (λ z. Same w fs n (status z m) (meaning.status_of xs c)) (sym (o.value.alone ∙ ap (λ z. z ∷ []) word.value))
+    (subst (λ z. Same w fs n (Stops (SourceEnding.Ended word.word)) (meaning.status_of z c)) (sym (o.alone ∙ ap (λ z. z ∷ []) word.shown))
+    (stops_same w fs n (SourceEnding.Ended word.word))))
+    (λ (o : NoResult shape vs xs). subst (λ z. Same w fs n (status z m) (meaning.status_of xs c)) (sym o.value.none)
+    (stuck_same w fs n (meaning.status_of xs c)))
+    r
+
+-- without arguments a function that takes some is stuck
+stuck_entered : (w : World) (fs : Program) (n : ℕ) (name : List ℕ) (result : Shape) (p : Part) (ps : List Part) (body : tree.BlockItems) (m : source.Memory)
+    (k : core_steps.Step) → Same w fs n (entered (record { name = name; result = result; parameters = p ∷ ps; body = body }) w [] status m) k
+stuck_entered w fs n name result p ps body m k = record { at = λ j h input bytes. inl refl }
+
+main_by : (w : World) (fs : Program) (n : ℕ) (f : Routine) (ps : List Part) (m : source.Memory) (c : core_memory.Memory) → f.parameters ≡ ps → IsRoutine f
+    → EntersAs w fs n → Agree w m c → AreLed w m c w.globals → slice_get w.functions (number_of w.functions (codes "main")) ≡ Some f
+    → Same w fs n (entered f w [] status m) (meaning.called fs.functions (record { function = number_of w.functions (codes "main"); arguments = [] })
+    meaning.status_of c)
+main_by w fs n f [] m c e routine enters agree led numbered =
+    enters.same (codes "main") f [] [] m c status meaning.status_of numbered routine agree led (subst (λ z. AllGiven w m c (part_shapes z) [] []) (sym e) tt)
+    (record {
+      go = λ m2 c2 vs xs a l r. status_same w fs n f.result m2 c2 vs xs routine.result r;
+    })
+main_by w fs n f (p ∷ ps) m c e routine enters agree led numbered =
+    subst (λ z. Same w fs n (entered (record { name = f.name; result = f.result; parameters = z; body = f.body }) w [] status m)
+    (meaning.called fs.functions (record { function = number_of w.functions (codes "main"); arguments = [] }) meaning.status_of c)) (sym e)
+    (stuck_entered w fs n f.name f.result p ps f.body m _)
+
+main_same : (w : World) (fs : Program) (n : ℕ) (m : source.Memory) (c : core_memory.Memory) → IsPlainWorld w → EntersAs w fs n → Agree w m c
+    → AreLed w m c w.globals
+    → Same w fs n ((need (function_of w.functions (codes "main")) >>= λ f. entered f w []) status m) (meaning.called fs.functions
+    (record { function = number_of w.functions (codes "main"); arguments = [] }) meaning.status_of c)
+main_same w fs n m c plain enters agree led =
+    ⊎_elim
+    (λ (f : FoundFunction w.functions (codes "main")).
+    subst (λ z. Same w fs n ((need z >>= λ g. entered g w []) status m) (meaning.called fs.functions (record {
+      function = number_of w.functions
+          (codes "main");
+      arguments = [];
+    }) meaning.status_of c)) (sym f.found)
+    (main_by w fs n f.routine f.routine.parameters m c refl f.is enters agree led f.numbered))
+    (λ (none : function_of w.functions (codes "main") ≡ None).
+    subst (λ z. Same w fs n ((need z >>= λ g. entered g w []) status m) (meaning.called fs.functions (record {
+      function = number_of w.functions
+          (codes "main");
+      arguments = [];
+    }) meaning.status_of c)) (sym none) (stuck_same w fs n _))
+    (find_function w.functions (codes "main") plain.functions)
+
+-- ---- programs
+
+-- the heap has the globals alone
+heap_is : (p : tree.Program) → program_strings p ≡ [] → first_memory p ≡ heap_of (world_of p) p
+heap_is p e = ap (λ z. heap_alone (global_objects (world_of p) p ++ map string_object z)) e ∙ ap (λ z. heap_alone z)
+    (append-nil (global_objects (world_of p) p))
+
+pub program_same : (p : tree.Program) → IsLowerable p → (n : ℕ) → Same (world_of p) (program_code p) n (start p) (meaning.start (program_code p))
+program_same p h n =
+    let w : World = world_of p in
+    let plain = world_plain p h.items in
+    let enters = enters_always w (program_code p) n plain refl in
+    let led = heap_led w p h.items in
+    subst (λ z. Same w (program_code p) n (globals_stored w p 0 (λ u. (need (function_of w.functions (codes "main")) >>= λ f. entered f w []) status) z)
+    (meaning.start (program_code p))) (sym (heap_is p h.strings))
+    (globals_same w (program_code p) n p 0 (heap_of w p) (meaning.first_memory (data_of w p)) (λ u. (need (function_of w.functions (codes "main")) >>= λ f.
+    entered f w []) status) (meaning.start (program_code p)) h.items
+    (heap_agrees w p h.items) led led (heap_stored w p h.items)
+    (record { go = λ m agree globals. main_same w (program_code p) n m (meaning.first_memory (data_of w p)) plain enters agree globals }))
+
+-- on each input and with each amount of fuel: the program is stuck, or both show the same and end alike
+pub programs_same : (p : tree.Program) → IsLowerable p → (input : List ℕ) → AreBytes input → (n : ℕ)
+    → ((source p input n).ending ≡ SourceEnding.Stuck) ⊎ SameOutcome (world_of p) (source p input n) (core (program_code p) input n)
+programs_same p h input bytes n = (program_same p h n).at n (omega arith) input bytes

@@ -1,0 +1,277 @@
+-- The relation between a source's memory and Core's, and when both do the same from there on.
+use Rattle.std.proofs.Common.{◌≡◌, ℕ, suc, ◌+◌, ◌*◌, ◌^◌, ◌<◌, ◌≤◌, ◌⊎◌, List, [], ◌∷◌, length, Bool, true, Option, Some, None}
+use Rattle.std.specs.Prelude.{slice_get}
+use Rattle.cyc_words.specs.Events as events
+use Rattle.cyc_words.specs.Events.{SourceEnding}
+pub use Rattle.source_lowering.specs.Agreeing.{SameEvent, BothVisible, BothCalled, BothReturned, SameEvents, SameOutcome, AreBytes}
+use Rattle.step_trees.specs.Trees.{Outcome, run}
+use Rattle.source_meaning.specs.Shapes.{
+  Shape,
+  IntShape,
+  UnsignedShape,
+  CharShape,
+  VoidShape,
+  ThinShape,
+  FatShape,
+  HandleShape,
+  KeyShape,
+  StructShape,
+  UnionShape,
+  ArrayShape,
+}
+use Rattle.source_meaning.specs.Memory as source
+use Rattle.source_meaning.specs.Memory.{
+  IntegerType,
+  AsInt,
+  AsUnsigned,
+  AsChar,
+  Scalar,
+  Integer,
+  Thin,
+  Wide,
+  HandleOf,
+  KeyOf,
+  Tagged,
+  Spot,
+  Span,
+  Holds,
+  Cell,
+  state_is_live,
+}
+use Rattle.source_meaning.specs.Steps as steps
+use Rattle.source_meaning.specs.Steps.{Entity, World, Routine, Binding, Variable, Fixed}
+use Rattle.source_meaning.specs.Programs.{source_bodies}
+use Rattle.source_meaning.specs.Conversions.{size_of}
+use Rattle.core_meaning.specs.Memory as core
+use Rattle.core_meaning.specs.Memory.{Content, Word, Null, Pointer, Birth, Part}
+use Rattle.core_meaning.specs.Core.{Program, Statement, Statements}
+use Rattle.core_meaning.specs.Steps as core_steps
+use Rattle.core_meaning.specs.Steps.{Config, Exit}
+use Rattle.core_meaning.specs.Meaning as meaning
+use Rattle.source_lowering.specs.Layouts.{Placed, placed_of, Piece, pieces_of}
+use Rattle.source_lowering.specs.Lowered.{Named, put}
+
+-- ---- spots are equal, number for number
+
+abbrev pub region_at : source.Region → core.Region
+region_at (source.Frame k) = core.Frame k
+region_at (source.Born d) = core.Born d
+
+abbrev pub at : Spot → core.Spot
+at s = record { region = region_at s.region; object = s.object; cell = s.cell }
+
+-- ---- layouts: facts that no step ends
+
+-- a source's cell has this shape, whatever it holds
+pub record HasShape (m : source.Memory) (s : Spot) (shape : Shape) : Type 0 where
+  pub content : source.Content
+  pub is : m.cells s ≡ Some (record { shape = shape; content = content })
+
+-- a part lies so many bytes on and is so wide, whatever it holds
+pub record PartIs (c : core.Memory) (t : core.Spot) (j offset width : ℕ) : Type 0 where
+  pub content : Content
+  pub is : c.parts t j ≡ Some (record { offset = offset; width = width; content = content })
+
+abbrev pub PartsAre : core.Memory → core.Spot → ℕ → ℕ → List Piece → Type 0
+PartsAre c t byte j [] = Unit {0}
+PartsAre c t byte j (p ∷ ps) = PartIs c t j (byte + p.offset) p.width × PartsAre c t byte (j + 1) ps
+
+-- a cell of a shape, so many bytes from its object's start
+pub record CellIs (m : source.Memory) (c : core.Memory) (s : Spot) (byte : ℕ) (shape : Shape) : Type 0 where
+  pub has : HasShape m s shape
+  pub parts : PartsAre c (at s) byte 0 (pieces_of shape)
+
+abbrev pub AreLaid : source.Memory → core.Memory → Spot → ℕ → List Placed → Type 0
+AreLaid m c s byte [] = Unit {0}
+AreLaid m c s byte (p ∷ ps) = CellIs m c s (byte + p.offset) p.shape × AreLaid m c (source.beyond s 1) byte ps
+
+-- from a spot and a byte on there is an object of the shape
+abbrev pub Leads : World → source.Memory → core.Memory → Shape → Spot → ℕ → Type 0
+Leads w m c shape s byte = AreLaid m c s byte (placed_of w shape)
+
+-- what Core has made of an object, where the source may not have made it yet
+abbrev pub AreMade : core.Memory → core.Spot → ℕ → List Placed → Type 0
+AreMade c t byte [] = Unit {0}
+AreMade c t byte (p ∷ ps) = PartsAre c t (byte + p.offset) 0 (pieces_of p.shape) × AreMade c (core.beyond t 1) byte ps
+
+-- the objects of a block that the source makes later, from a number on
+abbrev pub ArePending : World → core.Memory → ℕ → ℕ → List Shape → Type 0
+ArePending w c frame index [] = Unit {0}
+ArePending w c frame index (s ∷ ss) =
+    AreMade c (record { region = core.Frame frame; object = index; cell = 0 }) 0 (placed_of w s) × ArePending w c frame (suc index) ss
+
+-- ---- values: a scalar of a static shape, and the words that stand for it
+
+pub record AnInteger (t : IntegerType) (below : ℕ) (v : Scalar) (cs : List Content) : Type 0 where
+  pub word : ℕ
+  pub value : v ≡ Integer t word
+  pub shown : cs ≡ Word word ∷ []
+  pub small : word < below
+
+pub record ANull (may_be_null : Bool) (v : Scalar) (cs : List Content) : Type 0 where
+  pub allowed : may_be_null ≡ true
+  pub value : v ≡ Thin None
+  pub shown : cs ≡ Null ∷ []
+
+pub record APointer (w : World) (m : source.Memory) (c : core.Memory) (to : Shape) (v : Scalar) (cs : List Content) : Type 0 where
+  pub spot : Spot
+  pub byte : ℕ
+  pub value : v ≡ Thin (Some spot)
+  pub shown : cs ≡ Pointer (at spot) byte ∷ []
+  pub leads : Leads w m c to spot byte
+
+pub record AFatNull (v : Scalar) (cs : List Content) : Type 0 where
+  pub value : v ≡ Wide None
+  pub shown : cs ≡ Null ∷ Word 0 ∷ Word 0 ∷ []
+
+pub record AFat (w : World) (m : source.Memory) (c : core.Memory) (to : Shape) (size : ℕ) (v : Scalar) (cs : List Content) : Type 0 where
+  pub span : Span
+  pub byte : ℕ
+  pub value : v ≡ Wide (Some span)
+  pub shown : cs ≡ Pointer (at span.first) byte ∷ Word span.count ∷ Word span.index ∷ []
+  pub small : span.index < 2 ^ 32
+  pub leads : (k : ℕ) → k < span.count → Leads w m c to (source.beyond span.first (k * length (placed_of w to))) (byte + k * size)
+
+pub record ABirth (which : ℕ → Scalar) (v : Scalar) (cs : List Content) : Type 0 where
+  pub birth : ℕ
+  pub value : v ≡ which birth
+  pub shown : cs ≡ Birth birth ∷ []
+
+abbrev pub Shown : World → source.Memory → core.Memory → Shape → Scalar → List Content → Type 0
+Shown w m c IntShape v cs = AnInteger AsInt (2 ^ 32) v cs
+Shown w m c UnsignedShape v cs = AnInteger AsUnsigned (2 ^ 32) v cs
+Shown w m c CharShape v cs = AnInteger AsChar 256 v cs
+Shown w m c VoidShape v cs = ⊥
+Shown w m c (ThinShape may_be_null owner to) v cs = ANull may_be_null v cs ⊎ APointer w m c to v cs
+Shown w m c (FatShape to) v cs = AFatNull v cs ⊎ AFat w m c to (size_of w to) v cs
+Shown w m c HandleShape v cs = ABirth HandleOf v cs
+Shown w m c KeyShape v cs = ABirth KeyOf v cs
+Shown w m c (StructShape tag) v cs = ⊥
+Shown w m c (UnionShape tag) v cs = ⊥
+Shown w m c (ArrayShape count of) v cs = ⊥
+
+-- ---- memories agree
+
+abbrev pub PartsHold : core.Memory → core.Spot → ℕ → List Content → Type 0
+PartsHold c t j [] = Unit {0}
+PartsHold c t j (x ∷ xs) = ((p : Part) × ((c.parts t j ≡ Some p) × (p.content ≡ x))) × PartsHold c t (j + 1) xs
+
+pub record IsShown (w : World) (m : source.Memory) (c : core.Memory) (s : Spot) (shape : Shape) (v : Scalar) : Type 0 where
+  pub contents : List Content
+  pub shown : Shown w m c shape v contents
+  pub held : PartsHold c (at s) 0 contents
+
+-- Cells agree with parts where they hold a value; Blank, Gone and Lent are free.
+pub record Agree (w : World) (m : source.Memory) (c : core.Memory) : Type 0 where
+  pub cells : (s : Spot) (shape : Shape) (v : Scalar) → m.cells s ≡ Some (record { shape = shape; content = Holds v }) → IsShown w m c s shape v
+  pub live : (r : source.Region) → state_is_live (m.state r) ≡ core.is_live (c.standing (region_at r))
+  pub activations : m.activations ≡ c.activations
+  -- what wasn't made yet has no cells and no parts: the numbers are fresh
+  pub unmade : (s : Spot) → m.objects s.region ≤ s.object → m.cells s ≡ None
+  pub unentered : (k : ℕ) (t : core.Spot) (j : ℕ) → c.activations ≤ k → t.region ≡ core.Frame k → c.parts t j ≡ None
+  pub unbegun : (k : ℕ) → m.activations ≤ k → (m.objects (source.Frame k) ≡ 0) × (c.objects (core.Frame k) ≡ 0)
+
+-- Later memories have the layouts of earlier ones, and the blocks before one no more locals.
+pub record Later (b : ℕ) (m : source.Memory) (c : core.Memory) (m' : source.Memory) (c' : core.Memory) : Type 0 where
+  pub shapes : (s : Spot) (shape : Shape) → HasShape m s shape → HasShape m' s shape
+  pub parts : (t : core.Spot) (j offset width : ℕ) → PartIs c t j offset width → PartIs c' t j offset width
+  pub objects : (k : ℕ) → k < b → m'.objects (source.Frame k) ≡ m.objects (source.Frame k)
+  pub begun : m.activations ≤ m'.activations
+
+-- ---- names in scope
+
+pub record IsLocal (blocks : List ℕ) (b : Binding) (l : Named) : Type 0 where
+  pub frame : ℕ
+  pub in_block : slice_get blocks l.out ≡ Some frame
+  pub named : b.name ≡ l.name
+  pub is : b.entity ≡ Variable l.shape (record { region = source.Frame frame; object = l.index; cell = 0 })
+
+abbrev pub AreLocals : List ℕ → List Binding → List Named → Type 0
+AreLocals blocks [] [] = Unit {0}
+AreLocals blocks (b ∷ bs) (l ∷ ls) = IsLocal blocks b l × AreLocals blocks bs ls
+AreLocals blocks [] (l ∷ ls) = ⊥
+AreLocals blocks (b ∷ bs) [] = ⊥
+
+abbrev pub IsLed : World → source.Memory → core.Memory → Entity → Type 0
+IsLed w m c (Variable shape s) = Leads w m c shape s 0
+IsLed w m c (Fixed shape v) = Unit {0}
+
+-- the variables lie where their names say
+abbrev pub AreLed : World → source.Memory → core.Memory → List Binding → Type 0
+AreLed w m c [] = Unit {0}
+AreLed w m c (b ∷ bs) = IsLed w m c b.entity × AreLed w m c bs
+
+-- ---- a point of both runs
+
+-- What both have in common in a scope: the activation of its block, and those around it; how many locals it has, and the shapes of those to come.
+pub record Place : Type 0 where
+  pub world : World
+  pub program : Program
+  pub locals : List Binding
+  pub names : List Named
+  pub frame : ℕ
+  pub outer : List ℕ
+  pub made : ℕ
+  pub pending : List Shape
+
+pub record Fits (p : Place) (m : source.Memory) (c : Config) : Type 0 where
+  pub agree : Agree p.world m c.memory
+  pub blocks : c.blocks ≡ p.frame ∷ p.outer
+  pub locals : AreLed p.world m c.memory p.locals
+  pub globals : AreLed p.world m c.memory p.world.globals
+  pub begun : p.frame < m.activations
+  pub made : m.objects (source.Frame p.frame) ≡ p.made
+  pub pending : ArePending p.world c.memory p.frame p.made p.pending
+
+-- ---- runs
+
+abbrev pub IsByte : Option ℕ → Type 0
+IsByte None = Unit {0}
+IsByte (Some b) = b < 256
+
+-- where the source isn't Stuck, both show the same and end alike
+pub record Same (w : World) (fs : Program) (n : ℕ) (s : steps.Step) (c : core_steps.Step) : Type 0 where
+  pub at : (k : ℕ) → k ≤ n → (input : List ℕ) → AreBytes input →
+      ((run source_bodies k s input).ending ≡ SourceEnding.Stuck) ⊎ SameOutcome w (run source_bodies k s input) (run (meaning.bodies fs) k c input)
+
+-- from a point on
+abbrev pub SameAt : Place → ℕ → steps.Step → core_steps.Step → Type 0
+SameAt p n s c = Same p.world p.program n s c
+
+-- ---- forms
+
+-- what comes after code of Core
+abbrev pub Next : Type 0
+Next = Exit → Config → core_steps.Step
+
+abbrev pub AreKept : ℕ → Config → Config → Type 0
+AreKept d old new = (k : ℕ) → k < d → new.temps k ≡ old.temps k
+
+-- nothing but locals of newer blocks was made in between
+abbrev pub LaterAt : Place → source.Memory → Config → source.Memory → Config → Type 0
+LaterAt p m0 c0 m c = Later (suc p.frame) m0 c0.memory m c.memory
+
+-- a value of one word
+pub record AValue (w : World) (m : source.Memory) (c : core.Memory) (shape : Shape) (vs : List Scalar) (x : Content) : Type 0 where
+  pub value : Scalar
+  pub alone : vs ≡ value ∷ []
+  pub shown : Shown w m c shape value (x ∷ [])
+
+-- no value
+pub record ANothing (shape : Shape) (vs : List Scalar) : Type 0 where
+  pub void : shape ≡ VoidShape
+  pub none : vs ≡ []
+
+abbrev pub Given : World → source.Memory → core.Memory → Shape → List Scalar → Content → Type 0
+Given w m c shape vs x = AValue w m c shape vs x ⊎ ANothing shape vs
+
+-- a value is in a temporary, and those below it are as they were
+pub record GoesOn (p : Place) (n d : ℕ) (m0 : source.Memory) (c0 : Config) (shape : Shape) (s : List Scalar → source.Memory → steps.Step)
+    (k : Config → core_steps.Step) : Type 0 where
+  pub go : (m : source.Memory) (c : Config) (vs : List Scalar) → Fits p m c → LaterAt p m0 c0 m c → AreKept d c0 c
+      → Given p.world m c.memory shape vs (c.temps d) → SameAt p n (s vs m) (k c)
+
+-- an act gives what its code leaves in a temporary
+pub record GivesAs (p : Place) (n d : ℕ) (shape : Shape) (act : steps.Act (List Scalar)) (code : List Statement) : Type 0 where
+  pub same : (m : source.Memory) (c : Config) (s : List Scalar → source.Memory → steps.Step) (rest : Statements) (next : Next) → Fits p m c
+      → GoesOn p n d m c shape s (meaning.statements rest next) → SameAt p n (act s m) (meaning.statements (put code rest) next c)

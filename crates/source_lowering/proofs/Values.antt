@@ -1,0 +1,73 @@
+-- Values in temporaries: what is put there, and what stays.
+use Rattle.std.proofs.Common.{◌≡◌, ℕ, suc, ◌<◌, ◌≤◌, inl, inr, ⊎_elim, List, [], ◌∷◌, ◌++◌, false, nat_eq, refl, sym, ap, ◌∙◌, subst, arith}
+use Rattle.std.specs.Prelude.{if◌then◌else◌}
+use Rattle.std.proofs.lemmas.Bool.{eq-eqb}
+use Rattle.std.proofs.lemmas.Bool.Decides.{nat_tests}
+use Rattle.source_meaning.specs.Shapes.{Shape}
+use Rattle.source_meaning.specs.Memory as source
+use Rattle.source_meaning.specs.Memory.{Scalar}
+use Rattle.source_meaning.specs.Steps as steps
+use Rattle.source_meaning.specs.Steps.{World}
+use Rattle.core_meaning.specs.Memory as core
+use Rattle.core_meaning.specs.Memory.{Content}
+use Rattle.core_meaning.specs.Core.{Statement, Statements}
+use Rattle.core_meaning.specs.Steps as core_steps
+use Rattle.core_meaning.specs.Steps.{Config, with_temp}
+use Rattle.source_lowering.specs.Lowered.{put}
+use Rattle.source_lowering.proofs.Relations.{Place, Fits, SameAt, AreKept, LaterAt, AValue, ANothing, Given, GoesOn, Later}
+use Rattle.source_lowering.proofs.Keeping.{later_on, shown_later}
+use Rattle.source_lowering.proofs.Runs.{put_all}
+
+pub put_temp : (d : ℕ) (x : Content) (c : Config) → (with_temp d x c).temps d ≡ x
+put_temp d x c = ap (λ b. if b then x else c.temps d) (eq-eqb d d refl)
+
+pub other_temp : (d k : ℕ) (x : Content) (c : Config) → k < d → (with_temp d x c).temps k ≡ c.temps k
+other_temp d k x c h = let no : nat_eq k d ≡ false = grind (arith, nat_tests, h) in ap (λ b. if b then x else c.temps k) no
+
+pub kept_temp : (d e : ℕ) (x : Content) (c0 c : Config) → d ≤ e → AreKept d c0 c → AreKept d c0 (with_temp e x c)
+kept_temp d e x c0 c h kept = λ k g. other_temp e k x c (omega (arith, h, g)) ∙ kept k g
+
+pub temp_fits : (p : Place) (m : source.Memory) (c : Config) (d : ℕ) (x : Content) → Fits p m c → Fits p m (with_temp d x c)
+temp_fits p m c d x f = record {
+  agree = f.agree;
+  blocks = f.blocks;
+  locals = f.locals;
+  globals = f.globals;
+  begun = f.begun;
+  made = f.made;
+  pending =
+      f.pending;
+}
+
+pub given_later : (b : ℕ) (w : World) (m m' : source.Memory) (c c' : core.Memory) (shape : Shape) (vs : List Scalar) (x : Content) → Later b m c m' c'
+    → Given w m c shape vs x → Given w m' c' shape vs x
+given_later b w m m' c c' shape vs x l given =
+    ⊎_elim (λ (v : AValue w m c shape vs x). inl (record {
+      value = v.value;
+      alone = v.alone;
+      shown = shown_later b w m m' c c' shape v.value (x ∷ []) l
+          v.shown;
+    }))
+    (λ (v : ANothing shape vs). inr v) given
+
+-- a value is put into the temporary that it was asked for in
+pub put_value : (p : Place) (n d : ℕ) (m0 : source.Memory) (c0 : Config) (m : source.Memory) (c : Config) (shape : Shape) (vs : List Scalar) (x : Content)
+    (s : List Scalar → source.Memory → steps.Step) (k : Config → core_steps.Step)
+    → Fits p m c → LaterAt p m0 c0 m c → AreKept d c0 c → Given p.world m c.memory shape vs x → GoesOn p n d m0 c0 shape s k
+    → SameAt p n (s vs m) (k (with_temp d x c))
+put_value p n d m0 c0 m c shape vs x s k fits later kept given goes =
+    goes.go m (with_temp d x c) vs (temp_fits p m c d x fits) later (kept_temp d d x c0 c (omega arith) kept)
+    (subst (λ z. Given p.world m c.memory shape vs z) (sym (put_temp d x c)) given)
+
+-- what goes on from an earlier point goes on from a later one
+pub goes_later : (p : Place) (n d : ℕ) (m0 m1 : source.Memory) (c0 c1 : Config) (shape : Shape) (s : List Scalar → source.Memory → steps.Step)
+    (k : Config → core_steps.Step)
+    → LaterAt p m0 c0 m1 c1 → AreKept d c0 c1 → GoesOn p n d m0 c0 shape s k → GoesOn p n d m1 c1 shape s k
+goes_later p n d m0 m1 c0 c1 shape s k later kept goes = record {
+  go = λ m c vs fits l g given.
+      goes.go m c vs fits (later_on (suc p.frame) m0 m1 m c0.memory c1.memory c.memory later l) (λ j h. g j h ∙ kept j h) given;
+}
+
+-- three pieces of code, one after the other
+pub put_three : (xs ys zs : List Statement) (rest : Statements) → put (xs ++ (ys ++ zs)) rest ≡ put xs (put ys (put zs rest))
+put_three xs ys zs rest = put_all xs (ys ++ zs) rest ∙ ap (put xs) (put_all ys zs rest)

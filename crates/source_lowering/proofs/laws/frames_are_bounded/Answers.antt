@@ -1,0 +1,5 @@
+use Rattle.source_lowering.proofs.Bounded.{program_frames_bounded}
+use Rattle.source_lowering.proofs.laws.frames_are_bounded.Goals as goal
+
+pub returns : goal.returns
+returns c = program_frames_bounded

@@ -1,0 +1,287 @@
+-- What an expression is lowered to. It leaves its value in the temporary of a number, and uses those from there on.
+use Rattle.std.specs.Prelude.{ℕ, zero, suc, ◌+◌, ◌%◌, Option, Some, None, List, [], ◌∷◌, ◌++◌, bytes_eq, codes, if◌then◌else◌}
+use Rattle.cyc_tree.specs.declared.expression.Operator.{Operator}
+use Rattle.cyc_tree.specs.declared.expression.Operator.TheVariants as operator
+use Rattle.cyc_tree.specs.declared.expression.Prefix.{Prefix}
+use Rattle.cyc_tree.specs.declared.expression.Prefix.TheVariants as prefix
+use Rattle.cyc_tree.specs.Tree.{Expression, Expressions, NoExpressions, MoreExpressions, Links, NoLinks, MoreLinks}
+use Rattle.source_meaning.specs.Shapes.{Shape, IntShape, UnsignedShape, CharShape, VoidShape, part_shapes}
+use Rattle.source_meaning.specs.Memory.{IntegerType, AsInt, AsUnsigned, AsChar}
+use Rattle.source_meaning.specs.Steps.{Entity, Variable, Fixed, Routine, World}
+use Rattle.source_meaning.specs.Operators.{common, by_type, operator_shape}
+use Rattle.source_meaning.specs.Places.{bound_to}
+use Rattle.source_meaning.specs.Calls.{number_type, function_of}
+use Rattle.source_meaning.specs.Programs.{integer_shape}
+use Rattle.core_meaning.specs.Core as core
+use Rattle.core_meaning.specs.Core.{
+  Distance,
+  Binary,
+  Operation,
+  Constant,
+  Move,
+  Narrow,
+  Apply,
+  DataAddress,
+  Get,
+  Put,
+  Load,
+  Store,
+  Getchar,
+  Putchar,
+  Statement,
+  Do,
+  If,
+  Call,
+  Statements,
+  NoStatements,
+  MoreStatements,
+}
+
+-- ---- names
+
+-- a local: its name and shape, how many blocks out it is, and its number in that block
+pub record Named : Type 0 where
+  pub name : List ℕ
+  pub shape : Shape
+  pub out : ℕ
+  pub index : ℕ
+
+-- the innermost local of a name
+abbrev pub local_named : List Named → List ℕ → Option Named
+local_named [] name = None
+local_named (l ∷ ls) name = (if bytes_eq l.name name then Some l else local_named ls name)
+
+-- the number of a function, from 0 on
+abbrev pub number_of : List Routine → List ℕ → ℕ
+number_of [] name = 0
+number_of (f ∷ fs) name = (if bytes_eq f.name name then 0 else suc (number_of fs name))
+
+-- ---- shapes, which are known without a run
+
+abbrev pub entity_shape : Option Entity → Shape
+entity_shape None = VoidShape
+entity_shape (Some (Variable s at)) = s
+entity_shape (Some (Fixed s v)) = s
+
+abbrev pub shape_by : Option Named → Option Entity → Shape
+shape_by (Some l) global = l.shape
+shape_by None global = entity_shape global
+
+-- a local's shape, or else a global's
+abbrev pub named_shape : World → List Named → List ℕ → Shape
+named_shape w names name = shape_by (local_named names name) (bound_to w.globals name)
+
+abbrev pub result_shape : Option Routine → Shape
+result_shape None = VoidShape
+result_shape (Some f) = f.result
+
+abbrev pub call_shape : World → List ℕ → Shape
+call_shape w name =
+    (if bytes_eq name (codes "getchar") then IntShape
+    else (if bytes_eq name (codes "putchar") then IntShape else result_shape (function_of w.functions name)))
+
+abbrev pub prefix_shape : Prefix → Shape → Shape
+prefix_shape prefix.Negate s = operator_shape operator.Subtract IntShape s
+prefix_shape prefix.Complement s = operator_shape operator.BitXor IntShape s
+prefix_shape prefix.Not s = IntShape
+prefix_shape prefix.Dereference s = VoidShape
+prefix_shape prefix.AddressOf s = VoidShape
+
+abbrev mutual
+  -- the shape of an expression's type
+  pub static_shape : World → List Named → Expression → Shape
+  static_shape w names (Expression.Number at value suffix) = integer_shape (number_type value suffix)
+  static_shape w names (Expression.Character at byte) = CharShape
+  static_shape w names (Expression.Variable name) = named_shape w names name.text
+  static_shape w names (Expression.Call name arguments) = call_shape w name.text
+  static_shape w names (Expression.Grouped at inner) = static_shape w names inner
+  static_shape w names (Expression.Prefixed at operator operand) = prefix_shape operator (static_shape w names operand)
+  static_shape w names (Expression.Chain first others) = linked_shape w names others (static_shape w names first)
+  static_shape w names (Expression.AllOf first others) = IntShape
+  static_shape w names (Expression.AnyOf first others) = IntShape
+  static_shape w names (Expression.Assign place value) = static_shape w names place
+  static_shape w names _ = VoidShape
+
+  -- that of a chain, from what is on its left
+  pub linked_shape : World → List Named → Links → Shape → Shape
+  linked_shape w names NoLinks left = left
+  linked_shape w names (MoreLinks operator operand others) left = linked_shape w names others (operator_shape operator left (static_shape w names operand))
+
+-- ---- code
+
+-- code, and what comes after it
+abbrev pub put : List Statement → Statements → Statements
+put [] rest = rest
+put (s ∷ ss) rest = MoreStatements s (put ss rest)
+
+abbrev pub all_of : List Statement → Statements
+all_of code = put code NoStatements
+
+-- a char takes a byte, all else a word
+abbrev pub width_of : Shape → ℕ
+width_of CharShape = 1
+width_of s = 4
+
+abbrev pub distance : ℕ → ℕ → ℕ → Distance
+distance cells bytes width = record { cells = cells; bytes = bytes; part = 0; width = width }
+
+-- ---- variables
+
+abbrev pub get_global : Option Entity → ℕ → List Statement
+get_global (Some (Variable s at)) d = Do (DataAddress d at.object) ∷ Do (Load d d (distance 0 0 (width_of s))) ∷ []
+get_global (Some (Fixed s v)) d = []
+get_global None d = []
+
+abbrev pub get_by : Option Named → Option Entity → ℕ → List Statement
+get_by (Some l) global d = Do (Get d l.out l.index (width_of l.shape)) ∷ []
+get_by None global d = get_global global d
+
+-- a variable is read: a local by one operation
+abbrev pub get_code : World → List Named → List ℕ → ℕ → List Statement
+get_code w names name d = get_by (local_named names name) (bound_to w.globals name) d
+
+abbrev pub put_global : Option Entity → ℕ → List Statement
+put_global (Some (Variable s at)) d = Do (DataAddress (d + 1) at.object) ∷ Do (Store (d + 1) (distance 0 0 (width_of s)) d) ∷ []
+put_global (Some (Fixed s v)) d = []
+put_global None d = []
+
+abbrev pub put_by : Option Named → Option Entity → ℕ → List Statement
+put_by (Some l) global d = Do (Put l.out l.index (width_of l.shape) d) ∷ []
+put_by None global d = put_global global d
+
+-- a variable is written, in parentheses too
+abbrev pub put_code : World → List Named → Expression → ℕ → List Statement
+put_code w names (Expression.Variable name) d = put_by (local_named names name.text) (bound_to w.globals name.text) d
+put_code w names (Expression.Grouped at inner) d = put_code w names inner d
+put_code w names _ d = []
+
+-- ---- conversions and operators
+
+-- only what becomes a char changes
+abbrev pub narrow_code : Shape → ℕ → List Statement
+narrow_code CharShape d = []
+narrow_code s d = Do (Narrow d d) ∷ []
+
+abbrev pub conversion_code : Shape → Shape → ℕ → List Statement
+conversion_code CharShape from d = narrow_code from d
+conversion_code to from d = []
+
+abbrev pub type_of : Shape → IntegerType
+type_of UnsignedShape = AsUnsigned
+type_of CharShape = AsChar
+type_of s = AsInt
+
+-- `x > y` is `y < x`, and `x >= y` is `y <= x`
+abbrev pub applied_to : Operator → IntegerType → IntegerType → (t x y : ℕ) → Operation
+applied_to operator.BitOr s t d x y = Apply core.Or d x y
+applied_to operator.BitXor s t d x y = Apply core.Xor d x y
+applied_to operator.BitAnd s t d x y = Apply core.And d x y
+applied_to operator.Equal s t d x y = Apply core.Equal d x y
+applied_to operator.NotEqual s t d x y = Apply core.NotEqual d x y
+applied_to operator.Less s t d x y = Apply (by_type (common s t) core.Less core.LessUnsigned) d x y
+applied_to operator.LessEqual s t d x y = Apply (by_type (common s t) core.LessEqual core.LessEqualUnsigned) d x y
+applied_to operator.Greater s t d x y = Apply (by_type (common s t) core.Less core.LessUnsigned) d y x
+applied_to operator.GreaterEqual s t d x y = Apply (by_type (common s t) core.LessEqual core.LessEqualUnsigned) d y x
+applied_to operator.ShiftLeft s t d x y = Apply core.ShiftLeft d x y
+applied_to operator.ShiftRight s t d x y = Apply (by_type s core.ShiftRight core.ShiftRightUnsigned) d x y
+applied_to operator.Add s t d x y = Apply core.Add d x y
+applied_to operator.Subtract s t d x y = Apply core.Subtract d x y
+applied_to operator.Multiply s t d x y = Apply core.Multiply d x y
+applied_to operator.Divide s t d x y = Apply (by_type (common s t) core.Divide core.DivideUnsigned) d x y
+applied_to operator.Remainder s t d x y = Apply (by_type (common s t) core.Remainder core.RemainderUnsigned) d x y
+
+-- the operands are in this temporary and the next, and the result comes into this one
+abbrev pub operator_code : Operator → Shape → Shape → ℕ → List Statement
+operator_code o s t d = Do (applied_to o (type_of s) (type_of t) d d (d + 1)) ∷ []
+
+-- 0 stays 0, and another word becomes 1
+abbrev pub truth_code : ℕ → List Statement
+truth_code d = Do (Constant (d + 1) 0) ∷ Do (Apply core.NotEqual d d (d + 1)) ∷ []
+
+-- `-e` is 0 - e, `~e` is all ones ^ e, and `!e` is e == 0; the operand goes into the next temporary
+abbrev pub prefix_code : Prefix → Shape → ℕ → List Statement → List Statement
+prefix_code prefix.Negate s d operand = (Do (Constant d 0) ∷ []) ++ (operand ++ operator_code operator.Subtract IntShape s d)
+prefix_code prefix.Complement s d operand = (Do (Constant d 4294967295) ∷ []) ++ (operand ++ operator_code operator.BitXor IntShape s d)
+prefix_code prefix.Not s d operand = operand ++ (Do (Constant d 0) ∷ Do (Apply core.Equal d (d + 1) d) ∷ [])
+prefix_code prefix.Dereference s d operand = []
+prefix_code prefix.AddressOf s d operand = []
+
+-- ---- calls
+
+abbrev pub parameter_shapes : Option Routine → List Shape
+parameter_shapes None = []
+parameter_shapes (Some f) = part_shapes f.parameters
+
+abbrev pub call_parameters : World → List ℕ → List Shape
+call_parameters w name =
+    (if bytes_eq name (codes "getchar") then []
+    else (if bytes_eq name (codes "putchar") then IntShape ∷ [] else parameter_shapes (function_of w.functions name)))
+
+-- so many temporaries from one on
+abbrev pub from_on : ℕ → ℕ → List ℕ
+from_on d zero = []
+from_on d (suc n) = d ∷ from_on (d + 1) n
+
+-- where a result goes
+abbrev pub results_in : Shape → ℕ → List ℕ
+results_in VoidShape d = []
+results_in s d = d ∷ []
+
+abbrev pub count_of : Expressions → ℕ
+count_of NoExpressions = 0
+count_of (MoreExpressions first others) = suc (count_of others)
+
+abbrev pub function_call : Option Routine → ℕ → ℕ → ℕ → List Statement
+function_call None number count d = []
+function_call (Some f) number count d = Call (results_in f.result d) number (from_on d count) ∷ []
+
+-- so many arguments are in the temporaries from this one on
+abbrev pub call_code : World → List ℕ → ℕ → ℕ → List Statement
+call_code w name count d =
+    (if bytes_eq name (codes "getchar") then Do (Getchar d) ∷ []
+    else (if bytes_eq name (codes "putchar") then Do (Putchar d d) ∷ [] else function_call (function_of w.functions name) (number_of w.functions name) count d))
+
+-- ---- expressions
+
+abbrev mutual
+  pub expression_code : World → List Named → Expression → ℕ → List Statement
+  expression_code w names (Expression.Number at value suffix) d = Do (Constant d value) ∷ []
+  expression_code w names (Expression.Character at byte) d = Do (Constant d (byte % 256)) ∷ []
+  expression_code w names (Expression.Variable name) d = get_code w names name.text d
+  expression_code w names (Expression.Call name arguments) d =
+      arguments_code w names (call_parameters w name.text) arguments d ++ call_code w name.text (count_of arguments) d
+  expression_code w names (Expression.Grouped at inner) d = expression_code w names inner d
+  expression_code w names (Expression.Prefixed at operator operand) d =
+      prefix_code operator (static_shape w names operand) d (expression_code w names operand (d + 1))
+  expression_code w names (Expression.Chain first others) d =
+      expression_code w names first d ++ links_code w names others (static_shape w names first) d
+  expression_code w names (Expression.AllOf first others) d = expression_code w names first d ++ (all_code w names others d ++ truth_code d)
+  expression_code w names (Expression.AnyOf first others) d = expression_code w names first d ++ (any_code w names others d ++ truth_code d)
+  expression_code w names (Expression.Assign place value) d =
+      expression_code w names value d ++ (conversion_code (static_shape w names place) (static_shape w names value) d ++ put_code w names place d)
+  expression_code w names _ d = []
+
+  -- each operand goes into the next temporary, and the result into the chain's
+  pub links_code : World → List Named → Links → Shape → ℕ → List Statement
+  links_code w names NoLinks left d = []
+  links_code w names (MoreLinks operator operand others) left d =
+      expression_code w names operand (d + 1) ++
+      (operator_code operator left (static_shape w names operand) d ++
+      links_code w names others (operator_shape operator left (static_shape w names operand)) d)
+
+  -- of `&&`: each operand is evaluated where those before it were not 0
+  pub all_code : World → List Named → Expressions → ℕ → List Statement
+  all_code w names NoExpressions d = []
+  all_code w names (MoreExpressions first others) d = If d (all_of (expression_code w names first d)) NoStatements ∷ all_code w names others d
+
+  -- of `||`: each operand is evaluated where those before it were 0
+  pub any_code : World → List Named → Expressions → ℕ → List Statement
+  any_code w names NoExpressions d = []
+  any_code w names (MoreExpressions first others) d = If d NoStatements (all_of (expression_code w names first d)) ∷ any_code w names others d
+
+  -- each argument is converted to its parameter's shape, and goes into the next temporary
+  pub arguments_code : World → List Named → List Shape → Expressions → ℕ → List Statement
+  arguments_code w names [] arguments d = []
+  arguments_code w names (s ∷ ss) NoExpressions d = []
+  arguments_code w names (s ∷ ss) (MoreExpressions first others) d =
+      expression_code w names first d ++ (conversion_code s (static_shape w names first) d ++ arguments_code w names ss others (d + 1))

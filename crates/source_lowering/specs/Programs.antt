@@ -1,0 +1,254 @@
+-- What statements, functions, globals and programs are lowered to.
+use Rattle.std.specs.Prelude.{ℕ, suc, ◌%◌, ◌^◌, Some, None, List, [], ◌∷◌, ◌++◌, map, length, max, codes}
+use Rattle.cyc_tree.specs.Tree as tree
+use Rattle.cyc_tree.specs.Tree.{Initializer, Declaration, Statement, BlockItems, NoItems, Declare, Execute, Initial, Item, Program}
+use Rattle.cyc_words.specs.Words.{difference_of}
+use Rattle.source_meaning.specs.Shapes.{Shape, CharShape, VoidShape, Part, part_shapes, written, settled}
+use Rattle.source_meaning.specs.Steps.{Routine, World}
+use Rattle.source_meaning.specs.Programs.{world_of}
+use Rattle.core_meaning.specs.Memory as memory
+use Rattle.core_meaning.specs.Core as core
+use Rattle.core_meaning.specs.Core.{
+  Local,
+  Operation,
+  Do,
+  If,
+  While,
+  Block,
+  Break,
+  Continue,
+  Call,
+  Return,
+  Raise,
+  Statements,
+  NoStatements,
+  MoreStatements,
+  Constant,
+  NullPointer,
+  Move,
+  Narrow,
+  Apply,
+  LocalAddress,
+  OwnAddress,
+  DataAddress,
+  Offset,
+  Element,
+  Get,
+  Put,
+  Load,
+  Store,
+  Copy,
+  Clear,
+  IsNull,
+  SamePlace,
+  Getchar,
+  Putchar,
+  RegionNew,
+  RegionAlloc,
+  RegionFree,
+  UniqueAlloc,
+  UniqueFree,
+  KeyNew,
+  KeyOpen,
+  KeyClose,
+  KeyFree,
+  Datum,
+}
+use Rattle.source_lowering.specs.Layouts.{layout_of, local_of, first_part}
+use Rattle.source_lowering.specs.Lowered.{Named, number_of, static_shape, all_of, width_of, conversion_code, results_in, expression_code}
+
+-- ---- locals of a block
+
+-- a local's shape, as it is declared
+abbrev pub local_shape : Declaration → Shape
+local_shape (tree.Local of name initializer) = settled (written of)
+local_shape (tree.Region at region handle) = VoidShape
+local_shape (tree.Open at region handle key) = VoidShape
+local_shape (tree.Alias at region of alias pointer) = VoidShape
+local_shape (tree.NewKey at region key) = VoidShape
+
+-- the locals that a block declares itself, in their order
+abbrev pub block_shapes : BlockItems → List Shape
+block_shapes NoItems = []
+block_shapes (Declare d others) = local_shape d ∷ block_shapes others
+block_shapes (Execute s others) = block_shapes others
+
+abbrev pub locals_of : World → List Shape → List Local
+locals_of w shapes = map (local_of w) shapes
+
+-- a block further in, each name is a block further out
+abbrev pub one_out : Named → Named
+one_out l = record l { out = suc l.out }
+
+abbrev pub outward : List Named → List Named
+outward names = map one_out names
+
+-- a local of this block
+abbrev pub named_here : List ℕ → Shape → ℕ → Named
+named_here name shape index = record { name = name; shape = shape; out = 0; index = index }
+
+-- ---- declarations: the local of a number gets 0, or its initializer's value
+
+abbrev pub declaration_code : World → List Named → Declaration → ℕ → List core.Statement
+declaration_code w names (tree.Local of name Initializer.Unset) index =
+    Do (Constant 0 0) ∷ Do (Put 0 index (width_of (settled (written of))) 0) ∷ []
+declaration_code w names (tree.Local of name (Initializer.Elements count)) index = []
+declaration_code w names (tree.Local of name (Initializer.Value e)) index =
+    expression_code w names e 0 ++
+    (conversion_code (settled (written of)) (static_shape w names e) 0 ++ (Do (Put 0 index (width_of (settled (written of))) 0) ∷ []))
+declaration_code w names (tree.Region at region handle) index = []
+declaration_code w names (tree.Open at region handle key) index = []
+declaration_code w names (tree.Alias at region of alias pointer) index = []
+declaration_code w names (tree.NewKey at region key) index = []
+
+-- ---- statements, whose values are in the first temporary
+
+abbrev mutual
+  pub statement_code : World → Shape → List Named → Statement → List core.Statement
+  statement_code w result names (Statement.Empty at) = []
+  statement_code w result names (Statement.Block at items) =
+      Block (locals_of w (block_shapes items)) (all_of (items_code w result (outward names) 0 items)) ∷ []
+  statement_code w result names (Statement.Run e) = expression_code w names e 0
+  statement_code w result names (Statement.If at condition body) =
+      expression_code w names condition 0 ++ (If 0 (all_of (statement_code w result names body)) NoStatements ∷ [])
+  statement_code w result names (Statement.IfElse at condition body otherwise) =
+      expression_code w names condition 0 ++
+      (If 0 (all_of (statement_code w result names body)) (all_of (statement_code w result names otherwise)) ∷ [])
+  statement_code w result names (Statement.While at condition body) =
+      While (all_of (expression_code w names condition 0)) 0 (all_of (statement_code w result names body)) ∷ []
+  statement_code w result names (Statement.Break at) = Break ∷ []
+  statement_code w result names (Statement.Continue at) = Continue ∷ []
+  statement_code w result names (Statement.Return at None) = Return [] ∷ []
+  statement_code w result names (Statement.Return at (Some e)) =
+      expression_code w names e 0 ++ (conversion_code result (static_shape w names e) 0 ++ (Return (results_in result 0) ∷ []))
+  statement_code w result names _ = []
+
+  -- the items of a block; the next local has this number
+  pub items_code : World → Shape → List Named → ℕ → BlockItems → List core.Statement
+  items_code w result names index NoItems = []
+  items_code w result names index (Declare d others) =
+      declaration_code w names d index ++
+      items_code w result (named_here (tree.local_of d).text (local_shape d) index ∷ names) (suc index) others
+  items_code w result names index (Execute s others) = statement_code w result names s ++ items_code w result names index others
+
+-- ---- functions
+
+-- the parameters are the first locals of the body's block, the last one innermost; their values are in the first temporaries
+abbrev pub parameter_names : List Part → ℕ → List Named → List Named
+parameter_names [] index names = names
+parameter_names (p ∷ ps) index names = parameter_names ps (suc index) (named_here p.name p.shape index ∷ names)
+
+abbrev pub parameters_code : List Part → ℕ → List core.Statement
+parameters_code [] index = []
+parameters_code (p ∷ ps) index = Do (Put 0 index (width_of p.shape) index) ∷ parameters_code ps (suc index)
+
+-- the end of a function without `return`: `main` gives 0 there
+abbrev pub end_code : Shape → List core.Statement
+end_code VoidShape = Return [] ∷ []
+end_code s = Do (Constant 0 0) ∷ Return (0 ∷ []) ∷ []
+
+abbrev pub body_code : World → Routine → Statements
+body_code w f =
+    MoreStatements
+    (Block (locals_of w (part_shapes f.parameters ++ block_shapes f.body))
+    (all_of (parameters_code f.parameters 0 ++ items_code w f.result (parameter_names f.parameters 0 []) (length f.parameters) f.body)))
+    (all_of (end_code f.result))
+
+-- ---- how many temporaries code uses, and how many words it passes
+
+abbrev pub last_of : List ℕ → ℕ
+last_of [] = 0
+last_of (t ∷ ts) = max (suc t) (last_of ts)
+
+-- the temporaries of the operations that are used here
+abbrev pub operation_temporaries : Operation → ℕ
+operation_temporaries (Constant t w) = suc t
+operation_temporaries (Narrow t x) = max (suc t) (suc x)
+operation_temporaries (Apply o t x y) = max (suc t) (max (suc x) (suc y))
+operation_temporaries (DataAddress t object) = suc t
+operation_temporaries (Get t out local width) = suc t
+operation_temporaries (Put out local width x) = suc x
+operation_temporaries (Load t p d) = max (suc t) (suc p)
+operation_temporaries (Store p d x) = max (suc p) (suc x)
+operation_temporaries (Getchar t) = suc t
+operation_temporaries (Putchar t x) = max (suc t) (suc x)
+operation_temporaries _ = 0
+
+abbrev mutual
+  pub statement_temporaries : core.Statement → ℕ
+  statement_temporaries (Do operation) = operation_temporaries operation
+  statement_temporaries (If t these those) = max (suc t) (max (temporaries_of these) (temporaries_of those))
+  statement_temporaries (While test t body) = max (suc t) (max (temporaries_of test) (temporaries_of body))
+  statement_temporaries (Block locals body) = temporaries_of body
+  statement_temporaries Break = 0
+  statement_temporaries Continue = 0
+  statement_temporaries (Call results function arguments) = max (last_of results) (last_of arguments)
+  statement_temporaries (Return values) = last_of values
+  statement_temporaries (Raise kind) = 0
+
+  pub temporaries_of : Statements → ℕ
+  temporaries_of NoStatements = 0
+  temporaries_of (MoreStatements first others) = max (statement_temporaries first) (temporaries_of others)
+
+abbrev mutual
+  pub statement_passes : core.Statement → ℕ
+  statement_passes (Do operation) = 0
+  statement_passes (If t these those) = max (passed_by these) (passed_by those)
+  statement_passes (While test t body) = max (passed_by test) (passed_by body)
+  statement_passes (Block locals body) = passed_by body
+  statement_passes Break = 0
+  statement_passes Continue = 0
+  statement_passes (Call results function arguments) = length arguments
+  statement_passes (Return values) = 0
+  statement_passes (Raise kind) = 0
+
+  pub passed_by : Statements → ℕ
+  passed_by NoStatements = 0
+  passed_by (MoreStatements first others) = max (statement_passes first) (passed_by others)
+
+abbrev pub function_code : World → Routine → core.Function
+function_code w f = record {
+  parameters = length f.parameters;
+  temporaries = max (length f.parameters) (temporaries_of (body_code w f));
+  passed = passed_by (body_code w f);
+  own = [];
+  body = body_code w f;
+}
+
+-- ---- globals
+
+-- a global of a char keeps the low bits
+abbrev pub word_in : Shape → ℕ → ℕ
+word_in CharShape word = word % 256
+word_in s word = word
+
+abbrev pub constant_word : tree.Constant → ℕ
+constant_word (tree.Number at value suffix) = value % 2 ^ 32
+constant_word (tree.Negative at value suffix) = difference_of 0 (value % 2 ^ 32)
+constant_word (tree.Character at byte) = byte % 256
+constant_word (tree.Text at bytes) = 0
+constant_word (tree.Null at) = 0
+
+-- what a global begins with
+abbrev pub initial_content : Initial → Shape → memory.Content
+initial_content Initial.Unset s = first_part s
+initial_content (Initial.Elements count) s = first_part s
+initial_content (Initial.Given c) s = memory.Word (word_in s (constant_word c))
+
+abbrev pub datum_of : World → Shape → memory.Content → Datum
+datum_of w s first = record { layout = layout_of w s; count = 1; first = λ cell part. first }
+
+-- the globals, in their order
+abbrev pub data_of : World → List Item → List Datum
+data_of w [] = []
+data_of w (tree.GlobalItem g ∷ items) = datum_of w (settled (written g.of)) (initial_content g.initial (settled (written g.of))) ∷ data_of w items
+data_of w (_ ∷ items) = data_of w items
+
+-- ---- programs
+
+abbrev pub program_code : Program → core.Program
+program_code p = record {
+  functions = map (function_code (world_of p)) (world_of p).functions;
+  main = number_of (world_of p).functions (codes "main");
+  data_objects = data_of (world_of p) p;
+}

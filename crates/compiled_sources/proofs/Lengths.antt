@@ -1,0 +1,389 @@
+-- How long lines are: those of each operation, statement, function and program, by the operations that they are made from.
+use Rattle.std.specs.Prelude.{nat_eq, if◌then◌else◌}
+use Rattle.std.proofs.Common.{ℕ, zero, suc, pos, ◌+◌, ◌*◌, ◌/◌, ◌%◌, ◌^◌, ◌≤◌, Bool, true, false, List, [], ◌∷◌, ◌++◌, length, arith}
+use Rattle.core_meaning.specs.Core.{
+  Binary,
+  Add,
+  Subtract,
+  Multiply,
+  Divide,
+  DivideUnsigned,
+  Remainder,
+  RemainderUnsigned,
+  And,
+  Or,
+  Xor,
+  ShiftLeft,
+  ShiftRight,
+  ShiftRightUnsigned,
+  Equal,
+  NotEqual,
+  Less,
+  LessEqual,
+  LessUnsigned,
+  LessEqualUnsigned,
+  Operation,
+  Constant,
+  NullPointer,
+  Move,
+  Narrow,
+  Apply,
+  LocalAddress,
+  OwnAddress,
+  DataAddress,
+  Offset,
+  Element,
+  Get,
+  Put,
+  Load,
+  Store,
+  Copy,
+  Clear,
+  IsNull,
+  SamePlace,
+  Getchar,
+  Putchar,
+  RegionNew,
+  RegionAlloc,
+  RegionFree,
+  UniqueAlloc,
+  UniqueFree,
+  KeyNew,
+  KeyOpen,
+  KeyClose,
+  KeyFree,
+  Statement,
+  Do,
+  If,
+  While,
+  Block,
+  Break,
+  Continue,
+  Call,
+  Return,
+  Raise,
+  Statements,
+  NoStatements,
+  MoreStatements,
+  Function,
+  Program,
+}
+use Rattle.rv32_isa.specs.declared.instruction.Instr.TheVariants as instr
+use Rattle.rv32_machine.specs.State.{data_base}
+use Rattle.core_frames.specs.declared.line.Line.{Line}
+use Rattle.core_frames.specs.declared.line.Line.TheVariants.{Plain, Label, Jump, JumpIfZero, CallTo}
+use Rattle.core_frames.specs.Lines.{code_length}
+use Rattle.core_frames.specs.Frames.{
+  lower_of,
+  is_short,
+  load_code,
+  save_code,
+  slot_of,
+  pass_code,
+  result_code,
+  environment_code,
+  test_code,
+  move_code,
+  take_code,
+  prologue_code,
+  values_code,
+  leave_code,
+}
+use Rattle.core_frames.specs.Selected.{
+  offsets_from,
+  frame_bytes,
+  datum_locals,
+  Surroundings,
+  nth,
+  local_offset,
+  from_temp,
+  to_temp,
+  constant_code,
+  far_code,
+  read_line,
+  read_code,
+  write_line,
+  write_code,
+  binary_code,
+  address_code,
+  operation_code,
+  labels_in,
+  labels_of,
+  choice_code,
+  within_block,
+  statement_code,
+  statements_code,
+  around,
+  function_code,
+  functions_code,
+  program_code,
+}
+use Rattle.core_frames.proofs.Access.{length_of_both}
+use Rattle.source_lowering.specs.Bounds.{statement_operations, operations_of, all_operations, core_code}
+
+-- lines take no more than so many bytes
+record IsWithin (n : ℕ) (lines : List Line) : Type 0 where
+  is : code_length lines ≤ n
+
+both_within : (n m : ℕ) (xs ys : List Line) → IsWithin n xs → IsWithin m ys → IsWithin (n + m) (xs ++ ys)
+both_within n m xs ys h g = record { is = let e = length_of_both xs ys in let a = h.is in let b = g.is in omega (arith, e, a, b) }
+
+less_within : (n m : ℕ) (xs : List Line) → n ≤ m → IsWithin n xs → IsWithin m xs
+less_within n m xs l h = record { is = let a = h.is in omega (arith, a, l) }
+
+if_within : (n : ℕ) (c : Bool) (xs ys : List Line) → IsWithin n xs → IsWithin n ys → IsWithin n (if c then xs else ys)
+if_within n true xs ys h g = h
+if_within n false xs ys h g = g
+
+nothing_within : (n : ℕ) → IsWithin n []
+nothing_within n = record { is = omega arith }
+
+-- ---- slots and words
+
+load_within : (to k : ℕ) → IsWithin 12 (load_code to k)
+load_within to k = if_within 12 (is_short (4 * k)) _ _ (record { is = omega arith }) (record { is = omega arith })
+
+save_within : (from k : ℕ) → IsWithin 12 (save_code from k)
+save_within from k = if_within 12 (is_short (4 * k)) _ _ (record { is = omega arith }) (record { is = omega arith })
+
+constant_within : (w : ℕ) → IsWithin 8 (constant_code w)
+constant_within w = if_within 8 (is_short w) _ _ (record { is = omega arith }) (record { is = omega arith })
+
+address_within : (w : ℕ) → IsWithin 12 (address_code w)
+address_within w = if_within 12 (is_short w) _ _ (record { is = omega arith }) (record { is = omega arith })
+
+read_one : (width from w : ℕ) → IsWithin 4 (read_line width from w ∷ [])
+read_one width from w = by (nat_eq width 1)
+  where
+    by : (c : Bool) → IsWithin 4 ((if c then Plain (instr.Lbu 5 from (lower_of w)) else Plain (instr.Lw 5 from (lower_of w))) ∷ [])
+    by true = record { is = omega arith }
+    by false = record { is = omega arith }
+
+write_one : (width from w : ℕ) → IsWithin 4 (write_line width from w ∷ [])
+write_one width from w = by (nat_eq width 1)
+  where
+    by : (c : Bool) → IsWithin 4 ((if c then Plain (instr.Sb from 6 (lower_of w)) else Plain (instr.Sw from 6 (lower_of w))) ∷ [])
+    by true = record { is = omega arith }
+    by false = record { is = omega arith }
+
+read_within : (width from w : ℕ) → IsWithin 12 (read_code width from w)
+read_within width from w =
+    if_within 12 (is_short w) _ _ (less_within 4 12 _ (omega arith) (read_one width from w))
+    (both_within 8 4 (far_code from w) (read_line width 7 w ∷ []) (record { is = omega arith }) (read_one width 7 w))
+
+write_within : (width from w : ℕ) → IsWithin 12 (write_code width from w)
+write_within width from w =
+    if_within 12 (is_short w) _ _ (less_within 4 12 _ (omega arith) (write_one width from w))
+    (both_within 8 4 (far_code from w) (write_line width 7 w ∷ []) (record { is = omega arith }) (write_one width 7 w))
+
+binary_within : (o : Binary) → IsWithin 8 (binary_code o)
+binary_within Add = record { is = omega arith }
+binary_within Subtract = record { is = omega arith }
+binary_within Multiply = record { is = omega arith }
+binary_within Divide = record { is = omega arith }
+binary_within DivideUnsigned = record { is = omega arith }
+binary_within Remainder = record { is = omega arith }
+binary_within RemainderUnsigned = record { is = omega arith }
+binary_within And = record { is = omega arith }
+binary_within Or = record { is = omega arith }
+binary_within Xor = record { is = omega arith }
+binary_within ShiftLeft = record { is = omega arith }
+binary_within ShiftRight = record { is = omega arith }
+binary_within ShiftRightUnsigned = record { is = omega arith }
+binary_within Equal = record { is = omega arith }
+binary_within NotEqual = record { is = omega arith }
+binary_within Less = record { is = omega arith }
+binary_within LessEqual = record { is = omega arith }
+binary_within LessUnsigned = record { is = omega arith }
+binary_within LessEqualUnsigned = record { is = omega arith }
+
+environment_within : (number : ℕ) → IsWithin 8 (environment_code number)
+environment_within number = record { is = omega arith }
+
+-- ---- operations
+
+-- one part that leaves its result in a temporary
+to_within : (n : ℕ) (u : Surroundings) (register t : ℕ) (xs : List Line) → n ≤ 52 → IsWithin n xs → IsWithin 64 (xs ++ to_temp u register t)
+to_within n u register t xs l h =
+    less_within (n + 12) 64 _ (omega (arith, l)) (both_within n 12 xs (to_temp u register t) h (save_within register (slot_of u.passed t)))
+
+from_within : (u : Surroundings) (register t : ℕ) → IsWithin 12 (from_temp u register t)
+from_within u register t = load_within register (slot_of u.passed t)
+
+-- two temporaries are loaded
+two_within : (u : Surroundings) (r t q v : ℕ) → IsWithin 24 (from_temp u r t ++ from_temp u q v)
+two_within u r t q v = both_within 12 12 (from_temp u r t) (from_temp u q v) (from_within u r t) (from_within u q v)
+
+operation_within : (u : Surroundings) (o : Operation) → IsWithin 64 (operation_code u o)
+operation_within u (Constant t w) = to_within 8 u 5 t (constant_code (w % 2 ^ 32)) (omega arith) (constant_within (w % 2 ^ 32))
+operation_within u (NullPointer t) = less_within 12 64 _ (omega arith) (save_within 0 (slot_of u.passed t))
+operation_within u (Move t x) = to_within 12 u 5 t (from_temp u 5 x) (omega arith) (from_within u 5 x)
+operation_within u (Narrow t x) =
+    to_within 16 u 5 t (from_temp u 5 x ++ (Plain (instr.Andi 5 5 (pos 255)) ∷ [])) (omega arith)
+    (both_within 12 4 (from_temp u 5 x) (Plain (instr.Andi 5 5 (pos 255)) ∷ []) (from_within u 5 x) (record { is = omega arith }))
+operation_within u (Apply o t x y) =
+    to_within 32 u 5 t (from_temp u 5 x ++ from_temp u 6 y ++ binary_code o) (omega arith)
+    (both_within 24 8 (from_temp u 5 x ++ from_temp u 6 y) (binary_code o) (two_within u 5 x 6 y) (binary_within o))
+operation_within u (LocalAddress t out local) =
+    to_within 12 u 5 t (address_code (local_offset u out local)) (omega arith) (address_within (local_offset u out local))
+operation_within u (OwnAddress t object) = to_within 12 u 5 t (address_code (nth u.own object)) (omega arith) (address_within (nth u.own object))
+operation_within u (DataAddress t object) =
+    to_within 8 u 5 t (constant_code (data_base + nth u.statics object)) (omega arith) (constant_within (data_base + nth u.statics object))
+operation_within u (Offset t p cells bytes) = nothing_within 64
+operation_within u (Element t p i cells bytes) = nothing_within 64
+operation_within u (Get t out local width) =
+    to_within 12 u 5 t (read_code width 2 (local_offset u out local)) (omega arith) (read_within width 2 (local_offset u out local))
+operation_within u (Put out local width x) =
+    less_within (12 + 12) 64 _ (omega arith)
+    (both_within 12 12 (from_temp u 6 x) (write_code width 2 (local_offset u out local)) (from_within u 6 x) (write_within width 2 (local_offset u out local)))
+operation_within u (Load t p d) =
+    to_within 24 u 5 t (from_temp u 5 p ++ read_code d.width 5 d.bytes) (omega arith)
+    (both_within 12 12 (from_temp u 5 p) (read_code d.width 5 d.bytes) (from_within u 5 p) (read_within d.width 5 d.bytes))
+operation_within u (Store p d x) =
+    less_within (24 + 12) 64 _ (omega arith)
+    (both_within 24 12 (from_temp u 5 p ++ from_temp u 6 x) (write_code d.width 5 d.bytes) (two_within u 5 p 6 x) (write_within d.width 5 d.bytes))
+operation_within u (Copy to from layout) = nothing_within 64
+operation_within u (Clear p layout count) = nothing_within 64
+operation_within u (IsNull t p) =
+    to_within 16 u 5 t (from_temp u 5 p ++ (Plain (instr.Sltiu 5 5 (pos 1)) ∷ [])) (omega arith)
+    (both_within 12 4 (from_temp u 5 p) (Plain (instr.Sltiu 5 5 (pos 1)) ∷ []) (from_within u 5 p) (record { is = omega arith }))
+operation_within u (SamePlace t p q) =
+    to_within 32 u 5 t (from_temp u 5 p ++ from_temp u 6 q ++ binary_code Equal) (omega arith)
+    (both_within 24 8 (from_temp u 5 p ++ from_temp u 6 q) (binary_code Equal) (two_within u 5 p 6 q) (binary_within Equal))
+operation_within u (Getchar t) = to_within 8 u 10 t (environment_code 2) (omega arith) (environment_within 2)
+operation_within u (Putchar t x) =
+    to_within 20 u 10 t (from_temp u 10 x ++ environment_code 1) (omega arith)
+    (both_within 12 8 (from_temp u 10 x) (environment_code 1) (from_within u 10 x) (environment_within 1))
+operation_within u (RegionNew t) = nothing_within 64
+operation_within u (RegionAlloc t h n layout) = nothing_within 64
+operation_within u (RegionFree h) = nothing_within 64
+operation_within u (UniqueAlloc t layout) = nothing_within 64
+operation_within u (UniqueFree p) = nothing_within 64
+operation_within u (KeyNew t) = nothing_within 64
+operation_within u (KeyOpen k) = nothing_within 64
+operation_within u (KeyClose k) = nothing_within 64
+operation_within u (KeyFree k) = nothing_within 64
+
+-- ---- statements
+
+-- from one slot to another
+moved_within : (to k from j : ℕ) → IsWithin 24 (load_code to k ++ save_code from j)
+moved_within to k from j = both_within 12 12 (load_code to k) (save_code from j) (load_within to k) (save_within from j)
+
+pass_within : (passed k : ℕ) (ts : List ℕ) → IsWithin (24 * length ts) (pass_code passed k ts)
+pass_within passed k [] = nothing_within 0
+pass_within passed k (t ∷ ts) =
+    less_within (24 + 24 * length ts) (24 * length (t ∷ ts)) _ (omega arith)
+    (both_within 24 (24 * length ts) (load_code 5 (slot_of passed t) ++ save_code 5 (1 + k)) (pass_code passed (k + 1) ts)
+    (moved_within 5 (slot_of passed t) 5 (1 + k))
+    (pass_within passed (k + 1) ts))
+
+result_within : (passed r : ℕ) (ts : List ℕ) → IsWithin (12 * length ts) (result_code passed r ts)
+result_within passed r [] = nothing_within 0
+result_within passed r (t ∷ ts) =
+    less_within (12 + 12 * length ts) (12 * length (t ∷ ts)) _ (omega arith)
+    (both_within 12 (12 * length ts) (save_code (suc r) (slot_of passed t)) (result_code passed (suc r) ts) (save_within (suc r) (slot_of passed t))
+    (result_within passed (suc r) ts))
+
+values_within : (passed r : ℕ) (ts : List ℕ) → IsWithin (12 * length ts) (values_code passed r ts)
+values_within passed r [] = nothing_within 0
+values_within passed r (t ∷ ts) =
+    less_within (12 + 12 * length ts) (12 * length (t ∷ ts)) _ (omega arith)
+    (both_within 12 (12 * length ts) (load_code (suc r) (slot_of passed t)) (values_code passed (suc r) ts) (load_within (suc r) (slot_of passed t))
+    (values_within passed (suc r) ts))
+
+leave_within : (bytes : ℕ) → IsWithin 28 (leave_code bytes)
+leave_within bytes = record { is = omega arith }
+
+choice_within : (u : Surroundings) (t label : ℕ) → IsWithin 20 (choice_code u t label)
+choice_within u t label = both_within 12 8 (from_temp u 5 t) (JumpIfZero 5 label ∷ []) (from_within u 5 t) (record { is = omega arith })
+
+mutual
+  statement_within : (bytes : ℕ) (u : Surroundings) (next out again : ℕ) (s : Statement)
+      → IsWithin (64 * statement_operations s) (statement_code bytes u next out again s)
+  statement_within bytes u next out again (Do operation) = operation_within u operation
+  statement_within bytes u next out again (If t these those) =
+      let behind = next + 1 + labels_of these in
+      let a = 64 * operations_of these in let b = 64 * operations_of those in
+      less_within (20 + a + 4 + b + 0) (64 * (1 + (operations_of these + operations_of those))) _ (omega arith)
+      (both_within (20 + a + 4 + b) 0 _ (Label behind ∷ [])
+      (both_within (20 + a + 4) b _ (statements_code bytes u (behind + 1) out again those)
+      (both_within (20 + a) 4 _ (Jump behind ∷ Label next ∷ [])
+      (both_within 20 a (choice_code u t next) (statements_code bytes u (next + 1) out again these) (choice_within u t next)
+      (statements_within bytes u (next + 1) out again these)) (record { is = omega arith }))
+      (statements_within bytes u (behind + 1) out again those)) (record { is = omega arith }))
+  statement_within bytes u next out again (While test t body) =
+      let behind = next + 1 + labels_of test in
+      let a = 64 * operations_of test in let b = 64 * operations_of body in
+      less_within (0 + a + 20 + b + 4) (64 * (1 + (operations_of test + operations_of body))) _ (omega arith)
+      (both_within (0 + a + 20 + b) 4 _ (Jump next ∷ Label behind ∷ [])
+      (both_within (0 + a + 20) b _ (statements_code bytes u (behind + 1) behind next body)
+      (both_within (0 + a) 20 _ (choice_code u t behind)
+      (both_within 0 a (Label next ∷ []) (statements_code bytes u (next + 1) out again test) (record { is = omega arith })
+      (statements_within bytes u (next + 1) out again test)) (choice_within u t behind))
+      (statements_within bytes u (behind + 1) behind next body)) (record { is = omega arith }))
+  statement_within bytes u next out again (Block locals body) =
+      less_within (64 * operations_of body) (64 * (1 + operations_of body)) _ (omega arith)
+      (statements_within bytes (within_block locals u) next out again body)
+  statement_within bytes u next out again Break = record { is = omega arith }
+  statement_within bytes u next out again Continue = record { is = omega arith }
+  statement_within bytes u next out again (Call results number arguments) =
+      less_within (24 * length arguments + 4 + 12 * length results) (64 * (1 + (length results + length arguments))) _ (omega arith)
+      (both_within (24 * length arguments + 4) (12 * length results) (pass_code u.passed 0 arguments ++ (CallTo number ∷ [])) (result_code u.passed 9 results)
+      (both_within (24 * length arguments) 4 (pass_code u.passed 0 arguments) (CallTo number ∷ []) (pass_within u.passed 0 arguments)
+      (record { is = omega arith })) (result_within u.passed 9 results))
+  statement_within bytes u next out again (Return values) =
+      less_within (12 * length values + 28) (64 * (1 + length values)) _ (omega arith)
+      (both_within (12 * length values) 28 (values_code u.passed 9 values) (leave_code bytes) (values_within u.passed 9 values) (leave_within bytes))
+  statement_within bytes u next out again (Raise kind) = nothing_within 64
+
+  statements_within : (bytes : ℕ) (u : Surroundings) (next out again : ℕ) (ss : Statements)
+      → IsWithin (64 * operations_of ss) (statements_code bytes u next out again ss)
+  statements_within bytes u next out again NoStatements = nothing_within 0
+  statements_within bytes u next out again (MoreStatements s ss) =
+      less_within (64 * statement_operations s + 64 * operations_of ss) (64 * (statement_operations s + operations_of ss)) _ (omega arith)
+      (both_within (64 * statement_operations s) (64 * operations_of ss) _ _ (statement_within bytes u next out again s)
+      (statements_within bytes u (next + labels_in s) out again ss))
+
+-- ---- functions and programs
+
+take_within : (bytes passed k more : ℕ) → IsWithin (24 * more) (take_code bytes passed k more)
+take_within bytes passed k zero = nothing_within 0
+take_within bytes passed k (suc more) =
+    less_within (24 + 24 * more) (24 * suc more) _ (omega arith)
+    (both_within 24 (24 * more) (load_code 5 (bytes / 4 + 1 + k) ++ save_code 5 (slot_of passed k)) (take_code bytes passed (k + 1) more)
+    (moved_within 5 (bytes / 4 + 1 + k) 5 (slot_of passed k))
+    (take_within bytes passed (k + 1) more))
+
+prologue_within : (bytes passed parameters : ℕ) → IsWithin (52 + 24 * parameters) (prologue_code bytes passed parameters)
+prologue_within bytes passed parameters =
+    both_within 52 (24 * parameters) (test_code bytes ++ move_code bytes ++ save_code 1 0) (take_code bytes passed 0 parameters)
+    (record { is = omega arith }) (take_within bytes passed 0 parameters)
+
+function_within : (statics : List ℕ) (number next : ℕ) (f : Function)
+    → IsWithin (64 * (8 + (f.parameters + operations_of f.body))) (function_code statics number next f)
+function_within statics number next f =
+    let p = f.parameters in let o = operations_of f.body in
+    less_within (0 + (52 + 24 * p) + 64 * o) (64 * (8 + (p + o))) _ (omega arith)
+    (both_within (0 + (52 + 24 * p)) (64 * o) ((Label number ∷ []) ++ prologue_code (frame_bytes f) f.passed f.parameters) _
+    (both_within 0 (52 + 24 * p) (Label number ∷ []) (prologue_code (frame_bytes f) f.passed f.parameters) (record { is = omega arith })
+    (prologue_within (frame_bytes f) f.passed f.parameters))
+    (statements_within (frame_bytes f) (around statics f) next number number f.body))
+
+functions_within : (statics : List ℕ) (number next : ℕ) (fs : List Function) → IsWithin (64 * all_operations fs) (functions_code statics number next fs)
+functions_within statics number next [] = nothing_within 0
+functions_within statics number next (f ∷ fs) =
+    let o = 8 + (f.parameters + operations_of f.body) in
+    less_within (64 * o + 64 * all_operations fs) (64 * (o + all_operations fs)) _ (omega arith)
+    (both_within (64 * o) (64 * all_operations fs) (function_code statics number next f) (functions_code statics (number + 1) (next + labels_of f.body) fs)
+    (function_within statics number next f)
+    (functions_within statics (number + 1) (next + labels_of f.body) fs))
+
+-- The lines of a program take no more bytes than its operations are counted for.
+pub lines_within : (p : Program) → code_length (program_code p) ≤ core_code p
+lines_within p =
+    let statics = offsets_from 0 (datum_locals p.data_objects) in
+    let all = 64 * all_operations p.functions in
+    (less_within (12 + all) (core_code p) (program_code p) (omega arith)
+    (both_within 12 all ((CallTo p.main ∷ []) ++ environment_code 0) (functions_code statics 0 (length p.functions) p.functions) (record { is = omega arith })
+    (functions_within statics 0 (length p.functions) p.functions))).is

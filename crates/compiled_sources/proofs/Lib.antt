@@ -1,0 +1,10 @@
+pub mod Naming
+pub mod Expressions
+pub mod Functions
+pub mod Selectable
+pub mod Frames
+pub mod DoesAsSource
+pub mod Lengths
+pub mod Data
+pub mod IntegersDo
+pub mod NamedApart

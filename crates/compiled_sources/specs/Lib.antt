@@ -1,0 +1,3 @@
+pub mod Naming
+pub mod Promise
+pub mod Laws

@@ -1,0 +1,125 @@
+-- What a phrase without fault says of its parts.
+use Rattle.std.proofs.Common.{◌≡◌, ℕ, Bool, true, false, List, [], ◌∷◌, refl}
+use Rattle.std.specs.Prelude.{◌++◌}
+use Rattle.cyc_tree.specs.declared.expression.Prefix.{Prefix}
+use Rattle.cyc_tree.specs.Tree as tree
+use Rattle.cyc_tree.specs.Tree.{Expression, Expressions, NoExpressions, MoreExpressions, Links, NoLinks, MoreLinks, Suffixes, NoSuffixes, Index, Dot, Arrow}
+use Rattle.source_typing.specs.Faults.{Fault, test, own_after}
+use Rattle.source_typing.specs.Verdicts.{Verdict, Faulty, Unjudged, Of, unless_faulty, after, both, if_fits}
+use Rattle.source_typing.specs.Scope.{Env, Value, meant}
+use Rattle.source_typing.specs.Places.{assigned, member, arrow, indexed}
+use Rattle.source_typing.specs.Operators.{prefixed, counted, applied, tested_both}
+use Rattle.source_typing.specs.Making.{Goal, To, ToUnique, NoHandle, with_goal}
+use Rattle.source_typing.specs.Calls.{Target, target, called, union_tag, union_made}
+use Rattle.source_typing.specs.Tables.{Tag, Part}
+use Rattle.source_typing.specs.Expressions.{judge, judge_all, judge_tests, judge_links, judge_suffixes}
+
+-- ---- verdicts
+
+pub after_is : {A B : Type 0} (v : Verdict A) (rule : A → Verdict B) (b : B) → after v rule ≡ Of b → (a : A) × (v ≡ Of a) × (rule a ≡ Of b)
+after_is (Faulty f fs) rule b e = absurd cc
+after_is Unjudged rule b e = absurd cc
+after_is (Of a) rule b e = (a, refl, e)
+
+pub both_is : {A B C : Type 0} (v : Verdict A) (w : Verdict B) (rule : A → B → Verdict C) (c : C) → both v w rule ≡ Of c
+    → (a : A) × (b : B) × (v ≡ Of a) × (w ≡ Of b) × (rule a b ≡ Of c)
+both_is (Faulty f fs) (Faulty g gs) rule c e = absurd cc
+both_is (Faulty f fs) Unjudged rule c e = absurd cc
+both_is (Faulty f fs) (Of b) rule c e = absurd cc
+both_is Unjudged (Faulty g gs) rule c e = absurd cc
+both_is Unjudged Unjudged rule c e = absurd cc
+both_is Unjudged (Of b) rule c e = absurd cc
+both_is (Of a) (Faulty g gs) rule c e = absurd cc
+both_is (Of a) Unjudged rule c e = absurd cc
+both_is (Of a) (Of b) rule c e = (a, b, refl, refl, e)
+
+pub unless_is : {A : Type 0} (fs : List Fault) (v : Verdict A) (a : A) → unless_faulty fs v ≡ Of a → (fs ≡ []) × (v ≡ Of a)
+unless_is [] v a e = (refl, e)
+unless_is (f ∷ fs) v a e = absurd cc
+
+pub fits_is : {A : Type 0} (b : Bool) (at : ℕ) (a c : A) → if_fits b at a ≡ Of c → (b ≡ true) × (Of a ≡ Of c)
+fits_is true at a c e = (refl, e)
+fits_is false at a c e = absurd cc
+
+pub of_is : {A : Type 0} (a b : A) → Of a ≡ Of b → a ≡ b
+of_is a b e = cc
+
+pub test_is : (b : Bool) (kind at : ℕ) → test b kind at ≡ [] → b ≡ true
+test_is true kind at e = refl
+test_is false kind at e = absurd cc
+
+pub none_of_both : {A : Type 0} (xs ys : List A) → xs ++ ys ≡ [] → (xs ≡ []) × (ys ≡ [])
+none_of_both [] ys e = (refl, e)
+none_of_both (x ∷ xs) ys e = absurd cc
+
+pub own_is : (own parts : List Fault) → own_after own parts ≡ [] → (own ≡ []) × (parts ≡ [])
+own_is own [] e = (e, refl)
+own_is own (f ∷ fs) e = absurd cc
+
+-- ---- expressions
+
+pub assign_is : (g : Env) (to from : Expression) (w : Value) → judge g (Expression.Assign to from) ≡ Of w
+    → (a : Value) × (b : Value) × (judge g to ≡ Of a) × (judge g from ≡ Of b) × (assigned g a b ≡ Of w)
+assign_is g to from w e = both_is (judge g to) (judge g from) (assigned g) w e
+
+pub prefix_is : (g : Env) (at : ℕ) (o : Prefix) (e : Expression) (w : Value) → judge g (Expression.Prefixed at o e) ≡ Of w
+    → (a : Value) × (judge g e ≡ Of a) × (prefixed g at o a ≡ Of w)
+prefix_is g at o e w p = after_is (judge g e) (prefixed g at o) w p
+
+pub numelts_is : (g : Env) (at : ℕ) (e : Expression) (w : Value) → judge g (Expression.NumElts at e) ≡ Of w
+    → (a : Value) × (judge g e ≡ Of a) × (counted at a ≡ Of w)
+numelts_is g at e w p = after_is (judge g e) (counted at) w p
+
+pub call_is : (g : Env) (x : tree.Name) (es : Expressions) (w : Value) → judge g (Expression.Call x es) ≡ Of w
+    → (t : Target) × (vs : List Value) × (target x.at (meant g x.text) ≡ Of t) × (judge_all g es ≡ Of vs) × (called g x.at t vs ≡ Of w)
+call_is g x es w p = both_is (target x.at (meant g x.text)) (judge_all g es) (called g x.at) w p
+
+pub union_is : (g : Env) (tag f : tree.Name) (e : Expression) (w : Value) → judge g (Expression.MakeUnion tag f e) ≡ Of w
+    → (t : Tag × Part) × (v : Value) × (union_tag tag f (meant g tag.text) ≡ Of t) × (judge g e ≡ Of v) × (union_made g tag.at t v ≡ Of w)
+union_is g tag f e w p = both_is (union_tag tag f (meant g tag.text)) (judge g e) (union_made g tag.at) w p
+
+-- ---- chains, subscripts and members
+
+-- the first part of two, or the part
+pub first_of_both : {A B C : Type 0} (v : Verdict A) (w : Verdict B) (rule : A → B → Verdict C) (c : C) → both v w rule ≡ Of c → (a : A) × (v ≡ Of a)
+first_of_both {A = A} {B = B} v w rule c e =
+    let z : (a : A) × (b : B) × (v ≡ Of a) × (w ≡ Of b) × (rule a b ≡ Of c) = both_is v w rule c e in (z.0, z.2)
+
+pub first_of_one : {A B : Type 0} (v : Verdict A) (rule : A → Verdict B) (b : B) → after v rule ≡ Of b → (a : A) × (v ≡ Of a)
+first_of_one (Faulty f fs) rule b e = absurd cc
+first_of_one Unjudged rule b e = absurd cc
+first_of_one (Of a) rule b e = (a, refl)
+
+-- a chain of operators without fault has a first operand without fault
+pub links_first : (g : Env) (v : Verdict Value) (es : Links) (w : Value) → judge_links g v es ≡ Of w → (a : Value) × (v ≡ Of a)
+links_first g v NoLinks w p = (w, p)
+links_first g v (MoreLinks o e es) w p =
+    let z : (a : Value) × (both v (judge g e) (applied g o) ≡ Of a) = links_first g (both v (judge g e) (applied g o)) es w p in
+    first_of_both v (judge g e) (applied g o) z.0 z.1
+
+pub tests_first : (g : Env) (v : Verdict Value) (es : Expressions) (w : Value) → judge_tests g v es ≡ Of w → (a : Value) × (v ≡ Of a)
+tests_first g v NoExpressions w p = (w, p)
+tests_first g v (MoreExpressions e es) w p =
+    let z : (a : Value) × (both v (judge g e) tested_both ≡ Of a) = tests_first g (both v (judge g e) tested_both) es w p in
+    first_of_both v (judge g e) tested_both z.0 z.1
+
+pub suffixes_first : (g : Env) (v : Verdict Value) (es : Suffixes) (w : Value) → judge_suffixes g v es ≡ Of w → (a : Value) × (v ≡ Of a)
+suffixes_first g v NoSuffixes w p = (w, p)
+suffixes_first g v (Index e es) w p =
+    let z : (a : Value) × (both v (judge g e) (indexed g) ≡ Of a) = suffixes_first g (both v (judge g e) (indexed g)) es w p in
+    first_of_both v (judge g e) (indexed g) z.0 z.1
+suffixes_first g v (Dot f es) w p =
+    let z : (a : Value) × (after v (member g f) ≡ Of a) = suffixes_first g (after v (member g f)) es w p in first_of_one v (member g f) z.0 z.1
+suffixes_first g v (Arrow f es) w p =
+    let z : (a : Value) × (after v (arrow g f) ≡ Of a) = suffixes_first g (after v (arrow g f)) es w p in first_of_one v (arrow g f) z.0 z.1
+
+-- a making without fault has a goal and a value
+pub goal_is : (at : ℕ) (goal : Verdict Goal) (v : Verdict Value) (rule : Goal → Value → Verdict Value) (w : Value) → with_goal at goal v rule ≡ Of w
+    → (x : Goal) × (y : Value) × (goal ≡ Of x) × (v ≡ Of y) × (rule x y ≡ Of w)
+goal_is at (Of NoHandle) Unjudged rule w e = absurd cc
+goal_is at (Of NoHandle) (Of a) rule w e = both_is (Of NoHandle) (Of a) rule w e
+goal_is at (Of NoHandle) (Faulty f fs) rule w e = absurd cc
+goal_is at (Of (To r)) v rule w e = both_is (Of (To r)) v rule w e
+goal_is at (Of ToUnique) v rule w e = both_is (Of ToUnique) v rule w e
+goal_is at (Faulty f fs) v rule w e = both_is (Faulty f fs) v rule w e
+goal_is at Unjudged v rule w e = both_is Unjudged v rule w e

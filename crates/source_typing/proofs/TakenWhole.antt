@@ -1,0 +1,325 @@
+-- Where all forms are taken, a program stands as it is.
+use Rattle.std.proofs.Common.{◌≡◌, Bool, true, false, Option, Some, None, List, [], ◌∷◌, refl, ap, ◌∙◌, ℕ}
+use Rattle.std.specs.Prelude.{◌&&◌, ◌++◌, if◌then◌else◌}
+use Rattle.cyc_tree.specs.declared.name.Sign.{Sign}
+use Rattle.cyc_tree.specs.declared.name.Sign.TheVariants as sign
+use Rattle.cyc_tree.specs.declared.expression.Prefix.{Prefix}
+use Rattle.cyc_tree.specs.declared.expression.Prefix.TheVariants.{Negate, Not, Complement, Dereference, AddressOf}
+use Rattle.cyc_tree.specs.Places.{expression_place}
+use Rattle.cyc_tree.specs.Tree as tree
+use Rattle.cyc_tree.specs.Tree.{TypeName, Expression, Expressions, NoExpressions, MoreExpressions, Links, NoLinks, MoreLinks, Suffixes, NoSuffixes}
+use Rattle.cyc_tree.specs.Tree.{Index, Dot, Arrow, Made, One, Array, Initializer, Statement, BlockItems, NoItems, Declare, Execute, Clauses}
+use Rattle.cyc_tree.specs.Tree.{NoClauses, MoreClauses, Constant, Initial, Item, Program}
+use Rattle.source_meaning.specs.Expressions.{is_unique_region}
+use Rattle.source_typing.specs.Taken.{whole, takes_base, takes_arguments, takes_pointers, takes_sign, takes_region, takes_type, type_taken, takes_suffixes}
+use Rattle.source_typing.specs.Taken.{takes_made}
+use Rattle.source_typing.specs.Taken.{takes_handle, if_taken, taken, all_taken, links_taken, suffixes_taken, made_taken, initializer_taken, takes_initializer}
+use Rattle.source_typing.specs.Taken.{declared_if, declaration_taken, result_taken, statement_taken, items_taken, clauses_taken, member_taken}
+use Rattle.source_typing.specs.Taken.{members_taken, structure_if, constant_taken, initial_taken, takes_initial, global_if, function_taken, item_taken}
+use Rattle.source_typing.specs.Taken.{only_taken}
+use Rattle.source_typing.specs.Taken.{refused_type, takes_prefix, effect_form, bounds_form, effect_if, bounds_if, Taken}
+use Rattle.source_typing.specs.Taken.{constant_form, initial_form, form_if, constant_forms}
+use Rattle.source_typing.specs.Faults.{Fault}
+
+-- ---- what is taken
+
+arguments_whole : (rs : List tree.RegionName) → takes_arguments whole rs ≡ true
+arguments_whole [] = refl
+arguments_whole (r ∷ rs) = refl
+
+base_whole : (b : tree.Base) → takes_base whole b ≡ true
+base_whole tree.Int = refl
+base_whole tree.Unsigned = refl
+base_whole tree.Char = refl
+base_whole tree.Void = refl
+base_whole (tree.Struct tag rs) = arguments_whole rs
+base_whole (tree.Union tag rs) = arguments_whole rs
+base_whole (tree.Handle r) = refl
+base_whole (tree.Key r) = refl
+
+both_true : (a b : Bool) → a ≡ true → b ≡ true → a && b ≡ true
+both_true true b p q = q
+both_true false b p q = p
+
+sign_whole : (s : Sign) → takes_sign whole s ≡ true
+sign_whole sign.Nullable = refl
+sign_whole sign.NotNull = refl
+sign_whole sign.Fat = refl
+
+region_whole : (r : Option tree.RegionName) → takes_region whole r ≡ true
+region_whole None = refl
+region_whole (Some (tree.Heap at)) = refl
+region_whole (Some (tree.Unique at)) = refl
+region_whole (Some (tree.Named n)) = refl
+
+pointers_whole : (ps : List tree.Pointer) → takes_pointers whole ps ≡ true
+pointers_whole [] = refl
+pointers_whole (p ∷ ps) =
+    both_true (takes_sign whole p.sign && takes_region whole p.region) (takes_pointers whole ps)
+    (both_true (takes_sign whole p.sign) (takes_region whole p.region) (sign_whole p.sign) (region_whole p.region)) (pointers_whole ps)
+
+takes_type_whole : (t : TypeName) → takes_type whole t ≡ true
+takes_type_whole t = both_true (takes_base whole t.base) (takes_pointers whole t.pointers) (base_whole t.base) (pointers_whole t.pointers)
+
+pub if_is : {A : Type 0} (b : Bool) (x y : A) → b ≡ true → (if b then x else y) ≡ x
+if_is true x y p = refl
+if_is false x y p = absurd cc
+
+type_whole : (t : TypeName) → type_taken whole t ≡ t
+type_whole t = if_is (takes_type whole t) t (refused_type t.at) (takes_type_whole t)
+
+suffixes_are_taken : (es : Suffixes) → takes_suffixes whole es ≡ true
+suffixes_are_taken NoSuffixes = refl
+suffixes_are_taken (Index e es) = suffixes_are_taken es
+suffixes_are_taken (Dot f es) = suffixes_are_taken es
+suffixes_are_taken (Arrow f es) = suffixes_are_taken es
+
+prefix_is_taken : (o : Prefix) → takes_prefix whole o ≡ true
+prefix_is_taken Negate = refl
+prefix_is_taken Not = refl
+prefix_is_taken Complement = refl
+prefix_is_taken Dereference = refl
+prefix_is_taken AddressOf = refl
+
+made_is_taken : (n : Made) → takes_made whole n ≡ true
+made_is_taken (One e) = refl
+made_is_taken (Array x n e) = refl
+
+handle_is_taken : (b c : Bool) → c ≡ true → takes_handle whole b && c ≡ true
+handle_is_taken true c p = p
+handle_is_taken false c p = p
+
+-- ---- expressions
+
+kept : (b : Bool) (at : ℕ) (e f : Expression) → b ≡ true → e ≡ f → if_taken b at e ≡ f
+kept true at e f p q = q
+kept false at e f p q = absurd cc
+
+mutual
+  taken_whole : (e : Expression) → taken whole e ≡ e
+  taken_whole (Expression.Number at n suffix) = refl
+  taken_whole (Expression.Character at byte) = refl
+  taken_whole (Expression.Text at bytes) = refl
+  taken_whole (Expression.Null at) = refl
+  taken_whole (Expression.HeapRegion at) = refl
+  taken_whole (Expression.UniqueRegion at) = refl
+  taken_whole (Expression.Variable x) = refl
+  taken_whole (Expression.Call x es) = ap (λ z. Expression.Call x z) (all_whole es)
+  taken_whole (Expression.MakeUnion tag f e) = ap (λ z. Expression.MakeUnion tag f z) (taken_whole e)
+  taken_whole (Expression.NumElts at e) = ap (λ z. Expression.NumElts at z) (taken_whole e)
+  taken_whole (Expression.Grouped at e) = ap (λ z. Expression.Grouped at z) (taken_whole e)
+  taken_whole (Expression.Suffixed e es) =
+      let a : taken whole e ≡ e = taken_whole e in let b : suffixes_taken whole es ≡ es = suffixes_whole es in
+      kept (takes_suffixes whole es) (expression_place e) (Expression.Suffixed (taken whole e) (suffixes_taken whole es)) (Expression.Suffixed e es)
+      (suffixes_are_taken es) cc
+  taken_whole (Expression.Prefixed at o e) =
+      kept (takes_prefix whole o) at (Expression.Prefixed at o (taken whole e)) (Expression.Prefixed at o e) (prefix_is_taken o)
+      (ap (λ z. Expression.Prefixed at o z) (taken_whole e))
+  taken_whole (Expression.New at new) =
+      kept (takes_made whole new) at (Expression.New at (made_taken whole new)) (Expression.New at new) (made_is_taken new)
+      (ap (λ z. Expression.New at z) (made_whole new))
+  taken_whole (Expression.NewIn at h new) =
+      let a : taken whole h ≡ h = taken_whole h in let b : made_taken whole new ≡ new = made_whole new in
+      kept (takes_handle whole (is_unique_region h) && takes_made whole new) at (Expression.NewIn at (taken whole h) (made_taken whole new))
+      (Expression.NewIn at h new) (handle_is_taken (is_unique_region h) (takes_made whole new) (made_is_taken new)) cc
+  taken_whole (Expression.Chain e links) =
+      let a : taken whole e ≡ e = taken_whole e in let b : links_taken whole links ≡ links = links_whole links in cc
+  taken_whole (Expression.AllOf e es) = let a : taken whole e ≡ e = taken_whole e in let b : all_taken whole es ≡ es = all_whole es in cc
+  taken_whole (Expression.AnyOf e es) = let a : taken whole e ≡ e = taken_whole e in let b : all_taken whole es ≡ es = all_whole es in cc
+  taken_whole (Expression.Assign x y) = let a : taken whole x ≡ x = taken_whole x in let b : taken whole y ≡ y = taken_whole y in cc
+
+  all_whole : (es : Expressions) → all_taken whole es ≡ es
+  all_whole NoExpressions = refl
+  all_whole (MoreExpressions e es) = let a : taken whole e ≡ e = taken_whole e in let b : all_taken whole es ≡ es = all_whole es in cc
+
+  links_whole : (es : Links) → links_taken whole es ≡ es
+  links_whole NoLinks = refl
+  links_whole (MoreLinks o e es) = let a : taken whole e ≡ e = taken_whole e in let b : links_taken whole es ≡ es = links_whole es in cc
+
+  suffixes_whole : (es : Suffixes) → suffixes_taken whole es ≡ es
+  suffixes_whole NoSuffixes = refl
+  suffixes_whole (Index e es) = let a : taken whole e ≡ e = taken_whole e in let b : suffixes_taken whole es ≡ es = suffixes_whole es in cc
+  suffixes_whole (Dot f es) = ap (λ z. Dot f z) (suffixes_whole es)
+  suffixes_whole (Arrow f es) = ap (λ z. Arrow f z) (suffixes_whole es)
+
+  made_whole : (n : Made) → made_taken whole n ≡ n
+  made_whole (One e) = ap (λ z. One z) (taken_whole e)
+  made_whole (Array x n e) = let a : taken whole n ≡ n = taken_whole n in let b : taken whole e ≡ e = taken_whole e in cc
+
+-- ---- declarations and statements
+
+initializer_whole : (i : Initializer) → initializer_taken whole i ≡ i
+initializer_whole Initializer.Unset = refl
+initializer_whole (Initializer.Elements n) = refl
+initializer_whole (Initializer.Value e) = ap (λ z. Initializer.Value z) (taken_whole e)
+
+initializer_is_taken : (i : Initializer) → takes_initializer whole i ≡ true
+initializer_is_taken Initializer.Unset = refl
+initializer_is_taken (Initializer.Elements n) = refl
+initializer_is_taken (Initializer.Value e) = refl
+
+kept_declaration : (b : Bool) (at : ℕ) (d e : tree.Declaration) → b ≡ true → d ≡ e → declared_if b at d ≡ e
+kept_declaration true at d e p q = q
+kept_declaration false at d e p q = absurd cc
+
+declaration_whole : (d : tree.Declaration) → declaration_taken whole d ≡ d
+declaration_whole (tree.Local t x i) =
+    kept_declaration (takes_type whole t && takes_initializer whole i) t.at (tree.Local t x (initializer_taken whole i)) (tree.Local t x i)
+    (both_true (takes_type whole t) (takes_initializer whole i) (takes_type_whole t) (initializer_is_taken i))
+    (ap (λ z. tree.Local t x z) (initializer_whole i))
+declaration_whole (tree.Region at r x) = refl
+declaration_whole (tree.Open at r x y) = refl
+declaration_whole (tree.Alias at r t x p) = refl
+declaration_whole (tree.NewKey at r x) = refl
+
+result_whole : (v : Option Expression) → result_taken whole v ≡ v
+result_whole None = refl
+result_whole (Some e) = ap (λ z. Some z) (taken_whole e)
+
+mutual
+  statement_whole : (s : Statement) → statement_taken whole s ≡ s
+  statement_whole (Statement.Empty at) = refl
+  statement_whole (Statement.Block at items) = ap (λ z. Statement.Block at z) (items_whole items)
+  statement_whole (Statement.Run e) = ap (λ z. Statement.Run z) (taken_whole e)
+  statement_whole (Statement.Exchange x y) = let a : taken whole x ≡ x = taken_whole x in let b : taken whole y ≡ y = taken_whole y in cc
+  statement_whole (Statement.If at e s) =
+      let a : taken whole e ≡ e = taken_whole e in let b : statement_taken whole s ≡ s = statement_whole s in cc
+  statement_whole (Statement.IfElse at e s t) =
+      let a : taken whole e ≡ e = taken_whole e in let b : statement_taken whole s ≡ s = statement_whole s in
+      let c : statement_taken whole t ≡ t = statement_whole t in cc
+  statement_whole (Statement.While at e s) =
+      let a : taken whole e ≡ e = taken_whole e in let b : statement_taken whole s ≡ s = statement_whole s in cc
+  statement_whole (Statement.Switch at e cs) =
+      let a : taken whole e ≡ e = taken_whole e in let b : clauses_taken whole cs ≡ cs = clauses_whole cs in cc
+  statement_whole (Statement.Break at) = refl
+  statement_whole (Statement.Continue at) = refl
+  statement_whole (Statement.Return at v) = ap (λ z. Statement.Return at z) (result_whole v)
+  statement_whole (Statement.FreeUnique at p) = refl
+  statement_whole (Statement.FreeKey at x) = refl
+
+  items_whole : (is : BlockItems) → items_taken whole is ≡ is
+  items_whole NoItems = refl
+  items_whole (Declare d others) =
+      let a : declaration_taken whole d ≡ d = declaration_whole d in let b : items_taken whole others ≡ others = items_whole others in cc
+  items_whole (Execute s others) =
+      let a : statement_taken whole s ≡ s = statement_whole s in let b : items_taken whole others ≡ others = items_whole others in cc
+
+  clauses_whole : (cs : Clauses) → clauses_taken whole cs ≡ cs
+  clauses_whole NoClauses = refl
+  clauses_whole (MoreClauses at pattern body others) =
+      let a : items_taken whole body ≡ body = items_whole body in let b : clauses_taken whole others ≡ others = clauses_whole others in cc
+
+-- ---- items
+
+member_whole : (m : tree.Member) → member_taken whole m ≡ m
+member_whole m = ap (λ (t : TypeName). record m { of = t }) (type_whole m.of)
+
+members_whole : (ms : List tree.Member) → members_taken whole ms ≡ ms
+members_whole [] = refl
+members_whole (m ∷ ms) = let a : member_taken whole m ≡ m = member_whole m in let b : members_taken whole ms ≡ ms = members_whole ms in cc
+
+structure_whole : (b : Bool) (s : tree.Structure) → b ≡ true → structure_if b s (members_taken whole s.members) ≡ s
+structure_whole true s p = ap (λ (ms : List tree.Member). record s { members = ms }) (members_whole s.members)
+structure_whole false s p = absurd cc
+
+constant_whole : (t : TypeName) (c : Constant) → constant_taken whole t c ≡ c
+constant_whole t (Constant.Number at n suffix) = refl
+constant_whole t (Constant.Negative at n suffix) = refl
+constant_whole t (Constant.Character at byte) = refl
+constant_whole t (Constant.Text at bytes) = refl
+constant_whole t (Constant.Null at) = refl
+
+initial_whole : (t : TypeName) (i : Initial) → initial_taken whole t i ≡ i
+initial_whole t Initial.Unset = refl
+initial_whole t (Initial.Elements n) = refl
+initial_whole t (Initial.Given c) = ap (λ z. Initial.Given z) (constant_whole t c)
+
+initial_is_taken : (i : Initial) → takes_initial whole i ≡ true
+initial_is_taken Initial.Unset = refl
+initial_is_taken (Initial.Elements n) = refl
+initial_is_taken (Initial.Given c) = refl
+
+global_whole : (b : Bool) (x : tree.Global) → b ≡ true → global_if b x (initial_taken whole x.of x.initial) ≡ x
+global_whole true x p = ap (λ (i : Initial). record x { initial = i }) (initial_whole x.of x.initial)
+global_whole false x p = absurd cc
+
+no_more : (ms : List tree.Member) → ms ++ [] ≡ ms
+no_more [] = refl
+no_more (m ∷ ms) = ap (λ z. m ∷ z) (no_more ms)
+
+effect_taken : (e : Option (List tree.RegionName)) → effect_form true e ≡ []
+effect_taken None = refl
+effect_taken (Some []) = refl
+effect_taken (Some (r ∷ rs)) = refl
+
+bounds_taken : (bs : List tree.Bound) → bounds_form true bs ≡ []
+bounds_taken [] = refl
+bounds_taken (b ∷ bs) = refl
+
+parameters_are : (f : tree.Function) (ms es bs : List tree.Member) → ms ≡ f.parameters → es ≡ [] → bs ≡ [] → ms ++ (es ++ bs) ≡ f.parameters
+parameters_are f ms es bs a b c =
+    ap (λ (z : List tree.Member). z ++ (es ++ bs)) a
+    ∙ (ap (λ (z : List tree.Member). f.parameters ++ (z ++ bs)) b
+    ∙ (ap (λ (z : List tree.Member). f.parameters ++ ([] ++ z)) c ∙ no_more f.parameters))
+
+function_with : tree.Function → TypeName → List tree.Member → Option (List tree.RegionName) → List tree.Bound → BlockItems → tree.Function
+function_with f t ms e bs body = record f { result = t; parameters = ms; effect = e; bounds = bs; body = body }
+
+-- a function is as it is where each of its parts is
+pub function_as_is : (k : Taken) (f : tree.Function) → type_taken k f.result ≡ f.result → members_taken k f.parameters ≡ f.parameters
+    → effect_form k.regions f.effect ≡ [] → bounds_form k.regions f.bounds ≡ [] → effect_if k.regions f.effect ≡ f.effect
+    → bounds_if k.regions f.bounds ≡ f.bounds → items_taken k f.body ≡ f.body → function_taken k f ≡ f
+unfolding function_with
+function_as_is k f a b c d e g h =
+    ap (λ (t : TypeName). function_with f t (members_taken k f.parameters ++ (effect_form k.regions f.effect ++ bounds_form k.regions f.bounds))
+    (effect_if k.regions f.effect) (bounds_if k.regions f.bounds) (items_taken k f.body)) a
+    ∙ (ap (λ (ms : List tree.Member). function_with f f.result ms (effect_if k.regions f.effect) (bounds_if k.regions f.bounds) (items_taken k f.body))
+    (parameters_are f (members_taken k f.parameters) (effect_form k.regions f.effect) (bounds_form k.regions f.bounds) b c d)
+    ∙ (ap (λ (x : Option (List tree.RegionName)). function_with f f.result f.parameters x (bounds_if k.regions f.bounds) (items_taken k f.body)) e
+    ∙ (ap (λ (bs : List tree.Bound). function_with f f.result f.parameters f.effect bs (items_taken k f.body)) g
+    ∙ ap (λ (body : BlockItems). function_with f f.result f.parameters f.effect f.bounds body) h)))
+
+function_whole : (f : tree.Function) → function_taken whole f ≡ f
+function_whole f =
+    function_as_is whole f (type_whole f.result) (members_whole f.parameters) (effect_taken f.effect) (bounds_taken f.bounds) refl refl (items_whole f.body)
+
+item_whole : (i : Item) → item_taken whole i ≡ i
+item_whole (tree.StructItem s) = ap (λ z. tree.StructItem z) (structure_whole (takes_arguments whole s.regions) s (arguments_whole s.regions))
+item_whole (tree.UnionItem s) = ap (λ z. tree.UnionItem z) (structure_whole (takes_arguments whole s.regions) s (arguments_whole s.regions))
+item_whole (tree.GlobalItem x) =
+    ap (λ z. tree.GlobalItem z)
+    (global_whole (takes_type whole x.of && takes_initial whole x.initial) x
+    (both_true (takes_type whole x.of) (takes_initial whole x.initial) (takes_type_whole x.of) (initial_is_taken x.initial)))
+item_whole (tree.FunctionItem f) = ap (λ z. tree.FunctionItem z) (function_whole f)
+
+pub program_whole : (p : Program) → only_taken whole p ≡ p
+program_whole [] = refl
+program_whole (i ∷ others) =
+    let a : item_taken whole i ≡ i = item_whole i in let b : only_taken whole others ≡ others = program_whole others in cc
+
+-- no constant is a form that isn't taken
+constant_forms_whole : (c : Constant) → constant_form whole c ≡ []
+constant_forms_whole (Constant.Number at n suffix) = refl
+constant_forms_whole (Constant.Negative at n suffix) = refl
+constant_forms_whole (Constant.Character at byte) = refl
+constant_forms_whole (Constant.Text at bytes) = refl
+constant_forms_whole (Constant.Null at) = refl
+
+form_whole : (b : Bool) (i : Initial) → form_if b (initial_form whole i) ≡ []
+form_whole false i = refl
+form_whole true Initial.Unset = refl
+form_whole true (Initial.Elements n) = refl
+form_whole true (Initial.Given c) = constant_forms_whole c
+
+none_and : (fs gs : List Fault) → fs ≡ [] → gs ≡ [] → fs ++ gs ≡ []
+none_and [] gs a b = b
+none_and (f ∷ fs) gs a b = absurd cc
+
+pub forms_whole : (p : Program) → constant_forms whole p ≡ []
+forms_whole [] = refl
+forms_whole (tree.StructItem s ∷ others) = forms_whole others
+forms_whole (tree.UnionItem u ∷ others) = forms_whole others
+forms_whole (tree.FunctionItem f ∷ others) = forms_whole others
+forms_whole (tree.GlobalItem x ∷ others) =
+    none_and (form_if (takes_type whole x.of && takes_initial whole x.initial) (initial_form whole x.initial)) (constant_forms whole others)
+    (form_whole (takes_type whole x.of && takes_initial whole x.initial) x.initial) (forms_whole others)

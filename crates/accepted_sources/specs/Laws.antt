@@ -1,0 +1,16 @@
+-- What holds of all programs of integers in which the rules find no fault.
+use Rattle.std.specs.Prelude.{◌≡◌, []}
+use Rattle.cyc_tree.specs.Tree.{Program}
+use Rattle.source_lowering.specs.Taken.{IsLowerable}
+use Rattle.source_typing.specs.Answers.{program_faults}
+use Rattle.source_typing.specs.Taken.{integers}
+use Rattle.accepted_sources.specs.Accepted.{IsInOrder}
+use Rattle.accepted_sources.specs.Operands.{HasOperands}
+
+-- lowering takes each
+abbrev pub AcceptedIsLowerable : Type 0
+AcceptedIsLowerable = (p : Program) → HasOperands p → program_faults integers p ≡ [] → IsLowerable p
+
+-- each expression of each is judged, in the scope where it stands
+abbrev pub AcceptedIsInOrder : Type 0
+AcceptedIsInOrder = (p : Program) → HasOperands p → program_faults integers p ≡ [] → IsInOrder p

@@ -1,0 +1,4 @@
+pub mod Operands
+pub mod Plain
+pub mod Accepted
+pub mod Laws

@@ -1,0 +1,15 @@
+// What holds of all programs of integers in which the rules find no fault.
+
+ghost use Rattle.accepted_sources.specs.Laws.{AcceptedIsInOrder, AcceptedIsLowerable};
+
+/// A law, with nothing to run: a program in which the rules on functions and globals of integers find
+/// no fault is one that lowering takes, if its tree has the operands that each text's tree has.
+pub fn accepted_is_lowerable()
+    ensures { AcceptedIsLowerable }
+{}
+
+/// A law, with nothing to run: in such a program all is known of each name, and each expression is
+/// judged in the scope where it stands: it is an integer, or nothing, as the call of a function without result is.
+pub fn accepted_is_in_order()
+    ensures { AcceptedIsInOrder }
+{}

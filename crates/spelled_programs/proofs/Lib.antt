@@ -1,0 +1,5 @@
+pub mod Shorter
+pub mod ExpressionSizes
+pub mod StatementSizes
+pub mod ProgramSizes
+pub mod Operands

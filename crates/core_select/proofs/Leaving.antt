@@ -1,6 +1,6 @@
 -- The place of code behind a block is that before it.
 use Rattle.std.specs.Prelude.{remove}
-use Rattle.std.proofs.Common.{◌≡◌, ℕ, List, [], ◌∷◌, map, refl, sym, ap, ◌∙◌}
+use Rattle.std.proofs.Common.{◌≡◌, ℕ, List, [], ◌∷◌, map, ap}
 use Rattle.core_meaning.specs.Core.{Local}
 use Rattle.core_frames.specs.Selected.{Surroundings, within_block, offsets_from}
 

@@ -4,3 +4,4 @@ mod Numbers
 mod Leaving
 mod Parameters
 mod Functions
+mod Meaning

@@ -1,5 +1,5 @@
 -- How large statements are: what goes down at each call among the functions that go over them.
-use Rattle.std.proofs.Common.{ℕ, ◌+◌, List}
+use Rattle.std.proofs.Common.{ℕ, ◌+◌}
 use Rattle.core_meaning.specs.Core.{Statement, Statements, Do, If, While, Block, Break, Continue, Call, Return, Raise, NoStatements, MoreStatements}
 
 abbrev mutual

@@ -1,5 +1,5 @@
 -- Where code stands, as the definition of code has it, and which comparisons take two instructions.
-use Rattle.std.specs.Prelude.{ℕ, Bool, true, false, List, [], map}
+use Rattle.std.specs.Prelude.{Bool, true, false, [], map}
 use Rattle.core_frames.specs.Selected.{Surroundings}
 use Rattle.core_tree.specs.declared.operation.Binary.{Binary}
 use Rattle.core_tree.specs.declared.operation.Binary.TheVariants as binary

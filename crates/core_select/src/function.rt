@@ -3,6 +3,9 @@
 ghost use Rattle.std.specs.Prelude.{◌≡◌, ◌+◌, ◌-◌, ◌%◌, ◌^◌, ◌*◌, ◌≤◌, ◌<◌, ◌++◌, IfOk, OnOk, map, ℕ, length};
 ghost use Rattle.core_tree.specs.Trees.{function_tree, program_tree};
 ghost use Rattle.core_frames.specs.Frames.{test_code, move_code, take_code, prologue_code};
+ghost use Rattle.core_frames.specs.Lines.{labels_placed, AreOnce};
+ghost use Rattle.core_frames.specs.Running.{DoesAsCore};
+ghost use Rattle.core_frames.specs.Selectable.{IsSelectable};
 ghost use Rattle.core_frames.specs.Selected.{slots_of, own_end, frame_bytes, labels_of, function_code, functions_code, program_code};
 ghost use Rattle.core_select.specs.Places.{surroundings};
 
@@ -135,14 +138,26 @@ fn put_functions(
     Ok(())
 }
 
-/// The instructions of a lowered program. Fails only where no host memory is left.
-pub fn select(alloc: Global, program: &Program) -> Result<Labelled, AllocError>
-    ensures code { IfOk result (λ labelled. labelled.lines.items ≡ program_code (program_tree program.now)) }
+/// The lines of a lowered program.
+fn program_lines(alloc: Global, program: &Program) -> Result<Vec<Line>, AllocError>
+    ensures { IfOk result (λ lines. lines.items ≡ program_code (program_tree program.now)) }
 {
     let mut lines = Vec::new(alloc);
     let mut place = Place::new(alloc, statics(alloc, &program.globals)?);
     put_lines(&mut lines, &[Line::CallTo(program.main as usize)])?;
     put_environment(&mut lines, EXIT)?;
     put_functions(&mut lines, &mut place, &program.functions)?;
+    Ok(lines)
+}
+
+/// The instructions of a lowered program. Fails only where no host memory is left.
+pub fn select(alloc: Global, program: &Program) -> Result<Labelled, AllocError>
+    ensures code { IfOk result (λ labelled. labelled.lines.items ≡ program_code (program_tree program.now)) }
+    // each label is placed once
+    ensures once { IfOk result (λ labelled. AreOnce (labels_placed labelled.lines.items)) }
+    // a machine that begins with the lines does what the program does
+    ensures meaning { IfOk result (λ labelled. IsSelectable (program_tree program.now) → DoesAsCore (program_tree program.now) labelled.lines.items) }
+{
+    let lines = program_lines(alloc, program)?;
     Ok(Labelled { lines })
 }

@@ -1,4 +1,4 @@
-use Rattle.std.proofs.Common.{◌≡◌, ◌++◌, ap, ◌∙◌}
+use Rattle.std.proofs.Common.{◌++◌, ap, ◌∙◌}
 use Rattle.core_tree.specs.Trees.{function_tree, body_tree}
 use Rattle.core_frames.specs.Selected.{statements_code}
 use Rattle.core_select.specs.Places.{surroundings}

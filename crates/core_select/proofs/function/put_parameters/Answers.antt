@@ -1,4 +1,4 @@
-use Rattle.std.proofs.Common.{◌≡◌, ◌+◌, ◌/◌, ap, ◌∙◌}
+use Rattle.std.proofs.Common.{◌+◌, ◌/◌, ap, ◌∙◌}
 use Rattle.core_select.proofs.Parameters.{taken}
 use Rattle.core_select.proofs.function.put_parameters.Goals as goal
 

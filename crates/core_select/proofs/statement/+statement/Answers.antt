@@ -1,4 +1,4 @@
-use Rattle.std.proofs.Common.{◌≡◌, ◌∙◌}
+use Rattle.std.proofs.Common.{◌∙◌}
 use Rattle.core_select.specs.Places.{surroundings}
 use Rattle.core_select.proofs.statement.+statement.Goals as goal
 

@@ -1,0 +1,4 @@
+pub mod Placed
+pub mod Placing
+pub mod Holding
+pub mod Limits

@@ -39,7 +39,7 @@ use Rattle.accepted_sources.proofs.Declarations.{type_plain, by_base, by_nothing
 abbrev global_of : TypeName → tree.Name → Initial → tree.Global
 global_of t x i = record { of = t; name = x; initial = i }
 
-global_integer : (g : Env) (x : tree.Global) → IsIntegerType x.of → TakesInitial x.initial → global_type g x ≡ Of (base_type x.of.base)
+pub global_integer : (g : Env) (x : tree.Global) → IsIntegerType x.of → TakesInitial x.initial → global_type g x ≡ Of (base_type x.of.base)
 global_integer g x h k = by_base (λ z. global_type g (global_of z x.name x.initial) ≡ Of (base_type z.base)) x.of h (λ b i. by b x.initial i k)
   where
     by : (b : tree.Base) (i : Initial) → IsIntegerBase b → TakesInitial i
@@ -91,7 +91,7 @@ initial_clean g (Initial.Given c) t h k = constant_clean g c t h k
 -- ---- globals
 
 -- it has no fault by any tables, and all is known of its name
-entry_clean : (g : Env) (x : tree.Global) → IsGlobal x → global_faults g x ≡ []
+pub entry_clean : (g : Env) (x : tree.Global) → IsGlobal x → global_faults g x ≡ []
 entry_clean g x k =
     subst (λ v. faults_of v ++ initial_faults g x.initial v ≡ []) (sym (global_integer g x k.type k.initial))
     (initial_clean g x.initial (base_type x.of.base) k.initial (base_integer x.of.base k.type.base))

@@ -7,6 +7,7 @@ pub mod Statements
 pub mod Heads
 pub mod Functions
 pub mod Globals
+pub mod Sizes
 pub mod Tags
 pub mod Strings
 pub mod Programs

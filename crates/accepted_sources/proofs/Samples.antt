@@ -55,7 +55,13 @@ all_forms_joined = (
           (
             (
               (tt, ((tt, (tt, (tt, tt))), ((tt, (tt, (tt, tt))), tt))),
-              (tt, ((tt, (tt, ((tt, (tt, (tt, tt))), ((tt, (tt, (tt, tt))), tt)))), ((tt, tt), ((tt, (tt, (tt, (tt, tt)))), (((tt, (tt, (tt, tt))), tt), tt))))),
+              (
+                tt,
+                (
+                  (tt, (tt, ((tt, (tt, (tt, tt))), ((tt, (tt, (tt, tt))), tt)))),
+                  ((tt, tt), ((tt, (tt, (tt, (tt, tt)))), (((tt, (tt, (tt, tt))), tt), tt))),
+                ),
+              ),
             ),
             (tt, tt),
           ),

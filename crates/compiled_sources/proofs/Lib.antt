@@ -8,3 +8,5 @@ pub mod Lengths
 pub mod Data
 pub mod IntegersDo
 pub mod NamedApart
+pub mod DataWithin
+pub mod AcceptedDo

@@ -1,9 +1,24 @@
 -- What holds of all programs of integers.
+use Rattle.std.specs.Prelude.{◌≡◌, ◌≤◌, ◌^◌, []}
 use Rattle.cyc_tree.specs.Tree.{Program}
 use Rattle.source_meaning.specs.Programs.{world_of}
 use Rattle.source_lowering.specs.Taken.{IsLowerable}
+use Rattle.source_lowering.specs.Programs.{program_code}
+use Rattle.source_typing.specs.Answers.{program_faults}
+use Rattle.source_typing.specs.Taken.{integers}
+use Rattle.accepted_sources.specs.Operands.{HasOperands}
+use Rattle.core_frames.specs.Running.{data_end}
 use Rattle.compiled_sources.specs.Promise.{AreNamedApart, IntegersDo}
 
 -- what is promised of a program of integers holds of each in which no two functions have one name
 abbrev pub AllIntegersDo : Type 0
 AllIntegersDo = (p : Program) → IsLowerable p → AreNamedApart (world_of p).functions → IntegersDo p
+
+-- a program in which the rules find no fault: what is promised of one of integers, and its data are no longer than those of an image
+pub record AcceptedDoes (p : Program) : Type 0 where
+  pub promised : IntegersDo p
+  pub data_within : data_end (program_code p).data_objects ≤ 2 ^ 20
+
+-- that holds of each such program, if its tree has the operands that each text's tree has
+abbrev pub AllAcceptedDo : Type 0
+AllAcceptedDo = (p : Program) → HasOperands p → program_faults integers p ≡ [] → AcceptedDoes p

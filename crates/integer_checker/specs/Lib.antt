@@ -1,0 +1,11 @@
+pub mod Agreement
+pub mod Expressions
+pub mod Faults
+pub mod Functions
+pub mod Judging
+pub mod Linked
+pub mod Positions
+pub mod Programs
+pub mod Scopes
+pub mod Statements
+pub mod Types

@@ -1,0 +1,65 @@
+-- Functions of regions and spots that are changed at one place.
+use Rattle.std.proofs.Common.{◌≡◌, ℕ, Bool, true, false, ◌⊎◌, inl, inr, refl, sym, ◌∙◌, ap}
+use Rattle.std.specs.Prelude.{◌&&◌, if◌then◌else◌}
+use Rattle.std.proofs.lemmas.Bool.{eqb-true, eq-eqb, false≢true}
+use Rattle.source_meaning.specs.Memory.{Region, Frame, Born, Spot, same_region, same_spot}
+
+pub if_cases : {A : Type 0} (b : Bool) (x y : A) (P : A → Type 0) → (b ≡ true → P x) → (b ≡ false → P y) → P (if b then x else y)
+if_cases true x y P h k = h refl
+if_cases false x y P h k = k refl
+
+pub tells : (b : Bool) → (b ≡ true) ⊎ (b ≡ false)
+tells true = inl refl
+tells false = inr refl
+
+pub region_itself : (r : Region) → same_region r r ≡ true
+region_itself (Frame k) = eq-eqb k k refl
+region_itself (Born k) = eq-eqb k k refl
+
+pub region_is : (q r : Region) → same_region q r ≡ true → q ≡ r
+region_is (Frame j) (Frame k) h = ap (λ (n : ℕ). Frame n) (eqb-true j k h)
+region_is (Born j) (Born k) h = ap (λ (n : ℕ). Born n) (eqb-true j k h)
+region_is (Frame j) (Born k) h = absurd (false≢true h)
+region_is (Born j) (Frame k) h = absurd (false≢true h)
+
+pub spot_itself : (s : Spot) → same_spot s s ≡ true
+spot_itself s = rw (region_itself s.region, eq-eqb s.object s.object refl, eq-eqb s.cell s.cell refl) refl
+
+and_left : (a b : Bool) → a && b ≡ true → a ≡ true
+and_left true b h = refl
+and_left false b h = h
+
+and_right : (a b : Bool) → a && b ≡ true → b ≡ true
+and_right true b h = h
+and_right false b h = absurd (false≢true h)
+
+abbrev spot_of : Region → ℕ → ℕ → Spot
+spot_of r o c = record { region = r; object = o; cell = c }
+
+joined : (r r' : Region) (o o' c c' : ℕ) → r ≡ r' → o ≡ o' → c ≡ c' → spot_of r o c ≡ spot_of r' o' c'
+joined r r' o o' c c' p q e = cc
+
+pub spot_is : (t s : Spot) → same_spot t s ≡ true → t ≡ s
+spot_is t s h =
+    let a = region_is t.region s.region (and_left _ _ h) in
+    let b = eqb-true t.object s.object (and_left _ _ (and_right _ _ h)) in
+    let c = eqb-true t.cell s.cell (and_right _ _ (and_right _ _ h)) in
+    joined t.region s.region t.object s.object t.cell s.cell a b c
+
+pub not_region : (q r : Region) → same_region q r ≡ false → q ≡ r → ⊥
+not_region q r e d = false≢true (sym e ∙ ap (λ x. same_region x r) d ∙ region_itself r)
+
+pub not_spot : (t s : Spot) → same_spot t s ≡ false → t ≡ s → ⊥
+not_spot t s e d = false≢true (sym e ∙ ap (λ x. same_spot x s) d ∙ spot_itself s)
+
+pub at_region : {A : Type 0} (f : Region → A) (r : Region) (v : A) (q : Region) (P : A → Type 0) → (q ≡ r → P v) → ((q ≡ r → ⊥) → P (f q)) → P (if same_region q r then v else f q)
+at_region f r v q P h k = if_cases (same_region q r) v (f q) P (λ e. h (region_is q r e)) (λ e. k (not_region q r e))
+
+pub at_spot : {A : Type 0} (f : Spot → A) (s : Spot) (v : A) (t : Spot) (P : A → Type 0) → (t ≡ s → P v) → ((t ≡ s → ⊥) → P (f t)) → P (if same_spot t s then v else f t)
+at_spot f s v t P h k = if_cases (same_spot t s) v (f t) P (λ e. h (spot_is t s e)) (λ e. k (not_spot t s e))
+
+pub same_here : {A : Type 0} (r : Region) (v u : A) → (if same_region r r then v else u) ≡ v
+same_here r v u = ap (λ (b : Bool). if b then v else u) (region_itself r)
+
+pub same_at : {A : Type 0} (s : Spot) (v u : A) → (if same_spot s s then v else u) ≡ v
+same_at s v u = ap (λ (b : Bool). if b then v else u) (spot_itself s)

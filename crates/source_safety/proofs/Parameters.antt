@@ -1,0 +1,127 @@
+-- A result lands with its caller, and a function's parameters are in scope.
+use Rattle.std.proofs.Common.{◌≡◌, ℕ, suc, Bool, List, [], ◌∷◌, refl, sym, ◌∙◌, ap, subst}
+use Rattle.std.specs.Prelude.{map}
+use Rattle.source_meaning.specs.Shapes.{Shape, Part, part_shapes}
+use Rattle.source_meaning.specs.Memory.{Region, Frame, Spot, Scalar, State, Memory}
+use Rattle.source_meaning.specs.Steps.{Variable, World, Scope}
+use Rattle.source_meaning.specs.Places.{with_binding}
+use Rattle.source_typing.specs.Scope.{Env}
+use Rattle.source_typing.specs.Tables as typing
+use Rattle.source_typing.specs.Types.{StaticType, renamed, shape_of}
+use Rattle.source_safety.specs.Flat.{Tables, flat}
+use Rattle.source_safety.specs.Judged.{extended}
+pub use Rattle.source_safety.specs.Programs.{name_alone, with_all}
+use Rattle.source_safety.proofs.Invariant as invariant
+use Rattle.source_safety.proofs.Invariant.{RunType, heap, Owner, Nobody, Flying, Pinned, InCell, Freed, Kept, Reached, Ghost, Laid, HaveTypes, Steady, Inv, Grows}
+use Rattle.source_safety.proofs.Values.{Carries, values_kept}
+use Rattle.source_safety.proofs.Moves.{passing, Class, inv_cells, cell_kept}
+use Rattle.source_safety.proofs.Growth.{grows_cells}
+use Rattle.source_safety.proofs.After.{flying}
+use Rattle.source_safety.proofs.Arguments.{Flown, Shaped, Landed, bound_all}
+use Rattle.source_safety.proofs.Names.{NameOf}
+use Rattle.source_safety.proofs.Scenes.{Scene}
+use Rattle.source_safety.proofs.Entries.{AreIntegers, run_type, integer_plain, plain_renamed}
+use Rattle.source_safety.proofs.Surroundings.{Surrounds, surrounds_local, scene_local}
+use Rattle.source_safety.proofs.Statements.{full_laid}
+
+-- a result is on its way again once all blocks of the function were left
+abbrev pub landing : ℕ → Owner → Owner
+landing k Nobody = Nobody
+landing k (Flying i c) = Flying i c
+landing k (invariant.Returned c) = Flying k c
+landing k (Pinned i) = Pinned i
+landing k (InCell s) = InCell s
+landing k Freed = Freed
+
+pub land_class : (k : ℕ) → Class (landing k)
+land_class k = record { state = held; steady = stands; nobody = was; free = refl }
+  where
+    held : (o : Owner) (keyed : Bool) (st : State) → invariant.StateOk o keyed st → invariant.StateOk (landing k o) keyed st
+    held Nobody keyed st h = h
+    held (Flying j c) keyed st h = h
+    held (invariant.Returned c) keyed st h = h
+    held (Pinned j) keyed st h = h
+    held (InCell x) keyed st h = h
+    held Freed keyed st h = h
+
+    stands : (o : Owner) → Steady o → Steady (landing k o)
+    stands Nobody h = h
+    stands (Flying j c) h = elim h [ ]
+    stands (invariant.Returned c) h = elim h [ ]
+    stands (Pinned j) h = h
+    stands (InCell x) h = elim h [ ]
+    stands Freed h = elim h [ ]
+
+    was : (o : Owner) → landing k o ≡ Nobody → o ≡ Nobody
+    was Nobody h = h
+    was (Flying j c) h = absurd (cc)
+    was (invariant.Returned c) h = absurd (cc)
+    was (Pinned j) h = absurd (cc)
+    was (InCell x) h = absurd (cc)
+    was Freed h = absurd (cc)
+
+pub inv_landed : (d : Tables) (k : ℕ) (w : Ghost) (m : Memory) → Inv d w m → Inv d (passing (landing k) w) m
+inv_landed d k w m i = inv_cells d w m (landing k) m.cells i (land_class k) (λ s q e. cell_kept d w (passing (landing k) w) s (m.cells s) q
+    (record { types = λ x u h. h; above = λ x y h. h; owner = λ x h. ap (landing k) h; keyed = λ x h. refl }) (i.cells s q e))
+
+pub grows_landed : (k b : ℕ) (w : Ghost) (m : Memory) → Grows k b w m (passing (landing k) w) m
+grows_landed k b w m = grows_cells k b w m (landing k) m.cells (land_class k) (λ i j l. refl) (λ i. refl) (λ s t j e l h. refl) (λ s e. refl)
+
+-- values on their way, in another ghost in which rights are held as before
+pub flown_moved : (d : Tables) (k : ℕ) (w w' : Ghost) (vss : List (List Scalar)) (ts : List RunType) → ((o : Owner) → (o ≡ Nobody → ⊥) → Carries w w' o o)
+    → Flown d w k vss ts → Flown d w' k vss ts
+flown_moved d k w w' [] [] c h = tt
+flown_moved d k w w' (vs ∷ vss) (t ∷ ts) c h =
+    (values_kept d w w' (flying k 0) (flying k 0) vs (flat heap d t) (λ j. c (flying k 0 j) (λ e. cc)) h.0, flown_moved d (suc k) w w' vss ts c h.1)
+flown_moved d k w w' [] (t ∷ ts) c h = absurd h
+flown_moved d k w w' (vs ∷ vss) [] c h = absurd h
+
+-- ---- parameters
+
+-- shapes of parameters are those of their types
+pub all_shaped : (ps : List Part) (ts : List StaticType) → part_shapes ps ≡ map shape_of ts → AreIntegers ts → Shaped ps (map run_type ts)
+all_shaped [] [] e i = tt
+all_shaped (p ∷ ps) (t ∷ ts) e i =
+    let a : p.shape ≡ shape_of t = cc in let c : part_shapes ps ≡ map shape_of ts = cc in
+    (a ∙ sym (Rattle.source_safety.proofs.Sound.shape_renamed (λ (q : NameOf). heap) t), all_shaped ps ts c i.1)
+all_shaped [] (t ∷ ts) e i = absurd cc
+all_shaped (p ∷ ps) [] e i = absurd cc
+
+module _ (d : Tables) (world : World) (tables : typing.Tables) (f : NameOf → Region) (a : ℕ) where
+  -- what is known once all parameters are in scope
+  pub record AllBound (g g' : Env) (scope scope' : Scope) (w : Ghost) (m : Memory) : Type 0 where
+    pub surrounds : Surrounds d world tables g' scope' f
+    pub scene : (b k : ℕ) → Scene d g scope f b k w m → Scene d g' scope' f b k w m
+    pub in_loop : g'.in_loop ≡ g.in_loop
+    pub in_switch : g'.in_switch ≡ g.in_switch
+    pub result : g'.result ≡ g.result
+
+  pub all_bound : (ps : List Part) (ts : List StaticType) (ss : List Spot) (vss : List (List Scalar)) (g : Env) (scope : Scope) (w : Ghost) (m : Memory)
+      → Surrounds d world tables g scope f → scope.frame ≡ a → AreIntegers ts → part_shapes ps ≡ map shape_of ts
+      → Landed d (λ t u. Reached u) a w m ss (map run_type ts) vss → AllBound g (with_all ps ts g) scope (bound_all scope ps ss) w m
+  all_bound [] [] [] [] g scope w m h at_frame i e l = record { surrounds = h; scene = λ b k z. z; in_loop = refl; in_switch = refl; result = refl }
+  all_bound (p ∷ ps) (t ∷ ts) (s ∷ ss) (vs ∷ vss) g scope w m h at_frame i e l =
+      let shape : shape_of t ≡ p.shape = cc in
+      let others : part_shapes ps ≡ map shape_of ts = cc in
+      let there : s.region ≡ Frame scope.frame = l.0 ∙ ap (λ (j : ℕ). Frame j) (sym at_frame) in
+      let laid : Laid w s (flat heap d (renamed f t)) =
+      subst (λ (u : RunType). Laid w s (flat heap d u)) (plain_renamed (λ (q : NameOf). heap) f t (integer_plain t i.0))
+      (full_laid w m s (flat heap d (run_type t)) vs l.1) in
+      let h1 = surrounds_local d world tables g scope f (name_alone p.name) t s h i.0 there in
+      let r : AllBound (extended g (name_alone p.name) t) (with_all ps ts (extended g (name_alone p.name) t)) (with_binding scope p.name (Variable (shape_of t) s))
+      (bound_all (with_binding scope p.name (Variable (shape_of t) s)) ps ss) w m =
+      all_bound ps ts ss vss (extended g (name_alone p.name) t) (with_binding scope p.name (Variable (shape_of t) s)) w m h1 at_frame i.1 others l.2 in
+      subst (λ (y : Shape). AllBound g (with_all ps ts (extended g (name_alone p.name) t)) scope (bound_all (with_binding scope p.name (Variable y s)) ps ss) w m) shape
+      (record {
+        surrounds = r.surrounds;
+        scene = λ b k z. r.scene b k (scene_local d world tables g scope f (name_alone p.name) t s h i.0 there b k w m z laid);
+        in_loop = r.in_loop;
+        in_switch = r.in_switch;
+        result = r.result;
+      })
+  all_bound [] (t ∷ ts) ss vss g scope w m h at_frame i e l = absurd cc
+  all_bound (p ∷ ps) [] ss vss g scope w m h at_frame i e l = absurd cc
+  all_bound [] [] (s ∷ ss) vss g scope w m h at_frame i e l = absurd l
+  all_bound [] [] [] (vs ∷ vss) g scope w m h at_frame i e l = absurd l
+  all_bound (p ∷ ps) (t ∷ ts) [] vss g scope w m h at_frame i e l = absurd l
+  all_bound (p ∷ ps) (t ∷ ts) (s ∷ ss) [] g scope w m h at_frame i e l = absurd l

@@ -1,0 +1,83 @@
+-- Which statements of integers are in order: the judgement of each of their expressions, in the scope where it stands.
+use Rattle.std.specs.Prelude.{◌≡◌, true, ◌||◌, Some, None, ◌∷◌}
+use Rattle.cyc_tree.specs.Tree as tree
+use Rattle.cyc_tree.specs.Tree.{Expression, Initializer, Statement, BlockItems, NoItems, Declare, Execute, TypeName}
+use Rattle.source_meaning.specs.Shapes.{written, settled, settled_by}
+use Rattle.source_typing.specs.Converts.{Converts, IsInteger}
+use Rattle.source_typing.specs.Declarations.{declare}
+use Rattle.source_typing.specs.Expressions.{judge}
+use Rattle.source_typing.specs.Scope.{Env, Value, block_entered}
+use Rattle.source_typing.specs.Statements.{in_a_loop}
+use Rattle.source_typing.specs.Tables.{Stored}
+use Rattle.source_typing.specs.Taken.{integers, taken}
+use Rattle.source_typing.specs.Types.{StaticType, Void, is_testable, shape_of}
+use Rattle.source_typing.specs.Verdicts.{Of}
+use Rattle.source_safety.specs.Operands.{ExpressionHasOperands}
+
+-- an expression of integers that is in order, and what it is
+pub record Accepted (g : Env) (e : Expression) : Type 0 where
+  pub value : Value
+  pub judged : judge g e ≡ Of value
+  pub is_taken : taken integers e ≡ e
+  pub operands : ExpressionHasOperands e
+
+-- a condition
+pub record Condition (g : Env) (e : Expression) : Type 0 where
+  pub accepted : Accepted g e
+  pub testable : is_testable accepted.value.type ≡ true
+
+-- a scope with one more local
+abbrev pub extended : Env → tree.Name → StaticType → Env
+extended g x t = record g { locals = record { name = x.text; what = Stored t g.frame; block = g.block } ∷ g.locals }
+
+-- what is stored, passed or returned as a value of a type
+pub record Fitting (g : Env) (e : Expression) (t : StaticType) : Type 0 where
+  pub accepted : Accepted g e
+  pub converts : Converts g.regions accepted.value.type t
+
+-- a local of an integer, which has its type as it is written
+pub record LocalUnset (g : Env) (of : TypeName) (x : tree.Name) : Type 0 where
+  pub type : StaticType
+  pub integer : IsInteger type
+  pub shape : settled (written of) ≡ shape_of type
+  pub scope : (declare g (tree.Local of x Initializer.Unset)).scope ≡ extended g x type
+
+-- one with an initializer, whose value converts to its type
+pub record LocalSet (g : Env) (of : TypeName) (x : tree.Name) (e : Expression) : Type 0 where
+  pub type : StaticType
+  pub integer : IsInteger type
+  pub fitting : Fitting g e type
+  pub shape : settled_by (written of) (shape_of fitting.accepted.value.type) ≡ shape_of type
+  pub scope : (declare g (tree.Local of x (Initializer.Value e))).scope ≡ extended g x type
+
+abbrev pub DeclarationJudged : Env → tree.Declaration → Type 0
+DeclarationJudged g (tree.Local of x Initializer.Unset) = LocalUnset g of x
+DeclarationJudged g (tree.Local of x (Initializer.Value e)) = LocalSet g of x e
+DeclarationJudged g _ = ⊥
+
+-- a result that converts to the integer that the function gives
+pub record Returned (g : Env) (e : Expression) : Type 0 where
+  pub gives : StaticType
+  pub result : g.result ≡ Some gives
+  pub integer : IsInteger gives
+  pub fitting : Fitting g e gives
+
+-- `return` without a value stands in a function that gives none, `break` and `continue` in a loop
+abbrev mutual
+  pub StatementJudged : Env → Statement → Type 0
+  StatementJudged g (Statement.Empty at) = Unit {0}
+  StatementJudged g (Statement.Block at items) = ItemsJudged (block_entered g) items
+  StatementJudged g (Statement.Run e) = Accepted g e
+  StatementJudged g (Statement.If at e body) = Condition g e × StatementJudged g body
+  StatementJudged g (Statement.IfElse at e body otherwise) = Condition g e × (StatementJudged g body × StatementJudged g otherwise)
+  StatementJudged g (Statement.While at e body) = Condition g e × StatementJudged (in_a_loop g) body
+  StatementJudged g (Statement.Break at) = (g.in_loop || g.in_switch ≡ true)
+  StatementJudged g (Statement.Continue at) = (g.in_loop ≡ true)
+  StatementJudged g (Statement.Return at None) = (g.result ≡ Some Void)
+  StatementJudged g (Statement.Return at (Some e)) = Returned g e
+  StatementJudged g _ = ⊥
+
+  pub ItemsJudged : Env → BlockItems → Type 0
+  ItemsJudged g NoItems = Unit {0}
+  ItemsJudged g (Declare d others) = DeclarationJudged g d × ItemsJudged (declare g d).scope others
+  ItemsJudged g (Execute s others) = StatementJudged g s × ItemsJudged g others

@@ -32,3 +32,5 @@ pub mod Entered
 pub mod First
 pub mod Started
 pub mod Never
+pub mod Same
+pub mod Sample

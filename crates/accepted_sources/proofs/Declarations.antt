@@ -3,6 +3,7 @@ use Rattle.std.proofs.Common.{◌≡◌, ℕ, Bool, true, false, None, List, [],
 use Rattle.std.specs.Prelude.{◌&&◌, ◌++◌, if◌then◌else◌}
 use Rattle.cyc_tree.specs.declared.name.Sign.{Sign}
 use Rattle.cyc_tree.specs.declared.name.Sign.TheVariants as sign
+use Rattle.cyc_tree.specs.Operands.{DeclarationHasOperands}
 use Rattle.cyc_tree.specs.Tree as tree
 use Rattle.cyc_tree.specs.Tree.{TypeName, Initializer, Expression}
 use Rattle.source_lowering.specs.Taken.{IsIntegerBase, IsIntegerType, IsVoidBase, IsVoidType, TakesResult, GivesInteger, GivesNothing}
@@ -29,7 +30,6 @@ use Rattle.source_typing.specs.Types.{StaticType}
 use Rattle.source_typing.specs.Verdicts.{Of, Verdict, faults_of}
 use Rattle.source_typing.proofs.Converting.{and_is}
 use Rattle.source_typing.proofs.Inversion.{none_of_both}
-use Rattle.accepted_sources.specs.Operands.{DeclarationHasOperands}
 use Rattle.accepted_sources.specs.Plain.{IsSound, IsAccepted}
 use Rattle.accepted_sources.specs.Accepted.{base_type, PartsAccepted, DeclarationAccepted}
 use Rattle.accepted_sources.proofs.Expressions.{expression_accepted}

@@ -4,6 +4,7 @@ use Rattle.std.specs.Prelude.{◌&&◌}
 use Rattle.cyc_tree.specs.declared.expression.Operator.{Operator}
 use Rattle.cyc_tree.specs.declared.expression.Prefix.{Prefix}
 use Rattle.cyc_tree.specs.declared.expression.Prefix.TheVariants as prefix
+use Rattle.cyc_tree.specs.Operands.{ExpressionHasOperands, AllHaveOperands, LinksHaveOperands}
 use Rattle.cyc_tree.specs.Tree.{Expression, Expressions, NoExpressions, MoreExpressions, Links, NoLinks, MoreLinks, NoSuffixes, Index, Dot, Arrow, Made}
 use Rattle.source_meaning.specs.Calls.{number_type}
 use Rattle.source_meaning.specs.Expressions.{is_unique_region}
@@ -20,7 +21,6 @@ use Rattle.source_typing.specs.Taken.{all_taken, if_taken, integers, links_taken
 use Rattle.source_typing.specs.Types.{Char, Int, integer_type}
 use Rattle.source_typing.specs.Verdicts.{Of, Verdict, both, faults_of}
 use Rattle.source_typing.proofs.TakenExpressions.{after_clean, both_clean}
-use Rattle.accepted_sources.specs.Operands.{ExpressionHasOperands, AllHaveOperands, LinksHaveOperands}
 use Rattle.accepted_sources.specs.Plain.{IsSound, IsAccepted, IsPlain, PlainInt, PlainUnsigned, PlainChar}
 use Rattle.accepted_sources.proofs.PlainTypes.{GivesValue, integer_plain, plain_assigned, prefixed_clean, applied_clean, tested_clean}
 use Rattle.accepted_sources.proofs.Names.{

@@ -2,6 +2,7 @@
 use Rattle.std.proofs.Common.{◌≡◌, ℕ, Bool, true, Option, Some, None, List, [], ◌∷◌, refl, sym, ap, ◌∙◌}
 use Rattle.std.proofs.lemmas.Bool.{not-true}
 use Rattle.std.specs.Prelude.{not}
+use Rattle.cyc_tree.specs.Operands.{ItemsHaveOperands}
 use Rattle.cyc_tree.specs.Tree as tree
 use Rattle.cyc_tree.specs.Tree.{TypeName}
 use Rattle.source_meaning.specs.Shapes.{VoidShape, written, settled}
@@ -14,7 +15,6 @@ use Rattle.source_typing.specs.Tables.{Stored, Tables}
 use Rattle.source_typing.specs.Taken.{function_taken, integers}
 use Rattle.source_typing.specs.Types.{StaticType, Void}
 use Rattle.source_typing.proofs.Inversion.{none_of_both, own_is, test_is}
-use Rattle.accepted_sources.specs.Operands.{ItemsHaveOperands}
 use Rattle.accepted_sources.specs.Plain.{AllSound, AreIntegerTypes, IsSound, IsSoundSignature}
 use Rattle.accepted_sources.specs.Accepted.{IsFunction, IsHead, base_type}
 use Rattle.accepted_sources.proofs.Declarations.{by_nothing, local_sound, local_result}

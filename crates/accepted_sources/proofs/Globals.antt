@@ -36,7 +36,7 @@ use Rattle.accepted_sources.proofs.Declarations.{type_plain, by_base, by_nothing
 -- ---- types and constants
 
 -- a global by its parts
-abbrev global_of : TypeName → tree.Name → Initial → tree.Global
+abbrev pub global_of : TypeName → tree.Name → Initial → tree.Global
 global_of t x i = record { of = t; name = x; initial = i }
 
 pub global_integer : (g : Env) (x : tree.Global) → IsIntegerType x.of → TakesInitial x.initial → global_type g x ≡ Of (base_type x.of.base)

@@ -11,4 +11,15 @@ pub mod Sizes
 pub mod Tags
 pub mod Strings
 pub mod Programs
+pub mod StillStates
+pub mod IntegerNames
+pub mod IdleExpressions
+pub mod StillStatements
+pub mod IntegerHeads
+pub mod IntegerFlow
+pub mod NoFlow
+pub mod RefusedTags
+pub mod TakenStrings
+pub mod TakenSizes
+pub mod TakenTables
 mod Samples

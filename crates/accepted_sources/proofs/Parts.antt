@@ -5,6 +5,7 @@ use Rattle.std.specs.Prelude.{◌||◌, length}
 use Rattle.cyc_tree.specs.declared.expression.Operator.{Operator}
 use Rattle.cyc_tree.specs.declared.expression.Prefix.{Prefix}
 use Rattle.cyc_tree.specs.declared.expression.Prefix.TheVariants as prefix
+use Rattle.cyc_tree.specs.Operands.{ExpressionHasOperands, AllHaveOperands, LinksHaveOperands}
 use Rattle.cyc_tree.specs.Tree.{Expression, Expressions, NoExpressions, MoreExpressions, Links, NoLinks, MoreLinks}
 use Rattle.source_lowering.specs.Taken.{TakesPrefix}
 use Rattle.source_typing.specs.Calls.{Target, ToBuiltin, ToFunction, ToStruct, arguments_fit, builtin_parameters, call_entered, called, target}
@@ -24,7 +25,6 @@ use Rattle.source_typing.proofs.Inversion.{after_is, both_is, call_is, of_is}
 use Rattle.source_typing.proofs.OperatorsFit.{Operates, OnIntegers, OnFat, WithNull, NullWith, OnThin, applied_is, tested_both_is, tested_is, signed_is}
 use Rattle.source_typing.proofs.PlacesFit.{assigned_is}
 use Rattle.source_typing.proofs.TakenExpressions.{after_clean, both_clean}
-use Rattle.accepted_sources.specs.Operands.{ExpressionHasOperands, AllHaveOperands, LinksHaveOperands}
 use Rattle.accepted_sources.specs.Plain.{AreIntegerTypes, IsSound, IsAccepted, IsPlain, PlainInt, PlainUnsigned, PlainChar, PlainVoid}
 use Rattle.accepted_sources.specs.Accepted.{IsIntegerAt, PartsAccepted, AreIntegersIn, LinksAreIntegers}
 use Rattle.accepted_sources.proofs.PlainTypes.{GivesValue, integer_plain, plain_renamed, testable_integer}

@@ -1,6 +1,7 @@
 -- A program of integers in which the rules find no fault: lowering takes it, and each of its expressions is judged.
 use Rattle.std.proofs.Common.{◌≡◌, ℕ, suc, false, List, [], ◌∷◌, subst}
 use Rattle.std.specs.Prelude.{◌++◌, codes}
+use Rattle.cyc_tree.specs.Operands.{HasOperands}
 use Rattle.cyc_tree.specs.Tree as tree
 use Rattle.cyc_tree.specs.Tree.{Item, Program}
 use Rattle.source_lowering.specs.Taken.{TakesProgram}
@@ -31,7 +32,6 @@ use Rattle.source_typing.proofs.Inversion.{none_of_both}
 use Rattle.source_typing.proofs.TakenItems.{program_is_taken}
 use Rattle.accepted_sources.specs.Accepted.{AllAccepted, IsGlobal, IsInOrder}
 use Rattle.accepted_sources.specs.Laws.{AcceptedIsInOrder, AcceptedIsLowerable}
-use Rattle.accepted_sources.specs.Operands.{HasOperands}
 use Rattle.accepted_sources.specs.Plain.{AllSound}
 use Rattle.accepted_sources.proofs.Functions.{IsClean, function_accepted, function_clean, function_takes}
 use Rattle.accepted_sources.proofs.Globals.{entry_sound, global_accepted}

@@ -2,15 +2,17 @@
 use Rattle.std.proofs.Common.{◌≡◌, false, Some, [], ◌∷◌, refl}
 use Rattle.cyc_tree.specs.declared.expression.Operator.TheVariants.{Less, Add, Multiply, Divide, GreaterEqual}
 use Rattle.cyc_tree.specs.declared.expression.Prefix.TheVariants.{Not}
+use Rattle.cyc_tree.specs.Operands.{HasOperands}
 use Rattle.cyc_tree.specs.Tree as tree
 use Rattle.cyc_tree.specs.Tree.{Expression, NoExpressions, MoreExpressions, NoLinks, MoreLinks, Initializer, Statement, NoItems, Constant, Initial, Program}
 use Rattle.source_meaning.proofs.Trees.{named, variable, number, typed, ◌▸◌, ◌▹◌, function}
 use Rattle.source_lowering.specs.Taken.{IsLowerable}
 use Rattle.source_typing.specs.Answers.{program_faults}
-use Rattle.source_typing.specs.Faults.{fault, type_rule}
-use Rattle.source_typing.specs.Taken.{integers}
-use Rattle.accepted_sources.specs.Operands.{HasOperands}
+use Rattle.source_typing.specs.Faults.{copy_rule, fault, type_rule}
+use Rattle.source_typing.specs.Left.{flow_faults}
+use Rattle.source_typing.specs.Taken.{integers, only_taken}
 use Rattle.accepted_sources.specs.Accepted.{IsInOrder}
+use Rattle.accepted_sources.proofs.IntegerFlow.{integers_have_no_flow_faults}
 use Rattle.accepted_sources.proofs.Programs.{accepted_is_in_order, accepted_is_lowerable}
 
 -- char g = 321; void put(char c) { putchar(c); }
@@ -92,3 +94,17 @@ unjudged =
 
 unjudged_faulty : program_faults integers unjudged ≡ fault type_rule 0 ∷ []
 unjudged_faulty = refl
+
+-- int main() { ufree(p); }
+-- Of the program as it stands, flow finds that a pointer is freed that is no local; with forms on integers alone it finds nothing.
+abbrev freeing : Program
+freeing =
+    tree.FunctionItem (function (typed tree.Int []) (named "main") [] (
+    (Statement.FreeUnique 7 (named "p")) ▸
+    NoItems)) ∷ []
+
+freeing_faulty : flow_faults freeing ≡ fault copy_rule 7 ∷ []
+freeing_faulty = refl
+
+freeing_clean : flow_faults (only_taken integers freeing) ≡ []
+freeing_clean = integers_have_no_flow_faults freeing

@@ -1,6 +1,7 @@
 -- A statement without fault, where all is known of each name in scope: each of its expressions is judged, and lowering takes it.
 use Rattle.std.proofs.Common.{◌≡◌, ℕ, Bool, true, false, Some, None, [], refl, sym, subst, ap, ◌∙◌}
 use Rattle.std.specs.Prelude.{◌&&◌, ◌||◌, ◌++◌}
+use Rattle.cyc_tree.specs.Operands.{ExpressionHasOperands, StatementHasOperands, ItemsHaveOperands}
 use Rattle.cyc_tree.specs.Places.{expression_place}
 use Rattle.cyc_tree.specs.Tree as tree
 use Rattle.cyc_tree.specs.Tree.{Expression, Initializer, Statement, BlockItems, NoItems, Declare, Execute}
@@ -18,7 +19,6 @@ use Rattle.source_typing.specs.Verdicts.{Faulty, Of, Unjudged, Verdict, after, f
 use Rattle.source_typing.specs.Ways.{ways_of}
 use Rattle.source_typing.proofs.Inversion.{none_of_both, test_is}
 use Rattle.source_typing.proofs.TakenExpressions.{after_clean}
-use Rattle.accepted_sources.specs.Operands.{ExpressionHasOperands, StatementHasOperands, ItemsHaveOperands}
 use Rattle.accepted_sources.specs.Plain.{IsSound, IsAccepted, IsPlain, PlainInt, PlainUnsigned, PlainChar, PlainVoid}
 use Rattle.accepted_sources.specs.Accepted.{IsIntegerIn, DeclarationAccepted, ReturnAccepted, StatementAccepted, ItemsAccepted}
 use Rattle.accepted_sources.proofs.Expressions.{expression_accepted}

@@ -22,7 +22,6 @@ use Rattle.cyc_tree.specs.Tree.{
 }
 use Rattle.source_meaning.specs.Shapes.{Shape, settled, written}
 use Rattle.source_meaning.specs.Strings.{
-  Literal,
   constant_strings,
   declaration_strings,
   expression_strings,
@@ -48,7 +47,7 @@ use Rattle.source_lowering.specs.Taken.{
   TakesStatement,
 }
 
-no_more : (xs ys : List Literal) → xs ≡ [] → ys ≡ [] → xs ++ ys ≡ []
+pub no_more : {A : Type 0} (xs ys : List A) → xs ≡ [] → ys ≡ [] → xs ++ ys ≡ []
 no_more [] ys a b = b
 no_more (x ∷ xs) ys a b = absurd cc
 

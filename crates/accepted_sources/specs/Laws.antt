@@ -1,11 +1,12 @@
 -- What holds of all programs of integers in which the rules find no fault.
 use Rattle.std.specs.Prelude.{◌≡◌, []}
+use Rattle.cyc_tree.specs.Operands.{HasOperands}
 use Rattle.cyc_tree.specs.Tree.{Program}
 use Rattle.source_lowering.specs.Taken.{IsLowerable}
 use Rattle.source_typing.specs.Answers.{program_faults}
-use Rattle.source_typing.specs.Taken.{integers}
+use Rattle.source_typing.specs.Left.{flow_faults}
+use Rattle.source_typing.specs.Taken.{integers, only_taken}
 use Rattle.accepted_sources.specs.Accepted.{IsInOrder}
-use Rattle.accepted_sources.specs.Operands.{HasOperands}
 
 -- lowering takes each
 abbrev pub AcceptedIsLowerable : Type 0
@@ -14,3 +15,7 @@ AcceptedIsLowerable = (p : Program) → HasOperands p → program_faults integer
 -- each expression of each is judged, in the scope where it stands
 abbrev pub AcceptedIsInOrder : Type 0
 AcceptedIsInOrder = (p : Program) → HasOperands p → program_faults integers p ≡ [] → IsInOrder p
+
+-- Each form that isn't taken stands as one that is at fault. Then flow finds no fault in any program, also where other rules do.
+abbrev pub IntegersHaveNoFlowFaults : Type 0
+IntegersHaveNoFlowFaults = (p : Program) → flow_faults (only_taken integers p) ≡ []

@@ -1,4 +1,3 @@
-pub mod Operands
 pub mod Plain
 pub mod Accepted
 pub mod Laws

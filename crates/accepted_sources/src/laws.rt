@@ -1,6 +1,6 @@
 // What holds of all programs of integers in which the rules find no fault.
 
-ghost use Rattle.accepted_sources.specs.Laws.{AcceptedIsInOrder, AcceptedIsLowerable};
+ghost use Rattle.accepted_sources.specs.Laws.{AcceptedIsInOrder, AcceptedIsLowerable, IntegersHaveNoFlowFaults};
 
 /// A law, with nothing to run: a program in which the rules on functions and globals of integers find
 /// no fault is one that lowering takes, if its tree has the operands that each text's tree has.
@@ -12,4 +12,10 @@ pub fn accepted_is_lowerable()
 /// judged in the scope where it stands: it is an integer, or nothing, as the call of a function without result is.
 pub fn accepted_is_in_order()
     ensures { AcceptedIsInOrder }
+{}
+
+/// A law, with nothing to run: no program, also none with other faults, has a fault of flow
+/// where each form but those on integers stands as one that is at fault.
+pub fn integers_have_no_flow_faults()
+    ensures { IntegersHaveNoFlowFaults }
 {}

@@ -2,6 +2,7 @@
 use Rattle.std.specs.Prelude.{nat_le, not, ◌||◌, bytes_eq, codes, map}
 use Rattle.std.proofs.Common.{◌≡◌, ℕ, suc, ◌+◌, ◌*◌, ◌/◌, ◌%◌, ◌^◌, ◌≤◌, Bool, true, false, List, [], ◌∷◌, ◌++◌, refl, sym, ap, subst, ◌∙◌, arith}
 use Rattle.std.proofs.lemmas.Bool.{leb-true}
+use Rattle.cyc_tree.specs.Operands.{HasOperands}
 use Rattle.cyc_tree.specs.Tree as tree
 use Rattle.cyc_tree.specs.Tree.{Item, Program}
 use Rattle.source_meaning.specs.Shapes.{Shape, written, settled}
@@ -24,7 +25,6 @@ use Rattle.source_typing.specs.Tables.{Tables}
 use Rattle.source_typing.specs.Taken.{integers}
 use Rattle.source_typing.proofs.Inversion.{test_is, none_of_both}
 use Rattle.accepted_sources.specs.Accepted.{AllAccepted}
-use Rattle.accepted_sources.specs.Operands.{HasOperands}
 use Rattle.accepted_sources.proofs.Declarations.{by_base}
 use Rattle.accepted_sources.proofs.Programs.{accepted_is_in_order}
 use Rattle.accepted_sources.proofs.Sizes.{base_bytes, global_bytes}

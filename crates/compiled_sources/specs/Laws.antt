@@ -1,12 +1,12 @@
 -- What holds of all programs of integers.
 use Rattle.std.specs.Prelude.{◌≡◌, ◌≤◌, ◌^◌, []}
+use Rattle.cyc_tree.specs.Operands.{HasOperands}
 use Rattle.cyc_tree.specs.Tree.{Program}
 use Rattle.source_meaning.specs.Programs.{world_of}
 use Rattle.source_lowering.specs.Taken.{IsLowerable}
 use Rattle.source_lowering.specs.Programs.{program_code}
 use Rattle.source_typing.specs.Answers.{program_faults}
 use Rattle.source_typing.specs.Taken.{integers}
-use Rattle.accepted_sources.specs.Operands.{HasOperands}
 use Rattle.core_frames.specs.Running.{data_end}
 use Rattle.compiled_sources.specs.Promise.{AreNamedApart, IntegersDo}
 

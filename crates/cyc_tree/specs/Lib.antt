@@ -1,6 +1,7 @@
 pub mod Tree
 pub mod View
 pub mod Places
+pub mod Operands
 pub mod Depths
 pub mod StoredNames
 pub mod Stored

@@ -2,6 +2,7 @@
 use Rattle.std.proofs.Common.{◌≡◌, ℕ, Bool, true, false, inl, inr, Option, Some, None, List, [], ◌∷◌, refl, sym, ◌∙◌, ap, subst}
 use Rattle.std.specs.Prelude.{map, ◌&&◌, ◌^◌, ◌-◌, bytes_eq, codes, nat_eq, length, if◌then◌else◌}
 use Rattle.std.proofs.lemmas.Bool.{eqb-true}
+use Rattle.cyc_tree.specs.Operands.{ExpressionHasOperands, AllHaveOperands, LinksHaveOperands, AreSome}
 use Rattle.cyc_tree.specs.Tree.{Expression, Expressions, NoExpressions, MoreExpressions, Links, NoLinks, MoreLinks, NoSuffixes, Index, Dot, Arrow, Made}
 use Rattle.cyc_tree.specs.declared.expression.Operator.TheVariants.{Subtract, BitXor}
 use Rattle.cyc_tree.specs.declared.expression.Prefix.{Prefix}
@@ -29,7 +30,6 @@ use Rattle.source_typing.proofs.Inversion.{of_is, after_is, both_is, unless_is, 
 use Rattle.source_typing.proofs.OperatorsFit.{tested_both_is}
 use Rattle.source_typing.proofs.CallsFit.{Arguments, arguments_are, Entered, entered_is}
 use Rattle.source_safety.specs.Flat.{Tables}
-use Rattle.source_safety.specs.Operands.{ExpressionHasOperands, AllHaveOperands, LinksHaveOperands, AreSome}
 use Rattle.source_safety.proofs.Arguments.{Agrees}
 use Rattle.source_safety.proofs.Names.{NameOf}
 use Rattle.source_safety.proofs.Scenes.{Binds}

@@ -1,5 +1,6 @@
 -- Which statements of integers are in order: the judgement of each of their expressions, in the scope where it stands.
 use Rattle.std.specs.Prelude.{◌≡◌, true, ◌||◌, Some, None, ◌∷◌}
+use Rattle.cyc_tree.specs.Operands.{ExpressionHasOperands}
 use Rattle.cyc_tree.specs.Tree as tree
 use Rattle.cyc_tree.specs.Tree.{Expression, Initializer, Statement, BlockItems, NoItems, Declare, Execute, TypeName}
 use Rattle.source_meaning.specs.Shapes.{written, settled, settled_by}
@@ -12,7 +13,6 @@ use Rattle.source_typing.specs.Tables.{Stored}
 use Rattle.source_typing.specs.Taken.{integers, taken}
 use Rattle.source_typing.specs.Types.{StaticType, Void, is_testable, shape_of}
 use Rattle.source_typing.specs.Verdicts.{Of}
-use Rattle.source_safety.specs.Operands.{ExpressionHasOperands}
 
 -- an expression of integers that is in order, and what it is
 pub record Accepted (g : Env) (e : Expression) : Type 0 where

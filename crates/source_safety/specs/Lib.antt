@@ -1,5 +1,4 @@
 pub mod Flat
-pub mod Operands
 pub mod Judged
 pub mod Entries
 pub mod Programs

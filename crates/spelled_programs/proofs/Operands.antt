@@ -1,6 +1,8 @@
 -- A program that tokens spell has operands wherever an operator joins some, and suffixes in each form that has them.
 use Rattle.std.proofs.Common.{ℕ, List, [], ◌∷◌, Some, None}
 use Rattle.cyc_lexer.specs.declared.token.Sign.{Sign}
+use Rattle.cyc_tree.specs.Operands.{ExpressionHasOperands, AllHaveOperands, LinksHaveOperands, SuffixesHaveOperands, MadeHasOperands}
+use Rattle.cyc_tree.specs.Operands.{DeclarationHasOperands, StatementHasOperands, ItemsHaveOperands, ClausesHaveOperands, HasOperands}
 use Rattle.cyc_tree.specs.Tree as tree
 use Rattle.cyc_tree.specs.Tree.{Expression, Expressions, NoExpressions, MoreExpressions, Links, NoLinks, MoreLinks, Suffixes, NoSuffixes, Index, Dot, Arrow}
 use Rattle.cyc_tree.specs.Tree.{Made, One, Array, Declaration, BlockItems, NoItems, Declare, Execute, Clauses, NoClauses, MoreClauses, Item, Program}
@@ -8,8 +10,6 @@ use Rattle.cyc_parser.specs.Phrases.{Tokens, Each}
 use Rattle.cyc_parser.specs.ExpressionGrammar.{IsExpression, AreArguments, AreOperands, AreLinks, AreSuffixes, IsMade}
 use Rattle.cyc_parser.specs.StatementGrammar.{IsDeclaration, IsStatement, AreItems, AreClauses}
 use Rattle.cyc_parser.specs.Grammar.{IsItem, IsProgram}
-use Rattle.accepted_sources.specs.Operands.{ExpressionHasOperands, AllHaveOperands, LinksHaveOperands, SuffixesHaveOperands, MadeHasOperands}
-use Rattle.accepted_sources.specs.Operands.{DeclarationHasOperands, StatementHasOperands, ItemsHaveOperands, ClausesHaveOperands, HasOperands}
 
 -- ---- expressions
 

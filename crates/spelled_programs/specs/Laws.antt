@@ -1,10 +1,10 @@
 -- What holds of all programs that are spelled.
 use Rattle.std.specs.Prelude.{◌≤◌, length}
+use Rattle.cyc_tree.specs.Operands.{HasOperands}
 use Rattle.cyc_tree.specs.Tree.{Program}
 use Rattle.cyc_parser.specs.Phrases.{Tokens}
 use Rattle.cyc_parser.specs.Grammar.{IsProgram}
 use Rattle.source_meaning.specs.Programs.{world_of}
-use Rattle.accepted_sources.specs.Operands.{HasOperands}
 use Rattle.source_lowering.specs.Bounds.{routines_size}
 
 -- a program has at least so many tokens as its functions are large

@@ -1,0 +1,145 @@
+-- An expression does nothing to the states of locals, where each form that isn't taken stands as a fault: no local has a state.
+use Rattle.std.proofs.Common.{◌≡◌, ℕ, Bool, true, false, Option, Some, None, [], refl, sym, subst, ap, ap₂}
+use Rattle.std.specs.Prelude.{not, ◌&&◌}
+use Rattle.cyc_tree.specs.declared.expression.Prefix.TheVariants as prefix
+use Rattle.cyc_tree.specs.Tree as tree
+use Rattle.cyc_tree.specs.Tree.{
+  Arrow,
+  Dot,
+  Expression,
+  Expressions,
+  Index,
+  Links,
+  Made,
+  MoreExpressions,
+  MoreLinks,
+  NoExpressions,
+  NoLinks,
+  NoSuffixes,
+}
+use Rattle.source_meaning.specs.Expressions.{is_unique_region}
+use Rattle.source_typing.specs.Converts.{IsInteger}
+use Rattle.source_typing.specs.Flow.{use_all, use_links, use_of, use_tests}
+use Rattle.source_typing.specs.Moves.{applied_use, assigned_use, if_moved, is_moved, local_use, nothing, place_use, tested_use, use_of_local, use_of_name}
+use Rattle.source_typing.specs.Moves.{value_use}
+use Rattle.source_typing.specs.Places.{variable}
+use Rattle.source_typing.specs.Scope.{Env, Local, Value, find_local}
+use Rattle.source_typing.specs.States.{States, passed, then_passed}
+use Rattle.source_typing.specs.Tables.{
+  Arrayed,
+  Counter,
+  Entry,
+  OfBuiltin,
+  OfFunction,
+  OfOther,
+  OfTag,
+  OfValue,
+  Stored,
+  Tables,
+  Unknown,
+  What,
+  find,
+  is_copyable,
+}
+use Rattle.source_typing.specs.Taken.{all_taken, if_taken, integers, links_taken, made_taken, taken, takes_handle, takes_made}
+use Rattle.source_typing.specs.Types.{Char, Int, StaticType, Unsigned}
+use Rattle.source_typing.specs.Verdicts.{other_kind}
+use Rattle.accepted_sources.proofs.IntegerNames.{
+  FindsInteger,
+  FindsNoOtherValue,
+  HasIntegersAlone,
+  IsIntegerOrUnknown,
+  entry_found,
+  local_found,
+}
+use Rattle.accepted_sources.proofs.StillStates.{idle, tested_idle}
+
+-- ---- names
+
+copied_integer : (g : Tables) (t : StaticType) → IsInteger t → is_copyable g t ≡ true
+copied_integer g Int h = refl
+copied_integer g Unsigned h = refl
+copied_integer g Char h = refl
+copied_integer g _ h = absurd cc
+
+what_idle : (g : Env) (x : tree.Name) (w : What) → IsIntegerOrUnknown w → use_of_local g x w ≡ idle
+what_idle g x (Stored t r) h = ap (λ b. if_moved (not b) (local_use g.locals x)) (copied_integer g.tables t h)
+what_idle g x (Arrayed t r) h = absurd h
+what_idle g x Counter h = absurd h
+what_idle g x Unknown h = refl
+
+other_stays : (g : Env) (b : Bool) (at : ℕ) → is_moved g (other_kind {A = Value} b at) ≡ false
+other_stays g true at = refl
+other_stays g false at = refl
+
+entry_stays : (g : Env) (at : ℕ) (e : Option Entry) → FindsNoOtherValue e → is_moved g (variable at e) ≡ false
+entry_stays g at None h = refl
+entry_stays g at (Some (OfValue (Stored t r))) h = ap (λ b. not b) (copied_integer g.tables t h)
+entry_stays g at (Some (OfValue (Arrayed t r))) h = absurd h
+entry_stays g at (Some (OfValue Counter)) h = absurd h
+entry_stays g at (Some (OfValue Unknown)) h = refl
+entry_stays g at (Some (OfTag t)) h = other_stays g t.sound at
+entry_stays g at (Some (OfFunction s)) h = other_stays g s.sound at
+entry_stays g at (Some (OfBuiltin n)) h = refl
+entry_stays g at (Some OfOther) h = refl
+
+name_idle : (g : Env) (x : tree.Name) → HasIntegersAlone g → use_of_name g x (find_local g.locals x.text) ≡ idle
+name_idle g x h = by (find_local g.locals x.text) (local_found g.locals x.text h.0)
+  where
+    by : (l : Option Local) → FindsInteger l → use_of_name g x l ≡ idle
+    by None k =
+        ap (λ b. place_use x.at b false nothing) (entry_stays g x.at (find g.tables x.text) (entry_found g.tables x.text h.1))
+    by (Some l) k = what_idle g x l.what k
+
+-- ---- expressions
+
+-- a making is none that is taken
+made_idle : (g : Env) (b : Bool) (at : ℕ) (h : Expression) (new : Made)
+    → use_of g (if_taken (takes_handle integers b && takes_made integers new) at (Expression.NewIn at (taken integers h) (made_taken integers new))) ≡ idle
+made_idle g true at h new = refl
+made_idle g false at h new = refl
+
+mutual
+  pub use_idle : (e : Expression) (g : Env) → HasIntegersAlone g → use_of g (taken integers e) ≡ idle
+  use_idle (Expression.Number at n suffix) g h = refl
+  use_idle (Expression.Character at byte) g h = refl
+  use_idle (Expression.Text at bytes) g h = refl
+  use_idle (Expression.Null at) g h = refl
+  use_idle (Expression.HeapRegion at) g h = refl
+  use_idle (Expression.UniqueRegion at) g h = refl
+  use_idle (Expression.Variable x) g h = name_idle g x h
+  use_idle (Expression.Call x es) g h = ap (λ act. value_use act) (λ i s. arguments_idle es g h s i)
+  use_idle (Expression.MakeUnion tag f e) g h = refl
+  use_idle (Expression.NumElts at e) g h = refl
+  use_idle (Expression.Grouped at e) g h = use_idle e g h
+  use_idle (Expression.Suffixed e NoSuffixes) g h = use_idle e g h
+  use_idle (Expression.Suffixed e (Index index others)) g h = refl
+  use_idle (Expression.Suffixed e (Dot f others)) g h = refl
+  use_idle (Expression.Suffixed e (Arrow f others)) g h = refl
+  use_idle (Expression.Prefixed at prefix.Negate e) g h = ap (λ u. value_use u.look) (use_idle e g h)
+  use_idle (Expression.Prefixed at prefix.Not e) g h = ap (λ u. value_use u.look) (use_idle e g h)
+  use_idle (Expression.Prefixed at prefix.Complement e) g h = ap (λ u. value_use u.look) (use_idle e g h)
+  use_idle (Expression.Prefixed at prefix.Dereference e) g h = refl
+  use_idle (Expression.Prefixed at prefix.AddressOf e) g h = refl
+  use_idle (Expression.New at new) g h = refl
+  use_idle (Expression.NewIn at handle new) g h = made_idle g (is_unique_region handle) at handle new
+  use_idle (Expression.Chain e es) g h = subst (λ u. use_links g u (links_taken integers es) ≡ idle) (sym (use_idle e g h)) (links_idle es g h)
+  use_idle (Expression.AllOf e es) g h = subst (λ u. use_tests g u (all_taken integers es) ≡ idle) (sym (use_idle e g h)) (tests_idle es g h)
+  use_idle (Expression.AnyOf e es) g h = subst (λ u. use_tests g u (all_taken integers es) ≡ idle) (sym (use_idle e g h)) (tests_idle es g h)
+  use_idle (Expression.Assign a b) g h = ap₂ (λ u v. assigned_use u v) (use_idle a g h) (use_idle b g h)
+
+  arguments_idle : (es : Expressions) (g : Env) → HasIntegersAlone g → (s : States) → use_all g (all_taken integers es) s ≡ passed [] s
+  arguments_idle NoExpressions g h s = refl
+  arguments_idle (MoreExpressions e es) g h s =
+      subst (λ u. then_passed (u.value s) (λ t. use_all g (all_taken integers es) t) ≡ passed [] s) (sym (use_idle e g h)) (arguments_idle es g h s)
+
+  tests_idle : (es : Expressions) (g : Env) → HasIntegersAlone g → use_tests g idle (all_taken integers es) ≡ idle
+  tests_idle NoExpressions g h = refl
+  tests_idle (MoreExpressions e es) g h =
+      subst (λ u. use_tests g (tested_use idle u) (all_taken integers es) ≡ idle) (sym (use_idle e g h))
+      (subst (λ u. use_tests g u (all_taken integers es) ≡ idle) (sym tested_idle) (tests_idle es g h))
+
+  links_idle : (es : Links) (g : Env) → HasIntegersAlone g → use_links g idle (links_taken integers es) ≡ idle
+  links_idle NoLinks g h = refl
+  links_idle (MoreLinks o e es) g h =
+      subst (λ u. use_links g (applied_use idle u) (links_taken integers es) ≡ idle) (sym (use_idle e g h)) (links_idle es g h)

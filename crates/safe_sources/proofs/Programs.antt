@@ -1,0 +1,221 @@
+-- A program of integers in which the rules find no fault is in order by the rules' own tables: so it is never stuck, and has its `main`.
+use Rattle.std.specs.Prelude.{bytes_eq, codes, if◌then◌else◌, length}
+use Rattle.std.proofs.Common.{◌≡◌, ℕ, ◌<◌, Bool, true, false, inl, inr, Option, Some, List, [], ◌∷◌, ◌++◌, refl, sym, subst, ap, ◌∙◌}
+use Rattle.std.proofs.lemmas.List.{length-map}
+use Rattle.std.proofs.lemmas.Slice.Eq.{bytes_eq-Decides}
+use Rattle.cyc_tree.specs.Operands.{HasOperands}
+use Rattle.cyc_tree.specs.Tree as tree
+use Rattle.cyc_tree.specs.Tree.{Program}
+use Rattle.source_meaning.specs.Steps.{World}
+use Rattle.source_meaning.specs.Programs.{routine_of, world_of}
+use Rattle.source_lowering.specs.Programs.{function_code, program_code}
+use Rattle.source_typing.specs.Answers.{program_faults}
+use Rattle.source_typing.specs.Functions.{head_of}
+use Rattle.source_typing.specs.Programs.{
+  all_tag_faults,
+  builtins,
+  entries,
+  entries_with,
+  faults_with,
+  items_from,
+  judged_tags,
+  main_found,
+  second_names,
+  size_faults,
+  tables_of,
+}
+use Rattle.source_typing.specs.Regions.{Region}
+use Rattle.source_typing.specs.Tables.{
+  Arrayed,
+  Counter,
+  Entry,
+  OfBuiltin,
+  OfFunction,
+  OfOther,
+  OfTag,
+  OfValue,
+  Signature,
+  Stored,
+  Tables,
+  Unknown,
+  find,
+}
+use Rattle.source_typing.specs.Taken.{integers}
+use Rattle.source_typing.specs.Types.{StaticType}
+use Rattle.source_typing.proofs.Inversion.{none_of_both}
+use Rattle.source_typing.proofs.TakenItems.{program_is_taken}
+use Rattle.accepted_sources.specs.Accepted.{IsInOrder, base_type}
+use Rattle.accepted_sources.specs.Plain.{IsSoundEntry}
+use Rattle.accepted_sources.proofs.Names.{MeansSound, found_sound}
+use Rattle.accepted_sources.proofs.Programs.{accepted_is_in_order, no_typing_faults}
+use Rattle.source_safety.specs.Entries.{Builtin, Function, PlainEntry}
+use Rattle.source_safety.specs.Programs.{FunctionJudged, GlobalFound, MainFound, ProgramJudged}
+use Rattle.source_safety.proofs.Never.{never_stuck}
+use Rattle.source_safety.proofs.Same.{judged_same}
+use Rattle.safe_sources.specs.Laws.{AcceptedIsNeverStuck, HasMain}
+use Rattle.safe_sources.proofs.Bodies.{FunctionNamed, function_is, function_judged}
+use Rattle.safe_sources.proofs.HeadFacts.{parameter_types}
+use Rattle.safe_sources.proofs.Found.{AllKnown, FunctionFound, VariableFound, all_known, find_function, find_variable, globals_judged, no_builtin, no_structs}
+use Rattle.safe_sources.proofs.Main.{MainHere, find_main, judged_length, number_below}
+
+-- ---- texts
+
+-- two texts are compared alike from both sides
+swapped : (xs ys : List ℕ) (b : Bool) → bytes_eq xs ys ≡ b → bytes_eq ys xs ≡ b
+swapped xs ys true e = (bytes_eq-Decides ys xs).1 (sym ((bytes_eq-Decides xs ys).0 e))
+swapped xs ys false e = by (bytes_eq ys xs) refl
+  where
+    by : (c : Bool) → bytes_eq ys xs ≡ c → c ≡ false
+    by false p = refl
+    by true p = let q : bytes_eq xs ys ≡ true = (bytes_eq-Decides xs ys).1 (sym ((bytes_eq-Decides ys xs).0 p)) in sym q ∙ e
+
+-- ---- a program in order, by its own tables
+
+-- where a name is found among the items, it is none of the two functions that every program has
+record IsOwn (es : Tables) (x : List ℕ) (e : Entry) : Type 0 where
+  own : find es x ≡ Some e
+  not_read : bytes_eq x (codes "getchar") ≡ false
+  not_written : bytes_eq x (codes "putchar") ≡ false
+
+-- the entry of a name, by which of those two functions it is
+abbrev entry_by : Tables → List ℕ → Bool → Bool → Option Entry
+entry_by es x a c = (if a then Some (OfBuiltin 0) else (if c then Some (OfBuiltin 1) else find es x))
+
+module _ (p : Program) (o : HasOperands p) (e : program_faults integers p ≡ []) where
+  abbrev tables : Tables
+  tables = tables_of false p
+
+  abbrev heads : Tables
+  heads = builtins (entries (judged_tags p))
+
+  abbrev items : Tables
+  items = entries_with false heads 0 (judged_tags p) p
+
+  abbrev world : World
+  world = world_of p
+
+  order : IsInOrder p
+  order = accepted_is_in_order p o e
+
+  items_clean : items_from false tables 0 p ≡ []
+  items_clean =
+      let seconds = second_names (codes "getchar" ∷ codes "putchar" ∷ []) p in
+      let a = none_of_both (all_tag_faults (judged_tags p)) (faults_with false tables p) (no_typing_faults p e) in
+      let b = none_of_both ((seconds ++ items_from false tables 0 p) ++ main_found p) (size_faults false tables p) a.1 in
+      let c = none_of_both (seconds ++ items_from false tables 0 p) (main_found p) b.0 in
+      (none_of_both seconds (items_from false tables 0 p) c.0).1
+
+  known : AllKnown tables 0 p
+  known = all_known tables 0 p order.items (program_is_taken integers p e) o items_clean
+
+  structs : world.structs ≡ []
+  structs = no_structs tables 0 p [] known
+
+  -- ---- names
+
+  function_own : (x : List ℕ) (s : Signature) → find tables x ≡ Some (OfFunction s) → IsOwn items x (OfFunction s)
+  function_own x s h = by (bytes_eq (codes "getchar") x) (bytes_eq (codes "putchar") x) refl refl h
+    where
+      by : (a c : Bool) → bytes_eq (codes "getchar") x ≡ a → bytes_eq (codes "putchar") x ≡ c → entry_by items x a c ≡ Some (OfFunction s)
+          → IsOwn items x (OfFunction s)
+      by true c q r k = absurd cc
+      by false true q r k = absurd cc
+      by false false q r k = record { own = k; not_read = swapped (codes "getchar") x false q; not_written = swapped (codes "putchar") x false r }
+
+  function_found : (x : List ℕ) (s : Signature) → find tables x ≡ Some (OfFunction s) → FunctionFound tables p x s
+  function_found x s h = find_function tables heads 0 (judged_tags p) p x s known (function_own x s h).own
+
+  function_named : (x : List ℕ) (s : Signature) (h : find tables x ≡ Some (OfFunction s)) → FunctionNamed world tables x s (function_found x s h).function
+  function_named x s h =
+      let own : IsOwn items x (OfFunction s) = function_own x s h in
+      let found : FunctionFound tables p x s = function_found x s h in
+      record { no_structs = structs; found = found.found; not_read = own.not_read; not_written = own.not_written; signature = found.signature }
+
+  abbrev its_function : (x : List ℕ) (s : Signature) → find tables x ≡ Some (OfFunction s) → Function world x s
+  its_function x s h =
+      function_is world tables (function_found x s h).number x s (function_found x s h).function (function_named x s h) (function_found x s h).known
+
+  functions : (x : List ℕ) (s : Signature) (F : Function world x s) → find tables x ≡ Some (OfFunction s) → FunctionJudged world tables x s F
+  functions x s F h =
+      judged_same world tables x s (its_function x s h) F (function_judged world tables (function_found x s h).number x s (function_found x s h).function
+      (function_named x s h) (function_found x s h).known)
+
+  variables : (x : List ℕ) (t : StaticType) (r : Region) → find tables x ≡ Some (OfValue (Stored t r)) → GlobalFound world x t r
+  variables x t r h = by (bytes_eq (codes "getchar") x) (bytes_eq (codes "putchar") x) h
+    where
+      by : (a c : Bool) → entry_by items x a c ≡ Some (OfValue (Stored t r)) → GlobalFound world x t r
+      by true c k = absurd cc
+      by false true k = absurd cc
+      by false false k =
+          let found : VariableFound p 0 x t r = find_variable tables heads 0 0 (judged_tags p) p x t r known k in
+          record { number = found.number; is = found.is_bound; region = found.region }
+
+  builtin_is : (x : List ℕ) (n : ℕ) → find tables x ≡ Some (OfBuiltin n) → Builtin x n
+  builtin_is x n h = by (bytes_eq (codes "getchar") x) (bytes_eq (codes "putchar") x) refl refl h
+    where
+      number : (m : ℕ) → Some (OfBuiltin m) ≡ Some (OfBuiltin n) → n ≡ m
+      number m k = cc
+
+      by : (a c : Bool) → bytes_eq (codes "getchar") x ≡ a → bytes_eq (codes "putchar") x ≡ c → entry_by items x a c ≡ Some (OfBuiltin n) → Builtin x n
+      by true c q r k = inl (swapped (codes "getchar") x true q, number 0 k)
+      by false true q r k = inr (swapped (codes "getchar") x false q, swapped (codes "putchar") x true r, number 1 k)
+      by false false q r k = absurd (no_builtin tables heads 0 n (judged_tags p) p x known k)
+
+  plain : (x : List ℕ) (y : Entry) → find tables x ≡ Some y → PlainEntry world x y
+  plain x y h = by y h (subst (λ (z : Option Entry). MeansSound z) h (found_sound tables x order.tables))
+    where
+      by : (y : Entry) → find tables x ≡ Some y → IsSoundEntry y → PlainEntry world x y
+      by (OfValue (Stored t r)) h s = s
+      by (OfValue (Arrayed t r)) h s = absurd s
+      by (OfValue Counter) h s = absurd s
+      by (OfValue Unknown) h s = absurd s
+      by (OfTag t) h s = absurd s
+      by (OfFunction s) h k = its_function x s h
+      by (OfBuiltin n) h s = builtin_is x n h
+      by OfOther h s = absurd s
+
+  -- ---- `main`
+
+  main_here : MainHere heads 0 (judged_tags p) p
+  main_here = find_main tables heads 0 (judged_tags p) p (judged_length p) known order.main
+
+  abbrev main_signature : Signature
+  main_signature = (head_of false heads main_here.function).signature
+
+  main_found_there : find tables (codes "main") ≡ Some (OfFunction main_signature)
+  main_found_there = main_here.found
+
+  main_judged : MainFound world tables
+  main_judged =
+      let found : FunctionFound tables p (codes "main") main_signature = function_found (codes "main") main_signature main_found_there in
+      record {
+        signature = main_signature;
+        function = its_function (codes "main") main_signature main_found_there;
+        found = main_found_there;
+        types = ap (λ (ms : List tree.Member). parameter_types ms) (found.known.facts.main found.named);
+        gives = ap (λ (b : tree.Base). base_type b) (found.known.accepted.head.main found.named);
+      }
+
+  pub judged : ProgramJudged p tables
+  judged = record {
+    no_structs = structs;
+    plain = plain;
+    globals = globals_judged tables 0 p known;
+    variables = variables;
+    functions = functions;
+    main = main_judged;
+  }
+
+  pub main_below : (program_code p).main < length (program_code p).functions
+  main_below =
+      let found : FunctionFound tables p (codes "main") main_signature = function_found (codes "main") main_signature main_found_there in
+      let less = number_below world.functions (codes "main") (routine_of found.function) found.found in
+      subst (λ (n : ℕ). (program_code p).main < n) (sym (length-map world.functions (function_code world))) less
+
+-- ---- the laws
+
+pub accepted_is_never_stuck : AcceptedIsNeverStuck
+accepted_is_never_stuck p o e = never_stuck p (tables_of false p) (judged p o e)
+
+pub has_main : HasMain
+has_main p o e = main_below p o e

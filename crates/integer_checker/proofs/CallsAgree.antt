@@ -54,9 +54,12 @@ and_true false = refl
 -- a value that is given to an integer
 given_to : (g : Env) (v : Plain) (k : IntegerType) (rs : List Region)
     → Finds (converts g (rules_value v) (renamed (argument rs) (integer_type k))) (plain.refused (plain_value v))
-given_to g v AsInt rs = subst (λ b. Finds (converts g (rules_value v) (static_type Int)) (plain.refused_by b v.at)) (and_true (is_number v.of)) (conversion_agrees g v Int)
-given_to g v AsUnsigned rs = subst (λ b. Finds (converts g (rules_value v) (static_type Unsigned)) (plain.refused_by b v.at)) (and_true (is_number v.of)) (conversion_agrees g v Unsigned)
-given_to g v AsChar rs = subst (λ b. Finds (converts g (rules_value v) (static_type Char)) (plain.refused_by b v.at)) (and_true (is_number v.of)) (conversion_agrees g v Char)
+given_to g v AsInt rs =
+    subst (λ b. Finds (converts g (rules_value v) (static_type Int)) (plain.refused_by b v.at)) (and_true (is_number v.of)) (conversion_agrees g v Int)
+given_to g v AsUnsigned rs =
+    subst (λ b. Finds (converts g (rules_value v) (static_type Unsigned)) (plain.refused_by b v.at)) (and_true (is_number v.of)) (conversion_agrees g v Unsigned)
+given_to g v AsChar rs =
+    subst (λ b. Finds (converts g (rules_value v) (static_type Char)) (plain.refused_by b v.at)) (and_true (is_number v.of)) (conversion_agrees g v Char)
 
 -- so many values as parameters
 all_given : (g : Env) (rs : List Region) (ks : List IntegerType) (vs : List Plain) → length ks ≡ length vs

@@ -16,7 +16,8 @@ use Rattle.source_typing.specs.Types.{StaticType, integer_type}
 use Rattle.source_typing.specs.Verdicts.{Of, Verdict, refuse}
 use Rattle.integer_checker.proofs.Finding.{finds_both, finds_none, finds_one, no_first, nothing_first}
 use Rattle.integer_checker.proofs.RulesAgree.{conversion_agrees}
-use Rattle.integer_checker.specs.Agreement.{Agrees, AtFault, Finds, Means, NeitherJudged, Plain, Same, UnknownValue, Variable, plain_type, plain_value, rules_value}
+use Rattle.integer_checker.specs.Agreement.{Agrees, AtFault, Finds, Means, NeitherJudged, Plain, Same, UnknownValue, Variable, plain_type, plain_value}
+use Rattle.integer_checker.specs.Agreement.{rules_value}
 use Rattle.integer_checker.specs.Faults.{mistyped, sooner_of}
 use Rattle.integer_checker.specs.Judging.{fault_in}
 use Rattle.integer_checker.specs.Statements.{declared_type, given_fault, initial_fault, initializer_fault, meaning_of, own_fault, written_type}
@@ -126,7 +127,7 @@ void_set g at x v j agrees = record {
 
 -- ---- locals
 
-abbrev type_at : ℕ → tree.Base → List tree.Pointer → TypeName
+abbrev pub type_at : ℕ → tree.Base → List tree.Pointer → TypeName
 type_at at b ps = record { at = at; base = b; pointers = ps }
 
 no_sign : (s : Sign) → takes_sign integers s ≡ false
@@ -134,7 +135,7 @@ no_sign sign.Nullable = refl
 no_sign sign.NotNull = refl
 no_sign sign.Fat = refl
 
-refused_pointers : (b c : Bool) (p : tree.Pointer) (ps : List tree.Pointer) → (b && takes_pointers integers (p ∷ ps)) && c ≡ false
+pub refused_pointers : (b c : Bool) (p : tree.Pointer) (ps : List tree.Pointer) → (b && takes_pointers integers (p ∷ ps)) && c ≡ false
 refused_pointers false c p ps = refl
 refused_pointers true c p ps = ap (λ z. (z && forms.takes_region integers p.region && takes_pointers integers ps) && c) (no_sign p.sign)
 
@@ -210,7 +211,8 @@ pub declaration_agrees : (g : Env) (ks : List Known) (d : tree.Declaration)
     → ((e : tree.Expression) → Agrees (judge g (taken integers e)) (plain.judge ks e)) → Local g d (own_fault ks d) (declared_type d)
 declaration_agrees g ks (tree.Local t x Initializer.Unset) agrees = unset_local g t.at t.base t.pointers x
 declaration_agrees g ks (tree.Local t x (Initializer.Elements n)) agrees =
-    if_refused g (forms.takes_type integers t && false) t.at (tree.Local t x (Initializer.Elements n)) (written_type t) (and_false (forms.takes_type integers t))
+    if_refused g (forms.takes_type integers t && false) t.at (tree.Local t x (Initializer.Elements n)) (written_type t)
+    (and_false (forms.takes_type integers t))
 declaration_agrees g ks (tree.Local t x (Initializer.Value e)) agrees =
     set_local g t.at t.base t.pointers x e (plain.judge ks e) (agrees e)
 declaration_agrees g ks (tree.Region at r x) agrees = refused_declares g at x None (mistyped at)

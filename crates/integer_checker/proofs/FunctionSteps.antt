@@ -7,7 +7,8 @@ use Rattle.cyc_tree.specs.declared.item.Member as code_member
 use Rattle.integer_checker.proofs.ExpressionSteps.{sooner_assoc}
 use Rattle.integer_checker.proofs.StatementSteps.{Stays, one_more}
 use Rattle.integer_checker.specs.Faults.{sooner_of}
-use Rattle.integer_checker.specs.Functions.{after_form, after_member, after_members, bound_place, effect_place, entered, entered_effect, member_fault, members_fault}
+use Rattle.integer_checker.specs.Functions.{after_form, after_member, after_members, bound_place, effect_place, entered, entered_effect, member_fault}
+use Rattle.integer_checker.specs.Functions.{members_fault}
 use Rattle.integer_checker.specs.Scopes.{Known}
 use Rattle.integer_checker.specs.declared.fault.Fault.{Fault}
 use Rattle.cyc_tree.specs.Tree as tree

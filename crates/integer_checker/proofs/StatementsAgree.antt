@@ -52,7 +52,7 @@ find_more [] x m y = first_or (bytes_eq x y) m
 find_more (k ∷ ks) x m y =
     ap (later_or (bytes_eq k.name y) k.meaning) (find_more ks x m y) ∙ last_or (bytes_eq x y) (bytes_eq k.name y) m k.meaning (find_last ks y)
 
-means_if : (b : Bool) (e f : Option Entry) (m n : Option Meaning) → Means e m → Means f n → Means (if b then e else f) (if b then m else n)
+pub means_if : (b : Bool) (e f : Option Entry) (m n : Option Meaning) → Means e m → Means f n → Means (if b then e else f) (if b then m else n)
 means_if true e f m n one other = one
 means_if false e f m n one other = other
 
@@ -61,7 +61,7 @@ is_inside : (b : Bool) (outer count : ℕ) (o : Option ℕ) → outer ≤ count
 is_inside true outer count o within = grind (arith, nat_tests, within)
 is_inside false outer count o within = refl
 
-second_more : (ks : List Known) (outer : ℕ) (x : List ℕ) (m : Meaning) (y : List ℕ) → outer ≤ length ks
+pub second_more : (ks : List Known) (outer : ℕ) (x : List ℕ) (m : Meaning) (y : List ℕ) → outer ≤ length ks
     → is_second (ks ++ known x m ∷ []) outer y ≡ (bytes_eq x y || is_second ks outer y)
 second_more ks outer x m y within =
     ap (λ n. is_after outer (position_of n y)) (map_push (λ k. k.name) ks (known x m))
@@ -73,7 +73,7 @@ none_after : (n : ℕ) (o : Option ℕ) → IfSome o (λ p. p < n) → is_after 
 none_after n None within = refl
 none_after n (Some p) within = grind (arith, nat_tests, within)
 
-none_own : (ks : List Known) (x : List ℕ) → is_second ks (length ks) x ≡ false
+pub none_own : (ks : List Known) (x : List ℕ) → is_second ks (length ks) x ≡ false
 none_own ks x =
     ap (λ n. is_after n (position_of (spellings ks) x)) (sym (length-map ks (λ k. k.name)))
     ∙ none_after (length (spellings ks)) (position_of (spellings ks) x) (position_within (spellings ks) x)

@@ -150,4 +150,4 @@ abbrev pub program_fault : Program → Option Fault
 program_fault items =
     sooner_of (forms_fault items)
     (sooner_of (seconds_fault seen_first items)
-    (sooner_of (items_fault (program_names items) items) (sooner_of (main_found items) (sizes_fault seen_first 0 items))))
+    (sooner_of (items_fault (program_names items) items) (sooner_of (main_found items) (sizes_fault [] 0 items))))

@@ -1,8 +1,11 @@
 // The faults of a program.
 
-ghost use Rattle.std.specs.Prelude.{◌≡◌, ◌≤◌, IfOk, OnOk};
+ghost use Rattle.std.specs.Prelude.{◌≡◌, ◌≤◌, IfOk, OnOk, option_map};
 ghost use Rattle.cyc_tree.specs.View.{constant_tree, function_tree, global_tree, initial_tree, name_tree, program_item_tree, program_tree};
+ghost use Rattle.source_typing.specs.Answers.{effect_fault};
 ghost use Rattle.source_typing.specs.Programs.{name_of};
+ghost use Rattle.source_typing.specs.Taken.{integers};
+ghost use Rattle.integer_checker.specs.Faults.{fault_of};
 ghost use Rattle.integer_checker.specs.Functions.{entry_fault, head_fault};
 ghost use Rattle.integer_checker.specs.Statements.{if_second};
 ghost use Rattle.integer_checker.specs.Programs.{and_seen, begun, bytes_of, constant_fault, constant_form, form_fault, forms_fault, function_meaning, global_fault, is_seen, item_fault, item_meaning, items_fault, main_found, main_is, names_of, or_int, program_fault, program_names, seen_first, seconds_fault, sizes_fault};
@@ -284,16 +287,17 @@ fn program_names<'p>(alloc: Global, items: &'p [Item]) -> Result<Scope<'p>, Allo
     Ok(names)
 }
 
-/// The first fault of a program. Fails only where no host memory is left.
+/// The first fault of a program, which is the earliest one of the rules, flow apart. Fails only where no host memory is left.
 pub fn program_fault(alloc: Global, program: &Program) -> Result<Option<Fault>, AllocError>
-    ensures { IfOk result (λ found. found ≡ program_fault program.now) }
+    ensures plain { IfOk result (λ found. found ≡ program_fault program.now) }
+    ensures first { IfOk result (λ found. option_map fault_of found ≡ effect_fault integers program.now) }
 {
     let items = program.items();
     let mut names = program_names(alloc, items)?;
     let bodies = items_fault(&mut names, items)?;
     let mut seen = seen_first(alloc)?;
     let seconds = seconds_fault(&mut seen, items)?;
-    let mut counted = seen_first(alloc)?;
+    let mut counted = Scope::new(alloc);
     let sizes = sizes_fault(&mut counted, items)?;
     let rest = sooner(bodies, sooner(main_found(items), sizes));
     Ok(sooner(forms_fault(items), sooner(seconds, rest)))

@@ -12,7 +12,8 @@ each-preserved c =
     let rest = map member_tree (drop (c.each.member-index + 1) c.args.members.now) in
     let next = c.in_ok-declare_member.ensures.scope in
     record {
-      found = ap (λ o. sooner_of o (members_fault c.declare_member.new.scope outer rest)) (c.sooner-found.ensures ∙ ap (sooner_of c.each.found) c.in_ok-declare_member.ensures.fault)
+      found = ap (λ o. sooner_of o (members_fault c.declare_member.new.scope outer rest))
+          (c.sooner-found.ensures ∙ ap (sooner_of c.each.found) c.in_ok-declare_member.ensures.fault)
           ∙ ap (λ s. sooner_of (sooner_of c.each.found (member_fault ks outer (member_tree c.member-item.result))) (members_fault s outer rest)) next
           ∙ members_more ks outer c.args.members.now c.each.member-index c.member-item.result c.each.found c.each-test.true c.member-item.is
           ∙ c.each.invariant.found;

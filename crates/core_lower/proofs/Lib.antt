@@ -2,3 +2,4 @@ mod Arguments
 mod Bodies
 mod Lists
 mod Lookups
+mod Taken

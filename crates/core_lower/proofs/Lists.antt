@@ -1,5 +1,5 @@
 -- Statements one after the other are the same, by the name of either side.
-use Rattle.std.proofs.Common.{◌≡◌, ◌∙◌, ℕ, refl, ap, List, [], ◌∷◌, ◌++◌}
+use Rattle.std.proofs.Common.{◌≡◌, ◌∙◌, ℕ, refl, sym, ap, List, [], ◌∷◌, ◌++◌, append_assoc}
 use Rattle.std.specs.Prelude.{Ok, Err, OnOk}
 use Rattle.std.specs.declared.result.Result.{Result}
 use Rattle.core_meaning.specs.Core.{Local, Statement, Statements, If, While, Block, MoreStatements}
@@ -33,3 +33,15 @@ pub block_of :
     (after before : List Statement) (locals : List Local) (body : List Statement) →
     after ≡ before ++ Block locals (statements_of body) ∷ [] → after ≡ before ++ Block locals (all_of body) ∷ []
 block_of after before locals body is = is ∙ ap (λ (x : Statements). before ++ Block locals x ∷ []) (all_is body)
+
+-- a choice after its condition
+pub choice_of :
+    (before tested after condition these those body otherwise code : List Statement) → tested ≡ before ++ condition → these ≡ body →
+    those ≡ otherwise → code ≡ condition ++ (If 0 (all_of body) (all_of otherwise) ∷ []) →
+    after ≡ tested ++ If 0 (all_of these) (all_of those) ∷ [] → after ≡ before ++ code
+choice_of before tested after condition these those body otherwise code tested_is these_is those_is code_is is =
+    is ∙ ap (λ (ss : List Statement). ss ++ If 0 (all_of these) (all_of those) ∷ []) tested_is
+    ∙ append_assoc before condition (If 0 (all_of these) (all_of those) ∷ [])
+    ∙ ap (λ (ss : List Statement). before ++ (condition ++ (If 0 (all_of ss) (all_of those) ∷ []))) these_is
+    ∙ ap (λ (ss : List Statement). before ++ (condition ++ (If 0 (all_of body) (all_of ss) ∷ []))) those_is
+    ∙ ap (λ (ss : List Statement). before ++ ss) (sym code_is)

@@ -7,6 +7,8 @@ ghost use Rattle.source_meaning.specs.Shapes.{part_of, part_shapes};
 ghost use Rattle.source_meaning.specs.Programs.{world_of};
 ghost use Rattle.source_lowering.specs.Lowered.{call_parameters, from_on, count_of, call_code};
 ghost use Rattle.core_lower.specs.Views.{shape_tree};
+ghost use Rattle.source_lowering.specs.Taken.{AreIntegers, TakesProgram};
+ghost use Rattle.core_lower.specs.Refusals.{NeverRefused};
 
 use crate::emit::{emit, emit_operation};
 use crate::fault::LowerFault;
@@ -19,7 +21,8 @@ use std::alloc::Global;
 
 /// The shapes of parameters, in order.
 pub fn part_shapes(alloc: Global, parameters: &[Member]) -> Result<Vec<Shape>, LowerFault>
-    ensures { IfOk result (λ shapes. map shape_tree shapes.items ≡ part_shapes (map part_of (map member_tree parameters.now))) }
+    ensures shapes { IfOk result (λ shapes. map shape_tree shapes.items ≡ part_shapes (map part_of (map member_tree parameters.now))) }
+    ensures taken { AreIntegers (map member_tree parameters.now) → NeverRefused result }
 {
     let mut shapes = Vec::new(alloc);
     'each: for parameter in parameters {
@@ -37,7 +40,8 @@ pub fn call_parameters(
     program: &Program,
     name: &[u8],
 ) -> Result<Vec<Shape>, LowerFault>
-    ensures { IfOk result (λ shapes. map shape_tree shapes.items ≡ call_parameters (world_of program.now) name.now) }
+    ensures shapes { IfOk result (λ shapes. map shape_tree shapes.items ≡ call_parameters (world_of program.now) name.now) }
+    ensures taken { TakesProgram program.now → NeverRefused result }
 {
     let mut shapes = Vec::new(alloc);
     if name == b"getchar".as_slice() {
@@ -61,7 +65,8 @@ fn passed_from(
     arguments: &[Expression],
     first: Temporary,
 ) -> Result<Vec<Temporary>, LowerFault>
-    ensures { IfOk result (λ passed. map temporary_tree passed.items ≡ from_on first.0 (count_of (expressions_of (map expression_tree arguments.now)))) }
+    ensures passed { IfOk result (λ passed. map temporary_tree passed.items ≡ from_on first.0 (count_of (expressions_of (map expression_tree arguments.now)))) }
+    ensures taken { NeverRefused result }
 {
     let mut passed = Vec::new(alloc);
     let mut next = first;
@@ -83,8 +88,11 @@ pub fn lower_call(
     arguments: &[Expression],
     to: Temporary,
 ) -> Result<(), LowerFault>
-    ensures { OnOk result
-        (map statement_tree body.new.items ≡ map statement_tree body.old.items ++ call_code (world_of program.now) name.now (count_of (expressions_of (map expression_tree arguments.now))) to.0) }
+    ensures code { OnOk result
+        (map statement_tree body.new.items ≡
+        map statement_tree body.old.items ++
+        call_code (world_of program.now) name.now (count_of (expressions_of (map expression_tree arguments.now))) to.0) }
+    ensures taken { TakesProgram program.now → NeverRefused result }
 {
     if name == b"getchar".as_slice() {
         return emit_operation(body, Operation::Getchar(to));

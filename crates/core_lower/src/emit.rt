@@ -4,13 +4,15 @@ ghost use Rattle.std.specs.Prelude.{◌≡◌, ◌++◌, [], ◌∷◌, OnOk, ma
 ghost use Rattle.core_meaning.specs.Core as core;
 ghost use Rattle.core_tree.specs.Trees.{local_tree, operation_tree, statements_of, statement_tree};
 ghost use Rattle.source_lowering.specs.Lowered.{all_of};
+ghost use Rattle.core_lower.specs.Refusals.{NeverRefused};
 
 use crate::fault::LowerFault;
 use core_tree::{Operation, Statement, Temporary, Width};
 
 /// Appends a statement.
 pub fn emit(body: &mut Vec<Statement>, statement: Statement) -> Result<(), LowerFault>
-    ensures { OnOk result (map statement_tree body.new.items ≡ map statement_tree body.old.items ++ statement_tree statement ∷ []) }
+    ensures code { OnOk result (map statement_tree body.new.items ≡ map statement_tree body.old.items ++ statement_tree statement ∷ []) }
+    ensures taken { NeverRefused result }
 {
     match body.push(statement) {
         Ok(()) => Ok(()),
@@ -20,7 +22,8 @@ pub fn emit(body: &mut Vec<Statement>, statement: Statement) -> Result<(), Lower
 
 /// Appends an operation.
 pub fn emit_operation(body: &mut Vec<Statement>, operation: Operation) -> Result<(), LowerFault>
-    ensures { OnOk result (map statement_tree body.new.items ≡ map statement_tree body.old.items ++ core.Do (operation_tree operation) ∷ []) }
+    ensures code { OnOk result (map statement_tree body.new.items ≡ map statement_tree body.old.items ++ core.Do (operation_tree operation) ∷ []) }
+    ensures taken { NeverRefused result }
 {
     emit(body, Statement::Do(operation))
 }
@@ -32,10 +35,11 @@ fn push_if(
     these: Vec<Statement>,
     those: Vec<Statement>,
 ) -> Result<(), LowerFault>
-    ensures { OnOk result
+    ensures code { OnOk result
         (map statement_tree body.new.items ≡
         map statement_tree body.old.items ++
         core.If condition.0 (statements_of (map statement_tree these.items)) (statements_of (map statement_tree those.items)) ∷ []) }
+    ensures taken { NeverRefused result }
 {
     emit(body, Statement::If(condition, these, those))
 }
@@ -47,10 +51,11 @@ pub fn emit_if(
     these: Vec<Statement>,
     those: Vec<Statement>,
 ) -> Result<(), LowerFault>
-    ensures { OnOk result
+    ensures code { OnOk result
         (map statement_tree body.new.items ≡
         map statement_tree body.old.items ++
         core.If condition.0 (all_of (map statement_tree these.items)) (all_of (map statement_tree those.items)) ∷ []) }
+    ensures taken { NeverRefused result }
 {
     push_if(body, condition, these, those)
 }
@@ -62,10 +67,11 @@ fn push_while(
     condition: Temporary,
     turn: Vec<Statement>,
 ) -> Result<(), LowerFault>
-    ensures { OnOk result
+    ensures code { OnOk result
         (map statement_tree body.new.items ≡
         map statement_tree body.old.items ++
         core.While (statements_of (map statement_tree test.items)) condition.0 (statements_of (map statement_tree turn.items)) ∷ []) }
+    ensures taken { NeverRefused result }
 {
     emit(body, Statement::While(test, condition, turn))
 }
@@ -77,10 +83,11 @@ pub fn emit_while(
     condition: Temporary,
     turn: Vec<Statement>,
 ) -> Result<(), LowerFault>
-    ensures { OnOk result
+    ensures code { OnOk result
         (map statement_tree body.new.items ≡
         map statement_tree body.old.items ++
         core.While (all_of (map statement_tree test.items)) condition.0 (all_of (map statement_tree turn.items)) ∷ []) }
+    ensures taken { NeverRefused result }
 {
     push_while(body, test, condition, turn)
 }
@@ -91,9 +98,10 @@ fn push_block(
     widths: Vec<Width>,
     inside: Vec<Statement>,
 ) -> Result<(), LowerFault>
-    ensures { OnOk result
+    ensures code { OnOk result
         (map statement_tree body.new.items ≡
         map statement_tree body.old.items ++ core.Block (map local_tree widths.items) (statements_of (map statement_tree inside.items)) ∷ []) }
+    ensures taken { NeverRefused result }
 {
     emit(body, Statement::Block(widths, inside))
 }
@@ -104,9 +112,10 @@ pub fn emit_block(
     widths: Vec<Width>,
     inside: Vec<Statement>,
 ) -> Result<(), LowerFault>
-    ensures { OnOk result
+    ensures code { OnOk result
         (map statement_tree body.new.items ≡
         map statement_tree body.old.items ++ core.Block (map local_tree widths.items) (all_of (map statement_tree inside.items)) ∷ []) }
+    ensures taken { NeverRefused result }
 {
     push_block(body, widths, inside)
 }

@@ -6,6 +6,8 @@ ghost use Rattle.core_tree.specs.Trees.{statement_tree};
 ghost use Rattle.source_meaning.specs.Programs.{world_of};
 ghost use Rattle.source_lowering.specs.Lowered.{static_shape, call_parameters, put_code, conversion_code, prefix_code, truth_code, count_of, call_code, expression_code, links_code, all_code, any_code, arguments_code};
 ghost use Rattle.core_lower.specs.Views.{shape_tree, names_of};
+ghost use Rattle.source_lowering.specs.Taken.{TakesPrefix, TakesPlace, Takes, TakesAll, TakesLinks, TakesProgram};
+ghost use Rattle.core_lower.specs.Refusals.{NeverRefused};
 
 use crate::call::{call_parameters, lower_call};
 use crate::emit::{emit_if, emit_operation};
@@ -21,7 +23,8 @@ use std::alloc::Global;
 
 /// Appends what makes 1 of a word that isn't 0.
 fn lower_truth(body: &mut Vec<Statement>, to: Temporary) -> Result<(), LowerFault>
-    ensures { OnOk result (map statement_tree body.new.items ≡ map statement_tree body.old.items ++ truth_code to.0) }
+    ensures code { OnOk result (map statement_tree body.new.items ≡ map statement_tree body.old.items ++ truth_code to.0) }
+    ensures taken { NeverRefused result }
 {
     let zero = Temporary(after(to.0)?);
     emit_operation(body, Operation::Constant(zero, 0))?;
@@ -35,9 +38,10 @@ pub fn lower_conversion(
     from: Shape,
     value: Temporary,
 ) -> Result<(), LowerFault>
-    ensures { OnOk result
+    ensures code { OnOk result
         (map statement_tree body.new.items ≡
         map statement_tree body.old.items ++ conversion_code (shape_tree to) (shape_tree from) value.0) }
+    ensures taken { NeverRefused result }
 {
     match (to, from) {
         (Shape::Char, Shape::Char) => Ok(()),
@@ -56,9 +60,10 @@ pub fn lower_expression(
     body: &mut Vec<Statement>,
     to: Temporary,
 ) -> Result<(), LowerFault>
-    ensures { OnOk result
+    ensures code { OnOk result
         (map statement_tree body.new.items ≡
         map statement_tree body.old.items ++ expression_code (world_of program.now) (names_of locals.entry.now) (expression_tree expression.now) to.0) }
+    ensures taken { TakesProgram program.now → Takes (expression_tree expression.now) → NeverRefused result }
 {
     match expression {
         Expression::Number(_, value, _) => emit_operation(body, Operation::Constant(to, *value)),
@@ -108,7 +113,7 @@ fn lower_assign(
     body: &mut Vec<Statement>,
     to: Temporary,
 ) -> Result<(), LowerFault>
-    ensures { let w = world_of program.now in
+    ensures code { let w = world_of program.now in
         let names = names_of locals.entry.now in
         let e = expression_tree value.now in
         let p = expression_tree place.now in
@@ -117,6 +122,7 @@ fn lower_assign(
         map statement_tree body.old.items ++
         (expression_code w names e to.0 ++
         (conversion_code (static_shape w names p) (static_shape w names e) to.0 ++ put_code w names p to.0))) }
+    ensures taken { TakesProgram program.now → TakesPlace (expression_tree place.now) → Takes (expression_tree value.now) → NeverRefused result }
 {
     lower_expression(alloc, program, locals, value, body, to)?;
     let shape = static_shape(program, locals, place)?;
@@ -136,12 +142,13 @@ fn lower_called(
     name: &[u8],
     to: Temporary,
 ) -> Result<(), LowerFault>
-    ensures { let w = world_of program.now in
+    ensures code { let w = world_of program.now in
         OnOk result
         (map statement_tree body.new.items ≡
         map statement_tree body.old.items ++
         (arguments_code w (names_of locals.entry.now) (call_parameters w name.now) (expressions_of (map expression_tree arguments.now)) to.0 ++
         call_code w name.now (count_of (expressions_of (map expression_tree arguments.now))) to.0)) }
+    ensures taken { TakesProgram program.now → TakesAll (expressions_of (map expression_tree arguments.now)) → NeverRefused result }
 {
     let shapes = call_parameters(alloc, program, name)?;
     lower_arguments(alloc, program, locals, arguments, body, &shapes, to)?;
@@ -159,12 +166,13 @@ fn lower_prefixed(
     operator: Prefix,
     to: Temporary,
 ) -> Result<(), LowerFault>
-    ensures { let w = world_of program.now in
+    ensures code { let w = world_of program.now in
         let names = names_of locals.entry.now in
         let e = expression_tree operand.now in
         OnOk result
         (map statement_tree body.new.items ≡
         map statement_tree body.old.items ++ prefix_code operator (static_shape w names e) to.0 (expression_code w names e (to.0 + 1))) }
+    ensures taken { TakesProgram program.now → TakesPrefix operator → Takes (expression_tree operand.now) → NeverRefused result }
 {
     let right = Temporary(after(to.0)?);
     let shape = static_shape(program, locals, operand)?;
@@ -205,10 +213,11 @@ fn lower_links(
     first: Shape,
     to: Temporary,
 ) -> Result<(), LowerFault>
-    ensures { OnOk result
+    ensures code { OnOk result
         (map statement_tree body.new.items ≡
         map statement_tree body.old.items ++
         links_code (world_of program.now) (names_of locals.entry.now) (links_of (map link_tree links.now)) (shape_tree first) to.0) }
+    ensures taken { TakesProgram program.now → TakesLinks (links_of (map link_tree links.now)) → NeverRefused result }
 {
     let right = Temporary(after(to.0)?);
     let mut left = first;
@@ -231,10 +240,11 @@ fn lower_all(
     body: &mut Vec<Statement>,
     to: Temporary,
 ) -> Result<(), LowerFault>
-    ensures { OnOk result
+    ensures code { OnOk result
         (map statement_tree body.new.items ≡
         map statement_tree body.old.items ++
         all_code (world_of program.now) (names_of locals.entry.now) (expressions_of (map expression_tree operands.now)) to.0) }
+    ensures taken { TakesProgram program.now → TakesAll (expressions_of (map expression_tree operands.now)) → NeverRefused result }
 {
     'each: for operand in operands {
         let mut these = Vec::new(alloc);
@@ -254,10 +264,11 @@ fn lower_any(
     body: &mut Vec<Statement>,
     to: Temporary,
 ) -> Result<(), LowerFault>
-    ensures { OnOk result
+    ensures code { OnOk result
         (map statement_tree body.new.items ≡
         map statement_tree body.old.items ++
         any_code (world_of program.now) (names_of locals.entry.now) (expressions_of (map expression_tree operands.now)) to.0) }
+    ensures taken { TakesProgram program.now → TakesAll (expressions_of (map expression_tree operands.now)) → NeverRefused result }
 {
     'each: for operand in operands {
         let mut those = Vec::new(alloc);
@@ -279,11 +290,12 @@ fn lower_arguments(
     shapes: &[Shape],
     first: Temporary,
 ) -> Result<(), LowerFault>
-    ensures { OnOk result
+    ensures code { OnOk result
         (map statement_tree body.new.items ≡
         map statement_tree body.old.items ++
         arguments_code (world_of program.now) (names_of locals.entry.now) (map shape_tree shapes.now)
         (expressions_of (map expression_tree arguments.now)) first.0) }
+    ensures taken { TakesProgram program.now → TakesAll (expressions_of (map expression_tree arguments.now)) → NeverRefused result }
 {
     let mut left = shapes;
     let mut to = first;

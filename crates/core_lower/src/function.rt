@@ -7,6 +7,8 @@ ghost use Rattle.source_meaning.specs.Shapes.{part_of};
 ghost use Rattle.source_meaning.specs.Programs.{world_of, routine_of};
 ghost use Rattle.source_lowering.specs.Programs.{parameter_names, parameters_code, end_code, body_code, function_code};
 ghost use Rattle.core_lower.specs.Views.{shape_tree, names_of};
+ghost use Rattle.source_lowering.specs.Taken.{AreIntegers, TakesFunction, TakesProgram};
+ghost use Rattle.core_lower.specs.Refusals.{NeverRefused};
 
 use crate::call::part_shapes;
 use crate::emit::{emit, emit_block, emit_operation};
@@ -31,6 +33,7 @@ fn lower_parameters<'p>(
     ensures code { OnOk result
         (map statement_tree body.new.items ≡
         map statement_tree body.old.items ++ parameters_code (map part_of (map member_tree parameters.entry.now)) 0) }
+    ensures taken { AreIntegers (map member_tree parameters.entry.now) → NeverRefused result }
 {
     let mut index = 0;
     'each: for parameter in parameters {
@@ -45,7 +48,8 @@ fn lower_parameters<'p>(
 
 /// Appends the end of a function without `return`, which gives 0 where a result is due.
 fn lower_end(body: &mut Vec<Statement>, shape: Shape) -> Result<(), LowerFault>
-    ensures { OnOk result (map statement_tree body.new.items ≡ map statement_tree body.old.items ++ end_code (shape_tree shape)) }
+    ensures code { OnOk result (map statement_tree body.new.items ≡ map statement_tree body.old.items ++ end_code (shape_tree shape)) }
+    ensures taken { NeverRefused result }
 {
     match shape {
         Shape::Void => emit(body, Statement::Return(None)),
@@ -62,7 +66,8 @@ fn lower_body(
     program: &Program,
     function: &Source,
 ) -> Result<Vec<Statement>, LowerFault>
-    ensures { IfOk result (λ body. body_tree body.items ≡ body_code (world_of program.now) (routine_of (source_tree function.now))) }
+    ensures code { IfOk result (λ body. body_tree body.items ≡ body_code (world_of program.now) (routine_of (source_tree function.now))) }
+    ensures taken { TakesProgram program.now → TakesFunction (source_tree function.now) → NeverRefused result }
 {
     let shape = Shape::of(&function.result)?;
     let mut shapes = part_shapes(alloc, &function.parameters)?;
@@ -86,7 +91,8 @@ fn lower_body(
 
 /// A number of temporaries as a u32. Refuses what is over the greatest u32.
 fn count(temporaries: u64) -> Result<u32, LowerFault>
-    ensures { IfOk result (λ n. n ≡ temporaries) }
+    ensures count { IfOk result (λ n. n ≡ temporaries) }
+    ensures taken { NeverRefused result }
 {
     match u32::try_from(temporaries) {
         Ok(count) => Ok(count),
@@ -100,7 +106,8 @@ pub fn lower_function(
     program: &Program,
     function: &Source,
 ) -> Result<Function, LowerFault>
-    ensures { IfOk result (λ lowered. function_tree lowered ≡ function_code (world_of program.now) (routine_of (source_tree function.now))) }
+    ensures code { IfOk result (λ lowered. function_tree lowered ≡ function_code (world_of program.now) (routine_of (source_tree function.now))) }
+    ensures taken { TakesProgram program.now → TakesFunction (source_tree function.now) → NeverRefused result }
 {
     let body = lower_body(alloc, program, function)?;
     let parameters = number(function.parameters.len())?;

@@ -5,6 +5,7 @@ ghost use Rattle.cyc_tree.specs.View.{name_tree};
 ghost use Rattle.source_lowering.specs.Lowered.{local_named};
 ghost use Rattle.source_lowering.specs.Programs.{named_here, outward};
 ghost use Rattle.core_lower.specs.Views.{shape_tree, named_tree, names_of};
+ghost use Rattle.core_lower.specs.Refusals.{NeverRefused};
 
 use crate::fault::LowerFault;
 use crate::shape::Shape;
@@ -22,7 +23,8 @@ pub struct Named<'p> {
 
 /// The number after one. Refuses the greatest u32.
 pub fn after(number: u32) -> Result<u32, LowerFault>
-    ensures { IfOk result (λ next. next ≡ number + 1) }
+    ensures next { IfOk result (λ next. next ≡ number + 1) }
+    ensures taken { NeverRefused result }
 {
     match number.checked_add(1) {
         Some(next) => Ok(next),
@@ -32,7 +34,8 @@ pub fn after(number: u32) -> Result<u32, LowerFault>
 
 /// A length as a u32. Refuses what is over the greatest u32.
 pub fn number(length: usize) -> Result<u32, LowerFault>
-    ensures { IfOk result (λ n. n ≡ length) }
+    ensures number { IfOk result (λ n. n ≡ length) }
+    ensures taken { NeverRefused result }
 {
     match u32::try_from(length) {
         Ok(number) => Ok(number),
@@ -61,7 +64,9 @@ pub fn declare<'p>(
     shape: Shape,
     index: u32,
 ) -> Result<(), LowerFault>
-    ensures { OnOk result (names_of locals.new.items ≡ named_here (name_tree name.entry.now).text (shape_tree shape) index ∷ names_of locals.old.items) }
+    ensures declared { OnOk result
+        (names_of locals.new.items ≡ named_here (name_tree name.entry.now).text (shape_tree shape) index ∷ names_of locals.old.items) }
+    ensures taken { NeverRefused result }
 {
     let local = Named {
         name: &name.text,
@@ -77,7 +82,8 @@ pub fn declare<'p>(
 
 /// The locals in their order, each a block further out.
 fn moved_out<'p>(alloc: Global, locals: &[Named<'p>]) -> Result<Vec<Named<'p>>, LowerFault>
-    ensures { IfOk result (λ moved. map named_tree moved.items ≡ outward (map named_tree locals.entry.now)) }
+    ensures moved { IfOk result (λ moved. map named_tree moved.items ≡ outward (map named_tree locals.entry.now)) }
+    ensures taken { NeverRefused result }
 {
     let mut moved = Vec::new(alloc);
     'each: for local in locals {
@@ -102,7 +108,8 @@ fn moved_out<'p>(alloc: Global, locals: &[Named<'p>]) -> Result<Vec<Named<'p>>, 
 
 /// The locals as a block further in sees them: each is a block further out.
 pub fn outward<'p>(alloc: Global, locals: &[Named<'p>]) -> Result<Vec<Named<'p>>, LowerFault>
-    ensures { IfOk result (λ moved. names_of moved.items ≡ outward (names_of locals.entry.now)) }
+    ensures moved { IfOk result (λ moved. names_of moved.items ≡ outward (names_of locals.entry.now)) }
+    ensures taken { NeverRefused result }
 {
     moved_out(alloc, locals)
 }

@@ -5,6 +5,8 @@ ghost use Rattle.source_meaning.specs.Operators.{common, by_type, promoted_shape
 ghost use Rattle.source_lowering.specs.Lowered.{type_of, prefix_shape, applied_to};
 ghost use Rattle.core_tree.specs.Trees.{binary_tree, operation_tree};
 ghost use Rattle.core_lower.specs.Views.{shape_tree};
+ghost use Rattle.source_lowering.specs.Taken.{TakesPrefix};
+ghost use Rattle.core_lower.specs.Refusals.{NeverRefused};
 
 use crate::fault::LowerFault;
 use crate::shape::Shape;
@@ -50,7 +52,8 @@ pub fn operator_shape(operator: Operator, left: Shape, right: Shape) -> Shape
 
 /// The shape of what a prefix operator gives. Refuses those of pointers.
 pub fn prefix_shape(operator: Prefix, operand: Shape) -> Result<Shape, LowerFault>
-    ensures { IfOk result (λ shape. shape_tree shape ≡ prefix_shape operator (shape_tree operand)) }
+    ensures shape { IfOk result (λ shape. shape_tree shape ≡ prefix_shape operator (shape_tree operand)) }
+    ensures taken { TakesPrefix operator → NeverRefused result }
 {
     match operator {
         Prefix::Negate | Prefix::Complement => Ok(promoted(operand)),

@@ -8,6 +8,8 @@ ghost use Rattle.source_meaning.specs.Shapes.{IntShape, UnsignedShape, CharShape
 ghost use Rattle.source_meaning.specs.Steps.{World};
 ghost use Rattle.source_meaning.specs.Programs.{world_of, functions_of};
 ghost use Rattle.source_lowering.specs.Programs.{function_code, constant_word, initial_content, datum_of, data_of, program_code};
+ghost use Rattle.source_lowering.specs.Taken.{IsIntegerType, TakesConstant, TakesInitial, TakesProgram, IsLowerable};
+ghost use Rattle.core_lower.specs.Refusals.{NeverRefused};
 
 use crate::fault::LowerFault;
 use crate::function::lower_function;
@@ -20,7 +22,8 @@ use std::alloc::Global;
 
 /// The word of a constant. Refuses a string and `NULL`.
 fn constant_word(constant: &Constant) -> Result<u32, LowerFault>
-    ensures { IfOk result (λ word. word ≡ constant_word (constant_tree constant.now)) }
+    ensures word { IfOk result (λ word. word ≡ constant_word (constant_tree constant.now)) }
+    ensures taken { TakesConstant (constant_tree constant.now) → NeverRefused result }
 {
     match constant {
         Constant::Number(_, value, _) => Ok(*value),
@@ -35,6 +38,7 @@ fn initial_word(initial: &Initial) -> Result<u32, LowerFault>
     ensures int { IfOk result (λ word. initial_content (initial_tree initial.now) IntShape ≡ Word word) }
     ensures unsigned { IfOk result (λ word. initial_content (initial_tree initial.now) UnsignedShape ≡ Word word) }
     ensures char { IfOk result (λ word. initial_content (initial_tree initial.now) CharShape ≡ Word (word % 256)) }
+    ensures taken { TakesInitial (initial_tree initial.now) → NeverRefused result }
 {
     match initial {
         Initial::None => Ok(0),
@@ -45,9 +49,10 @@ fn initial_word(initial: &Initial) -> Result<u32, LowerFault>
 
 /// A global, with what it begins with. Refuses what isn't an integer.
 fn lower_global(global: &Declared) -> Result<Datum, LowerFault>
-    ensures { (w : World) →
+    ensures datum { (w : World) →
         let s = settled (written (global_tree global.now).of) in
         IfOk result (λ datum. datum_tree datum ≡ datum_of w s (initial_content (global_tree global.now).initial s)) }
+    ensures taken { IsIntegerType (global_tree global.now).of → TakesInitial (global_tree global.now).initial → NeverRefused result }
 {
     let shape = Shape::of(&global.of)?;
     let word = initial_word(&global.initial)?;
@@ -60,7 +65,8 @@ fn lower_global(global: &Declared) -> Result<Datum, LowerFault>
 
 /// The globals, in their order. Refuses a struct, a union and what isn't an integer.
 fn lower_globals(alloc: Global, program: &Source) -> Result<Vec<Datum>, LowerFault>
-    ensures { IfOk result (λ globals. map datum_tree globals.items ≡ data_of (world_of program.now) program.now) }
+    ensures globals { IfOk result (λ globals. map datum_tree globals.items ≡ data_of (world_of program.now) program.now) }
+    ensures taken { TakesProgram program.now → NeverRefused result }
 {
     let items = program.items();
     let mut globals = Vec::new(alloc);
@@ -80,7 +86,8 @@ fn lower_globals(alloc: Global, program: &Source) -> Result<Vec<Datum>, LowerFau
 
 /// The functions, in their order.
 fn lower_functions(alloc: Global, program: &Source) -> Result<Vec<Function>, LowerFault>
-    ensures { IfOk result (λ functions. map function_tree functions.items ≡ map (function_code (world_of program.now)) (functions_of program.now)) }
+    ensures functions { IfOk result (λ functions. map function_tree functions.items ≡ map (function_code (world_of program.now)) (functions_of program.now)) }
+    ensures taken { TakesProgram program.now → NeverRefused result }
 {
     let items = program.items();
     let mut functions = Vec::new(alloc);
@@ -95,9 +102,11 @@ fn lower_functions(alloc: Global, program: &Source) -> Result<Vec<Function>, Low
 }
 
 /// The Core of a program. Refuses a program that has something else than functions, globals and locals of integers; and fails
-/// where no host memory is left, or a number of temporaries, locals, functions or globals is over the greatest u32.
+/// where no host memory is left, or a number of temporaries, locals, functions or globals is over the greatest u32. So it takes each program that is
+/// lowerable, where memory and numbers are enough.
 pub fn lower(alloc: Global, program: &Source) -> Result<Program, LowerFault>
     ensures code { IfOk result (λ core. program_tree core ≡ program_code program.now) }
+    ensures taken { IsLowerable program.now → NeverRefused result }
 {
     let functions = lower_functions(alloc, program)?;
     let main = function_number(program.items(), b"main".as_slice())?;

@@ -9,6 +9,8 @@ ghost use Rattle.source_lowering.specs.Lowered.{width_of, results_in};
 ghost use Rattle.source_lowering.specs.Programs.{locals_of};
 ghost use Rattle.core_tree.specs.Trees.{bytes_of, local_tree, optional_tree};
 ghost use Rattle.core_lower.specs.Views.{shape_tree};
+ghost use Rattle.source_lowering.specs.Taken.{TakesResult};
+ghost use Rattle.core_lower.specs.Refusals.{IsLocal, AreLocals, NeverRefused};
 
 use crate::fault::LowerFault;
 use core_tree::{Temporary, Width};
@@ -31,7 +33,8 @@ pub enum Shape {
 impl Shape {
     /// The shape of a type as it is written. Refuses all others than `int`, `unsigned`, `char` and `void`.
     pub fn of(of: &TypeName) -> Result<Shape, LowerFault>
-        ensures { IfOk result (λ shape. shape_tree shape ≡ settled (written (type_tree of.now))) }
+        ensures shape { IfOk result (λ shape. shape_tree shape ≡ settled (written (type_tree of.now))) }
+        ensures taken { TakesResult (type_tree of.now) → NeverRefused result }
     {
         if !of.pointers.is_empty() {
             return Err(LowerFault::NotTaken);
@@ -57,7 +60,8 @@ impl Shape {
 
     /// How wide a local of the shape is. Refuses `void`.
     pub fn local_width(self) -> Result<Width, LowerFault>
-        ensures { (w : World) → IfOk result (λ width. local_tree width ≡ local_of w (shape_tree self)) }
+        ensures width { (w : World) → IfOk result (λ width. local_tree width ≡ local_of w (shape_tree self)) }
+        ensures taken { IsLocal (shape_tree self) → NeverRefused result }
     {
         match self {
             Shape::Void => Err(LowerFault::NotTaken),
@@ -81,6 +85,7 @@ impl Shape {
 pub fn add_shape(shapes: &mut Vec<Shape>, shape: Shape) -> Result<(), LowerFault>
     ensures added { OnOk result (map shape_tree shapes.new.items ≡ map shape_tree shapes.old.items ++ shape_tree shape ∷ []) }
     ensures grows { OnOk result (length shapes.new.items ≡ suc (length shapes.old.items)) }
+    ensures taken { NeverRefused result }
 {
     match shapes.push(shape) {
         Ok(()) => Ok(()),
@@ -90,7 +95,8 @@ pub fn add_shape(shapes: &mut Vec<Shape>, shape: Shape) -> Result<(), LowerFault
 
 /// How wide locals of these shapes are. Refuses `void`.
 pub fn widths_of(alloc: Global, shapes: &[Shape]) -> Result<Vec<Width>, LowerFault>
-    ensures { (w : World) → IfOk result (λ widths. map local_tree widths.items ≡ locals_of w (map shape_tree shapes.now)) }
+    ensures widths { (w : World) → IfOk result (λ widths. map local_tree widths.items ≡ locals_of w (map shape_tree shapes.now)) }
+    ensures taken { AreLocals (map shape_tree shapes.now) → NeverRefused result }
 {
     let mut widths = Vec::new(alloc);
     'each: for shape in shapes {

@@ -6,6 +6,8 @@ ghost use Rattle.source_meaning.specs.Calls.{number_type};
 ghost use Rattle.source_meaning.specs.Programs.{world_of, integer_shape};
 ghost use Rattle.source_lowering.specs.Lowered.{named_shape, call_shape, static_shape, linked_shape};
 ghost use Rattle.core_lower.specs.Views.{shape_tree, names_of};
+ghost use Rattle.source_lowering.specs.Taken.{Takes, TakesLinks, TakesProgram};
+ghost use Rattle.core_lower.specs.Refusals.{NeverRefused};
 
 use crate::fault::LowerFault;
 use crate::names::{Named, local_named};
@@ -27,7 +29,8 @@ fn number_shape(value: u32, suffix: bool) -> Shape
 
 /// The shape of a variable; `void` where there is none of that name.
 fn named_shape(program: &Program, locals: &[Named<'_>], name: &[u8]) -> Result<Shape, LowerFault>
-    ensures { IfOk result (λ shape. shape_tree shape ≡ named_shape (world_of program.now) (names_of locals.entry.now) name.now) }
+    ensures shape { IfOk result (λ shape. shape_tree shape ≡ named_shape (world_of program.now) (names_of locals.entry.now) name.now) }
+    ensures taken { TakesProgram program.now → NeverRefused result }
 {
     if let Some(local) = local_named(locals, name) {
         return Ok(local.shape);
@@ -40,7 +43,8 @@ fn named_shape(program: &Program, locals: &[Named<'_>], name: &[u8]) -> Result<S
 
 /// The shape of a call; `void` where there is no function of that name.
 fn call_shape(program: &Program, name: &[u8]) -> Result<Shape, LowerFault>
-    ensures { IfOk result (λ shape. shape_tree shape ≡ call_shape (world_of program.now) name.now) }
+    ensures shape { IfOk result (λ shape. shape_tree shape ≡ call_shape (world_of program.now) name.now) }
+    ensures taken { TakesProgram program.now → NeverRefused result }
 {
     if name == b"getchar".as_slice() || name == b"putchar".as_slice() {
         return Ok(Shape::Int);
@@ -58,7 +62,8 @@ pub fn static_shape(
     locals: &[Named<'_>],
     expression: &Expression,
 ) -> Result<Shape, LowerFault>
-    ensures { IfOk result (λ shape. shape_tree shape ≡ static_shape (world_of program.now) (names_of locals.entry.now) (expression_tree expression.now)) }
+    ensures shape { IfOk result (λ shape. shape_tree shape ≡ static_shape (world_of program.now) (names_of locals.entry.now) (expression_tree expression.now)) }
+    ensures taken { TakesProgram program.now → Takes (expression_tree expression.now) → NeverRefused result }
 {
     match expression {
         Expression::Number(_, value, suffix) => Ok(number_shape(*value, *suffix)),
@@ -87,9 +92,10 @@ fn linked_shape(
     links: &[Link],
     first: Shape,
 ) -> Result<Shape, LowerFault>
-    ensures { IfOk result
+    ensures shape { IfOk result
         (λ shape.
         shape_tree shape ≡ linked_shape (world_of program.now) (names_of locals.entry.now) (links_of (map link_tree links.now)) (shape_tree first)) }
+    ensures taken { TakesProgram program.now → TakesLinks (links_of (map link_tree links.now)) → NeverRefused result }
 {
     let mut left = first;
     'each: for link in links {

@@ -8,6 +8,8 @@ ghost use Rattle.core_meaning.specs.Core as core;
 ghost use Rattle.source_lowering.specs.Lowered.{static_shape, conversion_code, results_in, expression_code};
 ghost use Rattle.source_lowering.specs.Programs.{local_shape, block_shapes, declaration_code, statement_code, items_code};
 ghost use Rattle.core_lower.specs.Views.{shape_tree, names_of};
+ghost use Rattle.source_lowering.specs.Taken.{Takes, TakesDeclaration, TakesStatement, TakesItems, TakesProgram};
+ghost use Rattle.core_lower.specs.Refusals.{NeverRefused};
 
 use crate::emit::{emit, emit_block, emit_if, emit_operation, emit_while};
 use crate::expression::{lower_conversion, lower_expression};
@@ -24,7 +26,8 @@ const VALUE: Temporary = Temporary(0);
 
 /// The shape of a local as it is declared. Refuses a region, a key and an alias.
 fn declared_shape(declaration: &Declaration) -> Result<Shape, LowerFault>
-    ensures { IfOk result (λ shape. shape_tree shape ≡ local_shape (declaration_tree declaration.now)) }
+    ensures shape { IfOk result (λ shape. shape_tree shape ≡ local_shape (declaration_tree declaration.now)) }
+    ensures taken { TakesDeclaration (declaration_tree declaration.now) → NeverRefused result }
 {
     match declaration {
         Declaration::Local(of, _, _) => Shape::of(of),
@@ -41,10 +44,11 @@ fn lower_declaration(
     body: &mut Vec<Statement>,
     index: u32,
 ) -> Result<(), LowerFault>
-    ensures { OnOk result
+    ensures code { OnOk result
         (map statement_tree body.new.items ≡
         map statement_tree body.old.items ++
         declaration_code (world_of program.now) (names_of locals.entry.now) (declaration_tree declaration.now) index) }
+    ensures taken { TakesProgram program.now → TakesDeclaration (declaration_tree declaration.now) → NeverRefused result }
 {
     let Declaration::Local(of, _, initializer) = declaration else {
         return Err(LowerFault::NotTaken);
@@ -74,7 +78,7 @@ fn lower_return(
     value: &Expression,
     body: &mut Vec<Statement>,
 ) -> Result<(), LowerFault>
-    ensures { let w = world_of program.now in
+    ensures code { let w = world_of program.now in
         let names = names_of locals.entry.now in
         let e = expression_tree value.now in
         OnOk result
@@ -82,6 +86,7 @@ fn lower_return(
         map statement_tree body.old.items ++
         (expression_code w names e 0 ++
         (conversion_code (shape_tree shape) (static_shape w names e) 0 ++ core.Return (results_in (shape_tree shape) 0) ∷ []))) }
+    ensures taken { TakesProgram program.now → Takes (expression_tree value.now) → NeverRefused result }
 {
     lower_expression(alloc, program, locals, value, body, VALUE)?;
     lower_conversion(body, shape, static_shape(program, locals, value)?, VALUE)?;
@@ -98,10 +103,11 @@ fn lower_statement<'p>(
     statement: &'p Source,
     body: &mut Vec<Statement>,
 ) -> Result<(), LowerFault>
-    ensures { OnOk result
+    ensures code { OnOk result
         (map statement_tree body.new.items ≡
         map statement_tree body.old.items ++
         statement_code (world_of program.now) (shape_tree shape) (names_of locals.entry.now) (source_tree statement.entry.now)) }
+    ensures taken { TakesProgram program.now → TakesStatement (shape_tree shape) (source_tree statement.entry.now) → NeverRefused result }
 {
     match statement {
         Source::Empty(_) => Ok(()),
@@ -157,10 +163,11 @@ fn lower_part<'p>(
     locals: &[Named<'p>],
     statement: &'p Source,
 ) -> Result<Vec<Statement>, LowerFault>
-    ensures { IfOk result
+    ensures code { IfOk result
         (λ body.
         map statement_tree body.items ≡
         statement_code (world_of program.now) (shape_tree shape) (names_of locals.entry.now) (source_tree statement.entry.now)) }
+    ensures taken { TakesProgram program.now → TakesStatement (shape_tree shape) (source_tree statement.entry.now) → NeverRefused result }
 {
     let mut body = Vec::new(alloc);
     lower_statement(alloc, program, shape, locals, statement, &mut body)?;
@@ -186,6 +193,7 @@ pub fn lower_items<'p>(
     ensures shapes { OnOk result
         (map shape_tree shapes.new.items ≡
         map shape_tree shapes.old.items ++ block_shapes (items_of (map item_tree items.entry.now))) }
+    ensures taken { TakesProgram program.now → TakesItems (shape_tree shape) (items_of (map item_tree items.entry.now)) → NeverRefused result }
 {
     let mut locals = outer;
     'each: for item in items {

@@ -7,6 +7,8 @@ ghost use Rattle.source_meaning.specs.Programs.{world_of};
 ghost use Rattle.source_lowering.specs.Lowered.{get_code, put_code, put_by, local_named};
 ghost use Rattle.source_meaning.specs.Places.{bound_to};
 ghost use Rattle.core_lower.specs.Views.{names_of};
+ghost use Rattle.source_lowering.specs.Taken.{TakesPlace, TakesProgram};
+ghost use Rattle.core_lower.specs.Refusals.{NeverRefused};
 
 use crate::emit::emit_operation;
 use crate::fault::LowerFault;
@@ -34,9 +36,10 @@ pub fn lower_get(
     name: &[u8],
     to: Temporary,
 ) -> Result<(), LowerFault>
-    ensures { OnOk result
+    ensures code { OnOk result
         (map statement_tree body.new.items ≡
         map statement_tree body.old.items ++ get_code (world_of program.now) (names_of locals.entry.now) name.now to.0) }
+    ensures taken { TakesProgram program.now → NeverRefused result }
 {
     if let Some(local) = local_named(locals, name) {
         return emit_operation(
@@ -59,10 +62,11 @@ fn lower_named(
     name: &[u8],
     from: Temporary,
 ) -> Result<(), LowerFault>
-    ensures { OnOk result
+    ensures code { OnOk result
         (map statement_tree body.new.items ≡
         map statement_tree body.old.items ++
         put_by (local_named (names_of locals.entry.now) name.now) (bound_to (world_of program.now).globals name.now) from.0) }
+    ensures taken { TakesProgram program.now → NeverRefused result }
 {
     if let Some(local) = local_named(locals, name) {
         return emit_operation(
@@ -86,9 +90,10 @@ pub fn lower_put(
     place: &Expression,
     from: Temporary,
 ) -> Result<(), LowerFault>
-    ensures { OnOk result
+    ensures code { OnOk result
         (map statement_tree body.new.items ≡
         map statement_tree body.old.items ++ put_code (world_of program.now) (names_of locals.entry.now) (expression_tree place.now) from.0) }
+    ensures taken { TakesProgram program.now → TakesPlace (expression_tree place.now) → NeverRefused result }
 {
     match place {
         Expression::Variable(name) => lower_named(program, locals, body, &name.text, from),

@@ -3,9 +3,12 @@ use Rattle.cyc_tree.specs.View.{program_tree}
 use Rattle.core_tree.specs.Trees.{function_tree}
 use Rattle.source_meaning.specs.Programs.{world_of, functions_of}
 use Rattle.source_lowering.specs.Programs.{function_code}
+use Rattle.source_lowering.specs.Taken.{TakesProgram}
 use Rattle.core_lower.proofs.program.lower_functions.Given as goal
 
 abbrev pub invariant-each : goal.invariant-each
-invariant-each l =
-    map function_tree l.functions.items ++ map (function_code (world_of l.program)) (functions_of (program_tree (drop l.item-index l.items))) ≡
-    map (function_code (world_of l.program)) (functions_of (program_tree l.items))
+invariant-each l = record {
+  functions : map function_tree l.functions.items ++ map (function_code (world_of l.program)) (functions_of (program_tree (drop l.item-index l.items))) ≡
+      map (function_code (world_of l.program)) (functions_of (program_tree l.items));
+  taken : TakesProgram (program_tree l.items) → TakesProgram (program_tree (drop l.item-index l.items));
+}

@@ -5,9 +5,12 @@ use Rattle.core_lower.proofs.program.lower_globals.Goals as goal
 use Rattle.core_lower.proofs.program.lower_globals.Goals.{in-Global+in_ok-lower_global-in-Global+in_default, in-Function}
 
 pub each-preserved : goal.each-preserved
-each-preserved c =
-    elim c.match-item.branch [
-      | in-Global+in_ok-lower_global-in-Global+in_default w ↦
-          grind (arith, common_steps, c.each.invariant, w.in_ok-lower_global-in-Global.ensures (world_of c.args.program.now))
-      | in-Function w ↦ grind (arith, common_steps, c.each.invariant)
-    ]
+each-preserved c = record {
+  globals =
+      elim c.match-item.branch [
+        | in-Global+in_ok-lower_global-in-Global+in_default w ↦
+            grind (arith, common_steps, c.each.invariant.globals, w.in_ok-lower_global-in-Global.ensures.datum (world_of c.args.program.now))
+        | in-Function w ↦ grind (arith, common_steps, c.each.invariant.globals)
+      ];
+  taken = λ h. grind (arith, common_steps, c.each.invariant.taken h);
+}

@@ -3,4 +3,7 @@ use Rattle.std.proofs.lemmas.Grind.{common_steps}
 use Rattle.core_lower.proofs.shape.widths_of.Goals as goal
 
 pub each-preserved : goal.each-preserved
-each-preserved c = λ w. grind (arith, common_steps, c.each.invariant w, c.in_ok-width.ensures w)
+each-preserved c = record {
+  widths = λ w. grind (arith, common_steps, c.each.invariant.widths w, c.in_ok-width.ensures.width w);
+  taken = λ h. grind (arith, common_steps, c.each.invariant.taken h);
+}

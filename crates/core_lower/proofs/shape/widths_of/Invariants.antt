@@ -3,8 +3,11 @@ use Rattle.source_meaning.specs.Steps.{World}
 use Rattle.source_lowering.specs.Programs.{locals_of}
 use Rattle.core_tree.specs.Trees.{local_tree}
 use Rattle.core_lower.specs.Views.{shape_tree}
+use Rattle.core_lower.specs.Refusals.{AreLocals}
 use Rattle.core_lower.proofs.shape.widths_of.Given as goal
 
 abbrev pub invariant-each : goal.invariant-each
-invariant-each l =
-    (w : World) → map local_tree l.widths.items ++ locals_of w (map shape_tree (drop l.shape-index l.shapes)) ≡ locals_of w (map shape_tree l.shapes)
+invariant-each l = record {
+  widths : (w : World) → map local_tree l.widths.items ++ locals_of w (map shape_tree (drop l.shape-index l.shapes)) ≡ locals_of w (map shape_tree l.shapes);
+  taken : AreLocals (map shape_tree l.shapes) → AreLocals (map shape_tree (drop l.shape-index l.shapes));
+}

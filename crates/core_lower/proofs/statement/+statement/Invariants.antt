@@ -3,6 +3,7 @@ use Rattle.cyc_tree.specs.View.{item_tree, items_of}
 use Rattle.core_tree.specs.Trees.{statement_tree}
 use Rattle.source_meaning.specs.Programs.{world_of}
 use Rattle.source_lowering.specs.Programs.{block_shapes, items_code}
+use Rattle.source_lowering.specs.Taken.{TakesItems}
 use Rattle.core_lower.specs.Views.{shape_tree, names_of}
 use Rattle.core_lower.proofs.statement.+statement.Given as goal
 
@@ -16,4 +17,6 @@ invariant-lower_items-each l = record {
       items_code (world_of l.program) (shape_tree l.shape) (names_of l.fn.outer.items) (length l.initial.shapes.items) (items_of (map item_tree l.items));
   shapes : map shape_tree l.shapes.items ++ block_shapes (items_of (map item_tree (drop l.item-index l.items))) ≡
       map shape_tree l.initial.shapes.items ++ block_shapes (items_of (map item_tree l.items));
+  taken : TakesItems (shape_tree l.shape) (items_of (map item_tree l.items)) →
+      TakesItems (shape_tree l.shape) (items_of (map item_tree (drop l.item-index l.items)));
 }

@@ -1,0 +1,137 @@
+-- A block is entered, and left.
+use Rattle.std.specs.Prelude.{if◌then◌else◌, nat_eq, ◌&&◌}
+use Rattle.std.proofs.Common.{◌≡◌, ℕ, ◌+◌, false, List, [], ◌∷◌, ◌++◌, length, map, drop, refl, ap, ◌∙◌, sym, subst, append_assoc, append-nil, arith}
+use Rattle.core_meaning.specs.Memory.{Region, Frame, Born, Live, Dead, Memory, same_region, with_standing, with_object, blanks}
+use Rattle.core_meaning.specs.Core as core
+use Rattle.core_meaning.specs.Core.{Local, Statements}
+use Rattle.core_meaning.specs.Steps.{Config, Exit}
+use Rattle.core_meaning.specs.Meaning.{with_objects, in_block, out_of_block}
+use Rattle.core_tree.specs.declared.operation.Width.{Width}
+use Rattle.core_tree.specs.Trees.{local_tree, bytes_of, part_layout}
+use Rattle.core_eval.specs.declared.value.Object.{Object}
+use Rattle.core_eval.specs.Values.{spot_of, Shows, blank_object}
+use Rattle.core_eval.specs.Pendings.{Execute, Follow, Leave, Wait, Block, Go, Mark, rest_of}
+use Rattle.core_eval.specs.Standing.{Holds, Known, Agrees, Stands, IsFresh, AreNested}
+use Rattle.core_eval.specs.Costs.{IsMove}
+use Rattle.core_eval.proofs.Memories.{itself, other_number, shows_standing, shows_objects, shows_grown}
+use Rattle.core_eval.proofs.Nested.{nested_still}
+use Rattle.core_eval.proofs.Moves.{all_stand, goes_here}
+
+-- ---- what a block's objects change
+
+-- in other regions nothing
+module _ (q r : Region) (other : same_region q r ≡ false) where
+  objects_other : (ls : List Local) (m : Memory) → (with_objects r ls m).objects q ≡ m.objects q
+  objects_other [] m = refl
+  objects_other (l ∷ ls) m =
+      objects_other ls (with_object m r (blanks l.layout l.count)) ∙ ap (λ b. if b then m.objects r + 1 else m.objects q) other
+
+  parts_other : (i : ℕ) (ls : List Local) (m : Memory) → (with_objects r ls m).parts (spot_of q i) 0 ≡ m.parts (spot_of q i) 0
+  parts_other i [] m = refl
+  parts_other i (l ∷ ls) m =
+      parts_other i ls (with_object m r (blanks l.layout l.count))
+      ∙ ap (λ b. if b && nat_eq i (m.objects r) then blanks l.layout l.count 0 0 else m.parts (spot_of q i) 0) other
+
+-- no activation
+activations_same : (r : Region) (ls : List Local) (m : Memory) → (with_objects r ls m).activations ≡ m.activations
+activations_same r [] m = refl
+activations_same r (l ∷ ls) m = activations_same r ls (with_object m r (blanks l.layout l.count))
+
+length_more : {A : Type 0} (xs : List A) (x : A) → length xs + 1 ≡ length (xs ++ x ∷ [])
+length_more [] x = refl
+length_more (y ∷ xs) x = let h = length_more xs x in omega (arith, h)
+
+-- one object for each local
+all_shown : (r : Region) (widths : List Width) (m : Memory) (objects : List Object) → Shows m r objects → m.objects r ≡ length objects
+    → Shows (with_objects r (map local_tree widths) m) r (objects ++ map blank_object widths)
+all_shown r [] m objects shows counted = subst (λ (os : List Object). Shows m r os) (sym (append-nil objects)) shows
+all_shown r (w ∷ widths) m objects shows counted =
+    let m1 = with_object m r (blanks (part_layout (bytes_of w)) 1) in
+    let more : m1.objects r ≡ length (objects ++ blank_object w ∷ []) =
+    ap (λ b. if b then m.objects r + 1 else m.objects r) (itself r) ∙ ap (λ n. n + 1) counted ∙ length_more objects (blank_object w) in
+    subst (λ (os : List Object). Shows (with_objects r (map local_tree widths) m1) r os) (append_assoc objects (blank_object w ∷ []) (map blank_object widths))
+    (all_shown r widths m1 (objects ++ blank_object w ∷ []) (shows_grown shows counted w) more)
+
+-- ---- a block is entered
+
+-- the memory in which the block is live and has no objects as yet
+abbrev begun : Memory → Memory
+begun m = record (with_standing m (Frame m.activations) Live) { activations = m.activations + 1 }
+
+shows_begun : (m : Memory) (q : Region) (objects : List Object) → same_region q (Frame m.activations) ≡ false → Shows m q objects → Shows (begun m) q objects
+shows_begun m q objects other shows =
+    let s = shows_standing shows (Frame m.activations) other Live in record { live = s.live; holds = s.holds }
+
+module _ (known : Known) (ws : List Wait) (widths : List Width) where
+  -- what is known in the block
+  abbrev pub inside : Known
+  inside = record known { blocks = map blank_object widths ∷ known.blocks }
+
+  entered_agrees : (marks : List Mark) (c : Config) → Agrees known ws marks c
+      → Agrees inside (Block ∷ ws) (record { number = c.memory.activations; outside = c } ∷ marks) (in_block (map local_tree widths) c)
+  entered_agrees marks c h =
+      let m = c.memory in
+      let ls = map local_tree widths in
+      let a = m.activations in
+      let m' = with_objects (Frame a) ls (begun m) in
+      let counted : m'.activations ≡ a + 1 = activations_same (Frame a) ls (begun m) in
+      let still : (q : Region) (objects : List Object) → same_region q (Frame a) ≡ false → Shows m q objects → Shows m' q objects =
+      λ q objects other shows. shows_objects q (Frame a) objects other ls (begun m) (shows_begun m q objects other shows) in
+      record {
+        temps = h.temps;
+        fresh = record {
+          empty = λ k le. objects_other (Frame k) (Frame a) (other_number k a (omega (arith, le, counted))) ls (begun m)
+              ∙ h.fresh.empty k (omega (arith, le, counted));
+          missing = λ k i le. parts_other (Frame k) (Frame a) (other_number k a (omega (arith, le, counted))) i ls (begun m)
+              ∙ h.fresh.missing k i (omega (arith, le, counted));
+        };
+        globals = still (Born 0) known.globals refl h.globals;
+        nested = (
+          refl,
+          omega (arith, counted),
+          all_shown (Frame a) widths (begun m) []
+              (record { live = ap (λ b. if b then Live else m.standing (Frame a)) (itself (Frame a)); holds = λ i. h.fresh.missing a i (omega arith) })
+              (h.fresh.empty a (omega arith)),
+          nested_still m m' a a c.blocks known.blocks ws marks (omega arith)
+              (λ k objects below shows. still (Frame k) objects (other_number k a (omega (arith, below))) shows) h.nested,
+        );
+      }
+
+  pub block_enters : (body : Statements) → IsMove (Execute (core.Block (map local_tree widths) body)) ws known (Go (Follow body)) (Block ∷ ws) inside
+  block_enters body = record {
+    still = all_stand _ ws known (Go (Follow body)) (Block ∷ ws) inside (λ main marks c h.
+        goes_here main (record { number = c.memory.activations; outside = c } ∷ marks) (in_block (map local_tree widths) c) _ (Go (Follow body))
+        (Block ∷ ws) inside
+        (entered_agrees marks c h) refl);
+    fewer = omega arith;
+  }
+
+-- ---- a block is left
+
+-- what is known outside of the block
+abbrev pub outside_of : Known → Known
+outside_of known = record known { blocks = drop 1 known.blocks }
+
+left_goes : (exit : Exit) (ws : List Wait) (known : Known) (blocks : List (List Object)) → known.blocks ≡ blocks → (main : ℕ) (marks : List Mark) (c : Config)
+    → Holds c.temps known.temps → IsFresh c.memory → Shows c.memory (Born 0) known.globals
+    → AreNested c.memory c.memory.activations c.blocks blocks (Block ∷ ws) marks
+    → Stands main (rest_of main (Block ∷ ws) marks exit c) (Go (Leave exit)) ws (record known { blocks = drop 1 blocks })
+left_goes exit ws known blocks is main [] c temps fresh globals nested = absurd nested
+left_goes exit ws known [] is main (mark ∷ marks) c temps fresh globals nested = absurd nested
+left_goes exit ws known (objects ∷ blocks) is main (mark ∷ marks) c temps fresh globals (same, below, shows, rest) =
+    let m' = with_standing c.memory (Frame mark.number) Dead in
+    goes_here main marks (out_of_block mark.number mark.outside.blocks c) _ (Go (Leave exit)) ws (record known { blocks = blocks })
+    (record {
+      temps = temps;
+      fresh = record { empty = fresh.empty; missing = fresh.missing };
+      globals = shows_standing globals (Frame mark.number) refl Dead;
+      nested = nested_still c.memory m' mark.number c.memory.activations mark.outside.blocks blocks ws marks (omega (arith, below))
+          (λ k os less s. shows_standing s (Frame mark.number) (other_number k mark.number (omega (arith, less))) Dead) rest;
+    }) refl
+
+pub block_leaves : (exit : Exit) (ws : List Wait) (known : Known) → IsMove (Leave exit) (Block ∷ ws) known (Go (Leave exit)) ws (outside_of known)
+block_leaves exit ws known = record {
+  still = all_stand (Go (Leave exit)) (Block ∷ ws) known (Go (Leave exit)) ws (outside_of known) (λ main marks c h.
+      left_goes exit ws known known.blocks refl main marks c h.temps h.fresh h.globals h.nested);
+  fewer = omega arith;
+}

@@ -1,0 +1,184 @@
+-- A call begins, and a program.
+use Rattle.std.specs.Prelude.{slice_get, slice_index_or, nat_eq}
+use Rattle.std.proofs.Common.{◌≡◌, ◌≢◌, ℕ, zero, suc, ◌<◌, ◌≤◌, true, false, Option, Some, None, List, [], ◌∷◌, length, map, refl, ap, ◌∙◌, sym, subst, arith}
+use Rattle.std.proofs.lemmas.Bool.Decides.{nat_tests}
+use Rattle.step_trees.specs.Trees as trees
+use Rattle.core_meaning.specs.Memory as memory
+use Rattle.core_meaning.specs.Memory.{Region, Frame, Own, Born, Standing, Live, Memory, Content, Part, with_standing}
+use Rattle.core_meaning.specs.Core.{Function}
+use Rattle.core_meaning.specs.Steps.{Config, Called, Step, checked}
+use Rattle.core_meaning.specs.Meaning.{entered, called, body_of, first_memory, status_of, start}
+use Rattle.core_tree.specs.declared.program.Function as code
+use Rattle.core_tree.specs.declared.program.Datum.{Datum}
+use Rattle.core_tree.specs.declared.program.Datum.TheVariants as datum
+use Rattle.core_tree.specs.declared.program.Program as code_program
+use Rattle.core_tree.specs.Trees.{function_tree, datum_tree, body_tree, program_tree}
+use Rattle.core_eval.specs.declared.value.Value.{Value}
+use Rattle.core_eval.specs.Values.{spot_of, content_of, part_in}
+use Rattle.core_eval.specs.Pendings.{Follow, Wait, Caller, Next, Go, Wrong, Mark, rest_of, coming, returned_to}
+use Rattle.core_eval.specs.Standing.{Known, Agrees, Stands, IsCall, first_object, first_known}
+use Rattle.core_eval.proofs.Nested.{nested_still}
+use Rattle.core_eval.proofs.Moves.{goes_here}
+
+-- ---- the functions of a program
+
+pub function_at : (fs : List code.Function) (k : ℕ) (f : code.Function) → k < length fs → f ≡ slice_index_or fs k f → slice_get (map function_tree fs) k
+    ≡ Some (function_tree f)
+function_at [] k f h e = absurd (omega (arith, h))
+function_at (g ∷ fs) zero f h e = ap (λ f. Some (function_tree f)) (sym e)
+function_at (g ∷ fs) (suc k) f h e = function_at fs k f (omega (arith, h)) e
+
+pub no_function : (fs : List code.Function) (k : ℕ) → length fs ≤ k → slice_get (map function_tree fs) k ≡ None
+no_function [] k h = refl
+no_function (g ∷ fs) zero h = absurd (omega (arith, h))
+no_function (g ∷ fs) (suc k) h = no_function fs k (omega (arith, h))
+
+-- ---- a call
+
+-- the callee's state
+abbrev callee : code.Function → List Content → Memory → Config
+callee f arguments m = entered (function_tree f) arguments m
+
+module _ (functions : List code.Function) (results : List ℕ) (n : ℕ) (arguments : List Value) (known : Known) (ws : List Wait) where
+  -- what is known in the callee
+  abbrev pub in_callee : Known
+  in_callee = record { temps = arguments; blocks = []; globals = known.globals }
+
+  -- how the caller waits
+  abbrev pub for_callee : List Wait
+  for_callee = Caller results n (record { temps = known.temps; blocks = known.blocks }) ∷ ws
+
+  callee_agrees : (f : code.Function) (marks : List Mark) (c : Config) → Agrees known ws marks c
+      → Agrees in_callee for_callee (record { number = c.memory.calls; outside = c } ∷ marks) (callee f (map content_of arguments) c.memory)
+  callee_agrees f marks c h = record {
+    temps = λ k. refl;
+    fresh = record { empty = h.fresh.empty; missing = h.fresh.missing };
+    globals = record { live = h.globals.live; holds = h.globals.holds };
+    nested = (
+      refl,
+      refl,
+      h.temps,
+      nested_still c.memory (callee f (map content_of arguments) c.memory).memory c.memory.activations c.memory.activations c.blocks known.blocks ws marks
+          (omega arith)
+          (λ k os below s. record { live = s.live; holds = s.holds }) h.nested,
+    );
+  }
+
+  abbrev call_step : Config → ℕ → List Mark → Option Function → Step
+  call_step c main marks f = body_of f n (map content_of arguments) (returned_to results c (rest_of main ws marks)) c.memory
+
+  entered_step : (f : code.Function) (main : ℕ) (marks : List Mark) (c : Config) → nat_eq (length (map content_of arguments)) f.parameters ≡ true
+      → slice_get (map function_tree functions) n ≡ Some (function_tree f)
+      → called (map function_tree functions) (record { function = n; arguments = map content_of arguments })
+      (returned_to results c (rest_of main ws marks)) c.memory
+      ≡ trees.Says (Called n) (coming (Go (Follow (body_tree f.body.items)))
+      (rest_of main for_callee (record { number = c.memory.calls; outside = c } ∷ marks)) (callee f (map content_of arguments) c.memory))
+  entered_step f main marks c fits at =
+      ap (call_step c main marks) at
+      ∙ ap (λ b. checked b (trees.Says (Called n) (coming (Go (Follow (body_tree f.body.items)))
+      (rest_of main for_callee (record { number = c.memory.calls; outside = c } ∷ marks)) (callee f (map content_of arguments) c.memory)))) fits
+
+  length_same : {A B : Type 0} (g : A → B) (xs : List A) → length (map g xs) ≡ length xs
+  length_same g [] = refl
+  length_same g (x ∷ xs) = ap suc (length_same g xs)
+
+  pub call_enters : (f : code.Function) → slice_get (map function_tree functions) n ≡ Some (function_tree f) → f.parameters ≡ length arguments
+      → IsCall (map function_tree functions) results n (map content_of arguments) ws known (Go (Follow (body_tree f.body.items))) for_callee in_callee
+  call_enters f at fits = λ main marks c h. record {
+    said = Called n ∷ [];
+    unseen = tt;
+    marks = record { number = c.memory.calls; outside = c } ∷ marks;
+    config = callee f (map content_of arguments) c.memory;
+    agrees = callee_agrees f marks c h;
+    same = entered_step f main marks c (let e = length_same content_of arguments in grind (arith, nat_tests, e, fits)) at;
+  }
+
+  pub call_missing : slice_get (map function_tree functions) n ≡ None
+      → IsCall (map function_tree functions) results n (map content_of arguments) ws known Wrong ws known
+  call_missing past = λ main marks c h. goes_here main marks c _ Wrong ws known h (ap (call_step c main marks) past)
+
+  pub call_unfit : (f : code.Function) → slice_get (map function_tree functions) n ≡ Some (function_tree f) → f.parameters ≢ length arguments
+      → IsCall (map function_tree functions) results n (map content_of arguments) ws known Wrong ws known
+  call_unfit f at unfit = λ main marks c h.
+      let no : nat_eq (length (map content_of arguments)) f.parameters
+      ≡ false = let e = length_same content_of arguments in grind (arith, nat_tests, e, unfit) in
+      goes_here main marks c _ Wrong ws known h
+      (ap (call_step c main marks) at
+      ∙ ap (λ b. checked b (trees.Says (Called n) (coming (Go (Follow (body_tree f.body.items)))
+      (rest_of main for_callee (record { number = c.memory.calls; outside = c } ∷ marks)) (callee f (map content_of arguments) c.memory)))) no)
+
+-- ---- a program
+
+first_part : (ds : List Datum) (i : ℕ) → (first_memory (map datum_tree ds)).parts (spot_of (Born 0) i) 0 ≡ part_in (slice_get (map first_object ds) i)
+first_part [] i = refl
+first_part (datum.Byte b ∷ ds) zero = refl
+first_part (datum.Word w ∷ ds) zero = refl
+first_part (d ∷ ds) (suc i) = first_part ds i
+
+module _ (p : code_program.Program) where
+  abbrev first_config : Config
+  first_config = record { temps = λ k. memory.Blank; blocks = []; own = 0; memory = first_memory (map datum_tree p.globals.items) }
+
+  first_agrees : Agrees (first_known p.globals.items) [] [] first_config
+  first_agrees = record {
+    temps = λ k. refl;
+    fresh = record { empty = λ k le. refl; missing = λ k i le. refl };
+    globals = record { live = refl; holds = first_part p.globals.items };
+    nested = (refl, refl);
+  }
+
+  abbrev main_config : code.Function → Config
+  main_config f = callee f [] (first_memory (map datum_tree p.globals.items))
+
+  main_agrees : (f : code.Function) → Agrees (first_known p.globals.items) [] [] (main_config f)
+  main_agrees f = record {
+    temps = λ k. refl;
+    fresh = record { empty = λ k le. refl; missing = λ k i le. refl };
+    globals = record { live = refl; holds = first_part p.globals.items };
+    nested = (refl, refl);
+  }
+
+  abbrev start_step : Option Function → Step
+  start_step f = body_of f p.main [] status_of (first_memory (map datum_tree p.globals.items))
+
+  abbrev main_step : (f : code.Function) → Step
+  main_step f = trees.Says (Called p.main) (coming (Go (Follow (body_tree f.body.items))) (rest_of p.main [] []) (main_config f))
+
+  pub starts : (f : code.Function) → slice_get (map function_tree p.functions.items) p.main ≡ Some (function_tree f) → f.parameters ≡ 0
+      → Stands p.main (start (program_tree p)) (Go (Follow (body_tree f.body.items))) [] (first_known p.globals.items)
+  starts f at none = record {
+    said = Called p.main ∷ [];
+    unseen = tt;
+    marks = [];
+    config = main_config f;
+    agrees = main_agrees f;
+    same = ap start_step at
+        ∙ ap (λ b. checked b (main_step f)) (let e : nat_eq 0 f.parameters ≡ true = grind (arith, nat_tests, none) in e);
+  }
+
+  pub starts_nowhere : slice_get (map function_tree p.functions.items) p.main ≡ None
+      → Stands p.main (start (program_tree p)) Wrong [] (first_known p.globals.items)
+  starts_nowhere past =
+      goes_here p.main [] first_config _ Wrong [] (first_known p.globals.items) first_agrees (ap start_step past)
+
+  pub starts_unfit : (f : code.Function) → slice_get (map function_tree p.functions.items) p.main ≡ Some (function_tree f) → f.parameters ≢ 0
+      → Stands p.main (start (program_tree p)) Wrong [] (first_known p.globals.items)
+  starts_unfit f at some =
+      goes_here p.main [] first_config _ Wrong [] (first_known p.globals.items) first_agrees
+      (ap start_step at
+      ∙ ap (λ b. checked b (main_step f)) (let e : nat_eq 0 f.parameters ≡ false = grind (arith, nat_tests, some) in e))
+
+-- ---- what is said in another way
+
+pub call_as : (functions : List Function) (results : List ℕ) (n : ℕ) (arguments : List Content) (ws : List Wait) (known : Known) (next next' : Next)
+    (rest rest' : List Wait)
+    (after after' : Known) → next' ≡ next → rest' ≡ rest → after' ≡ after → IsCall functions results n arguments ws known next rest after
+    → IsCall functions results n arguments ws known next' rest' after'
+call_as functions results n arguments ws known next next' rest rest' after after' is same knows h = λ main marks c agrees.
+    let step : Step = called functions (record { function = n; arguments = arguments }) (returned_to results c (rest_of main ws marks)) c.memory in
+    subst (λ (x : Next). Stands main step x rest' after') (sym is)
+    (subst (λ (l : List Wait). Stands main step next l after') (sym same)
+    (subst (λ (k : Known). Stands main step next rest k) (sym knows) (h main marks c agrees)))
+
+pub stands_as : (main : ℕ) (s : Step) (next next' : Next) (known : Known) → next' ≡ next → Stands main s next [] known → Stands main s next' [] known
+stands_as main s next next' known is h = subst (λ (x : Next). Stands main s x [] known) (sym is) h

@@ -1,0 +1,296 @@
+-- What goes on at the end of a statement.
+use Rattle.std.specs.Prelude.{if◌then◌else◌, nat_eq}
+use Rattle.std.proofs.Common.{◌≡◌, ℕ, true, false, Some, None, List, [], ◌∷◌, refl, ap, ◌∙◌, sym, arith}
+use Rattle.core_meaning.specs.Memory as memory
+use Rattle.core_meaning.specs.Memory.{Own, Born, Dead, Content, with_standing}
+use Rattle.core_meaning.specs.Core.{Statements}
+use Rattle.core_meaning.specs.Steps as steps
+use Rattle.core_meaning.specs.Steps.{Config, with_temp, with_memory, Exit, Returned, stuck}
+use Rattle.core_eval.specs.declared.value.Value.{Value}
+use Rattle.core_eval.specs.declared.value.Value.TheVariants as value
+use Rattle.core_eval.specs.Values.{content_of, temp_of, truth_of}
+use Rattle.core_eval.specs.Pendings.{Follow, Leave, Wait, Then, Test, Body, Caller, Saved, Next, Go, TurnDue, Over, Wrong, Mark, rest_of}
+use Rattle.core_eval.specs.Standing.{Known, Agrees, Stands, AreNested, Gives}
+use Rattle.core_eval.specs.Costs.{IsMove}
+use Rattle.core_eval.proofs.Memories.{shows_standing}
+use Rattle.core_eval.proofs.Nested.{nested_still}
+use Rattle.core_eval.proofs.Moves.{all_stand, goes_here}
+use Rattle.core_eval.proofs.EnterMoves.{same_state, branches}
+
+-- not the end of the statements before
+abbrev pub IsEarly : Exit → Type 0
+IsEarly steps.Falls = ⊥
+IsEarly _ = Unit {0}
+
+-- no return
+abbrev pub IsNoReturn : Exit → Type 0
+IsNoReturn (steps.Returns vs) = ⊥
+IsNoReturn _ = Unit {0}
+
+-- what is known does not tell whether a loop, or the statements after one, wait behind it
+behind : (w : Wait) (known : Known) (ws : List Wait) (marks : List Mark) (c : Config) → Agrees known (w ∷ ws) marks c
+    → (AreNested c.memory c.memory.activations c.blocks known.blocks (w ∷ ws) marks → AreNested c.memory c.memory.activations c.blocks known.blocks ws marks)
+    → Agrees known ws marks c
+behind w known ws marks c h drops = record { temps = h.temps; fresh = h.fresh; globals = h.globals; nested = drops h.nested }
+
+module _ (known : Known) (ws : List Wait) where
+  -- ---- statements after one another
+
+  pub then_follow : (ss : Statements) → IsMove (Leave steps.Falls) (Then ss ∷ ws) known (Go (Follow ss)) ws known
+  then_follow ss =
+      same_state (Leave steps.Falls) (Then ss ∷ ws) (Go (Follow ss)) ws known (λ main marks c h. (behind (Then ss) known ws marks c h (λ n. n), refl))
+      (omega arith)
+
+  pub then_leaves : (exit : Exit) (ss : Statements) → IsEarly exit → IsMove (Leave exit) (Then ss ∷ ws) known (Go (Leave exit)) ws known
+  then_leaves steps.Falls ss early = absurd early
+  then_leaves steps.Breaks ss early =
+      same_state (Leave steps.Breaks) (Then ss ∷ ws) (Go (Leave steps.Breaks)) ws known
+      (λ main marks c h. (behind (Then ss) known ws marks c h (λ n. n), refl)) (omega arith)
+  then_leaves steps.Continues ss early =
+      same_state (Leave steps.Continues) (Then ss ∷ ws) (Go (Leave steps.Continues)) ws known
+      (λ main marks c h. (behind (Then ss) known ws marks c h (λ n. n), refl)) (omega arith)
+  then_leaves (steps.Returns vs) ss early =
+      same_state (Leave (steps.Returns vs)) (Then ss ∷ ws) (Go (Leave (steps.Returns vs))) ws known
+      (λ main marks c h. (behind (Then ss) known ws marks c h (λ n. n), refl)) (omega arith)
+
+  -- ---- loops
+
+  module _ (test : Statements) (flag : ℕ) (body : Statements) where
+    pub test_leaves : (exit : Exit) → IsEarly exit → IsMove (Leave exit) (Test test flag body ∷ ws) known (Go (Leave exit)) ws known
+    test_leaves steps.Falls early = absurd early
+    test_leaves steps.Breaks early =
+        same_state (Leave steps.Breaks) (Test test flag body ∷ ws) (Go (Leave steps.Breaks)) ws known
+        (λ main marks c h. (behind (Test test flag body) known ws marks c h (λ n. n), refl)) (omega arith)
+    test_leaves steps.Continues early =
+        same_state (Leave steps.Continues) (Test test flag body ∷ ws) (Go (Leave steps.Continues)) ws known
+        (λ main marks c h. (behind (Test test flag body) known ws marks c h (λ n. n), refl)) (omega arith)
+    test_leaves (steps.Returns vs) early =
+        same_state (Leave (steps.Returns vs)) (Test test flag body ∷ ws) (Go (Leave (steps.Returns vs))) ws known
+        (λ main marks c h. (behind (Test test flag body) known ws marks c h (λ n. n), refl)) (omega arith)
+
+    module _ (v : Value) (read : content_of v ≡ temp_of known.temps flag) where
+      pub turn_comes : truth_of v ≡ Some true → IsMove (Leave steps.Falls) (Test test flag body ∷ ws) known (TurnDue test flag body) ws known
+      turn_comes is =
+          same_state (Leave steps.Falls) (Test test flag body ∷ ws) (TurnDue test flag body) ws known
+          (λ main marks c h. (
+            behind (Test test flag body) known ws marks c h (λ n. n),
+            branches (c.temps flag) v (Some true) _ _
+                (h.temps flag ∙ sym read) is,
+          )) (omega arith)
+
+      pub loop_ends : truth_of v ≡ Some false → IsMove (Leave steps.Falls) (Test test flag body ∷ ws) known (Go (Leave steps.Falls)) ws known
+      loop_ends is =
+          same_state (Leave steps.Falls) (Test test flag body ∷ ws) (Go (Leave steps.Falls)) ws known
+          (λ main marks c h. (
+            behind (Test test flag body) known ws marks c h (λ n. n),
+            branches (c.temps flag) v (Some false) _ _
+                (h.temps flag ∙ sym read) is,
+          )) (omega arith)
+
+      pub test_wrong : truth_of v ≡ None → IsMove (Leave steps.Falls) (Test test flag body ∷ ws) known Wrong ws known
+      test_wrong is =
+          same_state (Leave steps.Falls) (Test test flag body ∷ ws) Wrong ws known
+          (λ main marks c h. (behind (Test test flag body) known ws marks c h (λ n. n), branches (c.temps flag) v None _ _ (h.temps flag ∙ sym read) is))
+          (omega arith)
+
+    again_as : (w : Wait) (main : ℕ) (marks : List Mark) (c : Config) → Agrees known (Body test flag body ∷ ws) marks c
+        → Agrees known (Test test flag body ∷ ws) marks c
+    again_as w main marks c h = record { temps = h.temps; fresh = h.fresh; globals = h.globals; nested = h.nested }
+
+    pub turn_falls : IsMove (Leave steps.Falls) (Body test flag body ∷ ws) known (Go (Follow test)) (Test test flag body ∷ ws) known
+    turn_falls =
+        same_state (Leave steps.Falls) (Body test flag body ∷ ws) (Go (Follow test)) (Test test flag body ∷ ws) known
+        (λ main marks c h. (again_as (Body test flag body) main marks c h, refl)) (omega arith)
+
+    pub turn_continues : IsMove (Leave steps.Continues) (Body test flag body ∷ ws) known (Go (Follow test)) (Test test flag body ∷ ws) known
+    turn_continues =
+        same_state (Leave steps.Continues) (Body test flag body ∷ ws) (Go (Follow test)) (Test test flag body ∷ ws) known
+        (λ main marks c h. (again_as (Body test flag body) main marks c h, refl)) (omega arith)
+
+    pub turn_breaks : IsMove (Leave steps.Breaks) (Body test flag body ∷ ws) known (Go (Leave steps.Falls)) ws known
+    turn_breaks =
+        same_state (Leave steps.Breaks) (Body test flag body ∷ ws) (Go (Leave steps.Falls)) ws known
+        (λ main marks c h. (behind (Body test flag body) known ws marks c h (λ n. n), refl)) (omega arith)
+
+    pub turn_returns : (vs : List Content) → IsMove (Leave (steps.Returns vs)) (Body test flag body ∷ ws) known (Go (Leave (steps.Returns vs))) ws known
+    turn_returns vs =
+        same_state (Leave (steps.Returns vs)) (Body test flag body ∷ ws) (Go (Leave (steps.Returns vs))) ws known
+        (λ main marks c h. (behind (Body test flag body) known ws marks c h (λ n. n), refl)) (omega arith)
+
+  -- ---- the caller goes on
+
+  module _ (results : List ℕ) (f : ℕ) (saved : Saved) where
+    -- what is known of the caller
+    abbrev pub back : Known
+    back = record { temps = saved.temps; blocks = saved.blocks; globals = known.globals }
+
+    -- the caller's state
+    abbrev resumed : Mark → Config → Config
+    resumed mark c = with_memory (with_standing c.memory (Own mark.number) Dead) mark.outside
+
+    resumed_agrees : (mark : Mark) (marks : List Mark) (c : Config) → Agrees known (Caller results f saved ∷ ws) (mark ∷ marks) c
+        → Agrees back ws marks (resumed mark c)
+    resumed_agrees mark marks c h =
+        let (none, empty, held, rest) = h.nested in
+        record {
+          temps = held;
+          fresh = record { empty = h.fresh.empty; missing = h.fresh.missing };
+          globals = shows_standing h.globals (Own mark.number) refl Dead;
+          nested = nested_still c.memory
+              (with_standing c.memory (Own mark.number) Dead) c.memory.activations c.memory.activations mark.outside.blocks saved.blocks ws marks
+              (omega arith) (λ k os below s. shows_standing s (Own mark.number) refl Dead) rest;
+        }
+
+    -- where something waits, there is a mark for it
+    marked : (next' : Next) (known' : Known) (task : Exit) → ((main : ℕ) (mark : Mark) (marks : List Mark) (c : Config)
+        → Agrees known (Caller results f saved ∷ ws) (mark ∷ marks) c
+        → Stands main (rest_of main (Caller results f saved ∷ ws) (mark ∷ marks) task c) next' ws known')
+        → (main : ℕ) (marks : List Mark) (c : Config) → Agrees known (Caller results f saved ∷ ws) marks c
+        → Stands main (rest_of main (Caller results f saved ∷ ws) marks task c) next' ws known'
+    marked next' known' task goes main [] c h = absurd h.nested
+    marked next' known' task goes main (mark ∷ marks) c h = goes main mark marks c h
+
+    -- out of order, without a return
+    pub caller_wrong : (exit : Exit) → IsNoReturn exit → IsMove (Leave exit) (Caller results f saved ∷ ws) known Wrong ws back
+    caller_wrong exit no_return = record {
+      still = all_stand (Go (Leave exit)) (Caller results f saved ∷ ws) known Wrong ws back (marked Wrong back exit (λ main mark marks c h.
+          goes_here main marks (resumed mark c) _ Wrong ws back (resumed_agrees mark marks c h) (wrong_exit exit no_return main mark marks c)));
+      fewer = omega arith;
+    }
+      where
+        wrong_exit : (exit : Exit) → IsNoReturn exit → (main : ℕ) (mark : Mark) (marks : List Mark) (c : Config)
+            → rest_of main (Caller results f saved ∷ ws) (mark ∷ marks) exit c ≡ stuck
+        wrong_exit steps.Falls h main mark marks c = refl
+        wrong_exit steps.Breaks h main mark marks c = refl
+        wrong_exit steps.Continues h main mark marks c = refl
+        wrong_exit (steps.Returns vs) h main mark marks c = absurd h
+
+  -- with no result, and none to take
+  pub none_returned : (f : ℕ) (saved : Saved) → IsMove (Leave (steps.Returns [])) (Caller [] f saved ∷ ws) known (Go (Leave steps.Falls)) ws (back [] f saved)
+  none_returned f saved = record {
+    still = all_stand (Go (Leave (steps.Returns []))) (Caller [] f saved ∷ ws) known (Go (Leave steps.Falls)) ws (back [] f saved)
+        (marked [] f saved (Go (Leave steps.Falls)) (back [] f saved) (steps.Returns []) (λ main mark marks c h. record {
+          said = Returned f ∷ [];
+          unseen = tt;
+          marks = marks;
+          config = resumed [] f saved mark c;
+          agrees = resumed_agrees [] f saved mark marks c h;
+          same = refl;
+        }));
+    fewer = omega arith;
+  }
+
+  -- with a result, and a temporary that gets it
+  pub one_returned : (f t : ℕ) (v : Content) (saved : Saved) (temps : List Value) → Gives t v saved.temps temps
+      → IsMove (Leave (steps.Returns (v ∷ []))) (Caller (t ∷ []) f saved ∷ ws) known (Go (Leave steps.Falls)) ws
+      (record { temps = temps; blocks = saved.blocks; globals = known.globals })
+  one_returned f t v saved temps gives = record {
+    still = all_stand (Go (Leave (steps.Returns (v ∷ [])))) (Caller (t ∷ []) f saved ∷ ws) known (Go (Leave steps.Falls)) ws
+        (record { temps = temps; blocks = saved.blocks; globals = known.globals })
+        (marked (t ∷ []) f saved (Go (Leave steps.Falls)) _ (steps.Returns (v ∷ [])) (λ main mark marks c h.
+        let was = resumed_agrees (t ∷ []) f saved mark marks c h in
+        record {
+          said = Returned f ∷ [];
+          unseen = tt;
+          marks = marks;
+          config = with_temp t v (resumed (t ∷ []) f saved mark c);
+          agrees = record {
+            temps = λ k. ap (λ x. if nat_eq k t then v else x) (was.temps k) ∙ sym (gives k);
+            fresh = was.fresh;
+            globals = was.globals;
+            nested = was.nested;
+          };
+          same = refl;
+        }));
+    fewer = omega arith;
+  }
+
+  -- with a result that nothing takes, or none
+  pub result_untaken : (f : ℕ) (v : Content) (saved : Saved) → IsMove (Leave (steps.Returns (v ∷ []))) (Caller [] f saved ∷ ws) known Wrong ws (back [] f saved)
+  result_untaken f v saved = record {
+    still = all_stand (Go (Leave (steps.Returns (v ∷ [])))) (Caller [] f saved ∷ ws) known Wrong ws (back [] f saved)
+        (marked [] f saved Wrong (back [] f saved) (steps.Returns (v ∷ [])) (λ main mark marks c h. record {
+          said = Returned f ∷ [];
+          unseen = tt;
+          marks = marks;
+          config = resumed [] f saved mark c;
+          agrees = resumed_agrees [] f saved mark marks c h;
+          same = refl;
+        }));
+    fewer = omega arith;
+  }
+
+  pub result_missing : (f t : ℕ) (saved : Saved) → IsMove (Leave (steps.Returns [])) (Caller (t ∷ []) f saved ∷ ws) known Wrong ws (back (t ∷ []) f saved)
+  result_missing f t saved = record {
+    still = all_stand (Go (Leave (steps.Returns []))) (Caller (t ∷ []) f saved ∷ ws) known Wrong ws (back (t ∷ []) f saved)
+        (marked (t ∷ []) f saved Wrong (back (t ∷ []) f saved) (steps.Returns []) (λ main mark marks c h. record {
+          said = Returned f ∷ [];
+          unseen = tt;
+          marks = marks;
+          config = resumed (t ∷ []) f saved mark c;
+          agrees = resumed_agrees (t ∷ []) f saved mark marks c h;
+          same = refl;
+        }));
+    fewer = omega arith;
+  }
+
+-- ---- `main` is left
+
+module _ (known : Known) where
+  pub main_ends : (n : ℕ) → IsMove (Leave (steps.Returns (memory.Word n ∷ []))) [] known (Over n) [] known
+  main_ends n = record {
+    still = all_stand (Go (Leave (steps.Returns (memory.Word n ∷ [])))) [] known (Over n) [] known (λ main marks c h. record {
+      said = Returned main ∷ [];
+      unseen = tt;
+      marks = marks;
+      config = c;
+      agrees = h;
+      same = refl;
+    });
+    fewer = omega arith;
+  }
+
+  pub main_none : IsMove (Leave (steps.Returns [])) [] known Wrong [] known
+  main_none = record {
+    still = all_stand (Go (Leave (steps.Returns []))) [] known Wrong [] known (λ main marks c h. record {
+      said = Returned main ∷ [];
+      unseen = tt;
+      marks = marks;
+      config = c;
+      agrees = h;
+      same = refl;
+    });
+    fewer = omega arith;
+  }
+
+  pub main_blank : IsMove (Leave (steps.Returns (content_of value.Blank ∷ []))) [] known Wrong [] known
+  main_blank = record {
+    still = all_stand (Go (Leave (steps.Returns (content_of value.Blank ∷ [])))) [] known Wrong [] known (λ main marks c h. record {
+      said = Returned main ∷ [];
+      unseen = tt;
+      marks = marks;
+      config = c;
+      agrees = h;
+      same = refl;
+    });
+    fewer = omega arith;
+  }
+
+  pub main_place : (g : ℕ) → IsMove (Leave (steps.Returns (content_of (value.Global g) ∷ []))) [] known Wrong [] known
+  main_place g = record {
+    still = all_stand (Go (Leave (steps.Returns (content_of (value.Global g) ∷ [])))) [] known Wrong [] known (λ main marks c h. record {
+      said = Returned main ∷ [];
+      unseen = tt;
+      marks = marks;
+      config = c;
+      agrees = h;
+      same = refl;
+    });
+    fewer = omega arith;
+  }
+
+  pub main_wrong : (exit : Exit) → IsNoReturn exit → IsMove (Leave exit) [] known Wrong [] known
+  main_wrong steps.Falls h = same_state (Leave steps.Falls) [] Wrong [] known (λ main marks c h. (h, refl)) (omega arith)
+  main_wrong steps.Breaks h = same_state (Leave steps.Breaks) [] Wrong [] known (λ main marks c h. (h, refl)) (omega arith)
+  main_wrong steps.Continues h = same_state (Leave steps.Continues) [] Wrong [] known (λ main marks c h. (h, refl)) (omega arith)
+  main_wrong (steps.Returns vs) h = absurd h

@@ -1,0 +1,109 @@
+-- What lists of temporaries, objects and blocks hold at an index.
+use Rattle.std.specs.Prelude.{if◌then◌else◌, slice_index_or, slice_get, slice_set, nat_eq, remove, drop}
+use Rattle.std.proofs.Common.{◌≡◌, ℕ, zero, suc, ◌<◌, ◌≤◌, Bool, true, false, Some, None, List, [], ◌∷◌, ◌++◌, length, map, refl, ap, ◌∙◌, sym, arith}
+use Rattle.std.proofs.Math.Dec.{eqb-suc-suc, eqb-zero-suc, eqb-suc-zero}
+use Rattle.core_meaning.specs.Memory.{Blank}
+use Rattle.core_meaning.specs.Steps.{set_temp}
+use Rattle.core_meaning.specs.Meaning.{values_of}
+use Rattle.core_tree.specs.declared.operation.Width.{Width}
+use Rattle.core_eval.specs.declared.value.Value.{Value}
+use Rattle.core_eval.specs.declared.value.Value.TheVariants as value
+use Rattle.core_eval.specs.declared.value.Object.{Object}
+use Rattle.core_eval.specs.Values as specs
+use Rattle.core_eval.specs.Values.{content_of, temp_of, put_in, put_local}
+
+-- ---- temporaries
+
+pub temp_some : (vs : List Value) (k : ℕ) (v : Value) → k < length vs → v ≡ slice_index_or vs k v → content_of v ≡ temp_of vs k
+temp_some [] k v h e = absurd (omega (arith, h))
+temp_some (u ∷ vs) zero v h e = ap content_of e
+temp_some (u ∷ vs) (suc k) v h e = temp_some vs k v (omega (arith, h)) e
+
+pub temp_none : (vs : List Value) (k : ℕ) → length vs ≤ k → Blank ≡ temp_of vs k
+temp_none [] k h = refl
+temp_none (v ∷ vs) zero h = absurd (omega (arith, h))
+temp_none (v ∷ vs) (suc k) h = temp_none vs k (omega (arith, h))
+
+-- a blank one more
+pub temp_grown : (vs : List Value) (k : ℕ) → temp_of (vs ++ value.Blank ∷ []) k ≡ temp_of vs k
+temp_grown [] zero = refl
+temp_grown [] (suc k) = refl
+temp_grown (v ∷ vs) zero = refl
+temp_grown (v ∷ vs) (suc k) = temp_grown vs k
+
+pub temp_set : (vs : List Value) (t : ℕ) (v : Value) (k : ℕ) → t < length vs → temp_of (slice_set vs t v) k ≡ set_temp t (content_of v) (temp_of vs) k
+temp_set [] t v k h = absurd (omega (arith, h))
+temp_set (u ∷ vs) zero v zero h = refl
+temp_set (u ∷ vs) zero v (suc k) h = ap (λ b. if b then content_of v else temp_of vs k) (sym (eqb-suc-zero k))
+temp_set (u ∷ vs) (suc t) v zero h = ap (λ b. if b then content_of v else content_of u) (sym (eqb-zero-suc t))
+temp_set (u ∷ vs) (suc t) v (suc k) h =
+    temp_set vs t v k (omega (arith, h)) ∙ ap (λ b. if b then content_of v else temp_of vs k) (sym (eqb-suc-suc k t))
+
+-- ---- lists of any kind
+
+module _ {A : Type 0} where
+  pub get_set : (xs : List A) (k : ℕ) (x old : A) (i : ℕ) → slice_get xs k ≡ Some old
+      → slice_get (slice_set xs k x) i ≡ (if nat_eq i k then Some x else slice_get xs i)
+  get_set [] k x old i h = cc
+  get_set (y ∷ xs) zero x old zero h = refl
+  get_set (y ∷ xs) zero x old (suc i) h = ap (λ b. if b then Some x else slice_get xs i) (sym (eqb-suc-zero i))
+  get_set (y ∷ xs) (suc k) x old zero h = ap (λ b. if b then Some x else Some y) (sym (eqb-zero-suc k))
+  get_set (y ∷ xs) (suc k) x old (suc i) h = get_set xs k x old i h ∙ ap (λ b. if b then Some x else slice_get xs i) (sym (eqb-suc-suc i k))
+
+  pub get_grown : (xs : List A) (x : A) (i : ℕ) → slice_get (xs ++ x ∷ []) i ≡ (if nat_eq i (length xs) then Some x else slice_get xs i)
+  get_grown [] x zero = refl
+  get_grown [] x (suc i) = ap (λ b. if b then Some x else None) (sym (eqb-suc-zero i))
+  get_grown (y ∷ xs) x zero = ap (λ b. if b then Some x else Some y) (sym (eqb-zero-suc (length xs)))
+  get_grown (y ∷ xs) x (suc i) = get_grown xs x i ∙ ap (λ b. if b then Some x else slice_get xs i) (sym (eqb-suc-suc i (length xs)))
+
+  pub get_within : (xs : List A) (k : ℕ) (x : A) → k < length xs → x ≡ slice_index_or xs k x → slice_get xs k ≡ Some x
+  get_within [] k x h e = absurd (omega (arith, h))
+  get_within (y ∷ xs) zero x h e = ap Some (sym e)
+  get_within (y ∷ xs) (suc k) x h e = get_within xs k x (omega (arith, h)) e
+
+  pub get_past : (xs : List A) (k : ℕ) → length xs ≤ k → slice_get xs k ≡ None
+  get_past [] k h = refl
+  get_past (y ∷ xs) zero h = absurd (omega (arith, h))
+  get_past (y ∷ xs) (suc k) h = get_past xs k (omega (arith, h))
+
+-- ---- the objects of blocks, as vectors hold them
+
+module _ {V : Type 0} (items : V → List Object) where
+  get_items : (bs : List V) (k : ℕ) (b : V) → k < length bs → b ≡ slice_index_or bs k b → slice_get (map items bs) k ≡ Some (items b)
+  get_items [] k b h e = absurd (omega (arith, h))
+  get_items (c ∷ bs) zero b h e = ap (λ c. Some (items c)) (sym e)
+  get_items (c ∷ bs) (suc k) b h e = get_items bs k b (omega (arith, h)) e
+
+  past_items : (bs : List V) (k : ℕ) → length bs ≤ k → slice_get (map items bs) k ≡ None
+  past_items [] k h = refl
+  past_items (c ∷ bs) zero h = absurd (omega (arith, h))
+  past_items (c ∷ bs) (suc k) h = past_items bs k (omega (arith, h))
+
+  set_items : (bs : List V) (k : ℕ) (b : V) → map items (slice_set bs k b) ≡ slice_set (map items bs) k (items b)
+  set_items [] k b = refl
+  set_items (c ∷ bs) zero b = refl
+  set_items (c ∷ bs) (suc k) b = ap (λ l. items c ∷ l) (set_items bs k b)
+
+  -- a store to a local of one of the blocks
+  pub put_some : (bs : List V) (k : ℕ) (b new : V) (i : ℕ) (w : Width) (v : Value) (is_there : Bool) → k < length bs → b ≡ slice_index_or bs k b
+      → put_in (items b) i w v ≡ (if is_there then Some (items new) else None)
+      → put_local (map items bs) k i w v ≡ (if is_there then Some (map items (slice_set bs k new)) else None)
+  put_some bs k b new i w v true h e put =
+      ap (λ o. specs.put_among (map items bs) k i w v o) (get_items bs k b h e) ∙ ap (λ o. specs.put_block (map items bs) k o) put
+      ∙ ap Some (sym (set_items bs k new))
+  put_some bs k b new i w v false h e put =
+      ap (λ o. specs.put_among (map items bs) k i w v o) (get_items bs k b h e) ∙ ap (λ o. specs.put_block (map items bs) k o) put
+
+  pub put_none : (bs : List V) (k i : ℕ) (w : Width) (v : Value) → length bs ≤ k → put_local (map items bs) k i w v ≡ None
+  put_none bs k i w v h = ap (λ o. specs.put_among (map items bs) k i w v o) (past_items bs k h)
+
+-- a temporary more that is read
+pub read_one : (temps values : List Value) (v : Value) (t : ℕ) (ts : List ℕ) → content_of v ≡ temp_of temps t
+    → map content_of (values ++ v ∷ []) ++ values_of (temp_of temps) ts ≡ map content_of values ++ temp_of temps t ∷ values_of (temp_of temps) ts
+read_one temps [] v t ts e = ap (λ x. x ∷ values_of (temp_of temps) ts) e
+read_one temps (u ∷ values) v t ts e = ap (λ l. content_of u ∷ l) (read_one temps values v t ts e)
+
+-- all but the first block
+pub first_left : {V : Type 0} (items : V → List Object) (bs : List V) → map items (remove bs 0) ≡ drop 1 (map items bs)
+first_left items [] = refl
+first_left items (b ∷ bs) = refl

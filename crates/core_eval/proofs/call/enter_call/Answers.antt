@@ -1,0 +1,34 @@
+use Rattle.std.proofs.Common.{◌≡◌, ◌≢◌, ◌∷◌, length, map, ap, ◌∙◌, rules}
+use Rattle.core_tree.specs.Trees.{function_tree, optional_tree, body_tree}
+use Rattle.core_eval.specs.Values.{content_of}
+use Rattle.core_eval.specs.Pendings.{Go, Follow, Caller, saved_of, waits_of}
+use Rattle.core_eval.specs.Standing.{known_of}
+use Rattle.core_eval.proofs.Calls.{call_enters, call_missing, call_unfit, call_as}
+use Rattle.core_eval.proofs.call.enter_call.Goals as goal
+
+pub returns-in_default : goal.returns-in_default
+returns-in_default c =
+    λ globals. call_missing c.args.functions.now (optional_tree c.args.to) c.args.function c.args.arguments.items (known_of c.args.frame.now globals)
+    (waits_of c.args.stack.now.items)
+    c.in_default.ensures.none
+
+pub returns-then-callee-len : goal.returns-then-callee-len
+returns-then-callee-len c =
+    let unfit : c.in-Some.callee.now.parameters ≢ length c.args.arguments.items = search rules in
+    λ globals. call_unfit c.args.functions.now (optional_tree c.args.to) c.args.function c.args.arguments.items (known_of c.args.frame.now globals)
+    (waits_of c.args.stack.now.items)
+    c.in-Some.callee.now c.in-Some.ensures.some unfit
+
+pub returns : goal.returns
+returns c =
+    let fits : c.in-Some.callee.now.parameters ≡ length c.args.arguments.items = search rules in
+    let ws = waits_of c.args.stack.now.items in
+    λ globals.
+    call_as (map function_tree c.args.functions.now) (optional_tree c.args.to) c.args.function (map content_of c.args.arguments.items) ws
+    (known_of c.args.frame.now globals) _ _ _ _ _ _
+    (ap (λ b. Go (Follow (body_tree b))) c.deref.ensures.value)
+    (c.in_ok-wait.ensures ∙ ap (λ f. Caller (optional_tree c.args.to) c.args.function (saved_of f) ∷ ws) c.replace-saved.ensures.value)
+    (ap (λ f. known_of f globals) c.replace-saved.ensures.after
+    ∙ ap (λ l. record { temps = c.args.arguments.items; blocks = map (λ objects. objects.items) l; globals = globals }) c.new.ensures.items)
+    (call_enters c.args.functions.now (optional_tree c.args.to) c.args.function c.args.arguments.items
+    (known_of c.args.frame.now globals) ws c.in-Some.callee.now c.in-Some.ensures.some fits)

@@ -1,0 +1,18 @@
+use Rattle.std.proofs.Common.{◌≡◌}
+use Rattle.core_eval.specs.Pendings.{next_of, waits_of}
+use Rattle.core_tree.specs.Trees.{program_tree}
+use Rattle.core_eval.specs.Standing.{known_of}
+use Rattle.core_eval.proofs.Stages.{Stage}
+use Rattle.core_eval.proofs.running.evaluate_core.Given as goal
+
+abbrev pub invariant-units : goal.invariant-units
+invariant-units g l = record {
+  reads : g.R.Input.fault_count l.reader ≡ g.R.Input.fault_count l.fn.reader;
+  writes : g.W.Output.fault_count l.writer ≡ g.W.Output.fault_count l.fn.writer;
+  stage : Stage (program_tree l.fn.program) l.fn.fuel l.left l.is_over (next_of l.due) (waits_of l.stack.items) (known_of l.frame l.globals.items)
+      (g.R.Read.remaining l.fn.reader)
+      (g.R.Read.remaining l.reader) (g.W.Write.contents l.fn.writer) (g.W.Write.contents l.writer) l.gathered;
+}
+
+abbrev pub decreases-units : goal.decreases-units
+decreases-units g l = l.left

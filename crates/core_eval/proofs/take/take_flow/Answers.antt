@@ -1,0 +1,47 @@
+use Rattle.std.proofs.Common.{◌∷◌, refl, ap, ◌∙◌}
+use Rattle.core_tree.specs.Trees.{optional_tree}
+use Rattle.core_eval.specs.declared.pending.Pending.TheVariants as pending
+use Rattle.core_eval.specs.Pendings.{Block, exit_of, next_of, wait_of, waits_of}
+use Rattle.core_eval.specs.Standing.{known_of}
+use Rattle.core_eval.proofs.Taken.{left_as, left_ok, for_caller, for_known, main_left}
+use Rattle.core_eval.proofs.take.take_flow.Goals as goal
+
+pub returns-in_default : goal.returns-in_default
+returns-in_default c =
+    λ globals. main_left (exit_of c.args.flow) (waits_of c.args.stack.now.items) (waits_of c.next.new.stack.items) (known_of c.args.frame.now globals)
+    (next_of c.status.result)
+    c.in_default.ensures.none c.in_default.ensures.still (c.status.ensures (known_of c.args.frame.now globals))
+
+pub returns-in-Test-default : goal.returns-in-Test-default
+returns-in-Test-default c =
+    let ws = waits_of c.next.new.stack.items in
+    λ globals. left_as (exit_of c.args.flow) (exit_of c.args.flow)
+    (wait_of (pending.Test c.in-Test-default.test c.in-Test-default.flag c.in-Test-default.body) ∷ ws)
+    (waits_of c.args.stack.now.items) (known_of c.args.frame.now globals) _ ws _ refl (c.in-Some.ensures.some ∙ ap (λ p. wait_of p ∷ ws) c.in-Test-default.is-0)
+    (c.take_test.ensures ws globals)
+
+pub returns-in-Body-default : goal.returns-in-Body-default
+returns-in-Body-default c =
+    let ws = waits_of c.next.new.stack.items in
+    left_ok c.take_body.result (exit_of c.args.flow) (wait_of (pending.Body c.in-Body-default.test c.in-Body-default.flag c.in-Body-default.body) ∷ ws)
+    (waits_of c.args.stack.now.items) (known_of c.args.frame.now) _ (known_of c.args.frame.now)
+    (c.in-Some.ensures.some ∙ ap (λ p. wait_of p ∷ ws) c.in-Body-default.is-0)
+    (for_known c.take_body.result _ _ _ (known_of c.args.frame.now) c.take_body.ensures)
+
+pub returns-in-Block-default : goal.returns-in-Block-default
+returns-in-Block-default c =
+    let ws = waits_of c.next.new.stack.items in
+    λ globals. left_as (exit_of c.args.flow) (exit_of c.args.flow) (Block ∷ ws)
+    (waits_of c.args.stack.now.items) (known_of c.args.frame.now globals) _ ws _ refl
+    (c.in-Some.ensures.some ∙ ap (λ p. wait_of p ∷ ws) c.in-Block-default.is-0)
+    (c.take_block.ensures ws globals)
+
+pub returns-in-Caller-default : goal.returns-in-Caller-default
+returns-in-Caller-default c =
+    let ws = waits_of c.next.new.stack.items in
+    left_ok c.take_caller.result (exit_of c.args.flow)
+    (wait_of (pending.Caller c.in-Caller-default.result c.in-Caller-default.field-1-0 c.in-Caller-default.saved) ∷ ws)
+    (waits_of c.args.stack.now.items) (known_of c.args.frame.now) ws (known_of c.take_caller.new.frame)
+    (c.in-Some.ensures.some ∙ ap (λ p. wait_of p ∷ ws) c.in-Caller-default.is-0)
+    (for_caller c.take_caller.result (exit_of c.args.flow) (optional_tree c.in-Caller-default.result) c.in-Caller-default.field-1-0 c.in-Caller-default.saved
+    (known_of c.args.frame.now) ws (known_of c.take_caller.new.frame) c.take_caller.ensures)

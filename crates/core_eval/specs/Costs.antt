@@ -1,0 +1,40 @@
+-- How many moves there are at most before a unit is due or the run is over: each move has fewer after it.
+use Rattle.std.specs.Prelude.{ℕ, ◌+◌, ◌≤◌, List, [], ◌∷◌}
+use Rattle.core_meaning.specs.Core.{Statement, If, While, Block, Statements, NoStatements, MoreStatements}
+use Rattle.core_eval.specs.Pendings.{Task, Follow, Execute, Leave, Wait, Then, Body, Next, Go}
+use Rattle.core_eval.specs.Standing.{Known, StandsStill}
+
+abbrev mutual
+  pub statement_cost : Statement → ℕ
+  statement_cost (If t these those) = statements_cost these + statements_cost those + 1
+  statement_cost (While test t body) = statements_cost test + 2
+  statement_cost (Block locals body) = statements_cost body + 2
+  statement_cost _ = 1
+
+  pub statements_cost : Statements → ℕ
+  statements_cost NoStatements = 1
+  statements_cost (MoreStatements s ss) = statement_cost s + statements_cost ss + 2
+
+abbrev pub task_cost : Task → ℕ
+task_cost (Follow ss) = statements_cost ss
+task_cost (Execute s) = statement_cost s
+task_cost (Leave exit) = 0
+
+abbrev pub wait_cost : Wait → ℕ
+wait_cost (Then ss) = statements_cost ss + 1
+wait_cost (Body test flag body) = statements_cost test + 3
+wait_cost _ = 1
+
+abbrev pub waits_cost : List Wait → ℕ
+waits_cost [] = 0
+waits_cost (w ∷ ws) = wait_cost w + waits_cost ws
+
+-- this move counts too
+abbrev pub next_cost : Next → ℕ
+next_cost (Go task) = task_cost task + 1
+next_cost _ = 0
+
+-- A move: whatever step is stood for before, the same is stood for afterwards; and fewer moves are left before a unit is due.
+pub record IsMove (task : Task) (ws : List Wait) (known : Known) (next : Next) (ws' : List Wait) (known' : Known) : Type 0 where
+  pub still : StandsStill (Go task) ws known next ws' known'
+  pub fewer : next_cost next + waits_cost ws' ≤ task_cost task + waits_cost ws

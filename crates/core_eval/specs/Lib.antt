@@ -1,0 +1,7 @@
+pub mod Values
+pub mod Pendings
+pub mod Standing
+pub mod Costs
+pub mod Resting
+pub mod Evaluated
+pub mod Fetched

@@ -1,0 +1,102 @@
+-- When an evaluator's state stands for a step of Core.
+use Rattle.std.specs.Prelude.{◌≡◌, ℕ, ◌<◌, ◌≤◌, None, List, [], ◌∷◌, map}
+use Rattle.step_trees.specs.Trees.{Says}
+use Rattle.core_meaning.specs.Memory as memory
+use Rattle.core_meaning.specs.Memory.{Born, Memory, Content}
+use Rattle.core_meaning.specs.Steps.{Config, set_temp, Event, Visible, Called, Returned, Step}
+use Rattle.core_meaning.specs.Core.{Function}
+use Rattle.core_meaning.specs.Meaning.{called}
+use Rattle.core_tree.specs.declared.program.Datum.{Datum}
+use Rattle.core_tree.specs.Trees.{datum_width, datum_word}
+use Rattle.core_eval.specs.declared.value.Value.{Value}
+use Rattle.core_eval.specs.declared.value.Value.TheVariants as value
+use Rattle.core_eval.specs.declared.value.Object.{Object}
+use Rattle.core_eval.specs.declared.frame.Frame.{Frame}
+use Rattle.core_eval.specs.Values.{spot_of, temp_of, Shows}
+use Rattle.core_eval.specs.Pendings.{Wait, Block, Caller, Next, Mark, rest_of, returned_to, coming}
+
+-- these temporaries hold these values
+abbrev pub Holds : (ℕ → Content) → List Value → Type 0
+Holds temps values = (k : ℕ) → temps k ≡ temp_of values k
+
+-- blocks that were not entered as yet have no objects
+pub record IsFresh (m : Memory) : Type 0 where
+  pub empty : (k : ℕ) → m.activations ≤ k → m.objects (memory.Frame k) ≡ 0
+  pub missing : (k i : ℕ) → m.activations ≤ k → m.parts (spot_of (memory.Frame k) i) 0 ≡ None
+
+-- Each block that is to be left shows its locals, and has a number below those of the blocks inside of it; and each caller's temporaries hold what was saved.
+abbrev pub AreNested : Memory → ℕ → List ℕ → List (List Object) → List Wait → List Mark → Type 0
+AreNested m bound numbers blocks [] marks = (numbers ≡ []) × (blocks ≡ [])
+AreNested m bound numbers blocks (Block ∷ ws) [] = ⊥
+AreNested m bound numbers [] (Block ∷ ws) (mark ∷ marks) = ⊥
+AreNested m bound numbers (objects ∷ blocks) (Block ∷ ws) (mark ∷ marks) =
+    (numbers ≡ mark.number ∷ mark.outside.blocks) × (mark.number < bound) × Shows m (memory.Frame mark.number) objects
+    × AreNested m mark.number mark.outside.blocks blocks ws marks
+AreNested m bound numbers blocks (Caller results f saved ∷ ws) [] = ⊥
+AreNested m bound numbers blocks (Caller results f saved ∷ ws) (mark ∷ marks) =
+    (numbers ≡ []) × (blocks ≡ []) × Holds mark.outside.temps saved.temps × AreNested m bound mark.outside.blocks saved.blocks ws marks
+AreNested m bound numbers blocks (w ∷ ws) marks = AreNested m bound numbers blocks ws marks
+
+-- what an evaluator knows: the temporaries of the function that it is in, the locals of the blocks around, the innermost first, and the globals
+pub record Known : Type 0 where
+  pub temps : List Value
+  pub blocks : List (List Object)
+  pub globals : List Object
+
+-- a state of Core is as the evaluator knows it
+pub record Agrees (known : Known) (ws : List Wait) (marks : List Mark) (c : Config) : Type 0 where
+  pub temps : Holds c.temps known.temps
+  pub fresh : IsFresh c.memory
+  pub globals : Shows c.memory (Born 0) known.globals
+  pub nested : AreNested c.memory c.memory.activations c.blocks known.blocks ws marks
+
+-- calls and returns that were said, and then a step
+abbrev pub saying : List Event → Step → Step
+saying [] s = s
+saying (e ∷ es) s = Says e (saying es s)
+
+-- only calls and returns
+abbrev pub AreUnseen : List Event → Type 0
+AreUnseen [] = Unit {0}
+AreUnseen (Visible e ∷ es) = ⊥
+AreUnseen (Called f ∷ es) = AreUnseen es
+AreUnseen (Returned f ∷ es) = AreUnseen es
+
+-- what is due, what waits, and what is known stand for a step: it is theirs from some state of Core on
+pub record Stands (main : ℕ) (s : Step) (next : Next) (ws : List Wait) (known : Known) : Type 0 where
+  pub said : List Event
+  pub unseen : AreUnseen said
+  pub marks : List Mark
+  pub config : Config
+  pub agrees : Agrees known ws marks config
+  pub same : s ≡ saying said (coming next (rest_of main ws marks) config)
+
+-- whatever step is stood for before, the same is stood for afterwards
+abbrev pub StandsStill : Next → List Wait → Known → Next → List Wait → Known → Type 0
+StandsStill next ws known next' ws' known' = (main : ℕ) (s : Step) → Stands main s next ws known → Stands main s next' ws' known'
+
+-- ---- one move
+
+-- a temporary got a content, and no other one changed
+abbrev pub Gives : ℕ → Content → List Value → List Value → Type 0
+Gives t v temps temps' = (k : ℕ) → temp_of temps' k ≡ set_temp t v (temp_of temps) k
+
+-- what an activation and the globals are known as
+abbrev pub known_of : Frame → List Object → Known
+known_of frame globals = record { temps = frame.temps.items; blocks = map (λ objects. objects.items) frame.blocks.items; globals = globals }
+
+-- A call whose unit is paid: each state that is known so goes on thus.
+abbrev pub IsCall : List Function → List ℕ → ℕ → List Content → List Wait → Known → Next → List Wait → Known → Type 0
+IsCall functions results f arguments ws known next ws' known' =
+    (main : ℕ) (marks : List Mark) (c : Config) → Agrees known ws marks c
+    → Stands main (called functions (record { function = f; arguments = arguments }) (returned_to results c (rest_of main ws marks)) c.memory) next ws' known'
+
+-- ---- the beginning
+
+-- what a global begins as
+abbrev pub first_object : Datum → Object
+first_object d = record { width = datum_width d; value = value.Word (datum_word d) }
+
+-- what is known at first
+abbrev pub first_known : List Datum → Known
+first_known ds = record { temps = []; blocks = []; globals = map first_object ds }

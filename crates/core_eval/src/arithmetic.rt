@@ -1,0 +1,38 @@
+// What the operations on two words give.
+
+ghost use Rattle.std.specs.Prelude.{◌≡◌};
+ghost use Rattle.core_meaning.specs.Words.{two};
+ghost use Rattle.core_tree.specs.Trees.{binary_tree};
+
+use core_tree::Binary;
+use cyc_words::{
+    add32, div32, divu32, lt32, ltu32, mul32, rem32, remu32, sar32, shl32, shr32, sub32,
+};
+
+/// What an operation on two words gives.
+pub fn apply(operation: Binary, x: u32, y: u32) -> u32
+    ensures { result ≡ two (binary_tree operation) x y }
+{
+    let is_true = match operation {
+        Binary::Add => return add32(x, y),
+        Binary::Subtract => return sub32(x, y),
+        Binary::Multiply => return mul32(x, y),
+        Binary::Divide => return div32(x, y),
+        Binary::DivideUnsigned => return divu32(x, y),
+        Binary::Remainder => return rem32(x, y),
+        Binary::RemainderUnsigned => return remu32(x, y),
+        Binary::And => return x & y,
+        Binary::Or => return x | y,
+        Binary::Xor => return x ^ y,
+        Binary::ShiftLeft => return shl32(x, y),
+        Binary::ShiftRight => return sar32(x, y),
+        Binary::ShiftRightUnsigned => return shr32(x, y),
+        Binary::Equal => x == y,
+        Binary::NotEqual => x != y,
+        Binary::Less => lt32(x, y),
+        Binary::LessEqual => !lt32(y, x),
+        Binary::LessUnsigned => ltu32(x, y),
+        Binary::LessEqualUnsigned => !ltu32(y, x),
+    };
+    if is_true { 1 } else { 0 }
+}

@@ -1,0 +1,93 @@
+// How calls, and programs, begin.
+
+ghost use Rattle.std.specs.Prelude.{◌≡◌, [], ◌∷◌, IfOk, IfSome, IfNone, Some, None, slice_get, map, List};
+ghost use Rattle.core_tree.specs.Trees.{function_tree, optional_tree, program_tree};
+ghost use Rattle.core_meaning.specs.Meaning.{start as start_of};
+ghost use Rattle.core_eval.specs.declared.value.Object.{Object as TheObject};
+ghost use Rattle.core_eval.specs.Values.{content_of};
+ghost use Rattle.core_eval.specs.Pendings.{next_of, waits_of};
+ghost use Rattle.core_eval.specs.Standing.{IsCall, Stands, first_known, first_object, known_of};
+
+use crate::enter::wait;
+use crate::frame::Frame;
+use crate::pending::{Due, Now, Pending};
+use crate::value::{Object, Value};
+use core_tree::{Datum, Function, Program, Temporary};
+use std::alloc::{AllocError, Global};
+use std::mem;
+
+/// What a global begins as.
+fn first_object(datum: Datum) -> Object
+    ensures { result ≡ first_object datum }
+{
+    let value = match datum {
+        Datum::Byte(byte) => Value::Word(byte as u32),
+        Datum::Word(word) => Value::Word(word),
+    };
+    Object {
+        width: datum.width(),
+        value,
+    }
+}
+
+/// What the globals begin as.
+pub fn first_objects(alloc: Global, globals: &[Datum]) -> Result<Vec<Object>, AllocError>
+    ensures { IfOk result (λ objects. objects.items ≡ map first_object globals.now) }
+{
+    let mut objects = Vec::new(alloc);
+    'each: for datum in globals {
+        objects.push(first_object(*datum))?;
+    }
+    Ok(objects)
+}
+
+/// The function with this number.
+#[tactic(auto, using(crate::proofs::Calls::function_at, crate::proofs::Calls::no_function))]
+fn function_at<'p>(functions: &'p [Function], number: u32) -> Option<&'p Function>
+    ensures some { IfSome result (λ f. slice_get (map function_tree functions.entry.now) number ≡ Some (function_tree f.now)) }
+    ensures none { IfNone result (slice_get (map function_tree functions.entry.now) number ≡ None) }
+{
+    functions.get(number as usize)
+}
+
+/// The move of a call whose unit is paid: the callee's statements are next, and the caller waits.
+pub fn enter_call<'p>(
+    alloc: Global,
+    functions: &'p [Function],
+    to: Option<Temporary>,
+    function: u32,
+    arguments: Vec<Value>,
+    stack: &mut Vec<Pending<'p>>,
+    frame: &mut Frame,
+) -> Result<Due<'p>, AllocError>
+    ensures { IfOk result (λ due. (globals : List TheObject) → IsCall (map function_tree functions.entry.now) (optional_tree to) function
+        (map content_of arguments.items)
+        (waits_of stack.old.items) (known_of frame.old globals) (next_of due) (waits_of stack.new.items) (known_of frame.new globals)) }
+{
+    let Some(callee) = function_at(functions, function) else {
+        return Ok(Due::Wrong);
+    };
+    if callee.parameters as usize != arguments.len() {
+        return Ok(Due::Wrong);
+    }
+    let begun = Frame {
+        temps: arguments,
+        blocks: Vec::new(alloc),
+    };
+    let saved = mem::replace(frame, begun);
+    wait(stack, Pending::Caller(to, function, saved))?;
+    Ok(Due::Go(Now::Follow(&callee.body)))
+}
+
+/// The beginning of a program: the statements of `main` are next.
+pub fn start<'p>(program: &'p Program) -> Due<'p>
+    ensures { Stands program.entry.now.main (start_of (program_tree program.entry.now)) (next_of result) [] (first_known program.entry.now.globals.items) }
+{
+    let Some(main) = function_at(&program.functions, program.main) else {
+        return Due::Wrong;
+    };
+    if main.parameters != 0 {
+        return Due::Wrong;
+    }
+    Due::Go(Now::Follow(&main.body))
+}

@@ -1,0 +1,147 @@
+// The first move of each statement.
+
+ghost use Rattle.std.specs.Prelude.{◌≡◌, ◌∷◌, IfOk, OnOk, map};
+ghost use Rattle.core_tree.specs.Trees.{body_tree, statement_tree, temporary_tree};
+ghost use Rattle.core_eval.specs.Values.{AreRead, blank_object, truth_of};
+ghost use Rattle.core_eval.specs.Pendings.{Block, Execute, Follow, Go, Test, next_of, wait_of, waits_of};
+ghost use Rattle.core_eval.specs.Standing.{Known, known_of};
+ghost use Rattle.core_eval.specs.Costs.{IsMove};
+
+use crate::frame::Frame;
+use crate::operation::operate;
+use crate::pending::{Due, Flow, Now, Pending};
+use crate::value::{Object, Value};
+use core_tree::{Statement, Temporary, Width};
+use std::alloc::{AllocError, Global};
+
+/// Puts what waits on top of the stack.
+pub fn wait<'p>(stack: &mut Vec<Pending<'p>>, pending: Pending<'p>) -> Result<(), AllocError>
+    ensures { OnOk result (waits_of stack.new.items ≡ wait_of pending.entry ∷ waits_of stack.old.items) }
+{
+    stack.push(pending)?;
+    Ok(())
+}
+
+/// Whether a value is true, if it is a word or a pointer.
+pub fn truth(value: Value) -> Option<bool>
+    ensures { result ≡ truth_of value }
+{
+    match value {
+        Value::Blank => None,
+        Value::Word(word) => Some(word != 0),
+        Value::Global(_) => Some(true),
+    }
+}
+
+/// Objects of these widths, which hold nothing as yet.
+fn blank_objects(alloc: Global, widths: &[Width]) -> Result<Vec<Object>, AllocError>
+    ensures { IfOk result (λ objects. objects.items ≡ map blank_object widths.now) }
+{
+    let mut objects = Vec::new(alloc);
+    'each: for width in widths {
+        objects.push(Object {
+            width: *width,
+            value: Value::Blank,
+        })?;
+    }
+    Ok(objects)
+}
+
+/// What these temporaries hold.
+#[tactic(auto, using(crate::proofs::Lists::read_one))]
+fn arguments_of(
+    alloc: Global,
+    frame: &Frame,
+    arguments: &[Temporary],
+) -> Result<Vec<Value>, AllocError>
+    ensures { IfOk result (λ values. AreRead frame.now.temps.items (map temporary_tree arguments.now) values.items) }
+{
+    let mut values = Vec::new(alloc);
+    'each: for argument in arguments {
+        values.push(frame.temp(*argument))?;
+    }
+    Ok(values)
+}
+
+/// The first move of a loop, and of each further turn: its test is next.
+pub fn enter_loop<'p>(
+    test: &'p [Statement],
+    flag: Temporary,
+    body: &'p [Statement],
+    stack: &mut Vec<Pending<'p>>,
+) -> Result<Due<'p>, AllocError>
+    ensures next { IfOk result (λ due. next_of due ≡ Go (Follow (body_tree test.entry.now))) }
+    ensures waits { OnOk result (waits_of stack.new.items ≡ Test (body_tree test.entry.now) flag.0 (body_tree body.entry.now) ∷ waits_of stack.old.items) }
+{
+    wait(stack, Pending::Test(test, flag, body))?;
+    Ok(Due::Go(Now::Follow(test)))
+}
+
+/// The first move of a block: its locals hold nothing, and its statements are next.
+fn enter_block<'p>(
+    alloc: Global,
+    widths: &[Width],
+    body: &'p [Statement],
+    stack: &mut Vec<Pending<'p>>,
+    frame: &mut Frame,
+) -> Result<Due<'p>, AllocError>
+    ensures next { IfOk result (λ due. next_of due ≡ Go (Follow (body_tree body.entry.now))) }
+    ensures waits { OnOk result (waits_of stack.new.items ≡ Block ∷ waits_of stack.old.items) }
+    ensures temps { OnOk result (frame.new.temps ≡ frame.old.temps) }
+    ensures blocks { OnOk result (map (λ objects. objects.items) frame.new.blocks.items
+        ≡ map blank_object widths.now ∷ map (λ objects. objects.items) frame.old.blocks.items) }
+{
+    let objects = blank_objects(alloc, widths)?;
+    frame.blocks.insert(0, objects)?;
+    wait(stack, Pending::Block)?;
+    Ok(Due::Go(Now::Follow(body)))
+}
+
+/// The first move of a statement. Fails only where no host memory is left.
+pub fn enter_statement<'p>(
+    alloc: Global,
+    statement: &'p Statement,
+    stack: &mut Vec<Pending<'p>>,
+    frame: &mut Frame,
+    globals: &mut Vec<Object>,
+) -> Result<Due<'p>, AllocError>
+    ensures { IfOk result (λ due. IsMove (Execute (statement_tree statement.entry.now)) (waits_of stack.old.items) (known_of frame.old globals.old.items)
+        (next_of due) (waits_of stack.new.items) (known_of frame.new globals.new.items)) }
+{
+    match statement {
+        Statement::Do(operation) => operate(*operation, frame, globals),
+        Statement::If(test, these, those) => match truth(frame.temp(*test)) {
+            Some(is_true) => Ok(Due::Go(Now::Follow(if is_true { these } else { those }))),
+            None => Ok(Due::Wrong),
+        },
+        Statement::While(test, flag, body) => enter_loop(test, *flag, body, stack),
+        Statement::Block(widths, body) => enter_block(alloc, widths, body, stack, frame),
+        Statement::Break => Ok(Due::Go(Now::Leave(Flow::Breaks))),
+        Statement::Continue => Ok(Due::Go(Now::Leave(Flow::Continues))),
+        Statement::Call(result, function, arguments) => {
+            let values = arguments_of(alloc, frame, arguments)?;
+            Ok(Due::Call(*result, *function, values))
+        }
+        Statement::Return(None) => Ok(Due::Go(Now::Leave(Flow::Returns(None)))),
+        Statement::Return(Some(from)) => {
+            Ok(Due::Go(Now::Leave(Flow::Returns(Some(frame.temp(*from))))))
+        }
+    }
+}
+
+/// The first move of statements that follow one another.
+pub fn enter_statements<'p>(
+    statements: &'p [Statement],
+    stack: &mut Vec<Pending<'p>>,
+) -> Result<Due<'p>, AllocError>
+    ensures { IfOk result (λ due. (known : Known) → IsMove (Follow (body_tree statements.entry.now)) (waits_of stack.old.items) known
+        (next_of due) (waits_of stack.new.items) known) }
+{
+    match statements.split_first() {
+        None => Ok(Due::Go(Now::Leave(Flow::Falls))),
+        Some((statement, others)) => {
+            wait(stack, Pending::Then(others))?;
+            Ok(Due::Go(Now::Execute(statement)))
+        }
+    }
+}

@@ -1,0 +1,21 @@
+//! Runs a program of Core by its meaning, between a reader and a writer, with so many units of fuel.
+//!
+//! `evaluate_core` moves from one statement to the next, and keeps what is still to be done on a stack of its own, callers among
+//! it, so that no program drives the host's stack deeper, however deep its calls and statements are. Its promise is `IsEvaluated`
+//! of specs/Evaluated: what is written is the output of the program's run, and the ending is that run's. Stands on `core_tree`,
+//! `cyc_host` and `cyc_words`, and on the definitions of `core_meaning`, `step_trees` and `rv32_machine`.
+#![tactic(auto)]
+
+mod arithmetic;
+mod call;
+mod ending;
+mod enter;
+mod frame;
+mod operation;
+mod pending;
+mod running;
+mod take;
+mod value;
+
+pub use ending::EvalEnding;
+pub use running::evaluate_core;

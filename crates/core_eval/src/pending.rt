@@ -1,0 +1,58 @@
+// What an evaluator does next, and what is still to be done after that.
+
+use crate::frame::Frame;
+use crate::value::Value;
+use core_tree::{Statement, Temporary};
+
+/// How a statement is left.
+#[derive(Clone, Copy, Drop)]
+pub enum Flow {
+    Falls,
+    Breaks,
+    Continues,
+    Returns(Option<Value>),
+}
+
+/// What is done next.
+#[derive(Clone, Copy, Drop)]
+pub enum Now<'p> {
+    /// These statements are executed.
+    Follow(&'p [Statement]),
+    /// A statement is executed.
+    Execute(&'p Statement),
+    /// A statement was left, and what waits for that goes on.
+    Leave(Flow),
+}
+
+/// What waits for the end of a statement.
+#[derive(Drop)]
+pub enum Pending<'p> {
+    /// The statements after it.
+    Then(&'p [Statement]),
+    /// A loop, for the end of its test: the test, the temporary that tells whether there is another turn, and the body.
+    Test(&'p [Statement], Temporary, &'p [Statement]),
+    /// A loop, for the end of its body.
+    Body(&'p [Statement], Temporary, &'p [Statement]),
+    /// The end of a block.
+    Block,
+    /// The caller of the function with this number: the temporary that gets the result, and what the caller had.
+    Caller(Option<Temporary>, u32, Frame),
+}
+
+/// What a move leads to: another one, a unit of fuel that is due, or the end.
+#[derive(Drop)]
+pub enum Due<'p> {
+    Go(Now<'p>),
+    /// A unit for a byte of the input, which the temporary gets.
+    Getchar(Temporary),
+    /// A unit for a byte that is written, and that the temporary gets.
+    Putchar(Temporary, u8),
+    /// A unit for a turn of a loop.
+    Turn(&'p [Statement], Temporary, &'p [Statement]),
+    /// A unit for a call: the temporary that gets the result, the function's number, and what it is passed.
+    Call(Option<Temporary>, u32, Vec<Value>),
+    /// The end of the program, with its status.
+    Over(u32),
+    /// What no rule gives a meaning.
+    Wrong,
+}

@@ -1,0 +1,213 @@
+// Moves, up to the next unit of fuel.
+
+ghost use Rattle.std.specs.Prelude.{◌≡◌, ◌≢◌, ◌⊎◌, ◌∷◌, ◌<◌, [], IfOk, OnOk, IfErr, IfSome, IfNone};
+ghost use Rattle.std.specs.Io.KnownBytes.{Appends};
+ghost use Rattle.core_meaning.specs.Operations.{byte_word};
+ghost use Rattle.core_tree.specs.Trees.{body_tree, program_tree};
+ghost use Rattle.cyc_host.specs.Transfers.{Answers};
+ghost use Rattle.core_eval.specs.Pendings.{Body, Follow, Go, next_of, task_of, waits_of};
+ghost use Rattle.core_eval.specs.Standing.{StandsStill, known_of};
+ghost use Rattle.core_eval.specs.Costs.{IsMove};
+ghost use Rattle.core_eval.specs.Resting.{EndsNow, IsAtRest, IsPayable};
+ghost use Rattle.core_eval.specs.Evaluated.{IsEvaluated, IsNeverStuck, Wrote, reads_failed, writes_failed};
+ghost use Rattle.core_eval.specs.Fetched.{FetchFault, fetch_reads_failed, fetch_writes_failed};
+
+use crate::call::{enter_call, first_objects, start};
+use crate::ending::EvalEnding;
+use crate::enter::{enter_statement, enter_statements, wait};
+use crate::frame::Frame;
+use crate::operation::give;
+use crate::pending::{Due, Now, Pending};
+use crate::take::take_flow;
+use crate::value::{Object, Value};
+use core_tree::{Function, Program, Statement, Temporary};
+use cyc_host::{Gathered, read};
+use cyc_words::{Input, Output};
+use std::alloc::{AllocError, Global};
+
+/// One move. Fails only where no host memory is left.
+fn step<'p>(
+    alloc: Global,
+    now: Now<'p>,
+    stack: &mut Vec<Pending<'p>>,
+    frame: &mut Frame,
+    globals: &mut Vec<Object>,
+) -> Result<Due<'p>, AllocError>
+    ensures { IfOk result (λ due. IsMove (task_of now.entry) (waits_of stack.old.items) (known_of frame.old globals.old.items)
+        (next_of due) (waits_of stack.new.items) (known_of frame.new globals.new.items)) }
+{
+    match now {
+        Now::Follow(statements) => enter_statements(statements, stack),
+        Now::Execute(statement) => enter_statement(alloc, statement, stack, frame, globals),
+        Now::Leave(flow) => take_flow(flow, stack, frame),
+    }
+}
+
+/// Moves until a unit is due or the run is over. Fails only where no host memory is left.
+fn advance<'p>(
+    alloc: Global,
+    start: Due<'p>,
+    stack: &mut Vec<Pending<'p>>,
+    frame: &mut Frame,
+    globals: &mut Vec<Object>,
+) -> Result<Due<'p>, AllocError>
+    ensures still { IfOk result (λ due. StandsStill (next_of start.entry) (waits_of stack.old.items) (known_of frame.old globals.old.items)
+        (next_of due) (waits_of stack.new.items) (known_of frame.new globals.new.items)) }
+    ensures rests { IfOk result (λ due. IsAtRest (next_of due)) }
+{
+    let mut due = start;
+    'moves: loop {
+        match due {
+            Due::Go(now) => due = step(alloc, now, stack, frame, globals)?,
+            rest => return Ok(rest),
+        }
+    }
+}
+
+/// The ending of a run that is at rest, with so many units left, if it is over.
+fn ending_of(due: &Due<'_>, left: u64) -> Option<EvalEnding>
+    requires { IsAtRest (next_of due.now) }
+    ensures over { IfSome result (λ ending. EndsNow ending (next_of due.entry.now) left) }
+    ensures payable { IfNone result (IsPayable (next_of due.entry.now) × (0 < left)) }
+{
+    match due {
+        Due::Over(status) => Some(EvalEnding::Ended(status.cast_signed())),
+        Due::Wrong => Some(EvalEnding::Stuck),
+        Due::Go(_) => unreachable!(),
+        Due::Getchar(_) | Due::Putchar(..) | Due::Turn(..) | Due::Call(..) => {
+            if left == 0 {
+                Some(EvalEnding::Running)
+            } else {
+                None
+            }
+        }
+    }
+}
+
+/// The body of a loop is next, when its unit is paid.
+fn enter_turn<'p>(
+    test: &'p [Statement],
+    flag: Temporary,
+    body: &'p [Statement],
+    stack: &mut Vec<Pending<'p>>,
+) -> Result<Due<'p>, AllocError>
+    ensures next { IfOk result (λ due. next_of due ≡ Go (Follow (body_tree body.entry.now))) }
+    ensures waits { OnOk result (waits_of stack.new.items ≡ Body (body_tree test.entry.now) flag.0 (body_tree body.entry.now) ∷ waits_of stack.old.items) }
+{
+    wait(stack, Pending::Body(test, flag, body))?;
+    Ok(Due::Go(Now::Follow(body)))
+}
+
+/// The byte that was read, or -1 at the input's end.
+fn byte_word(answer: Option<u8>) -> u32
+    ensures { result ≡ byte_word answer }
+{
+    match answer {
+        Some(byte) => byte as u32,
+        None => u32::MAX,
+    }
+}
+
+/// Writes what is gathered, and then reads a byte or the end of the input. The `Err` is the ending of the run.
+fn fetch<R: Input, W: Output>(
+    gathered: &mut Gathered,
+    reader: &mut R,
+    writer: &mut W,
+    is_over: &mut bool,
+) -> Result<Option<u8>, EvalEnding>
+    ensures empty { OnOk result (gathered.new ≡ []) }
+    ensures all { OnOk result (Appends (W.contents writer.old) (W.contents writer.new) gathered.old) }
+    ensures answer { IfOk result (λ answer. Answers (R.remaining reader.old) (R.remaining reader.new) is_over.old is_over.new answer) }
+    ensures fault { IfErr result (λ ending. FetchFault ending (R.remaining reader.old) (R.remaining reader.new) is_over.old
+        (W.contents writer.old) (W.contents writer.new) gathered.old) }
+    ensures reads { R.fault_count reader.new ≡ fetch_reads_failed result (R.fault_count reader.old) }
+    ensures writes { W.fault_count writer.new ≡ fetch_writes_failed result (W.fault_count writer.old) }
+{
+    if gathered.flush(writer).is_err() {
+        return Err(EvalEnding::WriteFault);
+    }
+    match read(reader, is_over) {
+        Ok(answer) => Ok(answer),
+        Err(_) => Err(EvalEnding::ReadFault),
+    }
+}
+
+/// Writes what is gathered, at an ending. A failed write takes the ending's place.
+fn finish<W: Output>(gathered: &mut Gathered, writer: &mut W, ending: EvalEnding) -> EvalEnding
+    requires { ending ≢ EvalEnding.WriteFault }
+    ensures same { (result ≡ ending) ⊎ (result ≡ EvalEnding.WriteFault) }
+    ensures written { Wrote result (W.contents writer.old) (W.contents writer.new) gathered.old }
+    ensures writes { W.fault_count writer.new ≡ writes_failed result (W.fault_count writer.old) }
+{
+    match gathered.flush(writer) {
+        Ok(()) => ending,
+        Err(_) => EvalEnding::WriteFault,
+    }
+}
+
+/// Runs a program of Core by its meaning, with so many units of fuel.
+///
+/// Ends as the definition does: with the program's status, with `Running` where a unit is due and none is left, or
+/// `Stuck`. `WriteFault` comes in place of any other ending, where a write failed or took no byte; `ReadFault` where a
+/// read failed; `HostMemory` where the host has no memory for what is still to be done. After a failed call neither
+/// device is called again. Output is written when 4,096 bytes are gathered, before each read and at each ending. Each
+/// byte that is taken from the reader was asked for.
+pub fn evaluate_core<R: Input, W: Output>(
+    alloc: Global,
+    program: &Program,
+    reader: &mut R,
+    writer: &mut W,
+    fuel: u64,
+) -> EvalEnding
+    // what is written is the output of the program's run on the bytes that the reader gave, and the ending is that run's
+    ensures evaluated { IsEvaluated result (program_tree program.now) fuel
+        (R.remaining reader.old) (R.remaining reader.new) (W.contents writer.old) (W.contents writer.new) }
+    // a program whose run is never stuck is not stuck here
+    ensures never_stuck { IsNeverStuck (program_tree program.now) → result ≢ EvalEnding.Stuck }
+    // each device's fault comes where just one call of that device failed, and any other ending where none did
+    ensures reads { R.fault_count reader.new ≡ reads_failed result (R.fault_count reader.old) }
+    ensures writes { W.fault_count writer.new ≡ writes_failed result (W.fault_count writer.old) }
+{
+    let mut gathered = Gathered::new();
+    let mut is_over = false;
+    let mut stack = Vec::new(alloc);
+    let mut frame = Frame::new(alloc);
+    let mut due = start(program);
+    let Ok(mut globals) = first_objects(alloc, &program.globals) else {
+        return EvalEnding::HostMemory;
+    };
+    let mut left = fuel;
+    'units: loop {
+        let Ok(rest) = advance(alloc, due, &mut stack, &mut frame, &mut globals) else {
+            return finish(&mut gathered, writer, EvalEnding::HostMemory);
+        };
+        if let Some(ending) = ending_of(&rest, left) {
+            return finish(&mut gathered, writer, ending);
+        }
+        left -= 1;
+        let paid = match rest {
+            Due::Getchar(to) => match fetch(&mut gathered, reader, writer, &mut is_over) {
+                Ok(answer) => give(&mut frame, to, Value::Word(byte_word(answer))),
+                Err(ending) => return ending,
+            },
+            Due::Putchar(to, byte) => {
+                if gathered.put(writer, byte).is_err() {
+                    return EvalEnding::WriteFault;
+                }
+                give(&mut frame, to, Value::Word(byte as u32))
+            }
+            Due::Turn(test, flag, body) => enter_turn(test, flag, body, &mut stack),
+            Due::Call(to, function, arguments) => {
+                let functions: &[Function] = &program.functions;
+                enter_call(
+                    alloc, functions, to, function, arguments, &mut stack, &mut frame,
+                )
+            }
+            Due::Go(_) | Due::Over(_) | Due::Wrong => unreachable!(),
+        };
+        let Ok(next) = paid else {
+            return finish(&mut gathered, writer, EvalEnding::HostMemory);
+        };
+        due = next;
+    }
+}

@@ -1,0 +1,142 @@
+// What goes on at the end of a statement.
+
+ghost use Rattle.std.specs.Prelude.{◌≡◌, ◌∷◌, [], ℕ, List, IfOk, IfSome, IfNone, map, drop};
+ghost use Rattle.core_tree.specs.Trees.{body_tree, optional_tree};
+ghost use Rattle.core_eval.specs.declared.value.Object.{Object as TheObject};
+ghost use Rattle.core_eval.specs.Pendings.{Block, Body, Caller, Leave, Test, Wait, exit_of, next_of, saved_of, wait_of, waits_of};
+ghost use Rattle.core_eval.specs.Standing.{Known, known_of};
+ghost use Rattle.core_eval.specs.Costs.{IsMove};
+
+use crate::enter::{enter_loop, truth};
+use crate::frame::Frame;
+use crate::pending::{Due, Flow, Now, Pending};
+use crate::value::Value;
+use core_tree::{Statement, Temporary};
+use std::alloc::AllocError;
+
+/// What is on top of the stack, which is taken off.
+fn next<'p>(stack: &mut Vec<Pending<'p>>) -> Option<Pending<'p>>
+    ensures some { IfSome result (λ pending. waits_of stack.old.items ≡ wait_of pending ∷ waits_of stack.new.items) }
+    ensures none { IfNone result (waits_of stack.old.items ≡ []) }
+    ensures still { IfNone result (waits_of stack.new.items ≡ []) }
+{
+    stack.pop()
+}
+
+/// A loop at the end of its test: a unit is due for another turn, or the loop is over.
+fn take_test<'p>(
+    flow: Flow,
+    test: &'p [Statement],
+    flag: Temporary,
+    body: &'p [Statement],
+    frame: &Frame,
+) -> Due<'p>
+    ensures { (ws : List Wait) (globals : List TheObject)
+        → IsMove (Leave (exit_of flow)) (Test (body_tree test.entry.now) flag.0 (body_tree body.entry.now) ∷ ws)
+        (known_of frame.now globals) (next_of result) ws (known_of frame.now globals) }
+{
+    let Flow::Falls = flow else {
+        return Due::Go(Now::Leave(flow));
+    };
+    match truth(frame.temp(flag)) {
+        Some(true) => Due::Turn(test, flag, body),
+        Some(false) => Due::Go(Now::Leave(Flow::Falls)),
+        None => Due::Wrong,
+    }
+}
+
+/// A loop at the end of its body: its test is next, or the loop is over.
+fn take_body<'p>(
+    flow: Flow,
+    test: &'p [Statement],
+    flag: Temporary,
+    body: &'p [Statement],
+    stack: &mut Vec<Pending<'p>>,
+) -> Result<Due<'p>, AllocError>
+    ensures { IfOk result (λ due. (known : Known)
+        → IsMove (Leave (exit_of flow)) (Body (body_tree test.entry.now) flag.0 (body_tree body.entry.now) ∷ waits_of stack.old.items)
+        known (next_of due) (waits_of stack.new.items) known) }
+{
+    match flow {
+        Flow::Falls | Flow::Continues => enter_loop(test, flag, body, stack),
+        Flow::Breaks => Ok(Due::Go(Now::Leave(Flow::Falls))),
+        Flow::Returns(_) => Ok(Due::Go(Now::Leave(flow))),
+    }
+}
+
+/// A block that is left: its locals end with it.
+fn take_block<'p>(flow: Flow, frame: &mut Frame) -> Due<'p>
+    ensures { (ws : List Wait) (globals : List TheObject) → IsMove (Leave (exit_of flow)) (Block ∷ ws) (known_of frame.old globals) (next_of result) ws
+        (known_of frame.new globals) }
+{
+    frame.leave_block();
+    Due::Go(Now::Leave(flow))
+}
+
+/// A caller goes on with what it had, and one of its temporaries gets the result, if there is one.
+fn take_caller<'p>(
+    flow: Flow,
+    to: Option<Temporary>,
+    saved: Frame,
+    frame: &mut Frame,
+) -> Result<Due<'p>, AllocError>
+    ensures { IfOk result (λ due. (f : ℕ) (ws : List Wait) (globals : List TheObject) → IsMove (Leave (exit_of flow))
+        (Caller (optional_tree to) f (saved_of saved) ∷ ws) (known_of frame.old globals) (next_of due) ws (known_of frame.new globals)) }
+{
+    *frame = saved;
+    match flow {
+        Flow::Returns(None) => match to {
+            None => Ok(Due::Go(Now::Leave(Flow::Falls))),
+            Some(_) => Ok(Due::Wrong),
+        },
+        Flow::Returns(Some(value)) => match to {
+            Some(to) => {
+                frame.set_temp(to, value)?;
+                Ok(Due::Go(Now::Leave(Flow::Falls)))
+            }
+            None => Ok(Due::Wrong),
+        },
+        Flow::Falls => Ok(Due::Wrong),
+        Flow::Breaks => Ok(Due::Wrong),
+        Flow::Continues => Ok(Due::Wrong),
+    }
+}
+
+/// The status of a program whose `main` is left.
+fn status<'p>(flow: Flow) -> Due<'p>
+    ensures { (known : Known) → IsMove (Leave (exit_of flow)) [] known (next_of result) [] known }
+{
+    match flow {
+        Flow::Returns(Some(value)) => match value {
+            Value::Word(word) => Due::Over(word),
+            Value::Blank => Due::Wrong,
+            Value::Global(_) => Due::Wrong,
+        },
+        Flow::Returns(None) => Due::Wrong,
+        Flow::Falls => Due::Wrong,
+        Flow::Breaks => Due::Wrong,
+        Flow::Continues => Due::Wrong,
+    }
+}
+
+/// A statement was left, and what waits for that goes on. Fails only where no host memory is left.
+pub fn take_flow<'p>(
+    flow: Flow,
+    stack: &mut Vec<Pending<'p>>,
+    frame: &mut Frame,
+) -> Result<Due<'p>, AllocError>
+    ensures { IfOk result (λ due. (globals : List TheObject) → IsMove (Leave (exit_of flow)) (waits_of stack.old.items) (known_of frame.old globals)
+        (next_of due) (waits_of stack.new.items) (known_of frame.new globals)) }
+{
+    let Some(pending) = next(stack) else {
+        return Ok(status(flow));
+    };
+    match (pending, flow) {
+        (Pending::Then(others), Flow::Falls) => Ok(Due::Go(Now::Follow(others))),
+        (Pending::Then(_), _) => Ok(Due::Go(Now::Leave(flow))),
+        (Pending::Test(test, flag, body), _) => Ok(take_test(flow, test, flag, body, frame)),
+        (Pending::Body(test, flag, body), _) => take_body(flow, test, flag, body, stack),
+        (Pending::Block, _) => Ok(take_block(flow, frame)),
+        (Pending::Caller(result, _, saved), _) => take_caller(flow, result, saved, frame),
+    }
+}

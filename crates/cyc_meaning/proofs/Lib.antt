@@ -1,15 +1,2 @@
-pub mod Looked
-pub mod Moves
-pub mod StatementMoves
-pub mod ShownLocals
-pub mod MemoryMoves
-pub mod Arrivals
-pub mod EnterMoves
-pub mod TakeMoves
-pub mod QuietRests
-pub mod Progress
-pub mod Accepted
-pub mod Beginning
-pub mod Stages
-pub mod Endings
-pub mod Orderly
+pub mod Agreeing
+pub mod Carried

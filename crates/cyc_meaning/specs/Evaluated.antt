@@ -1,23 +1,14 @@
 -- What an evaluation between a reader and a writer does: the source's run on the bytes that the reader gave, whose output goes to the writer.
-use Rattle.std.specs.Prelude.{◌≡◌, ℕ, suc, ◌<◌, ◌≤◌, List, [], ◌∷◌, ◌++◌, Option, Some, None, take, Contains}
-use Rattle.std.specs.Io.KnownBytes.{Appends, Consumes, IsAtEnd}
+use Rattle.std.specs.Prelude.{◌≡◌, ℕ, suc, ◌<◌, ◌≤◌, List, [], ◌∷◌, ◌++◌, Option, Some, None, Contains}
+use Rattle.std.specs.Io.KnownBytes.{Consumes, IsAtEnd}
 use Rattle.cyc_tree.specs.Tree.{Program}
 use Rattle.cyc_words.specs.Events.{ByteRead, SourceEvent, Visible, SourceEnding, visible, output, bytes_read}
 use Rattle.cyc_words.specs.Words.{word}
-use Rattle.cyc_words.specs.Devices.{one_more}
 use Rattle.source_meaning.specs.Programs.{source as source_run}
-use Rattle.cyc_meaning.specs.declared.ending.EvalEnding.{EvalEnding}
-use Rattle.cyc_meaning.specs.declared.ending.EvalEnding.TheVariants as ending
-
--- The bytes that the run writes reach the writer: all of them, or where a write failed some from the first on.
-abbrev pub Wrote : EvalEnding → Option (List ℕ) → Option (List ℕ) → List ℕ → Type 0
-Wrote (ending.Ended status) old new bytes = Appends old new bytes
-Wrote (ending.Raised kind) old new bytes = Appends old new bytes
-Wrote ending.Running old new bytes = Appends old new bytes
-Wrote ending.Stuck old new bytes = Appends old new bytes
-Wrote ending.ReadFault old new bytes = Appends old new bytes
-Wrote ending.WriteFault old new bytes = (count : ℕ) × Appends old new (take count bytes)
-Wrote ending.HostMemory old new bytes = Appends old new bytes
+use Rattle.source_lowering.specs.Agreeing.{AreBytes}
+use Rattle.core_eval.specs.Evaluated.{Wrote}
+use Rattle.core_eval.specs.declared.ending.EvalEnding.{EvalEnding}
+use Rattle.core_eval.specs.declared.ending.EvalEnding.TheVariants as ending
 
 -- With one unit more, and this byte after the input, the run reads the byte next.
 abbrev pub IsReadNext : Program → List ℕ → ℕ → ℕ → Type 0
@@ -33,33 +24,14 @@ EndsAs (ending.Raised kind) p fuel units input = (units ≡ fuel) × ((source_ru
 EndsAs ending.Running p fuel units input = (units ≡ fuel) × ((source_run p input units).ending ≡ SourceEnding.Running)
 EndsAs ending.Stuck p fuel units input = (units ≡ fuel) × ((source_run p input units).ending ≡ SourceEnding.Stuck)
 EndsAs ending.ReadFault p fuel units input =
-    (units < fuel) × ((source_run p input units).ending ≡ SourceEnding.Running) × ((byte : ℕ) → IsReadNext p input units byte)
+    (units < fuel) × ((source_run p input units).ending ≡ SourceEnding.Running) × ((byte : ℕ) → byte < 256 → IsReadNext p input units byte)
 EndsAs ending.WriteFault p fuel units input = Unit {0}
 EndsAs ending.HostMemory p fuel units input = Unit {0}
-
--- a run that ends in a read fault had one failed call of the reader, and any other run none
-abbrev pub reads_failed : EvalEnding → ℕ → ℕ
-reads_failed (ending.Ended status) count = count
-reads_failed (ending.Raised kind) count = count
-reads_failed ending.Running count = count
-reads_failed ending.Stuck count = count
-reads_failed ending.ReadFault count = one_more count
-reads_failed ending.WriteFault count = count
-reads_failed ending.HostMemory count = count
-
--- a run that ends in a write fault had one failed call of the writer, and any other run none
-abbrev pub writes_failed : EvalEnding → ℕ → ℕ
-writes_failed (ending.Ended status) count = count
-writes_failed (ending.Raised kind) count = count
-writes_failed ending.Running count = count
-writes_failed ending.Stuck count = count
-writes_failed ending.ReadFault count = count
-writes_failed ending.WriteFault count = one_more count
-writes_failed ending.HostMemory count = count
 
 -- The run of a program with at most `fuel` units, on the bytes that the reader gave.
 pub record IsEvaluated (why : EvalEnding) (p : Program) (fuel : ℕ) (reader_old reader_new writer_old writer_new : Option (List ℕ)) : Type 0 where
   pub input : List ℕ
+  pub bytes : AreBytes input
   -- the units that the run had
   pub units : ℕ
   pub within : units ≤ fuel

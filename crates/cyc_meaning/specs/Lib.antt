@@ -1,10 +1,1 @@
-pub mod Numbers
-pub mod Locals
-pub mod Supported
-pub mod Shown
-pub mod Pendings
-pub mod Standing
-pub mod Costs
-pub mod Resting
 pub mod Evaluated
-pub mod Fetched

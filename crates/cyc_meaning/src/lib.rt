@@ -1,21 +1,14 @@
 //! Runs a checked program by the meaning of its source.
 //!
-//! `eval` does what `source` of `source_meaning` says, with so many units of fuel, between a reader and a writer. It moves
-//! from one phrase to the next, and keeps what is still to be done on a stack of its own, so that no source drives the
-//! host's stack deeper than its nesting. Stands on `unique_flow`, whose programs it runs, on the definitions of
-//! `source_meaning`, and on the transfers of `cyc_host`. `never_stuck` is the law that no checked program is out of order,
-//! by what `lower_checks` proves.
+//! `eval` does what `source` of `source_meaning` says, with so many units of fuel, between a reader and a writer. It lowers the
+//! program, by `core_lower`, and runs its Core, by `core_eval`; that Core shows what the source shows is proved of lowering,
+//! so the clauses speak of the source alone. `never_stuck` is the law that no checked program is out of order, by the rules
+//! of its types (`safe_sources`). Stands on these and on `unique_flow`, whose programs it runs.
 #![tactic(auto)]
 
-mod ending;
-mod enter;
 mod laws;
-mod locals;
-mod number;
-mod pending;
 mod running;
-mod takes;
 
-pub use ending::EvalEnding;
+pub use core_eval::EvalEnding;
 pub use laws::never_stuck;
 pub use running::eval;

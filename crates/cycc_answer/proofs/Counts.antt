@@ -4,9 +4,9 @@ use Rattle.cyc_words.specs.Devices.{one_more}
 use Rattle.cyc_host.specs.Failures.{reads_failed, writes_failed}
 use Rattle.cyc_host.specs.declared.ending.Ending.{Ending}
 use Rattle.cyc_host.specs.declared.ending.Ending.TheVariants as ending
-use Rattle.cyc_meaning.specs.Evaluated.{reads_failed as eval_reads_failed, writes_failed as eval_writes_failed}
-use Rattle.cyc_meaning.specs.declared.ending.EvalEnding.{EvalEnding}
-use Rattle.cyc_meaning.specs.declared.ending.EvalEnding.TheVariants as eval
+use Rattle.core_eval.specs.Evaluated.{reads_failed as eval_reads_failed, writes_failed as eval_writes_failed}
+use Rattle.core_eval.specs.declared.ending.EvalEnding.{EvalEnding}
+use Rattle.core_eval.specs.declared.ending.EvalEnding.TheVariants as eval
 use Rattle.cycc_answer.specs.Statuses.{ended_status, status_of, evaluated_status}
 use Rattle.cycc_answer.specs.Devices.{AreCounted}
 

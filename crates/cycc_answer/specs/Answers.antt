@@ -10,7 +10,7 @@ use Rattle.rv32_machine.specs.Arrays.{Arrays, IsStart, areas_of, state_of}
 use Rattle.rv32_machine.specs.State.{State}
 use Rattle.cyc_host.specs.declared.ending.Ending.{Ending}
 use Rattle.cyc_host.specs.Hosted.{IsHosted}
-use Rattle.cyc_meaning.specs.declared.ending.EvalEnding.{EvalEnding}
+use Rattle.core_eval.specs.declared.ending.EvalEnding.{EvalEnding}
 use Rattle.cycc_driver.specs.declared.fault.CompileFault.{CompileFault}
 use Rattle.cycc_driver.specs.Texts.{IsAcceptedAs}
 use Rattle.cycc_driver.specs.Refusals.{IsRefusedFor, HasNoImageFor}

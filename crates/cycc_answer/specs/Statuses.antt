@@ -7,8 +7,8 @@ use Rattle.cyc_image.specs.declared.fault.ImageFault.{ImageFault}
 use Rattle.cyc_image.specs.declared.fault.ImageFault.TheVariants as image
 use Rattle.cyc_host.specs.declared.ending.Ending.{Ending}
 use Rattle.cyc_host.specs.declared.ending.Ending.TheVariants as ending
-use Rattle.cyc_meaning.specs.declared.ending.EvalEnding.{EvalEnding}
-use Rattle.cyc_meaning.specs.declared.ending.EvalEnding.TheVariants as eval
+use Rattle.core_eval.specs.declared.ending.EvalEnding.{EvalEnding}
+use Rattle.core_eval.specs.declared.ending.EvalEnding.TheVariants as eval
 
 -- of a program that ended: 0 where it ended with 0, and 1 where it ended with another number
 abbrev pub ended_status : ℤ → ℕ

@@ -1,7 +1,9 @@
 -- A program's first fault as that of its text.
 use Rattle.std.proofs.Common.{◌≡◌, ℕ, List, Some, refl, sym, subst}
 use Rattle.cyc_tree.specs.Tree.{Program}
-use Rattle.region_types.specs.Faults.{first_fault}
+use Rattle.region_types.specs.Faults.{fault_of}
+use Rattle.source_typing.specs.Answers.{first_fault}
+use Rattle.source_typing.specs.Taken.{integers}
 use Rattle.region_types.specs.declared.fault.Fault.{Fault}
 use Rattle.region_types.specs.declared.fault.FaultKind.{FaultKind}
 use Rattle.region_types.specs.declared.fault.FaultKind.TheVariants as kind
@@ -21,7 +23,7 @@ by_kind text kind.Outlives place broken = broken
 by_kind text kind.Effect place broken = broken
 by_kind text kind.Size place broken = broken
 
-pub broken_text : (text : List ℕ) (program : Program) (why : CheckFault) (f : CompileFault) → ((b : Fault) → why ≡ check.Broken b → first_fault program ≡ Some b)
+pub broken_text : (text : List ℕ) (program : Program) (why : CheckFault) (f : CompileFault) → ((b : Fault) → why ≡ check.Broken b → first_fault integers program ≡ Some (fault_of b))
     → IsOfChecking text why f → IsTextOf text program → IsRefusedFor f text
 broken_text text program (check.Broken b) f first (place, is, there) spelled =
     subst (λ (x : CompileFault). IsRefusedFor x text) (sym is)

@@ -9,7 +9,8 @@ use Rattle.cyc_tree.proofs.DeepestPhrases.{none_too_deep}
 use Rattle.cyc_parser.specs.Grammar.{IsProgram}
 use Rattle.cyc_parser.specs.Refusals.{IsUnexpectedFirst, IsTooDeepAt, GoNoFurther}
 use Rattle.cyc_parser.proofs.WholePrograms.{one_program}
-use Rattle.region_types.specs.Faults.{first_fault}
+use Rattle.source_typing.specs.Answers.{first_fault}
+use Rattle.source_typing.specs.Taken.{integers}
 use Rattle.region_types.specs.declared.fault.FaultKind.{FaultKind}
 use Rattle.cycc_driver.specs.declared.fault.Place.{Place}
 use Rattle.cycc_driver.specs.declared.fault.CompileFault.{CompileFault}
@@ -47,7 +48,7 @@ too_deep text p place spelled none =
 pub broken : (text : List ℕ) (p : Program) (k : FaultKind) (place : Place) → IsAcceptedAs text p → IsBroken text k place → ⊥
 broken text p k place accepted breaks =
     let same = same_program text p breaks.program accepted.spelled breaks.spelled in
-    let none = sym accepted.accepted ∙ ap first_fault same ∙ breaks.first in
+    let none = sym accepted.accepted ∙ ap (first_fault integers) same ∙ breaks.first in
     cc
 
 -- an accepted text is refused only for want of memory

@@ -1,14 +1,14 @@
 -- A run between a reader and a writer of a machine that does what a program does.
-use Rattle.std.proofs.Common.{◌≡◌, ℕ, ◌<◌, List, [], ◌∷◌, ◌++◌, Option, Some, None, inl, inr, take, drop, sym, ap, subst, ◌∙◌, append_assoc, append-nil, arith, ⊎_elim}
+use Rattle.std.proofs.Common.{◌≡◌, ℕ, ◌<◌, List, [], ◌∷◌, ◌++◌, Option, Some, None, inl, inr, take, drop, refl, sym, ap, subst, ◌∙◌, append_assoc, append-nil, arith, ⊎_elim}
 use Rattle.std.proofs.lemmas.List.{take-append-drop}
 use Rattle.std.proofs.lemmas.Bool.{cases_lt}
 use Rattle.std.specs.Io.KnownBytes.{Appends}
 use Rattle.cyc_words.specs.Words.{word}
-use Rattle.cyc_words.specs.Events.{Event, SourceEvent, SourceEnding, Request, MachineEnding, output, visible}
+use Rattle.cyc_words.specs.Events.{Event, SourceEvent, Visible, Called, Returned, SourceEnding, Request, MachineEnding, output, visible}
 use Rattle.cyc_words.proofs.Events.{output_append}
 use Rattle.cyc_tree.specs.Tree.{Program}
-use Rattle.source_meaning.specs.Programs.{source}
-use Rattle.arena_laws.specs.Holdings.{Holdings}
+use Rattle.source_meaning.specs.Programs.{source, world_of}
+use Rattle.arena_laws.specs.Holdings.{fresh}
 use Rattle.rv32_machine.specs.Arrays.{Arrays, IsStart, areas_of, state_of}
 use Rattle.rv32_machine.specs.State.{State, Areas, Stop, Mode, Runs, Over}
 use Rattle.rv32_machine.specs.Run.{Run, run_steps, from, exhausted_by, ending_in, ending_of}
@@ -16,11 +16,17 @@ use Rattle.rv32_machine.specs.Implements.{IsBeginning, IsRefused, HasNoFrame, ac
 use Rattle.cyc_host.specs.declared.ending.Ending.{Ending}
 use Rattle.cyc_host.specs.declared.ending.Ending.TheVariants as ending
 use Rattle.cyc_host.specs.Hosted.{Written, EndsAs, IsHosted}
-use Rattle.cyc_meaning.proofs.Progress.{visible_append}
-use Rattle.cycc_driver.specs.Outcome.{source_meaning, frame_bound, WantsRoom, WritesBeginning, WritesAll, EndsAsProgram, IsTextImage, IsTextRun}
+use Rattle.compiled_sources.specs.Promise.{meaning_of, frame_bound_of}
+use Rattle.cycc_driver.specs.Outcome.{WantsRoom, WritesBeginning, WritesAll, EndsAsProgram, IsTextImage, IsTextRun}
 use Rattle.cycc_driver.proofs.Longer.{same_state, runs_before}
 
 -- ---- output
+
+visible_append : (xs ys : List SourceEvent) → visible (xs ++ ys) ≡ visible xs ++ visible ys
+visible_append [] ys = refl
+visible_append (Visible e ∷ xs) ys = ap (λ (l : List Event). e ∷ l) (visible_append xs ys)
+visible_append (Called f ∷ xs) ys = visible_append xs ys
+visible_append (Returned f ∷ xs) ys = visible_append xs ys
 
 -- what was shown at a cut is the beginning of what is meant
 cut_begins : (shown : List Event) (meant : List SourceEvent) (reason : List SourceEvent → SourceEvent → Type 0) → IsCut shown meant reason
@@ -30,9 +36,9 @@ cut_begins shown meant reason cut = (
   ap visible cut.split ∙ visible_append cut.before (cut.next ∷ cut.rest) ∙ ap (λ es. es ++ visible (cut.next ∷ cut.rest)) (sym cut.same),
 )
 
-module _ (n : Areas) where
+module _ (bound : List ℕ → ℕ) (n : Areas) where
   -- what a run has shown is the beginning of what is meant
-  shown_begins : (end : MachineEnding) (shown : List Event) (meant : List SourceEvent) (e : SourceEnding) → AgreesIn frame_bound n end shown meant e
+  shown_begins : (end : MachineEnding) (shown : List Event) (meant : List SourceEvent) (e : SourceEnding) → AgreesIn bound n end shown meant e
       → IsBeginning shown (visible meant)
   shown_begins MachineEnding.Running shown meant e agrees = agrees
   shown_begins MachineEnding.Lacking shown meant e agrees = agrees
@@ -40,18 +46,21 @@ module _ (n : Areas) where
   shown_begins (MachineEnding.Raised kind) shown meant e agrees = ([], agrees.1 ∙ sym (append-nil shown))
   shown_begins (MachineEnding.Refused q) shown meant e agrees = cut_begins shown meant (λ before next. IsRefused q next) agrees
   shown_begins MachineEnding.NoStack shown meant e agrees =
-      cut_begins shown meant (λ before next. HasNoFrame frame_bound n.stack (active_after [] before) next) agrees
+      cut_begins shown meant (λ before next. HasNoFrame bound n.stack (active_after [] before) next) agrees
   shown_begins (MachineEnding.Fault fault) shown meant e agrees = absurd agrees
 
 -- ---- endings
 
 module _ (n : Areas) (program : Program) (input : List ℕ) (r : Run) (fuel : ℕ) (old new : Option (List ℕ)) where
+  abbrev bound : List ℕ → ℕ
+  bound = frame_bound_of (world_of program).functions
+
   abbrev meant : List SourceEvent
   meant = (source program input fuel).events
 
   -- the run agrees with the program at so much fuel
   abbrev AgreesAs : MachineEnding → Type 0
-  AgreesAs end = AgreesIn frame_bound n end r.events meant (source program input fuel).ending
+  AgreesAs end = AgreesIn bound n end r.events meant (source program input fuel).ending
 
   -- in the way that the machine is over
   over : (stop : Stop) → r.state.mode ≡ Over stop → AgreesAs (ending_of r) → AgreesAs (ending_in (Over stop) r.refused)
@@ -64,7 +73,7 @@ module _ (n : Areas) (program : Program) (input : List ℕ) (r : Run) (fuel : �
   -- the first bytes of what the run has shown
   some : (bytes others : List ℕ) → AgreesAs (ending_of r) → output r.events ≡ bytes ++ others → Appends old new bytes → WritesBeginning program input old new
   some bytes others agrees parts written =
-      let begins = shown_begins n (ending_of r) r.events meant (source program input fuel).ending agrees in
+      let begins = shown_begins bound n (ending_of r) r.events meant (source program input fuel).ending agrees in
       record {
         fuel = fuel;
         bytes = bytes;
@@ -77,7 +86,7 @@ module _ (n : Areas) (program : Program) (input : List ℕ) (r : Run) (fuel : �
   whole agrees written = some (output r.events) [] agrees (sym (append-nil (output r.events))) written
 
   -- where the machine is exhausted, the store refused a request, or the stack had no room for a frame
-  wants_room : (refused : Option Request) → AgreesAs (exhausted_by refused) → IsCut r.events meant (WantsRoom n)
+  wants_room : (refused : Option Request) → AgreesAs (exhausted_by refused) → IsCut r.events meant (WantsRoom program n)
   wants_room (Some q) a = record { before = a.before; next = a.next; rest = a.rest; split = a.split; same = a.same; because = inl (q, a.because) }
   wants_room None a = record { before = a.before; next = a.next; rest = a.rest; split = a.split; same = a.same; because = inr a.because }
 
@@ -107,17 +116,19 @@ runs_on n r steps count end starts at goes_on =
     (cases_lt 0 steps)
 
 -- a run of the image of a text, from its start on
-pub text_run : (text bytes : List ℕ) (pages steps : ℕ) (why : Ending) (made : IsTextImage text pages bytes) (holdings : Holdings) (arena : ℕ → ℕ)
-    (start : Arrays) → IsStart made.parts holdings arena start → (end : State) → {reader_old reader_new writer_old writer_new : Option (List ℕ)}
+pub text_run : (text bytes : List ℕ) (pages steps : ℕ) (why : Ending) (made : IsTextImage text pages bytes) (arena : ℕ → ℕ)
+    (start : Arrays) → ((at : ℕ) → arena at < 256) → IsStart made.parts (fresh pages) arena start → (end : State) → {reader_old reader_new writer_old writer_new : Option (List ℕ)}
     → IsHosted why (areas_of start) steps (state_of start) end reader_old reader_new writer_old writer_new
     → (why ≡ ending.StepLimit → 0 < steps → end.mode ≡ Runs)
     → IsTextRun text pages steps why reader_old reader_new writer_old writer_new
-text_run text bytes pages steps why made holdings arena start starts end {reader_old} {reader_new} {writer_old} {writer_new} hosted goes_on =
+text_run text bytes pages steps why made arena start small starts end {reader_old} {reader_new} {writer_old} {writer_new} hosted goes_on =
     let n = areas_of start in
     let s = state_of start in
     let h = hosted in
     let r = from s h.input h.answers in
-    let does = made.implemented holdings arena start starts h.input h.bytes in
+    let with_its : IsStart made.parts (fresh made.parts.pages) arena start =
+    subst (λ (k : ℕ). IsStart made.parts (fresh k) arena start) (sym made.as_asked) starts in
+    let does = made.implemented arena start small with_its h.input h.bytes in
     let agrees = does.each_run h.answers h.count in
     record {
       program = made.program;
@@ -125,7 +136,6 @@ text_run text bytes pages steps why made holdings arena start starts end {reader
       parts = made.parts;
       as_asked = made.as_asked;
       implemented = made.implemented;
-      holdings = holdings;
       arena = arena;
       start = start;
       starts = starts;
@@ -137,7 +147,7 @@ text_run text bytes pages steps why made holdings arena start starts end {reader
           subst (λ (w : Ending). EndsAs w n steps h.count (run_steps n h.count r) end) at_limit h.ends in
           let longer = from s (h.input ++ more) h.answers in
           let same = same_state n h.count s h.input h.answers more none in
-          let later : steps < count = runs_before n count steps longer (source_meaning made.program (h.input ++ more)) fuel over (reached h.answers)
+          let later : steps < count = runs_before n count steps longer (meaning_of made.program (h.input ++ more)) fuel over (reached h.answers)
           (ap (λ k. (run_steps n k longer).state.mode) (sym at.1) ∙ ap (λ (x : State). x.mode) same
           ∙ runs_on n r steps h.count end starts.runs at (goes_on at_limit)) in
           omega (arith, later, within);

@@ -1,59 +1,99 @@
--- From the layers to the whole: an image of a program's placed code does what the program does.
-use Rattle.std.proofs.Common.{◌≡◌, ℕ, ◌+◌, ◌*◌, ◌^◌, ◌≤◌, ◌<◌, List, arith}
+-- From the layers to the whole: an image of a program's placed code and data does what the program does.
+use Rattle.std.specs.Prelude.{slice_index}
+use Rattle.std.proofs.Common.{◌≡◌, ℕ, ◌+◌, ◌^◌, ◌≤◌, ◌<◌, List, [], length, refl, sym, ap, ◌∙◌, subst, arith}
+use Rattle.cyc_tree.specs.Operands.{HasOperands}
+use Rattle.arena_laws.specs.Holdings.{Holdings, fresh}
+use Rattle.compiled_sources.specs.Promise.{lines_of}
+use Rattle.compiled_sources.proofs.AcceptedDo.{accepted_do}
+use Rattle.core_frames.specs.Lines.{IsPlace, code_length}
+use Rattle.core_frames.specs.Running.{Begins}
+use Rattle.core_frames.specs.Statics.{data_bytes}
+use Rattle.core_frames.proofs.Images.{IsFirst, begins_as, data_length}
+use Rattle.core_place.specs.Holding.{IsCodeOf}
+use Rattle.core_place.specs.Limits.{AreTooLarge}
+use Rattle.core_place.specs.Placed.{ArePlaced, place_of}
+use Rattle.core_place.proofs.Programs.{too_long}
+use Rattle.cyc_image.specs.Format.{Contents, Fits, IsImage, code_limit, data_limit}
 use Rattle.cyc_tree.specs.Tree.{Program}
-use Rattle.cyc_image.specs.Format.{Contents, Fits, IsImage}
-use Rattle.cyc_core.specs.declared.operation.Cell.{Cell}
-use Rattle.cyc_core.specs.Tree.{Statement, statements_of}
-use Rattle.cyc_core.specs.Cells.{operations_of}
-use Rattle.cyc_core.specs.Meaning.{core}
-use Rattle.cyc_core.specs.Orderly as orderly
-use Rattle.lower_checks.specs.Agreeing.{DoesAsSource}
-use Rattle.rv32_select.specs.declared.labelled.Line.{Line}
-use Rattle.rv32_select.specs.Lines.{code_length, place_of}
-use Rattle.rv32_select.specs.Running.{HasRoom, DoesAsCore}
-use Rattle.cyc_image.specs.Format.{code_limit}
-use Rattle.rv32_layout.specs.Holding.{BeginsWith}
-use Rattle.rv32_machine.specs.Arrays.{areas_of, state_of}
+use Rattle.rv32_machine.specs.Arrays.{Arrays, IsStart, areas_of, byte_at, state_of}
+use Rattle.safe_sources.proofs.Programs.{accepted_is_never_stuck, has_main}
+use Rattle.source_lowering.specs.Programs.{program_code}
+use Rattle.source_typing.specs.Answers.{program_faults}
+use Rattle.source_typing.specs.Taken.{integers}
+use Rattle.unique_flow.specs.Accepted.{IsAccepted}
+use Rattle.unique_flow.proofs.Accepted.{no_faults}
+use Rattle.cycc_driver.proofs.Small.{code_small, code_words, data_small, each_small, memory_small}
+use Rattle.cycc_driver.specs.Outcome.{IsCode, IsImplementedBy, IsTextImage}
 use Rattle.cycc_driver.specs.Texts.{IsAcceptedAs}
-use Rattle.cycc_driver.specs.Outcome.{source_meaning, frame_bound, IsImplementedBy, IsTextImage}
-use Rattle.cycc_driver.proofs.Joined.{carried}
 
--- What the layers promise of a program: its Core does what it does, is never out of order and has few cells; the lines do what the Core does; and a machine with the
--- code begins with the lines.
-pub record AreLayers (program : Program) (last : Cell) (body : List Statement) (lines : List Line) (bytes : List ℕ) : Type 0 where
-  pub as_source : DoesAsSource program body
-  pub orderly : orderly.IsNeverStuck (statements_of body)
-  pub few : last.0 < operations_of (statements_of body)
-  pub long : 8 * operations_of (statements_of body) ≤ code_length lines
-  pub within : code_length lines ≤ code_limit
-  pub as_core : DoesAsCore last (statements_of body) lines
-  pub begins : BeginsWith lines bytes
+-- What the layers promise of a program: the bytes are its lines', a machine with them has the lines, and the data are its globals'.
+pub record AreLayers (program : Program) (code statics : List ℕ) : Type 0 where
+  pub placed : ArePlaced (lines_of program) code
+  pub has : IsCodeOf (lines_of program) code
+  pub places : (label : ℕ) → IsPlace (place_of (lines_of program) label)
+  pub statics_are : statics ≡ data_bytes 0 (program_code program).data_objects
 
-room : (last operations length : ℕ) → last < operations → 8 * operations ≤ length → length ≤ 1048576 → 4 * last + 20 ≤ 2 ^ 20
-room last operations length few long within = omega arith
+module _ (program : Program) (code statics : List ℕ) (parts : Contents) (layers : AreLayers program code statics) (is_code : parts.code ≡ code)
+    (is_statics : parts.statics ≡ statics) (from_first : parts.entry ≡ 0) (fits : Fits parts) where
+  first_machine : (arena : ℕ → ℕ) (start : Arrays) → ((at : ℕ) → arena at < 256) → IsStart parts (fresh parts.pages) arena start → IsFirst start
+  first_machine arena start small starts =
+      let pages : start.holdings.pages ≡ parts.pages = ap (λ (h : Holdings). h.pages) starts.held in
+      record {
+        runs = starts.runs;
+        at_first = starts.at_entry ∙ omega (arith, from_first);
+        pointer = starts.registers 2 (omega arith);
+        code_within = let within = fits.code_within in omega (arith, within, ap (λ (bs : List ℕ). length bs) starts.code);
+        statics_within = let within = fits.data_within in omega (arith, within, ap (λ (bs : List ℕ). length bs) starts.statics);
+        stack_whole = starts.stack;
+        pages_within = let within = fits.pages_within in omega (arith, within, pages);
+        small = memory_small start.holdings.pages start.arena start.code start.statics start.stack
+            (subst (λ (a : ℕ → ℕ). (at : ℕ) → a at < 256) (sym starts.arena_bytes) small)
+            (subst (λ (bs : List ℕ). (k : ℕ) → slice_index bs k < 256) (sym (starts.code ∙ is_code)) (each_small code (code_small (lines_of program) code layers.placed)))
+            (subst (λ (bs : List ℕ). (k : ℕ) → slice_index bs k < 256) (sym (starts.statics ∙ is_statics ∙ layers.statics_are))
+            (each_small (data_bytes 0 (program_code program).data_objects) (data_small 0 (program_code program).data_objects)))
+            (λ k. let none = starts.zeros k in omega (arith, none));
+        unheld = λ number. ap (λ (h : Holdings). h.standing number) starts.held;
+      }
 
-pub implemented : (program : Program) (last : Cell) (body : List Statement) (lines : List Line) (bytes : List ℕ) (parts : Contents) → AreLayers program last body lines bytes
-    → parts.code ≡ bytes → parts.entry ≡ 0 → Fits parts → IsImplementedBy program parts
-implemented program last body lines bytes parts layers code entry fits holdings arena start starts input are_bytes =
-    let tree = statements_of body in
-    let core_has = room last.0 (operations_of tree) (code_length lines) layers.few layers.long layers.within in
-    let has_room : HasRoom (areas_of start) last = omega (arith, core_has, starts.stack) in
-    let begun = layers.begins parts holdings arena start code entry fits starts in
-    let orderly = λ (fuel : ℕ). layers.orderly (λ _. 0) input fuel in
-    let does = layers.as_core frame_bound (areas_of start) (place_of lines) (state_of start) input are_bytes has_room begun orderly in
-    let run = λ (fuel : ℕ). core tree (λ _. 0) input fuel in
-    carried (λ fuel. (run fuel).events) (λ fuel. (run fuel).ending) (source_meaning program input)
-    (λ fuel. (layers.as_source (λ _. 0) input fuel).events) (λ fuel. (layers.as_source (λ _. 0) input fuel).ending)
-    frame_bound (areas_of start) (state_of start) input does
+  pub implemented : HasOperands program → IsAccepted program → IsImplementedBy program parts
+  implemented operands accepted arena start small starts input are_bytes =
+      let faultless : program_faults integers program ≡ [] = no_faults program accepted in
+      let does = (accepted_do program operands faultless).promised in
+      let begun : Begins (areas_of start) (place_of (lines_of program)) (lines_of program) (program_code program).data_objects (state_of start) =
+      begins_as start (place_of (lines_of program)) (lines_of program) (program_code program).data_objects (first_machine arena start small starts) does.plain
+      (starts.statics ∙ is_statics ∙ layers.statics_are) layers.places (layers.has start (starts.code ∙ is_code)) in
+      does.does (areas_of start) (place_of (lines_of program)) (state_of start) input are_bytes begun
+      (λ fuel. accepted_is_never_stuck program operands faultless input fuel)
+
+-- ---- sizes
+
+-- its code begins with a call, and is of whole words
+pub is_code : (program : Program) (code : List ℕ) → length code ≡ code_length (lines_of program) → length code ≤ code_limit → IsCode code
+is_code program code long within =
+    let words = code_words (lines_of program) in
+    record { some = omega (arith, long); within = within; whole_words = omega (arith, long, words) }
+
+-- code that can't be placed is over the limit
+pub long_code : (program : Program) → HasOperands program → IsAccepted program → AreTooLarge (lines_of program) → code_limit < code_length (lines_of program)
+long_code program operands accepted large = too_long (program_code program) (has_main program operands (no_faults program accepted)) large
+
+-- the data are never over theirs
+pub data_fit : (program : Program) → HasOperands program → IsAccepted program → data_limit < length (data_bytes 0 (program_code program).data_objects) → ⊥
+data_fit program operands accepted large =
+    let does = accepted_do program operands (no_faults program accepted) in
+    let within = does.data_within in
+    let long = data_length 0 (program_code program).data_objects does.promised.plain in
+    omega (arith, within, long, large)
 
 -- the image of an accepted text
-pub text_image : (text bytes code : List ℕ) (program : Program) (parts : Contents) (pages : ℕ) → IsAcceptedAs text program → IsImage bytes parts → parts.code ≡ code
-    → parts.entry ≡ 0 → parts.pages ≡ pages → ((p : Contents) → p.code ≡ code → p.entry ≡ 0 → Fits p → IsImplementedBy program p) → IsTextImage text pages bytes
-text_image text bytes code program parts pages accepted image is_code from_first as_asked does = record {
+pub text_image : (text bytes code statics : List ℕ) (program : Program) (parts : Contents) (pages : ℕ) → IsAcceptedAs text program → IsImage bytes parts
+    → parts.code ≡ code → parts.statics ≡ statics → parts.entry ≡ 0 → parts.pages ≡ pages
+    → ((p : Contents) → p.code ≡ code → p.statics ≡ statics → p.entry ≡ 0 → Fits p → IsImplementedBy program p) → IsTextImage text pages bytes
+text_image text bytes code statics program parts pages accepted image is_code is_statics from_first as_asked does = record {
   program = program;
   accepted = accepted;
   parts = parts;
   image = image;
   as_asked = as_asked;
-  implemented = does parts is_code from_first image.fits;
+  implemented = does parts is_code is_statics from_first image.fits;
 }

@@ -1,12 +1,8 @@
+pub mod Accepting
+pub mod Small
 pub mod Longer
-pub mod Joined
 pub mod Implementing
 pub mod Breaking
-pub mod Shorter
-pub mod ExpressionParts
-pub mod StatementParts
-pub mod ProgramParts
-pub mod CodeBounds
 pub mod Refusing
 pub mod Executions
 pub mod Exactness

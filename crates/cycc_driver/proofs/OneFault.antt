@@ -7,8 +7,9 @@ use Rattle.cyc_lexer.proofs.TextSteps.{same_tokens, same_fault, tokens_or_fault,
 use Rattle.cyc_parser.specs.Refusals.{IsUnexpectedFirst, IsTooDeepAt}
 use Rattle.cyc_parser.proofs.OnePlace.{one_place, one_depth}
 use Rattle.cyc_parser.proofs.OneFault.{one_fault as not_both}
-use Rattle.region_types.specs.Faults.{first_fault}
-use Rattle.region_types.specs.declared.fault.Fault.{Fault}
+use Rattle.region_types.proofs.Faults.{same_rule, same_at}
+use Rattle.source_typing.specs.Answers.{first_fault}
+use Rattle.source_typing.specs.Taken.{integers}
 use Rattle.region_types.specs.declared.fault.FaultKind.{FaultKind}
 use Rattle.region_types.specs.declared.fault.FaultKind.TheVariants as kind
 use Rattle.cycc_driver.specs.declared.fault.Place.{Place}
@@ -73,20 +74,12 @@ module _ (text : List ℕ) where
       same_place text a.at b.at p q a.there b.there
       (one a.tokens a.at b.at a.refused (subst (λ (ts : List Token). Refused ts b.at) same b.refused))
 
-  abbrev kind_or : Option Fault → FaultKind → FaultKind
-  kind_or (Some f) other = f.kind
-  kind_or _ other = other
-
-  abbrev place_or : Option Fault → ℕ → ℕ
-  place_or (Some f) other = f.at
-  place_or _ other = other
-
   both_broken : (k l : FaultKind) (p q : Place) → IsBroken text k p → IsBroken text l q → form_of k p ≡ form_of l q
   both_broken k l p q a b =
       let program : a.program ≡ b.program = same_program text a.program b.program a.spelled b.spelled in
-      let first = sym a.first ∙ ap first_fault program ∙ b.first in
-      let kinds : k ≡ l = ap (λ (f : Option Fault). kind_or f k) first in
-      let places : p ≡ q = same_place text a.at b.at p q a.there b.there (ap (λ (f : Option Fault). place_or f a.at) first) in
+      let first = sym a.first ∙ ap (first_fault integers) program ∙ b.first in
+      let kinds : k ≡ l = same_rule k l a.at b.at first in
+      let places : p ≡ q = same_place text a.at b.at p q a.there b.there (same_at k l a.at b.at first) in
       ap (λ (j : FaultKind). form_of j p) kinds ∙ ap (form_of l) places
 
   both_large : (p q : Place) → IsTooLarge text p → IsTooLarge text q → p ≡ q

@@ -6,7 +6,10 @@ use Rattle.cycc_driver.specs.declared.fault.CompileFault.TheVariants as fault
 use Rattle.cycc_driver.specs.Texts.{IsAcceptedAs}
 use Rattle.cycc_driver.specs.Refusals.{IsRefusedFor, HasNoImageFor}
 use Rattle.cycc_driver.specs.Refused.{HasNoCodeFor}
-use Rattle.cycc_driver.proofs.CodeBounds.{code_is_bounded}
+use Rattle.compiled_sources.proofs.AcceptedDo.{accepted_do}
+use Rattle.spelled_programs.proofs.ProgramSizes.{tokens_pay}
+use Rattle.unique_flow.proofs.Accepted.{no_faults}
+use Rattle.cycc_driver.proofs.Accepting.{has_operands}
 
 -- what a text is refused for
 pub refused_image : (f : CompileFault) (text : List ℕ) → IsRefusedFor f text → HasNoImageFor f text
@@ -40,7 +43,8 @@ codeless_image (fault.Lent place) text program accepted why = absurd why
 codeless_image (fault.Copy place) text program accepted why = absurd why
 codeless_image (fault.Size place) text program accepted why = absurd why
 codeless_image (fault.TooLarge place) text program accepted why =
-    let bounded = code_is_bounded program accepted.spelled.tokens why.last accepted.spelled.parsed in
+    let bounded = (accepted_do program (has_operands text program accepted.spelled) (no_faults program accepted.accepted)).promised.code in
+    let paid = tokens_pay program accepted.spelled.tokens accepted.spelled.parsed in
     let long = why.long in
-    record { program = program; accepted = accepted; large = omega (arith, bounded, long); line = why.line; column = why.column }
+    record { program = program; accepted = accepted; large = omega (arith, bounded, paid, long); line = why.line; column = why.column }
 codeless_image fault.Memory text program accepted why = tt

@@ -1,7 +1,7 @@
 -- What the evaluation of a text is.
 use Rattle.std.specs.Prelude.{ℕ, List, Option}
 use Rattle.cyc_tree.specs.Tree.{Program}
-use Rattle.cyc_meaning.specs.declared.ending.EvalEnding.{EvalEnding}
+use Rattle.core_eval.specs.declared.ending.EvalEnding.{EvalEnding}
 use Rattle.cyc_meaning.specs.Evaluated.{IsEvaluated}
 use Rattle.cycc_driver.specs.Texts.{IsAcceptedAs}
 

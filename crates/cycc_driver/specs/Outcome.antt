@@ -4,34 +4,28 @@ use Rattle.std.specs.Io.KnownBytes.{Appends}
 use Rattle.cyc_words.specs.Words.{word}
 use Rattle.cyc_words.specs.Events.{Event, SourceEvent, ByteRead, SourceEnding, Request, output, visible}
 use Rattle.cyc_tree.specs.Tree.{Program}
-use Rattle.source_meaning.specs.Programs.{source}
+use Rattle.source_meaning.specs.Programs.{source, world_of}
 use Rattle.cyc_image.specs.Format.{Contents, IsImage, code_limit}
 use Rattle.rv32_machine.specs.Arrays.{Arrays, IsStart, areas_of, state_of}
-use Rattle.arena_laws.specs.Holdings.{Holdings}
+use Rattle.arena_laws.specs.Holdings.{fresh}
 use Rattle.arena_laws.specs.Lawful.{Answer}
 use Rattle.rv32_machine.specs.State.{State, Areas}
 use Rattle.rv32_machine.specs.Run.{AreBytes, run_steps, from}
-use Rattle.rv32_machine.specs.Implements.{Meaning, Implements, Reaches, IsCut, IsRefused, HasNoFrame, active_after}
+use Rattle.rv32_machine.specs.Implements.{Implements, Reaches, IsCut, IsRefused, HasNoFrame, active_after}
 use Rattle.cyc_host.specs.declared.ending.Ending.{Ending}
 use Rattle.cyc_host.specs.declared.ending.Ending.TheVariants as ending
 use Rattle.cyc_host.specs.Hosted.{IsHosted}
+use Rattle.compiled_sources.specs.Promise.{meaning_of, frame_bound_of}
 use Rattle.cycc_driver.specs.Texts.{IsAcceptedAs}
 
 -- ---- images
 
--- what a program does on an input
-abbrev pub source_meaning : Program → List ℕ → Meaning
-source_meaning program input = record { events = λ fuel. (source program input fuel).events; ending = λ fuel. (source program input fuel).ending }
-
--- how many bytes the frame of a function may take, where a run is refused its frame: with one function, whose frame has room, there is none
-abbrev pub frame_bound : List ℕ → ℕ
-frame_bound name = 0
-
--- A machine that starts with these parts of an image does what the program does, on each input of bytes, over any store and whatever that answers.
+-- A machine that starts with these parts of an image does what the program does, on each input of bytes, over any store that was just made and whatever that
+-- answers. A run that is refused a frame stops before a call with which the bounds on the frames of all active functions are over the stack.
 abbrev pub IsImplementedBy : Program → Contents → Type 0
 IsImplementedBy program parts =
-    (holdings : Holdings) (arena : ℕ → ℕ) (start : Arrays) → IsStart parts holdings arena start → (input : List ℕ) → AreBytes input
-    → Implements frame_bound (areas_of start) (state_of start) input (source_meaning program input)
+    (arena : ℕ → ℕ) (start : Arrays) → ((at : ℕ) → arena at < 256) → IsStart parts (fresh parts.pages) arena start → (input : List ℕ) → AreBytes input
+    → Implements (frame_bound_of (world_of program).functions) (areas_of start) (state_of start) input (meaning_of program input)
 
 -- The image of an accepted text, with so many pages: it implements the program that the text spells.
 pub record IsTextImage (text : List ℕ) (pages : ℕ) (bytes : List ℕ) : Type 0 where
@@ -65,14 +59,15 @@ pub record WritesAll (program : Program) (input : List ℕ) (end : SourceEnding)
   pub written : Appends old new (output (visible (source program input fuel).events))
 
 -- of an event holds that it wants room: a request of the store, or a call whose frame, with those of the active functions, may take more bytes than the stack has
-abbrev pub WantsRoom : Areas → List SourceEvent → SourceEvent → Type 0
-WantsRoom n before next = ((q : Request) × IsRefused q next) ⊎ HasNoFrame frame_bound n.stack (active_after [] before) next
+abbrev pub WantsRoom : Program → Areas → List SourceEvent → SourceEvent → Type 0
+WantsRoom program n before next =
+    ((q : Request) × IsRefused q next) ⊎ HasNoFrame (frame_bound_of (world_of program).functions) n.stack (active_after [] before) next
 
 -- what the program writes up to an event that wants room was written
 pub record WritesToCut (n : Areas) (program : Program) (input : List ℕ) (old new : Option (List ℕ)) : Type 0 where
   pub fuel : ℕ
   pub shown : List Event
-  pub cut : IsCut shown (source program input fuel).events (WantsRoom n)
+  pub cut : IsCut shown (source program input fuel).events (WantsRoom program n)
   pub written : Appends old new (output shown)
 
 -- The run ends as the program does on the input, with its output; or it was stopped before, after a beginning of it: where it is exhausted, up to the event that
@@ -101,10 +96,9 @@ pub record IsTextRun (text : List ℕ) (pages steps : ℕ) (why : Ending) (reade
   pub parts : Contents
   pub as_asked : parts.pages ≡ pages
   pub implemented : IsImplementedBy program parts
-  pub holdings : Holdings
   pub arena : ℕ → ℕ
   pub start : Arrays
-  pub starts : IsStart parts holdings arena start
+  pub starts : IsStart parts (fresh pages) arena start
   pub end : State
   pub hosted : IsHosted why (areas_of start) steps (state_of start) end reader_old reader_new writer_old writer_new
   -- what is written, on the bytes that the reader gave, is the program's, and the ending is its
@@ -115,5 +109,5 @@ pub record IsTextRun (text : List ℕ) (pages steps : ℕ) (why : Ending) (reade
       → (Contains (run_steps (areas_of start) hosted.count (from (state_of start) hosted.input hosted.answers)).events (ByteRead None) → more ≡ [])
       → (fuel count : ℕ) → IsOver (source program (hosted.input ++ more) fuel).ending
       → ((answers : ℕ → Answer) →
-      Reaches (run_steps (areas_of start) count (from (state_of start) (hosted.input ++ more) answers)) (source_meaning program (hosted.input ++ more)) fuel)
+      Reaches (run_steps (areas_of start) count (from (state_of start) (hosted.input ++ more) answers)) (meaning_of program (hosted.input ++ more)) fuel)
       → count ≤ steps → why ≢ ending.StepLimit

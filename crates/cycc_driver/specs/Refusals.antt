@@ -6,9 +6,12 @@ use Rattle.cyc_lexer.specs.Places.{line_of, column_of}
 use Rattle.cyc_image.specs.Format.{code_limit}
 use Rattle.cyc_parser.specs.Refusals.{IsUnexpectedFirst, IsTooDeepAt}
 use Rattle.cyc_tree.specs.Tree.{Program}
-use Rattle.region_types.specs.Faults.{first_fault}
+use Rattle.region_types.specs.Faults.{number_of}
 use Rattle.region_types.specs.declared.fault.FaultKind.{FaultKind}
 use Rattle.region_types.specs.declared.fault.FaultKind.TheVariants as kind
+use Rattle.source_typing.specs.Answers.{first_fault}
+use Rattle.source_typing.specs.Faults as rules
+use Rattle.source_typing.specs.Taken.{integers}
 use Rattle.cycc_driver.specs.declared.fault.Place.{Place}
 use Rattle.cycc_driver.specs.declared.fault.CompileFault.{CompileFault}
 use Rattle.cycc_driver.specs.declared.fault.CompileFault.TheVariants as fault
@@ -39,7 +42,7 @@ pub record IsBroken (text : List ℕ) (k : FaultKind) (place : Place) : Type 0 w
   pub program : Program
   pub spelled : IsTextOf text program
   pub at : ℕ
-  pub first : first_fault program ≡ Some (record { kind = k; at = at })
+  pub first : first_fault integers program ≡ Some (rules.fault (number_of k) at)
   pub there : IsPlaceOf text at place
 
 -- Why a text is refused before its code is made. No rule of flow is supported yet.

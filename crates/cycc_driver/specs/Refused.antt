@@ -15,12 +15,9 @@ use Rattle.cycc_driver.specs.declared.fault.CompileFault.{CompileFault}
 use Rattle.cycc_driver.specs.declared.fault.CompileFault.TheVariants as fault
 use Rattle.cycc_driver.specs.Refusals.{IsPlaceOf}
 use Rattle.cyc_tree.specs.Tree.{Program}
-use Rattle.cyc_core.specs.declared.operation.Cell.{Cell}
-use Rattle.cyc_core.specs.Tree.{statements_of}
 use Rattle.cyc_image.specs.Format.{code_limit}
-use Rattle.lower_checks.specs.Lowered.{program_code}
-use Rattle.rv32_select.specs.Lines.{code_length}
-use Rattle.rv32_select.specs.Selected.{main_code}
+use Rattle.core_frames.specs.Lines.{code_length}
+use Rattle.compiled_sources.specs.Promise.{lines_of}
 
 -- it is of this form, at the place of an offset
 abbrev pub StandsAt : List ℕ → ℕ → (Place → CompileFault) → CompileFault → Type 0
@@ -55,8 +52,7 @@ IsOfFlow text flow.Memory f = f ≡ fault.Memory
 
 -- the code of the program is over the limit
 pub record HasLongCode (program : Program) (place : Place) : Type 0 where
-  pub last : Cell
-  pub long : code_limit < code_length (main_code last (statements_of (program_code program)))
+  pub long : code_limit < code_length (lines_of program)
   pub line : place.line ≡ 1
   pub column : place.column ≡ 1
 

@@ -1,8 +1,11 @@
 // From a text to an image.
 
-ghost use Rattle.std.specs.Prelude.{◌≡◌, ◌⊎◌, ◌<◌, ◌≤◌, ℕ, List, IfOk, IfErr};
+ghost use Rattle.std.specs.Prelude.{◌≡◌, ◌⊎◌, ◌<◌, ◌≤◌, ℕ, List, length, IfOk, IfErr};
 ghost use Rattle.cyc_tree.specs.Tree.{Program as Tree};
-ghost use Rattle.cyc_image.specs.Format.{Contents, Fits, code_limit};
+ghost use Rattle.cyc_tree.specs.Operands.{HasOperands};
+ghost use Rattle.cyc_image.specs.Format.{Contents, Fits, code_limit, data_limit};
+ghost use Rattle.core_tree.specs.Trees.{program_tree};
+ghost use Rattle.source_lowering.specs.Programs.{program_code};
 ghost use Rattle.unique_flow.specs.Accepted.{IsAccepted};
 ghost use Rattle.cycc_driver.specs.Texts.{IsTextOf, IsAcceptedAs};
 ghost use Rattle.cycc_driver.specs.Refusals.{IsRefusedFor, HasNoImageFor, AreSame, code_bound};
@@ -10,15 +13,16 @@ ghost use Rattle.cycc_driver.specs.Refused.{HasNoCodeFor};
 ghost use Rattle.cycc_driver.specs.Outcome.{IsCode, IsImplementedBy, IsTextImage};
 
 use crate::fault::{CompileFault, Place, of_checking, of_flow, of_lexing, of_parsing};
+use core_lower::{LowerFault, lower};
+use core_place::{PlaceFault, data, place};
+use core_select::select;
+use core_tree::Program as Core;
 use cyc_image::{Parts, write};
 use cyc_lexer::tokens;
 use cyc_parser::parse;
 use cyc_tree::Program;
 use effect_check::effects;
-use lower_checks::lower;
 use region_types::typed;
-use rv32_layout::{Code, LayoutFault, place};
-use rv32_select::select;
 use std::alloc::Global;
 use unique_flow::{Checked, flow};
 
@@ -101,19 +105,55 @@ pub fn one_fault()
     ensures compiled { (text : List ℕ) (fault other : CompileFault) → HasNoImageFor fault text → HasNoImageFor other text → AreSame fault other }
 {}
 
-/// The code of an accepted program.
-fn code_of(alloc: Global, checked: &Checked) -> Result<Code, CompileFault>
-    ensures code { IfOk result (λ code. IsCode code.bytes.items) }
-    // an image with this code implements the program
-    ensures implemented { IfOk result (λ code. (parts : Contents) → parts.code ≡ code.bytes.items → parts.entry ≡ 0 → Fits parts → IsImplementedBy checked.now parts) }
+/// What an image is made of but for its pages: the code and the bytes of the data.
+#[derive(Drop)]
+struct Placed {
+    code: Vec<u8>,
+    data: Vec<u8>,
+}
+
+/// The Core of an accepted program, whose tree has the operands that each text's tree has.
+fn core_of(alloc: Global, checked: &Checked) -> Result<Core, CompileFault>
+    requires { HasOperands checked.now }
+    ensures code { IfOk result (λ core. program_tree core ≡ program_code checked.now) }
+    ensures accepted { IfOk result (λ _. IsAccepted checked.now) }
+    ensures memory { IfErr result (λ fault. fault ≡ CompileFault.Memory) }
+{
+    match lower(alloc, checked.program()) {
+        Ok(core) => Ok(core),
+        Err(LowerFault::Memory) => Err(CompileFault::Memory),
+        Err(LowerFault::NotTaken) => unreachable!(),
+    }
+}
+
+/// The code and the data of an accepted program.
+fn lay_out(alloc: Global, checked: &Checked) -> Result<Placed, CompileFault>
+    requires { HasOperands checked.now }
+    ensures code { IfOk result (λ placed. IsCode placed.code.items) }
+    ensures data { IfOk result (λ placed. length placed.data.items ≤ data_limit) }
+    // an image with this code and these data implements the program
+    ensures implemented { IfOk result (λ placed. (parts : Contents) → parts.code ≡ placed.code.items → parts.statics ≡ placed.data.items
+        → parts.entry ≡ 0 → Fits parts → IsImplementedBy checked.now parts) }
     ensures refused { IfErr result (λ fault. HasNoCodeFor fault checked.now) }
 {
-    let core = lower(alloc, checked)?;
+    let core = core_of(alloc, checked)?;
     let labelled = select(alloc, &core)?;
-    match place(alloc, &labelled) {
-        Ok(code) => Ok(code),
-        Err(LayoutFault::TooLarge) => Err(CompileFault::TooLarge(Place { line: 1, column: 1 })),
-        Err(LayoutFault::Memory) => Err(CompileFault::Memory),
+    let code = match place(alloc, &labelled) {
+        Ok(code) => code,
+        Err(PlaceFault::TooLarge) => return Err(CompileFault::TooLarge(Place {
+            line: 1,
+            column: 1,
+        })),
+        Err(PlaceFault::Memory) => return Err(CompileFault::Memory),
+    };
+    match data(alloc, &core) {
+        Ok(data) => Ok(Placed {
+            code: code.bytes,
+            data,
+        }),
+        // the data of an accepted program are within the limit
+        Err(PlaceFault::TooLarge) => unreachable!(),
+        Err(PlaceFault::Memory) => Err(CompileFault::Memory),
     }
 }
 
@@ -133,14 +173,14 @@ pub fn compile(alloc: Global, text: &[u8], pages: u32) -> Result<Vec<u8>, Compil
         Ok(checked) => checked,
         Err(fault) => return Err(fault),
     };
-    let code = match code_of(alloc, &checked) {
-        Ok(code) => code,
+    let placed = match lay_out(alloc, &checked) {
+        Ok(placed) => placed,
         Err(fault) => return Err(fault),
     };
     let parts = Parts {
         entry: 0,
-        code: &code.bytes,
-        statics: &[],
+        code: &placed.code,
+        statics: &placed.data,
         pages,
     };
     Ok(write(alloc, &parts)?)

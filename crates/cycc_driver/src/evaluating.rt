@@ -1,8 +1,8 @@
 // Evaluations of a text.
 
 ghost use Rattle.std.specs.Prelude.{◌≡◌, ◌≢◌, Ok, IfOk, IfErr};
-ghost use Rattle.cyc_meaning.specs.declared.ending.EvalEnding.TheVariants.{Stuck};
-ghost use Rattle.cyc_meaning.specs.Evaluated.{reads_failed, writes_failed};
+ghost use Rattle.core_eval.specs.declared.ending.EvalEnding.TheVariants.{Stuck};
+ghost use Rattle.core_eval.specs.Evaluated.{reads_failed, writes_failed};
 ghost use Rattle.cycc_driver.specs.Refusals.{IsRefusedFor};
 ghost use Rattle.cycc_driver.specs.Evaluated.{IsTextEvaluated};
 
@@ -12,8 +12,7 @@ use cyc_meaning::{EvalEnding, eval};
 use cyc_words::{Input, Output};
 use std::alloc::Global;
 
-/// Runs a text by the meaning of its source, with so many units of fuel: a turn of a loop takes one, and a call of
-/// `getchar` or `putchar`.
+/// Runs a text by the meaning of its source, with so many units of fuel: a turn of a loop takes one, and a call.
 ///
 /// Refuses what `check` refuses, before anything is read or written. Otherwise answers how the run ended.
 pub fn evaluate<R: Input, W: Output>(

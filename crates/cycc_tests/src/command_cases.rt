@@ -127,17 +127,14 @@ pub const REFUSED: &str = "\
 2:1: Parse <- int main() { putchar(1);$
 1:24: Parse <- int main() { putchar(1,); }
 3:3: Name <- int main() {$  putchar(65);$  puts(66);$}
-1:14: Name <- int main() { main(); }
 1:14: Name <- int main() { f(g(1)); }
 1:22: Name <- int main() { putchar(g(1)); }
 1:14: Type <- int main() { putchar(); }
 2:15: Type <- int main() {$  putchar(1 + getchar(2));$}
-1:21: Type <- int main() { return 1u; }
-1:21: Type <- int main() { return 2147483648; }
 1:25: Type <- int main() { return 1 + *2; }
 1:21: Type <- int main() { return &3; }
 1:26: Parse <- int main() { return 1 && ; }
-1:1: Type <- int f() { }$int main() { }
+1:11: Type <- int f() { }$int main() { }
 2:5: Name <- int main() { }$int main() { }
 2:32: Name <- // a comment$int main() { return /* here */ f(); }
 1:14: Name <- int main() { x = 1; int x; }
@@ -163,6 +160,39 @@ pub const REFUSED: &str = "\
 1:14: Parse <- int main() { else ; }
 1:21: Parse <- int main() { while () ; }
 1:14: Type <- int main() { return; }
-1:14: Type <- int main() { char c; }
 1:14: Type <- int main() { int a[3]; }
 1:14: Type <- int main() { int *p; }";
+
+/// Texts of functions and globals that are refused, in the form of `REFUSED`.
+pub const REFUSED_FUNCTIONS: &str = "\
+1:7: Name <- int x;
+1:1: Type <- struct S { int x; };$int main() { }
+1:1: Type <- void x;$int main() { }
+1:1: Type <- int *p;$int main() { }
+1:1: Type <- int a[3];$int main() { }
+1:10: Type <- char c = NULL;$int main() { }
+2:5: Name <- int x;$int x() { return 1; }$int main() { }
+2:6: Name <- int f() { return 1; }$char f;$int main() { }
+1:5: Name <- int getchar;$int main() { }
+1:5: Type <- int main(int x) { }
+1:6: Type <- void main() { }
+1:5: Type <- int main;
+1:1: Type <- int *f() { }$int main() { }
+1:8: Type <- void f(void *p) { }$int main() { }
+1:19: Name <- void f(int x, int x) { }$int main() { }
+1:21: Name <- void f(int x) { int x; }$int main() { }
+1:16: Type <- int f(int x) { x(); }$int main() { }
+2:14: Type <- int x;$int main() { x(); }
+2:21: Type <- int f() { return 1; }$int main() { return f; }
+2:14: Type <- int f() { return 1; }$int main() { f(1); }
+2:14: Type <- int f(int x) { return x; }$int main() { f(); }
+2:21: Type <- void f() { }$int main() { return f(); }
+2:22: Type <- void f() { }$int main() { int x = f(); }
+2:18: Type <- void f() { }$int main() { if (f()) ; }
+1:12: Type <- void f() { return 1; }$int main() { }
+1:11: Type <- int f() { return; }$int main() { }
+1:28: Type <- int f(int x) { while (x) ; }$int main() { }
+1:33: Type <- int f(int x) { if (x) return 1; }$int main() { }
+1:11: Type <- int f() { g() = 1; return 1; }$int g() { return 1; }$int main() { }
+1:18: Type <- int f() { return &f; }$int main() { }
+1:10: Type <- int f(; {`r}) { }$int main() { }";

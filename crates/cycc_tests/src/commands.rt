@@ -1,6 +1,9 @@
 // Whole commands: what is written and said, and the status.
 
-use crate::command_cases::{AND_OR, NESTED_LOOPS, OPERATORS, REFUSED, STATEMENTS, VALUES};
+use crate::command_cases::{
+    AND_OR, NESTED_LOOPS, OPERATORS, REFUSED, REFUSED_FUNCTIONS, STATEMENTS, VALUES,
+};
+use crate::function_cases::{CALLS, CHARS, GLOBALS, UNSIGNED};
 use command_line::command_of;
 use cycc_answer::answer;
 use cycc_driver::{Counted, load};
@@ -79,21 +82,52 @@ fn expect_all(
     Ok(())
 }
 
-#[test]
-fn programs_run_as_by_their_meaning(rt: HostRuntime) -> Result<(), Fail> {
-    for table in [VALUES, STATEMENTS, NESTED_LOOPS, AND_OR, OPERATORS] {
-        for line in table.lines() {
-            let (wanted, source) = line.split_once(" <- ").ok_or("no source")?;
-            let commands = ["cycc run IN --ending", "cycc eval IN --ending"];
-            expect_all(&rt, commands.as_slice(), wanted, source)?;
-        }
+/// Asserts what `run` and `eval` answer on the programs of a table.
+fn expect_runs(rt: &(impl Abort + AllocGlobal), table: &str) -> Result<(), Fail> {
+    for line in table.lines() {
+        let (wanted, source) = line.split_once(" <- ").ok_or("no source")?;
+        let commands = ["cycc run IN --ending", "cycc eval IN --ending"];
+        expect_all(rt, commands.as_slice(), wanted, source)?;
     }
     Ok(())
 }
 
 #[test]
+fn programs_run_as_by_their_meaning(rt: HostRuntime) -> Result<(), Fail> {
+    for table in [VALUES, STATEMENTS, NESTED_LOOPS, AND_OR, OPERATORS] {
+        expect_runs(&rt, table)?;
+    }
+    Ok(())
+}
+
+#[test]
+fn functions_run_as_by_their_meaning(rt: HostRuntime) -> Result<(), Fail> {
+    for table in [CALLS, GLOBALS, UNSIGNED, CHARS] {
+        expect_runs(&rt, table)?;
+    }
+    Ok(())
+}
+
+/// Two functions without end: a call each time a byte is written.
+const ENDLESS: &[u8] = b"int f() { putchar(97); return f(); } int main() { return f(); }";
+
+#[test]
+fn endless_recursion_is_exhausted(rt: HostRuntime) -> Result<(), Fail> {
+    let found = shown(rt.alloc(), "cycc run IN --ending", b"", ENDLESS)?;
+    let written = found
+        .as_str()
+        .strip_prefix("3 | exhausted$ | ")
+        .ok_or("another ending")?;
+    assert!(rt; written.len() >= 4000);
+    assert!(rt; written.bytes().all(|byte| byte == b'a'));
+    let found = shown(rt.alloc(), "cycc eval IN --ending --steps 9", b"", ENDLESS)?;
+    assert_eq!(rt; found.as_str(), "4 | step limit$ | aaaa");
+    Ok(())
+}
+
+#[test]
 fn refusals_have_their_places(rt: HostRuntime) -> Result<(), Fail> {
-    for line in REFUSED.lines() {
+    for line in REFUSED.lines().chain(REFUSED_FUNCTIONS.lines()) {
         let (fault, source) = line.split_once(" <- ").ok_or("no source")?;
         let wanted = format!(in rt.alloc(); "8 | IN:{fault}$ | -")?;
         let commands = [
@@ -116,8 +150,8 @@ const COMMANDS: &str = "\
 0 | - | H <- run IN <- - <- int main() { putchar(72); return 0; }
 1 | - | H <- run IN <- - <- int main() { putchar(72); return 7; }
 4 | step limit$ | - <- run IN --ending --steps 0 <- - <- int main() { putchar(72); return 0; }
-4 | step limit$ | H <- run IN --ending --steps 11 <- - <- int main() { putchar(72); return 0; }
-0 | ended 0$ | H <- run IN --ending --steps 12 <- - <- int main() { putchar(72); return 0; }
+4 | step limit$ | H <- run IN --ending --steps 23 <- - <- int main() { putchar(72); return 0; }
+0 | ended 0$ | H <- run IN --ending --steps 24 <- - <- int main() { putchar(72); return 0; }
 0 | ended 0$ | H <- run IN --ending --steps 18446744073709551615 <- - <- int main() { putchar(72); return 0; }
 4 | step limit$ | - <- run IN --ending --steps 1000 <- - <- int main() { while (1) ; }
 4 | - | - <- run IN --steps 1000 <- - <- int main() { while (1) ; }

@@ -10,8 +10,8 @@ const FAULTS: &str = "\
 1:14: Name <- int main() { x; }
 1:14: Type <- int main() { 1 = 2; }
 1:14: Type <- int main() { break; }
-1:1: Type <- int x;
-1:1: Type <- int f() { }";
+1:7: Name <- int x;
+1:11: Type <- int f() { }";
 
 #[test]
 fn faults_have_their_smallest_sources(rt: HostRuntime) -> Result<(), Fail> {

@@ -17,6 +17,8 @@ mod evaluations;
 #[cfg(test)]
 mod faults;
 #[cfg(test)]
+mod function_cases;
+#[cfg(test)]
 mod image_bytes;
 #[cfg(test)]
 mod images;

@@ -1,12 +1,10 @@
-// The code of lines with labels, by words worked out by hand.
+// The code of lines with labels, and the bytes of globals, by words worked out by hand.
 
-ghost use Rattle.std.specs.Prelude.{IsTrue};
-ghost use Rattle.rv32_select.specs.Lines.{starts_plain};
-
+use core_frames::Line;
+use core_place::{PlaceFault, data, place};
+use core_select::Labelled;
+use core_tree::{Datum, Program};
 use rv32_isa::{Instr, Register, Signed12};
-use rv32_layout::{LayoutFault, place};
-use rv32_select::{Labelled, Line};
-use std::alloc::{AllocError, Global};
 use std::test::Fail;
 
 // addi x0, x0, 0
@@ -14,31 +12,57 @@ fn nothing() -> Instr {
     Instr::Addi(Register::ZERO, Register::ZERO, Signed12::new(0))
 }
 
-fn labelled(alloc: Global, lines: &[Line]) -> Result<Labelled, AllocError>
-    requires { IsTrue (starts_plain lines.now) }
-{
-    Ok(Labelled {
-        lines: lines.to_vec(alloc)?,
-    })
+#[test]
+fn calls_keep_where_they_come_from(rt: HostRuntime) -> Result<(), Fail> {
+    let lines = [
+        Line::CallTo(1),
+        Line::Plain(nothing()),
+        Line::Label(1),
+        Line::JumpIfZero(Register::TEMPORARY_0, 2),
+        Line::Jump(1),
+        Line::Label(2),
+    ];
+    let labelled = Labelled {
+        lines: lines.to_vec(rt.alloc())?,
+    };
+    let code = place(rt.alloc(), &labelled);
+    // jal x1, 8; addi x0, x0, 0; bne x5, x0, 8; jal x0, 8; jal x0, -8
+    let want: [u8; 20] = [
+        0xef, 0x00, 0x80, 0x00, 0x13, 0x00, 0x00, 0x00, 0x63, 0x94, 0x02, 0x00, 0x6f, 0x00, 0x80,
+        0x00, 0x6f, 0xf0, 0x9f, 0xff,
+    ];
+    assert!(rt; code.is_ok_and(|code| code.bytes.as_slice() == want.as_slice()));
+    Ok(())
 }
 
 #[test]
-fn jumps_go_forward_and_back(rt: HostRuntime) -> Result<(), Fail> {
-    let lines = [
-        Line::Plain(nothing()),
-        Line::Label(3),
-        Line::JumpIfZero(Register::TEMPORARY_0, 7),
-        Line::Plain(nothing()),
-        Line::Label(7),
-        Line::Jump(3),
-    ];
-    let code = place(rt.alloc(), &labelled(rt.alloc(), &lines)?);
-    // addi x0, x0, 0; bne x5, x0, 8; jal x0, 8; addi x0, x0, 0; jal x0, -12
-    let want: [u8; 20] = [
-        0x13, 0x00, 0x00, 0x00, 0x63, 0x94, 0x02, 0x00, 0x6f, 0x00, 0x80, 0x00, 0x13, 0x00, 0x00,
-        0x00, 0x6f, 0xf0, 0x5f, 0xff,
-    ];
-    assert!(rt; code.is_ok_and(|code| code.bytes.as_slice() == want.as_slice()));
+fn a_first_jump_to_behind_the_greatest_code_is_refused(rt: HostRuntime) -> Result<(), Fail> {
+    let too_large = Some(PlaceFault::TooLarge);
+    for (words, fault) in [(262_143, None), (262_144, too_large), (262_145, too_large)] {
+        let mut lines = [Line::CallTo(0)].to_vec(rt.alloc())?;
+        lines.resize(words, Line::Plain(nothing()))?;
+        let code = place(rt.alloc(), &Labelled { lines });
+        assert_eq!(rt; code.as_ref().err().copied(), fault);
+        // jal x1, 1048572
+        let farthest: [u8; 4] = [0xef, 0xf0, 0xdf, 0x7f];
+        if let Ok(code) = code {
+            assert!(rt; code.bytes[..4] == farthest[..]);
+        }
+    }
+    Ok(())
+}
+
+#[test]
+fn each_global_begins_at_a_word(rt: HostRuntime) -> Result<(), Fail> {
+    let globals = [Datum::Byte(7), Datum::Word(0x0102_0304), Datum::Byte(9)];
+    let program = Program {
+        functions: Vec::new(rt.alloc()),
+        main: 0,
+        globals: globals.to_vec(rt.alloc())?,
+    };
+    let bytes = data(rt.alloc(), &program);
+    let want: [u8; 9] = [7, 0, 0, 0, 4, 3, 2, 1, 9];
+    assert!(rt; bytes.is_ok_and(|bytes| bytes.as_slice() == want.as_slice()));
     Ok(())
 }
 
@@ -53,30 +77,15 @@ fn the_first_placing_counts_and_none_is_the_end(rt: HostRuntime) -> Result<(), F
         Line::Jump(2),
         Line::Plain(nothing()),
     ];
-    let code = place(rt.alloc(), &labelled(rt.alloc(), &lines)?);
+    let labelled = Labelled {
+        lines: lines.to_vec(rt.alloc())?,
+    };
+    let code = place(rt.alloc(), &labelled);
     // addi x0, x0, 0, twice; jal x0, -4; jal x0, 8; addi x0, x0, 0
     let want: [u8; 20] = [
         0x13, 0x00, 0x00, 0x00, 0x13, 0x00, 0x00, 0x00, 0x6f, 0xf0, 0xdf, 0xff, 0x6f, 0x00, 0x80,
         0x00, 0x13, 0x00, 0x00, 0x00,
     ];
     assert!(rt; code.is_ok_and(|code| code.bytes.as_slice() == want.as_slice()));
-    Ok(())
-}
-
-#[test]
-fn the_greatest_code_is_placed(rt: HostRuntime) -> Result<(), Fail> {
-    for (lines_in_all, fault) in [(262_144, None), (262_145, Some(LayoutFault::TooLarge))] {
-        let first = [Line::Plain(nothing()), Line::Jump(0)];
-        let mut lines = first.to_vec(rt.alloc())?;
-        lines.resize(lines_in_all, Line::Plain(nothing()))?;
-        let code = place(rt.alloc(), &Labelled { lines });
-        assert_eq!(rt; code.as_ref().err().copied(), fault);
-        // jal x0, 1048572, from the second word to the end
-        let farthest: [u8; 4] = [0x6f, 0xf0, 0xdf, 0x7f];
-        if let Ok(code) = code {
-            assert_eq!(rt; code.bytes.len(), 1_048_576);
-            assert!(rt; code.bytes[4..8] == farthest[..]);
-        }
-    }
     Ok(())
 }

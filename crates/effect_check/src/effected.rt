@@ -1,8 +1,10 @@
 // A program whose effects were looked at.
 
 ghost use Rattle.std.specs.Prelude.{◌≡◌, ◌↔◌, Some, None, Err, IfOk};
-ghost use Rattle.region_types.specs.Faults.{first_fault};
+ghost use Rattle.region_types.specs.Faults.{fault_of};
 ghost use Rattle.region_types.specs.declared.fault.Fault.{Fault as Broken_fault};
+ghost use Rattle.source_typing.specs.Answers.{first_fault};
+ghost use Rattle.source_typing.specs.Taken.{integers};
 
 use crate::fault::CheckFault;
 use cyc_tree::Program;
@@ -20,7 +22,8 @@ impl Model for Effected {
     ghost use Rattle.std.specs.Prelude.{◌≡◌, None};
     ghost use Rattle.cyc_tree.specs.Tree.{Program as Tree};
     ghost use Rattle.cyc_tree.specs.Stored.{coded_program};
-    ghost use Rattle.region_types.specs.Faults.{first_fault};
+    ghost use Rattle.source_typing.specs.Answers.{first_fault};
+    ghost use Rattle.source_typing.specs.Taken.{integers};
 
     ghost Value = { Tree };
 
@@ -28,14 +31,14 @@ impl Model for Effected {
 
     ghost view = { λ e. e.program };
 
-    ghost invariant = { λ e. first_fault e.program ≡ None };
+    ghost invariant = { λ e. first_fault integers e.program ≡ None };
 }
 
 impl Effected {
     /// The program.
     pub fn program(&self) -> &Program
         ensures same { result.now ≡ self.now }
-        ensures faultless { first_fault self.now ≡ None }
+        ensures faultless { first_fault integers self.now ≡ None }
     {
         &self.program
     }
@@ -43,7 +46,7 @@ impl Effected {
     /// The program, without what was found out of it.
     pub fn into_program(self) -> Program
         ensures same { result ≡ self }
-        ensures faultless { first_fault self ≡ None }
+        ensures faultless { first_fault integers self ≡ None }
     {
         self.program
     }
@@ -52,9 +55,9 @@ impl Effected {
 /// Looks at a program's regions and effects. Takes no memory as yet, so that `Memory` doesn't come.
 pub fn effects(_alloc: Global, typed: Typed) -> Result<Effected, CheckFault>
     // a program without a fault is answered as it is
-    ensures ok { IfOk result (λ e. (e ≡ typed) × (first_fault typed ≡ None)) }
+    ensures ok { IfOk result (λ e. (e ≡ typed) × (first_fault integers typed ≡ None)) }
     // a fault is the program's first, and a program with one is refused with it
-    ensures broken { (f : Broken_fault) → (result ≡ Err (CheckFault.Broken f)) ↔ (first_fault typed ≡ Some f) }
+    ensures broken { (f : Broken_fault) → (result ≡ Err (CheckFault.Broken f)) ↔ (first_fault integers typed ≡ Some (fault_of f)) }
 {
     match typed.fault() {
         Some(fault) => Err(CheckFault::Broken(fault)),

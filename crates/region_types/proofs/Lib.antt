@@ -1,4 +1,1 @@
-pub mod Order
-pub mod Steps
-pub mod StatementSteps
-pub mod NoFaults
+pub mod Faults

@@ -1,7 +1,8 @@
 // What breaks a rule, and where.
 
-ghost use Rattle.std.specs.Prelude.{◌≡◌, ◌<◌};
-ghost use Rattle.region_types.specs.Faults.{rank_of, sooner_of};
+ghost use Rattle.std.specs.Prelude.{◌≡◌, option_map};
+ghost use Rattle.integer_checker.specs.Faults.{fault_of as found_fault};
+ghost use Rattle.region_types.specs.Faults.{fault_of};
 
 use std::fmt;
 
@@ -20,25 +21,6 @@ pub enum FaultKind {
     Effect,
     /// A type, an array or a string that is too large.
     Size,
-}
-
-impl FaultKind {
-    ghost use Rattle.region_types.specs.Faults.{number_of};
-
-    /// The rule's number.
-    pub fn number(self) -> u8
-        ensures number { result ≡ number_of self }
-        ensures within { result < 16 }
-    {
-        match self {
-            FaultKind::Name => 4,
-            FaultKind::Typing => 5,
-            FaultKind::Region => 6,
-            FaultKind::Outlives => 7,
-            FaultKind::Effect => 8,
-            FaultKind::Size => 12,
-        }
-    }
 }
 
 impl fmt::Display for FaultKind {
@@ -66,26 +48,24 @@ pub struct Fault {
     pub at: u32,
 }
 
-/// By place first, and then by the rule's number.
-fn rank(fault: Fault) -> u64
-    ensures { result ≡ rank_of fault }
+/// The fault that was found in a program of integers, if there is one.
+pub fn first_found(fault: Option<integer_checker::Fault>) -> Option<Fault>
+    ensures { option_map fault_of result ≡ option_map found_fault fault }
 {
-    u64::from(fault.at) * 16 + u64::from(fault.kind.number())
+    match fault {
+        Some(fault) => Some(found(fault)),
+        None => None,
+    }
 }
 
-/// The first of two faults, where there are any.
-pub fn sooner(one: Option<Fault>, other: Option<Fault>) -> Option<Fault>
-    ensures { result ≡ sooner_of one other }
+/// What was found of a program of integers.
+fn found(fault: integer_checker::Fault) -> Fault
+    ensures { fault_of result ≡ found_fault fault }
 {
-    match (one, other) {
-        (None, other) => other,
-        (Some(fault), None) => Some(fault),
-        (Some(fault), Some(found)) => {
-            if rank(found) < rank(fault) {
-                Some(found)
-            } else {
-                Some(fault)
-            }
-        }
-    }
+    let kind = match fault.kind {
+        integer_checker::FaultKind::Name => FaultKind::Name,
+        integer_checker::FaultKind::Typing => FaultKind::Typing,
+        integer_checker::FaultKind::Size => FaultKind::Size,
+    };
+    Fault { kind, at: fault.at }
 }

@@ -1,16 +1,14 @@
 //! Names, types and regions.
 //!
-//! `typed` finds what breaks a rule of names or types in a program, and `Typed::fault` answers the
-//! earliest such fault. The rules are in specs/Faults.antt, as the list of a program's faults.
-//! Stands on `cyc_types` and `cyc_tree`.
+//! `typed` finds what breaks a rule of names, types and sizes in a program, and `Typed::fault` answers the earliest such
+//! fault. The rules are those of `source_typing`, where functions, globals and locals of integers are taken; of such programs
+//! `integer_checker` finds the fault. Stands on both and on `cyc_tree`.
 #![tactic(auto)]
 
-mod expression;
 mod fault;
-mod item;
+mod looking;
 mod program;
-mod statement;
 
-pub use fault::{Fault, FaultKind, sooner};
-pub use item::typed;
+pub use fault::{Fault, FaultKind};
+pub use looking::typed;
 pub use program::Typed;

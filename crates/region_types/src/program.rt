@@ -1,13 +1,13 @@
 // A program whose types were looked at.
 
 ghost use Rattle.std.specs.Prelude.{◌≡◌};
-ghost use Rattle.region_types.specs.Faults.{first_fault};
+ghost use Rattle.region_types.specs.Faults.{IsFirstFault};
 
 use crate::fault::Fault;
 use cyc_tree::Program;
 use std::marker::Model;
 
-/// A program, with its first fault of names and types. A contract sees it as the program.
+/// A program, with its first fault of names, types and sizes. A contract sees it as the program.
 #[derive(Drop)]
 pub struct Typed {
     program: Program,
@@ -15,10 +15,9 @@ pub struct Typed {
 }
 
 impl Model for Typed {
-    ghost use Rattle.std.specs.Prelude.{◌≡◌};
     ghost use Rattle.cyc_tree.specs.Tree.{Program as Tree};
     ghost use Rattle.cyc_tree.specs.Stored.{coded_program};
-    ghost use Rattle.region_types.specs.Faults.{first_fault};
+    ghost use Rattle.region_types.specs.Faults.{IsFirstFault};
 
     ghost Value = { Tree };
 
@@ -26,13 +25,13 @@ impl Model for Typed {
 
     ghost view = { λ t. t.program };
 
-    ghost invariant = { λ t. t.fault ≡ first_fault t.program };
+    ghost invariant = { λ t. IsFirstFault t.fault t.program };
 }
 
 impl Typed {
     /// A program whose first fault this is.
     pub(crate) fn new(program: Program, fault: Option<Fault>) -> Self
-        requires { fault ≡ first_fault program }
+        requires { IsFirstFault fault program }
         ensures { result ≡ program }
     {
         Typed { program, fault }
@@ -52,9 +51,9 @@ impl Typed {
         self.program
     }
 
-    /// The program's earliest fault of names and types; at one place, the one of the lowest number.
+    /// The program's earliest fault of names, types and sizes; at one place, the one of the lowest number.
     pub fn fault(&self) -> Option<Fault>
-        ensures { result ≡ first_fault self.now }
+        ensures { IsFirstFault result self.now }
     {
         self.fault
     }

@@ -1,8 +1,9 @@
 -- The programs that are accepted.
 use Rattle.std.specs.Prelude.{◌≡◌, None}
 use Rattle.cyc_tree.specs.Tree.{Program}
-use Rattle.region_types.specs.Faults.{first_fault}
+use Rattle.source_typing.specs.Answers.{first_fault}
+use Rattle.source_typing.specs.Taken.{integers}
 
--- Nothing breaks a rule of names, types, regions or effects. No form is supported yet that a rule of flow is about.
+-- No rule finds a fault, where functions and globals of integers are taken.
 abbrev pub IsAccepted : Program → Type 0
-IsAccepted program = first_fault program ≡ None
+IsAccepted program = first_fault integers program ≡ None

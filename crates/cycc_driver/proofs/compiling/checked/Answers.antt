@@ -1,7 +1,9 @@
 use Rattle.std.proofs.Common.{◌≡◌, Some, ap, subst}
 use Rattle.std.specs.Prelude.{Err}
 use Rattle.cyc_tree.specs.Tree.{Program}
-use Rattle.region_types.specs.Faults.{first_fault}
+use Rattle.region_types.specs.Faults.{fault_of}
+use Rattle.source_typing.specs.Answers.{first_fault}
+use Rattle.source_typing.specs.Taken.{integers}
 use Rattle.effect_check.specs.declared.fault.CheckFault.{CheckFault}
 use Rattle.cycc_driver.proofs.Breaking.{broken_text}
 use Rattle.cycc_driver.proofs.compiling.checked.Goals as goal
@@ -9,5 +11,5 @@ use Rattle.cycc_driver.proofs.compiling.checked.Goals as goal
 pub returns-in-Err-clause-refused : goal.returns-in-Err-clause-refused
 returns-in-Err-clause-refused c =
     broken_text c.args.text.now c.args.program.now c.in-Err.fault c.of_checking.result
-    (λ b is. subst (λ (p : Program). first_fault p ≡ Some b) c.in_ok-typed.ensures ((c.in-Err.ensures.broken b).0 (ap (λ (f : CheckFault). Err f) is)))
+    (λ b is. subst (λ (p : Program). first_fault integers p ≡ Some (fault_of b)) c.in_ok-typed.ensures ((c.in-Err.ensures.broken b).0 (ap (λ (f : CheckFault). Err f) is)))
     c.of_checking.ensures

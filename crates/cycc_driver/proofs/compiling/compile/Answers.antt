@@ -1,14 +1,20 @@
-use Rattle.std.proofs.Common.{◌≡◌, [], refl}
+use Rattle.std.proofs.Common.{◌≡◌, refl}
 use Rattle.cyc_image.specs.Format.{Contents}
+use Rattle.cycc_driver.proofs.Accepting.{has_operands}
 use Rattle.cycc_driver.proofs.Implementing.{text_image}
 use Rattle.cycc_driver.proofs.Refusing.{codeless_image}
 use Rattle.cycc_driver.proofs.compiling.compile.Goals as goal
 
+pub lay_out-requires : goal.lay_out-requires
+lay_out-requires c = has_operands c.args.text.now c.in-Ok.checked c.in-Ok.ensures.accepted.spelled
+
 pub returns-clause-implemented : goal.returns-clause-implemented
 returns-clause-implemented c =
-    let parts : Contents = record { entry = 0; code = c.deref.result.now; statics = []; pages = c.args.pages } in
-    text_image c.args.text.now c.in_ok-write.field-0.items c.in-Ok-code_of.code.bytes.items c.in-Ok.checked parts c.args.pages c.in-Ok.ensures.accepted
-    c.in_ok-write.ensures c.deref.ensures.value refl refl c.in-Ok-code_of.ensures.implemented
+    let code = c.in-Ok-lay_out.placed.code.items in
+    let statics = c.in-Ok-lay_out.placed.data.items in
+    let parts : Contents = record { entry = 0; code = c.deref.result.now; statics = c.deref-2.result.now; pages = c.args.pages } in
+    text_image c.args.text.now c.in_ok-write.field-0.items code statics c.in-Ok.checked parts c.args.pages c.in-Ok.ensures.accepted
+    c.in_ok-write.ensures c.deref.ensures.value c.deref-2.ensures.value refl refl c.in-Ok-lay_out.ensures.implemented
 
-pub returns-in-Err-code_of-clause-refused : goal.returns-in-Err-code_of-clause-refused
-returns-in-Err-code_of-clause-refused c = codeless_image c.in-Err-code_of.fault c.args.text.now c.in-Ok.checked c.in-Ok.ensures.accepted c.in-Err-code_of.ensures.refused
+pub returns-in-Err-lay_out-clause-refused : goal.returns-in-Err-lay_out-clause-refused
+returns-in-Err-lay_out-clause-refused c = codeless_image c.in-Err-lay_out.fault c.args.text.now c.in-Ok.checked c.in-Ok.ensures.accepted c.in-Err-lay_out.ensures.refused

@@ -1,6 +1,0 @@
-pub mod Tree
-pub mod Stored
-pub mod View
-pub mod Cells
-pub mod Meaning
-pub mod Orderly

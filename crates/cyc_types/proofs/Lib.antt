@@ -1,2 +1,0 @@
-mod Linking
-pub mod Positions

@@ -1,2 +1,0 @@
-pub mod Lowered
-pub mod Agreeing

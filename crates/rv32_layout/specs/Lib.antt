@@ -1,3 +1,0 @@
-pub mod Placed
-pub mod Placing
-pub mod Holding

@@ -1,3 +1,0 @@
-pub mod Selected
-pub mod Lines
-pub mod Running

@@ -31,10 +31,10 @@ use Rattle.std.proofs.Common.{
 use Rattle.core_meaning.specs.Memory.{Content}
 use Rattle.core_meaning.specs.Core as core
 use Rattle.core_meaning.specs.Steps as steps
-use Rattle.core_tree.specs.declared.operation.Operation.{Operation}
-use Rattle.core_tree.specs.declared.operation.Width.{Width}
-use Rattle.core_tree.specs.Trees.{operation_tree, bytes_of}
-use Rattle.core_tree.specs.Trees as trees
+use Rattle.cyc_core.specs.declared.operation.Operation.{Operation}
+use Rattle.cyc_core.specs.declared.operation.Width.{Width}
+use Rattle.cyc_core.specs.Trees.{operation_tree, bytes_of}
+use Rattle.cyc_core.specs.Trees as trees
 use Rattle.core_eval.specs.declared.value.Value.{Value}
 use Rattle.core_eval.specs.declared.value.Value.TheVariants as value
 use Rattle.core_eval.specs.declared.value.Object.{Object}

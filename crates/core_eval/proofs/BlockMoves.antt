@@ -6,8 +6,8 @@ use Rattle.core_meaning.specs.Core as core
 use Rattle.core_meaning.specs.Core.{Local, Statements}
 use Rattle.core_meaning.specs.Steps.{Config, Exit}
 use Rattle.core_meaning.specs.Meaning.{with_objects, in_block, out_of_block}
-use Rattle.core_tree.specs.declared.operation.Width.{Width}
-use Rattle.core_tree.specs.Trees.{local_tree, bytes_of, part_layout}
+use Rattle.cyc_core.specs.declared.operation.Width.{Width}
+use Rattle.cyc_core.specs.Trees.{local_tree, bytes_of, part_layout}
 use Rattle.core_eval.specs.declared.value.Object.{Object}
 use Rattle.core_eval.specs.Values.{spot_of, Shows, blank_object}
 use Rattle.core_eval.specs.Pendings.{Execute, Follow, Leave, Wait, Block, Go, Mark, rest_of}

@@ -8,11 +8,11 @@ use Rattle.core_meaning.specs.Memory.{Region, Frame, Own, Born, Standing, Live, 
 use Rattle.core_meaning.specs.Core.{Function}
 use Rattle.core_meaning.specs.Steps.{Config, Called, Step, checked}
 use Rattle.core_meaning.specs.Meaning.{entered, called, body_of, first_memory, status_of, start}
-use Rattle.core_tree.specs.declared.program.Function as code
-use Rattle.core_tree.specs.declared.program.Datum.{Datum}
-use Rattle.core_tree.specs.declared.program.Datum.TheVariants as datum
-use Rattle.core_tree.specs.declared.program.Program as code_program
-use Rattle.core_tree.specs.Trees.{function_tree, datum_tree, body_tree, program_tree}
+use Rattle.cyc_core.specs.declared.program.Function as code
+use Rattle.cyc_core.specs.declared.program.Datum.{Datum}
+use Rattle.cyc_core.specs.declared.program.Datum.TheVariants as datum
+use Rattle.cyc_core.specs.declared.program.Program as code_program
+use Rattle.cyc_core.specs.Trees.{function_tree, datum_tree, body_tree, program_tree}
 use Rattle.core_eval.specs.declared.value.Value.{Value}
 use Rattle.core_eval.specs.Values.{spot_of, content_of, part_in}
 use Rattle.core_eval.specs.Pendings.{Follow, Wait, Caller, Next, Go, Wrong, Mark, rest_of, coming, returned_to}

@@ -4,12 +4,12 @@ use Rattle.std.specs.declared.vec.Vec.{Vec}
 use Rattle.std.specs.declared.alloc.Global.{Global}
 use Rattle.core_meaning.specs.Core as core
 use Rattle.core_meaning.specs.Core.{Statements}
-use Rattle.core_tree.specs.declared.operation.Width.{Width}
-use Rattle.core_tree.specs.declared.statement.Statement as code
-use Rattle.core_tree.specs.declared.statement.Statement.TheVariants as form
-use Rattle.core_tree.specs.declared.statement.Statement.TheOpen.{Statement-F}
-use Rattle.core_tree.specs.declared.statement.Statement.TheFolds.{fold-roll-Statement}
-use Rattle.core_tree.specs.Trees.{local_tree, statement_step, statement_tree, body_tree}
+use Rattle.cyc_core.specs.declared.operation.Width.{Width}
+use Rattle.cyc_core.specs.declared.statement.Statement as code
+use Rattle.cyc_core.specs.declared.statement.Statement.TheVariants as form
+use Rattle.cyc_core.specs.declared.statement.Statement.TheOpen.{Statement-F}
+use Rattle.cyc_core.specs.declared.statement.Statement.TheFolds.{fold-roll-Statement}
+use Rattle.cyc_core.specs.Trees.{local_tree, statement_step, statement_tree, body_tree}
 use Rattle.core_eval.specs.declared.value.Object.{Object}
 use Rattle.core_eval.specs.declared.frame.Frame.{Frame}
 use Rattle.core_eval.specs.declared.pending.Due.{Due}

@@ -5,7 +5,7 @@ use Rattle.std.proofs.Math.Dec.{eqb-suc-suc, eqb-zero-suc, eqb-suc-zero}
 use Rattle.core_meaning.specs.Memory.{Blank}
 use Rattle.core_meaning.specs.Steps.{set_temp}
 use Rattle.core_meaning.specs.Meaning.{values_of}
-use Rattle.core_tree.specs.declared.operation.Width.{Width}
+use Rattle.cyc_core.specs.declared.operation.Width.{Width}
 use Rattle.core_eval.specs.declared.value.Value.{Value}
 use Rattle.core_eval.specs.declared.value.Value.TheVariants as value
 use Rattle.core_eval.specs.declared.value.Object.{Object}

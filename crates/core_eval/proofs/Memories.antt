@@ -23,9 +23,9 @@ use Rattle.core_meaning.specs.Core.{Local}
 use Rattle.core_meaning.specs.Steps.{Step, stuck, needed, checked}
 use Rattle.core_meaning.specs.Operations.{reached, at_once}
 use Rattle.core_meaning.specs.Meaning.{with_objects}
-use Rattle.core_tree.specs.declared.operation.Width.{Width}
-use Rattle.core_tree.specs.declared.operation.Width.TheVariants as width
-use Rattle.core_tree.specs.Trees.{bytes_of, part_layout}
+use Rattle.cyc_core.specs.declared.operation.Width.{Width}
+use Rattle.cyc_core.specs.declared.operation.Width.TheVariants as width
+use Rattle.cyc_core.specs.Trees.{bytes_of, part_layout}
 use Rattle.core_eval.specs.declared.value.Value.{Value}
 use Rattle.core_eval.specs.declared.value.Object.{Object}
 use Rattle.core_eval.specs.Values.{spot_of, same_width, part_of, part_in, Shows, fitted, put_at, put_in, blank_object}

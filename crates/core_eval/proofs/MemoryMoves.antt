@@ -6,9 +6,9 @@ use Rattle.core_meaning.specs.Core as core
 use Rattle.core_meaning.specs.Steps as steps
 use Rattle.core_meaning.specs.Steps.{Config, with_temp, with_memory, Step, stuck, needed, pointer_of}
 use Rattle.core_meaning.specs.Operations.{does, reached, at_once, local_spot, fitting}
-use Rattle.core_tree.specs.declared.operation.Width.{Width}
-use Rattle.core_tree.specs.Trees.{bytes_of}
-use Rattle.core_tree.specs.Trees as trees
+use Rattle.cyc_core.specs.declared.operation.Width.{Width}
+use Rattle.cyc_core.specs.Trees.{bytes_of}
+use Rattle.cyc_core.specs.Trees as trees
 use Rattle.core_eval.specs.declared.value.Value.{Value}
 use Rattle.core_eval.specs.declared.value.Value.TheVariants as value
 use Rattle.core_eval.specs.declared.value.Object.{Object}

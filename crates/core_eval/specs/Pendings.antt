@@ -11,7 +11,7 @@ use Rattle.core_meaning.specs.Steps as steps
 use Rattle.core_meaning.specs.Steps.{Config, with_temp, with_memory, Exit, Step, stuck}
 use Rattle.core_meaning.specs.Operations.{byte_word, says}
 use Rattle.core_meaning.specs.Meaning.{falls_to, branch, with_results, out_of_block, after_turn, statement, statements, left, status_of}
-use Rattle.core_tree.specs.Trees.{optional_tree, statement_tree, body_tree}
+use Rattle.cyc_core.specs.Trees.{optional_tree, statement_tree, body_tree}
 use Rattle.core_eval.specs.declared.value.Value.{Value}
 use Rattle.core_eval.specs.declared.value.Object.{Object}
 use Rattle.core_eval.specs.declared.frame.Frame.{Frame}

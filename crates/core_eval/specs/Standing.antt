@@ -6,8 +6,8 @@ use Rattle.core_meaning.specs.Memory.{Born, Memory, Content}
 use Rattle.core_meaning.specs.Steps.{Config, set_temp, Event, Visible, Called, Returned, Step}
 use Rattle.core_meaning.specs.Core.{Function}
 use Rattle.core_meaning.specs.Meaning.{called}
-use Rattle.core_tree.specs.declared.program.Datum.{Datum}
-use Rattle.core_tree.specs.Trees.{datum_width, datum_word}
+use Rattle.cyc_core.specs.declared.program.Datum.{Datum}
+use Rattle.cyc_core.specs.Trees.{datum_width, datum_word}
 use Rattle.core_eval.specs.declared.value.Value.{Value}
 use Rattle.core_eval.specs.declared.value.Value.TheVariants as value
 use Rattle.core_eval.specs.declared.value.Object.{Object}

@@ -3,9 +3,9 @@ use Rattle.std.specs.Prelude.{◌≡◌, ℕ, ◌%◌, Bool, true, false, Option
 use Rattle.core_meaning.specs.Memory as memory
 use Rattle.core_meaning.specs.Memory.{Region, Frame, Born, Live, Spot, Content, Pointer, Part, Memory}
 use Rattle.core_meaning.specs.Meaning.{passed_in, values_of}
-use Rattle.core_tree.specs.declared.operation.Width.{Width}
-use Rattle.core_tree.specs.declared.operation.Width.TheVariants as width
-use Rattle.core_tree.specs.Trees.{bytes_of}
+use Rattle.cyc_core.specs.declared.operation.Width.{Width}
+use Rattle.cyc_core.specs.declared.operation.Width.TheVariants as width
+use Rattle.cyc_core.specs.Trees.{bytes_of}
 use Rattle.core_eval.specs.declared.value.Value.{Value}
 use Rattle.core_eval.specs.declared.value.Value.TheVariants as value
 use Rattle.core_eval.specs.declared.value.Object.{Object}

@@ -2,9 +2,9 @@
 
 ghost use Rattle.std.specs.Prelude.{◌≡◌};
 ghost use Rattle.core_meaning.specs.Words.{two};
-ghost use Rattle.core_tree.specs.Trees.{binary_tree};
+ghost use Rattle.cyc_core.specs.Trees.{binary_tree};
 
-use core_tree::Binary;
+use cyc_core::Binary;
 use cyc_words::{
     add32, div32, divu32, lt32, ltu32, mul32, rem32, remu32, sar32, shl32, shr32, sub32,
 };

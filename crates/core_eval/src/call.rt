@@ -1,7 +1,7 @@
 // How calls, and programs, begin.
 
 ghost use Rattle.std.specs.Prelude.{◌≡◌, [], ◌∷◌, IfOk, IfSome, IfNone, Some, None, slice_get, map, List};
-ghost use Rattle.core_tree.specs.Trees.{function_tree, optional_tree, program_tree};
+ghost use Rattle.cyc_core.specs.Trees.{function_tree, optional_tree, program_tree};
 ghost use Rattle.core_meaning.specs.Meaning.{start as start_of};
 ghost use Rattle.core_eval.specs.declared.value.Object.{Object as TheObject};
 ghost use Rattle.core_eval.specs.Values.{content_of};
@@ -12,7 +12,7 @@ use crate::enter::wait;
 use crate::frame::Frame;
 use crate::pending::{Due, Now, Pending};
 use crate::value::{Object, Value};
-use core_tree::{Datum, Function, Program, Temporary};
+use cyc_core::{Datum, Function, Program, Temporary};
 use std::alloc::{AllocError, Global};
 use std::mem;
 

@@ -1,7 +1,7 @@
 // The first move of each statement.
 
 ghost use Rattle.std.specs.Prelude.{◌≡◌, ◌∷◌, IfOk, OnOk, map};
-ghost use Rattle.core_tree.specs.Trees.{body_tree, statement_tree, temporary_tree};
+ghost use Rattle.cyc_core.specs.Trees.{body_tree, statement_tree, temporary_tree};
 ghost use Rattle.core_eval.specs.Values.{AreRead, blank_object, truth_of};
 ghost use Rattle.core_eval.specs.Pendings.{Block, Execute, Follow, Go, Test, next_of, wait_of, waits_of};
 ghost use Rattle.core_eval.specs.Standing.{Known, known_of};
@@ -11,7 +11,7 @@ use crate::frame::Frame;
 use crate::operation::operate;
 use crate::pending::{Due, Flow, Now, Pending};
 use crate::value::{Object, Value};
-use core_tree::{Statement, Temporary, Width};
+use cyc_core::{Statement, Temporary, Width};
 use std::alloc::{AllocError, Global};
 
 /// Puts what waits on top of the stack.

@@ -5,7 +5,7 @@ ghost use Rattle.core_meaning.specs.Steps.{set_temp};
 ghost use Rattle.core_eval.specs.Values.{blank_object, content_of, local_in, put_local, temp_of};
 
 use crate::value::{Object, Value, put_in, value_in};
-use core_tree::{Temporary, Variable, Width};
+use cyc_core::{Temporary, Variable, Width};
 use std::alloc::{AllocError, Global};
 
 /// A function's activation.

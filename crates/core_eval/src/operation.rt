@@ -3,7 +3,7 @@
 ghost use Rattle.std.specs.Prelude.{◌≡◌, List, IfOk, OnOk};
 ghost use Rattle.core_meaning.specs.Core as core;
 ghost use Rattle.core_meaning.specs.Steps.{Falls};
-ghost use Rattle.core_tree.specs.Trees.{at_once, binary_tree, bytes_of, operation_tree};
+ghost use Rattle.cyc_core.specs.Trees.{at_once, binary_tree, bytes_of, operation_tree};
 ghost use Rattle.core_eval.specs.declared.value.Object.{Object as TheObject};
 ghost use Rattle.core_eval.specs.Values.{content_of};
 ghost use Rattle.core_eval.specs.Pendings.{Execute, Go, Leave, Wait, next_of};
@@ -14,7 +14,7 @@ use crate::arithmetic::apply;
 use crate::frame::Frame;
 use crate::pending::{Due, Flow, Now};
 use crate::value::{Object, Value, put_in, value_in};
-use core_tree::{Binary, Operation, Temporary, Variable, Width};
+use cyc_core::{Binary, Operation, Temporary, Variable, Width};
 use std::alloc::AllocError;
 
 /// Gives a temporary a value, which is all that the operation does. Fails only where no host memory is left.

@@ -2,7 +2,7 @@
 
 use crate::frame::Frame;
 use crate::value::Value;
-use core_tree::{Statement, Temporary};
+use cyc_core::{Statement, Temporary};
 
 /// How a statement is left.
 #[derive(Clone, Copy, Drop)]

@@ -3,7 +3,7 @@
 ghost use Rattle.std.specs.Prelude.{◌≡◌, ◌≢◌, ◌⊎◌, ◌∷◌, ◌<◌, [], IfOk, OnOk, IfErr, IfSome, IfNone};
 ghost use Rattle.std.specs.Io.KnownBytes.{Appends};
 ghost use Rattle.core_meaning.specs.Operations.{byte_word};
-ghost use Rattle.core_tree.specs.Trees.{body_tree, program_tree};
+ghost use Rattle.cyc_core.specs.Trees.{body_tree, program_tree};
 ghost use Rattle.cyc_host.specs.Transfers.{Answers};
 ghost use Rattle.core_eval.specs.Pendings.{Body, Follow, Go, next_of, task_of, waits_of};
 ghost use Rattle.core_eval.specs.Standing.{StandsStill, known_of};
@@ -20,7 +20,7 @@ use crate::operation::give;
 use crate::pending::{Due, Now, Pending};
 use crate::take::take_flow;
 use crate::value::{Object, Value};
-use core_tree::{Function, Program, Statement, Temporary};
+use cyc_core::{Function, Program, Statement, Temporary};
 use cyc_host::{Gathered, read};
 use cyc_words::{Input, Output};
 use std::alloc::{AllocError, Global};

@@ -1,7 +1,7 @@
 // What goes on at the end of a statement.
 
 ghost use Rattle.std.specs.Prelude.{◌≡◌, ◌∷◌, [], ℕ, List, IfOk, IfSome, IfNone, map, drop};
-ghost use Rattle.core_tree.specs.Trees.{body_tree, optional_tree};
+ghost use Rattle.cyc_core.specs.Trees.{body_tree, optional_tree};
 ghost use Rattle.core_eval.specs.declared.value.Object.{Object as TheObject};
 ghost use Rattle.core_eval.specs.Pendings.{Block, Body, Caller, Leave, Test, Wait, exit_of, next_of, saved_of, wait_of, waits_of};
 ghost use Rattle.core_eval.specs.Standing.{Known, known_of};
@@ -11,7 +11,7 @@ use crate::enter::{enter_loop, truth};
 use crate::frame::Frame;
 use crate::pending::{Due, Flow, Now, Pending};
 use crate::value::Value;
-use core_tree::{Statement, Temporary};
+use cyc_core::{Statement, Temporary};
 use std::alloc::AllocError;
 
 /// What is on top of the stack, which is taken off.

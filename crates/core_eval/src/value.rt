@@ -3,7 +3,7 @@
 ghost use Rattle.std.specs.Prelude.{◌≡◌, Some, None, false, if◌then◌else◌};
 ghost use Rattle.core_eval.specs.Values.{blank_object, fitted, put_in, same_width, value_in};
 
-use core_tree::Width;
+use cyc_core::Width;
 use std::alloc::{AllocError, Global};
 
 /// What a temporary or an object holds.

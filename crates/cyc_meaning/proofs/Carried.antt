@@ -8,7 +8,7 @@ use Rattle.rv32_machine.specs.Run as run
 use Rattle.source_meaning.specs.Steps.{Routine, World}
 use Rattle.source_meaning.specs.Programs.{source, world_of}
 use Rattle.core_meaning.specs.Steps as core_steps
-use Rattle.core_meaning.specs.Core as core_tree
+use Rattle.core_meaning.specs.Core as cyc_core
 use Rattle.core_meaning.specs.Meaning.{core}
 use Rattle.source_lowering.specs.Agreeing.{AreBytes, SameEvent, BothVisible, BothCalled, BothReturned, SameEvents, SameOutcome}
 use Rattle.source_lowering.specs.Programs.{program_code}
@@ -116,11 +116,11 @@ module _ (p : Program)
       }
 
 -- an evaluation of a program that is the Core of another one
-pub of_code : {why : EvalEnding} {fuel : ℕ} {reader_old reader_new writer_old writer_new : Option (List ℕ)} (p : Program) (q : core_tree.Program)
+pub of_code : {why : EvalEnding} {fuel : ℕ} {reader_old reader_new writer_old writer_new : Option (List ℕ)} (p : Program) (q : cyc_core.Program)
     → q ≡ program_code p → core_run.IsEvaluated why q fuel reader_old reader_new writer_old writer_new
     → core_run.IsEvaluated why (program_code p) fuel reader_old reader_new writer_old writer_new
 of_code {why} {fuel} {reader_old} {reader_new} {writer_old} {writer_new} p q same run =
-    subst (λ (r : core_tree.Program). core_run.IsEvaluated why r fuel reader_old reader_new writer_old writer_new) same run
+    subst (λ (r : cyc_core.Program). core_run.IsEvaluated why r fuel reader_old reader_new writer_old writer_new) same run
 
 -- a run of a source that is never Stuck doesn't end so
 pub not_stuck : (p : Program) → ((input : List ℕ) (n : ℕ) → (source p input n).ending ≡ SourceEnding.Stuck → ⊥) → (why : EvalEnding) (fuel : ℕ)

@@ -6,7 +6,7 @@ ghost use Rattle.core_eval.specs.Evaluated.{reads_failed, writes_failed};
 ghost use Rattle.cyc_meaning.specs.Evaluated.{IsEvaluated};
 
 use core_eval::{EvalEnding, evaluate_core};
-use core_lower::{LowerFault, lower};
+use lower_checks::{LowerFault, lower};
 use cyc_words::{Input, Output};
 use std::alloc::Global;
 use unique_flow::Checked;

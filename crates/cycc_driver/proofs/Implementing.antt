@@ -9,10 +9,10 @@ use Rattle.core_frames.specs.Lines.{IsPlace, code_length}
 use Rattle.core_frames.specs.Running.{Begins}
 use Rattle.core_frames.specs.Statics.{data_bytes}
 use Rattle.core_frames.proofs.Images.{IsFirst, begins_as, data_length}
-use Rattle.core_place.specs.Holding.{IsCodeOf}
-use Rattle.core_place.specs.Limits.{AreTooLarge}
-use Rattle.core_place.specs.Placed.{ArePlaced, place_of}
-use Rattle.core_place.proofs.Programs.{too_long}
+use Rattle.rv32_layout.specs.Holding.{IsCodeOf}
+use Rattle.rv32_layout.specs.Limits.{AreTooLarge}
+use Rattle.rv32_layout.specs.Placed.{ArePlaced, place_of}
+use Rattle.rv32_layout.proofs.Programs.{too_long}
 use Rattle.cyc_image.specs.Format.{Contents, Fits, IsImage, code_limit, data_limit}
 use Rattle.cyc_tree.specs.Tree.{Program}
 use Rattle.rv32_machine.specs.Arrays.{Arrays, IsStart, areas_of, byte_at, state_of}

@@ -11,7 +11,7 @@ use Rattle.core_frames.specs.declared.line.Line.TheVariants.{Plain, Label, Jump,
 use Rattle.core_frames.specs.Lines.{code_length, size_of}
 use Rattle.core_frames.specs.Selected.{rounded, bytes_of, datum_local}
 use Rattle.core_frames.specs.Statics.{data_bytes, datum_bytes, element_bytes, number_bytes, number_in, zeros}
-use Rattle.core_place.specs.Placed.{ArePlaced, AreWords, place_of, instructions_from}
+use Rattle.rv32_layout.specs.Placed.{ArePlaced, AreWords, place_of, instructions_from}
 use Rattle.rv32_isa.specs.declared.instruction.Instr.{Instr}
 use Rattle.rv32_machine.specs.Arrays.{bytes_in}
 use Rattle.rv32_machine.specs.State.{code_base, data_base, stack_base}

@@ -4,7 +4,7 @@ ghost use Rattle.std.specs.Prelude.{◌≡◌, ◌⊎◌, ◌<◌, ◌≤◌, �
 ghost use Rattle.cyc_tree.specs.Tree.{Program as Tree};
 ghost use Rattle.cyc_tree.specs.Operands.{HasOperands};
 ghost use Rattle.cyc_image.specs.Format.{Contents, Fits, code_limit, data_limit};
-ghost use Rattle.core_tree.specs.Trees.{program_tree};
+ghost use Rattle.cyc_core.specs.Trees.{program_tree};
 ghost use Rattle.source_lowering.specs.Programs.{program_code};
 ghost use Rattle.unique_flow.specs.Accepted.{IsAccepted};
 ghost use Rattle.cycc_driver.specs.Texts.{IsTextOf, IsAcceptedAs};
@@ -13,10 +13,10 @@ ghost use Rattle.cycc_driver.specs.Refused.{HasNoCodeFor};
 ghost use Rattle.cycc_driver.specs.Outcome.{IsCode, IsImplementedBy, IsTextImage};
 
 use crate::fault::{CompileFault, Place, of_checking, of_flow, of_lexing, of_parsing};
-use core_lower::{LowerFault, lower};
-use core_place::{PlaceFault, data, place};
-use core_select::select;
-use core_tree::Program as Core;
+use lower_checks::{LowerFault, lower};
+use rv32_layout::{PlaceFault, data, place};
+use rv32_select::select;
+use cyc_core::Program as Core;
 use cyc_image::{Parts, write};
 use cyc_lexer::tokens;
 use cyc_parser::parse;

@@ -1,9 +1,9 @@
 // The code of lines with labels, and the bytes of globals, by words worked out by hand.
 
 use core_frames::Line;
-use core_place::{PlaceFault, data, place};
-use core_select::Labelled;
-use core_tree::{Datum, Program};
+use rv32_layout::{PlaceFault, data, place};
+use rv32_select::Labelled;
+use cyc_core::{Datum, Program};
 use rv32_isa::{Instr, Register, Signed12};
 use std::test::Fail;
 

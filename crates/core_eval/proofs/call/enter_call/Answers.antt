@@ -1,5 +1,5 @@
 use Rattle.std.proofs.Common.{◌≡◌, ◌≢◌, ◌∷◌, length, map, ap, ◌∙◌, rules}
-use Rattle.core_tree.specs.Trees.{function_tree, optional_tree, body_tree}
+use Rattle.cyc_core.specs.Trees.{function_tree, optional_tree, body_tree}
 use Rattle.core_eval.specs.Values.{content_of}
 use Rattle.core_eval.specs.Pendings.{Go, Follow, Caller, saved_of, waits_of}
 use Rattle.core_eval.specs.Standing.{known_of}

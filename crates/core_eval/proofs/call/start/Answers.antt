@@ -1,6 +1,6 @@
 use Rattle.std.specs.Prelude.{slice_get}
 use Rattle.std.proofs.Common.{◌≡◌, ◌≢◌, map, ap, sym, ◌∙◌, rules}
-use Rattle.core_tree.specs.Trees.{function_tree, body_tree}
+use Rattle.cyc_core.specs.Trees.{function_tree, body_tree}
 use Rattle.core_eval.specs.Pendings.{Go, Follow}
 use Rattle.core_eval.proofs.Calls.{starts, starts_nowhere, starts_unfit, stands_as}
 use Rattle.core_eval.proofs.call.start.Goals as goal

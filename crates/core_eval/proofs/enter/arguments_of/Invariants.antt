@@ -1,6 +1,6 @@
 use Rattle.std.proofs.Common.{◌≡◌, ◌++◌, drop, map}
 use Rattle.core_meaning.specs.Meaning.{values_of}
-use Rattle.core_tree.specs.Trees.{temporary_tree}
+use Rattle.cyc_core.specs.Trees.{temporary_tree}
 use Rattle.core_eval.specs.Values.{content_of, temp_of}
 use Rattle.core_eval.proofs.enter.arguments_of.Given as goal
 

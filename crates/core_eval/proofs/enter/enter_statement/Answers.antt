@@ -1,5 +1,5 @@
 use Rattle.std.proofs.Common.{ap, ◌∙◌}
-use Rattle.core_tree.specs.Trees.{body_tree, statement_tree}
+use Rattle.cyc_core.specs.Trees.{body_tree, statement_tree}
 use Rattle.core_eval.specs.Pendings.{waits_of}
 use Rattle.core_eval.proofs.Entered.{block_tree, block_answer}
 use Rattle.core_eval.proofs.enter.enter_statement.Goals as goal

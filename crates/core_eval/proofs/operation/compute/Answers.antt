@@ -2,7 +2,7 @@ use Rattle.std.proofs.Common.{rules}
 use Rattle.core_meaning.specs.Memory as memory
 use Rattle.core_meaning.specs.Core as core
 use Rattle.core_meaning.specs.Words.{two}
-use Rattle.core_tree.specs.Trees.{binary_tree}
+use Rattle.cyc_core.specs.Trees.{binary_tree}
 use Rattle.core_eval.specs.Pendings.{Execute}
 use Rattle.core_eval.specs.Standing.{known_of}
 use Rattle.core_eval.proofs.OperationMoves.{apply_moves}

@@ -1,6 +1,6 @@
 use Rattle.std.proofs.Common.{◌∙◌, sym}
 use Rattle.core_meaning.specs.Core as core
-use Rattle.core_tree.specs.Trees.{bytes_of}
+use Rattle.cyc_core.specs.Trees.{bytes_of}
 use Rattle.core_eval.specs.Values.{content_of}
 use Rattle.core_eval.specs.Pendings.{Execute}
 use Rattle.core_eval.specs.Standing.{known_of}

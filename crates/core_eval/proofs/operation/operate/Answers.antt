@@ -1,6 +1,6 @@
 use Rattle.std.proofs.Common.{rules}
 use Rattle.core_meaning.specs.Memory as memory
-use Rattle.core_tree.specs.declared.operation.Operation.TheVariants as operation
+use Rattle.cyc_core.specs.declared.operation.Operation.TheVariants as operation
 use Rattle.core_eval.specs.declared.value.Value.TheVariants as value
 use Rattle.core_eval.specs.Values.{content_of}
 use Rattle.core_eval.specs.Standing.{known_of}

@@ -2,8 +2,8 @@ use Rattle.std.proofs.Common.{◌≡◌, ℕ, ◌<◌, List, [], map, Result, Ok
 use Rattle.std.proofs.KnownBytes.{Appends-nil}
 use Rattle.core_meaning.specs.Memory.{Word}
 use Rattle.core_meaning.specs.Steps as steps
-use Rattle.core_tree.specs.declared.program.Function.{Function}
-use Rattle.core_tree.specs.Trees.{program_tree, function_tree, optional_tree, body_tree}
+use Rattle.cyc_core.specs.declared.program.Function.{Function}
+use Rattle.cyc_core.specs.Trees.{program_tree, function_tree, optional_tree, body_tree}
 use Rattle.core_eval.specs.Values.{content_of}
 use Rattle.core_eval.specs.declared.pending.Due.{Due}
 use Rattle.core_eval.specs.declared.value.Object.{Object}

@@ -1,6 +1,6 @@
 use Rattle.std.proofs.Common.{◌≡◌}
 use Rattle.core_eval.specs.Pendings.{next_of, waits_of}
-use Rattle.core_tree.specs.Trees.{program_tree}
+use Rattle.cyc_core.specs.Trees.{program_tree}
 use Rattle.core_eval.specs.Standing.{known_of}
 use Rattle.core_eval.proofs.Stages.{Stage}
 use Rattle.core_eval.proofs.running.evaluate_core.Given as goal

@@ -1,5 +1,5 @@
 use Rattle.std.proofs.Common.{ap}
-use Rattle.core_tree.specs.Trees.{body_tree}
+use Rattle.cyc_core.specs.Trees.{body_tree}
 use Rattle.core_eval.specs.Pendings.{Follow, Leave, exit_of, task_of, waits_of}
 use Rattle.core_eval.specs.Standing.{known_of}
 use Rattle.core_eval.proofs.Taken.{task_as, known_here, globals_here}

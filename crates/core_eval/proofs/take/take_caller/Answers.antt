@@ -1,6 +1,6 @@
 use Rattle.std.proofs.Common.{◌≡◌, ◌∷◌, Some, None, refl, ap, rules}
 use Rattle.core_meaning.specs.Steps as steps
-use Rattle.core_tree.specs.Trees.{optional_tree}
+use Rattle.cyc_core.specs.Trees.{optional_tree}
 use Rattle.core_eval.specs.declared.pending.Flow.TheVariants as flow
 use Rattle.core_eval.specs.Values.{content_of}
 use Rattle.core_eval.specs.Pendings.{Caller, Wrong, exit_of, saved_of}

@@ -1,5 +1,5 @@
 use Rattle.std.proofs.Common.{◌∷◌, refl, ap, ◌∙◌}
-use Rattle.core_tree.specs.Trees.{optional_tree}
+use Rattle.cyc_core.specs.Trees.{optional_tree}
 use Rattle.core_eval.specs.declared.pending.Pending.TheVariants as pending
 use Rattle.core_eval.specs.Pendings.{Block, exit_of, next_of, wait_of, waits_of}
 use Rattle.core_eval.specs.Standing.{known_of}

@@ -1,6 +1,6 @@
 use Rattle.std.proofs.Common.{◌≡◌, sym, ap, ◌∙◌, subst}
 use Rattle.core_eval.proofs.Endings.{nothing_done}
-use Rattle.core_tree.specs.Trees.{program_tree}
+use Rattle.cyc_core.specs.Trees.{program_tree}
 use Rattle.cyc_tree.specs.Operands.{HasOperands}
 use Rattle.cyc_tree.specs.Tree.{Program}
 use Rattle.source_lowering.specs.Programs.{program_code}

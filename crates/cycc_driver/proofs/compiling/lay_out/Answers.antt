@@ -5,10 +5,10 @@ use Rattle.core_frames.specs.Lines.{IsPlace, code_length}
 use Rattle.core_frames.specs.Selected as select
 use Rattle.core_frames.specs.Statics.{data_bytes}
 use Rattle.core_meaning.specs.Core as core
-use Rattle.core_place.specs.declared.fault.PlaceFault.{PlaceFault}
-use Rattle.core_place.specs.Holding.{IsCodeOf}
-use Rattle.core_place.specs.Limits.{AreTooLarge}
-use Rattle.core_place.specs.Placed.{ArePlaced, place_of}
+use Rattle.rv32_layout.specs.declared.fault.PlaceFault.{PlaceFault}
+use Rattle.rv32_layout.specs.Holding.{IsCodeOf}
+use Rattle.rv32_layout.specs.Limits.{AreTooLarge}
+use Rattle.rv32_layout.specs.Placed.{ArePlaced, place_of}
 use Rattle.cyc_image.specs.Format.{data_limit}
 use Rattle.cycc_driver.proofs.Implementing.{data_fit, implemented, is_code, long_code}
 use Rattle.cycc_driver.proofs.compiling.lay_out.Goals as goal

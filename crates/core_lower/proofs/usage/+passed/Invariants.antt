@@ -1,7 +1,0 @@
-use Rattle.std.proofs.Common.{◌≡◌, max, drop}
-use Rattle.core_tree.specs.Trees.{body_tree}
-use Rattle.source_lowering.specs.Programs.{passed_by}
-use Rattle.core_lower.proofs.usage.+passed.Given as goal
-
-abbrev pub invariant-passed-each : goal.invariant-passed-each
-invariant-passed-each l = max l.most (passed_by (body_tree (drop l.statement-index l.body))) ≡ passed_by (body_tree l.body)

@@ -1,7 +1,0 @@
-use Rattle.std.proofs.Common.{◌≡◌, max, drop}
-use Rattle.core_tree.specs.Trees.{body_tree}
-use Rattle.source_lowering.specs.Programs.{temporaries_of}
-use Rattle.core_lower.proofs.usage.+temporaries.Given as goal
-
-abbrev pub invariant-temporaries-each : goal.invariant-temporaries-each
-invariant-temporaries-each l = max l.most (temporaries_of (body_tree (drop l.statement-index l.body))) ≡ temporaries_of (body_tree l.body)

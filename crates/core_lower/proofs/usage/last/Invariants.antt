@@ -1,8 +1,0 @@
-use Rattle.std.proofs.Common.{◌≡◌, max, map, drop}
-use Rattle.core_tree.specs.Trees.{temporary_tree}
-use Rattle.source_lowering.specs.Programs.{last_of}
-use Rattle.core_lower.proofs.usage.last.Given as goal
-
-abbrev pub invariant-each : goal.invariant-each
-invariant-each l =
-    max l.last (last_of (map temporary_tree (drop l.temporary-index l.temporaries))) ≡ last_of (map temporary_tree l.temporaries)

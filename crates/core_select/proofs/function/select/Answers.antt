@@ -1,9 +1,0 @@
-use Rattle.core_tree.specs.Trees.{program_tree}
-use Rattle.core_select.proofs.Meaning.{lines_once, lines_do_as}
-use Rattle.core_select.proofs.function.select.Goals as goal
-
-pub returns-clause-once : goal.returns-clause-once
-returns-clause-once c = lines_once (program_tree c.args.program.now) c.in_ok-lines.lines.items c.in_ok-lines.ensures
-
-pub returns-clause-meaning : goal.returns-clause-meaning
-returns-clause-meaning c = lines_do_as (program_tree c.args.program.now) c.in_ok-lines.lines.items c.in_ok-lines.ensures

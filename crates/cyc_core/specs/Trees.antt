@@ -1,0 +1,120 @@
+-- The code's programs as programs of Core.
+use Rattle.std.specs.Prelude.{ℕ, Option, Some, None, List, [], ◌∷◌, map}
+use Rattle.core_meaning.specs.Memory.{Layout}
+use Rattle.core_meaning.specs.Memory as memory
+use Rattle.core_meaning.specs.Core as core
+use Rattle.cyc_core.specs.declared.operation.Temporary.{Temporary}
+use Rattle.cyc_core.specs.declared.operation.Width.{Width}
+use Rattle.cyc_core.specs.declared.operation.Width.TheVariants as width
+use Rattle.cyc_core.specs.declared.operation.Binary.{Binary}
+use Rattle.cyc_core.specs.declared.operation.Binary.TheVariants as binary
+use Rattle.cyc_core.specs.declared.operation.Operation.{Operation}
+use Rattle.cyc_core.specs.declared.operation.Operation.TheVariants as operation
+use Rattle.cyc_core.specs.declared.statement.Statement as code
+use Rattle.cyc_core.specs.declared.statement.Statement.TheOpen.{Statement-F}
+use Rattle.cyc_core.specs.declared.statement.Statement.TheFolds.{fold-Statement}
+use Rattle.cyc_core.specs.declared.program.Function.{Function}
+use Rattle.cyc_core.specs.declared.program.Datum.{Datum}
+use Rattle.cyc_core.specs.declared.program.Datum.TheVariants as datum
+use Rattle.cyc_core.specs.declared.program.Program.{Program}
+
+-- how many bytes a width is
+abbrev pub bytes_of : Width → ℕ
+bytes_of width.Byte = 1
+bytes_of width.Word = 4
+
+-- an object of one cell of one part, which begins as 0
+abbrev pub part_layout : ℕ → Layout
+part_layout bytes = record { cells = (record { offset = 0; width = bytes; first = memory.Word 0 } ∷ []) ∷ []; bytes = bytes }
+
+abbrev pub local_tree : Width → core.Local
+local_tree w = record { layout = part_layout (bytes_of w); count = 1 }
+
+-- right where a pointer leads
+abbrev pub at_once : Width → core.Distance
+at_once w = record { cells = 0; bytes = 0; part = 0; width = bytes_of w }
+
+abbrev pub temporary_tree : Temporary → ℕ
+temporary_tree t = t.0
+
+-- one temporary, or none
+abbrev pub optional_tree : Option Temporary → List ℕ
+optional_tree None = []
+optional_tree (Some t) = t.0 ∷ []
+
+abbrev pub binary_tree : Binary → core.Binary
+binary_tree binary.Add = core.Add
+binary_tree binary.Subtract = core.Subtract
+binary_tree binary.Multiply = core.Multiply
+binary_tree binary.Divide = core.Divide
+binary_tree binary.DivideUnsigned = core.DivideUnsigned
+binary_tree binary.Remainder = core.Remainder
+binary_tree binary.RemainderUnsigned = core.RemainderUnsigned
+binary_tree binary.And = core.And
+binary_tree binary.Or = core.Or
+binary_tree binary.Xor = core.Xor
+binary_tree binary.ShiftLeft = core.ShiftLeft
+binary_tree binary.ShiftRight = core.ShiftRight
+binary_tree binary.ShiftRightUnsigned = core.ShiftRightUnsigned
+binary_tree binary.Equal = core.Equal
+binary_tree binary.NotEqual = core.NotEqual
+binary_tree binary.Less = core.Less
+binary_tree binary.LessEqual = core.LessEqual
+binary_tree binary.LessUnsigned = core.LessUnsigned
+binary_tree binary.LessEqualUnsigned = core.LessEqualUnsigned
+
+abbrev pub operation_tree : Operation → core.Operation
+operation_tree (operation.Constant t word) = core.Constant t.0 word
+operation_tree (operation.Move t x) = core.Move t.0 x.0
+operation_tree (operation.Narrow t x) = core.Narrow t.0 x.0
+operation_tree (operation.Apply o t x y) = core.Apply (binary_tree o) t.0 x.0 y.0
+operation_tree (operation.DataAddress t object) = core.DataAddress t.0 object
+operation_tree (operation.Get t v w) = core.Get t.0 v.out v.index (bytes_of w)
+operation_tree (operation.Put v w x) = core.Put v.out v.index (bytes_of w) x.0
+operation_tree (operation.Load t p w) = core.Load t.0 p.0 (at_once w)
+operation_tree (operation.Store p w x) = core.Store p.0 (at_once w) x.0
+operation_tree (operation.Getchar t) = core.Getchar t.0
+operation_tree (operation.Putchar t x) = core.Putchar t.0 x.0
+
+abbrev pub statements_of : List core.Statement → core.Statements
+statements_of [] = core.NoStatements
+statements_of (s ∷ ss) = core.MoreStatements s (statements_of ss)
+
+abbrev pub statement_step : Statement-F core.Statement → core.Statement
+statement_step (Statement-F.Do o) = core.Do (operation_tree o)
+statement_step (Statement-F.If t these those) = core.If t.0 (statements_of these.items) (statements_of those.items)
+statement_step (Statement-F.While test t body) = core.While (statements_of test.items) t.0 (statements_of body.items)
+statement_step (Statement-F.Block widths body) = core.Block (map local_tree widths.items) (statements_of body.items)
+statement_step Statement-F.Break = core.Break
+statement_step Statement-F.Continue = core.Continue
+statement_step (Statement-F.Call result f arguments) = core.Call (optional_tree result) f (map temporary_tree arguments.items)
+statement_step (Statement-F.Return value) = core.Return (optional_tree value)
+
+abbrev pub statement_tree : code.Statement → core.Statement
+statement_tree = fold-Statement core.Statement statement_step
+
+-- statements, one after the other
+abbrev pub body_tree : List code.Statement → core.Statements
+body_tree ss = statements_of (map statement_tree ss)
+
+abbrev pub function_tree : Function → core.Function
+function_tree f = record { parameters = f.parameters; temporaries = f.temporaries; passed = f.passed; own = []; body = body_tree f.body.items }
+
+abbrev pub datum_width : Datum → Width
+datum_width (datum.Byte b) = width.Byte
+datum_width (datum.Word w) = width.Word
+
+-- what a global holds at the start
+abbrev pub datum_word : Datum → ℕ
+datum_word (datum.Byte b) = b
+datum_word (datum.Word w) = w
+
+abbrev pub datum_tree : Datum → core.Datum
+datum_tree d = record { layout = part_layout (bytes_of (datum_width d)); count = 1; first = λ cell part. memory.Word (datum_word d) }
+
+abbrev pub program_tree : Program → core.Program
+program_tree p = record {
+  functions = map function_tree p.functions.items;
+  main = p.main;
+  data_objects = map datum_tree p.globals.items;
+}

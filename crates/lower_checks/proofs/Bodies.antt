@@ -1,0 +1,44 @@
+-- A function's body, from its parts as the code makes them.
+use Rattle.std.proofs.Common.{◌≡◌, ◌∙◌, ℕ, suc, refl, ap, List, [], ◌∷◌, ◌++◌, length}
+use Rattle.source_meaning.specs.Shapes.{Shape, Part, part_shapes}
+use Rattle.source_meaning.specs.Steps.{Routine, World}
+use Rattle.core_meaning.specs.Core.{Local, Statement, Block, MoreStatements}
+use Rattle.cyc_core.specs.Trees.{statements_of}
+use Rattle.source_lowering.specs.Lowered.{Named, all_of}
+use Rattle.source_lowering.specs.Programs.{block_shapes, locals_of, items_code, parameter_names, parameters_code, end_code, body_code}
+use Rattle.lower_checks.proofs.Lists.{all_is}
+
+pub as_many_shapes : (ps : List Part) → length (part_shapes ps) ≡ length ps
+as_many_shapes [] = refl
+as_many_shapes (p ∷ ps) = ap suc (as_many_shapes ps)
+
+-- the body's block: its locals, and what is inside
+pub record Inside (w : World) (f : Routine) (locals : List Local) (inside : List Statement) : Type 0 where
+  pub locals_are : locals ≡ locals_of w (part_shapes f.parameters ++ block_shapes f.body)
+  pub inside_is :
+      inside ≡ parameters_code f.parameters 0 ++ items_code w f.result (parameter_names f.parameters 0 []) (length f.parameters) f.body
+
+pub inside_of :
+    (w : World) (f : Routine) (taken shapes : List Shape) (names : List Named) (first inside : List Statement) (locals : List Local) →
+    taken ≡ part_shapes f.parameters → names ≡ parameter_names f.parameters 0 [] → first ≡ parameters_code f.parameters 0 →
+    inside ≡ first ++ items_code w f.result names (length taken) f.body → shapes ≡ taken ++ block_shapes f.body → locals ≡ locals_of w shapes →
+    Inside w f locals inside
+inside_of w f taken shapes names first inside locals taken_is names_are first_is inside_is shapes_are locals_are = record {
+  locals_are = locals_are ∙ ap (locals_of w) (shapes_are ∙ ap (λ (ss : List Shape). ss ++ block_shapes f.body) taken_is);
+  inside_is =
+      inside_is ∙ ap (λ (ss : List Statement). ss ++ items_code w f.result names (length taken) f.body) first_is
+      ∙ ap (λ (ns : List Named). parameters_code f.parameters 0 ++ items_code w f.result ns (length taken) f.body) names_are
+      ∙ ap (λ (n : ℕ). parameters_code f.parameters 0 ++ items_code w f.result (parameter_names f.parameters 0 []) n f.body)
+      (ap length taken_is ∙ as_many_shapes f.parameters);
+}
+
+pub body_of :
+    (w : World) (f : Routine) (locals : List Local) (inside none blocked body : List Statement) → Inside w f locals inside →
+    none ≡ [] → blocked ≡ none ++ Block locals (all_of inside) ∷ [] → body ≡ blocked ++ end_code f.result → statements_of body ≡ body_code w f
+body_of w f locals inside none blocked body is none_is blocked_is body_is =
+    ap statements_of (body_is ∙ ap (λ (ss : List Statement). ss ++ end_code f.result)
+    (blocked_is ∙ ap (λ (ss : List Statement). ss ++ Block locals (all_of inside) ∷ []) none_is))
+    ∙ ap (MoreStatements (Block locals (all_of inside))) (all_is (end_code f.result))
+    ∙ ap (λ (ls : List Local). MoreStatements (Block ls (all_of inside)) (all_of (end_code f.result))) is.locals_are
+    ∙ ap (λ (ss : List Statement).
+    MoreStatements (Block (locals_of w (part_shapes f.parameters ++ block_shapes f.body)) (all_of ss)) (all_of (end_code f.result))) is.inside_is

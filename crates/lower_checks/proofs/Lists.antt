@@ -1,0 +1,47 @@
+-- Statements one after the other are the same, by the name of either side.
+use Rattle.std.proofs.Common.{◌≡◌, ◌∙◌, ℕ, refl, sym, ap, List, [], ◌∷◌, ◌++◌, append_assoc}
+use Rattle.std.specs.Prelude.{Ok, Err, OnOk}
+use Rattle.std.specs.declared.result.Result.{Result}
+use Rattle.core_meaning.specs.Core.{Local, Statement, Statements, If, While, Block, MoreStatements}
+use Rattle.cyc_core.specs.Trees.{statements_of}
+use Rattle.source_lowering.specs.Lowered.{all_of}
+
+pub all_is : (ss : List Statement) → statements_of ss ≡ all_of ss
+all_is [] = refl
+all_is (s ∷ ss) = ap (MoreStatements s) (all_is ss)
+
+-- what follows from what holds where there is a result
+pub on_ok : {X E P Q : Type 0} (r : Result X E) → OnOk r P → (P → Q) → OnOk r Q
+on_ok (Ok x) p f = f p
+on_ok (Err e) p f = tt
+
+pub if_of :
+    (after before : List Statement) (t : ℕ) (these those : List Statement) →
+    after ≡ before ++ If t (statements_of these) (statements_of those) ∷ [] → after ≡ before ++ If t (all_of these) (all_of those) ∷ []
+if_of after before t these those is =
+    is ∙ ap (λ (x : Statements). before ++ If t x (statements_of those) ∷ []) (all_is these)
+    ∙ ap (λ (x : Statements). before ++ If t (all_of these) x ∷ []) (all_is those)
+
+pub while_of :
+    (after before : List Statement) (test : List Statement) (t : ℕ) (body : List Statement) →
+    after ≡ before ++ While (statements_of test) t (statements_of body) ∷ [] → after ≡ before ++ While (all_of test) t (all_of body) ∷ []
+while_of after before test t body is =
+    is ∙ ap (λ (x : Statements). before ++ While x t (statements_of body) ∷ []) (all_is test)
+    ∙ ap (λ (x : Statements). before ++ While (all_of test) t x ∷ []) (all_is body)
+
+pub block_of :
+    (after before : List Statement) (locals : List Local) (body : List Statement) →
+    after ≡ before ++ Block locals (statements_of body) ∷ [] → after ≡ before ++ Block locals (all_of body) ∷ []
+block_of after before locals body is = is ∙ ap (λ (x : Statements). before ++ Block locals x ∷ []) (all_is body)
+
+-- a choice after its condition
+pub choice_of :
+    (before tested after condition these those body otherwise code : List Statement) → tested ≡ before ++ condition → these ≡ body →
+    those ≡ otherwise → code ≡ condition ++ (If 0 (all_of body) (all_of otherwise) ∷ []) →
+    after ≡ tested ++ If 0 (all_of these) (all_of those) ∷ [] → after ≡ before ++ code
+choice_of before tested after condition these those body otherwise code tested_is these_is those_is code_is is =
+    is ∙ ap (λ (ss : List Statement). ss ++ If 0 (all_of these) (all_of those) ∷ []) tested_is
+    ∙ append_assoc before condition (If 0 (all_of these) (all_of those) ∷ [])
+    ∙ ap (λ (ss : List Statement). before ++ (condition ++ (If 0 (all_of ss) (all_of those) ∷ []))) these_is
+    ∙ ap (λ (ss : List Statement). before ++ (condition ++ (If 0 (all_of body) (all_of ss) ∷ []))) those_is
+    ∙ ap (λ (ss : List Statement). before ++ ss) (sym code_is)

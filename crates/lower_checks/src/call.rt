@@ -1,0 +1,110 @@
+// Calls of functions, after their arguments.
+
+ghost use Rattle.std.specs.Prelude.{◌≡◌, ◌++◌, IfOk, OnOk, map};
+ghost use Rattle.cyc_tree.specs.View.{member_tree, expression_tree, expressions_of};
+ghost use Rattle.cyc_core.specs.Trees.{temporary_tree, statement_tree};
+ghost use Rattle.source_meaning.specs.Shapes.{part_of, part_shapes};
+ghost use Rattle.source_meaning.specs.Programs.{world_of};
+ghost use Rattle.source_lowering.specs.Lowered.{call_parameters, from_on, count_of, call_code};
+ghost use Rattle.lower_checks.specs.Views.{shape_tree};
+ghost use Rattle.source_lowering.specs.Taken.{AreIntegers, TakesProgram};
+ghost use Rattle.lower_checks.specs.Refusals.{NeverRefused};
+
+use crate::emit::{emit, emit_operation};
+use crate::fault::LowerFault;
+use crate::names::after;
+use crate::shape::Shape;
+use crate::table::{function_named, function_number};
+use cyc_core::{Operation, Statement, Temporary};
+use cyc_tree::{Expression, Member, Program};
+use std::alloc::Global;
+
+/// The shapes of parameters, in order.
+pub fn part_shapes(alloc: Global, parameters: &[Member]) -> Result<Vec<Shape>, LowerFault>
+    ensures shapes { IfOk result (λ shapes. map shape_tree shapes.items ≡ part_shapes (map part_of (map member_tree parameters.now))) }
+    ensures taken { AreIntegers (map member_tree parameters.now) → NeverRefused result }
+{
+    let mut shapes = Vec::new(alloc);
+    'each: for parameter in parameters {
+        let shape = Shape::of(&parameter.of)?;
+        if let Err(_) = shapes.push(shape) {
+            return Err(LowerFault::Memory);
+        }
+    }
+    Ok(shapes)
+}
+
+/// The shapes of what a function of a name takes; none where there is no such function.
+pub fn call_parameters(
+    alloc: Global,
+    program: &Program,
+    name: &[u8],
+) -> Result<Vec<Shape>, LowerFault>
+    ensures shapes { IfOk result (λ shapes. map shape_tree shapes.items ≡ call_parameters (world_of program.now) name.now) }
+    ensures taken { TakesProgram program.now → NeverRefused result }
+{
+    let mut shapes = Vec::new(alloc);
+    if name == b"getchar".as_slice() {
+        return Ok(shapes);
+    }
+    if name == b"putchar".as_slice() {
+        if let Err(_) = shapes.push(Shape::Int) {
+            return Err(LowerFault::Memory);
+        }
+        return Ok(shapes);
+    }
+    match function_named(program.items(), name) {
+        Some(function) => part_shapes(alloc, &function.parameters),
+        None => Ok(shapes),
+    }
+}
+
+/// As many temporaries as there are arguments, from one on.
+fn passed_from(
+    alloc: Global,
+    arguments: &[Expression],
+    first: Temporary,
+) -> Result<Vec<Temporary>, LowerFault>
+    ensures passed { IfOk result (λ passed. map temporary_tree passed.items ≡ from_on first.0 (count_of (expressions_of (map expression_tree arguments.now)))) }
+    ensures taken { NeverRefused result }
+{
+    let mut passed = Vec::new(alloc);
+    let mut next = first;
+    'each: for _ in arguments {
+        if let Err(_) = passed.push(next) {
+            return Err(LowerFault::Memory);
+        }
+        next = Temporary(after(next.0)?);
+    }
+    Ok(passed)
+}
+
+/// Appends the call of a function, the values of whose arguments are in the temporaries from this one on.
+pub fn lower_call(
+    alloc: Global,
+    program: &Program,
+    body: &mut Vec<Statement>,
+    name: &[u8],
+    arguments: &[Expression],
+    to: Temporary,
+) -> Result<(), LowerFault>
+    ensures code { OnOk result
+        (map statement_tree body.new.items ≡
+        map statement_tree body.old.items ++
+        call_code (world_of program.now) name.now (count_of (expressions_of (map expression_tree arguments.now))) to.0) }
+    ensures taken { TakesProgram program.now → NeverRefused result }
+{
+    if name == b"getchar".as_slice() {
+        return emit_operation(body, Operation::Getchar(to));
+    }
+    if name == b"putchar".as_slice() {
+        return emit_operation(body, Operation::Putchar(to, to));
+    }
+    let Some(function) = function_named(program.items(), name) else {
+        return Ok(());
+    };
+    let number = function_number(program.items(), name)?;
+    let result = Shape::of(&function.result)?.result_in(to);
+    let passed = passed_from(alloc, arguments, to)?;
+    emit(body, Statement::Call(result, number, passed))
+}

@@ -1,0 +1,121 @@
+// Statements are appended, one after the other.
+
+ghost use Rattle.std.specs.Prelude.{◌≡◌, ◌++◌, [], ◌∷◌, OnOk, map};
+ghost use Rattle.core_meaning.specs.Core as core;
+ghost use Rattle.cyc_core.specs.Trees.{local_tree, operation_tree, statements_of, statement_tree};
+ghost use Rattle.source_lowering.specs.Lowered.{all_of};
+ghost use Rattle.lower_checks.specs.Refusals.{NeverRefused};
+
+use crate::fault::LowerFault;
+use cyc_core::{Operation, Statement, Temporary, Width};
+
+/// Appends a statement.
+pub fn emit(body: &mut Vec<Statement>, statement: Statement) -> Result<(), LowerFault>
+    ensures code { OnOk result (map statement_tree body.new.items ≡ map statement_tree body.old.items ++ statement_tree statement ∷ []) }
+    ensures taken { NeverRefused result }
+{
+    match body.push(statement) {
+        Ok(()) => Ok(()),
+        Err(_) => Err(LowerFault::Memory),
+    }
+}
+
+/// Appends an operation.
+pub fn emit_operation(body: &mut Vec<Statement>, operation: Operation) -> Result<(), LowerFault>
+    ensures code { OnOk result (map statement_tree body.new.items ≡ map statement_tree body.old.items ++ core.Do (operation_tree operation) ∷ []) }
+    ensures taken { NeverRefused result }
+{
+    emit(body, Statement::Do(operation))
+}
+
+// a choice, as the tree of its parts
+fn push_if(
+    body: &mut Vec<Statement>,
+    condition: Temporary,
+    these: Vec<Statement>,
+    those: Vec<Statement>,
+) -> Result<(), LowerFault>
+    ensures code { OnOk result
+        (map statement_tree body.new.items ≡
+        map statement_tree body.old.items ++
+        core.If condition.0 (statements_of (map statement_tree these.items)) (statements_of (map statement_tree those.items)) ∷ []) }
+    ensures taken { NeverRefused result }
+{
+    emit(body, Statement::If(condition, these, those))
+}
+
+/// Appends a choice.
+pub fn emit_if(
+    body: &mut Vec<Statement>,
+    condition: Temporary,
+    these: Vec<Statement>,
+    those: Vec<Statement>,
+) -> Result<(), LowerFault>
+    ensures code { OnOk result
+        (map statement_tree body.new.items ≡
+        map statement_tree body.old.items ++
+        core.If condition.0 (all_of (map statement_tree these.items)) (all_of (map statement_tree those.items)) ∷ []) }
+    ensures taken { NeverRefused result }
+{
+    push_if(body, condition, these, those)
+}
+
+// a loop, as the tree of its parts
+fn push_while(
+    body: &mut Vec<Statement>,
+    test: Vec<Statement>,
+    condition: Temporary,
+    turn: Vec<Statement>,
+) -> Result<(), LowerFault>
+    ensures code { OnOk result
+        (map statement_tree body.new.items ≡
+        map statement_tree body.old.items ++
+        core.While (statements_of (map statement_tree test.items)) condition.0 (statements_of (map statement_tree turn.items)) ∷ []) }
+    ensures taken { NeverRefused result }
+{
+    emit(body, Statement::While(test, condition, turn))
+}
+
+/// Appends a loop.
+pub fn emit_while(
+    body: &mut Vec<Statement>,
+    test: Vec<Statement>,
+    condition: Temporary,
+    turn: Vec<Statement>,
+) -> Result<(), LowerFault>
+    ensures code { OnOk result
+        (map statement_tree body.new.items ≡
+        map statement_tree body.old.items ++
+        core.While (all_of (map statement_tree test.items)) condition.0 (all_of (map statement_tree turn.items)) ∷ []) }
+    ensures taken { NeverRefused result }
+{
+    push_while(body, test, condition, turn)
+}
+
+// a block, as the tree of its parts
+fn push_block(
+    body: &mut Vec<Statement>,
+    widths: Vec<Width>,
+    inside: Vec<Statement>,
+) -> Result<(), LowerFault>
+    ensures code { OnOk result
+        (map statement_tree body.new.items ≡
+        map statement_tree body.old.items ++ core.Block (map local_tree widths.items) (statements_of (map statement_tree inside.items)) ∷ []) }
+    ensures taken { NeverRefused result }
+{
+    emit(body, Statement::Block(widths, inside))
+}
+
+/// Appends a block with locals of these widths.
+pub fn emit_block(
+    body: &mut Vec<Statement>,
+    widths: Vec<Width>,
+    inside: Vec<Statement>,
+) -> Result<(), LowerFault>
+    ensures code { OnOk result
+        (map statement_tree body.new.items ≡
+        map statement_tree body.old.items ++ core.Block (map local_tree widths.items) (all_of (map statement_tree inside.items)) ∷ []) }
+    ensures taken { NeverRefused result }
+{
+    push_block(body, widths, inside)
+}

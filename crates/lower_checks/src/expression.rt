@@ -1,0 +1,312 @@
+// Expressions.
+
+ghost use Rattle.std.specs.Prelude.{◌≡◌, ◌+◌, ◌++◌, OnOk, map};
+ghost use Rattle.cyc_tree.specs.View.{expression_tree, expressions_of, link_tree, links_of};
+ghost use Rattle.cyc_core.specs.Trees.{statement_tree};
+ghost use Rattle.source_meaning.specs.Programs.{world_of};
+ghost use Rattle.source_lowering.specs.Lowered.{static_shape, call_parameters, put_code, conversion_code, prefix_code, truth_code, count_of, call_code, expression_code, links_code, all_code, any_code, arguments_code};
+ghost use Rattle.lower_checks.specs.Views.{shape_tree, names_of};
+ghost use Rattle.source_lowering.specs.Taken.{TakesPrefix, TakesPlace, Takes, TakesAll, TakesLinks, TakesProgram};
+ghost use Rattle.lower_checks.specs.Refusals.{NeverRefused};
+
+use crate::call::{call_parameters, lower_call};
+use crate::emit::{emit_if, emit_operation};
+use crate::fault::LowerFault;
+use crate::names::{Named, after};
+use crate::operator::{applied, operator_shape};
+use crate::shape::Shape;
+use crate::shaped::static_shape;
+use crate::variable::{lower_get, lower_put};
+use cyc_core::{Binary, Operation, Statement, Temporary};
+use cyc_tree::{Expression, Link, Operator, Prefix, Program};
+use std::alloc::Global;
+
+/// Appends what makes 1 of a word that isn't 0.
+fn lower_truth(body: &mut Vec<Statement>, to: Temporary) -> Result<(), LowerFault>
+    ensures code { OnOk result (map statement_tree body.new.items ≡ map statement_tree body.old.items ++ truth_code to.0) }
+    ensures taken { NeverRefused result }
+{
+    let zero = Temporary(after(to.0)?);
+    emit_operation(body, Operation::Constant(zero, 0))?;
+    emit_operation(body, Operation::Apply(Binary::NotEqual, to, to, zero))
+}
+
+/// Appends what converts a value in a temporary to a shape.
+pub fn lower_conversion(
+    body: &mut Vec<Statement>,
+    to: Shape,
+    from: Shape,
+    value: Temporary,
+) -> Result<(), LowerFault>
+    ensures code { OnOk result
+        (map statement_tree body.new.items ≡
+        map statement_tree body.old.items ++ conversion_code (shape_tree to) (shape_tree from) value.0) }
+    ensures taken { NeverRefused result }
+{
+    match (to, from) {
+        (Shape::Char, Shape::Char) => Ok(()),
+        (Shape::Char, _) => emit_operation(body, Operation::Narrow(value, value)),
+        _ => Ok(()),
+    }
+}
+
+/// Appends what leaves an expression's value in a temporary. Refuses what isn't of integers.
+#[cycle(expression)]
+pub fn lower_expression(
+    alloc: Global,
+    program: &Program,
+    locals: &[Named<'_>],
+    expression: &Expression,
+    body: &mut Vec<Statement>,
+    to: Temporary,
+) -> Result<(), LowerFault>
+    ensures code { OnOk result
+        (map statement_tree body.new.items ≡
+        map statement_tree body.old.items ++ expression_code (world_of program.now) (names_of locals.entry.now) (expression_tree expression.now) to.0) }
+    ensures taken { TakesProgram program.now → Takes (expression_tree expression.now) → NeverRefused result }
+{
+    match expression {
+        Expression::Number(_, value, _) => emit_operation(body, Operation::Constant(to, *value)),
+        Expression::Character(_, byte) => {
+            emit_operation(body, Operation::Constant(to, u32::from(*byte)))
+        }
+        Expression::Variable(name) => lower_get(program, locals, body, &name.text, to),
+        Expression::Grouped(_, inner) => {
+            lower_expression(alloc, program, locals, inner, body, to)
+        }
+        Expression::Prefixed(_, operator, operand) => {
+            lower_prefixed(alloc, program, locals, operand, body, *operator, to)
+        }
+        Expression::Chain(first, links) => {
+            lower_expression(alloc, program, locals, first, body, to)?;
+            let left = static_shape(program, locals, first)?;
+            lower_links(alloc, program, locals, links, body, left, to)
+        }
+        Expression::AllOf(first, others) => {
+            lower_expression(alloc, program, locals, first, body, to)?;
+            lower_all(alloc, program, locals, others, body, to)?;
+            lower_truth(body, to)
+        }
+        Expression::AnyOf(first, others) => {
+            lower_expression(alloc, program, locals, first, body, to)?;
+            lower_any(alloc, program, locals, others, body, to)?;
+            lower_truth(body, to)
+        }
+        Expression::Assign(place, value) => {
+            lower_assign(alloc, program, locals, value, place, body, to)
+        }
+        Expression::Call(name, arguments) => {
+            lower_called(alloc, program, locals, arguments, body, &name.text, to)
+        }
+        _ => Err(LowerFault::NotTaken),
+    }
+}
+
+/// Appends what leaves a value in a temporary, converted to the shape of a place, and writes it there.
+#[cycle(expression)]
+fn lower_assign(
+    alloc: Global,
+    program: &Program,
+    locals: &[Named<'_>],
+    value: &Expression,
+    place: &Expression,
+    body: &mut Vec<Statement>,
+    to: Temporary,
+) -> Result<(), LowerFault>
+    ensures code { let w = world_of program.now in
+        let names = names_of locals.entry.now in
+        let e = expression_tree value.now in
+        let p = expression_tree place.now in
+        OnOk result
+        (map statement_tree body.new.items ≡
+        map statement_tree body.old.items ++
+        (expression_code w names e to.0 ++
+        (conversion_code (static_shape w names p) (static_shape w names e) to.0 ++ put_code w names p to.0))) }
+    ensures taken { TakesProgram program.now → TakesPlace (expression_tree place.now) → Takes (expression_tree value.now) → NeverRefused result }
+{
+    lower_expression(alloc, program, locals, value, body, to)?;
+    let shape = static_shape(program, locals, place)?;
+    let from = static_shape(program, locals, value)?;
+    lower_conversion(body, shape, from, to)?;
+    lower_put(program, locals, body, place, to)
+}
+
+/// Appends a call of the function of a name, after its arguments.
+#[cycle(expression)]
+fn lower_called(
+    alloc: Global,
+    program: &Program,
+    locals: &[Named<'_>],
+    arguments: &[Expression],
+    body: &mut Vec<Statement>,
+    name: &[u8],
+    to: Temporary,
+) -> Result<(), LowerFault>
+    ensures code { let w = world_of program.now in
+        OnOk result
+        (map statement_tree body.new.items ≡
+        map statement_tree body.old.items ++
+        (arguments_code w (names_of locals.entry.now) (call_parameters w name.now) (expressions_of (map expression_tree arguments.now)) to.0 ++
+        call_code w name.now (count_of (expressions_of (map expression_tree arguments.now))) to.0)) }
+    ensures taken { TakesProgram program.now → TakesAll (expressions_of (map expression_tree arguments.now)) → NeverRefused result }
+{
+    let shapes = call_parameters(alloc, program, name)?;
+    lower_arguments(alloc, program, locals, arguments, body, &shapes, to)?;
+    lower_call(alloc, program, body, name, arguments, to)
+}
+
+/// Appends what applies a prefix operator to its operand, and leaves the result in a temporary.
+#[cycle(expression)]
+fn lower_prefixed(
+    alloc: Global,
+    program: &Program,
+    locals: &[Named<'_>],
+    operand: &Expression,
+    body: &mut Vec<Statement>,
+    operator: Prefix,
+    to: Temporary,
+) -> Result<(), LowerFault>
+    ensures code { let w = world_of program.now in
+        let names = names_of locals.entry.now in
+        let e = expression_tree operand.now in
+        OnOk result
+        (map statement_tree body.new.items ≡
+        map statement_tree body.old.items ++ prefix_code operator (static_shape w names e) to.0 (expression_code w names e (to.0 + 1))) }
+    ensures taken { TakesProgram program.now → TakesPrefix operator → Takes (expression_tree operand.now) → NeverRefused result }
+{
+    let right = Temporary(after(to.0)?);
+    let shape = static_shape(program, locals, operand)?;
+    match operator {
+        Prefix::Negate => {
+            emit_operation(body, Operation::Constant(to, 0))?;
+            lower_expression(alloc, program, locals, operand, body, right)?;
+            emit_operation(
+                body,
+                applied(Operator::Subtract, Shape::Int, shape, to, to, right),
+            )
+        }
+        Prefix::Complement => {
+            emit_operation(body, Operation::Constant(to, u32::MAX))?;
+            lower_expression(alloc, program, locals, operand, body, right)?;
+            emit_operation(
+                body,
+                applied(Operator::BitXor, Shape::Int, shape, to, to, right),
+            )
+        }
+        Prefix::Not => {
+            lower_expression(alloc, program, locals, operand, body, right)?;
+            emit_operation(body, Operation::Constant(to, 0))?;
+            emit_operation(body, Operation::Apply(Binary::Equal, to, right, to))
+        }
+        Prefix::Dereference | Prefix::AddressOf => Err(LowerFault::NotTaken),
+    }
+}
+
+/// Appends what applies the operators of a chain to the value in a temporary, which has this shape.
+#[cycle(expression)]
+fn lower_links(
+    alloc: Global,
+    program: &Program,
+    locals: &[Named<'_>],
+    links: &[Link],
+    body: &mut Vec<Statement>,
+    first: Shape,
+    to: Temporary,
+) -> Result<(), LowerFault>
+    ensures code { OnOk result
+        (map statement_tree body.new.items ≡
+        map statement_tree body.old.items ++
+        links_code (world_of program.now) (names_of locals.entry.now) (links_of (map link_tree links.now)) (shape_tree first) to.0) }
+    ensures taken { TakesProgram program.now → TakesLinks (links_of (map link_tree links.now)) → NeverRefused result }
+{
+    let right = Temporary(after(to.0)?);
+    let mut left = first;
+    'each: for link in links {
+        lower_expression(alloc, program, locals, &link.operand, body, right)?;
+        let shape = static_shape(program, locals, &link.operand)?;
+        emit_operation(body, applied(link.operator, left, shape, to, to, right))?;
+        left = operator_shape(link.operator, left, shape);
+    }
+    Ok(())
+}
+
+/// Appends what evaluates the operands of `&&` after the first, each where those before it were not 0.
+#[cycle(expression)]
+fn lower_all(
+    alloc: Global,
+    program: &Program,
+    locals: &[Named<'_>],
+    operands: &[Expression],
+    body: &mut Vec<Statement>,
+    to: Temporary,
+) -> Result<(), LowerFault>
+    ensures code { OnOk result
+        (map statement_tree body.new.items ≡
+        map statement_tree body.old.items ++
+        all_code (world_of program.now) (names_of locals.entry.now) (expressions_of (map expression_tree operands.now)) to.0) }
+    ensures taken { TakesProgram program.now → TakesAll (expressions_of (map expression_tree operands.now)) → NeverRefused result }
+{
+    'each: for operand in operands {
+        let mut these = Vec::new(alloc);
+        lower_expression(alloc, program, locals, operand, &mut these, to)?;
+        emit_if(body, to, these, Vec::new(alloc))?;
+    }
+    Ok(())
+}
+
+/// Appends what evaluates the operands of `||` after the first, each where those before it were 0.
+#[cycle(expression)]
+fn lower_any(
+    alloc: Global,
+    program: &Program,
+    locals: &[Named<'_>],
+    operands: &[Expression],
+    body: &mut Vec<Statement>,
+    to: Temporary,
+) -> Result<(), LowerFault>
+    ensures code { OnOk result
+        (map statement_tree body.new.items ≡
+        map statement_tree body.old.items ++
+        any_code (world_of program.now) (names_of locals.entry.now) (expressions_of (map expression_tree operands.now)) to.0) }
+    ensures taken { TakesProgram program.now → TakesAll (expressions_of (map expression_tree operands.now)) → NeverRefused result }
+{
+    'each: for operand in operands {
+        let mut those = Vec::new(alloc);
+        lower_expression(alloc, program, locals, operand, &mut those, to)?;
+        emit_if(body, to, Vec::new(alloc), those)?;
+    }
+    Ok(())
+}
+
+/// Appends what leaves the arguments of a call in the temporaries from this one on, each converted to its parameter's shape.
+#[cycle(expression)]
+#[tactic(auto, using(crate::proofs::Arguments::no_arguments))]
+fn lower_arguments(
+    alloc: Global,
+    program: &Program,
+    locals: &[Named<'_>],
+    arguments: &[Expression],
+    body: &mut Vec<Statement>,
+    shapes: &[Shape],
+    first: Temporary,
+) -> Result<(), LowerFault>
+    ensures code { OnOk result
+        (map statement_tree body.new.items ≡
+        map statement_tree body.old.items ++
+        arguments_code (world_of program.now) (names_of locals.entry.now) (map shape_tree shapes.now)
+        (expressions_of (map expression_tree arguments.now)) first.0) }
+    ensures taken { TakesProgram program.now → TakesAll (expressions_of (map expression_tree arguments.now)) → NeverRefused result }
+{
+    let mut left = shapes;
+    let mut to = first;
+    'each: for argument in arguments {
+        let [shape, others @ ..] = left else {
+            return Ok(());
+        };
+        lower_expression(alloc, program, locals, argument, body, to)?;
+        lower_conversion(body, *shape, static_shape(program, locals, argument)?, to)?;
+        left = others;
+        to = Temporary(after(to.0)?);
+    }
+    Ok(())
+}

@@ -1,0 +1,26 @@
+// Why a program has no Core.
+
+ghost use Rattle.std.specs.Prelude.{◌≡◌};
+ghost use Rattle.lower_checks.specs.declared.fault.LowerFault.TheVariants.{Memory};
+
+use std::alloc::AllocError;
+use thiserror::Error;
+
+/// Why `lower` refuses a program.
+#[derive(Clone, Copy, PartialEq, Eq, Debug, Error)]
+pub enum LowerFault {
+    /// It has something else than functions, globals and locals of integers.
+    #[error("only programs of integers have a Core as yet")]
+    NotTaken,
+    /// No host memory is left, or a number of something is over the greatest u32.
+    #[error("out of memory")]
+    Memory,
+}
+
+impl From<AllocError> for LowerFault {
+    ghost from_gives = { λ _ fault. fault ≡ Memory };
+
+    fn from(_error: AllocError) -> LowerFault {
+        LowerFault::Memory
+    }
+}

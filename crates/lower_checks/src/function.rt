@@ -1,0 +1,122 @@
+// Functions.
+
+ghost use Rattle.std.specs.Prelude.{◌≡◌, ◌++◌, OnOk, IfOk, map};
+ghost use Rattle.cyc_tree.specs.View.{member_tree, function_tree as source_tree};
+ghost use Rattle.cyc_core.specs.Trees.{statement_tree, body_tree, function_tree};
+ghost use Rattle.source_meaning.specs.Shapes.{part_of};
+ghost use Rattle.source_meaning.specs.Programs.{world_of, routine_of};
+ghost use Rattle.source_lowering.specs.Programs.{parameter_names, parameters_code, end_code, body_code, function_code};
+ghost use Rattle.lower_checks.specs.Views.{shape_tree, names_of};
+ghost use Rattle.source_lowering.specs.Taken.{AreIntegers, TakesFunction, TakesProgram};
+ghost use Rattle.lower_checks.specs.Refusals.{NeverRefused};
+
+use crate::call::part_shapes;
+use crate::emit::{emit, emit_block, emit_operation};
+use crate::fault::LowerFault;
+use crate::names::{Named, after, declare, number};
+use crate::shape::{Shape, widths_of};
+use crate::statement::lower_items;
+use crate::usage::{passed, temporaries};
+use cyc_core::{Function, Operation, Statement, Temporary, Variable};
+use cyc_tree::{Function as Source, Member, Program};
+use std::alloc::Global;
+
+/// Declares the parameters, and appends what gives each its value, which is in the temporary of its number.
+fn lower_parameters<'p>(
+    locals: &mut Vec<Named<'p>>,
+    body: &mut Vec<Statement>,
+    parameters: &'p [Member],
+) -> Result<(), LowerFault>
+    ensures names { OnOk result
+        (names_of locals.new.items ≡
+        parameter_names (map part_of (map member_tree parameters.entry.now)) 0 (names_of locals.old.items)) }
+    ensures code { OnOk result
+        (map statement_tree body.new.items ≡
+        map statement_tree body.old.items ++ parameters_code (map part_of (map member_tree parameters.entry.now)) 0) }
+    ensures taken { AreIntegers (map member_tree parameters.entry.now) → NeverRefused result }
+{
+    let mut index = 0;
+    'each: for parameter in parameters {
+        let shape = Shape::of(&parameter.of)?;
+        let local = Variable { out: 0, index };
+        emit_operation(body, Operation::Put(local, shape.width(), Temporary(index)))?;
+        declare(locals, &parameter.name, shape, index)?;
+        index = after(index)?;
+    }
+    Ok(())
+}
+
+/// Appends the end of a function without `return`, which gives 0 where a result is due.
+fn lower_end(body: &mut Vec<Statement>, shape: Shape) -> Result<(), LowerFault>
+    ensures code { OnOk result (map statement_tree body.new.items ≡ map statement_tree body.old.items ++ end_code (shape_tree shape)) }
+    ensures taken { NeverRefused result }
+{
+    match shape {
+        Shape::Void => emit(body, Statement::Return(None)),
+        _ => {
+            emit_operation(body, Operation::Constant(Temporary(0), 0))?;
+            emit(body, Statement::Return(Some(Temporary(0))))
+        }
+    }
+}
+
+/// What a function does.
+fn lower_body(
+    alloc: Global,
+    program: &Program,
+    function: &Source,
+) -> Result<Vec<Statement>, LowerFault>
+    ensures code { IfOk result (λ body. body_tree body.items ≡ body_code (world_of program.now) (routine_of (source_tree function.now))) }
+    ensures taken { TakesProgram program.now → TakesFunction (source_tree function.now) → NeverRefused result }
+{
+    let shape = Shape::of(&function.result)?;
+    let mut shapes = part_shapes(alloc, &function.parameters)?;
+    let mut locals = Vec::new(alloc);
+    let mut inside = Vec::new(alloc);
+    lower_parameters(&mut locals, &mut inside, &function.parameters)?;
+    lower_items(
+        alloc,
+        program,
+        shape,
+        locals,
+        &function.body,
+        &mut shapes,
+        &mut inside,
+    )?;
+    let mut body = Vec::new(alloc);
+    emit_block(&mut body, widths_of(alloc, &shapes)?, inside)?;
+    lower_end(&mut body, shape)?;
+    Ok(body)
+}
+
+/// A number of temporaries as a u32. Refuses what is over the greatest u32.
+fn count(temporaries: u64) -> Result<u32, LowerFault>
+    ensures count { IfOk result (λ n. n ≡ temporaries) }
+    ensures taken { NeverRefused result }
+{
+    match u32::try_from(temporaries) {
+        Ok(count) => Ok(count),
+        Err(_) => Err(LowerFault::Memory),
+    }
+}
+
+/// A function, with as many temporaries as it has parameters or its code uses.
+pub fn lower_function(
+    alloc: Global,
+    program: &Program,
+    function: &Source,
+) -> Result<Function, LowerFault>
+    ensures code { IfOk result (λ lowered. function_tree lowered ≡ function_code (world_of program.now) (routine_of (source_tree function.now))) }
+    ensures taken { TakesProgram program.now → TakesFunction (source_tree function.now) → NeverRefused result }
+{
+    let body = lower_body(alloc, program, function)?;
+    let parameters = number(function.parameters.len())?;
+    let temporaries = count(u64::max(u64::from(parameters), temporaries(&body)))?;
+    let passed = number(passed(&body))?;
+    Ok(Function {
+        parameters,
+        temporaries,
+        passed,
+        body,
+    })
+}

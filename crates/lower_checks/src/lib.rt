@@ -1,0 +1,26 @@
+//! From a program's tree to Core.
+//!
+//! `lower` appends operation after operation: an expression leaves its value in a temporary, and its
+//! parts use the temporaries above it; a block's locals have numbers in it. The result is the Core
+//! program of `program_code` in `source_lowering`. Programs of functions, globals and locals of
+//! integers are taken, and all others are refused. Names are looked up one after the other.
+//! Stands on `cyc_core`, `source_lowering` and `cyc_tree`.
+#![tactic(auto)]
+
+mod call;
+mod emit;
+mod expression;
+mod fault;
+mod function;
+mod names;
+mod operator;
+mod program;
+mod shape;
+mod shaped;
+mod statement;
+mod table;
+mod usage;
+mod variable;
+
+pub use fault::LowerFault;
+pub use program::lower;

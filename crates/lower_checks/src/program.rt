@@ -1,0 +1,119 @@
+// Globals and programs.
+
+ghost use Rattle.std.specs.Prelude.{◌≡◌, ◌%◌, IfOk, map};
+ghost use Rattle.cyc_tree.specs.View.{constant_tree, initial_tree, global_tree};
+ghost use Rattle.core_meaning.specs.Memory.{Word};
+ghost use Rattle.cyc_core.specs.Trees.{function_tree, datum_tree, program_tree};
+ghost use Rattle.source_meaning.specs.Shapes.{IntShape, UnsignedShape, CharShape, written, settled};
+ghost use Rattle.source_meaning.specs.Steps.{World};
+ghost use Rattle.source_meaning.specs.Programs.{world_of, functions_of};
+ghost use Rattle.source_lowering.specs.Programs.{function_code, constant_word, initial_content, datum_of, data_of, program_code};
+ghost use Rattle.source_lowering.specs.Taken.{IsIntegerType, TakesConstant, TakesInitial, TakesProgram, IsLowerable};
+ghost use Rattle.lower_checks.specs.Refusals.{NeverRefused};
+
+use crate::fault::LowerFault;
+use crate::function::lower_function;
+use crate::shape::Shape;
+use crate::table::function_number;
+use cyc_core::{Datum, Function, Program};
+use cyc_tree::{Constant, Global as Declared, Initial, Item, Program as Source};
+use cyc_words::sub32;
+use std::alloc::Global;
+
+/// The word of a constant. Refuses a string and `NULL`.
+fn constant_word(constant: &Constant) -> Result<u32, LowerFault>
+    ensures word { IfOk result (λ word. word ≡ constant_word (constant_tree constant.now)) }
+    ensures taken { TakesConstant (constant_tree constant.now) → NeverRefused result }
+{
+    match constant {
+        Constant::Number(_, value, _) => Ok(*value),
+        Constant::Negative(_, value, _) => Ok(sub32(0, *value)),
+        Constant::Character(_, byte) => Ok(u32::from(*byte)),
+        Constant::Text(_, _) | Constant::Null(_) => Err(LowerFault::NotTaken),
+    }
+}
+
+/// The word that a global begins with, before it is narrowed: 0, or its constant. Refuses an array.
+fn initial_word(initial: &Initial) -> Result<u32, LowerFault>
+    ensures int { IfOk result (λ word. initial_content (initial_tree initial.now) IntShape ≡ Word word) }
+    ensures unsigned { IfOk result (λ word. initial_content (initial_tree initial.now) UnsignedShape ≡ Word word) }
+    ensures char { IfOk result (λ word. initial_content (initial_tree initial.now) CharShape ≡ Word (word % 256)) }
+    ensures taken { TakesInitial (initial_tree initial.now) → NeverRefused result }
+{
+    match initial {
+        Initial::None => Ok(0),
+        Initial::Array(_) => Err(LowerFault::NotTaken),
+        Initial::Constant(constant) => constant_word(constant),
+    }
+}
+
+/// A global, with what it begins with. Refuses what isn't an integer.
+fn lower_global(global: &Declared) -> Result<Datum, LowerFault>
+    ensures datum { (w : World) →
+        let s = settled (written (global_tree global.now).of) in
+        IfOk result (λ datum. datum_tree datum ≡ datum_of w s (initial_content (global_tree global.now).initial s)) }
+    ensures taken { IsIntegerType (global_tree global.now).of → TakesInitial (global_tree global.now).initial → NeverRefused result }
+{
+    let shape = Shape::of(&global.of)?;
+    let word = initial_word(&global.initial)?;
+    match shape {
+        Shape::Char => Ok(Datum::Byte((word % 256) as u8)),
+        Shape::Void => Err(LowerFault::NotTaken),
+        _ => Ok(Datum::Word(word)),
+    }
+}
+
+/// The globals, in their order. Refuses a struct, a union and what isn't an integer.
+fn lower_globals(alloc: Global, program: &Source) -> Result<Vec<Datum>, LowerFault>
+    ensures globals { IfOk result (λ globals. map datum_tree globals.items ≡ data_of (world_of program.now) program.now) }
+    ensures taken { TakesProgram program.now → NeverRefused result }
+{
+    let items = program.items();
+    let mut globals = Vec::new(alloc);
+    'each: for item in items {
+        match item {
+            Item::Global(global) => {
+                if let Err(_) = globals.push(lower_global(global)?) {
+                    return Err(LowerFault::Memory);
+                }
+            }
+            Item::Function(_) => {}
+            Item::Struct(_) | Item::Union(_) => return Err(LowerFault::NotTaken),
+        }
+    }
+    Ok(globals)
+}
+
+/// The functions, in their order.
+fn lower_functions(alloc: Global, program: &Source) -> Result<Vec<Function>, LowerFault>
+    ensures functions { IfOk result (λ functions. map function_tree functions.items ≡ map (function_code (world_of program.now)) (functions_of program.now)) }
+    ensures taken { TakesProgram program.now → NeverRefused result }
+{
+    let items = program.items();
+    let mut functions = Vec::new(alloc);
+    'each: for item in items {
+        if let Item::Function(function) = item {
+            if let Err(_) = functions.push(lower_function(alloc, program, function)?) {
+                return Err(LowerFault::Memory);
+            }
+        }
+    }
+    Ok(functions)
+}
+
+/// The Core of a program. Refuses a program that has something else than functions, globals and locals of integers; and fails
+/// where no host memory is left, or a number of temporaries, locals, functions or globals is over the greatest u32. So it takes each program that is
+/// lowerable, where memory and numbers are enough.
+pub fn lower(alloc: Global, program: &Source) -> Result<Program, LowerFault>
+    ensures code { IfOk result (λ core. program_tree core ≡ program_code program.now) }
+    ensures taken { IsLowerable program.now → NeverRefused result }
+{
+    let functions = lower_functions(alloc, program)?;
+    let main = function_number(program.items(), b"main".as_slice())?;
+    let globals = lower_globals(alloc, program)?;
+    Ok(Program {
+        functions,
+        main,
+        globals,
+    })
+}

@@ -1,0 +1,214 @@
+// Declarations, statements and blocks.
+
+ghost use Rattle.std.specs.Prelude.{◌≡◌, ◌∷◌, ◌++◌, [], OnOk, IfOk, length, map};
+ghost use Rattle.cyc_tree.specs.View.{expression_tree, declaration_tree, statement_tree as source_tree, item_tree, items_of};
+ghost use Rattle.cyc_core.specs.Trees.{statement_tree};
+ghost use Rattle.source_meaning.specs.Programs.{world_of};
+ghost use Rattle.core_meaning.specs.Core as core;
+ghost use Rattle.source_lowering.specs.Lowered.{static_shape, conversion_code, results_in, expression_code};
+ghost use Rattle.source_lowering.specs.Programs.{local_shape, block_shapes, declaration_code, statement_code, items_code};
+ghost use Rattle.lower_checks.specs.Views.{shape_tree, names_of};
+ghost use Rattle.source_lowering.specs.Taken.{Takes, TakesDeclaration, TakesStatement, TakesItems, TakesProgram};
+ghost use Rattle.lower_checks.specs.Refusals.{NeverRefused};
+
+use crate::emit::{emit, emit_block, emit_if, emit_operation, emit_while};
+use crate::expression::{lower_conversion, lower_expression};
+use crate::fault::LowerFault;
+use crate::names::{Named, declare, number, outward};
+use crate::shape::{Shape, add_shape, widths_of};
+use crate::shaped::static_shape;
+use cyc_core::{Operation, Statement, Temporary, Variable};
+use cyc_tree::{BlockItem, Declaration, Expression, Initializer, Program, Statement as Source};
+use std::alloc::Global;
+
+/// The first temporary, which has the value of a statement's expression.
+const VALUE: Temporary = Temporary(0);
+
+/// The shape of a local as it is declared. Refuses a region, a key and an alias.
+fn declared_shape(declaration: &Declaration) -> Result<Shape, LowerFault>
+    ensures shape { IfOk result (λ shape. shape_tree shape ≡ local_shape (declaration_tree declaration.now)) }
+    ensures taken { TakesDeclaration (declaration_tree declaration.now) → NeverRefused result }
+{
+    match declaration {
+        Declaration::Local(of, _, _) => Shape::of(of),
+        _ => Err(LowerFault::NotTaken),
+    }
+}
+
+/// Appends what gives the local of a number its first value: 0, or its initializer's value.
+fn lower_declaration(
+    alloc: Global,
+    program: &Program,
+    locals: &[Named<'_>],
+    declaration: &Declaration,
+    body: &mut Vec<Statement>,
+    index: u32,
+) -> Result<(), LowerFault>
+    ensures code { OnOk result
+        (map statement_tree body.new.items ≡
+        map statement_tree body.old.items ++
+        declaration_code (world_of program.now) (names_of locals.entry.now) (declaration_tree declaration.now) index) }
+    ensures taken { TakesProgram program.now → TakesDeclaration (declaration_tree declaration.now) → NeverRefused result }
+{
+    let Declaration::Local(of, _, initializer) = declaration else {
+        return Err(LowerFault::NotTaken);
+    };
+    let shape = Shape::of(of)?;
+    let local = Variable { out: 0, index };
+    match initializer {
+        Initializer::None => {
+            emit_operation(body, Operation::Constant(VALUE, 0))?;
+            emit_operation(body, Operation::Put(local, shape.width(), VALUE))
+        }
+        Initializer::Array(_) => Err(LowerFault::NotTaken),
+        Initializer::Value(value) => {
+            lower_expression(alloc, program, locals, value, body, VALUE)?;
+            lower_conversion(body, shape, static_shape(program, locals, value)?, VALUE)?;
+            emit_operation(body, Operation::Put(local, shape.width(), VALUE))
+        }
+    }
+}
+
+/// Appends a return, with the value of an expression in the shape of the function's result.
+fn lower_return(
+    alloc: Global,
+    program: &Program,
+    shape: Shape,
+    locals: &[Named<'_>],
+    value: &Expression,
+    body: &mut Vec<Statement>,
+) -> Result<(), LowerFault>
+    ensures code { let w = world_of program.now in
+        let names = names_of locals.entry.now in
+        let e = expression_tree value.now in
+        OnOk result
+        (map statement_tree body.new.items ≡
+        map statement_tree body.old.items ++
+        (expression_code w names e 0 ++
+        (conversion_code (shape_tree shape) (static_shape w names e) 0 ++ core.Return (results_in (shape_tree shape) 0) ∷ []))) }
+    ensures taken { TakesProgram program.now → Takes (expression_tree value.now) → NeverRefused result }
+{
+    lower_expression(alloc, program, locals, value, body, VALUE)?;
+    lower_conversion(body, shape, static_shape(program, locals, value)?, VALUE)?;
+    emit(body, Statement::Return(shape.result_in(VALUE)))
+}
+
+/// Appends what a statement does, in a function with a result of this shape. Refuses what isn't of integers.
+#[cycle(statement)]
+fn lower_statement<'p>(
+    alloc: Global,
+    program: &Program,
+    shape: Shape,
+    locals: &[Named<'p>],
+    statement: &'p Source,
+    body: &mut Vec<Statement>,
+) -> Result<(), LowerFault>
+    ensures code { OnOk result
+        (map statement_tree body.new.items ≡
+        map statement_tree body.old.items ++
+        statement_code (world_of program.now) (shape_tree shape) (names_of locals.entry.now) (source_tree statement.entry.now)) }
+    ensures taken { TakesProgram program.now → TakesStatement (shape_tree shape) (source_tree statement.entry.now) → NeverRefused result }
+{
+    match statement {
+        Source::Empty(_) => Ok(()),
+        Source::Block(_, items) => {
+            let mut shapes = Vec::new(alloc);
+            let mut inside = Vec::new(alloc);
+            let outer = outward(alloc, locals)?;
+            lower_items(
+                alloc,
+                program,
+                shape,
+                outer,
+                items,
+                &mut shapes,
+                &mut inside,
+            )?;
+            emit_block(body, widths_of(alloc, &shapes)?, inside)
+        }
+        Source::Run(value) => lower_expression(alloc, program, locals, value, body, VALUE),
+        Source::If(_, condition, these) => {
+            lower_expression(alloc, program, locals, condition, body, VALUE)?;
+            let these = lower_part(alloc, program, shape, locals, these)?;
+            emit_if(body, VALUE, these, Vec::new(alloc))
+        }
+        Source::IfElse(_, condition, these, those) => {
+            lower_expression(alloc, program, locals, condition, body, VALUE)?;
+            let these = lower_part(alloc, program, shape, locals, these)?;
+            let those = lower_part(alloc, program, shape, locals, those)?;
+            emit_if(body, VALUE, these, those)
+        }
+        Source::While(_, condition, turn) => {
+            let mut test = Vec::new(alloc);
+            lower_expression(alloc, program, locals, condition, &mut test, VALUE)?;
+            let turn = lower_part(alloc, program, shape, locals, turn)?;
+            emit_while(body, test, VALUE, turn)
+        }
+        Source::Break(_) => emit(body, Statement::Break),
+        Source::Continue(_) => emit(body, Statement::Continue),
+        Source::Return(_, None) => emit(body, Statement::Return(None)),
+        Source::Return(_, Some(value)) => {
+            lower_return(alloc, program, shape, locals, value, body)
+        }
+        _ => Err(LowerFault::NotTaken),
+    }
+}
+
+/// What a statement that is a part of another does.
+#[cycle(statement)]
+fn lower_part<'p>(
+    alloc: Global,
+    program: &Program,
+    shape: Shape,
+    locals: &[Named<'p>],
+    statement: &'p Source,
+) -> Result<Vec<Statement>, LowerFault>
+    ensures code { IfOk result
+        (λ body.
+        map statement_tree body.items ≡
+        statement_code (world_of program.now) (shape_tree shape) (names_of locals.entry.now) (source_tree statement.entry.now)) }
+    ensures taken { TakesProgram program.now → TakesStatement (shape_tree shape) (source_tree statement.entry.now) → NeverRefused result }
+{
+    let mut body = Vec::new(alloc);
+    lower_statement(alloc, program, shape, locals, statement, &mut body)?;
+    Ok(body)
+}
+
+/// Appends what the items of a block do, and the shapes of the locals that they declare. The next local's number is how many there are.
+#[cycle(statement)]
+pub fn lower_items<'p>(
+    alloc: Global,
+    program: &Program,
+    shape: Shape,
+    outer: Vec<Named<'p>>,
+    items: &'p [BlockItem],
+    shapes: &mut Vec<Shape>,
+    body: &mut Vec<Statement>,
+) -> Result<(), LowerFault>
+    ensures code { OnOk result
+        (map statement_tree body.new.items ≡
+        map statement_tree body.old.items ++
+        items_code (world_of program.now) (shape_tree shape) (names_of outer.entry.items) (length shapes.old.items)
+        (items_of (map item_tree items.entry.now))) }
+    ensures shapes { OnOk result
+        (map shape_tree shapes.new.items ≡
+        map shape_tree shapes.old.items ++ block_shapes (items_of (map item_tree items.entry.now))) }
+    ensures taken { TakesProgram program.now → TakesItems (shape_tree shape) (items_of (map item_tree items.entry.now)) → NeverRefused result }
+{
+    let mut locals = outer;
+    'each: for item in items {
+        match item {
+            BlockItem::Declare(declaration) => {
+                let index = number(shapes.len())?;
+                lower_declaration(alloc, program, &locals, declaration, body, index)?;
+                let of = declared_shape(declaration)?;
+                add_shape(shapes, of)?;
+                declare(&mut locals, declaration.local(), of, index)?;
+            }
+            BlockItem::Execute(statement) => {
+                lower_statement(alloc, program, shape, &locals, statement, body)?;
+            }
+        }
+    }
+    Ok(())
+}

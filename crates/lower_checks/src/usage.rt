@@ -1,0 +1,114 @@
+// How many temporaries code uses, and how many words it passes.
+
+ghost use Rattle.std.specs.Prelude.{◌≡◌, suc, max, map};
+ghost use Rattle.cyc_core.specs.Trees.{temporary_tree, optional_tree, operation_tree, statement_tree, body_tree};
+ghost use Rattle.source_lowering.specs.Programs.{last_of, operation_temporaries, statement_temporaries, temporaries_of, statement_passes, passed_by};
+
+use cyc_core::{Operation, Statement, Temporary};
+
+/// How many temporaries there are up to one.
+fn up_to(temporary: Temporary) -> u64
+    ensures { result ≡ suc temporary.0 }
+{
+    u64::from(temporary.0) + 1
+}
+
+/// How many temporaries there are up to the last of these.
+fn last(temporaries: &[Temporary]) -> u64
+    ensures { result ≡ last_of (map temporary_tree temporaries.now) }
+{
+    let mut last = 0;
+    'each: for temporary in temporaries {
+        last = u64::max(last, up_to(*temporary));
+    }
+    last
+}
+
+/// How many temporaries there are up to one, where there is one.
+fn up_to_optional(temporary: Option<Temporary>) -> u64
+    ensures { result ≡ last_of (optional_tree temporary) }
+{
+    match temporary {
+        Some(temporary) => up_to(temporary),
+        None => 0,
+    }
+}
+
+/// How many temporaries an operation uses.
+fn of_operation(operation: Operation) -> u64
+    ensures { result ≡ operation_temporaries (operation_tree operation) }
+{
+    match operation {
+        Operation::Constant(t, _)
+        | Operation::DataAddress(t, _)
+        | Operation::Get(t, _, _)
+        | Operation::Put(_, _, t)
+        | Operation::Getchar(t) => up_to(t),
+        Operation::Narrow(t, x)
+        | Operation::Load(t, x, _)
+        | Operation::Store(t, _, x)
+        | Operation::Putchar(t, x) => u64::max(up_to(t), up_to(x)),
+        Operation::Apply(_, t, x, y) => u64::max(up_to(t), u64::max(up_to(x), up_to(y))),
+        Operation::Move(_, _) => 0,
+    }
+}
+
+/// How many temporaries a statement uses.
+#[cycle(temporaries)]
+fn of_statement(statement: &Statement) -> u64
+    ensures { result ≡ statement_temporaries (statement_tree statement.now) }
+{
+    match statement {
+        Statement::Do(operation) => of_operation(*operation),
+        Statement::If(t, these, those) => {
+            u64::max(up_to(*t), u64::max(temporaries(these), temporaries(those)))
+        }
+        Statement::While(test, t, body) => {
+            u64::max(up_to(*t), u64::max(temporaries(test), temporaries(body)))
+        }
+        Statement::Block(_, body) => temporaries(body),
+        Statement::Break | Statement::Continue => 0,
+        Statement::Call(result, _, arguments) => {
+            u64::max(up_to_optional(*result), last(arguments))
+        }
+        Statement::Return(value) => up_to_optional(*value),
+    }
+}
+
+/// How many temporaries statements use.
+#[cycle(temporaries)]
+pub fn temporaries(body: &[Statement]) -> u64
+    ensures { result ≡ temporaries_of (body_tree body.now) }
+{
+    let mut most = 0;
+    'each: for statement in body {
+        most = u64::max(most, of_statement(statement));
+    }
+    most
+}
+
+/// The most words that a statement passes to a call.
+#[cycle(passed)]
+fn passed_in(statement: &Statement) -> usize
+    ensures { result ≡ statement_passes (statement_tree statement.now) }
+{
+    match statement {
+        Statement::If(_, these, those) => usize::max(passed(these), passed(those)),
+        Statement::While(test, _, body) => usize::max(passed(test), passed(body)),
+        Statement::Block(_, body) => passed(body),
+        Statement::Call(_, _, arguments) => arguments.len(),
+        Statement::Do(_) | Statement::Break | Statement::Continue | Statement::Return(_) => 0,
+    }
+}
+
+/// The most words that statements pass to a call.
+#[cycle(passed)]
+pub fn passed(body: &[Statement]) -> usize
+    ensures { result ≡ passed_by (body_tree body.now) }
+{
+    let mut most = 0;
+    'each: for statement in body {
+        most = usize::max(most, passed_in(statement));
+    }
+    most
+}

@@ -1,0 +1,103 @@
+// Variables are read and written.
+
+ghost use Rattle.std.specs.Prelude.{◌≡◌, ◌++◌, OnOk, map};
+ghost use Rattle.cyc_tree.specs.View.{expression_tree};
+ghost use Rattle.cyc_core.specs.Trees.{statement_tree};
+ghost use Rattle.source_meaning.specs.Programs.{world_of};
+ghost use Rattle.source_lowering.specs.Lowered.{get_code, put_code, put_by, local_named};
+ghost use Rattle.source_meaning.specs.Places.{bound_to};
+ghost use Rattle.lower_checks.specs.Views.{names_of};
+ghost use Rattle.source_lowering.specs.Taken.{TakesPlace, TakesProgram};
+ghost use Rattle.lower_checks.specs.Refusals.{NeverRefused};
+
+use crate::emit::emit_operation;
+use crate::fault::LowerFault;
+use crate::names::{Named, after, local_named};
+use crate::table::global_named;
+use cyc_core::{Operation, Statement, Temporary, Variable};
+use cyc_tree::{Expression, Program};
+
+/// The place of a local among those of the blocks.
+fn place_of(local: Named<'_>) -> Variable
+    ensures out { result.out ≡ local.entry.out }
+    ensures index { result.index ≡ local.entry.index }
+{
+    Variable {
+        out: local.out,
+        index: local.index,
+    }
+}
+
+/// Appends what reads a variable into a temporary: a local by one operation.
+pub fn lower_get(
+    program: &Program,
+    locals: &[Named<'_>],
+    body: &mut Vec<Statement>,
+    name: &[u8],
+    to: Temporary,
+) -> Result<(), LowerFault>
+    ensures code { OnOk result
+        (map statement_tree body.new.items ≡
+        map statement_tree body.old.items ++ get_code (world_of program.now) (names_of locals.entry.now) name.now to.0) }
+    ensures taken { TakesProgram program.now → NeverRefused result }
+{
+    if let Some(local) = local_named(locals, name) {
+        return emit_operation(
+            body,
+            Operation::Get(to, place_of(local), local.shape.width()),
+        );
+    }
+    let Some(global) = global_named(program.items(), name)? else {
+        return Ok(());
+    };
+    emit_operation(body, Operation::DataAddress(to, global.object))?;
+    emit_operation(body, Operation::Load(to, to, global.shape.width()))
+}
+
+/// Appends what writes the word of a temporary to the variable of a name.
+fn lower_named(
+    program: &Program,
+    locals: &[Named<'_>],
+    body: &mut Vec<Statement>,
+    name: &[u8],
+    from: Temporary,
+) -> Result<(), LowerFault>
+    ensures code { OnOk result
+        (map statement_tree body.new.items ≡
+        map statement_tree body.old.items ++
+        put_by (local_named (names_of locals.entry.now) name.now) (bound_to (world_of program.now).globals name.now) from.0) }
+    ensures taken { TakesProgram program.now → NeverRefused result }
+{
+    if let Some(local) = local_named(locals, name) {
+        return emit_operation(
+            body,
+            Operation::Put(place_of(local), local.shape.width(), from),
+        );
+    }
+    let Some(global) = global_named(program.items(), name)? else {
+        return Ok(());
+    };
+    let address = Temporary(after(from.0)?);
+    emit_operation(body, Operation::DataAddress(address, global.object))?;
+    emit_operation(body, Operation::Store(address, global.shape.width(), from))
+}
+
+/// Appends what writes the word of a temporary to a variable, in parentheses too. Refuses all other places.
+pub fn lower_put(
+    program: &Program,
+    locals: &[Named<'_>],
+    body: &mut Vec<Statement>,
+    place: &Expression,
+    from: Temporary,
+) -> Result<(), LowerFault>
+    ensures code { OnOk result
+        (map statement_tree body.new.items ≡
+        map statement_tree body.old.items ++ put_code (world_of program.now) (names_of locals.entry.now) (expression_tree place.now) from.0) }
+    ensures taken { TakesProgram program.now → TakesPlace (expression_tree place.now) → NeverRefused result }
+{
+    match place {
+        Expression::Variable(name) => lower_named(program, locals, body, &name.text, from),
+        Expression::Grouped(_, inner) => lower_put(program, locals, body, inner, from),
+        _ => Err(LowerFault::NotTaken),
+    }
+}

@@ -1,0 +1,10 @@
+use Rattle.std.proofs.Common.{◌≡◌, ◌++◌, drop, map, vec_len}
+use Rattle.cyc_core.specs.Trees.{datum_tree}
+use Rattle.core_frames.specs.Statics.{data_bytes, ArePlainData}
+use Rattle.rv32_layout.proofs.globals.globals_bytes.Given as goal
+
+abbrev pub invariant-each : goal.invariant-each
+invariant-each l = record {
+  whole : l.bytes.items ++ data_bytes (vec_len l.bytes) (map datum_tree (drop l.global-index l.globals)) ≡ data_bytes 0 (map datum_tree l.globals);
+  plain : ArePlainData (map datum_tree (drop l.global-index l.globals)) → ArePlainData (map datum_tree l.globals);
+}

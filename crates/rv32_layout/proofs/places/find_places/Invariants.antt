@@ -1,0 +1,11 @@
+use Rattle.std.proofs.Common.{◌≡◌, ℕ, ◌+◌, drop, nat_eq, unwrap_or}
+use Rattle.indexmap.specs.IndexMap.{get}
+use Rattle.core_frames.specs.Lines.{code_length}
+use Rattle.rv32_layout.specs.Placed.{place_of}
+use Rattle.rv32_layout.proofs.places.find_places.Given as goal
+
+abbrev pub invariant-each : goal.invariant-each
+invariant-each l = record {
+  whole : l.at + code_length (drop l.line-index l.line-items) ≡ code_length l.line-items;
+  placed : (label : ℕ) → unwrap_or (get nat_eq l.by_label label) (l.at + place_of (drop l.line-index l.line-items) label) ≡ place_of l.line-items label;
+}

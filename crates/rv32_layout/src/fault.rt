@@ -1,0 +1,26 @@
+// Why lines or globals have no bytes.
+
+ghost use Rattle.std.specs.Prelude.{◌≡◌};
+ghost use Rattle.rv32_layout.specs.declared.fault.PlaceFault.TheVariants.{Memory};
+
+use std::alloc::AllocError;
+use thiserror::Error;
+
+/// Why `place` refuses lines, or `data` globals.
+#[derive(Clone, Copy, PartialEq, Eq, Debug, Error)]
+pub enum PlaceFault {
+    /// There would be over 1,048,576 bytes, or the first jump would go so far.
+    #[error("the code or the data would be over 1,048,576 bytes")]
+    TooLarge,
+    /// No host memory is left.
+    #[error("out of memory")]
+    Memory,
+}
+
+impl From<AllocError> for PlaceFault {
+    ghost from_gives = { λ _ fault. fault ≡ Memory };
+
+    fn from(_error: AllocError) -> PlaceFault {
+        PlaceFault::Memory
+    }
+}

@@ -1,0 +1,9 @@
+use Rattle.std.proofs.Common.{◌≡◌, drop, map}
+use Rattle.cyc_core.specs.Trees.{local_tree}
+use Rattle.core_frames.specs.Selected.{end_from}
+use Rattle.rv32_select.proofs.layout.end_from.Given as goal
+
+abbrev pub invariant-each : goal.invariant-each
+invariant-each l = record {
+  whole : end_from l.at (map local_tree (drop l.width-index l.widths)) ≡ end_from l.low (map local_tree l.widths);
+}

@@ -1,0 +1,32 @@
+use Rattle.std.proofs.Common.{◌≡◌, ◌+◌, ◌≤◌, ◌++◌, drop}
+use Rattle.cyc_core.specs.Trees.{statement_tree, body_tree}
+use Rattle.core_frames.specs.Selected.{labels_of, statements_code}
+use Rattle.rv32_select.specs.Places.{surroundings}
+use Rattle.rv32_select.proofs.Sizes.{statement_size, statements_size}
+use Rattle.rv32_select.proofs.statement.+statement.Given as goal
+
+abbrev pub decreases-put_statement : goal.decreases-put_statement
+decreases-put_statement l = statement_size (statement_tree l.statement.now)
+
+abbrev pub decreases-put_statements : goal.decreases-put_statements
+decreases-put_statements l = statements_size (body_tree l.statements.now)
+
+abbrev pub decreases-put_if : goal.decreases-put_if
+decreases-put_if l = statements_size (body_tree l.these.now) + statements_size (body_tree l.those.now) + 1
+
+abbrev pub decreases-put_while : goal.decreases-put_while
+decreases-put_while l = statements_size (body_tree l.test.now) + statements_size (body_tree l.body.now) + 1
+
+abbrev pub decreases-put_block : goal.decreases-put_block
+decreases-put_block l = statements_size (body_tree l.body.now) + 1
+
+-- what is appended, and the code of the statements that are left, is the code of all; so with the labels; and the place is the same
+abbrev pub invariant-put_statements-each : goal.invariant-put_statements-each
+invariant-put_statements-each l = record {
+  code : l.lines.items ++
+      statements_code l.ways.bytes (surroundings l.place) l.free l.ways.out l.ways.again (body_tree (drop l.statement-index l.statements)) ≡
+      l.initial.lines.items ++ statements_code l.ways.bytes (surroundings l.initial.place) l.next l.ways.out l.ways.again (body_tree l.statements);
+  free : l.free + labels_of (body_tree (drop l.statement-index l.statements)) ≡ l.next + labels_of (body_tree l.statements);
+  same : surroundings l.place ≡ surroundings l.initial.place;
+  size : statements_size (body_tree (drop l.statement-index l.statements)) ≤ statements_size (body_tree l.statements);
+}

@@ -1,0 +1,10 @@
+use Rattle.std.proofs.Common.{◌≡◌, ◌++◌, drop, map}
+use Rattle.cyc_core.specs.Trees.{temporary_tree}
+use Rattle.core_frames.specs.Frames.{pass_code}
+use Rattle.rv32_select.proofs.statement.put_arguments.Given as goal
+
+abbrev pub invariant-each : goal.invariant-each
+invariant-each l = record {
+  whole : l.lines.items ++ pass_code l.place.passed l.passed (map temporary_tree (drop l.argument-index l.arguments)) ≡
+      l.initial.lines.items ++ pass_code l.place.passed 0 (map temporary_tree l.arguments);
+}

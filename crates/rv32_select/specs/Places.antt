@@ -1,0 +1,59 @@
+-- Where code stands, as the definition of code has it, and which comparisons take two instructions.
+use Rattle.std.specs.Prelude.{Bool, true, false, [], map}
+use Rattle.core_frames.specs.Selected.{Surroundings}
+use Rattle.cyc_core.specs.declared.operation.Binary.{Binary}
+use Rattle.cyc_core.specs.declared.operation.Binary.TheVariants as binary
+use Rattle.cyc_core.specs.declared.operation.Operation.{Operation}
+use Rattle.cyc_core.specs.declared.operation.Operation.TheVariants as operation
+use Rattle.rv32_select.specs.declared.place.Place.{Place}
+
+abbrev pub surroundings : Place → Surroundings
+surroundings p = record { passed = p.passed; own = []; blocks = map (λ offsets. offsets.items) p.blocks.items; low = p.low; statics = p.statics.items }
+
+abbrev pub takes_two : Binary → Bool
+takes_two binary.Add = false
+takes_two binary.Subtract = false
+takes_two binary.Multiply = false
+takes_two binary.Divide = false
+takes_two binary.DivideUnsigned = false
+takes_two binary.Remainder = false
+takes_two binary.RemainderUnsigned = false
+takes_two binary.And = false
+takes_two binary.Or = false
+takes_two binary.Xor = false
+takes_two binary.ShiftLeft = false
+takes_two binary.ShiftRight = false
+takes_two binary.ShiftRightUnsigned = false
+takes_two binary.Equal = true
+takes_two binary.NotEqual = true
+takes_two binary.Less = false
+takes_two binary.LessEqual = true
+takes_two binary.LessUnsigned = false
+takes_two binary.LessEqualUnsigned = true
+
+-- the operations on words alone, and those on memory
+abbrev pub is_on_words : Operation → Bool
+is_on_words (operation.Constant t word) = true
+is_on_words (operation.Move t x) = true
+is_on_words (operation.Narrow t x) = true
+is_on_words (operation.Apply o t x y) = true
+is_on_words (operation.DataAddress t object) = false
+is_on_words (operation.Get t v w) = false
+is_on_words (operation.Put v w x) = false
+is_on_words (operation.Load t p w) = false
+is_on_words (operation.Store p w x) = false
+is_on_words (operation.Getchar t) = false
+is_on_words (operation.Putchar t x) = false
+
+abbrev pub is_on_memory : Operation → Bool
+is_on_memory (operation.Constant t word) = false
+is_on_memory (operation.Move t x) = false
+is_on_memory (operation.Narrow t x) = false
+is_on_memory (operation.Apply o t x y) = false
+is_on_memory (operation.DataAddress t object) = true
+is_on_memory (operation.Get t v w) = true
+is_on_memory (operation.Put v w x) = true
+is_on_memory (operation.Load t p w) = true
+is_on_memory (operation.Store p w x) = true
+is_on_memory (operation.Getchar t) = false
+is_on_memory (operation.Putchar t x) = false

@@ -1,0 +1,163 @@
+// Instructions for functions and programs.
+
+ghost use Rattle.std.specs.Prelude.{◌≡◌, ◌+◌, ◌-◌, ◌%◌, ◌^◌, ◌*◌, ◌≤◌, ◌<◌, ◌++◌, IfOk, OnOk, map, ℕ, length};
+ghost use Rattle.cyc_core.specs.Trees.{function_tree, program_tree};
+ghost use Rattle.core_frames.specs.Frames.{test_code, move_code, take_code, prologue_code};
+ghost use Rattle.core_frames.specs.Lines.{labels_placed, AreOnce};
+ghost use Rattle.core_frames.specs.Running.{DoesAsCore};
+ghost use Rattle.core_frames.specs.Selectable.{IsSelectable};
+ghost use Rattle.core_frames.specs.Selected.{slots_of, own_end, frame_bytes, labels_of, function_code, functions_code, program_code};
+ghost use Rattle.rv32_select.specs.Places.{surroundings};
+
+use crate::emit::{
+    ADDRESS, OPERAND, RESULT, put, put_environment, put_lines, put_load, put_save, put_word,
+};
+use crate::layout::{highest_of, slots, statics, sum};
+use crate::place::Place;
+use crate::statement::{Ways, following, put_statements};
+use core_frames::Line;
+use cyc_core::{Function, Program, Temporary};
+use rv32_isa::{BranchOffset, Instr, Register};
+use rv32_machine::{EXIT, STACK_REFUSED};
+use std::alloc::{AllocError, Global};
+
+/// Code with labels.
+#[derive(Drop)]
+pub struct Labelled {
+    pub lines: Vec<Line>,
+}
+
+/// No stack has so many bytes.
+const TOO_MANY: u64 = 0x0200_0000;
+
+/// The address at which the stack begins.
+const STACK_BASE: u64 = 0x0040_0000;
+
+/// The bytes of a function's frame: rounded up to 16, and no more than no stack has.
+fn frame_bytes(function: &Function) -> Result<u64, AllocError>
+    ensures { IfOk result (λ n. n ≡ frame_bytes (function_tree function.now)) }
+{
+    let most = highest_of(4 * slots(function), &function.body)?;
+    if most <= TOO_MANY - 16 {
+        Ok((most + 15) / 16 * 16)
+    } else {
+        Ok(TOO_MANY)
+    }
+}
+
+/// Appends the test that the stack has room for so many bytes, which is refused where it has not.
+fn put_stack_test(lines: &mut Vec<Line>, bytes: u64) -> Result<(), AllocError>
+    ensures { OnOk result (lines.new.items ≡ lines.old.items ++ test_code bytes) }
+{
+    put_word(lines, OPERAND, sum(STACK_BASE, bytes)?)?;
+    let over = BranchOffset::new(20);
+    put(lines, Instr::Bgeu(Register::STACK_POINTER, OPERAND, over))?;
+    put_word(lines, Register::ARGUMENT_0, bytes)?;
+    put_environment(lines, STACK_REFUSED)
+}
+
+/// Appends the taking of the stack's next bytes for a frame.
+fn put_stack_move(lines: &mut Vec<Line>, bytes: u64) -> Result<(), AllocError>
+    ensures { OnOk result (lines.new.items ≡ lines.old.items ++ move_code bytes) }
+{
+    let pointer = Register::STACK_POINTER;
+    put_word(lines, ADDRESS, bytes)?;
+    put(lines, Instr::Sub(pointer, pointer, ADDRESS))
+}
+
+/// Appends the taking of each parameter's word from the caller's frame.
+fn put_parameters(
+    lines: &mut Vec<Line>,
+    place: &Place,
+    bytes: u64,
+    parameters: u32,
+) -> Result<(), AllocError>
+    ensures { OnOk result (lines.new.items ≡ lines.old.items ++ take_code bytes place.now.passed 0 parameters) }
+{
+    'each: for parameter in 0..parameters {
+        put_load(lines, RESULT, sum(bytes / 4 + 1, u64::from(parameter))?)?;
+        put_save(lines, RESULT, place.slot(Temporary(parameter)))?;
+    }
+    Ok(())
+}
+
+/// Appends what a function begins with: the test of the stack, its frame, its return address and its parameters.
+fn put_prologue(
+    lines: &mut Vec<Line>,
+    place: &Place,
+    bytes: u64,
+    parameters: u32,
+) -> Result<(), AllocError>
+    ensures { OnOk result (lines.new.items ≡ lines.old.items ++ prologue_code bytes place.now.passed parameters) }
+{
+    put_stack_test(lines, bytes)?;
+    put_stack_move(lines, bytes)?;
+    put_save(lines, Register::RETURN_ADDRESS, 0)?;
+    put_parameters(lines, place, bytes, parameters)
+}
+
+/// Appends a function, whose label is its number, and whose other labels are numbered from `next` on. Answers the next free label.
+fn put_function(
+    lines: &mut Vec<Line>,
+    place: &mut Place,
+    number: usize,
+    next: usize,
+    function: &Function,
+) -> Result<usize, AllocError>
+    ensures code { OnOk result (lines.new.items ≡ lines.old.items ++ function_code place.old.statics.items number next (function_tree function.now)) }
+    ensures free { IfOk result (λ n. n ≡ next + labels_of (function_tree function.now).body) }
+    ensures same { OnOk result (place.new.statics.items ≡ place.old.statics.items) }
+{
+    let bytes = frame_bytes(function)?;
+    place.begin(function);
+    put_lines(lines, &[Line::Label(number)])?;
+    put_prologue(lines, place, bytes, function.parameters)?;
+    let ways = Ways {
+        out: number,
+        again: number,
+        bytes,
+    };
+    let free = put_statements(lines, place, next, ways, &function.body)?;
+    Ok(free)
+}
+
+/// Appends functions, the first of which has the number 0.
+fn put_functions(
+    lines: &mut Vec<Line>,
+    place: &mut Place,
+    functions: &[Function],
+) -> Result<(), AllocError>
+    ensures { OnOk result (lines.new.items ≡ lines.old.items ++ functions_code place.old.statics.items 0 (length functions.now) (map function_tree functions.now)) }
+{
+    let mut next = functions.len();
+    let mut number = 0;
+    'each: for function in functions {
+        next = put_function(lines, place, number, next, function)?;
+        number = following(number)?;
+    }
+    Ok(())
+}
+
+/// The lines of a lowered program.
+fn program_lines(alloc: Global, program: &Program) -> Result<Vec<Line>, AllocError>
+    ensures { IfOk result (λ lines. lines.items ≡ program_code (program_tree program.now)) }
+{
+    let mut lines = Vec::new(alloc);
+    let mut place = Place::new(alloc, statics(alloc, &program.globals)?);
+    put_lines(&mut lines, &[Line::CallTo(program.main as usize)])?;
+    put_environment(&mut lines, EXIT)?;
+    put_functions(&mut lines, &mut place, &program.functions)?;
+    Ok(lines)
+}
+
+/// The instructions of a lowered program. Fails only where no host memory is left.
+pub fn select(alloc: Global, program: &Program) -> Result<Labelled, AllocError>
+    ensures code { IfOk result (λ labelled. labelled.lines.items ≡ program_code (program_tree program.now)) }
+    // each label is placed once
+    ensures once { IfOk result (λ labelled. AreOnce (labels_placed labelled.lines.items)) }
+    // a machine that begins with the lines does what the program does
+    ensures meaning { IfOk result (λ labelled. IsSelectable (program_tree program.now) → DoesAsCore (program_tree program.now) labelled.lines.items) }
+{
+    let lines = program_lines(alloc, program)?;
+    Ok(Labelled { lines })
+}

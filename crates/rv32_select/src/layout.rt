@@ -1,0 +1,124 @@
+// Where the locals of blocks and the globals lie.
+
+ghost use Rattle.std.specs.Prelude.{◌≡◌, ◌+◌, ◌<◌, ◌^◌, ◌≤◌, IfOk, OnOk, map, true};
+ghost use Rattle.core_frames.specs.Selected.{slots_of, rounded, offsets_from, end_from, greater, highest, highest_of, datum_locals};
+ghost use Rattle.cyc_core.specs.Trees.{bytes_of, local_tree, datum_tree, statement_tree, body_tree, function_tree};
+
+use cyc_core::{Datum, Function, Statement, Width};
+use std::alloc::{AllocError, Global};
+
+/// The bytes of a width.
+fn bytes(width: Width) -> u64
+    ensures { result ≡ bytes_of width }
+{
+    match width {
+        Width::Byte => 1,
+        Width::Word => 4,
+    }
+}
+
+/// The sum of two numbers of bytes, slots or labels. Fails where that is over the greatest u64: no host's memory has so many.
+pub fn sum(first: u64, second: u64) -> Result<u64, AllocError>
+    ensures { IfOk result (λ n. n ≡ first + second) }
+{
+    match first.checked_add(second) {
+        Some(sum) => Ok(sum),
+        None => Err(AllocError),
+    }
+}
+
+/// Up to the next multiple of 4.
+fn rounded(offset: u64) -> Result<u64, AllocError>
+    ensures { IfOk result (λ n. n ≡ rounded offset) }
+{
+    Ok(sum(offset, 3)? / 4 * 4)
+}
+
+/// Where locals end that lie one behind the other from an offset on, each at a multiple of 4.
+pub fn end_from(low: u64, widths: &[Width]) -> Result<u64, AllocError>
+    ensures { IfOk result (λ n. n ≡ end_from low (map local_tree widths.now)) }
+{
+    let mut at = low;
+    'each: for width in widths {
+        at = sum(rounded(at)?, bytes(*width))?;
+    }
+    Ok(at)
+}
+
+/// Where each of these locals begins.
+pub fn offsets_from(alloc: Global, low: u64, widths: &[Width]) -> Result<Vec<u64>, AllocError>
+    ensures { IfOk result (λ offsets. offsets.items ≡ offsets_from low (map local_tree widths.now)) }
+{
+    let mut offsets = Vec::new(alloc);
+    let mut at = low;
+    'each: for width in widths {
+        let offset = rounded(at)?;
+        offsets.push(offset)?;
+        at = sum(offset, bytes(*width))?;
+    }
+    Ok(offsets)
+}
+
+/// Where each global begins, from the first byte of the data on.
+pub fn statics(alloc: Global, globals: &[Datum]) -> Result<Vec<u64>, AllocError>
+    ensures { IfOk result (λ offsets. offsets.items ≡ offsets_from 0 (datum_locals (map datum_tree globals.now))) }
+{
+    let mut offsets = Vec::new(alloc);
+    let mut at = 0;
+    'each: for global in globals {
+        let offset = rounded(at)?;
+        offsets.push(offset)?;
+        at = sum(offset, bytes(global.width()))?;
+    }
+    Ok(offsets)
+}
+
+/// The greater of two offsets.
+fn greater(first: u64, second: u64) -> u64
+    ensures { result ≡ greater first second }
+{
+    if first <= second { second } else { first }
+}
+
+/// How high the locals of all blocks of a statement reach that begins at an offset.
+#[cycle(highest)]
+fn highest(low: u64, statement: &Statement) -> Result<u64, AllocError>
+    ensures { IfOk result (λ n. n ≡ highest low (statement_tree statement.now)) }
+{
+    match statement {
+        Statement::If(_, these, those) => {
+            let first = highest_of(low, these)?;
+            let second = highest_of(low, those)?;
+            Ok(greater(first, second))
+        }
+        Statement::While(test, _, body) => {
+            let first = highest_of(low, test)?;
+            let second = highest_of(low, body)?;
+            Ok(greater(first, second))
+        }
+        Statement::Block(widths, body) => highest_of(end_from(low, widths)?, body),
+        _ => Ok(low),
+    }
+}
+
+/// The same of statements, one after the other.
+#[cycle(highest)]
+#[tactic(auto, using(crate::proofs::Greatest::greater_joined, crate::proofs::Greatest::nothing_below))]
+pub fn highest_of(low: u64, statements: &[Statement]) -> Result<u64, AllocError>
+    ensures { IfOk result (λ n. n ≡ highest_of low (body_tree statements.now)) }
+{
+    let mut most = 0;
+    'each: for statement in statements {
+        most = greater(most, highest(low, statement)?);
+    }
+    Ok(greater(most, low))
+}
+
+/// The first slot behind a function's temporaries.
+pub fn slots(function: &Function) -> u64
+    ensures slots { result ≡ slots_of (function_tree function.now) }
+    ensures small { result < 2 ^ 60 }
+{
+    let (passed, temporaries) = (function.passed, function.temporaries);
+    1 + u64::from(passed) + u64::from(temporaries)
+}

@@ -1,0 +1,18 @@
+//! From Core to instructions with labels.
+//!
+//! Each function has a frame: its return address, the words that it passes to callees, its
+//! temporaries, and the locals of its blocks. An operation loads its temporaries into registers,
+//! works there, and saves the result; a choice and a loop are jumps to labels, a call is a jump to
+//! the function's label, whose number is the function's. The lines are those of `program_code` in
+//! `core_frames`: no label is placed twice, and a machine that begins with them does what the program
+//! does. Stands on `cyc_core`, `core_frames` and `rv32_isa`.
+#![tactic(auto)]
+
+mod emit;
+mod function;
+mod layout;
+mod operation;
+mod place;
+mod statement;
+
+pub use function::{Labelled, select};

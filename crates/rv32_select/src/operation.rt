@@ -1,0 +1,203 @@
+// Instructions for an operation.
+
+ghost use Rattle.std.specs.Prelude.{◌≡◌, ◌+◌, true, ◌++◌, OnOk, IfOk};
+ghost use Rattle.core_frames.specs.Frames.{load_code, save_code, slot_of};
+ghost use Rattle.core_frames.specs.Selected.{binary_code, operation_code, from_temp, to_temp, nth};
+ghost use Rattle.cyc_core.specs.Trees.{binary_tree, operation_tree};
+ghost use Rattle.rv32_select.specs.Places.{surroundings, takes_two, is_on_words, is_on_memory};
+ghost use Rattle.rv32_machine.specs.State.{data_base};
+
+use crate::emit::{
+    OPERAND, RESULT, put, put_constant, put_environment, put_load, put_read, put_save, put_write,
+};
+use crate::layout::sum;
+use crate::place::Place;
+use core_frames::Line;
+use cyc_core::{Binary, Operation, Temporary};
+use rv32_isa::{Instr, Register, Signed12};
+use rv32_machine::{GETCHAR, PUTCHAR};
+use std::alloc::AllocError;
+
+/// The address at which a program's data begin.
+const DATA_BASE: u64 = 0x0020_0000;
+
+/// Appends the load of a temporary into a register.
+pub fn put_from(
+    lines: &mut Vec<Line>,
+    place: &Place,
+    register: Register,
+    from: Temporary,
+) -> Result<(), AllocError>
+    ensures { OnOk result (lines.new.items ≡ lines.old.items ++ from_temp (surroundings place.now) register from.0) }
+{
+    put_load(lines, register, place.slot(from))
+}
+
+/// Appends the save of a register into a temporary.
+pub fn put_to(
+    lines: &mut Vec<Line>,
+    place: &Place,
+    register: Register,
+    to: Temporary,
+) -> Result<(), AllocError>
+    ensures { OnOk result (lines.new.items ≡ lines.old.items ++ to_temp (surroundings place.now) register to.0) }
+{
+    put_save(lines, register, place.slot(to))
+}
+
+/// Appends an instruction on the two operands, into the first one's register.
+fn put_applied(lines: &mut Vec<Line>, operation: Binary) -> Result<(), AllocError>
+    ensures { OnOk result (lines.new.items ≡ lines.old.items ++ binary_code (binary_tree operation)) }
+{
+    let (to, right) = (RESULT, OPERAND);
+    match operation {
+        Binary::Add => put(lines, Instr::Add(to, to, right)),
+        Binary::Subtract => put(lines, Instr::Sub(to, to, right)),
+        Binary::Multiply => put(lines, Instr::Mul(to, to, right)),
+        Binary::Divide => put(lines, Instr::Div(to, to, right)),
+        Binary::DivideUnsigned => put(lines, Instr::Divu(to, to, right)),
+        Binary::Remainder => put(lines, Instr::Rem(to, to, right)),
+        Binary::RemainderUnsigned => put(lines, Instr::Remu(to, to, right)),
+        Binary::And => put(lines, Instr::And(to, to, right)),
+        Binary::Or => put(lines, Instr::Or(to, to, right)),
+        Binary::Xor => put(lines, Instr::Xor(to, to, right)),
+        Binary::ShiftLeft => put(lines, Instr::Sll(to, to, right)),
+        Binary::ShiftRight => put(lines, Instr::Sra(to, to, right)),
+        Binary::ShiftRightUnsigned => put(lines, Instr::Srl(to, to, right)),
+        Binary::Less => put(lines, Instr::Slt(to, to, right)),
+        Binary::LessUnsigned => put(lines, Instr::Sltu(to, to, right)),
+        _ => put_tested(lines, operation),
+    }
+}
+
+/// Appends a comparison of the two operands that takes two instructions.
+fn put_tested(lines: &mut Vec<Line>, operation: Binary) -> Result<(), AllocError>
+    requires { takes_two operation ≡ true }
+    ensures { OnOk result (lines.new.items ≡ lines.old.items ++ binary_code (binary_tree operation)) }
+{
+    let (to, right) = (RESULT, OPERAND);
+    let one = Signed12::new(1);
+    match operation {
+        Binary::Equal => {
+            put(lines, Instr::Sub(to, to, right))?;
+            put(lines, Instr::Sltiu(to, to, one))
+        }
+        Binary::NotEqual => {
+            put(lines, Instr::Sub(to, to, right))?;
+            put(lines, Instr::Sltu(to, Register::ZERO, to))
+        }
+        Binary::LessEqual => {
+            put(lines, Instr::Slt(to, right, to))?;
+            put(lines, Instr::Xori(to, to, one))
+        }
+        _ => {
+            put(lines, Instr::Sltu(to, right, to))?;
+            put(lines, Instr::Xori(to, to, one))
+        }
+    }
+}
+
+/// Appends the instructions of an operation on words.
+fn put_word_operation(
+    lines: &mut Vec<Line>,
+    place: &Place,
+    operation: Operation,
+) -> Result<(), AllocError>
+    requires { is_on_words operation ≡ true }
+    ensures { OnOk result (lines.new.items ≡ lines.old.items ++ operation_code (surroundings place.now) (operation_tree operation)) }
+{
+    match operation {
+        Operation::Constant(to, word) => {
+            put_constant(lines, u64::from(word))?;
+            put_to(lines, place, RESULT, to)
+        }
+        Operation::Move(to, from) => {
+            put_from(lines, place, RESULT, from)?;
+            put_to(lines, place, RESULT, to)
+        }
+        Operation::Narrow(to, from) => {
+            put_from(lines, place, RESULT, from)?;
+            put(lines, Instr::Andi(RESULT, RESULT, Signed12::new(255)))?;
+            put_to(lines, place, RESULT, to)
+        }
+        Operation::Apply(binary, to, left, right) => {
+            put_from(lines, place, RESULT, left)?;
+            put_from(lines, place, OPERAND, right)?;
+            put_applied(lines, binary)?;
+            put_to(lines, place, RESULT, to)
+        }
+        _ => Ok(()),
+    }
+}
+
+/// Appends the instructions of an operation on memory.
+fn put_memory_operation(
+    lines: &mut Vec<Line>,
+    place: &Place,
+    operation: Operation,
+) -> Result<(), AllocError>
+    requires { is_on_memory operation ≡ true }
+    ensures { OnOk result (lines.new.items ≡ lines.old.items ++ operation_code (surroundings place.now) (operation_tree operation)) }
+{
+    match operation {
+        Operation::DataAddress(to, object) => {
+            put_constant(lines, sum(DATA_BASE, place.data_offset(object))?)?;
+            put_to(lines, place, RESULT, to)
+        }
+        Operation::Get(to, variable, width) => {
+            put_read(
+                lines,
+                width,
+                Register::STACK_POINTER,
+                place.offset(variable),
+            )?;
+            put_to(lines, place, RESULT, to)
+        }
+        Operation::Put(variable, width, from) => {
+            put_from(lines, place, OPERAND, from)?;
+            put_write(
+                lines,
+                width,
+                Register::STACK_POINTER,
+                place.offset(variable),
+            )
+        }
+        Operation::Load(to, pointer, width) => {
+            put_from(lines, place, RESULT, pointer)?;
+            put_read(lines, width, RESULT, 0)?;
+            put_to(lines, place, RESULT, to)
+        }
+        Operation::Store(pointer, width, from) => {
+            put_from(lines, place, RESULT, pointer)?;
+            put_from(lines, place, OPERAND, from)?;
+            put_write(lines, width, RESULT, 0)
+        }
+        _ => Ok(()),
+    }
+}
+
+/// Appends the instructions of an operation.
+pub fn put_operation(
+    lines: &mut Vec<Line>,
+    place: &Place,
+    operation: Operation,
+) -> Result<(), AllocError>
+    ensures { OnOk result (lines.new.items ≡ lines.old.items ++ operation_code (surroundings place.now) (operation_tree operation)) }
+{
+    match operation {
+        Operation::Getchar(to) => {
+            put_environment(lines, GETCHAR)?;
+            put_to(lines, place, Register::ARGUMENT_0, to)
+        }
+        Operation::Putchar(to, from) => {
+            put_from(lines, place, Register::ARGUMENT_0, from)?;
+            put_environment(lines, PUTCHAR)?;
+            put_to(lines, place, Register::ARGUMENT_0, to)
+        }
+        Operation::Constant(..)
+        | Operation::Move(..)
+        | Operation::Narrow(..)
+        | Operation::Apply(..) => { put_word_operation(lines, place, operation) }
+        _ => put_memory_operation(lines, place, operation),
+    }
+}

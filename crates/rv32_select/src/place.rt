@@ -1,0 +1,110 @@
+// Where code stands: its function's frame, the blocks around it, and the program's data.
+
+ghost use Rattle.std.specs.Prelude.{◌≡◌, ◌<◌, ◌^◌, [], ◌∷◌, map, IfOk, List, ℕ};
+ghost use Rattle.core_frames.specs.Frames.{slot_of};
+ghost use Rattle.core_frames.specs.Selected.{Surroundings, local_offset, nth, within_block, around};
+ghost use Rattle.cyc_core.specs.Trees.{local_tree, function_tree};
+ghost use Rattle.core_meaning.specs.Core.{Local};
+ghost use Rattle.rv32_select.specs.Places.{surroundings};
+
+use crate::layout::{end_from, offsets_from, slots};
+use cyc_core::{Function, Temporary, Variable, Width};
+use std::alloc::{AllocError, Global};
+
+/// Where code stands.
+#[derive(Drop)]
+pub struct Place {
+    alloc: Global,
+    /// The most words that the function passes to a call.
+    pub passed: u32,
+    /// The offsets in the frame of the locals of the blocks around the code, the innermost block first.
+    pub blocks: Vec<Vec<u64>>,
+    /// Where the locals of a block within it would begin.
+    pub low: u64,
+    /// Where each global of the program begins in the data.
+    pub statics: Vec<u64>,
+}
+
+impl Place {
+    /// The place of code in no function, of a program whose globals begin there.
+    pub fn new(alloc: Global, statics: Vec<u64>) -> Self
+        ensures { result.statics.items ≡ statics.items }
+    {
+        Place {
+            alloc,
+            passed: 0,
+            blocks: Vec::new(alloc),
+            low: 0,
+            statics,
+        }
+    }
+
+    /// Goes on to the start of a function.
+    pub fn begin(&mut self, function: &Function)
+        ensures place { surroundings self.new ≡ around self.old.statics.items (function_tree function.now) }
+        ensures same { self.new.statics.items ≡ self.old.statics.items }
+    {
+        self.passed = function.passed;
+        self.blocks = Vec::new(self.alloc);
+        self.low = 4 * slots(function);
+    }
+
+    /// The slot of a temporary, counted in words from the frame's first on.
+    pub fn slot(&self, temporary: Temporary) -> u64
+        ensures { result ≡ slot_of self.now.passed temporary.0 }
+    {
+        1 + u64::from(self.passed) + u64::from(temporary.0)
+    }
+
+    /// The offset of a local in the frame.
+    #[tactic(auto, using(crate::proofs::Numbers::local_some, crate::proofs::Numbers::local_none))]
+    pub fn offset(&self, variable: Variable) -> u64
+        ensures { result ≡ local_offset (surroundings self.now) variable.out variable.index }
+    {
+        match self.blocks.get(variable.out as usize) {
+            Some(offsets) => nth(offsets, variable.index),
+            None => 0,
+        }
+    }
+
+    /// The offset of a global in the data.
+    pub fn data_offset(&self, object: u32) -> u64
+        ensures { result ≡ nth (surroundings self.now).statics object }
+    {
+        nth(&self.statics, object)
+    }
+
+    /// Enters a block with locals of these widths. Answers where its locals begin.
+    pub fn enter(&mut self, widths: &[Width]) -> Result<u64, AllocError>
+        ensures { IfOk result (λ low. low ≡ self.old.low × (surroundings self.new ≡ within_block (map local_tree widths.now) (surroundings self.old))) }
+    {
+        let low = self.low;
+        let offsets = offsets_from(self.alloc, low, widths)?;
+        let end = end_from(low, widths)?;
+        self.blocks.insert(0, offsets)?;
+        self.low = end;
+        Ok(low)
+    }
+
+    /// Leaves the innermost block, whose locals began at `low`.
+    #[tactic(auto, using(crate::proofs::Leaving::left_is))]
+    pub fn leave(&mut self, low: u64)
+        ensures { (locals : List Local) (outer : Surroundings) → surroundings self.old ≡ within_block locals outer → low ≡ outer.low → surroundings self.new ≡ outer }
+    {
+        if !self.blocks.is_empty() {
+            self.blocks.remove(0);
+        }
+        self.low = low;
+    }
+}
+
+/// A number of a list, or 0 behind its end.
+#[tactic(auto, using(crate::proofs::Numbers::nth_some, crate::proofs::Numbers::nth_none))]
+fn nth(numbers: &[u64], index: u32) -> u64
+    ensures { result ≡ nth numbers.now index }
+{
+    match numbers.get(index as usize) {
+        Some(number) => *number,
+        None => 0,
+    }
+}

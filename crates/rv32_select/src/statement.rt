@@ -1,0 +1,242 @@
+// Instructions for statements.
+
+ghost use Rattle.std.specs.Prelude.{◌≡◌, ◌+◌, ◌<◌, ◌≤◌, ◌++◌, IfOk, OnOk, map, vec_len};
+ghost use Rattle.core_meaning.specs.Core as core;
+ghost use Rattle.cyc_core.specs.Trees.{statement_tree, body_tree, temporary_tree, optional_tree, local_tree};
+ghost use Rattle.core_frames.specs.Frames.{pass_code, result_code, call_code, values_code, leave_code, return_code};
+ghost use Rattle.core_frames.specs.Selected.{labels_in, labels_of, choice_code, statement_code, statements_code};
+ghost use Rattle.rv32_select.specs.Places.{surroundings};
+
+use crate::emit::{ADDRESS, RESULT, put, put_lines, put_load, put_save, put_word};
+use crate::layout::sum;
+use crate::operation::{put_from, put_operation, put_to};
+use crate::place::Place;
+use core_frames::Line;
+use cyc_core::{Statement, Temporary, Width};
+use rv32_isa::{Instr, Register, Signed12};
+use std::alloc::{AllocError, Global};
+
+/// How a statement can be left.
+#[derive(Clone, Copy)]
+pub struct Ways {
+    /// The label behind the innermost loop.
+    pub out: usize,
+    /// The label at its start, before its test.
+    pub again: usize,
+    /// The bytes of the frame, which a return gives back.
+    pub bytes: u64,
+}
+
+/// The label after one. Fails where labels run out: no memory has so many lines.
+pub fn following(label: usize) -> Result<usize, AllocError>
+    ensures { IfOk result (λ n. n ≡ label + 1) }
+{
+    match label.checked_add(1) {
+        Some(label) => Ok(label),
+        None => Err(AllocError),
+    }
+}
+
+/// Appends what goes on where a temporary isn't 0, and at a label where it is.
+fn put_choice(
+    lines: &mut Vec<Line>,
+    place: &Place,
+    temporary: Temporary,
+    label: usize,
+) -> Result<(), AllocError>
+    ensures { OnOk result (lines.new.items ≡ lines.old.items ++ choice_code (surroundings place.now) temporary.0 label) }
+{
+    put_from(lines, place, RESULT, temporary)?;
+    put_lines(lines, &[Line::JumpIfZero(RESULT, label)])
+}
+
+/// Appends the passing of words to a callee: each into its slot, the first one into slot 1.
+fn put_arguments(
+    lines: &mut Vec<Line>,
+    place: &Place,
+    arguments: &[Temporary],
+) -> Result<(), AllocError>
+    ensures { OnOk result (lines.new.items ≡ lines.old.items ++ pass_code place.now.passed 0 (map temporary_tree arguments.now)) }
+{
+    let mut passed = 0;
+    'each: for argument in arguments {
+        put_from(lines, place, RESULT, *argument)?;
+        passed = sum(passed, 1)?;
+        put_save(lines, RESULT, passed)?;
+    }
+    Ok(())
+}
+
+/// Appends a call: its arguments, the jump, and its result.
+fn put_call(
+    lines: &mut Vec<Line>,
+    place: &Place,
+    to: Option<Temporary>,
+    function: u32,
+    arguments: &[Temporary],
+) -> Result<(), AllocError>
+    ensures { OnOk result (lines.new.items ≡ lines.old.items ++ call_code place.now.passed (optional_tree to) function (map temporary_tree arguments.now)) }
+{
+    put_arguments(lines, place, arguments)?;
+    put_lines(lines, &[Line::CallTo(function as usize)])?;
+    match to {
+        Some(to) => put_to(lines, place, Register::ARGUMENT_0, to),
+        None => Ok(()),
+    }
+}
+
+/// Appends the end of an activation: the stack pointer goes back over its frame, and the return.
+fn put_leave(lines: &mut Vec<Line>, bytes: u64) -> Result<(), AllocError>
+    ensures { OnOk result (lines.new.items ≡ lines.old.items ++ leave_code bytes) }
+{
+    let pointer = Register::STACK_POINTER;
+    put_load(lines, Register::RETURN_ADDRESS, 0)?;
+    put_word(lines, ADDRESS, bytes)?;
+    put(lines, Instr::Add(pointer, pointer, ADDRESS))?;
+    put(
+        lines,
+        Instr::Jalr(Register::ZERO, Register::RETURN_ADDRESS, Signed12::new(0)),
+    )
+}
+
+/// Appends a return, with a temporary's word where there is one.
+fn put_return(
+    lines: &mut Vec<Line>,
+    place: &Place,
+    bytes: u64,
+    value: Option<Temporary>,
+) -> Result<(), AllocError>
+    ensures { OnOk result (lines.new.items ≡ lines.old.items ++ return_code bytes place.now.passed (optional_tree value)) }
+{
+    if let Some(from) = value {
+        put_from(lines, place, Register::ARGUMENT_0, from)?;
+    }
+    put_leave(lines, bytes)
+}
+
+/// Appends the instructions of a statement, whose labels are numbered from `next` on. Answers the next free label.
+#[cycle(statement)]
+fn put_statement(
+    lines: &mut Vec<Line>,
+    place: &mut Place,
+    next: usize,
+    ways: Ways,
+    statement: &Statement,
+) -> Result<usize, AllocError>
+    ensures code { OnOk result (lines.new.items ≡ lines.old.items ++ statement_code ways.bytes (surroundings place.old) next ways.out ways.again (statement_tree statement.now)) }
+    ensures free { IfOk result (λ n. n ≡ next + labels_in (statement_tree statement.now)) }
+    ensures same { OnOk result (surroundings place.new ≡ surroundings place.old) }
+{
+    match statement {
+        Statement::Do(operation) => put_operation(lines, place, *operation)?,
+        Statement::If(test, these, those) => {
+            return put_if(lines, place, next, ways, *test, these, those);
+        }
+        Statement::While(test, flag, body) => {
+            return put_while(lines, place, next, ways, test, *flag, body);
+        }
+        Statement::Block(widths, body) => {
+            return put_block(lines, place, next, ways, widths, body);
+        }
+        Statement::Break => put_lines(lines, &[Line::Jump(ways.out)])?,
+        Statement::Continue => put_lines(lines, &[Line::Jump(ways.again)])?,
+        Statement::Call(result, function, arguments) => {
+            put_call(lines, place, *result, *function, arguments)?;
+        }
+        Statement::Return(value) => put_return(lines, place, ways.bytes, *value)?,
+    }
+    Ok(next)
+}
+
+/// Appends the instructions of statements, one after the other. Answers the next free label.
+#[cycle(statement)]
+pub fn put_statements(
+    lines: &mut Vec<Line>,
+    place: &mut Place,
+    next: usize,
+    ways: Ways,
+    statements: &[Statement],
+) -> Result<usize, AllocError>
+    ensures code { OnOk result (lines.new.items ≡ lines.old.items ++ statements_code ways.bytes (surroundings place.old) next ways.out ways.again (body_tree statements.now)) }
+    ensures free { IfOk result (λ n. n ≡ next + labels_of (body_tree statements.now)) }
+    ensures same { OnOk result (surroundings place.new ≡ surroundings place.old) }
+{
+    let mut free = next;
+    'each: for statement in statements {
+        free = put_statement(lines, place, free, ways, statement)?;
+    }
+    Ok(free)
+}
+
+/// Appends the instructions of a choice: the test, the first statements and a jump over the others; a label, the
+/// others, and a label. Answers the next free label.
+#[cycle(statement)]
+fn put_if(
+    lines: &mut Vec<Line>,
+    place: &mut Place,
+    next: usize,
+    ways: Ways,
+    test: Temporary,
+    these: &[Statement],
+    those: &[Statement],
+) -> Result<usize, AllocError>
+    ensures code { OnOk result (lines.new.items ≡ lines.old.items ++ statement_code ways.bytes (surroundings place.old) next ways.out ways.again (core.If test.0 (body_tree these.now) (body_tree those.now))) }
+    ensures free { IfOk result (λ n. n ≡ next + labels_in (core.If test.0 (body_tree these.now) (body_tree those.now))) }
+    ensures same { OnOk result (surroundings place.new ≡ surroundings place.old) }
+{
+    put_choice(lines, place, test, next)?;
+    let behind = put_statements(lines, place, following(next)?, ways, these)?;
+    put_lines(lines, &[Line::Jump(behind), Line::Label(next)])?;
+    let free = put_statements(lines, place, following(behind)?, ways, those)?;
+    put_lines(lines, &[Line::Label(behind)])?;
+    Ok(free)
+}
+
+/// Appends the instructions of a loop: a label, its test, its body and a jump back; and a label behind it. Answers
+/// the next free label.
+#[cycle(statement)]
+fn put_while(
+    lines: &mut Vec<Line>,
+    place: &mut Place,
+    next: usize,
+    ways: Ways,
+    test: &[Statement],
+    flag: Temporary,
+    body: &[Statement],
+) -> Result<usize, AllocError>
+    ensures code { OnOk result (lines.new.items ≡ lines.old.items ++ statement_code ways.bytes (surroundings place.old) next ways.out ways.again (core.While (body_tree test.now) flag.0 (body_tree body.now))) }
+    ensures free { IfOk result (λ n. n ≡ next + labels_in (core.While (body_tree test.now) flag.0 (body_tree body.now))) }
+    ensures same { OnOk result (surroundings place.new ≡ surroundings place.old) }
+{
+    put_lines(lines, &[Line::Label(next)])?;
+    let behind = put_statements(lines, place, following(next)?, ways, test)?;
+    put_choice(lines, place, flag, behind)?;
+    let inside = Ways {
+        out: behind,
+        again: next,
+        bytes: ways.bytes,
+    };
+    let free = put_statements(lines, place, following(behind)?, inside, body)?;
+    put_lines(lines, &[Line::Jump(next), Line::Label(behind)])?;
+    Ok(free)
+}
+
+/// Appends the instructions of a block with locals of these widths. Answers the next free label.
+#[cycle(statement)]
+fn put_block(
+    lines: &mut Vec<Line>,
+    place: &mut Place,
+    next: usize,
+    ways: Ways,
+    widths: &[Width],
+    body: &[Statement],
+) -> Result<usize, AllocError>
+    ensures code { OnOk result (lines.new.items ≡ lines.old.items ++ statement_code ways.bytes (surroundings place.old) next ways.out ways.again (core.Block (map local_tree widths.now) (body_tree body.now))) }
+    ensures free { IfOk result (λ n. n ≡ next + labels_in (core.Block (map local_tree widths.now) (body_tree body.now))) }
+    ensures same { OnOk result (surroundings place.new ≡ surroundings place.old) }
+{
+    let low = place.enter(widths)?;
+    let free = put_statements(lines, place, next, ways, body)?;
+    place.leave(low);
+    Ok(free)
+}

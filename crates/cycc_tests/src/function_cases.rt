@@ -38,6 +38,10 @@ pub const GLOBALS: &str = "\
 1 | ended 65$ | - <- char x = 321; int main() { return x; }
 1 | ended 255$ | - <- char x = -1; int main() { return x; }
 1 | ended 122$ | - <- int x = 'z'; int main() { return x; }
+1 | ended 122$ | - <- unsigned x = 'z'; int main() { return x; }
+1 | ended 7$ | - <- unsigned x; int main() { x = x + 7; return x; }
+0 | ended 0$ | - <- char x; int main() { return x; }
+1 | ended 255$ | - <- char x = 4294967295u; int main() { return x; }
 1 | ended -1$ | - <- int x = 4294967295u; int main() { return x; }
 1 | ended 1$ | - <- unsigned x = -1; int main() { return x >> 31; }
 1 | ended 3$ | - <- int n; void count() { n = n + 1; } int main() { count(); count(); count(); return n; }

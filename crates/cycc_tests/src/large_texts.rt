@@ -31,6 +31,8 @@ const LARGE_TEXTS: &str = "\
 1 | ended 201$ | - <- run IN --ending <- 200 <- int main() { int a = 1; ~{ int b = a + 1; int a = b; ~return a; ~}~}
 8 | IN:1:1048577: Parse$ | - <- check IN <- 1048576 <- ~ ~~~
 8 | IN:1:1: Lex$ | - <- check IN <- 1048577 <- ~ ~~~
+0 | - | - | 1024 pages <- compile IN OUT <- 406 <- int main() {~putchar(1); ~;;;;}~~
+0 | - | - | 1024 pages <- compile IN OUT <- 406 <- int main() {~putchar(1); ~;;;;;}~~
 0 | - | accepted$ <- check IN <- 50000 <- int main() {~putchar(1); ~}~~
 8 | IN:1:1: TooLarge$ | - <- compile IN OUT <- 50000 <- int main() {~putchar(1); ~}~~
 8 | IN:1:1: TooLarge$ | - <- run IN <- 50000 <- int main() {~putchar(1); ~}~~";

@@ -1,0 +1,80 @@
+//! Runs each example, compiled and by its meaning, and prints whether it writes and ends as it must.
+//!
+//! The folder `data` is the folder `examples` of the repository: beside the sources it has `expected`, with the input,
+//! the output and the ending of each.
+#![tactic(auto)]
+
+use command_line::command_of;
+use cycc_answer::answer;
+use cycc_driver::Counted;
+use std::fs::File;
+use std::io::{ErrorKind, Read};
+use std::process::ExitCode;
+use std::io;
+
+/// The most bytes that are read of a file.
+const MOST: u64 = 65536;
+
+/// The examples' names.
+const EXAMPLES: [&str; 23] = [
+    "arithmetic", "bases", "bits", "brackets", "caesar", "calculator", "checksum", "collatz", "comments", "counts",
+    "decimal", "echo", "fletcher", "hello", "hiding", "nesting", "powers", "prime_table", "primes", "shortcut", "swap",
+    "triangle", "upper",
+];
+
+/// The bytes of a file.
+fn bytes_of(rt: &HostRuntime, path: &str) -> io::Result<Vec<u8>> {
+    let mut bytes = Vec::new(rt.alloc());
+    File::open(rt, path)?.take(MOST).read_to_end(&mut bytes)?;
+    Ok(bytes)
+}
+
+/// What is expected of an example: the input, the output or the ending. An example without input has no file of it.
+fn expected(rt: &HostRuntime, name: &str, what: &str) -> io::Result<Vec<u8>> {
+    let path = format!(in rt.alloc(); "expected/{name}.{what}")?;
+    match bytes_of(rt, path.as_str()) {
+        Err(error) if error.kind() == ErrorKind::NotFound => Ok(Vec::new(rt.alloc())),
+        bytes => bytes,
+    }
+}
+
+/// What a command writes on a source and an input, and what it says.
+fn answered(rt: &HostRuntime, command: &str, source: &[u8], input: &[u8]) -> io::Result<(Vec<u8>, Vec<u8>)> {
+    let words = ["cycc", command, "IN", "--ending"];
+    let Ok(command) = command_of(rt.alloc(), &words) else {
+        return Err(ErrorKind::InvalidInput.into());
+    };
+    let mut reader = Counted::new(input);
+    let mut writer = Counted::new(Vec::new(rt.alloc()));
+    let mut said = Vec::new(rt.alloc());
+    answer(rt.alloc(), &command, source, &mut reader, &mut writer, &mut said)?;
+    Ok((writer.into_inner(), said))
+}
+
+/// Runs an example by a command, and prints whether it does what is expected.
+fn compare(rt: &HostRuntime, name: &str, command: &str) -> io::Result<()> {
+    let path = format!(in rt.alloc(); "{name}.cyc")?;
+    let source = bytes_of(rt, path.as_str())?;
+    let input = expected(rt, name, "in")?;
+    let (output, said) = answered(rt, command, &source, &input)?;
+    if output == expected(rt, name, "out")? && said == expected(rt, name, "ending")? {
+        println!(rt; "{command} {name}: as expected")
+    } else {
+        println!(rt; "{command} {name}: differs")
+    }
+}
+
+fn compare_all(rt: &HostRuntime) -> io::Result<()> {
+    for name in &EXAMPLES {
+        compare(rt, name, "run")?;
+        compare(rt, name, "eval")?;
+    }
+    Ok(())
+}
+
+fn main(rt: HostRuntime) -> ExitCode {
+    match compare_all(&rt) {
+        Ok(()) => ExitCode::SUCCESS,
+        Err(_) => ExitCode::FAILURE,
+    }
+}

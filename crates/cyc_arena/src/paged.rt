@@ -1,9 +1,10 @@
 // The allocator as a store: keys over regions with unique blocks.
 
-ghost use Rattle.std.specs.Prelude.{◌≡◌, ◌≤◌, IfOk};
+ghost use Rattle.std.specs.Prelude.{◌≡◌, ◌≢◌, ◌≤◌, IfOk};
+ghost use Rattle.arena_laws.specs.Asked.{KeyNew, RegionAlloc, RegionNew, UniqueAlloc, is_short};
 ghost use Rattle.arena_laws.specs.Holdings.{fresh};
-ghost use Rattle.arena_laws.specs.Lawful.{key_free, region_free};
-ghost use Rattle.arena_laws.specs.Laws.{Does, unit_result};
+ghost use Rattle.arena_laws.specs.Lawful.{Lacks, key_free, region_free};
+ghost use Rattle.arena_laws.specs.Laws.{Does, answer_of, is_refused_full, key_new, region_alloc, region_new, unique_alloc, unit_result};
 ghost use Rattle.dynamic_region.specs.Calls as key_calls;
 ghost use Rattle.dynamic_region.specs.Keyed.{held_by};
 ghost use Rattle.region_runtime.specs.Calls as region_calls;
@@ -85,14 +86,26 @@ impl<R: Blocks> BlockStore for PagedStore<R> {
 
     ghost byte_at = { λ s. R.byte_at s.keys.regions };
 
-    fn region_new(&mut self) -> Result<u32, StoreRefusal> {
+    fn region_new(&mut self) -> Result<u32, StoreRefusal>
+        ensures does { let held = held_by R.holdings R.tag_of in
+            Does result (held self.new.keys.regions) (region_new (answer_of result) (held self.old.keys.regions)) }
+        ensures bytes { R.byte_at self.new.keys.regions ≡ R.byte_at self.old.keys.regions }
+        ensures full { is_refused_full result ≡ is_short RegionNew (held_by R.holdings R.tag_of self.old.keys.regions) }
+        ensures never { answer_of result ≢ Lacks }
+    {
         match self.keys.region_new() {
             Some(handle) => Ok(handle.0),
             None => Err(StoreRefusal::Full),
         }
     }
 
-    fn region_alloc(&mut self, handle: u32, bytes: u32) -> Result<u32, StoreRefusal> {
+    fn region_alloc(&mut self, handle: u32, bytes: u32) -> Result<u32, StoreRefusal>
+        ensures does { let held = held_by R.holdings R.tag_of in
+            Does result (held self.new.keys.regions) (region_alloc handle bytes (answer_of result) (held self.old.keys.regions)) }
+        ensures bytes { R.byte_at self.new.keys.regions ≡ R.byte_at self.old.keys.regions }
+        ensures full { is_refused_full result ≡ is_short (RegionAlloc handle bytes) (held_by R.holdings R.tag_of self.old.keys.regions) }
+        ensures never { answer_of result ≢ Lacks }
+    {
         match self.keys.region_alloc(Handle(handle), bytes) {
             Ok(at) => Ok(at),
             Err(why) => Err(of_region(why)),
@@ -113,7 +126,13 @@ impl<R: Blocks> BlockStore for PagedStore<R> {
         }
     }
 
-    fn unique_alloc(&mut self, bytes: u32) -> Result<u32, StoreRefusal> {
+    fn unique_alloc(&mut self, bytes: u32) -> Result<u32, StoreRefusal>
+        ensures does { let held = held_by R.holdings R.tag_of in
+            Does result (held self.new.keys.regions) (unique_alloc bytes (answer_of result) (held self.old.keys.regions)) }
+        ensures bytes { R.byte_at self.new.keys.regions ≡ R.byte_at self.old.keys.regions }
+        ensures full { is_refused_full result ≡ is_short (UniqueAlloc bytes) (held_by R.holdings R.tag_of self.old.keys.regions) }
+        ensures never { answer_of result ≢ Lacks }
+    {
         self.keys.unique_alloc(bytes)
     }
 
@@ -121,7 +140,13 @@ impl<R: Blocks> BlockStore for PagedStore<R> {
         self.keys.unique_free(at)
     }
 
-    fn key_new(&mut self) -> Result<u32, StoreRefusal> {
+    fn key_new(&mut self) -> Result<u32, StoreRefusal>
+        ensures does { let held = held_by R.holdings R.tag_of in
+            Does result (held self.new.keys.regions) (key_new (answer_of result) (held self.old.keys.regions)) }
+        ensures bytes { R.byte_at self.new.keys.regions ≡ R.byte_at self.old.keys.regions }
+        ensures full { is_refused_full result ≡ is_short KeyNew (held_by R.holdings R.tag_of self.old.keys.regions) }
+        ensures never { answer_of result ≢ Lacks }
+    {
         match self.keys.key_new() {
             Ok(key) => Ok(key.0),
             Err(why) => Err(of_key(why)),

@@ -1,10 +1,11 @@
 // The plain store: tables that are read from their beginning at each call.
 
-ghost use Rattle.std.specs.Prelude.{◌≡◌, ◌<◌, true, IfOk};
+ghost use Rattle.std.specs.Prelude.{◌≡◌, ◌≢◌, ◌<◌, true, IfOk};
+ghost use Rattle.arena_laws.specs.Asked.{KeyNew, RegionAlloc, RegionNew, UniqueAlloc, is_short};
 ghost use Rattle.arena_laws.specs.Counts.{is_full};
 ghost use Rattle.arena_laws.specs.Holdings.{fresh, is_some};
-ghost use Rattle.arena_laws.specs.Lawful.{without_number};
-ghost use Rattle.arena_laws.specs.Laws.{Does, answer_of, is_refused_full, made};
+ghost use Rattle.arena_laws.specs.Lawful.{Lacks, without_number};
+ghost use Rattle.arena_laws.specs.Laws.{Does, answer_of, is_refused_full, key_new, made, region_alloc, region_new, unique_alloc};
 ghost use Rattle.cyc_arena.specs.Plain.{byte_at, holdings_of, standing_at};
 ghost use Rattle.raw_pages.specs.Raw.{is_no_page_count, is_pages_fault};
 
@@ -84,6 +85,7 @@ impl PlainStore {
         ensures does { Does result (holdings_of self.new) (made standing (answer_of result) (holdings_of self.old)) }
         ensures full { is_refused_full result ≡ is_full (holdings_of self.old).counts }
         ensures bytes { self.new.bytes ≡ self.old.bytes }
+        ensures never { answer_of result ≢ Lacks }
     {
         match find(&self.owner, 0) {
             Some(page) => {
@@ -147,11 +149,21 @@ impl BlockStore for PlainStore {
 
     ghost byte_at = { λ s. byte_at s.bytes };
 
-    fn region_new(&mut self) -> Result<u32, StoreRefusal> {
+    fn region_new(&mut self) -> Result<u32, StoreRefusal>
+        ensures does { Does result (holdings_of self.new) (region_new (answer_of result) (holdings_of self.old)) }
+        ensures bytes { byte_at self.new.bytes ≡ byte_at self.old.bytes }
+        ensures full { is_refused_full result ≡ is_short RegionNew (holdings_of self.old) }
+        ensures never { answer_of result ≢ Lacks }
+    {
         self.make(Standing::Lexical)
     }
 
-    fn region_alloc(&mut self, handle: u32, bytes: u32) -> Result<u32, StoreRefusal> {
+    fn region_alloc(&mut self, handle: u32, bytes: u32) -> Result<u32, StoreRefusal>
+        ensures does { Does result (holdings_of self.new) (region_alloc handle bytes (answer_of result) (holdings_of self.old)) }
+        ensures bytes { byte_at self.new.bytes ≡ byte_at self.old.bytes }
+        ensures full { is_refused_full result ≡ is_short (RegionAlloc handle bytes) (holdings_of self.old) }
+        ensures never { answer_of result ≢ Lacks }
+    {
         if !takes(handle, standing_of(&self.standing, handle)) {
             return Err(StoreRefusal::BadHandle);
         }
@@ -189,7 +201,12 @@ impl BlockStore for PlainStore {
         }
     }
 
-    fn unique_alloc(&mut self, bytes: u32) -> Result<u32, StoreRefusal> {
+    fn unique_alloc(&mut self, bytes: u32) -> Result<u32, StoreRefusal>
+        ensures does { Does result (holdings_of self.new) (unique_alloc bytes (answer_of result) (holdings_of self.old)) }
+        ensures bytes { byte_at self.new.bytes ≡ byte_at self.old.bytes }
+        ensures full { is_refused_full result ≡ is_short (UniqueAlloc bytes) (holdings_of self.old) }
+        ensures never { answer_of result ≢ Lacks }
+    {
         if bytes > PAGE {
             return Err(StoreRefusal::Full);
         }
@@ -231,7 +248,12 @@ impl BlockStore for PlainStore {
         }
     }
 
-    fn key_new(&mut self) -> Result<u32, StoreRefusal> {
+    fn key_new(&mut self) -> Result<u32, StoreRefusal>
+        ensures does { Does result (holdings_of self.new) (key_new (answer_of result) (holdings_of self.old)) }
+        ensures bytes { byte_at self.new.bytes ≡ byte_at self.old.bytes }
+        ensures full { is_refused_full result ≡ is_short KeyNew (holdings_of self.old) }
+        ensures never { answer_of result ≢ Lacks }
+    {
         self.make(Standing::Closed)
     }
 

@@ -1,8 +1,8 @@
 // Unique blocks beside the regions.
 
-ghost use Rattle.std.specs.Prelude.{◌≡◌, ◌≤◌};
+ghost use Rattle.std.specs.Prelude.{◌≡◌, ◌≢◌, ◌≤◌};
 ghost use Rattle.arena_laws.specs.Counts.{is_full_for_slot};
-ghost use Rattle.arena_laws.specs.Lawful.{unique_free};
+ghost use Rattle.arena_laws.specs.Lawful.{Lacks, unique_free};
 ghost use Rattle.arena_laws.specs.Laws.{Does, answer_of, is_refused_full, unique_alloc, unit_result};
 ghost use Rattle.dynamic_region.specs.Keyed.{held_by};
 
@@ -18,6 +18,7 @@ pub trait Blocks: Regions {
     fn unique_alloc(&mut self, bytes: u32) -> Result<u32, StoreRefusal>
         ensures does { Does result (Self.holdings self.new) (unique_alloc bytes (answer_of result) (Self.holdings self.old)) }
         ensures full { is_refused_full result ≡ is_full_for_slot bytes (Self.holdings self.old).counts }
+        ensures never { answer_of result ≢ Lacks }
         ensures tags { Self.tag_of self.new ≡ Self.tag_of self.old }
         ensures bytes { Self.byte_at self.new ≡ Self.byte_at self.old }
         ensures fresh { Self.ever_used self.old ≤ Self.ever_used self.new };
@@ -39,6 +40,7 @@ impl<R: Blocks> Keys<R> {
         ensures does { let held = held_by R.holdings R.tag_of in
             Does result (held self.new.regions) (unique_alloc bytes (answer_of result) (held self.old.regions)) }
         ensures full { is_refused_full result ≡ is_full_for_slot bytes (R.holdings self.old.regions).counts }
+        ensures never { answer_of result ≢ Lacks }
         ensures bytes { R.byte_at self.new.regions ≡ R.byte_at self.old.regions }
         ensures fresh { R.ever_used self.old.regions ≤ R.ever_used self.new.regions }
     {

@@ -4,35 +4,6 @@ use dynamic_region::{Handle, Key, KeyRefusal, Keys, Pool, Refusal};
 use std::test::Fail;
 
 #[test]
-fn keys_are_closed_open_or_freed(rt: HostRuntime) -> Result<(), Fail> {
-    let mut keys = Keys::new(Pool::new(rt.alloc(), 1)?);
-    let key = keys.key_new()?;
-    assert_eq!(rt; keys.key_new(), Err(KeyRefusal::Full));
-    assert_eq!(rt; keys.key_close(key), Err(KeyRefusal::NotOpen));
-    assert_eq!(rt;
-        keys.region_alloc(Handle(key.0), 8),
-        Err(Refusal::BadHandle)
-    );
-    let handle = keys.key_open(key)?;
-    assert_eq!(rt; handle, Handle(key.0));
-    assert_eq!(rt; keys.key_open(key), Err(KeyRefusal::Open));
-    assert_eq!(rt; keys.key_free(key), Err(KeyRefusal::Open));
-    assert_eq!(rt; keys.region_free(handle), Err(Refusal::BadHandle));
-    let block = keys.region_alloc(handle, 8)?;
-    assert_eq!(rt; keys.key_close(key), Ok(()));
-    assert!(rt; keys.is_live(block));
-    assert_eq!(rt; keys.region_free(handle), Err(Refusal::BadHandle));
-    assert_eq!(rt; keys.key_free(key), Ok(()));
-    assert!(rt; keys.touched() <= 8);
-    assert!(rt; !keys.is_live(block));
-    assert_eq!(rt; keys.key_free(key), Err(KeyRefusal::BadKey));
-    assert_eq!(rt; keys.key_open(key), Err(KeyRefusal::BadKey));
-    assert_eq!(rt; keys.key_close(key), Err(KeyRefusal::BadKey));
-    keys.key_new()?;
-    Ok(())
-}
-
-#[test]
 fn a_regions_handle_is_no_key(rt: HostRuntime) -> Result<(), Fail> {
     let mut keys = Keys::new(Pool::new(rt.alloc(), 2)?);
     let Some(handle) = keys.region_new() else {

@@ -6,15 +6,17 @@
 #[cfg(test)]
 mod driven;
 #[cfg(test)]
-mod keys;
+mod edges;
 #[cfg(test)]
-mod plain;
+mod keys;
 #[cfg(test)]
 mod pool;
 #[cfg(test)]
 mod raw;
 #[cfg(test)]
 mod rows;
+#[cfg(test)]
+mod tables;
 #[cfg(test)]
 mod unique;
 

@@ -1,32 +1,7 @@
 // A pool call by call, its refusals and its edges.
 
-use region_runtime::{Handle, PagesFault, Pool, Refusal};
+use region_runtime::{Handle, PagesFault, Pool};
 use std::test::Fail;
-
-#[test]
-fn blocks_are_cut_from_pages(rt: HostRuntime) -> Result<(), Fail> {
-    let mut pool = Pool::new(rt.alloc(), 2)?;
-    let Some(handle) = pool.region_new() else {
-        return Err(Fail::new("no page"));
-    };
-    assert_eq!(rt; pool.region_alloc(handle, 4097), Err(Refusal::Full));
-    assert_eq!(rt; pool.free_pages(), 1);
-    let whole = pool.region_alloc(handle, 4096)?;
-    let small = pool.region_alloc(handle, 1)?;
-    assert_ne!(rt; whole, small);
-    assert!(rt; pool.is_live(small));
-    assert!(rt; !pool.is_live(small.wrapping_add(8)));
-    assert_eq!(rt; pool.region_alloc(handle, 4089), Err(Refusal::Full));
-    let rest = pool.region_alloc(handle, 4080)?;
-    assert_eq!(rt; rest % 8, 0);
-    assert_eq!(rt; pool.region_new(), None);
-    assert_eq!(rt; pool.region_free(handle), Ok(()));
-    assert!(rt; !pool.is_live(small));
-    assert_eq!(rt; pool.region_free(handle), Err(Refusal::BadHandle));
-    assert_eq!(rt; pool.region_alloc(handle, 4097), Err(Refusal::BadHandle));
-    assert!(rt; pool.region_new().is_some());
-    Ok(())
-}
 
 #[test]
 fn a_region_is_freed_by_few_words(rt: HostRuntime) -> Result<(), Fail> {

@@ -1,29 +1,62 @@
-// What each store answers call by call, whatever the bytes of its arena are.
+// What each crate answers call by call, by the tables.
 
-use crate::BASE;
+use crate::tables::{Asked, COUNTED_PAGES, MANY_PAGES, ONE_PAGE, TWO_PAGES, counted, unlike};
 use cyc_arena::{BlockStore, PagedStore, PagesFault, PlainStore, StoreRefusal};
+use dynamic_region::{Blocks, Handle, Key, KeyRefusal, Keys, Pool, Refusal, Regions, UniqueBlocks};
 use std::test::Fail;
 
-// stores FF to every byte of the arena
-fn fill<S: BlockStore>(store: &mut S) {
-    for place in 0..store.pages() * 4096 {
-        store.store8(BASE + place, 255);
+// a region's refusal, as a store's
+fn of_region(why: Refusal) -> StoreRefusal {
+    match why {
+        Refusal::Full => StoreRefusal::Full,
+        Refusal::BadHandle => StoreRefusal::BadHandle,
     }
 }
 
-// a call by its name, with a number of bytes, on the region, key or unique block that was made last
-fn ask<S: BlockStore>(
+// a key's refusal, as a store's
+fn of_key(why: KeyRefusal) -> StoreRefusal {
+    match why {
+        KeyRefusal::Full => StoreRefusal::Full,
+        KeyRefusal::BadKey => StoreRefusal::BadKey,
+        KeyRefusal::Open => StoreRefusal::Open,
+        KeyRefusal::NotOpen => StoreRefusal::NotOpen,
+    }
+}
+
+// a call of regions
+fn ask_regions<R: Regions>(
+    regions: &mut R,
+    call: &str,
+    last: u32,
+    number: u32,
+) -> Result<u32, StoreRefusal> {
+    let handle = Handle(last);
+    match call {
+        "region_new" => match regions.region_new() {
+            Some(made) => Ok(made.0),
+            None => Err(StoreRefusal::Full),
+        },
+        "region_alloc" => regions.region_alloc(handle, number).map_err(of_region),
+        "region_free" => regions.region_free(handle).map(|()| 0).map_err(of_region),
+        "free_pages" => counted(regions.free_pages(), number),
+        "fresh_pages" => counted(regions.fresh_pages(), number),
+        _ => Err(StoreRefusal::Memory),
+    }
+}
+
+// a call of a store
+fn ask_store<S: BlockStore>(
     store: &mut S,
     call: &str,
     last: u32,
-    bytes: u32,
+    number: u32,
 ) -> Result<u32, StoreRefusal> {
     match call {
         "region_new" => store.region_new(),
-        "region_alloc" => store.region_alloc(last, bytes),
+        "region_alloc" => store.region_alloc(last, number),
         "region_free" => store.region_free(last).map(|()| 0),
-        "unique_alloc" => store.unique_alloc(bytes),
-        "unique_free" => store.unique_free(last.wrapping_add(bytes)).map(|()| 0),
+        "unique_alloc" => store.unique_alloc(number),
+        "unique_free" => store.unique_free(last.wrapping_add(number)).map(|()| 0),
         "key_new" => store.key_new(),
         "key_open" => store.key_open(last),
         "key_close" => store.key_close(last).map(|()| 0),
@@ -32,93 +65,79 @@ fn ask<S: BlockStore>(
     }
 }
 
-// the refusal of a name, and none for Ok
-fn refusal_named(name: &str) -> Option<StoreRefusal> {
-    match name {
-        "Ok" => None,
-        "Full" => Some(StoreRefusal::Full),
-        "BadHandle" => Some(StoreRefusal::BadHandle),
-        "NotABlock" => Some(StoreRefusal::NotABlock),
-        "BadKey" => Some(StoreRefusal::BadKey),
-        "Open" => Some(StoreRefusal::Open),
-        "NotOpen" => Some(StoreRefusal::NotOpen),
-        _ => Some(StoreRefusal::Memory),
+impl Asked for Pool {
+    fn ask(&mut self, call: &str, last: u32, number: u32) -> Result<u32, StoreRefusal> {
+        ask_regions(self, call, last, number)
+    }
+
+    fn put(&mut self, at: u32, byte: u8) -> bool {
+        self.store8(at, byte)
     }
 }
 
-// Makes the calls of a text: its first line that was answered otherwise, or none. A line has how often
-// a call is made, its name, a number of bytes, and the refusal or Ok.
-fn unlike<'t, S: BlockStore>(store: &mut S, text: &'t str) -> Result<Option<&'t str>, Fail> {
-    let mut last = 0;
-    for line in text.lines() {
-        let mut words = line.split(' ');
-        let times = words.next().unwrap_or("").parse::<u32>()?;
-        let call = words.next().unwrap_or("");
-        let bytes = words.next().unwrap_or("").parse::<u32>()?;
-        let wanted = refusal_named(words.next().unwrap_or(""));
-        for _ in 0..times {
-            let said = ask(store, call, last, bytes);
-            if said.err() != wanted {
-                return Ok(Some(line));
-            }
-            if let Ok(number) = said {
-                if call.ends_with("new") || call == "unique_alloc" {
-                    last = number;
-                }
-            }
+impl Asked for UniqueBlocks {
+    fn ask(&mut self, call: &str, last: u32, number: u32) -> Result<u32, StoreRefusal> {
+        ask_regions(self, call, last, number)
+    }
+
+    fn put(&mut self, at: u32, byte: u8) -> bool {
+        UniqueBlocks::store8(self, at, byte)
+    }
+}
+
+impl<R: Blocks> Asked for Keys<R> {
+    fn ask(&mut self, call: &str, last: u32, number: u32) -> Result<u32, StoreRefusal> {
+        let (handle, key) = (Handle(last), Key(last));
+        match call {
+            "region_new" => match self.region_new() {
+                Some(made) => Ok(made.0),
+                None => Err(StoreRefusal::Full),
+            },
+            "region_alloc" => self.region_alloc(handle, number).map_err(of_region),
+            "region_free" => self.region_free(handle).map(|()| 0).map_err(of_region),
+            "unique_alloc" => self.unique_alloc(number),
+            "unique_free" => self.unique_free(last.wrapping_add(number)).map(|()| 0),
+            "key_new" => self.key_new().map(|key| key.0).map_err(of_key),
+            "key_open" => self.key_open(key).map(|handle| handle.0).map_err(of_key),
+            "key_close" => self.key_close(key).map(|()| 0).map_err(of_key),
+            "key_free" => self.key_free(key).map(|()| 0).map_err(of_key),
+            "free_pages" => counted(self.free_pages(), number),
+            "fresh_pages" => counted(self.fresh_pages(), number),
+            _ => Err(StoreRefusal::Memory),
         }
-        fill(store);
     }
-    Ok(None)
+
+    fn put(&mut self, at: u32, byte: u8) -> bool {
+        self.store8(at, byte)
+    }
 }
 
-// a store of two pages
-const TWO_PAGES: &str = "1 region_new 0 Ok
-1 region_alloc 4097 Full
-1 region_alloc 4096 Ok
-1 region_alloc 1 Ok
-1 region_alloc 4089 Full
-1 region_alloc 4080 Ok
-1 region_free 0 Ok
-1 region_free 0 BadHandle
-1 region_new 0 Ok";
+impl Asked for PlainStore {
+    fn ask(&mut self, call: &str, last: u32, number: u32) -> Result<u32, StoreRefusal> {
+        ask_store(self, call, last, number)
+    }
 
-// a store of one page
-const ONE_PAGE: &str = "1 key_new 0 Ok
-1 key_close 0 NotOpen
-1 region_free 0 BadHandle
-1 region_alloc 8 BadHandle
-1 key_open 0 Ok
-1 key_open 0 Open
-1 key_free 0 Open
-1 region_alloc 8 Ok
-1 key_close 0 Ok
-1 key_free 0 Ok
-1 key_free 0 BadKey
-1 unique_alloc 4097 Full
-1 unique_alloc 0 Ok
-1 unique_free 8 NotABlock
-1 key_new 0 Full
-1 unique_free 0 Ok
-1 unique_free 0 NotABlock
-127 unique_alloc 32 Ok
-1 unique_alloc 32 Ok
-1 unique_alloc 32 Full";
+    fn put(&mut self, at: u32, byte: u8) -> bool {
+        self.store8(at, byte)
+    }
+}
 
-// a store of 64 pages
-const MANY_PAGES: &str = "1 region_new 0 Ok
-60 region_alloc 4096 Ok
-1 region_free 0 Ok
-1 region_new 0 Ok
-64 region_alloc 4096 Ok
-1 region_alloc 1 Full
-1 region_free 0 Ok
-64 region_new 0 Ok
-1 region_new 0 Full";
+impl<R: Blocks> Asked for PagedStore<R> {
+    fn ask(&mut self, call: &str, last: u32, number: u32) -> Result<u32, StoreRefusal> {
+        ask_store(self, call, last, number)
+    }
+
+    fn put(&mut self, at: u32, byte: u8) -> bool {
+        self.store8(at, byte)
+    }
+}
+
+// pages and a table of calls on them
+const STORE_ROWS: [(u32, &str); 3] = [(2, TWO_PAGES), (1, ONE_PAGE), (64, MANY_PAGES)];
 
 #[test]
 fn a_plain_store_answers_by_its_laws(rt: HostRuntime) -> Result<(), Fail> {
-    for (pages, text) in [(2, TWO_PAGES), (1, ONE_PAGE), (64, MANY_PAGES)] {
+    for (pages, text) in STORE_ROWS {
         let mut store = PlainStore::new(rt.alloc(), pages)?;
         assert_eq!(rt; unlike(&mut store, text)?, None);
     }
@@ -127,9 +146,29 @@ fn a_plain_store_answers_by_its_laws(rt: HostRuntime) -> Result<(), Fail> {
 
 #[test]
 fn a_paged_store_answers_by_its_laws(rt: HostRuntime) -> Result<(), Fail> {
-    for (pages, text) in [(2, TWO_PAGES), (1, ONE_PAGE), (64, MANY_PAGES)] {
+    for (pages, text) in STORE_ROWS {
         let mut store = PagedStore::new(rt.alloc(), pages)?;
         assert_eq!(rt; unlike(&mut store, text)?, None);
+    }
+    Ok(())
+}
+
+#[test]
+fn keys_over_unique_blocks_answer_by_their_laws(rt: HostRuntime) -> Result<(), Fail> {
+    for (pages, text) in [(2, TWO_PAGES), (1, ONE_PAGE), (64, COUNTED_PAGES)] {
+        let blocks = UniqueBlocks::new(Pool::new(rt.alloc(), pages)?);
+        assert_eq!(rt; unlike(&mut Keys::new(blocks), text)?, None);
+    }
+    Ok(())
+}
+
+#[test]
+fn regions_answer_by_their_laws(rt: HostRuntime) -> Result<(), Fail> {
+    for (pages, text) in [(2, TWO_PAGES), (64, COUNTED_PAGES), (64, MANY_PAGES)] {
+        let mut pool = Pool::new(rt.alloc(), pages)?;
+        assert_eq!(rt; unlike(&mut pool, text)?, None);
+        let mut blocks = UniqueBlocks::new(Pool::new(rt.alloc(), pages)?);
+        assert_eq!(rt; unlike(&mut blocks, text)?, None);
     }
     Ok(())
 }
@@ -146,15 +185,15 @@ fn a_region_is_freed_by_few_words(rt: HostRuntime) -> Result<(), Fail> {
     Ok(())
 }
 
+// Where memory lacks as under rt try --test --fail-alloc, no store is made, and one that is made never lacks any.
 #[test]
 fn where_memory_lacks_no_store_is_made(rt: HostRuntime) -> Result<(), Fail> {
-    match PlainStore::new(rt.alloc(), 3) {
-        Ok(store) => assert_eq!(rt; store.pages(), 3),
-        // as under rt try --test --fail-alloc
+    match PlainStore::new(rt.alloc(), 1) {
+        Ok(mut store) => assert_eq!(rt; unlike(&mut store, ONE_PAGE)?, None),
         Err(fault) => assert_eq!(rt; fault, PagesFault::Memory),
     }
-    match PagedStore::new(rt.alloc(), 3) {
-        Ok(store) => assert_eq!(rt; store.pages(), 3),
+    match PagedStore::new(rt.alloc(), 1) {
+        Ok(mut store) => assert_eq!(rt; unlike(&mut store, ONE_PAGE)?, None),
         Err(fault) => assert_eq!(rt; fault, PagesFault::Memory),
     }
     Ok(())

@@ -2,4 +2,5 @@ mod Arguments
 mod Bodies
 mod Lists
 mod Lookups
+mod Tables
 mod Taken

@@ -1,2 +1,3 @@
 pub mod Refusals
+pub mod Tables
 pub mod Views

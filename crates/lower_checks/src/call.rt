@@ -14,9 +14,9 @@ use crate::emit::{emit, emit_operation};
 use crate::fault::LowerFault;
 use crate::names::after;
 use crate::shape::Shape;
-use crate::table::{function_named, function_number};
+use crate::table::Table;
 use cyc_core::{Operation, Statement, Temporary};
-use cyc_tree::{Expression, Member, Program};
+use cyc_tree::{Expression, Member};
 use std::alloc::Global;
 
 /// The shapes of parameters, in order.
@@ -37,7 +37,7 @@ pub fn part_shapes(alloc: Global, parameters: &[Member]) -> Result<Vec<Shape>, L
 /// The shapes of what a function of a name takes; none where there is no such function.
 pub fn call_parameters(
     alloc: Global,
-    program: &Program,
+    program: &Table<'_>,
     name: &[u8],
 ) -> Result<Vec<Shape>, LowerFault>
     ensures shapes { IfOk result (λ shapes. map shape_tree shapes.items ≡ call_parameters (world_of program.now) name.now) }
@@ -53,8 +53,8 @@ pub fn call_parameters(
         }
         return Ok(shapes);
     }
-    match function_named(program.items(), name) {
-        Some(function) => part_shapes(alloc, &function.parameters),
+    match program.function_named(name) {
+        Some(callee) => part_shapes(alloc, &callee.function.parameters),
         None => Ok(shapes),
     }
 }
@@ -82,7 +82,7 @@ fn passed_from(
 /// Appends the call of a function, the values of whose arguments are in the temporaries from this one on.
 pub fn lower_call(
     alloc: Global,
-    program: &Program,
+    program: &Table<'_>,
     body: &mut Vec<Statement>,
     name: &[u8],
     arguments: &[Expression],
@@ -100,11 +100,10 @@ pub fn lower_call(
     if name == b"putchar".as_slice() {
         return emit_operation(body, Operation::Putchar(to, to));
     }
-    let Some(function) = function_named(program.items(), name) else {
+    let Some(callee) = program.function_named(name) else {
         return Ok(());
     };
-    let number = function_number(program.items(), name)?;
-    let result = Shape::of(&function.result)?.result_in(to);
+    let result = Shape::of(&callee.function.result)?.result_in(to);
     let passed = passed_from(alloc, arguments, to)?;
-    emit(body, Statement::Call(result, number, passed))
+    emit(body, Statement::Call(result, callee.number, passed))
 }

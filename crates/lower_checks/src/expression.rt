@@ -16,9 +16,10 @@ use crate::names::{Named, after};
 use crate::operator::{applied, operator_shape};
 use crate::shape::Shape;
 use crate::shaped::static_shape;
+use crate::table::Table;
 use crate::variable::{lower_get, lower_put};
 use cyc_core::{Binary, Operation, Statement, Temporary};
-use cyc_tree::{Expression, Link, Operator, Prefix, Program};
+use cyc_tree::{Expression, Link, Operator, Prefix};
 use std::alloc::Global;
 
 /// Appends what makes 1 of a word that isn't 0.
@@ -54,7 +55,7 @@ pub fn lower_conversion(
 #[cycle(expression)]
 pub fn lower_expression(
     alloc: Global,
-    program: &Program,
+    program: &Table<'_>,
     locals: &[Named<'_>],
     expression: &Expression,
     body: &mut Vec<Statement>,
@@ -106,7 +107,7 @@ pub fn lower_expression(
 #[cycle(expression)]
 fn lower_assign(
     alloc: Global,
-    program: &Program,
+    program: &Table<'_>,
     locals: &[Named<'_>],
     value: &Expression,
     place: &Expression,
@@ -135,7 +136,7 @@ fn lower_assign(
 #[cycle(expression)]
 fn lower_called(
     alloc: Global,
-    program: &Program,
+    program: &Table<'_>,
     locals: &[Named<'_>],
     arguments: &[Expression],
     body: &mut Vec<Statement>,
@@ -159,7 +160,7 @@ fn lower_called(
 #[cycle(expression)]
 fn lower_prefixed(
     alloc: Global,
-    program: &Program,
+    program: &Table<'_>,
     locals: &[Named<'_>],
     operand: &Expression,
     body: &mut Vec<Statement>,
@@ -206,7 +207,7 @@ fn lower_prefixed(
 #[cycle(expression)]
 fn lower_links(
     alloc: Global,
-    program: &Program,
+    program: &Table<'_>,
     locals: &[Named<'_>],
     links: &[Link],
     body: &mut Vec<Statement>,
@@ -234,7 +235,7 @@ fn lower_links(
 #[cycle(expression)]
 fn lower_all(
     alloc: Global,
-    program: &Program,
+    program: &Table<'_>,
     locals: &[Named<'_>],
     operands: &[Expression],
     body: &mut Vec<Statement>,
@@ -258,7 +259,7 @@ fn lower_all(
 #[cycle(expression)]
 fn lower_any(
     alloc: Global,
-    program: &Program,
+    program: &Table<'_>,
     locals: &[Named<'_>],
     operands: &[Expression],
     body: &mut Vec<Statement>,
@@ -283,7 +284,7 @@ fn lower_any(
 #[tactic(auto, using(crate::proofs::Arguments::no_arguments))]
 fn lower_arguments(
     alloc: Global,
-    program: &Program,
+    program: &Table<'_>,
     locals: &[Named<'_>],
     arguments: &[Expression],
     body: &mut Vec<Statement>,

@@ -16,9 +16,10 @@ use crate::fault::LowerFault;
 use crate::names::{Named, after, declare, number};
 use crate::shape::{Shape, widths_of};
 use crate::statement::lower_items;
+use crate::table::Table;
 use crate::usage::{passed, temporaries};
 use cyc_core::{Function, Operation, Statement, Temporary, Variable};
-use cyc_tree::{Function as Source, Member, Program};
+use cyc_tree::{Function as Source, Member};
 use std::alloc::Global;
 
 /// Declares the parameters, and appends what gives each its value, which is in the temporary of its number.
@@ -63,7 +64,7 @@ fn lower_end(body: &mut Vec<Statement>, shape: Shape) -> Result<(), LowerFault>
 /// What a function does.
 fn lower_body(
     alloc: Global,
-    program: &Program,
+    program: &Table<'_>,
     function: &Source,
 ) -> Result<Vec<Statement>, LowerFault>
     ensures code { IfOk result (λ body. body_tree body.items ≡ body_code (world_of program.now) (routine_of (source_tree function.now))) }
@@ -103,7 +104,7 @@ fn count(temporaries: u64) -> Result<u32, LowerFault>
 /// A function, with as many temporaries as it has parameters or its code uses.
 pub fn lower_function(
     alloc: Global,
-    program: &Program,
+    program: &Table<'_>,
     function: &Source,
 ) -> Result<Function, LowerFault>
     ensures code { IfOk result (λ lowered. function_tree lowered ≡ function_code (world_of program.now) (routine_of (source_tree function.now))) }

@@ -3,14 +3,15 @@
 //! `lower` appends operation after operation: an expression leaves its value in a temporary, and its
 //! parts use the temporaries above it; a block's locals have numbers in it. The result is the Core
 //! program of `program_code` in `source_lowering`. Programs of functions, globals and locals of
-//! integers are taken, and all others are refused. Names are looked up one after the other.
-//! Stands on `cyc_core`, `source_lowering` and `cyc_tree`.
+//! integers are taken, and all others are refused. Functions and globals are found by tables of
+//! their names. Stands on `cyc_core`, `source_lowering`, `cyc_tree` and `indexmap`.
 #![tactic(auto)]
 
 mod call;
 mod emit;
 mod expression;
 mod fault;
+mod first;
 mod function;
 mod names;
 mod operator;

@@ -14,7 +14,7 @@ ghost use Rattle.lower_checks.specs.Refusals.{NeverRefused};
 use crate::fault::LowerFault;
 use crate::function::lower_function;
 use crate::shape::Shape;
-use crate::table::function_number;
+use crate::table::{Table, function_number};
 use cyc_core::{Datum, Function, Program};
 use cyc_tree::{Constant, Global as Declared, Initial, Item, Program as Source};
 use cyc_words::sub32;
@@ -85,7 +85,7 @@ fn lower_globals(alloc: Global, program: &Source) -> Result<Vec<Datum>, LowerFau
 }
 
 /// The functions, in their order.
-fn lower_functions(alloc: Global, program: &Source) -> Result<Vec<Function>, LowerFault>
+fn lower_functions(alloc: Global, program: &Table<'_>) -> Result<Vec<Function>, LowerFault>
     ensures functions { IfOk result (λ functions. map function_tree functions.items ≡ map (function_code (world_of program.now)) (functions_of program.now)) }
     ensures taken { TakesProgram program.now → NeverRefused result }
 {
@@ -108,7 +108,8 @@ pub fn lower(alloc: Global, program: &Source) -> Result<Program, LowerFault>
     ensures code { IfOk result (λ core. program_tree core ≡ program_code program.now) }
     ensures taken { IsLowerable program.now → NeverRefused result }
 {
-    let functions = lower_functions(alloc, program)?;
+    let table = Table::new(alloc, program.items())?;
+    let functions = lower_functions(alloc, &table)?;
     let main = function_number(program.items(), b"main".as_slice())?;
     let globals = lower_globals(alloc, program)?;
     Ok(Program {

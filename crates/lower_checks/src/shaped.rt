@@ -13,8 +13,8 @@ use crate::fault::LowerFault;
 use crate::names::{Named, local_named};
 use crate::operator::{operator_shape, prefix_shape};
 use crate::shape::Shape;
-use crate::table::{function_named, global_named};
-use cyc_tree::{Expression, Link, Program};
+use crate::table::Table;
+use cyc_tree::{Expression, Link};
 
 /// The shape of a number: one without a suffix up to 2,147,483,647 is an int.
 fn number_shape(value: u32, suffix: bool) -> Shape
@@ -28,29 +28,29 @@ fn number_shape(value: u32, suffix: bool) -> Shape
 }
 
 /// The shape of a variable; `void` where there is none of that name.
-fn named_shape(program: &Program, locals: &[Named<'_>], name: &[u8]) -> Result<Shape, LowerFault>
+fn named_shape(program: &Table<'_>, locals: &[Named<'_>], name: &[u8]) -> Result<Shape, LowerFault>
     ensures shape { IfOk result (λ shape. shape_tree shape ≡ named_shape (world_of program.now) (names_of locals.entry.now) name.now) }
     ensures taken { TakesProgram program.now → NeverRefused result }
 {
     if let Some(local) = local_named(locals, name) {
         return Ok(local.shape);
     }
-    match global_named(program.items(), name)? {
+    match program.global_named(name) {
         Some(global) => Ok(global.shape),
         None => Ok(Shape::Void),
     }
 }
 
 /// The shape of a call; `void` where there is no function of that name.
-fn call_shape(program: &Program, name: &[u8]) -> Result<Shape, LowerFault>
+fn call_shape(program: &Table<'_>, name: &[u8]) -> Result<Shape, LowerFault>
     ensures shape { IfOk result (λ shape. shape_tree shape ≡ call_shape (world_of program.now) name.now) }
     ensures taken { TakesProgram program.now → NeverRefused result }
 {
     if name == b"getchar".as_slice() || name == b"putchar".as_slice() {
         return Ok(Shape::Int);
     }
-    match function_named(program.items(), name) {
-        Some(function) => Shape::of(&function.result),
+    match program.function_named(name) {
+        Some(callee) => Shape::of(&callee.function.result),
         None => Ok(Shape::Void),
     }
 }
@@ -58,7 +58,7 @@ fn call_shape(program: &Program, name: &[u8]) -> Result<Shape, LowerFault>
 /// The shape of an expression's type. Refuses what isn't of integers.
 #[cycle(shapes)]
 pub fn static_shape(
-    program: &Program,
+    program: &Table<'_>,
     locals: &[Named<'_>],
     expression: &Expression,
 ) -> Result<Shape, LowerFault>
@@ -87,7 +87,7 @@ pub fn static_shape(
 /// The shape of a chain, from that of what is on its left.
 #[cycle(shapes)]
 fn linked_shape(
-    program: &Program,
+    program: &Table<'_>,
     locals: &[Named<'_>],
     links: &[Link],
     first: Shape,

@@ -17,8 +17,9 @@ use crate::fault::LowerFault;
 use crate::names::{Named, declare, number, outward};
 use crate::shape::{Shape, add_shape, widths_of};
 use crate::shaped::static_shape;
+use crate::table::Table;
 use cyc_core::{Operation, Statement, Temporary, Variable};
-use cyc_tree::{BlockItem, Declaration, Expression, Initializer, Program, Statement as Source};
+use cyc_tree::{BlockItem, Declaration, Expression, Initializer, Statement as Source};
 use std::alloc::Global;
 
 /// The first temporary, which has the value of a statement's expression.
@@ -38,7 +39,7 @@ fn declared_shape(declaration: &Declaration) -> Result<Shape, LowerFault>
 /// Appends what gives the local of a number its first value: 0, or its initializer's value.
 fn lower_declaration(
     alloc: Global,
-    program: &Program,
+    program: &Table<'_>,
     locals: &[Named<'_>],
     declaration: &Declaration,
     body: &mut Vec<Statement>,
@@ -72,7 +73,7 @@ fn lower_declaration(
 /// Appends a return, with the value of an expression in the shape of the function's result.
 fn lower_return(
     alloc: Global,
-    program: &Program,
+    program: &Table<'_>,
     shape: Shape,
     locals: &[Named<'_>],
     value: &Expression,
@@ -97,7 +98,7 @@ fn lower_return(
 #[cycle(statement)]
 fn lower_statement<'p>(
     alloc: Global,
-    program: &Program,
+    program: &Table<'_>,
     shape: Shape,
     locals: &[Named<'p>],
     statement: &'p Source,
@@ -158,7 +159,7 @@ fn lower_statement<'p>(
 #[cycle(statement)]
 fn lower_part<'p>(
     alloc: Global,
-    program: &Program,
+    program: &Table<'_>,
     shape: Shape,
     locals: &[Named<'p>],
     statement: &'p Source,
@@ -178,7 +179,7 @@ fn lower_part<'p>(
 #[cycle(statement)]
 pub fn lower_items<'p>(
     alloc: Global,
-    program: &Program,
+    program: &Table<'_>,
     shape: Shape,
     outer: Vec<Named<'p>>,
     items: &'p [BlockItem],

@@ -1,19 +1,26 @@
 // The functions and globals of a program, by their names.
 
-ghost use Rattle.std.specs.Prelude.{◌≡◌, IfOk, IfSome, option_map};
-ghost use Rattle.cyc_tree.specs.View.{program_tree, function_tree};
-ghost use Rattle.source_meaning.specs.Places.{bound_to};
+ghost use Rattle.std.specs.Prelude.{◌≡◌, ℕ, suc, List, ◌∷◌, IfOk, OnOk, IfSome, option_map};
+ghost use Rattle.cyc_tree.specs.Tree as tree;
+ghost use Rattle.cyc_tree.specs.View.{program_tree, function_tree, global_tree};
+ghost use Rattle.source_meaning.specs.Shapes.{written, settled};
+ghost use Rattle.source_meaning.specs.Steps.{Variable};
+ghost use Rattle.source_meaning.specs.Places.{bound_to, or_else};
 ghost use Rattle.source_meaning.specs.Calls.{function_of};
-ghost use Rattle.source_meaning.specs.Programs.{functions_of, routine_of, globals_from};
+ghost use Rattle.source_meaning.specs.Programs.{functions_of, routine_of, globals_from, global_shape, heap_spot};
 ghost use Rattle.source_lowering.specs.Lowered.{number_of};
 ghost use Rattle.lower_checks.specs.Views.{found_entity};
-ghost use Rattle.source_lowering.specs.Taken.{TakesFunction, TakesProgram};
+ghost use Rattle.lower_checks.specs.Tables.{first_function, function_in, global_in};
+ghost use Rattle.source_lowering.specs.Taken.{IsIntegerType, TakesFunction, TakesInitial, TakesProgram};
 ghost use Rattle.lower_checks.specs.Refusals.{NeverRefused};
 
 use crate::fault::LowerFault;
+use crate::first::Firsts;
 use crate::names::after;
 use crate::shape::Shape;
-use cyc_tree::{Function, Initial, Item};
+use cyc_tree::{Function, Global as Declared, Initial, Item};
+use std::alloc::Global;
+use std::marker::Model;
 
 /// A global: its shape, and its number among the globals.
 #[derive(Clone, Copy)]
@@ -22,19 +29,140 @@ pub struct Found {
     pub object: u32,
 }
 
-/// The first function of a name.
-pub fn function_named<'p>(items: &'p [Item], name: &[u8]) -> Option<&'p Function>
-    ensures named { option_map (λ f. routine_of (function_tree f.now)) result ≡ function_of (functions_of (program_tree items.entry.now)) name.now }
-    ensures taken { TakesProgram (program_tree items.entry.now) → IfSome result (λ f. TakesFunction (function_tree f.now)) }
+/// A function, with its number among the functions.
+#[derive(Clone, Copy)]
+pub struct Callee<'p> {
+    pub function: &'p Function,
+    pub number: u32,
+}
+
+/// A program, with its functions and globals by their names. A contract sees it as the program's tree.
+#[derive(Drop)]
+pub struct Table<'p> {
+    items: &'p [Item],
+    functions: Firsts<'p, Callee<'p>>,
+    globals: Firsts<'p, Found>,
+}
+
+impl<'p> Model for Table<'p> {
+    ghost use Rattle.cyc_tree.specs.Tree.{Program as Tree};
+    ghost use Rattle.cyc_tree.specs.Tree as tree;
+    ghost use Rattle.cyc_tree.specs.View.{program_tree};
+    ghost use Rattle.lower_checks.specs.Tables.{AreTables};
+    ghost use Rattle.cyc_tree.specs.Stored.{coded_program};
+
+    ghost Value = { Tree };
+
+    ghost coded = { coded_program };
+
+    ghost view = { λ t. program_tree t.items.now };
+
+    ghost invariant = { λ t. AreTables (program_tree t.items.now) t.functions t.globals };
+}
+
+/// The first function of each name.
+fn first_functions<'p>(
+    alloc: Global,
+    items: &'p [Item],
+) -> Result<Firsts<'p, Callee<'p>>, LowerFault>
+    ensures first { IfOk result (λ functions. (name : List ℕ) → function_in functions name ≡ first_function (program_tree items.entry.now) 0 name) }
+    ensures taken { NeverRefused result }
 {
+    let mut functions = Firsts::new(alloc);
+    let mut number = 0;
     'each: for item in items {
         if let Item::Function(function) = item {
-            if function.name.text.as_slice() == name {
-                return Some(function);
-            }
+            functions.add(&function.name.text, Callee { function, number })?;
+            number = after(number)?;
         }
     }
-    None
+    Ok(functions)
+}
+
+/// A global of this number. Refuses an array, and what isn't of integers.
+fn global_entry(global: &Declared, object: u32) -> Result<Found, LowerFault>
+    ensures entry { let g = global_tree global.now in
+        IfOk result (λ found. found_entity found ≡ Variable (global_shape g.initial (settled (written g.of))) (heap_spot object)) }
+    ensures taken { IsIntegerType (global_tree global.now).of → TakesInitial (global_tree global.now).initial → NeverRefused result }
+{
+    if let Initial::Array(_) = &global.initial {
+        return Err(LowerFault::NotTaken);
+    }
+    Ok(Found {
+        shape: Shape::of(&global.of)?,
+        object,
+    })
+}
+
+/// Adds a global of this number, which is the first of its name where there is none. Refuses an array, and what isn't of integers.
+fn add_global<'p>(
+    globals: &mut Firsts<'p, Found>,
+    global: &'p Declared,
+    object: u32,
+) -> Result<(), LowerFault>
+    ensures added { OnOk result ((items : List tree.Item) (name : List ℕ) →
+        or_else (global_in globals.new name) (bound_to (globals_from items (suc object)) name) ≡
+        or_else (global_in globals.old name) (bound_to (globals_from (tree.GlobalItem (global_tree global.entry.now) ∷ items) object) name)) }
+    ensures taken { IsIntegerType (global_tree global.entry.now).of → TakesInitial (global_tree global.entry.now).initial → NeverRefused result }
+{
+    let entity = global_entry(global, object)?;
+    globals.add(&global.name.text, entity)?;
+    Ok(())
+}
+
+/// The first global of each name. Refuses arrays, and what isn't of integers.
+fn first_globals<'p>(alloc: Global, items: &'p [Item]) -> Result<Firsts<'p, Found>, LowerFault>
+    ensures first { IfOk result (λ globals. (name : List ℕ) → global_in globals name ≡ bound_to (globals_from (program_tree items.entry.now) 0) name) }
+    ensures taken { TakesProgram (program_tree items.entry.now) → NeverRefused result }
+{
+    let mut globals = Firsts::new(alloc);
+    let mut object = 0;
+    'each: for item in items {
+        if let Item::Global(global) = item {
+            add_global(&mut globals, global, object)?;
+            object = after(object)?;
+        }
+    }
+    Ok(globals)
+}
+
+impl<'p> Table<'p> {
+    /// The tables of a program. Refuses globals that are no integers.
+    pub fn new(alloc: Global, items: &'p [Item]) -> Result<Self, LowerFault>
+        ensures program { IfOk result (λ table. table ≡ program_tree items.entry.now) }
+        ensures taken { TakesProgram (program_tree items.entry.now) → NeverRefused result }
+    {
+        let functions = first_functions(alloc, items)?;
+        let globals = first_globals(alloc, items)?;
+        Ok(Table {
+            items,
+            functions,
+            globals,
+        })
+    }
+
+    /// The program's items.
+    pub fn items(&self) -> &'p [Item]
+        ensures { program_tree result.now ≡ self.now }
+    {
+        self.items
+    }
+
+    /// The first function of a name.
+    pub fn function_named(&self, name: &[u8]) -> Option<Callee<'p>>
+        ensures named { option_map (λ c. routine_of (function_tree c.function.now)) result ≡ function_of (functions_of self.now) name.now }
+        ensures number { IfSome result (λ c. c.number ≡ number_of (functions_of self.now) name.now) }
+        ensures taken { TakesProgram self.now → IfSome result (λ c. TakesFunction (function_tree c.function.now)) }
+    {
+        self.functions.of(name)
+    }
+
+    /// The first global of a name.
+    pub fn global_named(&self, name: &[u8]) -> Option<Found>
+        ensures named { option_map found_entity result ≡ bound_to (globals_from self.now 0) name.now }
+    {
+        self.globals.of(name)
+    }
 }
 
 /// The number of the first function of a name, from 0 on; where there is none, how many functions there are.
@@ -52,27 +180,4 @@ pub fn function_number(items: &[Item], name: &[u8]) -> Result<u32, LowerFault>
         }
     }
     Ok(number)
-}
-
-/// The first global of a name. Refuses an array.
-pub fn global_named(items: &[Item], name: &[u8]) -> Result<Option<Found>, LowerFault>
-    ensures named { IfOk result (λ found. option_map found_entity found ≡ bound_to (globals_from (program_tree items.now) 0) name.now) }
-    ensures taken { TakesProgram (program_tree items.now) → NeverRefused result }
-{
-    let mut object = 0;
-    'each: for item in items {
-        if let Item::Global(global) = item {
-            if global.name.text.as_slice() == name {
-                if let Initial::Array(_) = &global.initial {
-                    return Err(LowerFault::NotTaken);
-                }
-                return Ok(Some(Found {
-                    shape: Shape::of(&global.of)?,
-                    object,
-                }));
-            }
-            object = after(object)?;
-        }
-    }
-    Ok(None)
 }

@@ -13,9 +13,9 @@ ghost use Rattle.lower_checks.specs.Refusals.{NeverRefused};
 use crate::emit::emit_operation;
 use crate::fault::LowerFault;
 use crate::names::{Named, after, local_named};
-use crate::table::global_named;
+use crate::table::Table;
 use cyc_core::{Operation, Statement, Temporary, Variable};
-use cyc_tree::{Expression, Program};
+use cyc_tree::Expression;
 
 /// The place of a local among those of the blocks.
 fn place_of(local: Named<'_>) -> Variable
@@ -30,7 +30,7 @@ fn place_of(local: Named<'_>) -> Variable
 
 /// Appends what reads a variable into a temporary: a local by one operation.
 pub fn lower_get(
-    program: &Program,
+    program: &Table<'_>,
     locals: &[Named<'_>],
     body: &mut Vec<Statement>,
     name: &[u8],
@@ -47,7 +47,7 @@ pub fn lower_get(
             Operation::Get(to, place_of(local), local.shape.width()),
         );
     }
-    let Some(global) = global_named(program.items(), name)? else {
+    let Some(global) = program.global_named(name) else {
         return Ok(());
     };
     emit_operation(body, Operation::DataAddress(to, global.object))?;
@@ -56,7 +56,7 @@ pub fn lower_get(
 
 /// Appends what writes the word of a temporary to the variable of a name.
 fn lower_named(
-    program: &Program,
+    program: &Table<'_>,
     locals: &[Named<'_>],
     body: &mut Vec<Statement>,
     name: &[u8],
@@ -74,7 +74,7 @@ fn lower_named(
             Operation::Put(place_of(local), local.shape.width(), from),
         );
     }
-    let Some(global) = global_named(program.items(), name)? else {
+    let Some(global) = program.global_named(name) else {
         return Ok(());
     };
     let address = Temporary(after(from.0)?);
@@ -84,7 +84,7 @@ fn lower_named(
 
 /// Appends what writes the word of a temporary to a variable, in parentheses too. Refuses all other places.
 pub fn lower_put(
-    program: &Program,
+    program: &Table<'_>,
     locals: &[Named<'_>],
     body: &mut Vec<Statement>,
     place: &Expression,

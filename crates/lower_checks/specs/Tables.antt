@@ -1,0 +1,44 @@
+-- What the tables of names have.
+use Rattle.std.specs.Prelude.{◌≡◌, ℕ, suc, List, [], ◌∷◌, Option, Some, None, option_map, bytes_eq, if◌then◌else◌}
+use Rattle.indexmap.specs.IndexMap.{get_by}
+use Rattle.cyc_tree.specs.Tree as tree
+use Rattle.cyc_tree.specs.View.{function_tree}
+use Rattle.source_meaning.specs.Places.{bound_to}
+use Rattle.source_meaning.specs.Programs.{globals_from}
+use Rattle.source_meaning.specs.Steps.{Entity}
+use Rattle.lower_checks.specs.Views.{found_entity}
+use Rattle.lower_checks.specs.declared.first.Firsts.{Firsts}
+use Rattle.lower_checks.specs.declared.table.Callee.{Callee}
+use Rattle.lower_checks.specs.declared.table.Found.{Found}
+
+-- what a table has at a name
+abbrev pub first_in : {V : Type 0} → Firsts V → List ℕ → Option V
+first_in firsts name = get_by (λ key. bytes_eq name key.now) firsts.by_name
+
+-- a function, with its number among the functions
+pub record Numbered : Type 0 where
+  pub function : tree.Function
+  pub number : ℕ
+
+abbrev pub callee_tree : Callee → Numbered
+callee_tree c = record { function = function_tree c.function.now; number = c.number }
+
+-- the first function of a name, where the functions have numbers from k on
+abbrev pub first_function : List tree.Item → ℕ → List ℕ → Option Numbered
+first_function [] k name = None
+first_function (tree.FunctionItem f ∷ items) k name =
+    (if bytes_eq f.name.text name then Some (record { function = f; number = k }) else first_function items (suc k) name)
+first_function (_ ∷ items) k name = first_function items k name
+
+-- the function that a table has at a name
+abbrev pub function_in : Firsts Callee → List ℕ → Option Numbered
+function_in functions name = option_map callee_tree (first_in functions name)
+
+-- the global that a table has at a name
+abbrev pub global_in : Firsts Found → List ℕ → Option Entity
+global_in globals name = option_map found_entity (first_in globals name)
+
+-- the tables have the first function and the first global of each name
+pub record AreTables (p : tree.Program) (functions : Firsts Callee) (globals : Firsts Found) : Type 0 where
+  pub functions_are : (name : List ℕ) → function_in functions name ≡ first_function p 0 name
+  pub globals_are : (name : List ℕ) → global_in globals name ≡ bound_to (globals_from p 0) name

@@ -1,0 +1,3 @@
+mod KindsUnder
+mod Lengths
+mod Pointers

@@ -1,0 +1,45 @@
+// Pointers, without what they lead to.
+
+ghost use Rattle.std.specs.Prelude.{◌≡◌};
+ghost use Rattle.cyc_types.specs.Layers.{layers_alike};
+
+use crate::likeness::Likeness;
+use crate::region::RegionId;
+
+/// A pointer, without the type that it leads to.
+#[derive(Clone, Copy, Debug)]
+pub enum Layer {
+    /// To one object in a region; whether it may be `NULL`.
+    Thin(bool, RegionId),
+    /// With bounds, into a region.
+    Fat(RegionId),
+    /// To one object that nothing else points to; whether it may be `NULL`.
+    Unique(bool),
+}
+
+/// What stands in the unused places of a list: a pointer into the heap.
+impl Default for Layer {
+    fn default() -> Self {
+        Layer::Fat(RegionId::Heap)
+    }
+}
+
+impl Layer {
+    /// How alike two pointers are, where this is how alike the types are that they lead to.
+    pub fn compare(self, other: Layer, inner: Likeness) -> Likeness
+        ensures { result ≡ layers_alike self other inner }
+    {
+        match (self, other) {
+            (Layer::Thin(mine, here), Layer::Thin(theirs, there)) => inner
+                .with_regions(here.is_same(there))
+                .only_if(mine == theirs),
+            (Layer::Thin(mine, _), Layer::Unique(theirs))
+            | (Layer::Unique(mine), Layer::Thin(theirs, _)) => {
+                inner.by_regions().only_if(mine == theirs)
+            }
+            (Layer::Unique(mine), Layer::Unique(theirs)) => inner.only_if(mine == theirs),
+            (Layer::Fat(here), Layer::Fat(there)) => inner.with_regions(here.is_same(there)),
+            _ => Likeness::Different,
+        }
+    }
+}

@@ -1,3 +1,5 @@
+mod InOrder
 mod KindsUnder
 mod Lengths
+mod Outermost
 mod Pointers

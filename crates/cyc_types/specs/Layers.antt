@@ -1,5 +1,5 @@
 -- Pointers of a type in code, as the rules say them.
-use Rattle.std.specs.Prelude.{Bool, List, false, true, [], ◌∷◌}
+use Rattle.std.specs.Prelude.{Bool, List, None, Option, Some, false, not, true, [], ◌∷◌}
 use Rattle.source_typing.specs.Regions.{same_id}
 use Rattle.source_typing.specs.Types.{Differs, Fat, Match, StaticType, Thin, Unique, by_regions, matched, only, same_bool}
 use Rattle.cyc_types.specs.Likeness.{likeness_of, match_of}
@@ -42,3 +42,23 @@ next_alike inner p = layers_alike p.0 p.1 inner
 abbrev pub is_plain : List Layer → Bool
 is_plain [] = true
 is_plain (l ∷ ls) = false
+
+-- the outermost one
+abbrev pub last_or : Layer → List Layer → Layer
+last_or l [] = l
+last_or l (k ∷ ks) = last_or k ks
+
+abbrev pub outermost : List Layer → Option Layer
+outermost [] = None
+outermost (l ∷ ls) = Some (last_or l ls)
+
+-- whether a pointer is copied, and whether it begins as `NULL`
+abbrev pub layer_copies : Layer → Bool
+layer_copies (code.Thin n r) = true
+layer_copies (code.Fat r) = true
+layer_copies (code.Unique n) = false
+
+abbrev pub layer_begins : Layer → Bool
+layer_begins (code.Thin n r) = n
+layer_begins (code.Fat r) = true
+layer_begins (code.Unique n) = n

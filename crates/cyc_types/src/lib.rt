@@ -11,9 +11,13 @@ mod kinds;
 mod layer;
 mod likeness;
 mod region;
+mod tables;
+mod tag;
 
 pub use base::{BaseType, RegionArguments};
 pub use ctype::{CType, Layers};
 pub use layer::Layer;
 pub use likeness::Likeness;
 pub use region::RegionId;
+pub use tables::Tables;
+pub use tag::{Known, Member, Tag};

@@ -1,0 +1,270 @@
+-- What is known of structs and unions in order is what the rules say of them.
+use Rattle.std.proofs.Common.{◌≡◌, ℕ, ◌<◌, ◌+◌, Bool, true, false, Bor, List, [], ◌∷◌, ◌++◌, length, refl, sym, ap, subst, ◌∙◌, arith, suc, zero, cond, true≢false, length-append}
+use Rattle.std.proofs.lemmas.List.{append_assoc, append-nil, length-map}
+use Rattle.std.proofs.lemmas.Slice.Eq.{bytes_eq-Decides}
+use Rattle.std.specs.Map.{lookup}
+use Rattle.std.specs.Prelude.{None, Option, Some, bytes_eq, is_none, is_some, nat_eq, option_map, ◌&&◌}
+use Rattle.source_typing.specs.Regions.{Region}
+use Rattle.source_typing.specs.Tables.{OfTag, Part, as_tag, begins, copies, each_part, find, has_beginning, if_known, is_copyable, parts_in, parts_of_tag, tag_in}
+use Rattle.source_typing.specs.Types.{Char, Fat, Handle, Int, Key, Null, StaticType, Struct, Thin, Union, Unique, Unsigned, Void, same_bool}
+use Rattle.cyc_types.specs.Known.{Entry, are_known, entries_of, flag_if, found, is_declared, is_known, named_by, quick_begins, quick_copies}
+use Rattle.cyc_types.specs.Tags.{members_of, tag_of}
+use Rattle.cyc_types.specs.declared.tag.Known.{Known}
+use Rattle.source_typing.specs.Tables as rules
+
+left_true : (a b : Bool) → (a && b) ≡ true → a ≡ true
+left_true true b h = refl
+left_true false b h = h
+
+right_true : (a b : Bool) → (a && b) ≡ true → b ≡ true
+right_true true b h = h
+right_true false b h = absurd (true≢false (sym h))
+
+same_as : (a b : Bool) → same_bool a b ≡ true → a ≡ b
+same_as true true h = refl
+same_as true false h = sym h
+same_as false true h = h
+same_as false false h = refl
+
+-- ---- spellings
+
+spelled : (x y : List ℕ) → bytes_eq x y ≡ true → x ≡ y
+spelled x y h = (bytes_eq-Decides x y).0 h
+
+same_bytes : (x y : List ℕ) → bytes_eq x y ≡ bytes_eq y x
+same_bytes [] [] = refl
+same_bytes [] (y ∷ ys) = refl
+same_bytes (x ∷ xs) [] = refl
+same_bytes (x ∷ xs) (y ∷ ys) = let e : nat_eq x y ≡ nat_eq y x = grind arith in ap (λ b. b && bytes_eq xs ys) e ∙ ap (λ b. nat_eq y x && b) (same_bytes xs ys)
+
+same_self : (x : List ℕ) → bytes_eq x x ≡ true
+same_self [] = refl
+same_self (x ∷ xs) = let e : nat_eq x x ≡ true = grind arith in ap (λ b. b && bytes_eq xs xs) e ∙ same_self xs
+
+-- ---- the rules' look-ups
+
+tag_step : (e : Entry) (es : List Entry) (x : List ℕ) (b : Bool) → bytes_eq e.0.now x ≡ b
+    → as_tag (find (entries_of es) x) ≡ option_map (λ k. tag_of x k.tag) (found es x)
+    → as_tag (cond b (Some (OfTag (tag_of e.0.now e.1.tag))) (find (entries_of es) x)) ≡ option_map (λ k. tag_of x k.tag) (cond b (Some e.1) (found es x))
+tag_step e es x true h ih = ap (λ n. Some (tag_of n e.1.tag)) (spelled e.0.now x h)
+tag_step e es x false h ih = ih
+
+pub tag_found : (es : List Entry) (x : List ℕ) → tag_in (entries_of es) x ≡ option_map (λ k. tag_of x k.tag) (found es x)
+tag_found [] x = refl
+tag_found (e ∷ es) x =
+    tag_step e es x (bytes_eq e.0.now x) refl (tag_found es x)
+    ∙ ap (λ b. option_map (λ k. tag_of x k.tag) (cond b (Some e.1) (found es x))) (same_bytes e.0.now x)
+
+parts_known : (es : List Entry) (x : List ℕ) (k : Known) → found es x ≡ Some k → parts_in (entries_of es) x ≡ members_of k.tag.members.items
+parts_known es x k h = ap parts_of_tag (tag_found es x ∙ ap (option_map (λ k. tag_of x k.tag)) h)
+
+no_parts : (es : List Entry) (x : List ℕ) → found es x ≡ None → parts_in (entries_of es) x ≡ []
+no_parts es x h = ap parts_of_tag (tag_found es x ∙ ap (option_map (λ k. tag_of x k.tag)) h)
+
+-- ---- where a tag stands
+
+record Split (es : List Entry) (x : List ℕ) (k : Known) : Type 0 where
+  before : List Entry
+  after : List Entry
+  at : Bor (List ℕ)
+  is : es ≡ before ++ (at, k) ∷ after
+  spelling : at.now ≡ x
+
+some_same : {A : Type 0} (a b : A) → Some a ≡ Some b → a ≡ b
+some_same a b h = ap (λ o. or_that o a) h
+  where
+    or_that : {A : Type 0} → Option A → A → A
+    or_that None a = a
+    or_that (Some b) a = b
+
+split_step : (e : Entry) (es : List Entry) (x : List ℕ) (k : Known) (b : Bool) → bytes_eq x e.0.now ≡ b
+    → cond b (Some e.1) (found es x) ≡ Some k → (found es x ≡ Some k → Split es x k) → Split (e ∷ es) x k
+split_step e es x k true b h ih =
+    record { before = []; after = es; at = e.0; is = ap (λ v. (e.0, v) ∷ es) (some_same e.1 k h); spelling = sym (spelled x e.0.now b) }
+split_step e es x k false b h ih =
+    let s = ih h in
+    record { before = e ∷ s.before; after = s.after; at = s.at; is = ap (λ l. e ∷ l) s.is; spelling = s.spelling }
+
+split : (es : List Entry) (x : List ℕ) (k : Known) → found es x ≡ Some k → Split es x k
+split [] x k h = absurd (true≢false (ap is_none h))
+split (e ∷ es) x k h = split_step e es x k (bytes_eq x e.0.now) refl h (split es x k)
+
+known_at : (acc before after : List Entry) (e : Entry) → are_known acc (before ++ e ∷ after) ≡ true → is_known (acc ++ before) e.0.now e.1 ≡ true
+known_at acc [] after e h =
+    subst (λ l. is_known l e.0.now e.1 ≡ true) (sym (append-nil acc)) (left_true (is_known acc e.0.now e.1) (are_known (acc ++ e ∷ []) after) h)
+known_at acc (b ∷ bs) after e h =
+    subst (λ l. is_known l e.0.now e.1 ≡ true) (append_assoc acc (b ∷ []) bs)
+    (known_at (acc ++ b ∷ []) bs after e (right_true (is_known acc b.0.now b.1) (are_known (acc ++ b ∷ []) (bs ++ e ∷ after)) h))
+
+here_step : (b : Bool) (first k : Known) (others rest : Option Known) → is_none (cond b (Some first) others) ≡ true
+    → (is_none others ≡ true → rest ≡ Some k) → cond b (Some first) rest ≡ Some k
+here_step true first k others rest h ih = absurd (true≢false (sym h))
+here_step false first k others rest h ih = ih h
+
+found_here : (before after : List Entry) (at : Bor (List ℕ)) (k : Known) → is_none (found before at.now) ≡ true
+    → found (before ++ (at, k) ∷ after) at.now ≡ Some k
+found_here [] after at k h = ap (λ b. cond b (Some k) (found after at.now)) (same_self at.now)
+found_here (b ∷ bs) after at k h =
+    here_step (bytes_eq at.now b.0.now) b.1 k (found bs at.now) (found (bs ++ (at, k) ∷ after) at.now) h (found_here bs after at k)
+
+-- ---- what is known of a tag is what the rules find in it
+
+part_same : (f g holds : StaticType → Bool) (o : Option StaticType) → if_known holds o ≡ true
+    → ((t : StaticType) → holds t ≡ true → f t ≡ g t) → if_known f o ≡ if_known g o
+part_same f g holds None h same = refl
+part_same f g holds (Some t) h same = same t h
+
+each_same : (f g holds : StaticType → Bool) (ps : List Part) → each_part holds ps ≡ true
+    → ((t : StaticType) → holds t ≡ true → f t ≡ g t) → each_part f ps ≡ each_part g ps
+each_same f g holds [] h same = refl
+each_same f g holds (p ∷ ps) h same =
+    ap (λ b. b && each_part f ps) (part_same f g holds p.type (left_true (if_known holds p.type) (each_part holds ps) h) same)
+    ∙ ap (λ b. if_known g p.type && b) (each_same f g holds ps (right_true (if_known holds p.type) (each_part holds ps) h) same)
+
+abbrev is_struct : StaticType → Bool
+is_struct (Struct tag rs) = true
+is_struct t = false
+
+-- a rule that looks into structs to a depth, what is known in its place, and why it is the same
+record Looks (deep : ℕ → rules.Tables → StaticType → Bool) (quick : List Entry → StaticType → Bool) (flag : Known → Bool) : Type 0 where
+  into : (n : ℕ) (g : rules.Tables) (tag : List ℕ) (rs : List Region) → deep (suc n) g (Struct tag rs) ≡ each_part (deep n g) (parts_in g tag)
+  nowhere : (g : rules.Tables) (tag : List ℕ) (rs : List Region) → deep zero g (Struct tag rs) ≡ true
+  else : (n : ℕ) (g : rules.Tables) (es : List Entry) (t : StaticType) → is_struct t ≡ false → deep n g t ≡ quick es t
+  by_flag : (es : List Entry) (tag : List ℕ) (rs : List Region) → quick es (Struct tag rs) ≡ flag_if flag (found es tag)
+  known : (before : List Entry) (x : List ℕ) (k : Known) → is_known before x k ≡ true → flag k ≡ each_part (quick before) (members_of k.tag.members.items)
+
+module _ (deep : ℕ → rules.Tables → StaticType → Bool) (quick : List Entry → StaticType → Bool) (flag : Known → Bool) (looks : Looks deep quick flag) where
+  -- what the rule finds to so many structs, in one that has fewer before it
+  abbrev ToDepth : ℕ → Type 0
+  ToDepth n = (all before after : List Entry) (at : Bor (List ℕ)) (k : Known) → are_known [] all ≡ true → all ≡ before ++ (at, k) ∷ after
+      → length before < n → (rs : List Region) → deep n (entries_of all) (Struct at.now rs) ≡ flag k
+
+  member_struct : (n : ℕ) → ToDepth n → (all before after : List Entry) (e : Entry) → are_known [] all ≡ true → all ≡ before ++ e ∷ after
+      → length before < suc n → (tag : List ℕ) (rs : List Region) (k : Option Known) → found before tag ≡ k → is_some k ≡ true
+      → deep n (entries_of all) (Struct tag rs) ≡ quick before (Struct tag rs)
+  member_struct n ih all before after e known is fewer tag rs None at h = absurd (true≢false (sym h))
+  member_struct n ih all before after e known is fewer tag rs (Some k) at h =
+      let s = split before tag k at in
+      let whole : all ≡ s.before ++ (s.at, k) ∷ (s.after ++ e ∷ after) =
+      is ∙ ap (λ l. l ++ e ∷ after) s.is ∙ append_assoc s.before ((s.at, k) ∷ s.after) (e ∷ after) in
+      let counted : length before ≡ length s.before + length ((s.at, k) ∷ s.after) = ap length s.is ∙ length-append s.before ((s.at, k) ∷ s.after) in
+      let less : length s.before < n = omega (arith, counted, fewer) in
+      subst (λ x. deep n (entries_of all) (Struct x rs) ≡ flag k) s.spelling
+      (ih all s.before (s.after ++ e ∷ after) s.at k known whole less rs)
+      ∙ sym (looks.by_flag before tag rs ∙ ap (flag_if flag) at)
+
+  member_same : (n : ℕ) → ToDepth n → (all before after : List Entry) (e : Entry) → are_known [] all ≡ true → all ≡ before ++ e ∷ after
+      → length before < suc n → (t : StaticType) → is_declared before t ≡ true → deep n (entries_of all) t ≡ quick before t
+  member_same n ih all before after e known is fewer (Struct tag rs) h = member_struct n ih all before after e known is fewer tag rs (found before tag) refl h
+  member_same n ih all before after e known is fewer Int h = looks.else n (entries_of all) before Int refl
+  member_same n ih all before after e known is fewer Unsigned h = looks.else n (entries_of all) before Unsigned refl
+  member_same n ih all before after e known is fewer Char h = looks.else n (entries_of all) before Char refl
+  member_same n ih all before after e known is fewer Void h = looks.else n (entries_of all) before Void refl
+  member_same n ih all before after e known is fewer Null h = looks.else n (entries_of all) before Null refl
+  member_same n ih all before after e known is fewer (Thin m r t) h = looks.else n (entries_of all) before (Thin m r t) refl
+  member_same n ih all before after e known is fewer (Fat r t) h = looks.else n (entries_of all) before (Fat r t) refl
+  member_same n ih all before after e known is fewer (Unique m t) h = looks.else n (entries_of all) before (Unique m t) refl
+  member_same n ih all before after e known is fewer (Handle r) h = looks.else n (entries_of all) before (Handle r) refl
+  member_same n ih all before after e known is fewer (Key r) h = looks.else n (entries_of all) before (Key r) refl
+  member_same n ih all before after e known is fewer (Union tag rs) h = looks.else n (entries_of all) before (Union tag rs) refl
+
+  to_depth : (n : ℕ) → ToDepth n
+  to_depth zero all before after at k known is fewer rs = absurd (omega (arith, fewer))
+  to_depth (suc n) all before after at k known is fewer rs =
+      let members = members_of k.tag.members.items in
+      let own : is_known before at.now k ≡ true = known_at [] before after (at, k) (subst (λ l. are_known [] l ≡ true) is known) in
+      let new_declared = left_true (is_none (found before at.now) && each_part (is_declared before) members)
+          (same_bool k.copyable (each_part (quick_copies before) members))
+          (left_true _ (same_bool k.begins (each_part (quick_begins before) members)) own) in
+      let new = left_true (is_none (found before at.now)) (each_part (is_declared before) members) new_declared in
+      let declared = right_true (is_none (found before at.now)) (each_part (is_declared before) members) new_declared in
+      let here : found all at.now ≡ Some k = ap (λ l. found l at.now) is ∙ found_here before after at k new in
+      looks.into n (entries_of all) at.now rs
+      ∙ ap (each_part (deep n (entries_of all))) (parts_known all at.now k here)
+      ∙ each_same (deep n (entries_of all)) (quick before) (is_declared before) members declared
+      (member_same n (to_depth n) all before after (at, k) known is fewer)
+      ∙ sym (looks.known before at.now k own)
+
+  unknown : (n : ℕ) (all : List Entry) (tag : List ℕ) (rs : List Region) → found all tag ≡ None → deep n (entries_of all) (Struct tag rs) ≡ true
+  unknown zero all tag rs at = looks.nowhere (entries_of all) tag rs
+  unknown (suc n) all tag rs at = looks.into n (entries_of all) tag rs ∙ ap (each_part (deep n (entries_of all))) (no_parts all tag at)
+
+  by_found : (all : List Entry) → are_known [] all ≡ true → (tag : List ℕ) (rs : List Region) (k : Option Known) → found all tag ≡ k
+      → deep (length (entries_of all)) (entries_of all) (Struct tag rs) ≡ flag_if flag k
+  by_found all known tag rs None at = unknown (length (entries_of all)) all tag rs at
+  by_found all known tag rs (Some k) at =
+      let s = split all tag k at in
+      let counted : length all ≡ length s.before + length ((s.at, k) ∷ s.after) = ap length s.is ∙ length-append s.before ((s.at, k) ∷ s.after) in
+      let less : length s.before < length (entries_of all) = omega (arith, counted, length-map all named_by) in
+      subst (λ x. deep (length (entries_of all)) (entries_of all) (Struct x rs) ≡ flag k) s.spelling
+      (to_depth (length (entries_of all)) all s.before s.after s.at k known s.is less rs)
+
+  by_tables : (all : List Entry) → are_known [] all ≡ true → (t : StaticType) → deep (length (entries_of all)) (entries_of all) t ≡ quick all t
+  by_tables all known (Struct tag rs) = by_found all known tag rs (found all tag) refl ∙ sym (looks.by_flag all tag rs)
+  by_tables all known Int = looks.else (length (entries_of all)) (entries_of all) all Int refl
+  by_tables all known Unsigned = looks.else (length (entries_of all)) (entries_of all) all Unsigned refl
+  by_tables all known Char = looks.else (length (entries_of all)) (entries_of all) all Char refl
+  by_tables all known Void = looks.else (length (entries_of all)) (entries_of all) all Void refl
+  by_tables all known Null = looks.else (length (entries_of all)) (entries_of all) all Null refl
+  by_tables all known (Thin m r t) = looks.else (length (entries_of all)) (entries_of all) all (Thin m r t) refl
+  by_tables all known (Fat r t) = looks.else (length (entries_of all)) (entries_of all) all (Fat r t) refl
+  by_tables all known (Unique m t) = looks.else (length (entries_of all)) (entries_of all) all (Unique m t) refl
+  by_tables all known (Handle r) = looks.else (length (entries_of all)) (entries_of all) all (Handle r) refl
+  by_tables all known (Key r) = looks.else (length (entries_of all)) (entries_of all) all (Key r) refl
+  by_tables all known (Union tag rs) = looks.else (length (entries_of all)) (entries_of all) all (Union tag rs) refl
+
+-- ---- what is copied, and what has a beginning
+
+copies_looks_else : (n : ℕ) (g : rules.Tables) (es : List Entry) (t : StaticType) → is_struct t ≡ false → copies n g t ≡ quick_copies es t
+copies_looks_else n g es Int h = refl
+copies_looks_else n g es Unsigned h = refl
+copies_looks_else n g es Char h = refl
+copies_looks_else n g es Void h = refl
+copies_looks_else n g es Null h = refl
+copies_looks_else n g es (Thin m r t) h = refl
+copies_looks_else n g es (Fat r t) h = refl
+copies_looks_else n g es (Unique m t) h = refl
+copies_looks_else n g es (Handle r) h = refl
+copies_looks_else n g es (Key r) h = refl
+copies_looks_else n g es (Union tag rs) h = refl
+copies_looks_else n g es (Struct tag rs) h = absurd (true≢false h)
+
+copies_looks : Looks copies quick_copies (λ k. k.copyable)
+copies_looks = record {
+  into = λ n g tag rs. refl;
+  nowhere = λ g tag rs. refl;
+  else = copies_looks_else;
+  by_flag = λ es tag rs. refl;
+  known = λ before x k h. same_as k.copyable (each_part (quick_copies before) (members_of k.tag.members.items))
+      (right_true (is_none (found before x) && each_part (is_declared before) (members_of k.tag.members.items)) _
+      (left_true _ (same_bool k.begins (each_part (quick_begins before) (members_of k.tag.members.items))) h));
+}
+
+begins_looks_else : (n : ℕ) (g : rules.Tables) (es : List Entry) (t : StaticType) → is_struct t ≡ false → begins n g t ≡ quick_begins es t
+begins_looks_else n g es Int h = refl
+begins_looks_else n g es Unsigned h = refl
+begins_looks_else n g es Char h = refl
+begins_looks_else n g es Void h = refl
+begins_looks_else n g es Null h = refl
+begins_looks_else n g es (Thin m r t) h = refl
+begins_looks_else n g es (Fat r t) h = refl
+begins_looks_else n g es (Unique m t) h = refl
+begins_looks_else n g es (Handle r) h = refl
+begins_looks_else n g es (Key r) h = refl
+begins_looks_else n g es (Union tag rs) h = refl
+begins_looks_else n g es (Struct tag rs) h = absurd (true≢false h)
+
+begins_looks : Looks begins quick_begins (λ k. k.begins)
+begins_looks = record {
+  into = λ n g tag rs. refl;
+  nowhere = λ g tag rs. refl;
+  else = begins_looks_else;
+  by_flag = λ es tag rs. refl;
+  known = λ before x k h. same_as k.begins (each_part (quick_begins before) (members_of k.tag.members.items)) (right_true _ _ h);
+}
+
+pub copies_known : (all : List Entry) → are_known [] all ≡ true → (t : StaticType) → is_copyable (entries_of all) t ≡ quick_copies all t
+copies_known all known t = by_tables copies quick_copies (λ k. k.copyable) copies_looks all known t
+
+pub begins_known : (all : List Entry) → are_known [] all ≡ true → (t : StaticType) → has_beginning (entries_of all) t ≡ quick_begins all t
+begins_known all known t = by_tables begins quick_begins (λ k. k.begins) begins_looks all known t

@@ -1,0 +1,57 @@
+-- A type by its outermost pointer.
+use Rattle.std.proofs.Common.{◌≡◌, ℕ, Bool, List, [], ◌∷◌, length, refl, sym, ap, ◌∙◌, arith, ◌-◌}
+use Rattle.std.specs.Prelude.{None, Option, Some, slice_get}
+use Rattle.source_typing.specs.Types.{StaticType}
+use Rattle.cyc_types.specs.Known.{Entry, quick_begins, quick_copies}
+use Rattle.cyc_types.specs.Layers.{last_or, layer_begins, layer_copies, outermost, pointed, pointer_to}
+use Rattle.cyc_types.specs.declared.layer.Layer.{Layer}
+use Rattle.cyc_types.specs.declared.layer.Layer.TheVariants as code
+
+last_found : (l : Layer) (ls : List Layer) → slice_get (l ∷ ls) (length ls) ≡ Some (last_or l ls)
+last_found l [] = refl
+last_found l (k ∷ ks) = last_found k ks
+
+pub last_is : (ls : List Layer) → slice_get ls (length ls - 1) ≡ outermost ls
+last_is [] = refl
+last_is (l ∷ ls) = let e : length (l ∷ ls) - 1 ≡ length ls = omega arith in ap (slice_get (l ∷ ls)) e ∙ last_found l ls
+
+pub by_outermost : (holds : StaticType → Bool) (of : Layer → Bool) → ((l : Layer) (t : StaticType) → holds (pointer_to l t) ≡ of l)
+    → (l : Layer) (ls : List Layer) (t : StaticType) → holds (pointed (pointer_to l t) ls) ≡ of (last_or l ls)
+by_outermost holds of h l [] t = h l t
+by_outermost holds of h l (k ∷ ks) t = by_outermost holds of h k ks (pointer_to l t)
+
+outer_or : Option Layer → (Layer → Bool) → Bool → Bool
+outer_or None of base = base
+outer_or (Some l) of base = of l
+
+with_outer : (holds : StaticType → Bool) (of : Layer → Bool) → ((l : Layer) (t : StaticType) → holds (pointer_to l t) ≡ of l)
+    → (ls : List Layer) (t : StaticType) (o : Option Layer) → outermost ls ≡ o → holds (pointed t ls) ≡ outer_or o of (holds t)
+unfolding outer_or
+with_outer holds of h [] t o e = rw (sym e) refl
+with_outer holds of h (l ∷ ls) t o e = rw (sym e) (by_outermost holds of h l ls t)
+
+of_copies : (es : List Entry) (l : Layer) (t : StaticType) → quick_copies es (pointer_to l t) ≡ layer_copies l
+of_copies es (code.Thin n r) t = refl
+of_copies es (code.Fat r) t = refl
+of_copies es (code.Unique n) t = refl
+
+of_begins : (es : List Entry) (l : Layer) (t : StaticType) → quick_begins es (pointer_to l t) ≡ layer_begins l
+of_begins es (code.Thin n r) t = refl
+of_begins es (code.Fat r) t = refl
+of_begins es (code.Unique n) t = refl
+
+pub plain_copies : (es : List Entry) (ls : List Layer) (t : StaticType) → outermost ls ≡ None → quick_copies es (pointed t ls) ≡ quick_copies es t
+unfolding outer_or
+plain_copies es ls t e = with_outer (quick_copies es) layer_copies (of_copies es) ls t None e
+
+pub pointer_copies : (es : List Entry) (ls : List Layer) (t : StaticType) (l : Layer) → outermost ls ≡ Some l → quick_copies es (pointed t ls) ≡ layer_copies l
+unfolding outer_or
+pointer_copies es ls t l e = with_outer (quick_copies es) layer_copies (of_copies es) ls t (Some l) e
+
+pub plain_begins : (es : List Entry) (ls : List Layer) (t : StaticType) → outermost ls ≡ None → quick_begins es (pointed t ls) ≡ quick_begins es t
+unfolding outer_or
+plain_begins es ls t e = with_outer (quick_begins es) layer_begins (of_begins es) ls t None e
+
+pub pointer_begins : (es : List Entry) (ls : List Layer) (t : StaticType) (l : Layer) → outermost ls ≡ Some l → quick_begins es (pointed t ls) ≡ layer_begins l
+unfolding outer_or
+pointer_begins es ls t l e = with_outer (quick_begins es) layer_begins (of_begins es) ls t (Some l) e

@@ -1,14 +1,15 @@
 -- What is known of structs and unions in order is what the rules say of them.
 use Rattle.std.proofs.Common.{◌≡◌, ℕ, ◌<◌, ◌+◌, Bool, true, false, Bor, List, [], ◌∷◌, ◌++◌, length, refl, sym, ap, subst, ◌∙◌, arith, suc, zero, cond, true≢false, length-append}
-use Rattle.std.proofs.lemmas.List.{append_assoc, append-nil, length-map}
+use Rattle.std.proofs.lemmas.List.{append_assoc, append-nil, length-map, map_push}
 use Rattle.std.proofs.lemmas.Slice.Eq.{bytes_eq-Decides}
-use Rattle.std.specs.Map.{lookup}
-use Rattle.std.specs.Prelude.{None, Option, Some, bytes_eq, is_none, is_some, nat_eq, option_map, ◌&&◌}
+use Rattle.std.specs.List.{list_all}
+use Rattle.std.specs.Prelude.{Err, None, Ok, OnErr, OnOk, Option, Result, Some, bytes_eq, is_none, is_some, nat_eq, option_map, ◌&&◌}
 use Rattle.source_typing.specs.Regions.{Region}
 use Rattle.source_typing.specs.Tables.{OfTag, Part, as_tag, begins, copies, each_part, find, has_beginning, if_known, is_copyable, parts_in, parts_of_tag, tag_in}
 use Rattle.source_typing.specs.Types.{Char, Fat, Handle, Int, Key, Null, StaticType, Struct, Thin, Union, Unique, Unsigned, Void, same_bool}
-use Rattle.cyc_types.specs.Known.{Entry, are_known, entries_of, flag_if, found, is_declared, is_known, named_by, quick_begins, quick_copies}
-use Rattle.cyc_types.specs.Tags.{members_of, tag_of}
+use Rattle.cyc_types.specs.Known.{Entry, are_known, entries_of, flag_if, found, has_declared, is_declared, is_known, named_by, quick_begins, quick_copies}
+use Rattle.cyc_types.specs.Tags.{member_of, members_of, tag_of}
+use Rattle.cyc_types.specs.declared.tag.Member.{Member}
 use Rattle.cyc_types.specs.declared.tag.Known.{Known}
 use Rattle.source_typing.specs.Tables as rules
 
@@ -174,8 +175,8 @@ module _ (deep : ℕ → rules.Tables → StaticType → Bool) (quick : List Ent
       let members = members_of k.tag.members.items in
       let own : is_known before at.now k ≡ true = known_at [] before after (at, k) (subst (λ l. are_known [] l ≡ true) is known) in
       let new_declared = left_true (is_none (found before at.now) && each_part (is_declared before) members)
-          (same_bool k.copyable (each_part (quick_copies before) members))
-          (left_true _ (same_bool k.begins (each_part (quick_begins before) members)) own) in
+      (same_bool k.copyable (each_part (quick_copies before) members))
+      (left_true _ (same_bool k.begins (each_part (quick_begins before) members)) own) in
       let new = left_true (is_none (found before at.now)) (each_part (is_declared before) members) new_declared in
       let declared = right_true (is_none (found before at.now)) (each_part (is_declared before) members) new_declared in
       let here : found all at.now ≡ Some k = ap (λ l. found l at.now) is ∙ found_here before after at k new in
@@ -268,3 +269,84 @@ copies_known all known t = by_tables copies quick_copies (λ k. k.copyable) copi
 
 pub begins_known : (all : List Entry) → are_known [] all ≡ true → (t : StaticType) → has_beginning (entries_of all) t ≡ quick_begins all t
 begins_known all known t = by_tables begins quick_begins (λ k. k.begins) begins_looks all known t
+
+-- ---- one more tag
+
+some_found : (es : List Entry) (tag : List ℕ) → is_some (tag_in (entries_of es) tag) ≡ is_some (found es tag)
+some_found es tag = ap is_some (tag_found es tag) ∙ by (found es tag)
+  where
+    by : (k : Option Known) → is_some (option_map (λ k. tag_of tag k.tag) k) ≡ is_some k
+    by None = refl
+    by (Some k) = refl
+
+pub declared_same : (es : List Entry) (t : StaticType) → has_declared (entries_of es) t ≡ is_declared es t
+declared_same es (Struct tag rs) = some_found es tag
+declared_same es (Union tag rs) = some_found es tag
+declared_same es Int = refl
+declared_same es Unsigned = refl
+declared_same es Char = refl
+declared_same es Void = refl
+declared_same es Null = refl
+declared_same es (Thin m r t) = refl
+declared_same es (Fat r t) = refl
+declared_same es (Unique m t) = refl
+declared_same es (Handle r) = refl
+declared_same es (Key r) = refl
+
+each_as : (f g : StaticType → Bool) (ps : List Part) → ((t : StaticType) → f t ≡ g t) → each_part f ps ≡ each_part g ps
+each_as f g [] same = refl
+each_as f g (p ∷ ps) same = ap (λ b. b && each_part f ps) (by p.type) ∙ ap (λ b. if_known g p.type && b) (each_as f g ps same)
+  where
+    by : (o : Option StaticType) → if_known f o ≡ if_known g o
+    by None = refl
+    by (Some t) = same t
+
+pub each_member : (holds : StaticType → Bool) (ms : List Member) → list_all (λ m. if_known holds (member_of m).type) ms ≡ each_part holds (members_of ms)
+each_member holds [] = refl
+each_member holds (m ∷ ms) = ap (λ b. if_known holds (member_of m).type && b) (each_member holds ms)
+
+all_known_more : (acc es : List Entry) (e : Entry) → are_known acc es ≡ true → is_known (acc ++ es) e.0.now e.1 ≡ true → are_known acc (es ++ e ∷ []) ≡ true
+all_known_more acc [] e h own = ap (λ b. b && true) (subst (λ l. is_known l e.0.now e.1 ≡ true) (append-nil acc) own)
+all_known_more acc (f ∷ es) e h own =
+    ap (λ b. b && are_known (acc ++ f ∷ []) (es ++ e ∷ [])) (left_true (is_known acc f.0.now f.1) (are_known (acc ++ f ∷ []) es) h)
+    ∙ all_known_more (acc ++ f ∷ []) es e (right_true (is_known acc f.0.now f.1) (are_known (acc ++ f ∷ []) es) h)
+    (subst (λ l. is_known l e.0.now e.1 ≡ true) (sym (append_assoc acc (f ∷ []) es)) own)
+
+same_bool_self : (b : Bool) → same_bool b b ≡ true
+same_bool_self true = refl
+same_bool_self false = refl
+
+pub none_found : (es : List Entry) (x : List ℕ) → tag_in (entries_of es) x ≡ None → found es x ≡ None
+none_found es x h = by (found es x) (sym (tag_found es x) ∙ h)
+  where
+    by : (k : Option Known) → option_map (λ k. tag_of x k.tag) k ≡ None → k ≡ None
+    by None h = refl
+    by (Some k) h = absurd (true≢false (ap is_some h))
+
+-- a new tag, whose members are declared, with what is found of them
+pub known_more : (es : List Entry) (at : Bor (List ℕ)) (k : Known) → are_known [] es ≡ true → tag_in (entries_of es) at.now ≡ None
+    → each_part (has_declared (entries_of es)) (members_of k.tag.members.items) ≡ true
+    → k.copyable ≡ each_part (quick_copies es) (members_of k.tag.members.items)
+    → k.begins ≡ each_part (quick_begins es) (members_of k.tag.members.items) → are_known [] (es ++ (at, k) ∷ []) ≡ true
+known_more es at k known new declared copyable begins =
+    let ms = members_of k.tag.members.items in
+    let first : is_none (found es at.now) ≡ true = ap is_none (none_found es at.now new) in
+    let second : each_part (is_declared es) ms ≡ true = sym (each_as (has_declared (entries_of es)) (is_declared es) ms (declared_same es)) ∙ declared in
+    let third : same_bool k.copyable (each_part (quick_copies es) ms) ≡ true = ap (same_bool k.copyable) (sym copyable) ∙ same_bool_self k.copyable in
+    let fourth : same_bool k.begins (each_part (quick_begins es) ms) ≡ true = ap (same_bool k.begins) (sym begins) ∙ same_bool_self k.begins in
+    all_known_more [] es (at, k) known (all_true _ _ _ _ first second third fourth)
+  where
+    all_true : (a b c d : Bool) → a ≡ true → b ≡ true → c ≡ true → d ≡ true → (a && b && c && d) ≡ true
+    all_true a b c d ha hb hc hd = rw (ha, hb, hc, hd) refl
+
+pub known_either : {A E : Type 0} (r : Result A E) (old new : List Entry) (e : Entry) → OnOk r (new ≡ old ++ e ∷ []) → OnErr r (new ≡ old)
+    → are_known [] old ≡ true → are_known [] (old ++ e ∷ []) ≡ true → are_known [] new ≡ true
+known_either (Ok a) old new e ok err first second = subst (λ l. are_known [] l ≡ true) (sym ok) second
+known_either (Err a) old new e ok err first second = subst (λ l. are_known [] l ≡ true) (sym err) first
+
+pub ok_then : {A E : Type 0} (r : Result A E) (P Q : Type 0) → OnOk r P → (P → Q) → OnOk r Q
+ok_then (Ok a) P Q p f = f p
+ok_then (Err a) P Q p f = p
+
+pub entries_more : (es : List Entry) (e : Entry) → entries_of (es ++ e ∷ []) ≡ entries_of es ++ named_by e ∷ []
+entries_more es e = map_push named_by es e

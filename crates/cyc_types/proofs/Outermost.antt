@@ -1,8 +1,8 @@
 -- A type by its outermost pointer.
-use Rattle.std.proofs.Common.{◌≡◌, ℕ, Bool, List, [], ◌∷◌, length, refl, sym, ap, ◌∙◌, arith, ◌-◌}
+use Rattle.std.proofs.Common.{◌≡◌, Bool, true, List, [], ◌∷◌, length, refl, sym, ap, ◌∙◌, arith, ◌-◌}
 use Rattle.std.specs.Prelude.{None, Option, Some, slice_get}
 use Rattle.source_typing.specs.Types.{StaticType}
-use Rattle.cyc_types.specs.Known.{Entry, quick_begins, quick_copies}
+use Rattle.cyc_types.specs.Known.{Entry, is_declared, quick_begins, quick_copies}
 use Rattle.cyc_types.specs.Layers.{last_or, layer_begins, layer_copies, outermost, pointed, pointer_to}
 use Rattle.cyc_types.specs.declared.layer.Layer.{Layer}
 use Rattle.cyc_types.specs.declared.layer.Layer.TheVariants as code
@@ -55,3 +55,20 @@ plain_begins es ls t e = with_outer (quick_begins es) layer_begins (of_begins es
 pub pointer_begins : (es : List Entry) (ls : List Layer) (t : StaticType) (l : Layer) → outermost ls ≡ Some l → quick_begins es (pointed t ls) ≡ layer_begins l
 unfolding outer_or
 pointer_begins es ls t l e = with_outer (quick_begins es) layer_begins (of_begins es) ls t (Some l) e
+
+always : Layer → Bool
+always l = true
+
+of_declared : (es : List Entry) (l : Layer) (t : StaticType) → is_declared es (pointer_to l t) ≡ always l
+unfolding always
+of_declared es (code.Thin n r) t = refl
+of_declared es (code.Fat r) t = refl
+of_declared es (code.Unique n) t = refl
+
+pub plain_declared : (es : List Entry) (ls : List Layer) (t : StaticType) → outermost ls ≡ None → is_declared es (pointed t ls) ≡ is_declared es t
+unfolding outer_or
+plain_declared es ls t e = with_outer (is_declared es) always (of_declared es) ls t None e
+
+pub pointer_declared : (es : List Entry) (ls : List Layer) (t : StaticType) (l : Layer) → outermost ls ≡ Some l → is_declared es (pointed t ls) ≡ true
+unfolding always outer_or
+pointer_declared es ls t l e = with_outer (is_declared es) always (of_declared es) ls t (Some l) e

@@ -57,6 +57,12 @@ is_declared es (Struct tag rs) = is_some (found es tag)
 is_declared es (Union tag rs) = is_some (found es tag)
 is_declared es t = true
 
+-- the same by the rules' tables
+abbrev pub has_declared : rules.Tables → StaticType → Bool
+has_declared g (Struct tag rs) = is_some (rules.tag_in g tag)
+has_declared g (Union tag rs) = is_some (rules.tag_in g tag)
+has_declared g t = true
+
 -- a new name, members that are declared before it, and what is known of it
 abbrev pub is_known : List Entry → List ℕ → Known → Bool
 is_known before x k =

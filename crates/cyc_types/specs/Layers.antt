@@ -1,5 +1,5 @@
 -- Pointers of a type in code, as the rules say them.
-use Rattle.std.specs.Prelude.{Bool, List, None, Option, Some, false, not, true, [], ◌∷◌}
+use Rattle.std.specs.Prelude.{Bool, List, None, Option, Some, false, true, [], ◌∷◌}
 use Rattle.source_typing.specs.Regions.{same_id}
 use Rattle.source_typing.specs.Types.{Differs, Fat, Match, StaticType, Thin, Unique, by_regions, matched, only, same_bool}
 use Rattle.cyc_types.specs.Likeness.{likeness_of, match_of}

@@ -4,7 +4,7 @@ ghost use Rattle.std.specs.Prelude.{◌≡◌, IfOk, fold, zip};
 ghost use Rattle.source_typing.specs.Types.{compare, is_same};
 ghost use Rattle.cyc_types.specs.Types.{static_type};
 ghost use Rattle.cyc_types.specs.Likeness.{likeness_of};
-ghost use Rattle.cyc_types.specs.Layers.{next_alike};
+ghost use Rattle.cyc_types.specs.Layers.{next_alike, outermost};
 
 use crate::base::BaseType;
 use crate::layer::Layer;
@@ -59,5 +59,13 @@ impl<'p> CType<'p> {
             base: self.base.try_clone()?,
             layers,
         })
+    }
+
+    /// The outermost pointer, where it is one.
+    #[tactic(auto, using(crate::proofs::Outermost::last_is))]
+    pub fn outer(&self) -> Option<Layer>
+        ensures { result ≡ outermost self.now.layers.items }
+    {
+        self.layers.as_slice().last().copied()
     }
 }

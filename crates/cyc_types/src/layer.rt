@@ -1,7 +1,7 @@
 // Pointers, without what they lead to.
 
 ghost use Rattle.std.specs.Prelude.{◌≡◌};
-ghost use Rattle.cyc_types.specs.Layers.{layers_alike};
+ghost use Rattle.cyc_types.specs.Layers.{layers_alike, layer_copies, layer_begins};
 
 use crate::likeness::Likeness;
 use crate::region::RegionId;
@@ -40,6 +40,23 @@ impl Layer {
             (Layer::Unique(mine), Layer::Unique(theirs)) => inner.only_if(mine == theirs),
             (Layer::Fat(here), Layer::Fat(there)) => inner.with_regions(here.is_same(there)),
             _ => Likeness::Different,
+        }
+    }
+
+    /// Whether it is copied: a unique pointer isn't.
+    pub fn is_copyable(self) -> bool
+        ensures { result ≡ layer_copies self }
+    {
+        !matches!(self, Layer::Unique(_))
+    }
+
+    /// Whether it begins as `NULL` where it has no initializer.
+    pub fn has_beginning(self) -> bool
+        ensures { result ≡ layer_begins self }
+    {
+        match self {
+            Layer::Thin(may_be_null, _) | Layer::Unique(may_be_null) => may_be_null,
+            Layer::Fat(_) => true,
         }
     }
 }

@@ -20,4 +20,4 @@ pub use layer::Layer;
 pub use likeness::Likeness;
 pub use region::RegionId;
 pub use tables::Tables;
-pub use tag::{Known, Member, Tag};
+pub use tag::{Member, Tag};

@@ -3,9 +3,9 @@
 ghost use Rattle.std.specs.Prelude.{◌≡◌, ℕ, true, [], List};
 ghost use Rattle.cyc_types.specs.Known.{are_known};
 
+use crate::base::BaseType;
 use crate::ctype::CType;
 use crate::layer::Layer;
-use crate::base::BaseType;
 use crate::tag::{Known, Member, Tag};
 use indexmap::IndexMap;
 use std::alloc::{AllocError, Global};
@@ -18,12 +18,14 @@ pub struct Tables<'p> {
 }
 
 impl<'p> Tables<'p> {
-    ghost use Rattle.std.specs.Prelude.{OnOk, OnErr, ◌++◌, ◌∷◌, None};
-    ghost use Rattle.source_typing.specs.Tables.{each_part, is_copyable, has_beginning, tag_in};
-    ghost use Rattle.cyc_types.specs.Known.{found, is_declared, quick_copies, quick_begins, known_tag};
-    ghost use Rattle.cyc_types.specs.Tags.{members_of, named_tag};
+    ghost use Rattle.std.specs.Prelude.{OnOk, OnErr, ◌++◌, ◌∷◌, None, option_copied};
+    ghost use Rattle.std.specs.List.{list_all};
+    ghost use Rattle.source_typing.specs.Tables.{each_part, if_known, is_copyable, has_beginning, tag_in};
+    ghost use Rattle.cyc_types.specs.Known.{found, has_declared, is_declared, quick_copies, quick_begins, known_tag};
+    ghost use Rattle.cyc_types.specs.Tags.{member_of, members_of, named_tag};
     ghost use Rattle.cyc_types.specs.Tables.{tables_of};
     ghost use Rattle.cyc_types.specs.Types.{static_type};
+    ghost use Rattle.cyc_types.specs.Bases.{base_type};
 
     /// No struct and no union.
     pub fn new(alloc: Global) -> Self
@@ -42,5 +44,160 @@ impl<'p> Tables<'p> {
             Some(known) => Some(&known.tag),
             None => None,
         }
+    }
+
+    /// What is known of a struct or union of a name.
+    fn known(&self, name: &[u8]) -> Option<&Known<'p>>
+        ensures { option_copied result ≡ found self.now.tags.entries name.now }
+    {
+        self.tags.get(name)
+    }
+
+    /// Whether what is no pointer is copied.
+    fn base_is_copyable(&self, base: &BaseType) -> bool
+        ensures { result ≡ quick_copies self.now.tags.entries (base_type base.now) }
+    {
+        match base {
+            BaseType::Key(_) => false,
+            BaseType::Struct(tag, _) => match self.known(*tag) {
+                Some(known) => known.copyable,
+                None => true,
+            },
+            _ => true,
+        }
+    }
+
+    /// Whether a value is copied: no unique pointer, no key, and no struct with a member that isn't.
+    fn copies(&self, of: &CType) -> bool
+        ensures { result ≡ quick_copies self.now.tags.entries (static_type of.now) }
+    {
+        match of.outer() {
+            Some(pointer) => pointer.is_copyable(),
+            None => self.base_is_copyable(&of.base),
+        }
+    }
+
+    /// Whether what is no pointer has a beginning.
+    fn base_begins(&self, base: &BaseType) -> bool
+        ensures { result ≡ quick_begins self.now.tags.entries (base_type base.now) }
+    {
+        match base {
+            BaseType::Int | BaseType::Unsigned | BaseType::Char => true,
+            BaseType::Struct(tag, _) => match self.known(*tag) {
+                Some(known) => known.begins,
+                None => true,
+            },
+            _ => false,
+        }
+    }
+
+    /// Whether a variable without initializer has a beginning.
+    fn begins(&self, of: &CType) -> bool
+        ensures { result ≡ quick_begins self.now.tags.entries (static_type of.now) }
+    {
+        match of.outer() {
+            Some(pointer) => pointer.has_beginning(),
+            None => self.base_begins(&of.base),
+        }
+    }
+
+    /// Whether what is no pointer is declared.
+    fn has_base(&self, base: &BaseType) -> bool
+        ensures { result ≡ is_declared self.now.tags.entries (base_type base.now) }
+    {
+        match base {
+            BaseType::Struct(tag, _) | BaseType::Union(tag, _) => self.known(*tag).is_some(),
+            _ => true,
+        }
+    }
+
+    /// Whether the struct or union is declared that a type is, where it is one.
+    fn has(&self, of: &CType) -> bool
+        ensures { result ≡ is_declared self.now.tags.entries (static_type of.now) }
+    {
+        match of.outer() {
+            Some(_) => true,
+            None => self.has_base(&of.base),
+        }
+    }
+
+    /// Whether the struct or union is declared that a type is, where it is one.
+    #[tactic(auto, using(crate::proofs::InOrder::declared_same))]
+    pub fn declares(&self, of: &CType) -> bool
+        ensures { result ≡ has_declared (tables_of self.now) (static_type of.now) }
+    {
+        self.has(of)
+    }
+
+    /// Whether a member is copied; one of no known type is.
+    fn member_copies(&self, member: &Member) -> bool
+        ensures { result ≡ if_known (quick_copies self.now.tags.entries) (member_of member.now).type }
+    {
+        match &member.of {
+            Some(of) => self.copies(of),
+            None => true,
+        }
+    }
+
+    /// Whether a member has a beginning; one of no known type has.
+    fn member_begins(&self, member: &Member) -> bool
+        ensures { result ≡ if_known (quick_begins self.now.tags.entries) (member_of member.now).type }
+    {
+        match &member.of {
+            Some(of) => self.begins(of),
+            None => true,
+        }
+    }
+
+    /// Whether all members are copied.
+    fn all_copied(&self, members: &[Member]) -> bool
+        ensures { result ≡ list_all (λ m. if_known (quick_copies self.now.tags.entries) (member_of m).type) members.now }
+    {
+        members.iter().all(|member| self.member_copies(member))
+    }
+
+    /// Whether all members have a beginning.
+    fn all_begin(&self, members: &[Member]) -> bool
+        ensures { result ≡ list_all (λ m. if_known (quick_begins self.now.tags.entries) (member_of m).type) members.now }
+    {
+        members.iter().all(|member| self.member_begins(member))
+    }
+
+    /// Declares a struct or union. Fails only where no host memory is left, and then none is declared.
+    pub fn add(&mut self, name: &'p [u8], tag: Tag<'p>) -> Result<(), AllocError>
+        // its name is new
+        requires new { tag_in (tables_of self.old) name.now ≡ None }
+        // the structs and unions that its members are were declared before it
+        requires declared { each_part (has_declared (tables_of self.old)) (members_of tag.members.items) ≡ true }
+        ensures added { OnOk result (tables_of self.new ≡ tables_of self.old ++ named_tag name.entry.now tag.entry ∷ []) }
+        ensures kept { OnErr result (tables_of self.new ≡ tables_of self.old) }
+    {
+        let copyable = self.all_copied(&tag.members);
+        let begins = self.all_begin(&tag.members);
+        self.tags.insert(
+            name,
+            Known {
+                tag,
+                copyable,
+                begins,
+            },
+        )?;
+        Ok(())
+    }
+
+    /// Whether a value of a type is copied: it is no unique pointer and no key, and no struct that holds one.
+    #[tactic(auto, using(crate::proofs::InOrder::copies_known))]
+    pub fn is_copyable(&self, of: &CType) -> bool
+        ensures { result ≡ is_copyable (tables_of self.now) (static_type of.now) }
+    {
+        self.copies(of)
+    }
+
+    /// Whether a variable of a type without initializer has a beginning: 0, `NULL`, or a struct of such.
+    #[tactic(auto, using(crate::proofs::InOrder::begins_known))]
+    pub fn has_beginning(&self, of: &CType) -> bool
+        ensures { result ≡ has_beginning (tables_of self.now) (static_type of.now) }
+    {
+        self.begins(of)
     }
 }

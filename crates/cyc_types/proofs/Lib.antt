@@ -1,3 +1,4 @@
+mod Converting
 mod InOrder
 mod KindsUnder
 mod Lengths

@@ -1,4 +1,5 @@
 pub mod Bases
+pub mod Conversions
 pub mod Known
 pub mod Layers
 pub mod Likeness

@@ -4,7 +4,8 @@ ghost use Rattle.std.specs.Prelude.{◌≡◌, IfOk, fold, zip};
 ghost use Rattle.source_typing.specs.Types.{compare, is_same};
 ghost use Rattle.cyc_types.specs.Types.{static_type};
 ghost use Rattle.cyc_types.specs.Likeness.{likeness_of};
-ghost use Rattle.cyc_types.specs.Layers.{next_alike, outermost};
+ghost use Rattle.cyc_types.specs.Layers.{next_alike, outermost, pointed};
+ghost use Rattle.cyc_types.specs.Bases.{base_type};
 
 use crate::base::BaseType;
 use crate::layer::Layer;
@@ -31,16 +32,33 @@ fn alike_under(mine: &[Layer], theirs: &[Layer], inner: Likeness) -> Likeness
         .fold(inner, |alike, (here, there)| here.compare(*there, alike))
 }
 
+/// How alike two types are, each a base under pointers.
+pub(crate) fn alike(
+    mine: &BaseType,
+    pointers: &[Layer],
+    theirs: &BaseType,
+    others: &[Layer],
+) -> Likeness
+    ensures { result ≡ likeness_of (compare (pointed (base_type mine.now) pointers.now) (pointed (base_type theirs.now) others.now)) }
+{
+    if pointers.len() != others.len() {
+        return Likeness::Different;
+    }
+    let inner = mine.compare(theirs);
+    alike_under(pointers, others, inner)
+}
+
 impl<'p> CType<'p> {
     /// How alike two types are: equal, different in regions alone, or different.
     pub fn compare(&self, other: &CType) -> Likeness
         ensures { result ≡ likeness_of (compare (static_type self.now) (static_type other.now)) }
     {
-        if self.layers.len() != other.layers.len() {
-            return Likeness::Different;
-        }
-        let inner = self.base.compare(&other.base);
-        alike_under(self.layers.as_slice(), other.layers.as_slice(), inner)
+        alike(
+            &self.base,
+            self.layers.as_slice(),
+            &other.base,
+            other.layers.as_slice(),
+        )
     }
 
     /// Whether both are the same type.

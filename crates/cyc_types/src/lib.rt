@@ -6,6 +6,7 @@
 #![tactic(auto)]
 
 mod base;
+mod conversion;
 mod ctype;
 mod kinds;
 mod layer;
@@ -15,6 +16,7 @@ mod tables;
 mod tag;
 
 pub use base::{BaseType, RegionArguments};
+pub use conversion::Broken;
 pub use ctype::{CType, Layers};
 pub use layer::Layer;
 pub use likeness::Likeness;

@@ -1,12 +1,12 @@
-//! Types of the whole language, and how their values lie in memory.
+//! Types of the whole language, with the structs and unions of a program.
 //!
-//! A type is a base under layers of pointers. What is said of it, whether two types are the same, what converts and what is
-//! copied, are the definitions of `source_typing`; its bytes are those of `source_meaning` and its cells those of
-//! `source_lowering`. It stands on these definitions alone.
+//! A type is a base under layers of pointers. What is said of it, whether two types are the same, what converts, what is
+//! copied and what has a beginning, are the definitions of `source_typing`, on which it stands.
 #![tactic(auto)]
 
 mod base;
 mod conversion;
+mod copies;
 mod ctype;
 mod kinds;
 mod layer;
@@ -17,6 +17,7 @@ mod tag;
 
 pub use base::{BaseType, RegionArguments};
 pub use conversion::Broken;
+pub use copies::is_copyable;
 pub use ctype::{CType, Layers};
 pub use layer::Layer;
 pub use likeness::Likeness;

@@ -187,7 +187,7 @@ impl<'p> Tables<'p> {
 
     /// Whether a value of a type is copied: it is no unique pointer and no key, and no struct that holds one.
     #[tactic(auto, using(crate::proofs::InOrder::copies_known))]
-    pub fn is_copyable(&self, of: &CType) -> bool
+    pub(crate) fn copies_value(&self, of: &CType) -> bool
         ensures { result ≡ is_copyable (tables_of self.now) (static_type of.now) }
     {
         self.copies(of)

@@ -1,6 +1,6 @@
 -- Conversions by the outermost pointers.
-use Rattle.std.proofs.Common.{◌≡◌, ◌-◌, Bool, true, false, List, [], ◌∷◌, length, take, refl, sym, ap, ◌∙◌, arith, true≢false}
-use Rattle.std.specs.Prelude.{None, Option, Some, is_none}
+use Rattle.std.proofs.Common.{◌≡◌, ◌-◌, Bool, true, false, List, [], ◌∷◌, ◌++◌, length, take, refl, sym, ap, ◌∙◌, arith, true≢false}
+use Rattle.std.specs.Prelude.{MatchOption, None, Option, Some, is_none}
 use Rattle.source_typing.specs.Conversions.{conversion, ordered, unless_differs}
 use Rattle.source_typing.specs.Faults.{outlives_rule, type_rule}
 use Rattle.source_typing.specs.Regions.{Regions}
@@ -37,6 +37,23 @@ by_outer (k ∷ ks) t l h =
 pub by_none : (ls : List Layer) (t : StaticType) → outermost ls ≡ None → pointed t ls ≡ t
 by_none [] t h = refl
 by_none (k ∷ ks) t h = absurd (true≢false (sym (ap is_none h)))
+
+pub pointed_more : (ls : List Layer) (t : StaticType) (l : Layer) → pointed t (ls ++ l ∷ []) ≡ pointer_to l (pointed t ls)
+pointed_more [] t l = refl
+pointed_more (k ∷ ks) t l = pointed_more ks (pointer_to k t) l
+
+last_more : (k : Layer) (ls : List Layer) (l : Layer) → last_or k (ls ++ l ∷ []) ≡ l
+last_more k [] l = refl
+last_more k (m ∷ ls) l = last_more m ls l
+
+pub outermost_more : (ls : List Layer) (l : Layer) → outermost (ls ++ l ∷ []) ≡ Some l
+outermost_more [] l = refl
+outermost_more (k ∷ ks) l = ap Some (last_more k ks l)
+
+pub without_last : (old new : List Layer) (t : StaticType) → new ≡ take (length old - 1) old
+    → MatchOption (outermost old) (pointed t new ≡ pointed t old) (λ l. pointed t old ≡ pointer_to l (pointed t new))
+without_last [] new t h = ap (pointed t) h
+without_last (k ∷ ks) new t h = by_outer (k ∷ ks) t (last_or k ks) refl ∙ ap (λ n. pointer_to (last_or k ks) (pointed t n)) (sym h)
 
 -- ---- pointers to pointers
 

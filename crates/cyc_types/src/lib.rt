@@ -11,6 +11,7 @@ mod ctype;
 mod kinds;
 mod layer;
 mod likeness;
+mod making;
 mod region;
 mod tables;
 mod tag;

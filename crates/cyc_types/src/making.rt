@@ -1,0 +1,44 @@
+// Types made of others.
+
+ghost use Rattle.std.specs.Prelude.{◌≡◌, IfOk, MatchOption};
+ghost use Rattle.cyc_types.specs.Bases.{base_type};
+ghost use Rattle.cyc_types.specs.Layers.{outermost, pointer_to};
+ghost use Rattle.cyc_types.specs.Types.{static_type};
+
+use crate::base::BaseType;
+use crate::ctype::CType;
+use crate::layer::Layer;
+use smallvec::SmallVec;
+use std::alloc::{AllocError, Global};
+
+impl<'p> CType<'p> {
+    /// A type that is no pointer.
+    pub fn plain(alloc: Global, base: BaseType<'p>) -> Self
+        ensures { static_type result ≡ base_type base.entry }
+    {
+        CType {
+            base,
+            layers: SmallVec::new(alloc),
+        }
+    }
+
+    /// A pointer to the type. Fails only where no host memory is left.
+    #[tactic(auto, using(crate::proofs::Converting::pointed_more))]
+    pub fn under(self, pointer: Layer) -> Result<Self, AllocError>
+        ensures { IfOk result (λ t. static_type t ≡ pointer_to pointer (static_type self.entry)) }
+    {
+        let CType { base, mut layers } = self;
+        layers.push(pointer)?;
+        Ok(CType { base, layers })
+    }
+
+    /// What a pointer leads to; a type that is no pointer stays as it is.
+    pub fn into_pointee(self) -> Self
+        ensures { MatchOption (outermost self.entry.layers.items) (static_type result ≡ static_type self.entry)
+            (λ l. static_type self.entry ≡ pointer_to l (static_type result)) }
+    {
+        let CType { base, mut layers } = self;
+        let _outermost = layers.pop();
+        CType { base, layers }
+    }
+}

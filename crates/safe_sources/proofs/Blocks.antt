@@ -11,13 +11,14 @@ use Rattle.source_typing.specs.Ways.{ways_of}
 use Rattle.source_typing.proofs.Inversion.{none_of_both}
 use Rattle.accepted_sources.specs.Accepted.{IsIntegerIn, ItemsAccepted, ReturnAccepted, StatementAccepted}
 use Rattle.source_safety.specs.Judged.{Condition, ItemsJudged, Returned, StatementJudged}
+use Rattle.source_safety.proofs.Words.{integer_word}
 use Rattle.safe_sources.proofs.Locals.{accepted_is, declaration_judged, fitting_is}
 
 condition_is : (g : Env) (e : Expression) → IsIntegerIn g e → ExpressionHasOperands e → Condition g e
 condition_is g e a o = record { accepted = accepted_is g e a.0.accepted o; testable = ap (λ b. b || is_pointer a.0.accepted.value.type) a.0.integer }
 
 returned_is : (g : Env) (e : Expression) → ReturnAccepted g e → ExpressionHasOperands e → Returned g e
-returned_is g e a o = record { gives = a.gives; result = a.result; integer = a.integer; fitting = fitting_is g e a.gives a.value o a.integer }
+returned_is g e a o = record { gives = a.gives; result = a.result; word = integer_word a.gives a.integer; fitting = fitting_is g e a.gives a.value o a.integer }
 
 mutual
   pub statement_judged : (x : Statement) (g : Env) (c : Bool) → StatementAccepted g x → StatementHasOperands x → statement_faults g c x ≡ []

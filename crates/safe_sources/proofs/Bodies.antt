@@ -25,10 +25,11 @@ use Rattle.accepted_sources.specs.Plain.{PlainInt, PlainUnsigned, PlainChar, Pla
 use Rattle.accepted_sources.specs.Accepted.{IsFunction, base_type}
 use Rattle.accepted_sources.proofs.Declarations.{base_integer, by_nothing}
 use Rattle.accepted_sources.proofs.Heads.{head_result, result_plain}
-use Rattle.source_safety.specs.Entries as safety
-use Rattle.source_safety.specs.Entries.{Function, IsPlain}
+use Rattle.source_safety.specs.Entries.{AreWords, Function, IsPlain}
 use Rattle.source_safety.specs.Judged.{ItemsJudged, extended}
+use Rattle.source_safety.specs.Named.{AllBelow, BoundsBelow, TypeBelow, TypesBelow}
 use Rattle.source_safety.specs.Programs.{FunctionJudged, with_all}
+use Rattle.source_safety.proofs.Words.{integer_below, integer_word}
 use Rattle.safe_sources.proofs.Blocks.{items_judged}
 use Rattle.safe_sources.proofs.HeadFacts.{HeadFacts, head_facts, parameter_types}
 use Rattle.safe_sources.proofs.Locals.{one_more, shape_written}
@@ -88,9 +89,20 @@ parameter_shapes (m ∷ ms) h =
     let b : part_shapes (map part_of ms) ≡ map shape_of (parameter_types ms) = parameter_shapes ms h.1 in
     cc
 
-pub parameter_integers : (ms : List tree.Member) → AreIntegers ms → safety.AreIntegers (parameter_types ms)
-parameter_integers [] h = tt
-parameter_integers (m ∷ ms) h = (base_integer m.of.base h.0.base, parameter_integers ms h.1)
+pub parameter_words : (ms : List tree.Member) → AreIntegers ms → AreWords (parameter_types ms)
+parameter_words [] h = tt
+parameter_words (m ∷ ms) h = (integer_word (base_type m.of.base) (base_integer m.of.base h.0.base), parameter_words ms h.1)
+
+-- integers name no region
+parameters_below : (n : ℕ) (ms : List tree.Member) → AreIntegers ms → TypesBelow n (parameter_types ms)
+parameters_below n [] h = tt
+parameters_below n (m ∷ ms) h = (integer_below n (base_type m.of.base) (base_integer m.of.base h.0.base), parameters_below n ms h.1)
+
+result_below : (n : ℕ) (t : StaticType) → plain.IsPlain t → TypeBelow n t
+result_below n t PlainInt = tt
+result_below n t PlainUnsigned = tt
+result_below n t PlainChar = tt
+result_below n t PlainVoid = tt
 
 pub result_shape : (t : tree.TypeName) → TakesResult t → settled (written t) ≡ shape_of (base_type t.base)
 result_shape t (GivesInteger h) = shape_written t h
@@ -122,7 +134,7 @@ function_is world g i x s f n k = record {
   types = parameter_types f.parameters;
   parameters = ap (λ (z : Signature). z.parameters) (sym n.signature) ∙ k.facts.parameters;
   shapes = parameter_shapes f.parameters k.accepted.head.parameters;
-  integers = parameter_integers f.parameters k.accepted.head.parameters;
+  words = parameter_words f.parameters k.accepted.head.parameters;
   gives = base_type f.result.base;
   result = ap (λ (z : Signature). z.result) (sym n.signature) ∙ head_result false g f k.accepted.head;
   shape = result_shape f.result k.accepted.head.result;
@@ -163,11 +175,6 @@ ends g i f k w =
 
 -- ---- all of it
 
-no_regions : (s : Signature) → s.regions ≡ 0 → s.effect ≡ [] → s.bounds ≡ [] → entry_regions s.regions s.effect s.bounds ≡ entry_regions 0 [] []
-no_regions s a b c =
-    ap (λ (n : ℕ). entry_regions n s.effect s.bounds) a
-    ∙ (ap (λ (rs : List Region). entry_regions 0 rs s.bounds) b ∙ ap (λ (bs : List (Region × Region)). entry_regions 0 [] bs) c)
-
 pub function_judged : (world : World) (g : Tables) (i : ℕ) (x : List ℕ) (s : Signature) (f : tree.Function) (n : FunctionNamed world g x s f)
     (k : FunctionKnown g i f) → FunctionJudged world g x s (function_is world g i x s f n k)
 function_judged world g i x s f n k =
@@ -181,7 +188,13 @@ function_judged world g i x s f n k =
       };
       tables_are = refl;
       locals = refl;
-      regions = no_regions h.signature k.facts.regions k.facts.effect k.facts.bounds;
+      regions = ap (λ (z : Signature). entry_regions z.regions z.effect z.bounds) n.signature;
+      strict = refl;
+      enclosing = refl;
+      takes_below = parameters_below s.regions f.parameters k.accepted.head.parameters;
+      gives_below = result_below s.regions (base_type f.result.base) (result_plain f.result k.accepted.head.result);
+      effect_below = subst (λ (rs : List Region). AllBelow s.regions rs) (sym k.facts.effect ∙ ap (λ (z : Signature). z.effect) n.signature) tt;
+      bounds_below = subst (λ (bs : List (Region × Region)). BoundsBelow s.regions bs) (sym k.facts.bounds ∙ ap (λ (z : Signature). z.bounds) n.signature) tt;
       result = head_result false g f k.accepted.head;
       no_loop = refl;
       no_switch = refl;

@@ -4,7 +4,7 @@ use Rattle.cyc_tree.specs.Tree as tree
 use Rattle.cyc_tree.specs.Tree.{Constant, Initial, TypeName}
 use Rattle.cyc_words.specs.Words.{difference_of}
 use Rattle.source_meaning.specs.Calls.{number_type}
-use Rattle.source_meaning.specs.Memory.{AsChar, AsInt, AsUnsigned, IntegerType}
+use Rattle.source_meaning.specs.Memory.{AsChar}
 use Rattle.source_meaning.specs.Programs.{global_shape}
 use Rattle.source_meaning.specs.Shapes.{settled, written}
 use Rattle.source_lowering.specs.Taken.{IsIntegerBase, TakesConstant, TakesInitial}
@@ -14,11 +14,13 @@ use Rattle.source_typing.specs.Globals.{count_of, global_entry, global_type}
 use Rattle.source_typing.specs.Regions.{TheHeap}
 use Rattle.source_typing.specs.Scope.{Env}
 use Rattle.source_typing.specs.Tables.{OfValue, Stored}
-use Rattle.source_typing.specs.Types.{StaticType, integer_type, shape_of}
+use Rattle.source_typing.specs.Types.{StaticType, shape_of}
 use Rattle.source_typing.specs.Verdicts.{Of, Verdict}
 use Rattle.accepted_sources.specs.Accepted.{IsGlobal, base_type}
+use Rattle.accepted_sources.proofs.Declarations.{base_integer}
 use Rattle.accepted_sources.proofs.Globals.{entry_clean, global_integer}
-use Rattle.source_safety.specs.Programs.{GlobalJudged, InitialJudged, IsNumber}
+use Rattle.source_safety.specs.Programs.{GlobalJudged, InitialJudged, IsFirst, IsNumber}
+use Rattle.source_safety.proofs.Words.{integer_begins, integer_word}
 use Rattle.safe_sources.proofs.Locals.{shape_written}
 
 -- ---- constants
@@ -30,27 +32,27 @@ number_is (Constant.Character at byte) h = record { of = AsChar; word = byte % 2
 number_is (Constant.Text at bytes) h = absurd h
 number_is (Constant.Null at) h = absurd h
 
-initial_judged : (i : Initial) → TakesInitial i → InitialJudged i
-initial_judged Initial.Unset h = tt
-initial_judged (Initial.Elements n) h = absurd h
-initial_judged (Initial.Given c) h = number_is c h
+first_is : (b : tree.Base) (c : Constant) → IsIntegerBase b → IsNumber c → IsFirst (base_type b) c
+first_is tree.Int c h n = n
+first_is tree.Unsigned c h n = n
+first_is tree.Char c h n = n
+first_is _ c h n = absurd h
+
+initial_judged : (b : tree.Base) (i : Initial) → IsIntegerBase b → TakesInitial i → InitialJudged (base_type b) i
+initial_judged b Initial.Unset h t = tt
+initial_judged b (Initial.Elements n) h t = absurd t
+initial_judged b (Initial.Given c) h t = first_is b c h (number_is c t)
 
 -- ---- globals
 
-integer_base : (b : tree.Base) → IsIntegerBase b → (u : IntegerType) × (base_type b ≡ integer_type u)
-integer_base tree.Int h = (AsInt, refl)
-integer_base tree.Unsigned h = (AsUnsigned, refl)
-integer_base tree.Char h = (AsChar, refl)
-integer_base _ h = absurd h
-
 pub global_judged : (x : tree.Global) → IsGlobal x → GlobalJudged x
-global_judged x k =
-    let i : (u : IntegerType) × (base_type x.of.base ≡ integer_type u) = integer_base x.of.base k.type.base in
-    record {
-      of = i.0;
-      shape = shape_written x.of k.type ∙ ap (λ (t : StaticType). shape_of t) i.1;
-      initial = initial_judged x.initial k.initial;
-    }
+global_judged x k = record {
+  type = base_type x.of.base;
+  word = integer_word (base_type x.of.base) (base_integer x.of.base k.type.base);
+  begins = integer_begins (base_type x.of.base) (base_integer x.of.base k.type.base);
+  shape = shape_written x.of k.type;
+  initial = initial_judged x.of.base x.initial k.type.base k.initial;
+}
 
 -- ---- what its name means
 

@@ -19,6 +19,7 @@ use Rattle.accepted_sources.specs.Plain.{IsAccepted}
 use Rattle.accepted_sources.specs.Accepted.{DeclarationAccepted, IsIntegerIn, base_type}
 use Rattle.accepted_sources.proofs.Declarations.{base_integer, by_base}
 use Rattle.source_safety.specs.Judged.{Accepted, DeclarationJudged, Fitting, LocalSet, LocalUnset, extended}
+use Rattle.source_safety.proofs.Words.{integer_begins, integer_below, integer_word}
 use Rattle.safe_sources.proofs.TakenForms.{takes_itself}
 
 -- ---- expressions
@@ -86,7 +87,9 @@ set_integer g t v h = by_base (λ z. set_type g z v ≡ Of (base_type z.base)) t
 unset_judged : (g : Env) (t : TypeName) (x : tree.Name) → IsIntegerType t → (declare g (tree.Local t x Initializer.Unset)).faults ≡ [] → LocalUnset g t x
 unset_judged g t x h p = record {
   type = base_type t.base;
-  integer = base_integer t.base h.base;
+  word = integer_word (base_type t.base) (base_integer t.base h.base);
+  below = integer_below g.regions.count (base_type t.base) (base_integer t.base h.base);
+  begins = integer_begins (base_type t.base) (base_integer t.base h.base);
   shape = shape_written t h;
   scope = ap (λ v. with_local x (what_of g.frame None v) g) (unset_integer g t h)
       ∙ one_more x (base_type t.base) g (none_of_both (faults_of (unset_type g t None)) (second g x) p).1;
@@ -99,7 +102,8 @@ set_judged g t x e h a o p =
     let f : (set_faults g v (set_type g t v) ≡ []) × (second g x ≡ []) = none_of_both (set_faults g v (set_type g t v)) (second g x) p in
     record {
       type = base_type t.base;
-      integer = base_integer t.base h.base;
+      word = integer_word (base_type t.base) (base_integer t.base h.base);
+      below = integer_below g.regions.count (base_type t.base) (base_integer t.base h.base);
       fitting = fitting_is g e (base_type t.base) a o (base_integer t.base h.base);
       shape = shape_by t a.0.accepted.value.type h;
       scope = ap (λ fs. with_local x (what_after fs (what_of g.frame None (set_type g t v))) g) f.0

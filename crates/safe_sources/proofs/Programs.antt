@@ -51,6 +51,7 @@ use Rattle.accepted_sources.proofs.Programs.{accepted_is_in_order, no_typing_fau
 use Rattle.source_safety.specs.Entries.{Builtin, Function, PlainEntry}
 use Rattle.source_safety.specs.Programs.{FunctionJudged, GlobalFound, MainFound, ProgramJudged}
 use Rattle.source_safety.proofs.Never.{never_stuck}
+use Rattle.source_safety.proofs.Words.{integer_below, integer_word}
 use Rattle.source_safety.proofs.Same.{judged_same}
 use Rattle.safe_sources.specs.Laws.{AcceptedIsNeverStuck, HasMain}
 use Rattle.safe_sources.proofs.Bodies.{FunctionNamed, function_is, function_judged}
@@ -148,7 +149,7 @@ module _ (p : Program) (o : HasOperands p) (e : program_faults integers p ≡ []
       by false true k = absurd cc
       by false false k =
           let found : VariableFound p 0 x t r = find_variable tables heads 0 0 (judged_tags p) p x t r known k in
-          record { number = found.number; is = found.is_bound; region = found.region }
+          record { number = found.number; is = found.is_bound; region = found.region; below = integer_below 0 t (subst (λ (z : Option Entry). MeansSound z) h (found_sound tables x order.tables)) }
 
   builtin_is : (x : List ℕ) (n : ℕ) → find tables x ≡ Some (OfBuiltin n) → Builtin x n
   builtin_is x n h = by (bytes_eq (codes "getchar") x) (bytes_eq (codes "putchar") x) refl refl h
@@ -165,7 +166,7 @@ module _ (p : Program) (o : HasOperands p) (e : program_faults integers p ≡ []
   plain x y h = by y h (subst (λ (z : Option Entry). MeansSound z) h (found_sound tables x order.tables))
     where
       by : (y : Entry) → find tables x ≡ Some y → IsSoundEntry y → PlainEntry world x y
-      by (OfValue (Stored t r)) h s = s
+      by (OfValue (Stored t r)) h s = integer_word t s
       by (OfValue (Arrayed t r)) h s = absurd s
       by (OfValue Counter) h s = absurd s
       by (OfValue Unknown) h s = absurd s

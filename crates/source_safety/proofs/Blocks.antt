@@ -1,10 +1,11 @@
--- Declarations, and all statements of integers together.
-use Rattle.std.proofs.Common.{◌≡◌, ℕ, true, false, Some, None, List, [], refl, sym, ◌∙◌, ap, subst}
+-- Declarations, and all statements together.
+use Rattle.std.proofs.Common.{◌≡◌, ℕ, true, false, inl, Some, None, List, [], ◌∷◌, refl, sym, ◌∙◌, ap, subst}
 use Rattle.std.specs.Prelude.{map}
 use Rattle.cyc_tree.specs.Tree as tree
 use Rattle.cyc_tree.specs.Tree.{Expression, Initializer, Declaration, Statement, BlockItems, NoItems, Declare, Execute, TypeName}
 use Rattle.source_meaning.specs.Shapes.{Shape, written, settled, settled_by}
-use Rattle.source_meaning.specs.Memory.{Region, Frame, Spot, Integer, IntegerType, AsInt, AsUnsigned, AsChar, Live, Memory, object_of, first_cell, blank_object}
+use Rattle.source_meaning.specs.Memory as memory
+use Rattle.source_meaning.specs.Memory.{Region, Frame, Spot, Integer, AsInt, AsUnsigned, AsChar, Live, Memory, object_of, first_cell, blank_object}
 use Rattle.source_meaning.specs.Steps.{Variable, World, Scope, Flow, Falls, Breaks, Continues, Returns, Act, give, ◌>>=◌, ◌>>◌, take_turn}
 use Rattle.source_meaning.specs.Conversions.{cells_of, converted}
 use Rattle.source_meaning.specs.Values.{write_cells}
@@ -13,190 +14,208 @@ use Rattle.source_meaning.specs.Places.{with_binding}
 use Rattle.source_meaning.specs.Calls.{truth}
 use Rattle.source_meaning.specs.Expressions.{sense}
 use Rattle.source_meaning.specs.Statements.{statement, block_items, falls_to}
-use Rattle.source_typing.specs.Converts.{IsInteger}
 use Rattle.source_typing.specs.Scope.{Env, block_entered}
 use Rattle.source_typing.specs.Tables as typing
-use Rattle.source_typing.specs.Types.{StaticType, Int, Unsigned, Char, Void, integer_type, renamed, shape_of}
+use Rattle.source_typing.specs.Types.{StaticType, Int, Unsigned, Char, Void, Null, Thin, Fat, Unique, Handle, Key, Struct, Union, renamed, shape_of}
 use Rattle.source_typing.specs.Ways.{Ways, ways, then_ways, ways_of, ways_of_items}
 use Rattle.source_safety.specs.Flat.{Tables}
+use Rattle.source_safety.specs.Entries.{IsWordType, Begins}
+use Rattle.source_safety.specs.Named.{TypeBelow}
 use Rattle.source_safety.specs.Judged.{Accepted, extended, LocalUnset, LocalSet, StatementJudged, ItemsJudged}
-use Rattle.source_safety.proofs.Invariant.{Reached, Ghost, Laid, Inv, Grows}
+use Rattle.source_safety.proofs.Invariant.{RunType, Reached, Ghost, Laid, Inv, Grows}
 use Rattle.source_safety.proofs.Growth.{grows_trans}
 use Rattle.source_safety.proofs.Runs.{Safe, Runs}
-use Rattle.source_safety.proofs.After.{After, flying}
+use Rattle.source_safety.proofs.After.{After}
 use Rattle.source_safety.proofs.Objects.{runs_made}
 use Rattle.source_safety.proofs.Names.{NameOf, naming}
 use Rattle.source_safety.proofs.Scenes.{Scene, scene_later}
 use Rattle.source_safety.proofs.Sound.{shape_renamed, cells_type}
-use Rattle.source_safety.proofs.Integers.{integer_is}
 use Rattle.source_safety.proofs.Storing.{runs_converted}
-use Rattle.source_safety.proofs.Entries.{converts_integer, Invokes}
+use Rattle.source_safety.proofs.Entries.{Invokes}
 use Rattle.source_safety.proofs.Forms.{Denotes}
 use Rattle.source_safety.proofs.Surroundings.{Surrounds, bound_scope, surrounds_local, scene_local, surrounds_block}
 use Rattle.source_safety.proofs.Begun.{runs_begun}
-use Rattle.source_safety.proofs.Flows.{FlowOk, Leaves, Turning, flow_as, flow_then, flow_breaks}
+use Rattle.source_safety.proofs.Flows.{ReturnOk, FlowOk, Leaves, Turning, flow_as, flow_then, flow_breaks}
 use Rattle.source_safety.proofs.Statements.{full_laid, denotes, leaves_at_once, after_leaves, leaves_choice, condition_tells, leaves_block, leaves_return}
 
-module _ (n : ℕ) (d : Tables) (world : World) (tables : typing.Tables) (invokes : Invokes n d world tables) (turns : Turning n d world tables) (b : ℕ) where
-  -- what follows a declaration, wherever the local lies
-  abbrev Follows : Env → Scope → (NameOf → Region) → tree.Name → StaticType → Ways → (Scope → Act Flow) → Type 0
-  Follows g scope f x t s rest = (at : Spot) → at.region ≡ Frame scope.frame
-      → Leaves n d (extended g x t) (with_binding scope x.text (Variable (shape_of t) at)) f b s (rest (with_binding scope x.text (Variable (shape_of t) at)))
+module _ (n : ℕ) (d : Tables) (world : World) (tables : typing.Tables) (invokes : Invokes n d world tables) (turns : Turning n d world tables) (b : ℕ)
+    (gives : RunType)
+  where
+    -- what follows a declaration, wherever the local lies
+    abbrev Follows : Env → Scope → (NameOf → Region) → tree.Name → StaticType → Ways → (Scope → Act Flow) → Type 0
+    Follows g scope f x t s rest = (at : Spot) → at.region ≡ Frame scope.frame
+        → Leaves n d gives (extended g x t) (with_binding scope x.text (Variable (shape_of t) at)) f b s (rest (with_binding scope x.text (Variable (shape_of t) at)))
 
-  frame_live : (g : Env) (scope : Scope) (f : NameOf → Region) (k : ℕ) (w : Ghost) (m : Memory) → Surrounds d world tables g scope f
-      → Scene d g scope f b k w m → m.state (Frame scope.frame) ≡ Live
-  frame_live g scope f k w m h x = subst (λ (r : Region). m.state r ≡ Live) h.frame (x.names.live g.frame h.frame_lives)
+    frame_live : (g : Env) (scope : Scope) (f : NameOf → Region) (k : ℕ) (w : Ghost) (m : Memory) → Surrounds d world tables g scope f gives
+        → Scene d g scope f b k w m → m.state (Frame scope.frame) ≡ Live
+    frame_live g scope f k w m h x = subst (λ (r : Region). m.state r ≡ Live) h.frame (x.names.live g.frame h.frame_lives)
 
-  -- the rest of the block, with the local in scope
-  follows : (g : Env) (scope : Scope) (f : NameOf → Region) (x : tree.Name) (t : StaticType) (s : Ways) (rest : Scope → Act Flow) → Surrounds d world tables g scope f
-      → IsInteger t → Follows g scope f x t s rest → (at : Spot) → at.region ≡ Frame scope.frame → (k : ℕ) (w : Ghost) (m : Memory) (w1 : Ghost) (m1 : Memory)
-      → Inv d w1 m1 → Grows k b w m w1 m1 → Scene d g scope f b k w1 m1 → Laid w1 at (cells_type d f t)
-      → Runs n (rest (with_binding scope x.text (Variable (shape_of t) at))) m1 (λ flow. After d k b w m (λ w' m'. FlowOk d g s flow w'))
-  follows g scope f x t s rest h it go at there k w m w1 m1 i g1 z laid = record {
-    by = λ next q. (go at there k w1 m1 i (scene_local d world tables g scope f x t at h it there b k w1 m1 z laid)).by next
-        (λ flow m2 y. q flow m2 (record {
-          ghost = y.ghost;
-          inv = y.inv;
-          grows = grows_trans g1 y.grows;
-          holds = flow_as d g (extended g x t) s flow y.ghost refl refl refl y.holds;
-        }));
-  }
-
-  -- ---- without an initializer
-
-  begun : (g : Env) (scope : Scope) (f : NameOf → Region) (x : tree.Name) (s : Ways) (rest : Scope → Act Flow) (u : IntegerType) → Surrounds d world tables g scope f
-      → Follows g scope f x (integer_type u) s rest
-      → Leaves n d g scope f b s
-      (make_object (Frame scope.frame) (object_of (map first_cell (cells_of scope.world (shape_of (integer_type u))))) >>= λ at.
-      rest (with_binding scope x.text (Variable (shape_of (integer_type u)) at)))
-  begun g scope f x s rest AsInt h go = λ k w m i z.
-      runs_begun d n k b w m (Frame scope.frame) Int (Integer AsInt 0) (λ at. rest (with_binding scope x.text (Variable (shape_of {R = NameOf} Int) at))) _ i
-      (frame_live g scope f k w m h z) refl (record { word = 0; is = refl })
-      (λ at w1 m1 i1 g1 there typed st. follows g scope f x Int s rest h refl go at there k w m w1 m1 i1 g1 (scene_later d g scope f b k w m w1 m1 i1 g1 z) (typed, tt))
-  begun g scope f x s rest AsUnsigned h go = λ k w m i z.
-      runs_begun d n k b w m (Frame scope.frame) Unsigned (Integer AsUnsigned 0) (λ at. rest (with_binding scope x.text (Variable (shape_of {R = NameOf} Unsigned) at))) _ i
-      (frame_live g scope f k w m h z) refl (record { word = 0; is = refl })
-      (λ at w1 m1 i1 g1 there typed st. follows g scope f x Unsigned s rest h refl go at there k w m w1 m1 i1 g1 (scene_later d g scope f b k w m w1 m1 i1 g1 z) (typed, tt))
-  begun g scope f x s rest AsChar h go = λ k w m i z.
-      runs_begun d n k b w m (Frame scope.frame) Char (Integer AsChar 0) (λ at. rest (with_binding scope x.text (Variable (shape_of {R = NameOf} Char) at))) _ i
-      (frame_live g scope f k w m h z) refl (record { word = 0; is = refl })
-      (λ at w1 m1 i1 g1 there typed st. follows g scope f x Char s rest h refl go at there k w m w1 m1 i1 g1 (scene_later d g scope f b k w m w1 m1 i1 g1 z) (typed, tt))
-
-  leaves_unset : (g : Env) (scope : Scope) (f : NameOf → Region) (of : TypeName) (x : tree.Name) (s : Ways) (rest : Scope → Act Flow)
-      → Surrounds d world tables g scope f → (l : LocalUnset g of x) → Follows g scope f x l.type s rest
-      → Leaves n d g scope f b s
-      (make_object (Frame scope.frame) (object_of (map first_cell (cells_of scope.world (settled (written of))))) >>= λ at.
-      rest (with_binding scope x.text (Variable (settled (written of)) at)))
-  leaves_unset g scope f of x s rest h l go =
-      let u : (u : IntegerType) × (l.type ≡ integer_type u) = integer_is l.type l.integer in
-      subst (λ (y : Shape). Leaves n d g scope f b s (make_object (Frame scope.frame) (object_of (map first_cell (cells_of scope.world y))) >>= λ at.
-      rest (with_binding scope x.text (Variable y at)))) (sym (l.shape ∙ ap shape_of u.1))
-      (begun g scope f x s rest u.0 h (subst (λ (t : StaticType). Follows g scope f x t s rest) u.1 go))
-
-  -- ---- with an initializer
-
-  leaves_set : (g : Env) (scope : Scope) (f : NameOf → Region) (of : TypeName) (x : tree.Name) (e : Expression) (s : Ways) (rest : Scope → Act Flow)
-      → Surrounds d world tables g scope f → (l : LocalSet g of x e) → Follows g scope f x l.type s rest
-      → Leaves n d g scope f b s
-      ((sense e scope).value >>= converted scope.world (settled_by (written of) (sense e scope).shape) (sense e scope).shape >>= λ vs.
-      make_object (Frame scope.frame) (blank_object (cells_of scope.world (settled_by (written of) (sense e scope).shape))) >>= λ at.
-      write_cells at vs >> rest (with_binding scope x.text (Variable (settled_by (written of) (sense e scope).shape) at)))
-  leaves_set g scope f of x e s rest h l go =
-      let a : Accepted g e = l.fitting.accepted in
-      let z : Denotes n d g scope f b a.value (sense e scope) = denotes n d world tables invokes b g scope f e h a in
-      let shape_is : settled_by (written of) (sense e scope).shape ≡ shape_of l.type = ap (settled_by (written of)) z.sound.shape ∙ l.shape in
-      let cells : cells_of scope.world (shape_of l.type) ≡ map shape_of (cells_type d f l.type) =
-      ap (λ (y : World). cells_of y (shape_of l.type)) h.world_is ∙ (ap (cells_of world) (sym (shape_renamed f l.type)) ∙ h.agrees (renamed f l.type)) in
-      subst (λ (y : Shape). Leaves n d g scope f b s ((sense e scope).value >>= converted scope.world y (sense e scope).shape >>= λ vs.
-      make_object (Frame scope.frame) (blank_object (cells_of scope.world y)) >>= λ at. write_cells at vs >> rest (with_binding scope x.text (Variable y at)))) (sym shape_is)
-      (subst (λ (y : Shape). Leaves n d g scope f b s ((sense e scope).value >>= converted scope.world (shape_of l.type) y >>= λ vs.
-      make_object (Frame scope.frame) (blank_object (cells_of scope.world (shape_of l.type))) >>= λ at.
-      write_cells at vs >> rest (with_binding scope x.text (Variable (shape_of l.type) at)))) (sym z.sound.shape)
-      (subst (λ (cs : List Shape). Leaves n d g scope f b s ((sense e scope).value >>= converted scope.world (shape_of l.type) (shape_of a.value.type) >>= λ vs.
-      make_object (Frame scope.frame) (blank_object cs) >>= λ at. write_cells at vs >> rest (with_binding scope x.text (Variable (shape_of l.type) at)))) (sym cells)
-      (λ k w m i q. runs_converted n d g scope f b a.value.type l.type (sense e scope).value
-      (λ vs. make_object (Frame scope.frame) (blank_object (map shape_of (cells_type d f l.type))) >>= λ at.
-      write_cells at vs >> rest (with_binding scope x.text (Variable (shape_of l.type) at)))
-      k w m _ (converts_integer g.regions a.value.type l.type l.integer l.fitting.converts) l.integer z.sound.value i q
-      (λ vs w1 m1 i1 g1 typed.
-      let q1 : Scene d g scope f b k w1 m1 = scene_later d g scope f b k w m w1 m1 i1 g1 q in
-      runs_made d n k b (λ t. Reached t) w1 m1 (Frame scope.frame) (cells_type d f l.type) vs (λ at. rest (with_binding scope x.text (Variable (shape_of l.type) at))) _
-      (λ t. refl) i1 (frame_live g scope f k w1 m1 h q1) (typed w1 (flying k 0))
-      (λ at w2 m2 i2 g2 there full st settles.
-      follows g scope f x l.type s rest h l.integer go at there k w m w2 m2 i2 (grows_trans g1 g2) (scene_later d g scope f b k w1 m1 w2 m2 i2 g2 q1)
-      (full_laid w2 m2 at (cells_type d f l.type) vs full))))))
-
-  -- ---- a statement and what follows it
-
-  leaves_then : (g : Env) (scope : Scope) (f : NameOf → Region) (s t : Ways) (act rest : Act Flow) → Leaves n d g scope f b s act → Leaves n d g scope f b t rest
-      → Leaves n d g scope f b (then_ways s t) (act >>= λ flow. falls_to flow rest)
-  leaves_then g scope f s t act rest ha hr = λ k w m i x. record {
-    by = λ next q. (ha k w m i x).by (λ flow. falls_to flow rest next) (λ flow m1 y. by k w m x next q flow m1 y);
-  }
-    where
-      by : (k : ℕ) (w : Ghost) (m : Memory) → Scene d g scope f b k w m → (next : Flow → Memory → _)
-          → ((flow : Flow) (m' : Memory) → After d k b w m (λ w' m2. FlowOk d g (then_ways s t) flow w') m' → Safe n (next flow m'))
-          → (flow : Flow) (m1 : Memory) → After d k b w m (λ w' m2. FlowOk d g s flow w') m1 → Safe n (falls_to flow rest next m1)
-      by k w m x next q Falls m1 y =
-          (after_leaves n d world tables invokes b g scope f t rest k w m y.ghost m1 hr y.inv y.grows (scene_later d g scope f b k w m y.ghost m1 y.inv y.grows x)).by next
-          (λ flow m2 z. q flow m2 (record { ghost = z.ghost; inv = z.inv; grows = z.grows; holds = flow_then d g s t flow z.ghost y.holds z.holds }))
-      by k w m x next q Breaks m1 y =
-          q Breaks m1 (record { ghost = y.ghost; inv = y.inv; grows = y.grows; holds = flow_breaks d g s t y.ghost y.holds })
-      by k w m x next q Continues m1 y = q Continues m1 (record { ghost = y.ghost; inv = y.inv; grows = y.grows; holds = y.holds })
-      by k w m x next q (Returns vs) m1 y = q (Returns vs) m1 (record { ghost = y.ghost; inv = y.inv; grows = y.grows; holds = y.holds })
-
-  -- ---- all statements
-
-  mutual
-    pub statement_leaves : (s : Statement) (g : Env) (scope : Scope) (f : NameOf → Region) → Surrounds d world tables g scope f → StatementJudged g s
-        → Leaves n d g scope f b (ways_of s) (statement s scope)
-    statement_leaves (Statement.Empty at) g scope f h j = leaves_at_once n d world tables invokes b g scope f (ways true false) Falls (λ w. refl)
-    statement_leaves (Statement.Block at items) g scope f h j =
-        leaves_block n d world tables invokes b g scope f items h
-        (λ a. items_leave items (block_entered g) (record scope { frame = a }) (naming f g.regions.count (Frame a)) (surrounds_block d world tables g scope f h a) j)
-    statement_leaves (Statement.Run e) g scope f h j = λ k w m i x. record {
-      by = λ next q. ((denotes n d world tables invokes b g scope f e h j).sound.value k w m i x).by (λ vs. next Falls)
-          (λ vs m1 y. q Falls m1 (record { ghost = y.ghost; inv = y.inv; grows = y.grows; holds = refl }));
+    -- the rest of the block, with the local in scope
+    follows : (g : Env) (scope : Scope) (f : NameOf → Region) (x : tree.Name) (t : StaticType) (s : Ways) (rest : Scope → Act Flow) → Surrounds d world tables g scope f gives
+        → IsWordType t → TypeBelow g.regions.count t → Follows g scope f x t s rest → (at : Spot) → at.region ≡ Frame scope.frame → (k : ℕ) (w : Ghost) (m : Memory) (w1 : Ghost) (m1 : Memory)
+        → Inv d w1 m1 → Grows k b w m w1 m1 → Scene d g scope f b k w1 m1 → Laid w1 at (cells_type d f t)
+        → Runs n (rest (with_binding scope x.text (Variable (shape_of t) at))) m1 (λ flow. After d k b w m (λ w' m'. FlowOk d gives g s flow w'))
+    follows g scope f x t s rest h it below go at there k w m w1 m1 i g1 z laid = record {
+      by = λ next q. (go at there k w1 m1 i (scene_local d world tables g scope f x t at gives h it below there b k w1 m1 z laid)).by next
+          (λ flow m2 y. q flow m2 (record {
+            ghost = y.ghost;
+            inv = y.inv;
+            grows = grows_trans g1 y.grows;
+            holds = flow_as d gives g (extended g x t) s flow y.ghost refl refl y.holds;
+          }));
     }
-    statement_leaves (Statement.Exchange l r) g scope f h j = absurd j
-    statement_leaves (Statement.If at e body) g scope f h j =
-        leaves_choice n d world tables invokes b g scope f (ways_of body) (ways true false) (truth (sense e scope)) (statement body scope) (give Falls)
-        (condition_tells n d world tables invokes b g scope f e h j.0) (statement_leaves body g scope f h j.1)
-        (leaves_at_once n d world tables invokes b g scope f (ways true false) Falls (λ w. refl))
-    statement_leaves (Statement.IfElse at e body otherwise) g scope f h j =
-        leaves_choice n d world tables invokes b g scope f (ways_of body) (ways_of otherwise) (truth (sense e scope)) (statement body scope) (statement otherwise scope)
-        (condition_tells n d world tables invokes b g scope f e h j.0) (statement_leaves body g scope f h j.1.0) (statement_leaves otherwise g scope f h j.1.1)
-    statement_leaves (Statement.While at e body) g scope f h j =
-        leaves_choice n d world tables invokes b g scope f (ways true false) (ways true false) (truth (sense e scope)) (take_turn e body scope) (give Falls)
-        (condition_tells n d world tables invokes b g scope f e h j.0) (turns g scope f b e body h j.0 j.1)
-        (leaves_at_once n d world tables invokes b g scope f (ways true false) Falls (λ w. refl))
-    statement_leaves (Statement.Switch at e cs) g scope f h j = absurd j
-    statement_leaves (Statement.Break at) g scope f h j = leaves_at_once n d world tables invokes b g scope f (ways false true) Breaks (λ w. (refl, j))
-    statement_leaves (Statement.Continue at) g scope f h j = leaves_at_once n d world tables invokes b g scope f (ways false false) Continues (λ w. j)
-    statement_leaves (Statement.Return at None) g scope f h j =
-        leaves_at_once n d world tables invokes b g scope f (ways false false) (Returns []) (λ w. record { type = Void; result = j; typed = tt })
-    statement_leaves (Statement.Return at (Some e)) g scope f h j = leaves_return n d world tables invokes b g scope f (ways false false) e h j
-    statement_leaves (Statement.FreeUnique at p) g scope f h j = absurd j
-    statement_leaves (Statement.FreeKey at p) g scope f h j = absurd j
 
-    pub items_leave : (items : BlockItems) (g : Env) (scope : Scope) (f : NameOf → Region) → Surrounds d world tables g scope f → ItemsJudged g items
-        → Leaves n d g scope f b (ways_of_items items) (block_items items scope)
-    items_leave NoItems g scope f h j = leaves_at_once n d world tables invokes b g scope f (ways true false) Falls (λ w. refl)
-    items_leave (Declare (tree.Local of x Initializer.Unset) others) g scope f h j =
-        let l : LocalUnset g of x = j.0 in
-        leaves_unset g scope f of x (ways_of_items others) (block_items others) h l
-        (λ at there. items_leave others (extended g x l.type) (bound_scope d world tables g scope f x l.type at h l.integer there) f
-        (surrounds_local d world tables g scope f x l.type at h l.integer there) (subst (λ (y : Env). ItemsJudged y others) l.scope j.1))
-    items_leave (Declare (tree.Local of x (Initializer.Value e)) others) g scope f h j =
-        let l : LocalSet g of x e = j.0 in
-        leaves_set g scope f of x e (ways_of_items others) (block_items others) h l
-        (λ at there. items_leave others (extended g x l.type) (bound_scope d world tables g scope f x l.type at h l.integer there) f
-        (surrounds_local d world tables g scope f x l.type at h l.integer there) (subst (λ (y : Env). ItemsJudged y others) l.scope j.1))
-    items_leave (Declare (tree.Local of x (Initializer.Elements c)) others) g scope f h j = absurd j.0
-    items_leave (Declare (tree.Region at r x) others) g scope f h j = absurd j.0
-    items_leave (Declare (tree.Open at r x y) others) g scope f h j = absurd j.0
-    items_leave (Declare (tree.Alias at r t x p) others) g scope f h j = absurd j.0
-    items_leave (Declare (tree.NewKey at r x) others) g scope f h j = absurd j.0
-    items_leave (Execute s others) g scope f h j =
-        leaves_then g scope f (ways_of s) (ways_of_items others) (statement s scope) (block_items others scope) (statement_leaves s g scope f h j.0)
-        (items_leave others g scope f h j.1)
+    -- ---- without an initializer
+
+    begun : (g : Env) (scope : Scope) (f : NameOf → Region) (x : tree.Name) (s : Ways) (rest : Scope → Act Flow) (u : StaticType) → Surrounds d world tables g scope f gives
+        → IsWordType u → TypeBelow g.regions.count u → Begins u → Follows g scope f x u s rest
+        → Leaves n d gives g scope f b s
+        (make_object (Frame scope.frame) (object_of (map first_cell (cells_of scope.world (shape_of u)))) >>= λ at.
+        rest (with_binding scope x.text (Variable (shape_of u) at)))
+    begun g scope f x s rest Int h e l c go = λ k w m i z.
+        runs_begun d n k b w m (Frame scope.frame) Int (Integer AsInt 0) (λ at. rest (with_binding scope x.text (Variable (shape_of {R = NameOf} Int) at))) _ i
+        (frame_live g scope f k w m h z) refl (record { word = 0; is = refl })
+        (λ at w1 m1 i1 g1 there typed st. follows g scope f x Int s rest h e l go at there k w m w1 m1 i1 g1 (scene_later d g scope f b k w m w1 m1 i1 g1 z) (typed, tt))
+    begun g scope f x s rest Unsigned h e l c go = λ k w m i z.
+        runs_begun d n k b w m (Frame scope.frame) Unsigned (Integer AsUnsigned 0) (λ at. rest (with_binding scope x.text (Variable (shape_of {R = NameOf} Unsigned) at))) _ i
+        (frame_live g scope f k w m h z) refl (record { word = 0; is = refl })
+        (λ at w1 m1 i1 g1 there typed st. follows g scope f x Unsigned s rest h e l go at there k w m w1 m1 i1 g1 (scene_later d g scope f b k w m w1 m1 i1 g1 z) (typed, tt))
+    begun g scope f x s rest Char h e l c go = λ k w m i z.
+        runs_begun d n k b w m (Frame scope.frame) Char (Integer AsChar 0) (λ at. rest (with_binding scope x.text (Variable (shape_of {R = NameOf} Char) at))) _ i
+        (frame_live g scope f k w m h z) refl (record { word = 0; is = refl })
+        (λ at w1 m1 i1 g1 there typed st. follows g scope f x Char s rest h e l go at there k w m w1 m1 i1 g1 (scene_later d g scope f b k w m w1 m1 i1 g1 z) (typed, tt))
+    begun g scope f x s rest (Thin true r u) h e l c go = λ k w m i z.
+        subst (λ (y : Shape). Runs n (make_object (Frame scope.frame) (object_of (map first_cell (y ∷ []))) >>= λ at.
+        rest (with_binding scope x.text (Variable (shape_of (Thin true r u)) at))) m (λ flow. After d k b w m (λ w' m'. FlowOk d gives g s flow w')))
+        (shape_renamed f (Thin true r u))
+        (runs_begun d n k b w m (Frame scope.frame) (renamed f (Thin true r u)) (memory.Thin None) (λ at. rest (with_binding scope x.text (Variable (shape_of (Thin true r u)) at))) _ i
+        (frame_live g scope f k w m h z) refl (inl (record { allowed = refl; is = refl }))
+        (λ at w1 m1 i1 g1 there typed st. follows g scope f x (Thin true r u) s rest h e l go at there k w m w1 m1 i1 g1 (scene_later d g scope f b k w m w1 m1 i1 g1 z) (typed, tt)))
+    begun g scope f x s rest (Thin false r u) h e l c go = absurd cc
+    begun g scope f x s rest Void h e l c go = absurd e
+    begun g scope f x s rest Null h e l c go = absurd e
+    begun g scope f x s rest (Fat r u) h e l c go = absurd e
+    begun g scope f x s rest (Unique a u) h e l c go = absurd e
+    begun g scope f x s rest (Handle r) h e l c go = absurd e
+    begun g scope f x s rest (Key r) h e l c go = absurd e
+    begun g scope f x s rest (Struct tag rs) h e l c go = absurd e
+    begun g scope f x s rest (Union tag rs) h e l c go = absurd e
+
+    leaves_unset : (g : Env) (scope : Scope) (f : NameOf → Region) (of : TypeName) (x : tree.Name) (s : Ways) (rest : Scope → Act Flow)
+        → Surrounds d world tables g scope f gives → (l : LocalUnset g of x) → Follows g scope f x l.type s rest
+        → Leaves n d gives g scope f b s
+        (make_object (Frame scope.frame) (object_of (map first_cell (cells_of scope.world (settled (written of))))) >>= λ at.
+        rest (with_binding scope x.text (Variable (settled (written of)) at)))
+    leaves_unset g scope f of x s rest h l go =
+        subst (λ (y : Shape). Leaves n d gives g scope f b s (make_object (Frame scope.frame) (object_of (map first_cell (cells_of scope.world y))) >>= λ at.
+        rest (with_binding scope x.text (Variable y at)))) (sym l.shape)
+        (begun g scope f x s rest l.type h l.word l.below l.begins go)
+
+    -- ---- with an initializer
+
+    leaves_set : (g : Env) (scope : Scope) (f : NameOf → Region) (of : TypeName) (x : tree.Name) (e : Expression) (s : Ways) (rest : Scope → Act Flow)
+        → Surrounds d world tables g scope f gives → (l : LocalSet g of x e) → Follows g scope f x l.type s rest
+        → Leaves n d gives g scope f b s
+        ((sense e scope).value >>= converted scope.world (settled_by (written of) (sense e scope).shape) (sense e scope).shape >>= λ vs.
+        make_object (Frame scope.frame) (blank_object (cells_of scope.world (settled_by (written of) (sense e scope).shape))) >>= λ at.
+        write_cells at vs >> rest (with_binding scope x.text (Variable (settled_by (written of) (sense e scope).shape) at)))
+    leaves_set g scope f of x e s rest h l go =
+        let a : Accepted g e = l.fitting.accepted in
+        let z : Denotes n d g scope f b a.value (sense e scope) = denotes n d world tables invokes b gives g scope f e h a in
+        let shape_is : settled_by (written of) (sense e scope).shape ≡ shape_of l.type = ap (settled_by (written of)) z.sound.shape ∙ l.shape in
+        let cells : cells_of scope.world (shape_of l.type) ≡ map shape_of (cells_type d f l.type) =
+        ap (λ (y : World). cells_of y (shape_of l.type)) h.world_is ∙ (ap (cells_of world) (sym (shape_renamed f l.type)) ∙ h.agrees (renamed f l.type)) in
+        subst (λ (y : Shape). Leaves n d gives g scope f b s ((sense e scope).value >>= converted scope.world y (sense e scope).shape >>= λ vs.
+        make_object (Frame scope.frame) (blank_object (cells_of scope.world y)) >>= λ at. write_cells at vs >> rest (with_binding scope x.text (Variable y at)))) (sym shape_is)
+        (subst (λ (y : Shape). Leaves n d gives g scope f b s ((sense e scope).value >>= converted scope.world (shape_of l.type) y >>= λ vs.
+        make_object (Frame scope.frame) (blank_object (cells_of scope.world (shape_of l.type))) >>= λ at.
+        write_cells at vs >> rest (with_binding scope x.text (Variable (shape_of l.type) at)))) (sym z.sound.shape)
+        (subst (λ (cs : List Shape). Leaves n d gives g scope f b s ((sense e scope).value >>= converted scope.world (shape_of l.type) (shape_of a.value.type) >>= λ vs.
+        make_object (Frame scope.frame) (blank_object cs) >>= λ at. write_cells at vs >> rest (with_binding scope x.text (Variable (shape_of l.type) at)))) (sym cells)
+        (λ k w m i q. runs_converted n d g scope f b a.value.type l.type (sense e scope).value
+        (λ vs. make_object (Frame scope.frame) (blank_object (map shape_of (cells_type d f l.type))) >>= λ at.
+        write_cells at vs >> rest (with_binding scope x.text (Variable (shape_of l.type) at)))
+        k w m _ z.simple l.word l.fitting.converts z.sound.value i q
+        (λ vs w1 m1 i1 g1 typed.
+        let q1 : Scene d g scope f b k w1 m1 = scene_later d g scope f b k w m w1 m1 i1 g1 q in
+        runs_made d n k b (λ t. Reached t) w1 m1 (Frame scope.frame) (cells_type d f l.type) vs (λ at. rest (with_binding scope x.text (Variable (shape_of l.type) at))) _
+        (λ t. refl) i1 (frame_live g scope f k w1 m1 h q1) typed
+        (λ at w2 m2 i2 g2 there full st settles.
+        follows g scope f x l.type s rest h l.word l.below go at there k w m w2 m2 i2 (grows_trans g1 g2) (scene_later d g scope f b k w1 m1 w2 m2 i2 g2 q1)
+        (full_laid w2 m2 at (cells_type d f l.type) vs full))))))
+
+    -- ---- a statement and what follows it
+
+    leaves_then : (g : Env) (scope : Scope) (f : NameOf → Region) (s t : Ways) (act rest : Act Flow) → Leaves n d gives g scope f b s act → Leaves n d gives g scope f b t rest
+        → Leaves n d gives g scope f b (then_ways s t) (act >>= λ flow. falls_to flow rest)
+    leaves_then g scope f s t act rest ha hr = λ k w m i x. record {
+      by = λ next q. (ha k w m i x).by (λ flow. falls_to flow rest next) (λ flow m1 y. by k w m x next q flow m1 y);
+    }
+      where
+        by : (k : ℕ) (w : Ghost) (m : Memory) → Scene d g scope f b k w m → (next : Flow → Memory → _)
+            → ((flow : Flow) (m' : Memory) → After d k b w m (λ w' m2. FlowOk d gives g (then_ways s t) flow w') m' → Safe n (next flow m'))
+            → (flow : Flow) (m1 : Memory) → After d k b w m (λ w' m2. FlowOk d gives g s flow w') m1 → Safe n (falls_to flow rest next m1)
+        by k w m x next q Falls m1 y =
+            (after_leaves n d world tables invokes b gives g scope f t rest k w m y.ghost m1 hr y.inv y.grows (scene_later d g scope f b k w m y.ghost m1 y.inv y.grows x)).by next
+            (λ flow m2 z. q flow m2 (record { ghost = z.ghost; inv = z.inv; grows = z.grows; holds = flow_then d gives g s t flow z.ghost y.holds z.holds }))
+        by k w m x next q Breaks m1 y =
+            q Breaks m1 (record { ghost = y.ghost; inv = y.inv; grows = y.grows; holds = flow_breaks d gives g s t y.ghost y.holds })
+        by k w m x next q Continues m1 y = q Continues m1 (record { ghost = y.ghost; inv = y.inv; grows = y.grows; holds = y.holds })
+        by k w m x next q (Returns vs) m1 y = q (Returns vs) m1 (record { ghost = y.ghost; inv = y.inv; grows = y.grows; holds = y.holds })
+
+    -- ---- all statements
+
+    mutual
+      pub statement_leaves : (s : Statement) (g : Env) (scope : Scope) (f : NameOf → Region) → Surrounds d world tables g scope f gives → StatementJudged g s
+          → Leaves n d gives g scope f b (ways_of s) (statement s scope)
+      statement_leaves (Statement.Empty at) g scope f h j = leaves_at_once n d world tables invokes b gives g scope f (ways true false) Falls (λ w. refl)
+      statement_leaves (Statement.Block at items) g scope f h j =
+          leaves_block n d world tables invokes b gives g scope f items h
+          (λ a. items_leave items (block_entered g) (record scope { frame = a }) (naming f g.regions.count (Frame a)) (surrounds_block d world tables g scope f gives h a) j)
+      statement_leaves (Statement.Run e) g scope f h j = λ k w m i x. record {
+        by = λ next q. ((denotes n d world tables invokes b gives g scope f e h j).sound.value k w m i x).by (λ vs. next Falls)
+            (λ vs m1 y. q Falls m1 (record { ghost = y.ghost; inv = y.inv; grows = y.grows; holds = refl }));
+      }
+      statement_leaves (Statement.Exchange l r) g scope f h j = absurd j
+      statement_leaves (Statement.If at e body) g scope f h j =
+          leaves_choice n d world tables invokes b gives g scope f (ways_of body) (ways true false) (truth (sense e scope)) (statement body scope) (give Falls)
+          (condition_tells n d world tables invokes b gives g scope f e h j.0) (statement_leaves body g scope f h j.1)
+          (leaves_at_once n d world tables invokes b gives g scope f (ways true false) Falls (λ w. refl))
+      statement_leaves (Statement.IfElse at e body otherwise) g scope f h j =
+          leaves_choice n d world tables invokes b gives g scope f (ways_of body) (ways_of otherwise) (truth (sense e scope)) (statement body scope) (statement otherwise scope)
+          (condition_tells n d world tables invokes b gives g scope f e h j.0) (statement_leaves body g scope f h j.1.0) (statement_leaves otherwise g scope f h j.1.1)
+      statement_leaves (Statement.While at e body) g scope f h j =
+          leaves_choice n d world tables invokes b gives g scope f (ways true false) (ways true false) (truth (sense e scope)) (take_turn e body scope) (give Falls)
+          (condition_tells n d world tables invokes b gives g scope f e h j.0) (turns gives g scope f b e body h j.0 j.1)
+          (leaves_at_once n d world tables invokes b gives g scope f (ways true false) Falls (λ w. refl))
+      statement_leaves (Statement.Switch at e cs) g scope f h j = absurd j
+      statement_leaves (Statement.Break at) g scope f h j = leaves_at_once n d world tables invokes b gives g scope f (ways false true) Breaks (λ w. (refl, j))
+      statement_leaves (Statement.Continue at) g scope f h j = leaves_at_once n d world tables invokes b gives g scope f (ways false false) Continues (λ w. j)
+      statement_leaves (Statement.Return at None) g scope f h j =
+          leaves_at_once n d world tables invokes b gives g scope f (ways false false) (Returns [])
+          (λ w. subst (λ (t : RunType). ReturnOk d t [] w) (h.result Void j).run tt)
+      statement_leaves (Statement.Return at (Some e)) g scope f h j = leaves_return n d world tables invokes b gives g scope f (ways false false) e h j
+      statement_leaves (Statement.FreeUnique at p) g scope f h j = absurd j
+      statement_leaves (Statement.FreeKey at p) g scope f h j = absurd j
+
+      pub items_leave : (items : BlockItems) (g : Env) (scope : Scope) (f : NameOf → Region) → Surrounds d world tables g scope f gives → ItemsJudged g items
+          → Leaves n d gives g scope f b (ways_of_items items) (block_items items scope)
+      items_leave NoItems g scope f h j = leaves_at_once n d world tables invokes b gives g scope f (ways true false) Falls (λ w. refl)
+      items_leave (Declare (tree.Local of x Initializer.Unset) others) g scope f h j =
+          let l : LocalUnset g of x = j.0 in
+          leaves_unset g scope f of x (ways_of_items others) (block_items others) h l
+          (λ at there. items_leave others (extended g x l.type) (bound_scope d world tables g scope f x l.type at gives h l.word l.below there) f
+          (surrounds_local d world tables g scope f x l.type at gives h l.word l.below there) (subst (λ (y : Env). ItemsJudged y others) l.scope j.1))
+      items_leave (Declare (tree.Local of x (Initializer.Value e)) others) g scope f h j =
+          let l : LocalSet g of x e = j.0 in
+          leaves_set g scope f of x e (ways_of_items others) (block_items others) h l
+          (λ at there. items_leave others (extended g x l.type) (bound_scope d world tables g scope f x l.type at gives h l.word l.below there) f
+          (surrounds_local d world tables g scope f x l.type at gives h l.word l.below there) (subst (λ (y : Env). ItemsJudged y others) l.scope j.1))
+      items_leave (Declare (tree.Local of x (Initializer.Elements c)) others) g scope f h j = absurd j.0
+      items_leave (Declare (tree.Region at r x) others) g scope f h j = absurd j.0
+      items_leave (Declare (tree.Open at r x y) others) g scope f h j = absurd j.0
+      items_leave (Declare (tree.Alias at r t x p) others) g scope f h j = absurd j.0
+      items_leave (Declare (tree.NewKey at r x) others) g scope f h j = absurd j.0
+      items_leave (Execute s others) g scope f h j =
+          leaves_then g scope f (ways_of s) (ways_of_items others) (statement s scope) (block_items others scope) (statement_leaves s g scope f h j.0)
+          (items_leave others g scope f h j.1)

@@ -1,4 +1,4 @@
--- Each expression of integers that is in order runs safely and gives a value of its type.
+-- Each expression of integers and thin pointers that is in order runs safely and gives a value of its type.
 use Rattle.std.proofs.Common.{◌≡◌, ℕ, Bool, true, false, inl, inr, Option, Some, None, List, [], ◌∷◌, refl, sym, ◌∙◌, ap, subst}
 use Rattle.std.specs.Prelude.{map, ◌&&◌, ◌^◌, ◌-◌, bytes_eq, codes, nat_eq, length, if◌then◌else◌}
 use Rattle.std.proofs.lemmas.Bool.{eqb-true}
@@ -16,43 +16,47 @@ use Rattle.source_meaning.specs.Calls as calls
 use Rattle.source_meaning.specs.Expressions.{is_unique_region, sense, senses, linked}
 use Rattle.source_typing.specs.Verdicts.{Verdict, Of, both, after, other_kind, if_fits}
 use Rattle.source_typing.specs.Written.{if_sound}
+use Rattle.source_typing.specs.Fixing.{all_fits, fixed_from}
+use Rattle.source_typing.specs.Regions.{TheHeap}
 use Rattle.source_typing.specs.Expressions.{judge, judge_all, judge_links, judge_tests, number_typed}
 use Rattle.source_typing.specs.Operators as rules
 use Rattle.source_typing.specs.Operators.{on_integers, applied_to, tested_both}
 use Rattle.source_typing.specs.Places as places
 use Rattle.source_typing.specs.Calls.{Target, ToFunction, ToBuiltin, ToStruct, target, builtin_parameters, arguments_fit, call_entered, typed_result}
 use Rattle.source_typing.specs.Calls as rules_of_calls
-use Rattle.source_typing.specs.Scope.{Env, Value, Nowhere, value, meant}
+use Rattle.source_typing.specs.Scope.{Env, Value, Nowhere, InRegion, value, meant}
 use Rattle.source_typing.specs.Tables.{Entry, OfValue, OfTag, OfFunction, OfBuiltin, OfOther, Stored, Arrayed, Counter, Unknown, Signature, argument, find}
-use Rattle.source_typing.specs.Taken.{integers, taken, all_taken, links_taken, if_taken, takes_prefix, takes_made, takes_handle, made_taken}
-use Rattle.source_typing.specs.Types.{StaticType, Int, Char, is_integer, is_testable, integer_type, renamed, shape_of}
+use Rattle.source_typing.specs.Taken.{thin_pointers, taken, all_taken, links_taken, if_taken, takes_prefix, takes_made, takes_handle, made_taken}
+use Rattle.source_typing.specs.Types.{StaticType, Int, Char, Null, is_integer, is_testable, integer_type, renamed, shape_of}
 use Rattle.source_typing.proofs.Inversion.{of_is, after_is, both_is, unless_is, call_is, assign_is, prefix_is, links_first, tests_first}
 use Rattle.source_typing.proofs.OperatorsFit.{tested_both_is}
 use Rattle.source_typing.proofs.CallsFit.{Arguments, arguments_are, Entered, entered_is}
 use Rattle.source_safety.specs.Flat.{Tables}
 use Rattle.source_safety.proofs.Arguments.{Agrees}
-use Rattle.source_safety.proofs.Names.{NameOf}
+use Rattle.source_safety.proofs.Names.{NameOf, AllBelow}
 use Rattle.source_safety.proofs.Scenes.{Binds}
-use Rattle.source_safety.proofs.Sound.{Gives}
+use Rattle.source_safety.proofs.Sound.{shape_renamed, Gives}
 use Rattle.source_safety.proofs.Operands.{AllTell, tells_all, tells_any, tells_not}
 use Rattle.source_safety.proofs.Calling.{AllPass, gives_byte, gives_written}
-use Rattle.source_safety.proofs.Entries.{plain_itself, Function, Builtin, MeansPlain, Invokes, gives_called}
-use Rattle.source_safety.proofs.Forms.{not_more, Valued, value_of, fitted, Denotes, denotes_value, denotes_constant, denotes_variable, denotes_grouped, denotes_applied, denotes_signed, denotes_tested, denotes_tells, denotes_assigned, AllDenote, all_pass}
+use Rattle.source_safety.proofs.Words.{plain_simple, plain_renamed}
+use Rattle.source_safety.proofs.Fixed.{fixed_below, plain_below}
+use Rattle.source_safety.proofs.Entries.{Function, Builtin, MeansPlain, Invokes, gives_called}
+use Rattle.source_safety.proofs.Forms.{not_more, Valued, value_of, fitted, Denotes, denotes_value, denotes_constant, denotes_null, denotes_variable, denotes_grouped, denotes_applied, denotes_contents, denotes_address, denotes_signed, denotes_tested, denotes_tells, denotes_assigned, AllDenote, values_below, all_pass}
 
 -- ---- which forms there are
 
-refused_new : (c e : Bool) (at : ℕ) (x y : Expression) (m new : Made) → if_taken (takes_handle integers c && e) at (Expression.NewIn at x m) ≡ Expression.NewIn at y new → ⊥
+refused_new : (c e : Bool) (at : ℕ) (x y : Expression) (m new : Made) → if_taken (takes_handle thin_pointers c && e) at (Expression.NewIn at x m) ≡ Expression.NewIn at y new → ⊥
 refused_new true e at x y m new p = cc
 refused_new false e at x y m new p = cc
 
--- a prefix that integers have, and its operand
-prefix_taken : (at : ℕ) (o : Prefix) (e : Expression) → if_taken (takes_prefix integers o) at (Expression.Prefixed at o (taken integers e)) ≡ Expression.Prefixed at o e
-    → (takes_prefix integers o ≡ true) × (taken integers e ≡ e)
+-- a prefix that is taken, and its operand
+prefix_taken : (at : ℕ) (o : Prefix) (e : Expression) → if_taken (takes_prefix thin_pointers o) at (Expression.Prefixed at o (taken thin_pointers e)) ≡ Expression.Prefixed at o e
+    → (takes_prefix thin_pointers o ≡ true) × (taken thin_pointers e ≡ e)
 prefix_taken at prefix.Negate e p = (refl, cc)
 prefix_taken at prefix.Not e p = (refl, cc)
 prefix_taken at prefix.Complement e p = (refl, cc)
-prefix_taken at prefix.Dereference e p = absurd cc
-prefix_taken at prefix.AddressOf e p = absurd cc
+prefix_taken at prefix.Dereference e p = (refl, cc)
+prefix_taken at prefix.AddressOf e p = (refl, cc)
 
 -- ---- calls
 
@@ -72,88 +76,95 @@ other_is : (c : Bool) (at : ℕ) (t : Target) → other_kind c at ≡ Of t → �
 other_is true at t e = cc
 other_is false at t e = cc
 
-module _ (n : ℕ) (d : Tables) (g : Env) (scope : Scope) (f : NameOf → Region) (b : ℕ) (invokes : Invokes n d scope.world g.tables) where
-  -- a call of a function of the program
-  called_function : (at : ℕ) (x : List ℕ) (s : Signature) (F : Function scope.world x s) (vs : List Value) (es : List Sense) (v : Value)
-      → find g.tables x ≡ Some (OfFunction s) → AllDenote n d g scope f b vs es → rules_of_calls.called g at (ToFunction s) vs ≡ Of v
-      → Denotes n d g scope f b v (call_sense scope.world x es)
-  called_function at x s F vs es v there h e =
-      let z : (rs : List NameOf) × (arguments_fit g at s.regions s.parameters vs ≡ Of rs) × (call_entered g at s rs ≡ Of v) =
-      after_is (arguments_fit g at s.regions s.parameters vs) (call_entered g at s) v e in
-      let a : Arguments g s.parameters vs _ z.0 = arguments_are g at s.regions s.parameters vs z.0 z.1 in
-      let r : Entered g s z.0 v = entered_is g at s z.0 v z.2 in
-      let same : r.result ≡ F.gives = (let q : Some r.result ≡ Some F.gives = sym r.has ∙ F.result in cc) in
-      let vt : v.type ≡ F.gives =
-      r.is ∙ (ap (renamed (argument z.0)) same ∙ plain_itself (argument z.0) F.gives F.plain) in
-      let pass : AllPass n d g scope f b (map shape_of F.types) F.types es =
-      all_pass n d g scope f b z.0 F.types vs es F.integers
-      (eqb-true _ _ (subst (λ (ps : List (Option StaticType)). nat_eq (length ps) (length vs) ≡ true) F.parameters a.count))
-      (subst (λ (ps : List (Option StaticType)). Rattle.source_typing.proofs.CallsFit.AllConvert g z.0 ps vs) F.parameters a.convert) h in
-      let gives : Gives n d g scope f b F.gives (converted_all scope.world (part_shapes F.routine.parameters) es >>= λ vss. invoke F.routine scope.world vss) =
-      gives_called n d g scope f b x s F es invokes there
-      (subst (λ ss. AllPass n d g scope f b ss F.types es) (sym F.shapes) pass) in
-      subst (λ (c : Bool). Denotes n d g scope f b v (if c then value_sense IntShape (read_byte es)
-      else (if bytes_eq x (codes "putchar") then value_sense IntShape (write_byte scope.world es)
-      else (if has_tag scope.world.structs x then struct_made scope.world x es else called scope.world (function_of scope.world.functions x) es)))) (sym F.not_read)
-      (subst (λ (c : Bool). Denotes n d g scope f b v (if c then value_sense IntShape (write_byte scope.world es)
-      else (if has_tag scope.world.structs x then struct_made scope.world x es else called scope.world (function_of scope.world.functions x) es))) (sym F.not_written)
-      (subst (λ (c : Bool). Denotes n d g scope f b v (if c then struct_made scope.world x es else called scope.world (function_of scope.world.functions x) es)) (sym F.not_made)
-      (subst (λ (o : Option _). Denotes n d g scope f b v (called scope.world o es)) (sym F.found)
-      (denotes_value n d g scope f b v F.gives F.routine.result _ F.plain (record { type = vt; seat = entered_seat g at s z.0 v z.2 }) F.shape gives))))
+module _ (n : ℕ) (d : Tables) (g : Env) (scope : Scope) (f : NameOf → Region) (b : ℕ) (invokes : Invokes n d scope.world g.tables) (strict : g.lenient ≡ false)
+    (inside : g.enclosing ≡ InRegion TheHeap)
+  where
+    -- a call of a function of the program
+    called_function : (at : ℕ) (x : List ℕ) (s : Signature) (F : Function scope.world x s) (vs : List Value) (es : List Sense) (v : Value)
+        → find g.tables x ≡ Some (OfFunction s) → AllDenote n d g scope f b vs es → rules_of_calls.called g at (ToFunction s) vs ≡ Of v
+        → Denotes n d g scope f b v (call_sense scope.world x es)
+    called_function at x s F vs es v there h e =
+        let z : (rs : List NameOf) × (arguments_fit g at s.regions s.parameters vs ≡ Of rs) × (call_entered g at s rs ≡ Of v) =
+        after_is (arguments_fit g at s.regions s.parameters vs) (call_entered g at s) v e in
+        let a : Arguments g s.parameters vs (fixed_from g.enclosing at (all_fits s.parameters vs) 0 s.regions) z.0 = arguments_are g at s.regions s.parameters vs z.0 z.1 in
+        let below : AllBelow g.regions.count z.0 =
+        fixed_below g.regions.count at s.regions g.enclosing F.types vs z.0 inside F.words (values_below n d g scope f b vs es h)
+        (subst (λ (ps : List (Option StaticType)). fixed_from g.enclosing at (all_fits ps vs) 0 s.regions ≡ Of z.0) F.parameters a.found) in
+        let r : Entered g s z.0 v = entered_is g at s z.0 v z.2 in
+        let same : r.result ≡ F.gives = (let q : Some r.result ≡ Some F.gives = sym r.has ∙ F.result in cc) in
+        let vt : v.type ≡ renamed (argument z.0) F.gives = r.is ∙ ap (renamed (argument z.0)) same in
+        let pass : AllPass n d g scope f b (map shape_of F.types) (map (renamed (argument z.0)) F.types) es =
+        all_pass n d g scope f b z.0 F.types vs es F.words
+        (eqb-true _ _ (subst (λ (ps : List (Option StaticType)). nat_eq (length ps) (length vs) ≡ true) F.parameters a.count))
+        (subst (λ (ps : List (Option StaticType)). Rattle.source_typing.proofs.CallsFit.AllConvert g z.0 ps vs) F.parameters a.convert) h in
+        let gives : Gives n d g scope f b (renamed (argument z.0) F.gives) (converted_all scope.world (part_shapes F.routine.parameters) es >>= λ vss. invoke F.routine scope.world vss) =
+        gives_called n d g scope f b x s F es z.0 invokes there strict below r.live r.in_order
+        (subst (λ ss. AllPass n d g scope f b ss (map (renamed (argument z.0)) F.types) es) (sym F.shapes) pass) in
+        subst (λ (c : Bool). Denotes n d g scope f b v (if c then value_sense IntShape (read_byte es)
+        else (if bytes_eq x (codes "putchar") then value_sense IntShape (write_byte scope.world es)
+        else (if has_tag scope.world.structs x then struct_made scope.world x es else called scope.world (function_of scope.world.functions x) es)))) (sym F.not_read)
+        (subst (λ (c : Bool). Denotes n d g scope f b v (if c then value_sense IntShape (write_byte scope.world es)
+        else (if has_tag scope.world.structs x then struct_made scope.world x es else called scope.world (function_of scope.world.functions x) es))) (sym F.not_written)
+        (subst (λ (c : Bool). Denotes n d g scope f b v (if c then struct_made scope.world x es else called scope.world (function_of scope.world.functions x) es)) (sym F.not_made)
+        (subst (λ (o : Option _). Denotes n d g scope f b v (called scope.world o es)) (sym F.found)
+        (denotes_value n d g scope f b v (renamed (argument z.0) F.gives) F.routine.result _ (plain_simple (renamed (argument z.0) F.gives) (plain_renamed (argument z.0) F.gives F.plain))
+        (plain_below g.regions.count z.0 F.gives F.plain below) (record { type = vt; seat = entered_seat g at s z.0 v z.2 })
+        (F.shape ∙ sym (shape_renamed (argument z.0) F.gives)) gives))))
 
-  -- a call of one of the two that every program has
-  called_builtin : (at : ℕ) (x : List ℕ) (c : ℕ) (vs : List Value) (es : List Sense) (v : Value) → Builtin x c → AllDenote n d g scope f b vs es
-      → rules_of_calls.called g at (ToBuiltin c) vs ≡ Of v → Denotes n d g scope f b v (call_sense scope.world x es)
-  called_builtin at x c vs es v (inl z) h e =
-      let e0 : rules_of_calls.called g at (ToBuiltin 0) vs ≡ Of v = subst (λ (k : ℕ). rules_of_calls.called g at (ToBuiltin k) vs ≡ Of v) z.1 e in
-      let y : (rs : List NameOf) × (arguments_fit g at 0 [] vs ≡ Of rs) × (value at Int ≡ Of v) =
-      after_is (arguments_fit g at 0 [] vs) (λ rs. value at Int) v e0 in
-      let a : Arguments g [] vs _ y.0 = arguments_are g at 0 [] vs y.0 y.1 in
-      subst (λ (k : Bool). Denotes n d g scope f b v (if k then value_sense IntShape (read_byte es)
-      else (if bytes_eq x (codes "putchar") then value_sense IntShape (write_byte scope.world es)
-      else (if has_tag scope.world.structs x then struct_made scope.world x es else called scope.world (function_of scope.world.functions x) es)))) (sym z.0)
-      (no_arguments vs es a.count h (value_of at Int v y.2))
-    where
-      no_arguments : (us : List Value) (xs : List Sense) → nat_eq 0 (length us) ≡ true → AllDenote n d g scope f b us xs → Valued v Int
-          → Denotes n d g scope f b v (value_sense IntShape (read_byte xs))
-      no_arguments [] [] k h t = denotes_value n d g scope f b v Int IntShape (read_byte []) tt t refl (gives_byte n d g scope f b)
-      no_arguments [] (y ∷ ys) k h t = absurd h
-      no_arguments (u ∷ us) ys k h t = absurd (not_more (length us) k)
-  called_builtin at x c vs es v (inr z) h e =
-      let e1 : rules_of_calls.called g at (ToBuiltin 1) vs ≡ Of v = subst (λ (k : ℕ). rules_of_calls.called g at (ToBuiltin k) vs ≡ Of v) z.2 e in
-      let y : (rs : List NameOf) × (arguments_fit g at 0 (Some Int ∷ []) vs ≡ Of rs) × (value at Int ≡ Of v) =
-      after_is (arguments_fit g at 0 (Some Int ∷ []) vs) (λ rs. value at Int) v e1 in
-      let a : Arguments g (Some Int ∷ []) vs _ y.0 = arguments_are g at 0 (Some Int ∷ []) vs y.0 y.1 in
-      let pass : AllPass n d g scope f b (IntShape ∷ []) (Int ∷ []) es = all_pass n d g scope f b y.0 (Int ∷ []) vs es (refl, tt) (eqb-true _ _ a.count) a.convert h in
-      subst (λ (k : Bool). Denotes n d g scope f b v (if k then value_sense IntShape (read_byte es)
-      else (if bytes_eq x (codes "putchar") then value_sense IntShape (write_byte scope.world es)
-      else (if has_tag scope.world.structs x then struct_made scope.world x es else called scope.world (function_of scope.world.functions x) es)))) (sym z.0)
-      (subst (λ (k : Bool). Denotes n d g scope f b v (if k then value_sense IntShape (write_byte scope.world es)
-      else (if has_tag scope.world.structs x then struct_made scope.world x es else called scope.world (function_of scope.world.functions x) es))) (sym z.1)
-      (denotes_value n d g scope f b v Int IntShape (write_byte scope.world es) tt (value_of at Int v y.2) refl (gives_written n d g scope f b es pass)))
+    -- a call of one of the two that every program has
+    called_builtin : (at : ℕ) (x : List ℕ) (c : ℕ) (vs : List Value) (es : List Sense) (v : Value) → Builtin x c → AllDenote n d g scope f b vs es
+        → rules_of_calls.called g at (ToBuiltin c) vs ≡ Of v → Denotes n d g scope f b v (call_sense scope.world x es)
+    called_builtin at x c vs es v (inl z) h e =
+        let e0 : rules_of_calls.called g at (ToBuiltin 0) vs ≡ Of v = subst (λ (k : ℕ). rules_of_calls.called g at (ToBuiltin k) vs ≡ Of v) z.1 e in
+        let y : (rs : List NameOf) × (arguments_fit g at 0 [] vs ≡ Of rs) × (value at Int ≡ Of v) =
+        after_is (arguments_fit g at 0 [] vs) (λ rs. value at Int) v e0 in
+        let a : Arguments g [] vs _ y.0 = arguments_are g at 0 [] vs y.0 y.1 in
+        subst (λ (k : Bool). Denotes n d g scope f b v (if k then value_sense IntShape (read_byte es)
+        else (if bytes_eq x (codes "putchar") then value_sense IntShape (write_byte scope.world es)
+        else (if has_tag scope.world.structs x then struct_made scope.world x es else called scope.world (function_of scope.world.functions x) es)))) (sym z.0)
+        (no_arguments vs es a.count h (value_of at Int v y.2))
+      where
+        no_arguments : (us : List Value) (xs : List Sense) → nat_eq 0 (length us) ≡ true → AllDenote n d g scope f b us xs → Valued v Int
+            → Denotes n d g scope f b v (value_sense IntShape (read_byte xs))
+        no_arguments [] [] k h t = denotes_value n d g scope f b v Int IntShape (read_byte []) tt tt t refl (gives_byte n d g scope f b)
+        no_arguments [] (y ∷ ys) k h t = absurd h
+        no_arguments (u ∷ us) ys k h t = absurd (not_more (length us) k)
+    called_builtin at x c vs es v (inr z) h e =
+        let e1 : rules_of_calls.called g at (ToBuiltin 1) vs ≡ Of v = subst (λ (k : ℕ). rules_of_calls.called g at (ToBuiltin k) vs ≡ Of v) z.2 e in
+        let y : (rs : List NameOf) × (arguments_fit g at 0 (Some Int ∷ []) vs ≡ Of rs) × (value at Int ≡ Of v) =
+        after_is (arguments_fit g at 0 (Some Int ∷ []) vs) (λ rs. value at Int) v e1 in
+        let a : Arguments g (Some Int ∷ []) vs _ y.0 = arguments_are g at 0 (Some Int ∷ []) vs y.0 y.1 in
+        let pass : AllPass n d g scope f b (IntShape ∷ []) (Int ∷ []) es = all_pass n d g scope f b y.0 (Int ∷ []) vs es (tt, tt) (eqb-true _ _ a.count) a.convert h in
+        subst (λ (k : Bool). Denotes n d g scope f b v (if k then value_sense IntShape (read_byte es)
+        else (if bytes_eq x (codes "putchar") then value_sense IntShape (write_byte scope.world es)
+        else (if has_tag scope.world.structs x then struct_made scope.world x es else called scope.world (function_of scope.world.functions x) es)))) (sym z.0)
+        (subst (λ (k : Bool). Denotes n d g scope f b v (if k then value_sense IntShape (write_byte scope.world es)
+        else (if has_tag scope.world.structs x then struct_made scope.world x es else called scope.world (function_of scope.world.functions x) es))) (sym z.1)
+        (denotes_value n d g scope f b v Int IntShape (write_byte scope.world es) tt tt (value_of at Int v y.2) refl (gives_written n d g scope f b es pass)))
 
-  -- what a name that is called means
-  called_entry : (at : ℕ) (x : List ℕ) (o : Option Entry) (t : Target) (vs : List Value) (es : List Sense) (v : Value) → MeansPlain scope.world g
-      → ((s : Signature) → meant g x ≡ Some (OfFunction s) → find g.tables x ≡ Some (OfFunction s)) → meant g x ≡ o → target at o ≡ Of t
-      → AllDenote n d g scope f b vs es → rules_of_calls.called g at t vs ≡ Of v → Denotes n d g scope f b v (call_sense scope.world x es)
-  called_entry at x None t vs es v p there m k h e = absurd cc
-  called_entry at x (Some (OfValue (Stored u r))) t vs es v p there m k h e = absurd cc
-  called_entry at x (Some (OfValue (Arrayed u r))) t vs es v p there m k h e = absurd cc
-  called_entry at x (Some (OfValue Counter)) t vs es v p there m k h e = absurd cc
-  called_entry at x (Some (OfValue Unknown)) t vs es v p there m k h e = absurd cc
-  called_entry at x (Some (OfTag u)) t vs es v p there m k h e = absurd (p x (OfTag u) m)
-  called_entry at x (Some OfOther) t vs es v p there m k h e = absurd cc
-  called_entry at x (Some (OfFunction s)) t vs es v p there m k h e =
-      called_function at x s (p x (OfFunction s) m) vs es v (there s m) h
-      (subst (λ (y : Target). rules_of_calls.called g at y vs ≡ Of v) (sound_is s.sound s t k) e)
-  called_entry at x (Some (OfBuiltin c)) t vs es v p there m k h e =
-      called_builtin at x c vs es v (p x (OfBuiltin c) m) h
-      (subst (λ (y : Target). rules_of_calls.called g at y vs ≡ Of v) (sym (of_is (ToBuiltin c) t k)) e)
+    -- what a name that is called means
+    called_entry : (at : ℕ) (x : List ℕ) (o : Option Entry) (t : Target) (vs : List Value) (es : List Sense) (v : Value) → MeansPlain scope.world g
+        → ((s : Signature) → meant g x ≡ Some (OfFunction s) → find g.tables x ≡ Some (OfFunction s)) → meant g x ≡ o → target at o ≡ Of t
+        → AllDenote n d g scope f b vs es → rules_of_calls.called g at t vs ≡ Of v → Denotes n d g scope f b v (call_sense scope.world x es)
+    called_entry at x None t vs es v p there m k h e = absurd cc
+    called_entry at x (Some (OfValue (Stored u r))) t vs es v p there m k h e = absurd cc
+    called_entry at x (Some (OfValue (Arrayed u r))) t vs es v p there m k h e = absurd cc
+    called_entry at x (Some (OfValue Counter)) t vs es v p there m k h e = absurd cc
+    called_entry at x (Some (OfValue Unknown)) t vs es v p there m k h e = absurd cc
+    called_entry at x (Some (OfTag u)) t vs es v p there m k h e = absurd (p x (OfTag u) m)
+    called_entry at x (Some OfOther) t vs es v p there m k h e = absurd cc
+    called_entry at x (Some (OfFunction s)) t vs es v p there m k h e =
+        called_function at x s (p x (OfFunction s) m) vs es v (there s m) h
+        (subst (λ (y : Target). rules_of_calls.called g at y vs ≡ Of v) (sound_is s.sound s t k) e)
+    called_entry at x (Some (OfBuiltin c)) t vs es v p there m k h e =
+        called_builtin at x c vs es v (p x (OfBuiltin c) m) h
+        (subst (λ (y : Target). rules_of_calls.called g at y vs ≡ Of v) (sym (of_is (ToBuiltin c) t k)) e)
 
 -- ---- all forms
 
 module _ (n : ℕ) (d : Tables) (g : Env) (scope : Scope) (f : NameOf → Region) (b : ℕ) (invokes : Invokes n d scope.world g.tables) (agrees : Agrees scope.world d)
     (binds : Binds g scope f) (plain : MeansPlain scope.world g) (functions : (x : List ℕ) (s : Signature) → meant g x ≡ Some (OfFunction s) → find g.tables x ≡ Some (OfFunction s))
+    (strict : g.lenient ≡ false) (inside : g.enclosing ≡ InRegion TheHeap)
   where
     -- operands that are tested, from the second on
     record Tested (a v : Value) (es : Expressions) : Type 0 where
@@ -161,16 +172,16 @@ module _ (n : ℕ) (d : Tables) (g : Env) (scope : Scope) (f : NameOf → Region
       valued : Valued a Int → Valued v Int
       some : AreSome es → (is_testable a.type ≡ true) × Valued v Int
 
-    -- a prefix that integers have
-    prefixed_sound : (at : ℕ) (p : Prefix) (e : Sense) (a v : Value) → takes_prefix integers p ≡ true → Denotes n d g scope f b a e
+    -- a prefix
+    prefixed_sound : (at : ℕ) (p : Prefix) (e : Sense) (a v : Value) → takes_prefix thin_pointers p ≡ true → Denotes n d g scope f b a e
         → rules.prefixed g at p a ≡ Of v → Denotes n d g scope f b v (calls.prefixed scope.world p e)
-    prefixed_sound at prefix.Negate e a v k h j = denotes_signed n d g scope f b Subtract at 0 a v e by h j
+    prefixed_sound at prefix.Negate e a v k h j = denotes_signed n d g scope f b strict Subtract at 0 a v e by h j
       where
         by : (s : IntegerType) → applied_to g Subtract at Int (integer_type s) ≡ after (if_fits (is_integer (integer_type s)) at (rules.promoted (integer_type s))) (value at)
         by AsInt = refl
         by AsUnsigned = refl
         by AsChar = refl
-    prefixed_sound at prefix.Complement e a v k h j = denotes_signed n d g scope f b BitXor at (2 ^ 32 - 1) a v e by h j
+    prefixed_sound at prefix.Complement e a v k h j = denotes_signed n d g scope f b strict BitXor at (2 ^ 32 - 1) a v e by h j
       where
         by : (s : IntegerType) → applied_to g BitXor at Int (integer_type s) ≡ after (if_fits (is_integer (integer_type s)) at (rules.promoted (integer_type s))) (value at)
         by AsInt = refl
@@ -180,52 +191,52 @@ module _ (n : ℕ) (d : Tables) (g : Env) (scope : Scope) (f : NameOf → Region
         let r : (is_testable a.type ≡ true) × Valued v Int = fitted (is_testable a.type) at at Int v j in
         denotes_tested n d g scope f b v (inverted (truth e)) r.1
         (tells_not n d g scope f b (truth e) (denotes_tells n d g scope f b a e h r.0))
-    prefixed_sound at prefix.Dereference e a v k h j = absurd cc
-    prefixed_sound at prefix.AddressOf e a v k h j = absurd cc
+    prefixed_sound at prefix.Dereference e a v k h j = denotes_contents n d g scope f b strict agrees at a v e h j
+    prefixed_sound at prefix.AddressOf e a v k h j = denotes_address n d g scope f b at a v e h j
 
     mutual
-      pub expression_sound : (e : Expression) (v : Value) → taken integers e ≡ e → ExpressionHasOperands e → judge g e ≡ Of v
+      pub expression_sound : (e : Expression) (v : Value) → taken thin_pointers e ≡ e → ExpressionHasOperands e → judge g e ≡ Of v
           → Denotes n d g scope f b v (sense e scope)
       expression_sound (Expression.Number at k suffix) v t o j =
           denotes_constant n d g scope f b (number_type k suffix) k v (value_of at (number_typed k suffix) v j)
       expression_sound (Expression.Character at byte) v t o j = denotes_constant n d g scope f b AsChar byte v (value_of at Char v j)
       expression_sound (Expression.Text at bytes) v t o j = absurd cc
-      expression_sound (Expression.Null at) v t o j = absurd cc
+      expression_sound (Expression.Null at) v t o j = denotes_null n d g scope f b v (value_of at Null v j)
       expression_sound (Expression.HeapRegion at) v t o j = absurd cc
       expression_sound (Expression.UniqueRegion at) v t o j = absurd cc
       expression_sound (Expression.MakeUnion tag m x) v t o j = absurd cc
       expression_sound (Expression.NumElts at x) v t o j = absurd cc
       expression_sound (Expression.New at new) v t o j = absurd cc
       expression_sound (Expression.NewIn at x new) v t o j =
-          absurd (refused_new (is_unique_region x) (takes_made integers new) at (taken integers x) x (made_taken integers new) new t)
-      expression_sound (Expression.Suffixed x NoSuffixes) v t o j = let i : taken integers x ≡ x = cc in expression_sound x v i o.1.0 j
+          absurd (refused_new (is_unique_region x) (takes_made thin_pointers new) at (taken thin_pointers x) x (made_taken thin_pointers new) new t)
+      expression_sound (Expression.Suffixed x NoSuffixes) v t o j = let i : taken thin_pointers x ≡ x = cc in expression_sound x v i o.1.0 j
       expression_sound (Expression.Suffixed x (Index y es)) v t o j = absurd cc
       expression_sound (Expression.Suffixed x (Dot m es)) v t o j = absurd cc
       expression_sound (Expression.Suffixed x (Arrow m es)) v t o j = absurd cc
       expression_sound (Expression.Variable x) v t o j =
           denotes_variable n d g scope f b agrees binds x.at x.text (meant g x.text) v plain refl j
       expression_sound (Expression.Call x es) v t o j =
-          let i : all_taken integers es ≡ es = cc in
+          let i : all_taken thin_pointers es ≡ es = cc in
           let c : (u : Target) × (vs : List Value) × (target x.at (meant g x.text) ≡ Of u) × (judge_all g es ≡ Of vs) × (rules_of_calls.called g x.at u vs ≡ Of v) =
           call_is g x es v j in
-          called_entry n d g scope f b invokes x.at x.text (meant g x.text) c.0 c.1 (senses es scope) v plain (functions x.text) refl c.2
+          called_entry n d g scope f b invokes strict inside x.at x.text (meant g x.text) c.0 c.1 (senses es scope) v plain (functions x.text) refl c.2
           (all_sound es c.1 i o c.3) c.4
       expression_sound (Expression.Grouped at x) v t o j =
-          let i : taken integers x ≡ x = cc in
+          let i : taken thin_pointers x ≡ x = cc in
           let a : (a : Value) × (judge g x ≡ Of a) × (places.grouped at a ≡ Of v) = after_is (judge g x) (places.grouped at) v j in
           denotes_grouped n d g scope f b at a.0 v (sense x scope) (expression_sound x a.0 i o a.1) a.2
       expression_sound (Expression.Prefixed at p x) v t o j =
-          let k : (takes_prefix integers p ≡ true) × (taken integers x ≡ x) = prefix_taken at p x t in
+          let k : (takes_prefix thin_pointers p ≡ true) × (taken thin_pointers x ≡ x) = prefix_taken at p x t in
           let a : (a : Value) × (judge g x ≡ Of a) × (rules.prefixed g at p a ≡ Of v) = prefix_is g at p x v j in
           prefixed_sound at p (sense x scope) a.0 v k.0 (expression_sound x a.0 k.1 o a.1) a.2
       expression_sound (Expression.Chain x es) v t o j =
-          let i : taken integers x ≡ x = cc in
-          let k : links_taken integers es ≡ es = cc in
+          let i : taken thin_pointers x ≡ x = cc in
+          let k : links_taken thin_pointers es ≡ es = cc in
           let a : (a : Value) × (judge g x ≡ Of a) = links_first g (judge g x) es v j in
           links_sound es a.0 v (sense x scope) k o.1.1 (expression_sound x a.0 i o.1.0 a.1) (subst (λ (y : Verdict Value). judge_links g y es ≡ Of v) a.1 j)
       expression_sound (Expression.AllOf x es) v t o j =
-          let i : taken integers x ≡ x = cc in
-          let k : all_taken integers es ≡ es = cc in
+          let i : taken thin_pointers x ≡ x = cc in
+          let k : all_taken thin_pointers es ≡ es = cc in
           let a : (a : Value) × (judge g x ≡ Of a) = tests_first g (judge g x) es v j in
           let h : Denotes n d g scope f b a.0 (sense x scope) = expression_sound x a.0 i o.1.0 a.1 in
           let r : Tested a.0 v es = tests_sound es a.0 v k o.1.1 (subst (λ (y : Verdict Value). judge_tests g y es ≡ Of v) a.1 j) in
@@ -233,8 +244,8 @@ module _ (n : ℕ) (d : Tables) (g : Env) (scope : Scope) (f : NameOf → Region
           denotes_tested n d g scope f b v (all_true (sense x scope ∷ senses es scope)) q.1
           (tells_all n d g scope f b (sense x scope ∷ senses es scope) (denotes_tells n d g scope f b a.0 (sense x scope) h q.0, r.others))
       expression_sound (Expression.AnyOf x es) v t o j =
-          let i : taken integers x ≡ x = cc in
-          let k : all_taken integers es ≡ es = cc in
+          let i : taken thin_pointers x ≡ x = cc in
+          let k : all_taken thin_pointers es ≡ es = cc in
           let a : (a : Value) × (judge g x ≡ Of a) = tests_first g (judge g x) es v j in
           let h : Denotes n d g scope f b a.0 (sense x scope) = expression_sound x a.0 i o.1.0 a.1 in
           let r : Tested a.0 v es = tests_sound es a.0 v k o.1.1 (subst (λ (y : Verdict Value). judge_tests g y es ≡ Of v) a.1 j) in
@@ -242,43 +253,43 @@ module _ (n : ℕ) (d : Tables) (g : Env) (scope : Scope) (f : NameOf → Region
           denotes_tested n d g scope f b v (any_true (sense x scope ∷ senses es scope)) q.1
           (tells_any n d g scope f b (sense x scope ∷ senses es scope) (denotes_tells n d g scope f b a.0 (sense x scope) h q.0, r.others))
       expression_sound (Expression.Assign to from) v t o j =
-          let i : taken integers to ≡ to = cc in
-          let k : taken integers from ≡ from = cc in
+          let i : taken thin_pointers to ≡ to = cc in
+          let k : taken thin_pointers from ≡ from = cc in
           let a : (a : Value) × (c : Value) × (judge g to ≡ Of a) × (judge g from ≡ Of c) × (places.assigned g a c ≡ Of v) = assign_is g to from v j in
           denotes_assigned n d g scope f b a.0 a.1 v (sense to scope) (sense from scope) (expression_sound to a.0 i o.0 a.2) (expression_sound from a.1 k o.1 a.3) a.4
 
-      pub all_sound : (es : Expressions) (vs : List Value) → all_taken integers es ≡ es → AllHaveOperands es → judge_all g es ≡ Of vs
+      pub all_sound : (es : Expressions) (vs : List Value) → all_taken thin_pointers es ≡ es → AllHaveOperands es → judge_all g es ≡ Of vs
           → AllDenote n d g scope f b vs (senses es scope)
       all_sound NoExpressions vs t o j = subst (λ (us : List Value). AllDenote n d g scope f b us []) (of_is [] vs j) tt
       all_sound (MoreExpressions x es) vs t o j =
-          let i : taken integers x ≡ x = cc in
-          let k : all_taken integers es ≡ es = cc in
+          let i : taken thin_pointers x ≡ x = cc in
+          let k : all_taken thin_pointers es ≡ es = cc in
           let a : (a : Value) × (us : List Value) × (judge g x ≡ Of a) × (judge_all g es ≡ Of us) × (Rattle.source_typing.specs.Fixing.more a us ≡ Of vs) =
           both_is (judge g x) (judge_all g es) Rattle.source_typing.specs.Fixing.more vs j in
           subst (λ (us : List Value). AllDenote n d g scope f b us (sense x scope ∷ senses es scope)) (of_is (a.0 ∷ a.1) vs a.4)
           (expression_sound x a.0 i o.0 a.2, all_sound es a.1 k o.1 a.3)
 
-      links_sound : (es : Links) (a v : Value) (left : Sense) → links_taken integers es ≡ es → LinksHaveOperands es → Denotes n d g scope f b a left
+      links_sound : (es : Links) (a v : Value) (left : Sense) → links_taken thin_pointers es ≡ es → LinksHaveOperands es → Denotes n d g scope f b a left
           → judge_links g (Of a) es ≡ Of v → Denotes n d g scope f b v (linked es scope left)
       links_sound NoLinks a v left t o h j = subst (λ (y : Value). Denotes n d g scope f b y left) (of_is a v j) h
       links_sound (MoreLinks p x es) a v left t o h j =
-          let i : taken integers x ≡ x = cc in
-          let k : links_taken integers es ≡ es = cc in
+          let i : taken thin_pointers x ≡ x = cc in
+          let k : links_taken thin_pointers es ≡ es = cc in
           let c : (c : Value) × (both (Of a) (judge g x) (rules.applied g p) ≡ Of c) = links_first g (both (Of a) (judge g x) (rules.applied g p)) es v j in
           let e : (u : Value) × (y : Value) × (Of a ≡ Of u) × (judge g x ≡ Of y) × (rules.applied g p u y ≡ Of c.0) = both_is (Of a) (judge g x) (rules.applied g p) c.0 c.1 in
           let same : a ≡ e.0 = of_is a e.0 e.2 in
           links_sound es c.0 v (calls.applied p left (sense x scope)) k o.1
-          (denotes_applied n d g scope f b p e.0.at e.0 e.1 c.0 left (sense x scope) (subst (λ (y : Value). Denotes n d g scope f b y left) same h)
+          (denotes_applied n d g scope f b strict p e.0.at e.0 e.1 c.0 left (sense x scope) (subst (λ (y : Value). Denotes n d g scope f b y left) same h)
           (expression_sound x e.1 i o.0 e.3) e.4)
           (subst (λ (y : Verdict Value). judge_links g y es ≡ Of v) c.1 j)
 
       -- the operands behind the first
-      tests_sound : (es : Expressions) (a v : Value) → all_taken integers es ≡ es → AllHaveOperands es → judge_tests g (Of a) es ≡ Of v → Tested a v es
+      tests_sound : (es : Expressions) (a v : Value) → all_taken thin_pointers es ≡ es → AllHaveOperands es → judge_tests g (Of a) es ≡ Of v → Tested a v es
       tests_sound NoExpressions a v t o j =
           record { others = tt; valued = λ h. subst (λ (y : Value). Valued y Int) (of_is a v j) h; some = λ s. absurd s }
       tests_sound (MoreExpressions x es) a v t o j =
-          let i : taken integers x ≡ x = cc in
-          let k : all_taken integers es ≡ es = cc in
+          let i : taken thin_pointers x ≡ x = cc in
+          let k : all_taken thin_pointers es ≡ es = cc in
           let c : (c : Value) × (both (Of a) (judge g x) tested_both ≡ Of c) = tests_first g (both (Of a) (judge g x) tested_both) es v j in
           let e : (u : Value) × (y : Value) × (Of a ≡ Of u) × (judge g x ≡ Of y) × (tested_both u y ≡ Of c.0) =
           both_is (Of a) (judge g x) tested_both c.0 c.1 in

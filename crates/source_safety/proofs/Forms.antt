@@ -1,75 +1,63 @@
--- What each form of an expression of integers denotes, from what its parts do.
+-- What each form of an expression denotes, from what its parts do.
 use Rattle.std.proofs.Common.{◌≡◌, ℕ, suc, Bool, true, false, Option, Some, None, List, [], ◌∷◌, refl, sym, ◌∙◌, ap, subst, arith}
-use Rattle.std.specs.Prelude.{map, ◌%◌, ◌^◌, nat_eq, length}
+use Rattle.std.specs.Prelude.{map, ◌%◌, ◌^◌, ◌&&◌, ◌||◌, nat_eq, length}
 use Rattle.std.proofs.lemmas.Bool.{eqb-true}
 use Rattle.cyc_tree.specs.declared.expression.Operator.{Operator}
-use Rattle.source_meaning.specs.Shapes.{Shape, IntShape}
+use Rattle.source_meaning.specs.Shapes.{Shared, Shape, IntShape, VoidShape, ThinShape, pointee}
+use Rattle.source_meaning.specs.Memory as memory
 use Rattle.source_meaning.specs.Memory.{Region, Scalar, Integer, IntegerType, AsInt, AsUnsigned, AsChar}
-use Rattle.source_meaning.specs.Steps.{Scope, Act, give, ◌>>=◌}
-use Rattle.source_meaning.specs.Conversions.{converted}
-use Rattle.source_meaning.specs.Operators.{truth_value}
-use Rattle.source_meaning.specs.Places.{Sense, value_sense, entity_of, entity_sense, assigned}
+use Rattle.source_meaning.specs.Steps as steps
+use Rattle.source_meaning.specs.Steps.{Scope, Act, give, ◌>>=◌, need}
+use Rattle.source_meaning.specs.Conversions.{cells_of, converted, one}
+use Rattle.source_meaning.specs.Operators.{truth_value, operated, operator_shape}
+use Rattle.source_meaning.specs.Places.{Sense, value_sense, entity_of, entity_sense, contents, address_of, assigned}
 use Rattle.source_meaning.specs.Calls.{constant, applied, tested, truth}
 use Rattle.source_typing.specs.Verdicts.{Of, after, if_fits, other_kind}
 use Rattle.source_typing.specs.Converts.{IsInteger, Converts}
-use Rattle.source_typing.specs.Operators.{on_integers, applied_to}
+use Rattle.source_typing.specs.Operators.{on_integers, applied_to, compared_thin, compared, if_equality, integers_joined, is_equality}
 use Rattle.source_typing.specs.Operators as rules
 use Rattle.source_typing.specs.Places as places
 use Rattle.source_typing.specs.Places.{assigned_type, variable}
-use Rattle.source_typing.specs.Scope.{Env, Value, Seat, Nowhere, In, InBlock, value, meant, is_place}
+use Rattle.source_typing.specs.Scope.{Env, Value, Seat, Nowhere, In, InBlock, value, meant, is_place, is_live}
 use Rattle.source_typing.specs.Tables.{Entry, OfValue, OfTag, OfFunction, OfBuiltin, OfOther, Stored, Arrayed, Counter, Unknown, argument}
-use Rattle.source_typing.specs.Types.{StaticType, Int, Unsigned, Char, Void, Null, Thin, Fat, Unique, Handle, Key, Struct, Union, is_integer, is_testable, integer_type, renamed, shape_of}
-use Rattle.source_typing.proofs.Inversion.{of_is}
+use Rattle.source_typing.specs.Types.{StaticType, Int, Unsigned, Char, Void, Null, Thin, Fat, Unique, Handle, Key, Struct, Union, is_integer, is_pointer, is_null, is_same, is_testable, integer_type, renamed, shape_of}
+use Rattle.source_typing.proofs.Inversion.{of_is, unless_is}
 use Rattle.source_typing.proofs.OperatorsFit.{Operates, OnIntegers, OnFat, WithNull, NullWith, OnThin, applied_to_is}
 use Rattle.source_typing.proofs.PlacesFit.{assigned_is}
 use Rattle.source_typing.proofs.CallsFit.{AllConvert}
 use Rattle.source_safety.specs.Flat.{Tables}
+use Rattle.source_safety.specs.Named.{Below, TypeBelow}
 use Rattle.source_safety.proofs.Invariant.{HaveTypes}
 use Rattle.source_safety.proofs.After.{After, flying}
 use Rattle.source_safety.proofs.Arguments.{Agrees}
 use Rattle.source_safety.proofs.Names.{NameOf}
-use Rattle.source_safety.proofs.Scenes.{Binds}
-use Rattle.source_safety.proofs.Sound.{cells_type, Gives, Sound, sound_value, gives_at_once}
+use Rattle.source_safety.proofs.Scenes.{Bound, Binds}
+use Rattle.source_safety.proofs.Sound.{shape_renamed, cells_type, Gives, Shows, Sound, sound_value, gives_at_once}
+use Rattle.source_safety.proofs.Places.{sound_placed}
 use Rattle.source_safety.proofs.Integers.{integer_typed, integer_is, on_integers_is, operator_shaped}
+use Rattle.source_safety.proofs.Words.{IsWordType, IsSimple, word_simple, integer_word, integer_below, word_renamed, word_copied}
+use Rattle.source_safety.proofs.Pointers.{IsValue, Compares, compares_thins, compares_with_null, compares_null_with, gives_compared, equality_shape, finds_contents, gives_address}
 use Rattle.source_safety.proofs.Operands.{gives_applied, Tells, tells_truth, gives_tested}
 use Rattle.source_safety.proofs.Storing.{runs_converted, sound_variable, gives_assigned}
 use Rattle.source_safety.proofs.Calling.{AllPass}
-use Rattle.source_safety.proofs.Entries.{IsPlain, integer_plain, plain_itself, converts_integer, AreIntegers, MeansPlain}
+use Rattle.source_safety.proofs.Fixed.{ValuesBelow}
+use Rattle.source_safety.proofs.Entries.{AreWords, MeansPlain, strictly}
 
--- ---- what the rules say of integers
+-- ---- what the rules say of words
 
-pub testable_integer : (t : StaticType) → IsPlain t → is_testable t ≡ true → IsInteger t
-testable_integer Int p e = refl
-testable_integer Unsigned p e = refl
-testable_integer Char p e = refl
-testable_integer Void p e = absurd cc
-testable_integer Null p e = absurd p
-testable_integer (Thin n r t) p e = absurd p
-testable_integer (Fat r t) p e = absurd p
-testable_integer (Unique n t) p e = absurd p
-testable_integer (Handle r) p e = absurd p
-testable_integer (Key r) p e = absurd p
-testable_integer (Struct tag rs) p e = absurd p
-testable_integer (Union tag rs) p e = absurd p
-
-operates_integers : (g : Env) (o : Operator) (a b c : StaticType) → IsPlain a → IsPlain b → Operates g o a b c → IsInteger a × IsInteger b
-operates_integers g o a b c p q (OnIntegers x y) = (x, y)
-operates_integers g o a b c p q (OnFat x y) = absurd p
-operates_integers g o a b c p q (WithNull x y) = absurd q
-operates_integers g o a b c p q (NullWith x y) = absurd p
-operates_integers g o a b c p q (OnThin x y z u) = absurd p
-
-words_joined : (g : Env) (o : Operator) (at : ℕ) (s t : IntegerType)
-    → applied_to g o at (integer_type s) (integer_type t) ≡ value at (on_integers o (integer_type s) (integer_type t))
-words_joined g o at AsInt AsInt = refl
-words_joined g o at AsInt AsUnsigned = refl
-words_joined g o at AsInt AsChar = refl
-words_joined g o at AsUnsigned AsInt = refl
-words_joined g o at AsUnsigned AsUnsigned = refl
-words_joined g o at AsUnsigned AsChar = refl
-words_joined g o at AsChar AsInt = refl
-words_joined g o at AsChar AsUnsigned = refl
-words_joined g o at AsChar AsChar = refl
+pub testable_word : (t : StaticType) → IsSimple t → is_testable t ≡ true → IsWordType t
+testable_word Int p e = tt
+testable_word Unsigned p e = tt
+testable_word Char p e = tt
+testable_word Void p e = absurd cc
+testable_word Null p e = absurd cc
+testable_word (Thin n r t) p e = p
+testable_word (Fat r t) p e = absurd p
+testable_word (Unique n t) p e = absurd p
+testable_word (Handle r) p e = absurd p
+testable_word (Key r) p e = absurd p
+testable_word (Struct tag rs) p e = absurd p
+testable_word (Union tag rs) p e = absurd p
 
 -- a value that is no place, and its type
 pub record Valued (v : Value) (t : StaticType) : Type 0 where
@@ -81,36 +69,110 @@ value_of at t v e =
     let z : record { at = at; type = t; seat = Nowhere } ≡ v = of_is (record { at = at; type = t; seat = Nowhere }) v e in
     record { type = ap (λ (y : Value). y.type) (sym z); seat = ap (λ (y : Value). y.seat) (sym z) }
 
--- what two plain operands are joined to
-pub applied_valued : (g : Env) (o : Operator) (at : ℕ) (a b : StaticType) (v : Value) → IsPlain a → IsPlain b → applied_to g o at a b ≡ Of v
-    → IsInteger a × IsInteger b × Valued v (on_integers o a b)
-applied_valued g o at a b v p q e =
-    let z : IsInteger a × IsInteger b = operates_integers g o a b v.type p q (applied_to_is g o at a b v e) in
-    let s : (s : IntegerType) × (a ≡ integer_type s) = integer_is a z.0 in
-    let t : (s : IntegerType) × (b ≡ integer_type s) = integer_is b z.1 in
-    let at_words : applied_to g o at a b ≡ value at (on_integers o a b) =
-    subst (λ (x : StaticType). applied_to g o at x b ≡ value at (on_integers o x b)) (sym s.1)
-    (subst (λ (x : StaticType). applied_to g o at (integer_type s.0) x ≡ value at (on_integers o (integer_type s.0) x)) (sym t.1) (words_joined g o at s.0 t.0)) in
-    (z.0, z.1, value_of at (on_integers o a b) v (sym at_words ∙ e))
+-- what an operator gives is no place
+null_seat : (c : Bool) (at : ℕ) (v : Value) → after (if_fits c at Int) (value at) ≡ Of v → v.seat ≡ Nowhere
+null_seat true at v e = (value_of at Int v e).seat
+null_seat false at v e = absurd cc
+
+thin_seat : (g : Env) (at : ℕ) (c : Bool) (r q : NameOf) (v : Value) → compared_thin g at c r q ≡ Of v → v.seat ≡ Nowhere
+thin_seat g at true r q v e = (value_of at Int v (unless_is _ (value at Int) v e).1).seat
+thin_seat g at false r q v e = absurd cc
+
+compared_seat : (g : Env) (at : ℕ) (a b : StaticType) (v : Value) → IsSimple a → IsSimple b → compared g at a b ≡ Of v → v.seat ≡ Nowhere
+compared_seat g at Int b v p q e = null_seat ((is_pointer Int && is_null b) || (is_null Int && is_pointer b)) at v e
+compared_seat g at Unsigned b v p q e = null_seat ((is_pointer Unsigned && is_null b) || (is_null Unsigned && is_pointer b)) at v e
+compared_seat g at Char b v p q e = null_seat ((is_pointer Char && is_null b) || (is_null Char && is_pointer b)) at v e
+compared_seat g at Void b v p q e = null_seat ((is_pointer Void && is_null b) || (is_null Void && is_pointer b)) at v e
+compared_seat g at Null b v p q e = null_seat ((is_pointer Null && is_null b) || (is_null Null && is_pointer b)) at v e
+compared_seat g at (Thin n r t) Int v p q e = null_seat false at v e
+compared_seat g at (Thin n r t) Unsigned v p q e = null_seat false at v e
+compared_seat g at (Thin n r t) Char v p q e = null_seat false at v e
+compared_seat g at (Thin n r t) Void v p q e = null_seat false at v e
+compared_seat g at (Thin n r t) Null v p q e = null_seat true at v e
+compared_seat g at (Thin n r t) (Thin m s u) v p q e = thin_seat g at (is_same t u) r s v e
+compared_seat g at (Thin n r t) (Fat s u) v p q e = absurd q
+compared_seat g at (Thin n r t) (Unique m u) v p q e = absurd q
+compared_seat g at (Thin n r t) (Handle s) v p q e = absurd q
+compared_seat g at (Thin n r t) (Key s) v p q e = absurd q
+compared_seat g at (Thin n r t) (Struct tag rs) v p q e = absurd q
+compared_seat g at (Thin n r t) (Union tag rs) v p q e = absurd q
+compared_seat g at (Fat r t) b v p q e = absurd p
+compared_seat g at (Unique n t) b v p q e = absurd p
+compared_seat g at (Handle r) b v p q e = absurd p
+compared_seat g at (Key r) b v p q e = absurd p
+compared_seat g at (Struct tag rs) b v p q e = absurd p
+compared_seat g at (Union tag rs) b v p q e = absurd p
+
+equality_seat : (c : Bool) (g : Env) (at : ℕ) (a b : StaticType) (v : Value) → IsSimple a → IsSimple b → if_equality c g at a b ≡ Of v → v.seat ≡ Nowhere
+equality_seat true g at a b v p q e = compared_seat g at a b v p q e
+equality_seat false g at a b v p q e = absurd cc
+
+joined_seat : (c : Bool) (g : Env) (o : Operator) (at : ℕ) (a b : StaticType) (v : Value) → IsSimple a → IsSimple b → integers_joined c g o at a b ≡ Of v
+    → v.seat ≡ Nowhere
+joined_seat true g o at a b v p q e = (value_of at (on_integers o a b) v e).seat
+joined_seat false g o at a b v p q e = equality_seat (is_equality o) g at a b v p q e
+
+applied_seat : (g : Env) (o : Operator) (at : ℕ) (a b : StaticType) (v : Value) → IsSimple a → IsSimple b → applied_to g o at a b ≡ Of v → v.seat ≡ Nowhere
+applied_seat g o at Int b v p q e = joined_seat (is_integer Int && is_integer b) g o at Int b v p q e
+applied_seat g o at Unsigned b v p q e = joined_seat (is_integer Unsigned && is_integer b) g o at Unsigned b v p q e
+applied_seat g o at Char b v p q e = joined_seat (is_integer Char && is_integer b) g o at Char b v p q e
+applied_seat g o at Void b v p q e = joined_seat (is_integer Void && is_integer b) g o at Void b v p q e
+applied_seat g o at Null b v p q e = joined_seat (is_integer Null && is_integer b) g o at Null b v p q e
+applied_seat g o at (Thin n r t) b v p q e = joined_seat (is_integer (Thin n r t) && is_integer b) g o at (Thin n r t) b v p q e
+applied_seat g o at (Fat r t) b v p q e = absurd p
+applied_seat g o at (Unique n t) b v p q e = absurd p
+applied_seat g o at (Handle r) b v p q e = absurd p
+applied_seat g o at (Key r) b v p q e = absurd p
+applied_seat g o at (Struct tag rs) b v p q e = absurd p
+applied_seat g o at (Union tag rs) b v p q e = absurd p
 
 -- what is tested, and `-e` and `~e`
 pub fitted : (b : Bool) (at place : ℕ) (t : StaticType) (v : Value) → after (if_fits b at t) (value place) ≡ Of v → (b ≡ true) × Valued v t
 fitted true at place t v e = (refl, value_of place t v e)
 fitted false at place t v e = absurd cc
 
-assigned_plain : (g : Env) (t : StaticType) → IsInteger t → assigned_type g t ≡ t
-assigned_plain g Int e = refl
-assigned_plain g Unsigned e = refl
-assigned_plain g Char e = refl
-assigned_plain g Void e = absurd cc
-assigned_plain g Null e = absurd cc
-assigned_plain g (Thin n r t) e = absurd cc
-assigned_plain g (Fat r t) e = absurd cc
-assigned_plain g (Unique n t) e = absurd cc
-assigned_plain g (Handle r) e = absurd cc
-assigned_plain g (Key r) e = absurd cc
-assigned_plain g (Struct tag rs) e = absurd cc
-assigned_plain g (Union tag rs) e = absurd cc
+assigned_word : (g : Env) (t : StaticType) → IsWordType t → assigned_type g t ≡ t
+assigned_word g Int e = refl
+assigned_word g Unsigned e = refl
+assigned_word g Char e = refl
+assigned_word g Void e = absurd e
+assigned_word g Null e = absurd e
+assigned_word g (Thin n r t) e = refl
+assigned_word g (Fat r t) e = absurd e
+assigned_word g (Unique n t) e = absurd e
+assigned_word g (Handle r) e = absurd e
+assigned_word g (Key r) e = absurd e
+assigned_word g (Struct tag rs) e = absurd e
+assigned_word g (Union tag rs) e = absurd e
+
+-- what `*e` takes: a pointer into a live region
+record Pointed (g : Env) (at : ℕ) (t : StaticType) (v : Value) : Type 0 where
+  may_be_null : Bool
+  region : NameOf
+  to : StaticType
+  is : t ≡ Thin may_be_null region to
+  live : is_live g region ≡ true
+  value_is : record { at = at; type = to; seat = In region } ≡ v
+
+in_live_is : (c : Bool) (at : ℕ) (t : StaticType) (r : NameOf) (v : Value) → places.in_live c at t r ≡ Of v → (c ≡ true) × (record { at = at; type = t; seat = In r } ≡ v)
+in_live_is true at t r v e = (refl, of_is (record { at = at; type = t; seat = In r }) v e)
+in_live_is false at t r v e = absurd cc
+
+contents_is : (g : Env) (at : ℕ) (t : StaticType) (v : Value) → IsSimple t → places.contents_of g at t ≡ Of v → Pointed g at t v
+contents_is g at Int v p e = absurd cc
+contents_is g at Unsigned v p e = absurd cc
+contents_is g at Char v p e = absurd cc
+contents_is g at Void v p e = absurd cc
+contents_is g at Null v p e = absurd cc
+contents_is g at (Thin n r t) v p e =
+    let z : (is_live g r ≡ true) × (record { at = at; type = t; seat = In r } ≡ v) = in_live_is (is_live g r) at t r v e in
+    record { may_be_null = n; region = r; to = t; is = refl; live = z.0; value_is = z.1 }
+contents_is g at (Fat r t) v p e = absurd p
+contents_is g at (Unique n t) v p e = absurd p
+contents_is g at (Handle r) v p e = absurd p
+contents_is g at (Key r) v p e = absurd p
+contents_is g at (Struct tag rs) v p e = absurd p
+contents_is g at (Union tag rs) v p e = absurd p
 
 -- ---- counts
 
@@ -120,17 +182,20 @@ not_more k e = let q : 0 ≡ suc k = eqb-true 0 (suc k) e in omega (arith, q)
 -- ---- forms
 
 module _ (n : ℕ) (d : Tables) (g : Env) (scope : Scope) (f : NameOf → Region) (b : ℕ) where
-  -- an expression that was judged to be this: an integer or nothing; where it is a place, that of a variable of an integer
+  -- An expression that was judged to be this: a word, `NULL` or nothing, whose type names regions in scope; where it is a place, that of a word in a region in
+  -- scope.
   pub record Denotes (v : Value) (e : Sense) : Type 0 where
-    pub plain : IsPlain v.type
+    pub simple : IsSimple v.type
+    pub below : TypeBelow g.regions.count v.type
     pub outside : v.seat ≡ InBlock → ⊥
-    pub place : (r : NameOf) → v.seat ≡ In r → IsInteger v.type
+    pub place : (r : NameOf) → v.seat ≡ In r → IsWordType v.type × Below g.regions.count r
     pub sound : Sound n d g scope f b v e
 
-  pub denotes_value : (v : Value) (t : StaticType) (s : Shape) (act : Act (List Scalar)) → IsPlain t → Valued v t → s ≡ shape_of t
+  pub denotes_value : (v : Value) (t : StaticType) (s : Shape) (act : Act (List Scalar)) → IsSimple t → TypeBelow g.regions.count t → Valued v t → s ≡ shape_of t
       → Gives n d g scope f b t act → Denotes v (value_sense s act)
-  denotes_value v t s act p h e gives = record {
-    plain = subst (λ (y : StaticType). IsPlain y) (sym h.type) p;
+  denotes_value v t s act p l h e gives = record {
+    simple = subst (λ (y : StaticType). IsSimple y) (sym h.type) p;
+    below = subst (λ (y : StaticType). TypeBelow g.regions.count y) (sym h.type) l;
     outside = λ z. let x : v.seat ≡ Nowhere = h.seat in cc;
     place = λ r z. absurd (let x : v.seat ≡ Nowhere = h.seat in cc);
     sound = sound_value n d g scope f b v s act (e ∙ ap shape_of (sym h.type)) h.seat
@@ -140,27 +205,39 @@ module _ (n : ℕ) (d : Tables) (g : Env) (scope : Scope) (f : NameOf → Region
   -- ---- literals, names, parentheses
 
   pub denotes_constant : (s : IntegerType) (x : ℕ) (v : Value) → Valued v (integer_type s) → Denotes v (constant s x)
-  denotes_constant AsInt x v h = denotes_value v Int IntShape (give (Integer AsInt (x % 2 ^ 32) ∷ [])) tt h refl
+  denotes_constant AsInt x v h = denotes_value v Int IntShape (give (Integer AsInt (x % 2 ^ 32) ∷ [])) tt tt h refl
       (gives_at_once n d g scope f b Int (Integer AsInt (x % 2 ^ 32) ∷ []) (λ k w. integer_typed d f w (flying k 0) AsInt (x % 2 ^ 32)))
-  denotes_constant AsUnsigned x v h = denotes_value v Unsigned _ (give (Integer AsUnsigned (x % 2 ^ 32) ∷ [])) tt h refl
+  denotes_constant AsUnsigned x v h = denotes_value v Unsigned _ (give (Integer AsUnsigned (x % 2 ^ 32) ∷ [])) tt tt h refl
       (gives_at_once n d g scope f b Unsigned (Integer AsUnsigned (x % 2 ^ 32) ∷ []) (λ k w. integer_typed d f w (flying k 0) AsUnsigned (x % 2 ^ 32)))
-  denotes_constant AsChar x v h = denotes_value v Char _ (give (Integer AsChar (x % 256) ∷ [])) tt h refl
+  denotes_constant AsChar x v h = denotes_value v Char _ (give (Integer AsChar (x % 256) ∷ [])) tt tt h refl
       (gives_at_once n d g scope f b Char (Integer AsChar (x % 256) ∷ []) (λ k w. integer_typed d f w (flying k 0) AsChar (x % 256)))
+
+  pub denotes_null : (v : Value) → Valued v Null → Denotes v (value_sense (ThinShape true Shared VoidShape) (give (memory.Thin None ∷ [])))
+  denotes_null v h = denotes_value v Null _ (give (memory.Thin None ∷ [])) tt tt h refl
+      (gives_at_once n d g scope f b Null (memory.Thin None ∷ []) (λ k w. (refl, tt)))
 
   pub denotes_variable : Agrees scope.world d → Binds g scope f → (at : ℕ) (x : List ℕ) (o : Option Entry) (v : Value) → MeansPlain scope.world g
       → meant g x ≡ o → variable at o ≡ Of v → Denotes v (entity_sense scope.world (entity_of scope x))
   denotes_variable agrees binds at x None v p m e = absurd cc
   denotes_variable agrees binds at x (Some (OfValue (Stored t r))) v p m e =
       let z : record { at = at; type = t; seat = In r } ≡ v = of_is (record { at = at; type = t; seat = In r }) v e in
-      let it : IsInteger t = p x (OfValue (Stored t r)) m in
+      let it : IsWordType t = p x (OfValue (Stored t r)) m in
       let vt : v.type ≡ t = ap (λ (y : Value). y.type) (sym z) in
       let vs : v.seat ≡ In r = ap (λ (y : Value). y.seat) (sym z) in
+      let bound : Bound g.regions.count f (entity_of scope x) t r = binds.variables x t r m in
       record {
-        plain = subst (λ (y : StaticType). IsPlain y) (sym vt) (integer_plain t it);
+        simple = subst (λ (y : StaticType). IsSimple y) (sym vt) (word_simple t it);
+        below = subst (λ (y : StaticType). TypeBelow g.regions.count y) (sym vt) bound.below;
         outside = λ q. cc;
-        place = λ q y. subst (λ (u : StaticType). IsInteger u) (sym vt) it;
+        place = λ q y. (
+          subst (λ (u : StaticType). IsWordType u) (sym vt) it,
+          subst (λ (a : NameOf). Below g.regions.count a) (same r q (sym vs ∙ y)) bound.within,
+        );
         sound = sound_variable n d g scope f b agrees binds x t r v m it vt vs;
       }
+    where
+      same : (r q : NameOf) → In r ≡ In q → r ≡ q
+      same r q e = cc
   denotes_variable agrees binds at x (Some (OfValue (Arrayed t r))) v p m e = absurd (p x (OfValue (Arrayed t r)) m)
   denotes_variable agrees binds at x (Some (OfValue Counter)) v p m e = absurd (p x (OfValue Counter) m)
   denotes_variable agrees binds at x (Some (OfValue Unknown)) v p m e = absurd (p x (OfValue Unknown) m)
@@ -177,7 +254,8 @@ module _ (n : ℕ) (d : Tables) (g : Env) (scope : Scope) (f : NameOf → Region
   denotes_grouped at a v e h z =
       subst (λ (y : Value). Denotes y e) (of_is (record { at = at; type = a.type; seat = a.seat }) v z)
       (record {
-        plain = h.plain;
+        simple = h.simple;
+        below = h.below;
         outside = h.outside;
         place = h.place;
         sound = record { shape = h.sound.shape; value = h.sound.value; look = h.sound.look; place = h.sound.place };
@@ -185,38 +263,131 @@ module _ (n : ℕ) (d : Tables) (g : Env) (scope : Scope) (f : NameOf → Region
 
   -- ---- operators and tests
 
-  pub denotes_applied : (o : Operator) (at : ℕ) (a c v : Value) (x y : Sense) → Denotes a x → Denotes c y → applied_to g o at a.type c.type ≡ Of v
+  -- what an operator gives, by the types of what it takes
+  record Joins (o : Operator) (x y : Sense) (t : StaticType) : Type 0 where
+    simple : IsSimple t
+    below : TypeBelow g.regions.count t
+    shape : operator_shape o x.shape y.shape ≡ shape_of t
+    gives : Gives n d g scope f b t (x.look >>= one >>= λ p. y.look >>= one >>= λ q. steps.memory >>= λ m. need (operated m o p q) >>= λ r. give (r ∷ []))
+
+  compares_pointer : (t : StaticType) → IsSimple t → is_pointer t ≡ true → IsValue t × Compares n d g scope f b t Null × Compares n d g scope f b Null t
+  compares_pointer Int p e = absurd cc
+  compares_pointer Unsigned p e = absurd cc
+  compares_pointer Char p e = absurd cc
+  compares_pointer Void p e = absurd cc
+  compares_pointer Null p e = absurd cc
+  compares_pointer (Thin c r t) p e = (p, compares_with_null n d g scope f b c r t, compares_null_with n d g scope f b c r t)
+  compares_pointer (Fat r t) p e = absurd p
+  compares_pointer (Unique c t) p e = absurd p
+  compares_pointer (Handle r) p e = absurd cc
+  compares_pointer (Key r) p e = absurd cc
+  compares_pointer (Struct tag rs) p e = absurd cc
+  compares_pointer (Union tag rs) p e = absurd cc
+
+  joins_compared : (o : Operator) (x y : Sense) (s t : StaticType) → is_equality o ≡ true → IsValue s → IsValue t → Compares n d g scope f b s t
+      → Shows n d g scope f b s x.look → Shows n d g scope f b t y.look → Joins o x y Int
+  joins_compared o x y s t e is it c hx hy = record {
+    simple = tt;
+    below = tt;
+    shape = equality_shape o x.shape y.shape e;
+    gives = gives_compared n d g scope f b o s t x.look y.look e is it c hx hy;
+  }
+
+  joins_integers : (o : Operator) (x y : Sense) (a c : StaticType) → IsInteger a → IsInteger c → x.shape ≡ shape_of a → y.shape ≡ shape_of c
+      → Shows n d g scope f b a x.look → Shows n d g scope f b c y.look → Joins o x y (on_integers o a c)
+  joins_integers o x y a c ia ic ex ey hx hy =
+      let s : (s : IntegerType) × (a ≡ integer_type s) = integer_is a ia in
+      let t : (s : IntegerType) × (c ≡ integer_type s) = integer_is c ic in
+      let result : IsInteger (on_integers o a c) = subst (λ (u : StaticType). IsInteger (on_integers o u c)) (sym s.1)
+      (subst (λ (u : StaticType). IsInteger (on_integers o (integer_type s.0) u)) (sym t.1) (on_integers_is o s.0 t.0)) in
+      record {
+        simple = word_simple (on_integers o a c) (integer_word (on_integers o a c) result);
+        below = integer_below g.regions.count (on_integers o a c) result;
+        shape = ap (λ (u : Shape). operator_shape o u y.shape) (ex ∙ ap shape_of s.1)
+            ∙ (ap (operator_shape o (shape_of (integer_type s.0))) (ey ∙ ap shape_of t.1)
+            ∙ (operator_shaped o s.0 t.0 ∙ sym (ap (λ (u : StaticType). shape_of (on_integers o u c)) s.1
+            ∙ ap (λ (u : StaticType). shape_of (on_integers o (integer_type s.0) u)) t.1)));
+        gives = gives_applied n d g scope f b o a c x.look y.look ia ic hx hy;
+      }
+
+  joins : g.lenient ≡ false → (o : Operator) (x y : Sense) (a c t : StaticType) → IsSimple a → IsSimple c → x.shape ≡ shape_of a → y.shape ≡ shape_of c
+      → Shows n d g scope f b a x.look → Shows n d g scope f b c y.look → Operates g o a c t → Joins o x y t
+  joins strict o x y a c t p q ex ey hx hy (OnIntegers ia ic) = joins_integers o x y a c ia ic ex ey hx hy
+  joins strict o x y a c t p q ex ey hx hy (OnFat u v) = absurd p
+  joins strict o x y a c t p q ex ey hx hy (WithNull {a = s} e k) =
+      let z : IsValue s × Compares n d g scope f b s Null × Compares n d g scope f b Null s = compares_pointer s p k in
+      joins_compared o x y s Null e z.0 tt z.1 hx hy
+  joins strict o x y a c t p q ex ey hx hy (NullWith {b = s} e k) =
+      let z : IsValue s × Compares n d g scope f b s Null × Compares n d g scope f b Null s = compares_pointer s q k in
+      joins_compared o x y Null s e tt z.0 z.2 hx hy
+  joins strict o x y a c t p q ex ey hx hy (OnThin {n = n1} {m = n2} {r = r1} {q = r2} {t = u} e lr lq z) =
+      joins_compared o x y (Thin n1 r1 u) (Thin n2 r2 u) e p q
+      (compares_thins n d g scope f b n1 n2 r1 r2 u (strictly g r1 strict lr) (strictly g r2 strict lq)) hx hy
+
+  pub denotes_applied : g.lenient ≡ false → (o : Operator) (at : ℕ) (a c v : Value) (x y : Sense) → Denotes a x → Denotes c y → applied_to g o at a.type c.type ≡ Of v
       → Denotes v (applied o x y)
-  denotes_applied o at a c v x y ha hc e =
-      let z : IsInteger a.type × IsInteger c.type × Valued v (on_integers o a.type c.type) = applied_valued g o at a.type c.type v ha.plain hc.plain e in
-      let s : (s : IntegerType) × (a.type ≡ integer_type s) = integer_is a.type z.0 in
-      let t : (s : IntegerType) × (c.type ≡ integer_type s) = integer_is c.type z.1 in
-      denotes_value v (on_integers o a.type c.type) (Rattle.source_meaning.specs.Operators.operator_shape o x.shape y.shape) _
-      (integer_plain (on_integers o a.type c.type) (subst (λ (u : StaticType). IsInteger (on_integers o u c.type)) (sym s.1)
-      (subst (λ (u : StaticType). IsInteger (on_integers o (integer_type s.0) u)) (sym t.1) (on_integers_is o s.0 t.0)))) z.2
-      (ap (λ (u : Shape). Rattle.source_meaning.specs.Operators.operator_shape o u y.shape) (ha.sound.shape ∙ ap shape_of s.1)
-      ∙ (ap (Rattle.source_meaning.specs.Operators.operator_shape o (shape_of (integer_type s.0))) (hc.sound.shape ∙ ap shape_of t.1)
-      ∙ (operator_shaped o s.0 t.0 ∙ sym (ap (λ (u : StaticType). shape_of (on_integers o u c.type)) s.1
-      ∙ ap (λ (u : StaticType). shape_of (on_integers o (integer_type s.0) u)) t.1))))
-      (gives_applied n d g scope f b o a.type c.type x.look y.look z.0 z.1 ha.sound.look hc.sound.look)
+  denotes_applied strict o at a c v x y ha hc e =
+      let z : Joins o x y v.type =
+      joins strict o x y a.type c.type v.type ha.simple hc.simple ha.sound.shape hc.sound.shape ha.sound.look hc.sound.look (applied_to_is g o at a.type c.type v e) in
+      denotes_value v v.type (operator_shape o x.shape y.shape) _ z.simple z.below
+      (record { type = refl; seat = applied_seat g o at a.type c.type v ha.simple hc.simple e }) z.shape z.gives
+
+  -- ---- `*e` and `&e`
+
+  pub denotes_contents : g.lenient ≡ false → Agrees scope.world d → (at : ℕ) (a v : Value) (e : Sense) → Denotes a e → places.contents g at a ≡ Of v
+      → Denotes v (contents scope.world e)
+  denotes_contents strict agrees at a v e h j =
+      let z : Pointed g at a.type v = contents_is g at a.type v h.simple j in
+      subst (λ (y : Value). Denotes y (contents scope.world e)) z.value_is (pointed z)
+    where
+      pointed : (z : Pointed g at a.type v) → Denotes (record { at = at; type = z.to; seat = In z.region }) (contents scope.world e)
+      pointed z =
+          let below : TypeBelow g.regions.count (Thin z.may_be_null z.region z.to) = subst (λ (y : StaticType). TypeBelow g.regions.count y) z.is h.below in
+          let word : IsWordType z.to = subst (λ (y : StaticType). IsSimple y) z.is h.simple in
+          let shows : Shows n d g scope f b (Thin z.may_be_null z.region z.to) e.look = subst (λ (y : StaticType). Shows n d g scope f b y e.look) z.is h.sound.look in
+          record {
+            simple = word_simple z.to word;
+            below = below.1;
+            outside = λ q. cc;
+            place = λ q y. (word, subst (λ (p : NameOf). Below g.regions.count p) (same z.region q y) below.0);
+            sound = sound_placed n d g scope f b agrees (record { at = at; type = z.to; seat = In z.region }) (pointee e.shape) z.region _
+                (ap pointee (h.sound.shape ∙ ap shape_of z.is)) refl (word_copied d f z.to word)
+                (finds_contents n d g scope f b z.may_be_null z.region z.to (length (cells_of scope.world (pointee e.shape))) e.look word (strictly g z.region strict z.live) shows);
+          }
+        where
+          same : (r q : NameOf) → In r ≡ In q → r ≡ q
+          same r q e = cc
+
+  pub denotes_address : (at : ℕ) (a v : Value) (e : Sense) → Denotes a e → places.address at a ≡ Of v → Denotes v (address_of e)
+  denotes_address at a v e h j = by a.seat refl j
+    where
+      by : (s : Seat) → a.seat ≡ s → places.address_of at a.type s ≡ Of v → Denotes v (address_of e)
+      by Nowhere z k = absurd cc
+      by InBlock z k = absurd (h.outside z)
+      by (In r) z k =
+          let word : IsWordType a.type × Below g.regions.count r = h.place r z in
+          denotes_value v (Thin false r a.type) (ThinShape false Shared e.shape) _ word.0 (word.1, h.below) (value_of at (Thin false r a.type) v k)
+          (ap (ThinShape false Shared) h.sound.shape) (gives_address n d g scope f b r a.type e.place (h.sound.place r z))
+
+  -- ---- tests
 
   pub denotes_tested : (v : Value) (act : Act Bool) → Valued v Int → Tells n d g scope f b act → Denotes v (tested act)
-  denotes_tested v act h tells = denotes_value v Int IntShape (act >>= λ t. give (truth_value t ∷ [])) tt h refl (gives_tested n d g scope f b act tells)
+  denotes_tested v act h tells = denotes_value v Int IntShape (act >>= λ t. give (truth_value t ∷ [])) tt tt h refl (gives_tested n d g scope f b act tells)
 
   pub denotes_tells : (a : Value) (e : Sense) → Denotes a e → is_testable a.type ≡ true → Tells n d g scope f b (truth e)
-  denotes_tells a e h t = tells_truth n d g scope f b a.type e (testable_integer a.type h.plain t) h.sound.look
+  denotes_tells a e h t = tells_truth n d g scope f b a.type e (testable_word a.type h.simple t) h.sound.look
 
   -- `-e` and `~e`, as operators on a constant
-  pub denotes_signed : (o : Operator) (at c : ℕ) (a v : Value) (e : Sense)
+  pub denotes_signed : g.lenient ≡ false → (o : Operator) (at c : ℕ) (a v : Value) (e : Sense)
       → ((s : IntegerType) → applied_to g o at Int (integer_type s) ≡ after (if_fits (is_integer (integer_type s)) at (rules.promoted (integer_type s))) (value at))
       → Denotes a e → rules.signed at a ≡ Of v → Denotes v (applied o (constant AsInt c) e)
-  denotes_signed o at c a v e same h j =
+  denotes_signed strict o at c a v e same h j =
       let r : (is_integer a.type ≡ true) × Valued v (rules.promoted a.type) = fitted (is_integer a.type) at at (rules.promoted a.type) v j in
       let s : (s : IntegerType) × (a.type ≡ integer_type s) = integer_is a.type r.0 in
       let k : applied_to g o at Int a.type ≡ after (if_fits (is_integer a.type) at (rules.promoted a.type)) (value at) =
       subst (λ (t : StaticType). applied_to g o at Int t ≡ after (if_fits (is_integer t) at (rules.promoted t)) (value at)) (sym s.1) (same s.0) in
       let zero_value : Value = record { at = at; type = Int; seat = Nowhere } in
-      denotes_applied o at zero_value a v (constant AsInt c) e (denotes_constant AsInt c zero_value (record { type = refl; seat = refl })) h (k ∙ j)
+      denotes_applied strict o at zero_value a v (constant AsInt c) e (denotes_constant AsInt c zero_value (record { type = refl; seat = refl })) h (k ∙ j)
 
   -- ---- assignments
 
@@ -235,11 +406,10 @@ module _ (n : ℕ) (d : Tables) (g : Env) (scope : Scope) (f : NameOf → Region
       by Nowhere z = absurd (let q : is_place to.seat ≡ true = rules_say.0 in let u = ap is_place z in cc)
       by InBlock z = absurd (ht.outside z)
       by (In r) z =
-          let it : IsInteger to.type = ht.place r z in
-          let jf : IsInteger from.type = converts_integer g.regions from.type to.type it rules_say.1 in
-          denotes_value v to.type x.shape _ (integer_plain to.type it)
-          (record { type = rules_say.2 ∙ assigned_plain g to.type it; seat = valued (is_place to.seat) e }) ht.sound.shape
-          (gives_assigned n d g scope f b from.type to.type r x y jf it hf.sound.shape ht.sound.shape hf.sound.value (ht.sound.place r z))
+          let it : IsWordType to.type = (ht.place r z).0 in
+          denotes_value v to.type x.shape _ (word_simple to.type it) ht.below
+          (record { type = rules_say.2 ∙ assigned_word g to.type it; seat = valued (is_place to.seat) e }) ht.sound.shape
+          (gives_assigned n d g scope f b from.type to.type r x y hf.simple it rules_say.1 hf.sound.shape ht.sound.shape hf.sound.value (ht.sound.place r z))
 
   -- ---- arguments
 
@@ -248,23 +418,29 @@ module _ (n : ℕ) (d : Tables) (g : Env) (scope : Scope) (f : NameOf → Region
   AllDenote (v ∷ vs) (e ∷ es) = Denotes v e × AllDenote vs es
   AllDenote _ _ = ⊥
 
-  -- one that converts to an integer
-  pub passes : (v : Value) (e : Sense) (t : StaticType) → IsInteger t → IsInteger v.type → Denotes v e
-      → Gives n d g scope f b t (e.value >>= converted scope.world (shape_of t) e.shape)
-  passes v e t it iv h = subst (λ (s : Shape). Gives n d g scope f b t (e.value >>= converted scope.world (shape_of t) s)) (sym h.sound.shape)
-      (λ k w m i x. record {
-        by = λ next q. (runs_converted n d g scope f b v.type t e.value (λ vs. give vs) k w m (λ vs. After d k b w m (λ w' m'. HaveTypes d w' (flying k 0) vs (cells_type d f t))) iv it h.sound.value i x
-            (λ vs w1 m1 i1 g1 typed. record { by = λ next2 q2. q2 vs m1 (record { ghost = w1; inv = i1; grows = g1; holds = typed w1 (flying k 0) }) })).by next q;
-      })
+  pub values_below : (vs : List Value) (es : List Sense) → AllDenote vs es → ValuesBelow g.regions.count vs
+  values_below [] [] h = tt
+  values_below (v ∷ vs) (e ∷ es) h = (h.0.below, values_below vs es h.1)
+  values_below [] (e ∷ es) h = absurd h
+  values_below (v ∷ vs) [] h = absurd h
 
-  pub all_pass : (rs : List NameOf) (ts : List StaticType) (vs : List Value) (es : List Sense) → AreIntegers ts
+  -- one that converts to a word, whose region variables stand for these
+  pub passes : (v : Value) (e : Sense) (rs : List NameOf) (t : StaticType) → IsWordType t → Converts g.regions v.type (renamed (argument rs) t) → Denotes v e
+      → Gives n d g scope f b (renamed (argument rs) t) (e.value >>= converted scope.world (shape_of t) e.shape)
+  passes v e rs t it conv h =
+      subst (λ (s : Shape). Gives n d g scope f b (renamed (argument rs) t) (e.value >>= converted scope.world (shape_of t) s)) (sym h.sound.shape)
+      (subst (λ (s : Shape). Gives n d g scope f b (renamed (argument rs) t) (e.value >>= converted scope.world s (shape_of v.type))) (shape_renamed (argument rs) t)
+      (λ k w m i x. record {
+        by = λ next q. (runs_converted n d g scope f b v.type (renamed (argument rs) t) e.value (λ vs. give vs) k w m
+            (λ vs. After d k b w m (λ w' m'. HaveTypes d w' (flying k 0) vs (cells_type d f (renamed (argument rs) t)))) h.simple (word_renamed (argument rs) t it) conv h.sound.value i x
+            (λ vs w1 m1 i1 g1 typed. record { by = λ next2 q2. q2 vs m1 (record { ghost = w1; inv = i1; grows = g1; holds = typed }) })).by next q;
+      }))
+
+  pub all_pass : (rs : List NameOf) (ts : List StaticType) (vs : List Value) (es : List Sense) → AreWords ts
       → length (map (λ (t : StaticType). Some t) ts) ≡ length vs → AllConvert g rs (map (λ (t : StaticType). Some t) ts) vs → AllDenote vs es
-      → AllPass n d g scope f b (map shape_of ts) ts es
+      → AllPass n d g scope f b (map shape_of ts) (map (renamed (argument rs)) ts) es
   all_pass rs [] [] [] i c a h = tt
-  all_pass rs (t ∷ ts) (v ∷ vs) (e ∷ es) i c a h =
-      let same : renamed (argument rs) t ≡ t = plain_itself (argument rs) t (integer_plain t i.0) in
-      let conv : Converts g.regions v.type t = subst (λ (y : StaticType). Converts g.regions v.type y) same a.0 in
-      (passes v e t i.0 (converts_integer g.regions v.type t i.0 conv) h.0, all_pass rs ts vs es i.1 (omega (arith, c)) a.1 h.1)
+  all_pass rs (t ∷ ts) (v ∷ vs) (e ∷ es) i c a h = (passes v e rs t i.0 a.0 h.0, all_pass rs ts vs es i.1 (omega (arith, c)) a.1 h.1)
   all_pass rs [] [] (e ∷ es) i c a h = absurd h
   all_pass rs [] (v ∷ vs) es i c a h = absurd (omega (arith, c))
   all_pass rs (t ∷ ts) [] es i c a h = absurd (omega (arith, c))

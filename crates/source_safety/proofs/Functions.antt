@@ -1,4 +1,4 @@
--- A function of integers that is in order runs safely, whoever calls it.
+-- A function that is in order runs safely, whoever calls it.
 use Rattle.std.proofs.Common.{◌≡◌, ℕ, ◌+◌, Bool, true, Some, List, [], refl, sym, ◌∙◌, ap, subst, arith}
 use Rattle.std.specs.Prelude.{if◌then◌else◌}
 use Rattle.std.proofs.lemmas.Bool.{eq-eqb}
@@ -8,20 +8,20 @@ use Rattle.source_meaning.specs.Places.{bound_to}
 use Rattle.source_typing.specs.Regions.{Regions, TheHeap, Level, with_scope}
 use Rattle.source_typing.specs.Scope.{with_locals, meant, block_entered}
 use Rattle.source_typing.specs.Tables as typing
-use Rattle.source_typing.specs.Tables.{Entry, OfValue, OfFunction, Stored, Signature, find}
-use Rattle.source_typing.specs.Types.{StaticType, renamed, shape_of}
+use Rattle.source_typing.specs.Tables.{OfValue, OfFunction, Stored, Signature, find}
+use Rattle.source_typing.specs.Types.{StaticType, renamed}
 use Rattle.source_safety.specs.Flat.{Tables, flat}
 pub use Rattle.source_safety.specs.Programs.{FunctionJudged}
 use Rattle.source_safety.proofs.Invariant.{RunType, heap, Ghost, Laid, Inv}
 use Rattle.source_safety.proofs.Values.{laid_kept}
 use Rattle.source_safety.proofs.Scopes.{block_ghost, block_memory, frame_births}
 use Rattle.source_safety.proofs.Arguments.{Agrees}
-use Rattle.source_safety.proofs.Names.{NameOf, Below, NamesOk, naming, names_scope, names_entry}
-use Rattle.source_safety.proofs.Scenes.{Bound, bound_alike, Binds, Globals, globals_later, Scene, scene_later}
-use Rattle.source_safety.proofs.Entries.{Function, PlainTables, run_type}
-use Rattle.source_safety.proofs.Surroundings.{Surrounds, below_up, type_up, naming_alike, naming_itself}
+use Rattle.source_safety.proofs.Names.{NameOf, Below, NamesOk, naming, names_scope, names_entered}
+use Rattle.source_safety.proofs.Scenes.{TypeBelow, Alike, renamed_alike, Bound, bound_alike, Globals, Scene}
+use Rattle.source_safety.proofs.Entries.{Function, PlainTables, run_type, Enters}
+use Rattle.source_safety.proofs.Surroundings.{ResultIs, Surrounds, below_zero, type_up, type_zero, naming_alike, naming_itself}
 
--- What holds of the program: its names are of integers, its globals lie in the heap, and its functions are in order.
+-- What holds of the program: its names are of words, its globals lie in the heap, and its functions are in order.
 pub record Sources (d : Tables) (world : World) (tables : typing.Tables) : Type 0 where
   pub agrees : Agrees world d
   pub plain : PlainTables world tables
@@ -29,72 +29,86 @@ pub record Sources (d : Tables) (world : World) (tables : typing.Tables) : Type 
   pub functions : (x : List ℕ) (s : Signature) (F : Function world x s) → find tables x ≡ Some (OfFunction s) → FunctionJudged world tables x s F
 
 module _ (d : Tables) (world : World) (tables : typing.Tables) (sources : Sources d world tables) (x : List ℕ) (s : Signature) (F : Function world x s)
-    (judged : FunctionJudged world tables x s F) (a : ℕ) where
-  -- where the body begins
-  abbrev pub entry_scope : Scope
-  entry_scope = record { world = world; locals = []; frame = a; result = F.routine.result }
+    (judged : FunctionJudged world tables x s F) (h : NameOf → Region) (heap_is : h TheHeap ≡ heap) (a : ℕ)
+  where
+    -- where the body begins
+    abbrev pub entry_scope : Scope
+    entry_scope = record { world = world; locals = []; frame = a; result = F.routine.result }
 
-  abbrev pub entry_names : NameOf → Region
-  entry_names = naming (λ c. heap) judged.outside.regions.count (Frame a)
+    abbrev pub entry_names : NameOf → Region
+    entry_names = naming h judged.outside.regions.count (Frame a)
 
-  none_before : judged.outside.regions.count ≡ 0
-  none_before = ap (λ (r : Regions). r.count) judged.regions
+    -- so many region variables
+    pub count_is : judged.outside.regions.count ≡ s.regions
+    count_is = ap (λ (r : Regions). r.count) judged.regions
 
-  means : (y : List ℕ) → meant (block_entered judged.outside) y ≡ find tables y
-  means y = ap (λ ls. find (with_locals ls judged.outside.tables) y) judged.locals ∙ ap (λ (t : typing.Tables). find t y) judged.tables_are
+    pub means : (y : List ℕ) → meant (block_entered judged.outside) y ≡ find tables y
+    means y = ap (λ ls. find (with_locals ls judged.outside.tables) y) judged.locals ∙ ap (λ (t : typing.Tables). find t y) judged.tables_are
 
-  global_bound : (y : List ℕ) (u : StaticType) (r : NameOf) → find tables y ≡ Some (OfValue (Stored u r))
-      → Bound judged.outside.regions.count (λ c. heap) (bound_to world.globals y) u r
-  global_bound y u r e = subst (λ (n : ℕ). Bound n (λ c. heap) (bound_to world.globals y) u r) (sym none_before) (sources.globals y u r e)
+    heap_alone : (r : NameOf) → Below 0 r → r ≡ TheHeap
+    heap_alone TheHeap l = refl
+    heap_alone (Level k) l = absurd (omega (arith, l))
 
-  heap_is : (r : NameOf) → Below 0 r → r ≡ TheHeap
-  heap_is TheHeap l = refl
-  heap_is (Level k) l = absurd (omega (arith, l))
+    pub heap_alike : Alike 0 (λ c. heap) entry_names
+    heap_alike TheHeap l = heap_is
+    heap_alike (Level k) l = absurd (omega (arith, l))
 
-  heap_live : judged.outside.regions.live TheHeap ≡ true
-  heap_live = ap (λ (r : Regions). r.live TheHeap) judged.regions
+    pub variables_alike : Alike s.regions h entry_names
+    variables_alike = subst (λ (n : ℕ). Alike n h entry_names) count_is (naming_alike h judged.outside.regions.count (Frame a))
 
-  pub surrounds_entry : Surrounds d world tables (block_entered judged.outside) entry_scope entry_names
-  surrounds_entry = record {
-    tables_are = judged.tables_are;
-    world_is = refl;
-    agrees = sources.agrees;
-    binds = record {
-      variables = λ y u r e.
-          bound_alike judged.outside.regions.count (judged.outside.regions.count + 1) (λ c. heap) entry_names (bound_to world.globals y) u r
-          (below_up judged.outside.regions.count) (type_up judged.outside.regions.count) (naming_alike (λ c. heap) judged.outside.regions.count (Frame a))
-          (global_bound y u r (sym (means y) ∙ e));
-      live = λ y u r e.
-          subst (λ (q : NameOf). (with_scope judged.outside.regions).live q ≡ true) (sym (heap_is r (sources.globals y u r (sym (means y) ∙ e)).within)) heap_live;
-      globals = λ y u r e. sources.globals y u r (subst (λ (t : typing.Tables). find t y ≡ Some (OfValue (Stored u r))) judged.tables_are e);
-    };
-    plain = λ y e z. sources.plain y e (sym (means y) ∙ z);
-    functions = λ y c z. ap (λ (t : typing.Tables). find t y) judged.tables_are ∙ (sym (means y) ∙ z);
-    result = λ t e. F.shape ∙ ap shape_of (let q : Some F.gives ≡ Some t = sym judged.result ∙ e in some_is F.gives t q);
-    frame = naming_itself (λ c. heap) judged.outside.regions.count (Frame a);
-    frame_lives = ap (λ (c : Bool). if c then true else judged.outside.regions.live (Level judged.outside.regions.count)) (eq-eqb judged.outside.regions.count judged.outside.regions.count refl);
-    frame_below = omega arith;
-  }
-    where
-      some_is : (t u : StaticType) → Some t ≡ Some u → t ≡ u
-      some_is t u e = cc
+    heap_live : judged.outside.regions.live TheHeap ≡ true
+    heap_live = ap (λ (r : Regions). r.live TheHeap) judged.regions
+
+    result_is : (t : StaticType) → F.gives ≡ t → ResultIs (block_entered judged.outside) entry_scope entry_names (renamed h F.gives) t
+    result_is t e = subst (λ (u : StaticType). ResultIs (block_entered judged.outside) entry_scope entry_names (renamed h F.gives) u) e (record {
+      shape = F.shape;
+      below = type_up judged.outside.regions.count F.gives (subst (λ (n : ℕ). TypeBelow n F.gives) (sym count_is) judged.gives_below);
+      run = renamed_alike s.regions h entry_names F.gives variables_alike judged.gives_below;
+    })
+
+    pub surrounds_entry : Surrounds d world tables (block_entered judged.outside) entry_scope entry_names (renamed h F.gives)
+    surrounds_entry = record {
+      tables_are = judged.tables_are;
+      world_is = refl;
+      agrees = sources.agrees;
+      binds = record {
+        variables = λ y u r e.
+            bound_alike 0 (judged.outside.regions.count + 1) (λ c. heap) entry_names (bound_to world.globals y) u r (below_zero (judged.outside.regions.count + 1))
+            (type_zero (judged.outside.regions.count + 1)) heap_alike (sources.globals y u r (sym (means y) ∙ e));
+        live = λ y u r e.
+            subst (λ (q : NameOf). (with_scope judged.outside.regions).live q ≡ true) (sym (heap_alone r (sources.globals y u r (sym (means y) ∙ e)).within)) heap_live;
+        globals = λ y u r e. sources.globals y u r (subst (λ (t : typing.Tables). find t y ≡ Some (OfValue (Stored u r))) judged.tables_are e);
+      };
+      plain = λ y e z. sources.plain y e (sym (means y) ∙ z);
+      functions = λ y c z. ap (λ (t : typing.Tables). find t y) judged.tables_are ∙ (sym (means y) ∙ z);
+      result = λ t e. result_is t (let q : Some F.gives ≡ Some t = sym judged.result ∙ e in some_is F.gives t q);
+      strict = judged.strict;
+      inside = judged.enclosing;
+      frame = naming_itself h judged.outside.regions.count (Frame a);
+      frame_lives = ap (λ (c : Bool). if c then true else judged.outside.regions.live (Level judged.outside.regions.count)) (eq-eqb judged.outside.regions.count judged.outside.regions.count refl);
+      frame_below = omega arith;
+    }
+      where
+        some_is : (t u : StaticType) → Some t ≡ Some u → t ≡ u
+        some_is t u e = cc
 
 -- the scene where the body begins
 pub scene_entry : (d : Tables) (world : World) (tables : typing.Tables) (sources : Sources d world tables) (x : List ℕ) (s : Signature) (F : Function world x s)
-    (judged : FunctionJudged world tables x s F) (k : ℕ) (w : Ghost) (m : Memory) → Inv d w m → Globals d tables world w
-    → Scene d (block_entered judged.outside) (entry_scope d world tables sources x s F judged m.activations)
-    (entry_names d world tables sources x s F judged m.activations) m.activations k (block_ghost w m) (block_memory m)
-scene_entry d world tables sources x s F judged k w m i h = record {
-  names = names_scope d judged.outside.regions (λ c. heap) k w m (m.activations + 1) m.births (Frame m.activations) i (frame_births d w m i)
-      (subst (λ (r : Regions). NamesOk r (λ c. heap) k w m) (sym judged.regions) (names_entry d k w m i));
+    (judged : FunctionJudged world tables x s F) (h : NameOf → Region) (k : ℕ) (w : Ghost) (m : Memory) → Inv d w m → Globals d tables world w → (e : Enters s h k w m)
+    → Scene d (block_entered judged.outside) (entry_scope d world tables sources x s F judged h e.heap_is m.activations)
+    (entry_names d world tables sources x s F judged h e.heap_is m.activations) m.activations k (block_ghost w m) (block_memory m)
+scene_entry d world tables sources x s F judged h k w m i globals enters = record {
+  names = names_scope d judged.outside.regions h k w m (m.activations + 1) m.births (Frame m.activations) i (frame_births d w m i)
+      (subst (λ (r : Regions). NamesOk r h k w m) (sym judged.regions)
+      (names_entered d h k w m i enters.heap_is enters.known s.regions s.effect s.bounds judged.effect_below judged.bounds_below enters.effect enters.bounds));
   base = omega arith;
   variables = λ y u r at e q.
-      let same : renamed (naming (λ (c : NameOf). heap) judged.outside.regions.count (Frame m.activations)) u ≡ run_type u =
-      Rattle.source_safety.proofs.Scenes.renamed_alike judged.outside.regions.count (λ c. heap) (naming (λ c. heap) judged.outside.regions.count (Frame m.activations)) u
-      (naming_alike (λ c. heap) judged.outside.regions.count (Frame m.activations))
-      (global_bound d world tables sources x s F judged m.activations y u r (sym (means d world tables sources x s F judged m.activations y) ∙ e)).below in
+      let there : find tables y ≡ Some (OfValue (Stored u r)) = sym (means d world tables sources x s F judged h enters.heap_is m.activations y) ∙ e in
+      let same : renamed (naming h judged.outside.regions.count (Frame m.activations)) u ≡ run_type u =
+      renamed_alike 0 (λ c. heap) (naming h judged.outside.regions.count (Frame m.activations)) u
+      (heap_alike d world tables sources x s F judged h enters.heap_is m.activations) (sources.globals y u r there).below in
       subst (λ (t : RunType). Laid (block_ghost w m) at (flat heap d t)) (sym same)
-      (laid_kept w (block_ghost w m) at (flat heap d (run_type u)) (λ p v l. l) (h y u r at (sym (means d world tables sources x s F judged m.activations y) ∙ e) q));
+      (laid_kept w (block_ghost w m) at (flat heap d (run_type u)) (λ p v l. l) (globals y u r at there q));
   globals = λ y u r at e q. laid_kept w (block_ghost w m) at (flat heap d (renamed (λ c. heap) u)) (λ p v l. l)
-      (h y u r at (subst (λ (t : typing.Tables). find t y ≡ Some (OfValue (Stored u r))) judged.tables_are e) q);
+      (globals y u r at (subst (λ (t : typing.Tables). find t y ≡ Some (OfValue (Stored u r))) judged.tables_are e) q);
 }

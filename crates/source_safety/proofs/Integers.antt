@@ -1,8 +1,11 @@
 -- Integers are looked at, tested and joined by operators.
+use Rattle.std.specs.Prelude.{◌%◌}
 use Rattle.std.proofs.Common.{◌≡◌, ℕ, Bool, true, false, List, [], ◌∷◌, refl, sym, ◌∙◌, ap, subst}
 use Rattle.cyc_tree.specs.declared.expression.Operator.{Operator}
 use Rattle.cyc_tree.specs.declared.expression.Operator.TheVariants.{BitOr, BitXor, BitAnd, Equal, NotEqual, Less, LessEqual, Greater, GreaterEqual, ShiftLeft, ShiftRight, Add, Subtract, Multiply, Divide, Remainder}
-use Rattle.source_meaning.specs.Memory.{Region, Scalar, Integer, IntegerType, AsInt, AsUnsigned, AsChar}
+use Rattle.source_meaning.specs.Memory.{Region, Scalar, Integer, IntegerType, AsInt, AsUnsigned, AsChar, Memory}
+use Rattle.source_meaning.specs.Steps.{World, Act, ◌>>=◌}
+use Rattle.source_meaning.specs.Conversions.{converted}
 use Rattle.source_meaning.specs.Operators as meaning
 use Rattle.source_meaning.specs.Operators.{truth_value, operator_shape, integers, is_true}
 use Rattle.source_typing.specs.Converts.{IsInteger}
@@ -161,3 +164,29 @@ joined_typed d f w by o s x t y =
 pub truth_typed : (d : Tables) (f : NameOf → Region) (w : Ghost) (by : ℕ → Owner) (b : Bool) → HaveTypes d w by (truth_value b ∷ []) (cells_type d f Int)
 truth_typed d f w by true = integer_typed d f w by AsInt 1
 truth_typed d f w by false = integer_typed d f w by AsInt 0
+
+-- ---- conversions
+
+-- a value becomes one of the other type, and nothing else happens
+pub record Becomes (d : Tables) (f : NameOf → Region) (world : World) (t u : StaticType) (vs : List Scalar) : Type 1 where
+  pub values : List Scalar
+  pub typed : (w : Ghost) (by : ℕ → _) → HaveTypes d w by values (cells_type d f u)
+  pub at_once : {B : Type 0} (h : List Scalar → Act B) (next : B → Memory → _) (m : Memory)
+      → (converted world (shape_of u) (shape_of t) vs >>= h) next m ≡ h values next m
+
+word_becomes : (d : Tables) (f : NameOf → Region) (world : World) (t : StaticType) (s u : IntegerType) (x : ℕ)
+    → Becomes d f world t (integer_type u) (Integer s x ∷ [])
+word_becomes d f world t s AsInt x =
+    record { values = Integer AsInt x ∷ []; typed = λ w by. integer_typed d f w by AsInt x; at_once = λ h next m. refl }
+word_becomes d f world t s AsUnsigned x =
+    record { values = Integer AsUnsigned x ∷ []; typed = λ w by. integer_typed d f w by AsUnsigned x; at_once = λ h next m. refl }
+word_becomes d f world t s AsChar x =
+    record { values = Integer AsChar (x % 256) ∷ []; typed = λ w by. integer_typed d f w by AsChar (x % 256); at_once = λ h next m. refl }
+
+-- integers convert to each other
+pub integer_becomes : (d : Tables) (f : NameOf → Region) (world : World) (t u : StaticType) (vs : List Scalar) → IsInteger u → IsWord vs t
+    → Becomes d f world t u vs
+integer_becomes d f world t u vs e z =
+    let i : (s : IntegerType) × (u ≡ integer_type s) = integer_is u e in
+    subst (λ (y : StaticType). Becomes d f world t y vs) (sym i.1)
+    (subst (λ (us : List Scalar). Becomes d f world t (integer_type i.0) us) (sym z.is) (word_becomes d f world t z.of i.0 z.word))

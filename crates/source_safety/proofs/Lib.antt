@@ -15,9 +15,13 @@ pub mod Scenes
 pub mod Sound
 pub mod Places
 pub mod Integers
+pub mod Words
+pub mod Converting
+pub mod Pointers
 pub mod Operands
 pub mod Storing
 pub mod Calling
+pub mod Fixed
 pub mod Entries
 pub mod Forms
 pub mod Expressions

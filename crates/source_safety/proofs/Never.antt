@@ -1,34 +1,33 @@
--- A program of integers that is in order is never stuck, on any input, with any fuel.
-use Rattle.std.proofs.Common.{◌≡◌, ℕ, zero, suc, ◌+◌, Bool, true, false, Option, Some, List, [], ◌∷◌, refl, sym, ◌∙◌, ap, subst, arith}
+-- A program that is in order is never stuck, on any input, with any fuel.
+use Rattle.std.proofs.Common.{◌≡◌, ℕ, zero, suc, ◌+◌, Bool, true, false, inl, Option, Some, List, [], ◌∷◌, refl, sym, ◌∙◌, ap, subst, arith}
 use Rattle.std.specs.Prelude.{map, ◌++◌, slice_get, option_and_then, codes, bytes_eq, if◌then◌else◌}
 use Rattle.std.proofs.lemmas.Option.{slice_get_within}
 use Rattle.cyc_tree.specs.Tree as tree
 use Rattle.cyc_tree.specs.Tree.{Item, Program}
 use Rattle.cyc_words.specs.Events.{SourceEnding}
-use Rattle.source_meaning.specs.Shapes.{Layout, settled, written}
+use Rattle.source_meaning.specs.Shapes.{Layout, Shape, IntShape, UnsignedShape, CharShape, ThinShape, settled, written}
 use Rattle.source_meaning.specs.Sizes.{cells_by, struct_cells}
-use Rattle.source_meaning.specs.Memory.{Spot, Scalar, IntegerType, AsInt, AsUnsigned, AsChar, Object, Memory}
+use Rattle.source_meaning.specs.Memory.{Spot, Scalar, Object, Memory}
 use Rattle.source_meaning.specs.Steps.{Entity, Variable, Binding, World, Routine, Stops, ◌>>=◌, need}
 use Rattle.source_meaning.specs.Conversions.{one, integer}
 use Rattle.source_meaning.specs.Places.{bound_to}
 use Rattle.source_meaning.specs.Calls.{function_of}
 use Rattle.source_meaning.specs.Strings.{program_strings}
 use Rattle.source_meaning.specs.Programs.{heap_spot, heap_alone, global_object, global_objects, string_object, world_of, entered, start, source}
-use Rattle.source_typing.specs.Converts.{IsInteger}
 use Rattle.source_typing.specs.Tables as typing
 use Rattle.source_typing.specs.Tables.{OfValue, OfFunction, Stored, Signature, find}
-use Rattle.source_typing.specs.Types.{Int, Unsigned, Char, Void, Null, Thin, Fat, Unique, Handle, Key, Struct, Union, StaticType, integer_type, shape_of}
+use Rattle.source_typing.specs.Types.{Int, Unsigned, Char, Void, Null, Thin, Fat, Unique, Handle, Key, Struct, Union, StaticType, shape_of}
 use Rattle.source_safety.specs.Flat.{Tables, flat}
 pub use Rattle.source_safety.specs.Programs.{GlobalFound, MainFound, ProgramJudged}
 use Rattle.source_safety.proofs.Invariant.{RunType, heap, Reached, Ghost, Laid, HaveTypes, Inv}
 use Rattle.source_safety.proofs.Runs.{Safe, Runs, not_stuck}
 use Rattle.source_safety.proofs.After.{flying}
 use Rattle.source_safety.proofs.Arguments.{Agrees}
-use Rattle.source_safety.proofs.Names.{NameOf}
+use Rattle.source_safety.proofs.Names.{NameOf, AllStand, AllOrdered}
+use Rattle.source_safety.proofs.Births.{known_live}
 use Rattle.source_safety.proofs.Scenes.{Globals}
-use Rattle.source_safety.proofs.Integers.{IsWord, word_of, integer_is}
-use Rattle.source_safety.proofs.Entries.{run_type, Invokes}
-use Rattle.source_safety.proofs.Surroundings.{integer_below}
+use Rattle.source_safety.proofs.Integers.{IsWord, word_of}
+use Rattle.source_safety.proofs.Entries.{IsWordType, run_type, Enters, Invokes}
 use Rattle.source_safety.proofs.Functions.{Sources}
 use Rattle.source_safety.proofs.Entered.{runs_entered, all_fuel}
 use Rattle.source_safety.proofs.First.{first_ghost, first_inv}
@@ -76,54 +75,87 @@ first_ready world (tree.FunctionItem f ∷ items) k os later h = first_ready wor
 
 -- ---- globals by their names
 
-same_integer : (s u : IntegerType) → shape_of (integer_type s) ≡ shape_of (integer_type u) → s ≡ u
-same_integer AsInt AsInt e = refl
-same_integer AsInt AsUnsigned e = absurd cc
-same_integer AsInt AsChar e = absurd cc
-same_integer AsUnsigned AsInt e = absurd cc
-same_integer AsUnsigned AsUnsigned e = refl
-same_integer AsUnsigned AsChar e = absurd cc
-same_integer AsChar AsInt e = absurd cc
-same_integer AsChar AsUnsigned e = absurd cc
-same_integer AsChar AsChar e = refl
+-- the type of a word of a run in which all regions are the heap, by its shape
+abbrev run_shaped : Shape → RunType
+run_shaped IntShape = Int
+run_shaped UnsignedShape = Unsigned
+run_shaped CharShape = Char
+run_shaped (ThinShape n owner to) = Thin n heap (run_shaped to)
+run_shaped _ = Void
 
-typed_entity : (w : Ghost) (u : IntegerType) (at : Spot) (e : Entity) → TypedEntity w e → e ≡ Variable (shape_of (integer_type u)) at
-    → w.types at ≡ Some (Reached (run_type (integer_type u)))
-typed_entity w u at e h q =
-    let both : Variable (shape_of (integer_type h.of)) h.at ≡ Variable (shape_of (integer_type u)) at = sym h.is ∙ q in
-    let shapes : shape_of (integer_type h.of) ≡ shape_of (integer_type u) = cc in
+run_by_shape : (t : StaticType) → IsWordType t → run_type t ≡ run_shaped (shape_of t)
+run_by_shape Int e = refl
+run_by_shape Unsigned e = refl
+run_by_shape Char e = refl
+run_by_shape Void e = absurd e
+run_by_shape Null e = absurd e
+run_by_shape (Thin n r t) e = ap (Thin n heap) (run_by_shape t e)
+run_by_shape (Fat r t) e = absurd e
+run_by_shape (Unique n t) e = absurd e
+run_by_shape (Handle r) e = absurd e
+run_by_shape (Key r) e = absurd e
+run_by_shape (Struct tag rs) e = absurd e
+run_by_shape (Union tag rs) e = absurd e
+
+typed_entity : (w : Ghost) (t : StaticType) (at : Spot) (e : Entity) → IsWordType t → TypedEntity w e → e ≡ Variable (shape_of t) at
+    → w.types at ≡ Some (Reached (run_type t))
+typed_entity w t at e word h q =
+    let both : Variable (shape_of h.type) h.at ≡ Variable (shape_of t) at = sym h.is ∙ q in
+    let shapes : shape_of h.type ≡ shape_of t = cc in
     let spots : h.at ≡ at = cc in
-    subst (λ (s : Spot). w.types s ≡ Some (Reached (run_type (integer_type u)))) spots
-    (subst (λ (s : IntegerType). w.types h.at ≡ Some (Reached (run_type (integer_type s)))) (same_integer h.of u shapes) h.typed)
+    let same : run_type h.type ≡ run_type t = run_by_shape h.type h.word ∙ (ap run_shaped shapes ∙ sym (run_by_shape t word)) in
+    subst (λ (s : Spot). w.types s ≡ Some (Reached (run_type t))) spots (subst (λ (u : RunType). w.types h.at ≡ Some (Reached u)) same h.typed)
 
-typed_global : (w : Ghost) (bs : List Binding) (x : List ℕ) (u : IntegerType) (at : Spot) → EachTyped w bs
-    → bound_to bs x ≡ Some (Variable (shape_of (integer_type u)) at) → w.types at ≡ Some (Reached (run_type (integer_type u)))
-typed_global w [] x u at h e = absurd cc
-typed_global w (b ∷ bs) x u at h e = by (bytes_eq b.name x) (λ q. typed_global w bs x u at h.1 q) e
+typed_global : (w : Ghost) (bs : List Binding) (x : List ℕ) (t : StaticType) (at : Spot) → IsWordType t → EachTyped w bs
+    → bound_to bs x ≡ Some (Variable (shape_of t) at) → w.types at ≡ Some (Reached (run_type t))
+typed_global w [] x t at word h e = absurd cc
+typed_global w (b ∷ bs) x t at word h e = by (bytes_eq b.name x) (λ q. typed_global w bs x t at word h.1 q) e
   where
-    by : (c : Bool) → (bound_to bs x ≡ Some (Variable (shape_of (integer_type u)) at) → w.types at ≡ Some (Reached (run_type (integer_type u))))
-        → (if c then Some b.entity else bound_to bs x) ≡ Some (Variable (shape_of (integer_type u)) at) → w.types at ≡ Some (Reached (run_type (integer_type u)))
-    by true others q = typed_entity w u at b.entity h.0 (let z : b.entity ≡ Variable (shape_of (integer_type u)) at = cc in z)
+    by : (c : Bool) → (bound_to bs x ≡ Some (Variable (shape_of t) at) → w.types at ≡ Some (Reached (run_type t)))
+        → (if c then Some b.entity else bound_to bs x) ≡ Some (Variable (shape_of t) at) → w.types at ≡ Some (Reached (run_type t))
+    by true others q = typed_entity w t at b.entity word h.0 (let z : b.entity ≡ Variable (shape_of t) at = cc in z)
     by false others q = others q
 
-laid_one : (d : Tables) (w : Ghost) (u : IntegerType) (at : Spot) → w.types at ≡ Some (Reached (run_type (integer_type u)))
-    → Laid w at (flat heap d (run_type (integer_type u)))
-laid_one d w AsInt at e = (e, tt)
-laid_one d w AsUnsigned at e = (e, tt)
-laid_one d w AsChar at e = (e, tt)
+laid_one : (d : Tables) (w : Ghost) (t : StaticType) (at : Spot) → IsWordType t → w.types at ≡ Some (Reached (run_type t)) → Laid w at (flat heap d (run_type t))
+laid_one d w Int at word e = (e, tt)
+laid_one d w Unsigned at word e = (e, tt)
+laid_one d w Char at word e = (e, tt)
+laid_one d w Void at word e = absurd word
+laid_one d w Null at word e = absurd word
+laid_one d w (Thin n r t) at word e = (e, tt)
+laid_one d w (Fat r t) at word e = absurd word
+laid_one d w (Unique n t) at word e = absurd word
+laid_one d w (Handle r) at word e = absurd word
+laid_one d w (Key r) at word e = absurd word
+laid_one d w (Struct tag rs) at word e = absurd word
+laid_one d w (Union tag rs) at word e = absurd word
+
+-- a function whose region variables all stand for the heap
+heap_stands : (d : Tables) (w : Ghost) (m : Memory) (rs : List NameOf) → Inv d w m → AllStand (λ a. heap) 0 w m rs
+heap_stands d w m [] i = tt
+heap_stands d w m (r ∷ rs) i = (i.heap_lives, inl i.heap_is_free, heap_stands d w m rs i)
+
+heap_ordered : (d : Tables) (w : Ghost) (m : Memory) (bs : List (NameOf × NameOf)) → Inv d w m → AllOrdered (λ a. heap) w bs
+heap_ordered d w m [] i = tt
+heap_ordered d w m ((a, b) ∷ bs) i = (i.itself heap (known_live d w m heap i i.heap_lives), heap_ordered d w m bs i)
+
+heap_enters : (d : Tables) (s : Signature) (w : Ghost) (m : Memory) → Inv d w m → Enters s (λ a. heap) 0 w m
+heap_enters d s w m i = record {
+  heap_is = refl;
+  known = λ a. known_live d w m heap i i.heap_lives;
+  effect = heap_stands d w m s.effect i;
+  bounds = heap_ordered d w m s.bounds i;
+}
 
 module _ (p : Program) (tables : typing.Tables) (judged : ProgramJudged p tables) where
   abbrev world : World
   world = world_of p
 
-  integer_global : (x : List ℕ) (t : StaticType) (r : NameOf) → find tables x ≡ Some (OfValue (Stored t r)) → IsInteger t
-  integer_global x t r e = judged.plain x (OfValue (Stored t r)) e
+  word_global : (x : List ℕ) (t : StaticType) (r : NameOf) → find tables x ≡ Some (OfValue (Stored t r)) → IsWordType t
+  word_global x t r e = judged.plain x (OfValue (Stored t r)) e
 
   all_globals : (w : Ghost) → EachTyped w world.globals → Globals no_tables tables world w
-  all_globals w h x t r at e q =
-      let i : (s : IntegerType) × (t ≡ integer_type s) = integer_is t (integer_global x t r e) in
-      subst (λ (u : StaticType). Laid w at (flat heap no_tables (run_type u))) (sym i.1)
-      (laid_one no_tables w i.0 at (typed_global w world.globals x i.0 at h (subst (λ (u : StaticType). bound_to world.globals x ≡ Some (Variable (shape_of u) at)) i.1 q)))
+  all_globals w h x t r at e q = laid_one no_tables w t at (word_global x t r e) (typed_global w world.globals x t at (word_global x t r e) h q)
 
   sources : Sources no_tables world tables
   sources = record {
@@ -136,7 +168,7 @@ module _ (p : Program) (tables : typing.Tables) (judged : ProgramJudged p tables
           is = z.is;
           region = refl;
           within = subst (λ (q : NameOf). Rattle.source_safety.proofs.Names.Below 0 q) (sym z.region) tt;
-          below = integer_below 0 t (integer_global x t r e);
+          below = z.below;
         };
     functions = judged.functions;
   }
@@ -148,7 +180,8 @@ module _ (p : Program) (tables : typing.Tables) (judged : ProgramJudged p tables
       let main : MainFound world tables = judged.main in
       let fuel : Invokes n no_tables world tables × Rattle.source_safety.proofs.Flows.Turning n no_tables world tables = all_fuel no_tables world tables sources n in
       let runs = runs_entered n no_tables world tables sources fuel.0 fuel.1 (codes "main") main.signature main.function
-      (judged.functions (codes "main") main.signature main.function main.found) 0 0 w m [] (omega arith) i (all_globals w each)
+      (judged.functions (codes "main") main.signature main.function main.found) (λ a. heap) 0 0 w m [] (omega arith) i (all_globals w each)
+      (heap_enters no_tables main.signature w m i)
       (subst (λ (ts : List StaticType). Rattle.source_safety.proofs.Arguments.Flown no_tables w 0 [] (map run_type ts)) (sym main.types) tt) in
       subst (λ (o : Option Routine). Runs n (need o >>= λ f. entered f world [] >>= one >>= integer) m (λ status m'. Unit {0})) (sym main.function.found)
       (record {

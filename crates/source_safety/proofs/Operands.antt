@@ -1,5 +1,5 @@
--- Operands that are integers: operators and tests run safely.
-use Rattle.std.proofs.Common.{◌≡◌, ℕ, Bool, true, false, List, [], ◌∷◌, sym, ◌∙◌, ap, subst}
+-- Operands: operators on integers and tests run safely.
+use Rattle.std.proofs.Common.{◌≡◌, ℕ, Bool, true, false, Some, List, [], ◌∷◌, sym, ◌∙◌, ap, subst}
 use Rattle.cyc_tree.specs.declared.expression.Operator.{Operator}
 use Rattle.source_meaning.specs.Memory.{Region, Scalar, Integer, IntegerType, Memory}
 use Rattle.source_meaning.specs.Operators.{truth_value, operated, integers, is_true}
@@ -20,6 +20,8 @@ use Rattle.source_safety.proofs.Names.{NameOf}
 use Rattle.source_safety.proofs.Scenes.{Scene, scene_later}
 use Rattle.source_safety.proofs.Sound.{cells_type, Gives, Shows}
 use Rattle.source_safety.proofs.Integers.{IsWord, word_of, joined_typed, truth_typed}
+use Rattle.source_safety.proofs.Words.{IsWordType}
+use Rattle.source_safety.proofs.Pointers.{word_value, truth_known, runs_value}
 
 module _ (n : ℕ) (d : Tables) (g : Env) (scope : Scope) (f : NameOf → Region) (b : ℕ) where
   -- what an integer that is looked at is, and what goes on with it
@@ -62,10 +64,14 @@ module _ (n : ℕ) (d : Tables) (g : Env) (scope : Scope) (f : NameOf → Region
   abbrev pub Tells : Act Bool → Type 0
   Tells act = (k : ℕ) (w : Ghost) (m : Memory) → Inv d w m → Scene d g scope f b k w m → Runs n act m (λ t. After d k b w m (λ w' m'. Unit {0}))
 
-  pub tells_truth : (t : StaticType) (e : Sense) → IsInteger t → Shows n d g scope f b t e.look → Tells (truth e)
+  pub tells_truth : (t : StaticType) (e : Sense) → IsWordType t → Shows n d g scope f b t e.look → Tells (truth e)
   tells_truth t e is h = λ k w m i x.
-      runs_word t e.look (λ v. need (is_true v)) k w m (λ t. After d k b w m (λ w' m'. Unit {0})) is h i x
-      (λ u p w1 m1 z i1 g1. record { by = λ next q. q _ m1 (record { ghost = w1; inv = i1; grows = g1; holds = tt }) })
+      runs_value n d g scope f b t e.look (λ v. need (is_true v)) k w m (λ t. After d k b w m (λ w' m'. Unit {0})) (word_value t is) h i x
+      (λ by v w1 m1 hv i1 g1.
+      let z : (c : Bool) × (is_true v ≡ Some c) = truth_known d f w1 by v t is hv in
+      record {
+        by = λ next q. subst (λ (y : _). Safe n (need y next m1)) (sym z.1) (q z.0 m1 (record { ghost = w1; inv = i1; grows = g1; holds = tt }));
+      })
 
   -- a test, and one of two acts
   pub runs_choose : {B : Type 0} (act : Act Bool) (k : ℕ) (w : Ghost) (m : Memory) (h : Bool → Act B) (Q : B → Memory → Type 0) → Tells act → Inv d w m

@@ -1,5 +1,5 @@
 -- A result lands with its caller, and a function's parameters are in scope.
-use Rattle.std.proofs.Common.{◌≡◌, ℕ, suc, Bool, List, [], ◌∷◌, refl, sym, ◌∙◌, ap, subst}
+use Rattle.std.proofs.Common.{◌≡◌, ℕ, suc, ◌+◌, Bool, List, [], ◌∷◌, refl, sym, ◌∙◌, ap, subst}
 use Rattle.std.specs.Prelude.{map}
 use Rattle.source_meaning.specs.Shapes.{Shape, Part, part_shapes}
 use Rattle.source_meaning.specs.Memory.{Region, Frame, Spot, Scalar, State, Memory}
@@ -9,6 +9,7 @@ use Rattle.source_typing.specs.Scope.{Env}
 use Rattle.source_typing.specs.Tables as typing
 use Rattle.source_typing.specs.Types.{StaticType, renamed, shape_of}
 use Rattle.source_safety.specs.Flat.{Tables, flat}
+use Rattle.source_safety.specs.Named.{TypesBelow}
 use Rattle.source_safety.specs.Judged.{extended}
 pub use Rattle.source_safety.specs.Programs.{name_alone, with_all}
 use Rattle.source_safety.proofs.Invariant as invariant
@@ -19,9 +20,10 @@ use Rattle.source_safety.proofs.Growth.{grows_cells}
 use Rattle.source_safety.proofs.After.{flying}
 use Rattle.source_safety.proofs.Arguments.{Flown, Shaped, Landed, bound_all}
 use Rattle.source_safety.proofs.Names.{NameOf}
-use Rattle.source_safety.proofs.Scenes.{Scene}
-use Rattle.source_safety.proofs.Entries.{AreIntegers, run_type, integer_plain, plain_renamed}
-use Rattle.source_safety.proofs.Surroundings.{Surrounds, surrounds_local, scene_local}
+use Rattle.source_safety.proofs.Scenes.{Alike, renamed_alike, Scene}
+use Rattle.source_safety.proofs.Sound.{shape_renamed}
+use Rattle.source_safety.proofs.Entries.{AreWords}
+use Rattle.source_safety.proofs.Surroundings.{Surrounds, surrounds_local, scene_local, type_up}
 use Rattle.source_safety.proofs.Statements.{full_laid}
 
 -- a result is on its way again once all blocks of the function were left
@@ -79,49 +81,56 @@ flown_moved d k w w' (vs ∷ vss) [] c h = absurd h
 -- ---- parameters
 
 -- shapes of parameters are those of their types
-pub all_shaped : (ps : List Part) (ts : List StaticType) → part_shapes ps ≡ map shape_of ts → AreIntegers ts → Shaped ps (map run_type ts)
-all_shaped [] [] e i = tt
-all_shaped (p ∷ ps) (t ∷ ts) e i =
-    let a : p.shape ≡ shape_of t = cc in let c : part_shapes ps ≡ map shape_of ts = cc in
-    (a ∙ sym (Rattle.source_safety.proofs.Sound.shape_renamed (λ (q : NameOf). heap) t), all_shaped ps ts c i.1)
-all_shaped [] (t ∷ ts) e i = absurd cc
-all_shaped (p ∷ ps) [] e i = absurd cc
+pub all_shaped : (f : NameOf → Region) (ps : List Part) (ts : List StaticType) → part_shapes ps ≡ map shape_of ts → Shaped ps (map (renamed f) ts)
+all_shaped f [] [] e = tt
+all_shaped f (p ∷ ps) (t ∷ ts) e =
+    let a : p.shape ≡ shape_of t = cc in let c : part_shapes ps ≡ map shape_of ts = cc in (a ∙ sym (shape_renamed f t), all_shaped f ps ts c)
+all_shaped f [] (t ∷ ts) e = absurd cc
+all_shaped f (p ∷ ps) [] e = absurd cc
 
-module _ (d : Tables) (world : World) (tables : typing.Tables) (f : NameOf → Region) (a : ℕ) where
+-- types of names that stand for the same
+pub types_alike : (n : ℕ) (f h : NameOf → Region) (ts : List StaticType) → Alike n f h → TypesBelow n ts → map (renamed h) ts ≡ map (renamed f) ts
+types_alike n f h [] e l = refl
+types_alike n f h (t ∷ ts) e l =
+    let a : renamed h t ≡ renamed f t = renamed_alike n f h t e l.0 in let c : map (renamed h) ts ≡ map (renamed f) ts = types_alike n f h ts e l.1 in cc
+
+pub types_up : (n : ℕ) (ts : List StaticType) → TypesBelow n ts → TypesBelow (n + 1) ts
+types_up n [] l = tt
+types_up n (t ∷ ts) l = (type_up n t l.0, types_up n ts l.1)
+
+module _ (d : Tables) (world : World) (tables : typing.Tables) (f : NameOf → Region) (gives : RunType) (a : ℕ) where
   -- what is known once all parameters are in scope
   pub record AllBound (g g' : Env) (scope scope' : Scope) (w : Ghost) (m : Memory) : Type 0 where
-    pub surrounds : Surrounds d world tables g' scope' f
+    pub surrounds : Surrounds d world tables g' scope' f gives
     pub scene : (b k : ℕ) → Scene d g scope f b k w m → Scene d g' scope' f b k w m
     pub in_loop : g'.in_loop ≡ g.in_loop
     pub in_switch : g'.in_switch ≡ g.in_switch
     pub result : g'.result ≡ g.result
 
   pub all_bound : (ps : List Part) (ts : List StaticType) (ss : List Spot) (vss : List (List Scalar)) (g : Env) (scope : Scope) (w : Ghost) (m : Memory)
-      → Surrounds d world tables g scope f → scope.frame ≡ a → AreIntegers ts → part_shapes ps ≡ map shape_of ts
-      → Landed d (λ t u. Reached u) a w m ss (map run_type ts) vss → AllBound g (with_all ps ts g) scope (bound_all scope ps ss) w m
-  all_bound [] [] [] [] g scope w m h at_frame i e l = record { surrounds = h; scene = λ b k z. z; in_loop = refl; in_switch = refl; result = refl }
-  all_bound (p ∷ ps) (t ∷ ts) (s ∷ ss) (vs ∷ vss) g scope w m h at_frame i e l =
+      → Surrounds d world tables g scope f gives → scope.frame ≡ a → AreWords ts → TypesBelow g.regions.count ts → part_shapes ps ≡ map shape_of ts
+      → Landed d (λ t u. Reached u) a w m ss (map (renamed f) ts) vss → AllBound g (with_all ps ts g) scope (bound_all scope ps ss) w m
+  all_bound [] [] [] [] g scope w m h at_frame i q e l = record { surrounds = h; scene = λ b k z. z; in_loop = refl; in_switch = refl; result = refl }
+  all_bound (p ∷ ps) (t ∷ ts) (s ∷ ss) (vs ∷ vss) g scope w m h at_frame i q e l =
       let shape : shape_of t ≡ p.shape = cc in
       let others : part_shapes ps ≡ map shape_of ts = cc in
       let there : s.region ≡ Frame scope.frame = l.0 ∙ ap (λ (j : ℕ). Frame j) (sym at_frame) in
-      let laid : Laid w s (flat heap d (renamed f t)) =
-      subst (λ (u : RunType). Laid w s (flat heap d u)) (plain_renamed (λ (q : NameOf). heap) f t (integer_plain t i.0))
-      (full_laid w m s (flat heap d (run_type t)) vs l.1) in
-      let h1 = surrounds_local d world tables g scope f (name_alone p.name) t s h i.0 there in
+      let laid : Laid w s (flat heap d (renamed f t)) = full_laid w m s (flat heap d (renamed f t)) vs l.1 in
+      let h1 = surrounds_local d world tables g scope f (name_alone p.name) t s gives h i.0 q.0 there in
       let r : AllBound (extended g (name_alone p.name) t) (with_all ps ts (extended g (name_alone p.name) t)) (with_binding scope p.name (Variable (shape_of t) s))
       (bound_all (with_binding scope p.name (Variable (shape_of t) s)) ps ss) w m =
-      all_bound ps ts ss vss (extended g (name_alone p.name) t) (with_binding scope p.name (Variable (shape_of t) s)) w m h1 at_frame i.1 others l.2 in
+      all_bound ps ts ss vss (extended g (name_alone p.name) t) (with_binding scope p.name (Variable (shape_of t) s)) w m h1 at_frame i.1 q.1 others l.2 in
       subst (λ (y : Shape). AllBound g (with_all ps ts (extended g (name_alone p.name) t)) scope (bound_all (with_binding scope p.name (Variable y s)) ps ss) w m) shape
       (record {
         surrounds = r.surrounds;
-        scene = λ b k z. r.scene b k (scene_local d world tables g scope f (name_alone p.name) t s h i.0 there b k w m z laid);
+        scene = λ b k z. r.scene b k (scene_local d world tables g scope f (name_alone p.name) t s gives h i.0 q.0 there b k w m z laid);
         in_loop = r.in_loop;
         in_switch = r.in_switch;
         result = r.result;
       })
-  all_bound [] (t ∷ ts) ss vss g scope w m h at_frame i e l = absurd cc
-  all_bound (p ∷ ps) [] ss vss g scope w m h at_frame i e l = absurd cc
-  all_bound [] [] (s ∷ ss) vss g scope w m h at_frame i e l = absurd l
-  all_bound [] [] [] (vs ∷ vss) g scope w m h at_frame i e l = absurd l
-  all_bound (p ∷ ps) (t ∷ ts) [] vss g scope w m h at_frame i e l = absurd l
-  all_bound (p ∷ ps) (t ∷ ts) (s ∷ ss) [] g scope w m h at_frame i e l = absurd l
+  all_bound [] (t ∷ ts) ss vss g scope w m h at_frame i q e l = absurd cc
+  all_bound (p ∷ ps) [] ss vss g scope w m h at_frame i q e l = absurd cc
+  all_bound [] [] (s ∷ ss) vss g scope w m h at_frame i q e l = absurd l
+  all_bound [] [] [] (vs ∷ vss) g scope w m h at_frame i q e l = absurd l
+  all_bound (p ∷ ps) (t ∷ ts) [] vss g scope w m h at_frame i q e l = absurd l
+  all_bound (p ∷ ps) (t ∷ ts) (s ∷ ss) [] g scope w m h at_frame i q e l = absurd l

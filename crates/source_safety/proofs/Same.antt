@@ -10,6 +10,7 @@ use Rattle.source_typing.specs.Types.{StaticType, Int, Void}
 use Rattle.source_typing.specs.Ways.{ways_of_items}
 use Rattle.source_safety.specs.Entries.{Function}
 use Rattle.source_safety.specs.Judged.{ItemsJudged}
+use Rattle.source_safety.specs.Named.{TypeBelow, TypesBelow}
 use Rattle.source_safety.specs.Programs.{with_all, FunctionJudged}
 
 pub some_is : {A : Type 0} (a c : A) → Some a ≡ Some c → a ≡ c
@@ -33,6 +34,12 @@ judged_same world tables x s F H j =
       tables_are = j.tables_are;
       locals = j.locals;
       regions = j.regions;
+      strict = j.strict;
+      enclosing = j.enclosing;
+      takes_below = subst (λ (ts : List StaticType). TypesBelow s.regions ts) types j.takes_below;
+      gives_below = subst (λ (t : StaticType). TypeBelow s.regions t) gives j.gives_below;
+      effect_below = j.effect_below;
+      bounds_below = j.bounds_below;
       result = j.result ∙ ap (λ t. Some t) gives;
       no_loop = j.no_loop;
       no_switch = j.no_switch;

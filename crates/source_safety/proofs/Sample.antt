@@ -1,5 +1,5 @@
 -- A program that is in order, by the rules' own tables of its names: `int main() { return 0; }`.
-use Rattle.std.proofs.Common.{◌≡◌, ℕ, Bool, true, false, ◌⊎◌, inl, inr, Option, Some, None, List, [], ◌∷◌, refl, sym, ◌∙◌, ap, subst}
+use Rattle.std.proofs.Common.{◌≡◌, ℕ, Bool, true, false, inl, inr, Option, Some, None, List, [], ◌∷◌, refl, subst}
 use Rattle.std.specs.Prelude.{bytes_eq, codes, if◌then◌else◌}
 use Rattle.std.proofs.lemmas.Slice.Eq.{bytes_eq-Decides}
 use Rattle.std.proofs.lemmas.Bool.{false≢true}
@@ -10,7 +10,7 @@ use Rattle.source_meaning.specs.Programs.{world_of}
 use Rattle.source_typing.specs.Converts.{Integers}
 use Rattle.source_typing.specs.Programs.{tables_of}
 use Rattle.source_typing.specs.Regions.{entry_regions}
-use Rattle.source_typing.specs.Scope.{Env, Nowhere, at_item}
+use Rattle.source_typing.specs.Scope.{Nowhere, at_item}
 use Rattle.source_typing.specs.Tables as typing
 use Rattle.source_typing.specs.Tables.{Entry, OfValue, OfFunction, OfBuiltin, Stored, Signature, find}
 use Rattle.source_typing.specs.Types.{StaticType, Int}
@@ -51,7 +51,7 @@ main_function = record {
   types = [];
   parameters = refl;
   shapes = refl;
-  integers = tt;
+  words = tt;
   gives = Int;
   result = refl;
   shape = refl;
@@ -64,6 +64,12 @@ main_judged = record {
   tables_are = refl;
   locals = refl;
   regions = refl;
+  strict = refl;
+  enclosing = refl;
+  takes_below = tt;
+  gives_below = tt;
+  effect_below = tt;
+  bounds_below = tt;
   result = refl;
   no_loop = refl;
   no_switch = refl;
@@ -71,7 +77,7 @@ main_judged = record {
     record {
       gives = Int;
       result = refl;
-      integer = refl;
+      word = tt;
       fitting = record {
         accepted = record { value = record { at = 20; type = Int; seat = Nowhere }; judged = refl; is_taken = refl; operands = tt };
         converts = Integers refl refl;

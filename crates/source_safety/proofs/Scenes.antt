@@ -9,31 +9,13 @@ use Rattle.source_typing.specs.Tables as typing
 use Rattle.source_typing.specs.Tables.{OfValue, Stored, find}
 use Rattle.source_typing.specs.Types.{Int, Unsigned, Char, Void, Null, Thin, Fat, Unique, Handle, Key, Struct, Union, StaticType, renamed, shape_of}
 use Rattle.source_safety.specs.Flat.{Tables, flat}
+pub use Rattle.source_safety.specs.Named.{AllBelow, TypeBelow}
 use Rattle.source_safety.proofs.Invariant.{heap, Reached, Ghost, Laid, Inv, Grows}
 use Rattle.source_safety.proofs.Values.{laid_kept}
 use Rattle.source_safety.proofs.Names.{NameOf, Below, NamesOk, names_later, names_more}
 use Rattle.source_safety.proofs.After.{base_later}
 
 -- ---- types speak of names that were declared
-
-abbrev pub AllBelow : ℕ → List NameOf → Type 0
-AllBelow n [] = Unit {0}
-AllBelow n (r ∷ rs) = Below n r × AllBelow n rs
-
--- all region names of a type were declared before so many
-abbrev pub TypeBelow : ℕ → StaticType → Type 0
-TypeBelow n Int = Unit {0}
-TypeBelow n Unsigned = Unit {0}
-TypeBelow n Char = Unit {0}
-TypeBelow n Void = Unit {0}
-TypeBelow n Null = Unit {0}
-TypeBelow n (Thin b r t) = Below n r × TypeBelow n t
-TypeBelow n (Fat r t) = Below n r × TypeBelow n t
-TypeBelow n (Unique b t) = TypeBelow n t
-TypeBelow n (Handle r) = Below n r
-TypeBelow n (Key r) = Below n r
-TypeBelow n (Struct tag rs) = AllBelow n rs
-TypeBelow n (Union tag rs) = AllBelow n rs
 
 -- names that were declared stand for the same in both
 abbrev pub Alike : ℕ → (NameOf → Region) → (NameOf → Region) → Type 0

@@ -1,24 +1,26 @@
--- Which statements of integers are in order: the judgement of each of their expressions, in the scope where it stands.
+-- Which statements of integers and thin pointers are in order: the judgement of each of their expressions, in the scope where it stands.
 use Rattle.std.specs.Prelude.{◌≡◌, true, ◌||◌, Some, None, ◌∷◌}
 use Rattle.cyc_tree.specs.Operands.{ExpressionHasOperands}
 use Rattle.cyc_tree.specs.Tree as tree
 use Rattle.cyc_tree.specs.Tree.{Expression, Initializer, Statement, BlockItems, NoItems, Declare, Execute, TypeName}
 use Rattle.source_meaning.specs.Shapes.{written, settled, settled_by}
-use Rattle.source_typing.specs.Converts.{Converts, IsInteger}
+use Rattle.source_typing.specs.Converts.{Converts}
 use Rattle.source_typing.specs.Declarations.{declare}
 use Rattle.source_typing.specs.Expressions.{judge}
 use Rattle.source_typing.specs.Scope.{Env, Value, block_entered}
 use Rattle.source_typing.specs.Statements.{in_a_loop}
 use Rattle.source_typing.specs.Tables.{Stored}
-use Rattle.source_typing.specs.Taken.{integers, taken}
+use Rattle.source_typing.specs.Taken.{thin_pointers, taken}
 use Rattle.source_typing.specs.Types.{StaticType, Void, is_testable, shape_of}
 use Rattle.source_typing.specs.Verdicts.{Of}
+use Rattle.source_safety.specs.Entries.{IsWordType, Begins}
+use Rattle.source_safety.specs.Named.{TypeBelow}
 
--- an expression of integers that is in order, and what it is
+-- an expression of these forms that is in order, and what it is
 pub record Accepted (g : Env) (e : Expression) : Type 0 where
   pub value : Value
   pub judged : judge g e ≡ Of value
-  pub is_taken : taken integers e ≡ e
+  pub is_taken : taken thin_pointers e ≡ e
   pub operands : ExpressionHasOperands e
 
 -- a condition
@@ -35,17 +37,20 @@ pub record Fitting (g : Env) (e : Expression) (t : StaticType) : Type 0 where
   pub accepted : Accepted g e
   pub converts : Converts g.regions accepted.value.type t
 
--- a local of an integer, which has its type as it is written
+-- A local of a word, which has its type as it is written: its region names are in scope, and it begins without an initializer.
 pub record LocalUnset (g : Env) (of : TypeName) (x : tree.Name) : Type 0 where
   pub type : StaticType
-  pub integer : IsInteger type
+  pub word : IsWordType type
+  pub below : TypeBelow g.regions.count type
+  pub begins : Begins type
   pub shape : settled (written of) ≡ shape_of type
   pub scope : (declare g (tree.Local of x Initializer.Unset)).scope ≡ extended g x type
 
 -- one with an initializer, whose value converts to its type
 pub record LocalSet (g : Env) (of : TypeName) (x : tree.Name) (e : Expression) : Type 0 where
   pub type : StaticType
-  pub integer : IsInteger type
+  pub word : IsWordType type
+  pub below : TypeBelow g.regions.count type
   pub fitting : Fitting g e type
   pub shape : settled_by (written of) (shape_of fitting.accepted.value.type) ≡ shape_of type
   pub scope : (declare g (tree.Local of x (Initializer.Value e))).scope ≡ extended g x type
@@ -55,11 +60,11 @@ DeclarationJudged g (tree.Local of x Initializer.Unset) = LocalUnset g of x
 DeclarationJudged g (tree.Local of x (Initializer.Value e)) = LocalSet g of x e
 DeclarationJudged g _ = ⊥
 
--- a result that converts to the integer that the function gives
+-- a result that converts to the word that the function gives
 pub record Returned (g : Env) (e : Expression) : Type 0 where
   pub gives : StaticType
   pub result : g.result ≡ Some gives
-  pub integer : IsInteger gives
+  pub word : IsWordType gives
   pub fitting : Fitting g e gives
 
 -- `return` without a value stands in a function that gives none, `break` and `continue` in a loop

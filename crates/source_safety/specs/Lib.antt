@@ -1,4 +1,5 @@
 pub mod Flat
+pub mod Named
 pub mod Judged
 pub mod Entries
 pub mod Programs

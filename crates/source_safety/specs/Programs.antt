@@ -1,21 +1,22 @@
--- Which programs of integers are in order: their globals, their functions and `main`, by what their names mean.
+-- Which programs of integers and thin pointers are in order: their globals, their functions and `main`, by what their names mean.
 use Rattle.std.specs.Prelude.{◌≡◌, ℕ, true, false, ◌⊎◌, Some, List, [], ◌∷◌, codes}
 use Rattle.cyc_tree.specs.Tree as tree
 use Rattle.cyc_tree.specs.Tree.{Constant, Initial, Item, Program}
 use Rattle.cyc_words.specs.Events.{SourceEnding}
 use Rattle.source_meaning.specs.Shapes.{Part, written, settled}
-use Rattle.source_meaning.specs.Memory.{Integer, IntegerType}
+use Rattle.source_meaning.specs.Memory.{Integer, IntegerType, Scalar}
 use Rattle.source_meaning.specs.Steps.{Variable, World, give}
 use Rattle.source_meaning.specs.Places.{bound_to}
 use Rattle.source_meaning.specs.Programs.{heap_spot, is_main, constant_value, world_of, source}
 use Rattle.source_typing.specs.Regions.{Region, TheHeap, entry_regions}
-use Rattle.source_typing.specs.Scope.{Env, block_entered}
+use Rattle.source_typing.specs.Scope.{Env, InRegion, block_entered}
 use Rattle.source_typing.specs.Tables as typing
 use Rattle.source_typing.specs.Tables.{OfValue, OfFunction, Stored, Signature, find}
-use Rattle.source_typing.specs.Types.{StaticType, Int, Void, integer_type, shape_of}
+use Rattle.source_typing.specs.Types.{StaticType, Int, Void, Thin, shape_of}
 use Rattle.source_typing.specs.Ways.{ways_of_items}
-use Rattle.source_safety.specs.Entries.{Function, PlainTables}
+use Rattle.source_safety.specs.Entries.{IsWordType, Begins, Function, PlainTables}
 use Rattle.source_safety.specs.Judged.{extended, ItemsJudged}
+use Rattle.source_safety.specs.Named.{AllBelow, BoundsBelow, TypeBelow, TypesBelow}
 
 -- ---- functions
 
@@ -28,38 +29,57 @@ abbrev pub with_all : List Part → List StaticType → Env → Env
 with_all (p ∷ ps) (t ∷ ts) g = with_all ps ts (extended g (name_alone p.name) t)
 with_all _ _ g = g
 
--- A function whose body is in order: the scope around it, its body in the scope of its parameters, and its end, which is reached only where nothing has
--- to be given.
+-- A function whose body is in order: the scope around it, in which its region variables are the first names, its effect's regions are live and its bounds
+-- hold; its types, effect and bounds, which speak of those variables and the heap alone; its body in the scope of its parameters; and its end, which is
+-- reached only where nothing has to be given.
 pub record FunctionJudged (world : World) (tables : typing.Tables) (x : List ℕ) (s : Signature) (F : Function world x s) : Type 0 where
   pub outside : Env
   pub tables_are : outside.tables ≡ tables
   pub locals : outside.locals ≡ []
-  pub regions : outside.regions ≡ entry_regions 0 [] []
+  pub regions : outside.regions ≡ entry_regions s.regions s.effect s.bounds
+  pub strict : outside.lenient ≡ false
+  pub enclosing : outside.enclosing ≡ InRegion TheHeap
+  pub takes_below : TypesBelow s.regions F.types
+  pub gives_below : TypeBelow s.regions F.gives
+  pub effect_below : AllBelow s.regions s.effect
+  pub bounds_below : BoundsBelow s.regions s.bounds
   pub result : outside.result ≡ Some F.gives
   pub no_loop : outside.in_loop ≡ false
   pub no_switch : outside.in_switch ≡ false
   pub body : ItemsJudged (with_all F.routine.parameters F.types (block_entered outside)) F.routine.body
   pub ends : (ways_of_items F.routine.body).falls ≡ true → (F.gives ≡ Void) ⊎ ((is_main F.routine.name ≡ true) × (F.gives ≡ Int))
 
--- ---- globals of integers
+-- ---- globals
 
 -- what a constant of an integer gives
 pub record IsNumber (c : Constant) : Type 0 where
   pub of : IntegerType
   pub word : ℕ
-  pub gives : (strings : _) → constant_value strings c ≡ give (Integer of word)
+  pub gives : (strings : List (ℕ × Scalar)) → constant_value strings c ≡ give (Integer of word)
 
--- the initializer of a global, which is a number where there is one
-abbrev pub InitialJudged : Initial → Type 0
-InitialJudged Initial.Unset = Unit {0}
-InitialJudged (Initial.Elements count) = ⊥
-InitialJudged (Initial.Given c) = IsNumber c
+-- the constant `NULL`
+abbrev pub IsNullConstant : Constant → Type 0
+IsNullConstant (Constant.Null at) = Unit {0}
+IsNullConstant _ = ⊥
 
--- a global of an integer
+-- the first value of a global of a type: a pointer's is `NULL`, and an integer's is a number
+abbrev pub IsFirst : StaticType → Constant → Type 0
+IsFirst (Thin n r t) c = IsNullConstant c
+IsFirst t c = IsNumber c
+
+-- the initializer of a global, where there is one
+abbrev pub InitialJudged : StaticType → Initial → Type 0
+InitialJudged t Initial.Unset = Unit {0}
+InitialJudged t (Initial.Elements count) = ⊥
+InitialJudged t (Initial.Given c) = IsFirst t c
+
+-- a global of an integer, or of a pointer that may be NULL
 pub record GlobalJudged (x : tree.Global) : Type 0 where
-  pub of : IntegerType
-  pub shape : settled (written x.of) ≡ shape_of (integer_type of)
-  pub initial : InitialJudged x.initial
+  pub type : StaticType
+  pub word : IsWordType type
+  pub begins : Begins type
+  pub shape : settled (written x.of) ≡ shape_of type
+  pub initial : InitialJudged type x.initial
 
 abbrev pub GlobalsJudged : List Item → Type 0
 GlobalsJudged [] = Unit {0}
@@ -70,11 +90,12 @@ GlobalsJudged (tree.FunctionItem f ∷ items) = GlobalsJudged items
 
 -- ---- programs
 
--- a variable that the tables have is a global of the program
+-- a variable that the tables have is a global of the program, and its type names no region but the heap
 pub record GlobalFound (world : World) (x : List ℕ) (t : StaticType) (r : Region) : Type 0 where
   pub number : ℕ
   pub is : bound_to world.globals x ≡ Some (Variable (shape_of t) (heap_spot number))
   pub region : r ≡ TheHeap
+  pub below : TypeBelow 0 t
 
 -- `main` takes nothing and gives an int
 pub record MainFound (world : World) (tables : typing.Tables) : Type 0 where
@@ -84,7 +105,7 @@ pub record MainFound (world : World) (tables : typing.Tables) : Type 0 where
   pub types : function.types ≡ []
   pub gives : function.gives ≡ Int
 
--- A program of integers in which nothing is at fault, by these tables of its names.
+-- A program of integers and thin pointers in which nothing is at fault, by these tables of its names.
 pub record ProgramJudged (p : Program) (tables : typing.Tables) : Type 0 where
   pub no_structs : (world_of p).structs ≡ []
   pub plain : PlainTables (world_of p) tables

@@ -4,8 +4,9 @@
 //! their expressions, and specs/Flat what the cells of a type are. proofs/Invariant says, once for
 //! the whole language, when a memory is well formed: each cell holds a value of its type, and each
 //! right is held once. Above it stand the steps that keep it so, and the runs that are never stuck.
-//! So far this is proved of functions, globals and locals of integers. Stands on the rules of
-//! `source_typing` and on the meaning of `source_meaning`.
+//! So far this is proved of functions, globals and locals of integers and of thin pointers, with
+//! region variables, effects and bounds. Stands on the rules of `source_typing` and on the meaning
+//! of `source_meaning`.
 #![tactic(auto)]
 
 mod laws;

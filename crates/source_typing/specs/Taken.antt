@@ -34,6 +34,10 @@ pub record Taken : Type 0 where
 abbrev pub integers : Taken
 integers = record { structs = false; pointers = false; regions = false; arrays = false; unions = false; unique = false; keys = false }
 
+-- those, and thin pointers to integers and to such pointers
+abbrev pub thin_pointers : Taken
+thin_pointers = record integers { pointers = true }
+
 -- the whole language
 abbrev pub whole : Taken
 whole = record { structs = true; pointers = true; regions = true; arrays = true; unions = true; unique = true; keys = true }

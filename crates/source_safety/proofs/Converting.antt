@@ -1,0 +1,105 @@
+-- Words are converted: integers to each other, `NULL` to pointers, and pointers to pointers into regions that theirs outlive.
+use Rattle.std.proofs.Common.{◌≡◌, ℕ, Bool, true, false, inl, inr, Some, None, List, [], ◌∷◌, refl, sym, ◌∙◌, ap, subst}
+use Rattle.cyc_words.specs.declared.faults.Kind.TheVariants.{NullException}
+use Rattle.source_meaning.specs.Shapes.{Shared, Shape, ThinShape}
+use Rattle.source_meaning.specs.Memory as memory
+use Rattle.source_meaning.specs.Memory.{Region, Spot, Scalar, Memory}
+use Rattle.source_meaning.specs.Steps.{World, Act, ◌>>=◌, ◌>>◌, give, check}
+use Rattle.source_meaning.specs.Conversions.{converted}
+use Rattle.source_typing.specs.Converts.{IsInteger, Converts, Same, Integers, NullToThin, NullToFat, NullToUnique, Thins, Fats, ThinToFat, FatToThin, Uniques}
+use Rattle.source_typing.specs.Regions.{Regions}
+use Rattle.source_typing.specs.Types.{StaticType, Int, Unsigned, Char, Void, Null, Thin, Fat, Unique, Handle, Key, Struct, Union, renamed, shape_of}
+use Rattle.source_safety.specs.Flat.{Tables}
+use Rattle.source_safety.proofs.Invariant.{RunType, Owner, Ghost, Reaches, HasType, HaveTypes, Inv}
+use Rattle.source_safety.proofs.Runs.{Safe, Runs, safe_raised}
+use Rattle.source_safety.proofs.Names.{NameOf, NamesOk}
+use Rattle.source_safety.proofs.Sound.{cells_type}
+use Rattle.source_safety.proofs.Integers.{word_of, Becomes, integer_becomes}
+use Rattle.source_safety.proofs.Words.{IsWordType, IsSimple, shape_itself, OneValue, one_value}
+
+-- a pointer may be used as one into a region that its own outlives
+reach_along : (d : Tables) (w : Ghost) (m : Memory) (at : Spot) (r q : Region) (t : RunType) → Inv d w m → w.above r q ≡ true → Reaches d w at r t
+    → Reaches d w at q t
+reach_along d w m at r q t i o h = record { typed = h.typed; above = i.along at.region r q h.above o }
+
+module _ {B : Type 0} (n : ℕ) (d : Tables) (world : World) (f : NameOf → Region) (w : Ghost) (m : Memory) (holder : ℕ → Owner) (i : Inv d w m)
+    (Q : B → Memory → Type 0) (h : List Scalar → Act B) where
+  -- what goes on with a value of a type
+  abbrev pub Going : StaticType → Type 0
+  Going u = (us : List Scalar) → HaveTypes d w holder us (cells_type d f u) → Runs n (h us) m Q
+
+  -- `NULL`, from whatever type
+  null_goes : (c : Bool) (q : NameOf) (t : StaticType) (from : Shape) → Going (Thin c q t)
+      → Runs n (converted world (ThinShape c Shared (shape_of t)) from (memory.Thin None ∷ []) >>= h) m Q
+  null_goes true q t from go = record { by = λ next p. (go (memory.Thin None ∷ []) (inl (record { allowed = refl; is = refl }), tt)).by next p }
+  null_goes false q t from go = record { by = λ next p. safe_raised n NullException }
+
+  -- a pointer to somewhere
+  some_goes : (a c : Bool) (q : NameOf) (t : StaticType) (at : Spot) → IsWordType t → Reaches d w at (f q) (renamed f t) → Going (Thin c q t)
+      → Runs n (converted world (ThinShape c Shared (shape_of t)) (ThinShape a Shared (shape_of t)) (memory.Thin (Some at) ∷ []) >>= h) m Q
+  some_goes a c q t at e reach go = record {
+    by = λ next p.
+        subst (λ (b : Bool). Safe n ((check b >> (Rattle.source_meaning.specs.Conversions.thin_to_thin c (Some at) >>= λ v. give (v ∷ []) >>= h)) next m)) (sym (shape_itself t e))
+        (by c next p);
+  }
+    where
+      typed : HaveTypes d w holder (memory.Thin (Some at) ∷ []) (cells_type d f (Thin c q t))
+      typed = (inr (record { at = at; is = refl; reaches = reach }), tt)
+
+      by : (b : Bool) (next : B → Memory → _) → ((v : B) (m' : Memory) → Q v m' → Safe n (next v m'))
+          → Safe n ((Rattle.source_meaning.specs.Conversions.thin_to_thin b (Some at) >>= λ v. give (v ∷ []) >>= h) next m)
+      by true next p = (go (memory.Thin (Some at) ∷ []) typed).by next p
+      by false next p = (go (memory.Thin (Some at) ∷ []) typed).by next p
+
+  thin_goes : (a c : Bool) (r q : NameOf) (t : StaticType) (vs : List Scalar) → IsWordType t
+      → ((at : Spot) → Reaches d w at (f r) (renamed f t) → Reaches d w at (f q) (renamed f t)) → HaveTypes d w holder vs (cells_type d f (Thin a r t)) → Going (Thin c q t)
+      → Runs n (converted world (ThinShape c Shared (shape_of t)) (ThinShape a Shared (shape_of t)) vs >>= h) m Q
+  thin_goes a c r q t [] e along x go = absurd x
+  thin_goes a c r q t (v ∷ u ∷ us) e along x go = absurd x.1
+  thin_goes a c r q t (v ∷ []) e along x go = goes x.0
+    where
+      goes : HasType d w (holder 0) v (renamed f (Thin a r t)) → Runs n (converted world (ThinShape c Shared (shape_of t)) (ThinShape a Shared (shape_of t)) (v ∷ []) >>= h) m Q
+      goes (inl z) = subst (λ (y : Scalar). Runs n (converted world (ThinShape c Shared (shape_of t)) (ThinShape a Shared (shape_of t)) (y ∷ []) >>= h) m Q) (sym z.is)
+          (null_goes c q t (ThinShape a Shared (shape_of t)) go)
+      goes (inr z) = subst (λ (y : Scalar). Runs n (converted world (ThinShape c Shared (shape_of t)) (ThinShape a Shared (shape_of t)) (y ∷ []) >>= h) m Q) (sym z.is)
+          (some_goes a c q t z.at e (along z.at z.reaches) go)
+
+  integer_goes : (t u : StaticType) (vs : List Scalar) → IsInteger t → IsInteger u → HaveTypes d w holder vs (cells_type d f t) → Going u
+      → Runs n (converted world (shape_of u) (shape_of t) vs >>= h) m Q
+  integer_goes t u vs it iu x go =
+      let c : Becomes d f world t u vs = integer_becomes d f world t u vs iu (word_of d f w holder vs t it x) in
+      record { by = λ next q. subst (λ (s : _). Safe n s) (sym (c.at_once h next m)) ((go c.values (c.typed w holder)).by next q) }
+
+  same_goes : (t : StaticType) (vs : List Scalar) → IsWordType t → HaveTypes d w holder vs (cells_type d f t) → Going t
+      → Runs n (converted world (shape_of t) (shape_of t) vs >>= h) m Q
+  same_goes Int vs e x go = integer_goes Int Int vs refl refl x go
+  same_goes Unsigned vs e x go = integer_goes Unsigned Unsigned vs refl refl x go
+  same_goes Char vs e x go = integer_goes Char Char vs refl refl x go
+  same_goes Void vs e x go = absurd e
+  same_goes Null vs e x go = absurd e
+  same_goes (Thin a r t) vs e x go = thin_goes a a r r t vs e (λ at z. z) x go
+  same_goes (Fat r t) vs e x go = absurd e
+  same_goes (Unique a t) vs e x go = absurd e
+  same_goes (Handle r) vs e x go = absurd e
+  same_goes (Key r) vs e x go = absurd e
+  same_goes (Struct tag rs) vs e x go = absurd e
+  same_goes (Union tag rs) vs e x go = absurd e
+
+  -- Each conversion to a word gives a value of its type, or raises.
+  pub converts_goes : (g : Regions) (k : ℕ) (t u : StaticType) (vs : List Scalar) → NamesOk g f k w m → IsSimple t → IsWordType u → Converts g t u
+      → HaveTypes d w holder vs (cells_type d f t) → Going u → Runs n (converted world (shape_of u) (shape_of t) vs >>= h) m Q
+  converts_goes g k t u vs names p e (Same {t = s}) x go = same_goes s vs e x go
+  converts_goes g k t u vs names p e (Integers {t = s} {u = z} a c) x go = integer_goes s z vs a c x go
+  converts_goes g k t u vs names p e (NullToThin {a = q} {t = s}) x go =
+      let v : OneValue d w (holder 0) vs Null = one_value d w holder vs Null x in
+      subst (λ (us : List Scalar). Runs n (converted world (ThinShape true Shared (shape_of s)) (shape_of {R = NameOf} Null) us >>= h) m Q)
+      (sym (v.is ∙ ap (λ (y : Scalar). y ∷ []) v.typed))
+      (null_goes true q s (shape_of {R = NameOf} Null) go)
+  converts_goes g k t u vs names p e NullToFat x go = absurd e
+  converts_goes g k t u vs names p e NullToUnique x go = absurd e
+  converts_goes g k t u vs names p e (Thins {n = n1} {m = n2} {a = a} {b = b} {t = s} o) x go =
+      thin_goes n1 n2 a b s vs e (λ at z. reach_along d w m at (f a) (f b) (renamed f s) i (names.order a b o) z) x go
+  converts_goes g k t u vs names p e (Fats o) x go = absurd e
+  converts_goes g k t u vs names p e (ThinToFat o) x go = absurd e
+  converts_goes g k t u vs names p e (FatToThin o) x go = absurd p
+  converts_goes g k t u vs names p e Uniques x go = absurd e

@@ -1,25 +1,45 @@
 //! Runs each example, compiled and by its meaning, and prints whether it writes and ends as it must.
 //!
-//! The folder `data` is the folder `examples` of the repository: beside the sources it has `expected`, with the input,
-//! the output and the ending of each.
+//! The folder `data` has copies of the sources in `examples` and of its folder `expected`, with the input, the output and
+//! the ending of each: `tools/example_data` makes them.
 #![tactic(auto)]
 
 use command_line::command_of;
 use cycc_answer::answer;
 use cycc_driver::Counted;
 use std::fs::File;
+use std::io;
 use std::io::{ErrorKind, Read};
 use std::process::ExitCode;
-use std::io;
 
 /// The most bytes that are read of a file.
 const MOST: u64 = 65536;
 
 /// The examples' names.
 const EXAMPLES: [&str; 23] = [
-    "arithmetic", "bases", "bits", "brackets", "caesar", "calculator", "checksum", "collatz", "comments", "counts",
-    "decimal", "echo", "fletcher", "hello", "hiding", "nesting", "powers", "prime_table", "primes", "shortcut", "swap",
-    "triangle", "upper",
+    "arithmetic",
+    "bases",
+    "bits",
+    "brackets",
+    "caesar",
+    "calculator",
+    "checksum",
+    "collatz",
+    "comments",
+    "counts",
+    "decimal",
+    "echo",
+    "fletcher",
+    "hello",
+    "hiding",
+    "nesting",
+    "powers",
+    "prime_table",
+    "primes",
+    "shortcut",
+    "swap",
+    "triangle",
+    "upper",
 ];
 
 /// The bytes of a file.
@@ -39,7 +59,12 @@ fn expected(rt: &HostRuntime, name: &str, what: &str) -> io::Result<Vec<u8>> {
 }
 
 /// What a command writes on a source and an input, and what it says.
-fn answered(rt: &HostRuntime, command: &str, source: &[u8], input: &[u8]) -> io::Result<(Vec<u8>, Vec<u8>)> {
+fn answered(
+    rt: &HostRuntime,
+    command: &str,
+    source: &[u8],
+    input: &[u8],
+) -> io::Result<(Vec<u8>, Vec<u8>)> {
     let words = ["cycc", command, "IN", "--ending"];
     let Ok(command) = command_of(rt.alloc(), &words) else {
         return Err(ErrorKind::InvalidInput.into());
@@ -47,7 +72,14 @@ fn answered(rt: &HostRuntime, command: &str, source: &[u8], input: &[u8]) -> io:
     let mut reader = Counted::new(input);
     let mut writer = Counted::new(Vec::new(rt.alloc()));
     let mut said = Vec::new(rt.alloc());
-    answer(rt.alloc(), &command, source, &mut reader, &mut writer, &mut said)?;
+    answer(
+        rt.alloc(),
+        &command,
+        source,
+        &mut reader,
+        &mut writer,
+        &mut said,
+    )?;
     Ok((writer.into_inner(), said))
 }
 

@@ -1,6 +1,6 @@
 mod Arguments
 mod Bodies
+mod Linking
 mod Lists
-mod Lookups
 mod Tables
 mod Taken

@@ -1,3 +1,5 @@
+pub mod Marks
 pub mod Refusals
 pub mod Tables
 pub mod Views
+pub mod Visible

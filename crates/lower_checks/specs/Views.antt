@@ -1,5 +1,4 @@
 -- What contracts see of the shapes and names that the code has.
-use Rattle.std.specs.Prelude.{List, map, reverse}
 use Rattle.source_meaning.specs.Shapes.{Shape, IntShape, UnsignedShape, CharShape, VoidShape}
 use Rattle.source_meaning.specs.Steps.{Entity, Variable}
 use Rattle.source_meaning.specs.Programs.{heap_spot}
@@ -17,10 +16,6 @@ shape_tree shape.Void = VoidShape
 
 abbrev pub named_tree : code_named.Named → lowered.Named
 named_tree n = record { name = n.name.now; shape = shape_tree n.shape; out = n.out; index = n.index }
-
--- the code has the innermost local last
-abbrev pub names_of : List code_named.Named → List lowered.Named
-names_of ns = reverse (map named_tree ns)
 
 -- a global by its shape and its number
 abbrev pub found_entity : code_found.Found → Entity

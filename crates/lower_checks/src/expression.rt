@@ -5,14 +5,16 @@ ghost use Rattle.cyc_tree.specs.View.{expression_tree, expressions_of, link_tree
 ghost use Rattle.cyc_core.specs.Trees.{statement_tree};
 ghost use Rattle.source_meaning.specs.Programs.{world_of};
 ghost use Rattle.source_lowering.specs.Lowered.{static_shape, call_parameters, put_code, conversion_code, prefix_code, truth_code, count_of, call_code, expression_code, links_code, all_code, any_code, arguments_code};
-ghost use Rattle.lower_checks.specs.Views.{shape_tree, names_of};
+ghost use Rattle.lower_checks.specs.Views.{shape_tree};
+ghost use Rattle.lower_checks.specs.Visible.{names_of};
 ghost use Rattle.source_lowering.specs.Taken.{TakesPrefix, TakesPlace, Takes, TakesAll, TakesLinks, TakesProgram};
 ghost use Rattle.lower_checks.specs.Refusals.{NeverRefused};
 
 use crate::call::{call_parameters, lower_call};
 use crate::emit::{emit_if, emit_operation};
 use crate::fault::LowerFault;
-use crate::names::{Named, after};
+use crate::locals::Locals;
+use crate::names::after;
 use crate::operator::{applied, operator_shape};
 use crate::shape::Shape;
 use crate::shaped::static_shape;
@@ -56,14 +58,14 @@ pub fn lower_conversion(
 pub fn lower_expression(
     alloc: Global,
     program: &Table<'_>,
-    locals: &[Named<'_>],
+    locals: &Locals<'_>,
     expression: &Expression,
     body: &mut Vec<Statement>,
     to: Temporary,
 ) -> Result<(), LowerFault>
     ensures code { OnOk result
         (map statement_tree body.new.items ≡
-        map statement_tree body.old.items ++ expression_code (world_of program.now) (names_of locals.entry.now) (expression_tree expression.now) to.0) }
+        map statement_tree body.old.items ++ expression_code (world_of program.now) (names_of locals.now) (expression_tree expression.now) to.0) }
     ensures taken { TakesProgram program.now → Takes (expression_tree expression.now) → NeverRefused result }
 {
     match expression {
@@ -108,14 +110,14 @@ pub fn lower_expression(
 fn lower_assign(
     alloc: Global,
     program: &Table<'_>,
-    locals: &[Named<'_>],
+    locals: &Locals<'_>,
     value: &Expression,
     place: &Expression,
     body: &mut Vec<Statement>,
     to: Temporary,
 ) -> Result<(), LowerFault>
     ensures code { let w = world_of program.now in
-        let names = names_of locals.entry.now in
+        let names = names_of locals.now in
         let e = expression_tree value.now in
         let p = expression_tree place.now in
         OnOk result
@@ -137,7 +139,7 @@ fn lower_assign(
 fn lower_called(
     alloc: Global,
     program: &Table<'_>,
-    locals: &[Named<'_>],
+    locals: &Locals<'_>,
     arguments: &[Expression],
     body: &mut Vec<Statement>,
     name: &[u8],
@@ -147,7 +149,7 @@ fn lower_called(
         OnOk result
         (map statement_tree body.new.items ≡
         map statement_tree body.old.items ++
-        (arguments_code w (names_of locals.entry.now) (call_parameters w name.now) (expressions_of (map expression_tree arguments.now)) to.0 ++
+        (arguments_code w (names_of locals.now) (call_parameters w name.now) (expressions_of (map expression_tree arguments.now)) to.0 ++
         call_code w name.now (count_of (expressions_of (map expression_tree arguments.now))) to.0)) }
     ensures taken { TakesProgram program.now → TakesAll (expressions_of (map expression_tree arguments.now)) → NeverRefused result }
 {
@@ -161,14 +163,14 @@ fn lower_called(
 fn lower_prefixed(
     alloc: Global,
     program: &Table<'_>,
-    locals: &[Named<'_>],
+    locals: &Locals<'_>,
     operand: &Expression,
     body: &mut Vec<Statement>,
     operator: Prefix,
     to: Temporary,
 ) -> Result<(), LowerFault>
     ensures code { let w = world_of program.now in
-        let names = names_of locals.entry.now in
+        let names = names_of locals.now in
         let e = expression_tree operand.now in
         OnOk result
         (map statement_tree body.new.items ≡
@@ -208,7 +210,7 @@ fn lower_prefixed(
 fn lower_links(
     alloc: Global,
     program: &Table<'_>,
-    locals: &[Named<'_>],
+    locals: &Locals<'_>,
     links: &[Link],
     body: &mut Vec<Statement>,
     first: Shape,
@@ -217,7 +219,7 @@ fn lower_links(
     ensures code { OnOk result
         (map statement_tree body.new.items ≡
         map statement_tree body.old.items ++
-        links_code (world_of program.now) (names_of locals.entry.now) (links_of (map link_tree links.now)) (shape_tree first) to.0) }
+        links_code (world_of program.now) (names_of locals.now) (links_of (map link_tree links.now)) (shape_tree first) to.0) }
     ensures taken { TakesProgram program.now → TakesLinks (links_of (map link_tree links.now)) → NeverRefused result }
 {
     let right = Temporary(after(to.0)?);
@@ -236,7 +238,7 @@ fn lower_links(
 fn lower_all(
     alloc: Global,
     program: &Table<'_>,
-    locals: &[Named<'_>],
+    locals: &Locals<'_>,
     operands: &[Expression],
     body: &mut Vec<Statement>,
     to: Temporary,
@@ -244,7 +246,7 @@ fn lower_all(
     ensures code { OnOk result
         (map statement_tree body.new.items ≡
         map statement_tree body.old.items ++
-        all_code (world_of program.now) (names_of locals.entry.now) (expressions_of (map expression_tree operands.now)) to.0) }
+        all_code (world_of program.now) (names_of locals.now) (expressions_of (map expression_tree operands.now)) to.0) }
     ensures taken { TakesProgram program.now → TakesAll (expressions_of (map expression_tree operands.now)) → NeverRefused result }
 {
     'each: for operand in operands {
@@ -260,7 +262,7 @@ fn lower_all(
 fn lower_any(
     alloc: Global,
     program: &Table<'_>,
-    locals: &[Named<'_>],
+    locals: &Locals<'_>,
     operands: &[Expression],
     body: &mut Vec<Statement>,
     to: Temporary,
@@ -268,7 +270,7 @@ fn lower_any(
     ensures code { OnOk result
         (map statement_tree body.new.items ≡
         map statement_tree body.old.items ++
-        any_code (world_of program.now) (names_of locals.entry.now) (expressions_of (map expression_tree operands.now)) to.0) }
+        any_code (world_of program.now) (names_of locals.now) (expressions_of (map expression_tree operands.now)) to.0) }
     ensures taken { TakesProgram program.now → TakesAll (expressions_of (map expression_tree operands.now)) → NeverRefused result }
 {
     'each: for operand in operands {
@@ -285,7 +287,7 @@ fn lower_any(
 fn lower_arguments(
     alloc: Global,
     program: &Table<'_>,
-    locals: &[Named<'_>],
+    locals: &Locals<'_>,
     arguments: &[Expression],
     body: &mut Vec<Statement>,
     shapes: &[Shape],
@@ -294,7 +296,7 @@ fn lower_arguments(
     ensures code { OnOk result
         (map statement_tree body.new.items ≡
         map statement_tree body.old.items ++
-        arguments_code (world_of program.now) (names_of locals.entry.now) (map shape_tree shapes.now)
+        arguments_code (world_of program.now) (names_of locals.now) (map shape_tree shapes.now)
         (expressions_of (map expression_tree arguments.now)) first.0) }
     ensures taken { TakesProgram program.now → TakesAll (expressions_of (map expression_tree arguments.now)) → NeverRefused result }
 {

@@ -6,14 +6,16 @@ ghost use Rattle.cyc_core.specs.Trees.{statement_tree, body_tree, function_tree}
 ghost use Rattle.source_meaning.specs.Shapes.{part_of};
 ghost use Rattle.source_meaning.specs.Programs.{world_of, routine_of};
 ghost use Rattle.source_lowering.specs.Programs.{parameter_names, parameters_code, end_code, body_code, function_code};
-ghost use Rattle.lower_checks.specs.Views.{shape_tree, names_of};
+ghost use Rattle.lower_checks.specs.Views.{shape_tree};
+ghost use Rattle.lower_checks.specs.Visible.{names_of};
 ghost use Rattle.source_lowering.specs.Taken.{AreIntegers, TakesFunction, TakesProgram};
 ghost use Rattle.lower_checks.specs.Refusals.{NeverRefused};
 
 use crate::call::part_shapes;
 use crate::emit::{emit, emit_block, emit_operation};
 use crate::fault::LowerFault;
-use crate::names::{Named, after, declare, number};
+use crate::locals::Locals;
+use crate::names::{after, number};
 use crate::shape::{Shape, widths_of};
 use crate::statement::lower_items;
 use crate::table::Table;
@@ -24,13 +26,13 @@ use std::alloc::Global;
 
 /// Declares the parameters, and appends what gives each its value, which is in the temporary of its number.
 fn lower_parameters<'p>(
-    locals: &mut Vec<Named<'p>>,
+    locals: &mut Locals<'p>,
     body: &mut Vec<Statement>,
     parameters: &'p [Member],
 ) -> Result<(), LowerFault>
     ensures names { OnOk result
-        (names_of locals.new.items ≡
-        parameter_names (map part_of (map member_tree parameters.entry.now)) 0 (names_of locals.old.items)) }
+        (names_of locals.new ≡
+        parameter_names (map part_of (map member_tree parameters.entry.now)) 0 (names_of locals.old)) }
     ensures code { OnOk result
         (map statement_tree body.new.items ≡
         map statement_tree body.old.items ++ parameters_code (map part_of (map member_tree parameters.entry.now)) 0) }
@@ -41,7 +43,7 @@ fn lower_parameters<'p>(
         let shape = Shape::of(&parameter.of)?;
         let local = Variable { out: 0, index };
         emit_operation(body, Operation::Put(local, shape.width(), Temporary(index)))?;
-        declare(locals, &parameter.name, shape, index)?;
+        locals.declare(&parameter.name, shape, index)?;
         index = after(index)?;
     }
     Ok(())
@@ -72,14 +74,14 @@ fn lower_body(
 {
     let shape = Shape::of(&function.result)?;
     let mut shapes = part_shapes(alloc, &function.parameters)?;
-    let mut locals = Vec::new(alloc);
+    let mut locals = Locals::new(alloc);
     let mut inside = Vec::new(alloc);
     lower_parameters(&mut locals, &mut inside, &function.parameters)?;
     lower_items(
         alloc,
         program,
         shape,
-        locals,
+        &mut locals,
         &function.body,
         &mut shapes,
         &mut inside,

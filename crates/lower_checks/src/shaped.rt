@@ -5,12 +5,13 @@ ghost use Rattle.cyc_tree.specs.View.{expression_tree, link_tree, links_of};
 ghost use Rattle.source_meaning.specs.Calls.{number_type};
 ghost use Rattle.source_meaning.specs.Programs.{world_of, integer_shape};
 ghost use Rattle.source_lowering.specs.Lowered.{named_shape, call_shape, static_shape, linked_shape};
-ghost use Rattle.lower_checks.specs.Views.{shape_tree, names_of};
+ghost use Rattle.lower_checks.specs.Views.{shape_tree};
+ghost use Rattle.lower_checks.specs.Visible.{names_of};
 ghost use Rattle.source_lowering.specs.Taken.{Takes, TakesLinks, TakesProgram};
 ghost use Rattle.lower_checks.specs.Refusals.{NeverRefused};
 
 use crate::fault::LowerFault;
-use crate::names::{Named, local_named};
+use crate::locals::Locals;
 use crate::operator::{operator_shape, prefix_shape};
 use crate::shape::Shape;
 use crate::table::Table;
@@ -28,11 +29,11 @@ fn number_shape(value: u32, suffix: bool) -> Shape
 }
 
 /// The shape of a variable; `void` where there is none of that name.
-fn named_shape(program: &Table<'_>, locals: &[Named<'_>], name: &[u8]) -> Result<Shape, LowerFault>
-    ensures shape { IfOk result (λ shape. shape_tree shape ≡ named_shape (world_of program.now) (names_of locals.entry.now) name.now) }
+fn named_shape(program: &Table<'_>, locals: &Locals<'_>, name: &[u8]) -> Result<Shape, LowerFault>
+    ensures shape { IfOk result (λ shape. shape_tree shape ≡ named_shape (world_of program.now) (names_of locals.now) name.now) }
     ensures taken { TakesProgram program.now → NeverRefused result }
 {
-    if let Some(local) = local_named(locals, name) {
+    if let Some(local) = locals.named(name) {
         return Ok(local.shape);
     }
     match program.global_named(name) {
@@ -59,10 +60,10 @@ fn call_shape(program: &Table<'_>, name: &[u8]) -> Result<Shape, LowerFault>
 #[cycle(shapes)]
 pub fn static_shape(
     program: &Table<'_>,
-    locals: &[Named<'_>],
+    locals: &Locals<'_>,
     expression: &Expression,
 ) -> Result<Shape, LowerFault>
-    ensures shape { IfOk result (λ shape. shape_tree shape ≡ static_shape (world_of program.now) (names_of locals.entry.now) (expression_tree expression.now)) }
+    ensures shape { IfOk result (λ shape. shape_tree shape ≡ static_shape (world_of program.now) (names_of locals.now) (expression_tree expression.now)) }
     ensures taken { TakesProgram program.now → Takes (expression_tree expression.now) → NeverRefused result }
 {
     match expression {
@@ -88,13 +89,13 @@ pub fn static_shape(
 #[cycle(shapes)]
 fn linked_shape(
     program: &Table<'_>,
-    locals: &[Named<'_>],
+    locals: &Locals<'_>,
     links: &[Link],
     first: Shape,
 ) -> Result<Shape, LowerFault>
     ensures shape { IfOk result
         (λ shape.
-        shape_tree shape ≡ linked_shape (world_of program.now) (names_of locals.entry.now) (links_of (map link_tree links.now)) (shape_tree first)) }
+        shape_tree shape ≡ linked_shape (world_of program.now) (names_of locals.now) (links_of (map link_tree links.now)) (shape_tree first)) }
     ensures taken { TakesProgram program.now → TakesLinks (links_of (map link_tree links.now)) → NeverRefused result }
 {
     let mut left = first;

@@ -7,14 +7,16 @@ ghost use Rattle.source_meaning.specs.Programs.{world_of};
 ghost use Rattle.core_meaning.specs.Core as core;
 ghost use Rattle.source_lowering.specs.Lowered.{static_shape, conversion_code, results_in, expression_code};
 ghost use Rattle.source_lowering.specs.Programs.{local_shape, block_shapes, declaration_code, statement_code, items_code};
-ghost use Rattle.lower_checks.specs.Views.{shape_tree, names_of};
+ghost use Rattle.lower_checks.specs.Views.{shape_tree};
+ghost use Rattle.lower_checks.specs.Visible.{left, names_of};
 ghost use Rattle.source_lowering.specs.Taken.{Takes, TakesDeclaration, TakesStatement, TakesItems, TakesProgram};
 ghost use Rattle.lower_checks.specs.Refusals.{NeverRefused};
 
 use crate::emit::{emit, emit_block, emit_if, emit_operation, emit_while};
 use crate::expression::{lower_conversion, lower_expression};
 use crate::fault::LowerFault;
-use crate::names::{Named, declare, number, outward};
+use crate::locals::Locals;
+use crate::names::number;
 use crate::shape::{Shape, add_shape, widths_of};
 use crate::shaped::static_shape;
 use crate::table::Table;
@@ -40,7 +42,7 @@ fn declared_shape(declaration: &Declaration) -> Result<Shape, LowerFault>
 fn lower_declaration(
     alloc: Global,
     program: &Table<'_>,
-    locals: &[Named<'_>],
+    locals: &Locals<'_>,
     declaration: &Declaration,
     body: &mut Vec<Statement>,
     index: u32,
@@ -48,7 +50,7 @@ fn lower_declaration(
     ensures code { OnOk result
         (map statement_tree body.new.items ≡
         map statement_tree body.old.items ++
-        declaration_code (world_of program.now) (names_of locals.entry.now) (declaration_tree declaration.now) index) }
+        declaration_code (world_of program.now) (names_of locals.now) (declaration_tree declaration.now) index) }
     ensures taken { TakesProgram program.now → TakesDeclaration (declaration_tree declaration.now) → NeverRefused result }
 {
     let Declaration::Local(of, _, initializer) = declaration else {
@@ -75,12 +77,12 @@ fn lower_return(
     alloc: Global,
     program: &Table<'_>,
     shape: Shape,
-    locals: &[Named<'_>],
+    locals: &Locals<'_>,
     value: &Expression,
     body: &mut Vec<Statement>,
 ) -> Result<(), LowerFault>
     ensures code { let w = world_of program.now in
-        let names = names_of locals.entry.now in
+        let names = names_of locals.now in
         let e = expression_tree value.now in
         OnOk result
         (map statement_tree body.new.items ≡
@@ -100,14 +102,15 @@ fn lower_statement<'p>(
     alloc: Global,
     program: &Table<'_>,
     shape: Shape,
-    locals: &[Named<'p>],
+    locals: &mut Locals<'p>,
     statement: &'p Source,
     body: &mut Vec<Statement>,
 ) -> Result<(), LowerFault>
     ensures code { OnOk result
         (map statement_tree body.new.items ≡
         map statement_tree body.old.items ++
-        statement_code (world_of program.now) (shape_tree shape) (names_of locals.entry.now) (source_tree statement.entry.now)) }
+        statement_code (world_of program.now) (shape_tree shape) (names_of locals.old) (source_tree statement.entry.now)) }
+    ensures kept { OnOk result (locals.new ≡ locals.old) }
     ensures taken { TakesProgram program.now → TakesStatement (shape_tree shape) (source_tree statement.entry.now) → NeverRefused result }
 {
     match statement {
@@ -115,16 +118,17 @@ fn lower_statement<'p>(
         Source::Block(_, items) => {
             let mut shapes = Vec::new(alloc);
             let mut inside = Vec::new(alloc);
-            let outer = outward(alloc, locals)?;
+            locals.enter()?;
             lower_items(
                 alloc,
                 program,
                 shape,
-                outer,
+                locals,
                 items,
                 &mut shapes,
                 &mut inside,
             )?;
+            locals.leave();
             emit_block(body, widths_of(alloc, &shapes)?, inside)
         }
         Source::Run(value) => lower_expression(alloc, program, locals, value, body, VALUE),
@@ -161,13 +165,14 @@ fn lower_part<'p>(
     alloc: Global,
     program: &Table<'_>,
     shape: Shape,
-    locals: &[Named<'p>],
+    locals: &mut Locals<'p>,
     statement: &'p Source,
 ) -> Result<Vec<Statement>, LowerFault>
     ensures code { IfOk result
         (λ body.
         map statement_tree body.items ≡
-        statement_code (world_of program.now) (shape_tree shape) (names_of locals.entry.now) (source_tree statement.entry.now)) }
+        statement_code (world_of program.now) (shape_tree shape) (names_of locals.old) (source_tree statement.entry.now)) }
+    ensures kept { OnOk result (locals.new ≡ locals.old) }
     ensures taken { TakesProgram program.now → TakesStatement (shape_tree shape) (source_tree statement.entry.now) → NeverRefused result }
 {
     let mut body = Vec::new(alloc);
@@ -181,7 +186,7 @@ pub fn lower_items<'p>(
     alloc: Global,
     program: &Table<'_>,
     shape: Shape,
-    outer: Vec<Named<'p>>,
+    locals: &mut Locals<'p>,
     items: &'p [BlockItem],
     shapes: &mut Vec<Shape>,
     body: &mut Vec<Statement>,
@@ -189,25 +194,25 @@ pub fn lower_items<'p>(
     ensures code { OnOk result
         (map statement_tree body.new.items ≡
         map statement_tree body.old.items ++
-        items_code (world_of program.now) (shape_tree shape) (names_of outer.entry.items) (length shapes.old.items)
+        items_code (world_of program.now) (shape_tree shape) (names_of locals.old) (length shapes.old.items)
         (items_of (map item_tree items.entry.now))) }
     ensures shapes { OnOk result
         (map shape_tree shapes.new.items ≡
         map shape_tree shapes.old.items ++ block_shapes (items_of (map item_tree items.entry.now))) }
+    ensures left { OnOk result (left locals.new ≡ left locals.old) }
     ensures taken { TakesProgram program.now → TakesItems (shape_tree shape) (items_of (map item_tree items.entry.now)) → NeverRefused result }
 {
-    let mut locals = outer;
     'each: for item in items {
         match item {
             BlockItem::Declare(declaration) => {
                 let index = number(shapes.len())?;
-                lower_declaration(alloc, program, &locals, declaration, body, index)?;
+                lower_declaration(alloc, program, locals, declaration, body, index)?;
                 let of = declared_shape(declaration)?;
                 add_shape(shapes, of)?;
-                declare(&mut locals, declaration.local(), of, index)?;
+                locals.declare(declaration.local(), of, index)?;
             }
             BlockItem::Execute(statement) => {
-                lower_statement(alloc, program, shape, &locals, statement, body)?;
+                lower_statement(alloc, program, shape, locals, statement, body)?;
             }
         }
     }

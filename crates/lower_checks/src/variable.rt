@@ -6,13 +6,14 @@ ghost use Rattle.cyc_core.specs.Trees.{statement_tree};
 ghost use Rattle.source_meaning.specs.Programs.{world_of};
 ghost use Rattle.source_lowering.specs.Lowered.{get_code, put_code, put_by, local_named};
 ghost use Rattle.source_meaning.specs.Places.{bound_to};
-ghost use Rattle.lower_checks.specs.Views.{names_of};
+ghost use Rattle.lower_checks.specs.Visible.{names_of};
 ghost use Rattle.source_lowering.specs.Taken.{TakesPlace, TakesProgram};
 ghost use Rattle.lower_checks.specs.Refusals.{NeverRefused};
 
 use crate::emit::emit_operation;
 use crate::fault::LowerFault;
-use crate::names::{Named, after, local_named};
+use crate::locals::Locals;
+use crate::names::{Named, after};
 use crate::table::Table;
 use cyc_core::{Operation, Statement, Temporary, Variable};
 use cyc_tree::Expression;
@@ -31,17 +32,17 @@ fn place_of(local: Named<'_>) -> Variable
 /// Appends what reads a variable into a temporary: a local by one operation.
 pub fn lower_get(
     program: &Table<'_>,
-    locals: &[Named<'_>],
+    locals: &Locals<'_>,
     body: &mut Vec<Statement>,
     name: &[u8],
     to: Temporary,
 ) -> Result<(), LowerFault>
     ensures code { OnOk result
         (map statement_tree body.new.items ≡
-        map statement_tree body.old.items ++ get_code (world_of program.now) (names_of locals.entry.now) name.now to.0) }
+        map statement_tree body.old.items ++ get_code (world_of program.now) (names_of locals.now) name.now to.0) }
     ensures taken { TakesProgram program.now → NeverRefused result }
 {
-    if let Some(local) = local_named(locals, name) {
+    if let Some(local) = locals.named(name) {
         return emit_operation(
             body,
             Operation::Get(to, place_of(local), local.shape.width()),
@@ -57,7 +58,7 @@ pub fn lower_get(
 /// Appends what writes the word of a temporary to the variable of a name.
 fn lower_named(
     program: &Table<'_>,
-    locals: &[Named<'_>],
+    locals: &Locals<'_>,
     body: &mut Vec<Statement>,
     name: &[u8],
     from: Temporary,
@@ -65,10 +66,10 @@ fn lower_named(
     ensures code { OnOk result
         (map statement_tree body.new.items ≡
         map statement_tree body.old.items ++
-        put_by (local_named (names_of locals.entry.now) name.now) (bound_to (world_of program.now).globals name.now) from.0) }
+        put_by (local_named (names_of locals.now) name.now) (bound_to (world_of program.now).globals name.now) from.0) }
     ensures taken { TakesProgram program.now → NeverRefused result }
 {
-    if let Some(local) = local_named(locals, name) {
+    if let Some(local) = locals.named(name) {
         return emit_operation(
             body,
             Operation::Put(place_of(local), local.shape.width(), from),
@@ -85,14 +86,14 @@ fn lower_named(
 /// Appends what writes the word of a temporary to a variable, in parentheses too. Refuses all other places.
 pub fn lower_put(
     program: &Table<'_>,
-    locals: &[Named<'_>],
+    locals: &Locals<'_>,
     body: &mut Vec<Statement>,
     place: &Expression,
     from: Temporary,
 ) -> Result<(), LowerFault>
     ensures code { OnOk result
         (map statement_tree body.new.items ≡
-        map statement_tree body.old.items ++ put_code (world_of program.now) (names_of locals.entry.now) (expression_tree place.now) from.0) }
+        map statement_tree body.old.items ++ put_code (world_of program.now) (names_of locals.now) (expression_tree place.now) from.0) }
     ensures taken { TakesProgram program.now → TakesPlace (expression_tree place.now) → NeverRefused result }
 {
     match place {

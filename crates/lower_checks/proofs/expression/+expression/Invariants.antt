@@ -3,7 +3,8 @@ use Rattle.cyc_tree.specs.View.{expression_tree, expressions_of, link_tree, link
 use Rattle.cyc_core.specs.Trees.{statement_tree}
 use Rattle.source_meaning.specs.Programs.{world_of}
 use Rattle.source_lowering.specs.Lowered.{links_code, all_code, any_code, arguments_code}
-use Rattle.lower_checks.specs.Views.{shape_tree, names_of}
+use Rattle.lower_checks.specs.Views.{shape_tree}
+use Rattle.lower_checks.specs.Visible.{names_of}
 use Rattle.source_lowering.specs.Taken.{TakesAll, TakesLinks}
 use Rattle.lower_checks.proofs.expression.+expression.Given as goal
 

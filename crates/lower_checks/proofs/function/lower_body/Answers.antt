@@ -7,7 +7,8 @@ use Rattle.source_meaning.specs.Programs.{world_of, routine_of}
 use Rattle.core_meaning.specs.Core.{Block}
 use Rattle.source_lowering.specs.Lowered.{all_of}
 use Rattle.source_lowering.specs.Programs.{block_shapes, locals_of, parameter_names, parameters_code, items_code, end_code}
-use Rattle.lower_checks.specs.Views.{shape_tree, names_of}
+use Rattle.lower_checks.specs.Views.{shape_tree}
+use Rattle.lower_checks.specs.Visible.{names_of}
 use Rattle.lower_checks.specs.Refusals.{AreLocals}
 use Rattle.lower_checks.proofs.Taken.{block_locals, parameter_locals, all_locals}
 use Rattle.lower_checks.proofs.Bodies.{inside_of, body_of}
@@ -21,7 +22,7 @@ returns-clause-code c =
     let count = length c.in_ok-shapes.shapes.items in
     let taken = map shape_tree c.in_ok-shapes.shapes.items in
     let shapes = map shape_tree c.lower_items.new.shapes.items in
-    let names = names_of c.lower_parameters.new.locals.items in
+    let names = names_of c.lower_parameters.new.locals in
     let first = map statement_tree c.lower_parameters.new.body.items in
     let inside = map statement_tree c.lower_items.new.body.items in
     let locals = map local_tree c.in_ok-widths_of.field-0.items in
@@ -33,8 +34,8 @@ returns-clause-code c =
     c.in_ok-shapes.ensures.shapes ∙ ap (λ ms. part_shapes (map part_of (map member_tree ms))) c.deref.ensures.value in
     let names_are : names ≡ parameter_names f.parameters 0 [] =
     c.in_ok-lower_parameters.ensures.names
-    ∙ ap (λ ms. parameter_names (map part_of (map member_tree ms)) 0 (names_of c.new-locals.result.items)) c.deref-2.ensures.value
-    ∙ ap (λ ns. parameter_names f.parameters 0 (names_of ns)) c.new-locals.ensures.items in
+    ∙ ap (λ ms. parameter_names (map part_of (map member_tree ms)) 0 (names_of c.new-locals.result)) c.deref-2.ensures.value
+    ∙ ap (λ ns. parameter_names f.parameters 0 (names_of ns)) c.new-locals.ensures in
     let first_is : first ≡ parameters_code f.parameters 0 =
     c.in_ok-lower_parameters.ensures.code
     ∙ ap (λ ms. map statement_tree c.new-inside.result.items ++ parameters_code (map part_of (map member_tree ms)) 0) c.deref-2.ensures.value

@@ -2,7 +2,8 @@ use Rattle.std.proofs.Common.{◌≡◌, map, drop}
 use Rattle.cyc_tree.specs.View.{link_tree, links_of}
 use Rattle.source_meaning.specs.Programs.{world_of}
 use Rattle.source_lowering.specs.Lowered.{linked_shape}
-use Rattle.lower_checks.specs.Views.{shape_tree, names_of}
+use Rattle.lower_checks.specs.Views.{shape_tree}
+use Rattle.lower_checks.specs.Visible.{names_of}
 use Rattle.source_lowering.specs.Taken.{TakesLinks}
 use Rattle.lower_checks.proofs.shaped.+shapes.Given as goal
 

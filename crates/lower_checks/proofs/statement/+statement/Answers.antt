@@ -1,4 +1,4 @@
-use Rattle.std.proofs.Common.{◌≡◌, ◌∙◌, rules, sym, ap, subst, [], ◌++◌, map}
+use Rattle.std.proofs.Common.{◌≡◌, ◌∙◌, rules, sym, ap, subst, [], ◌++◌, map, List, Option}
 use Rattle.cyc_tree.specs.View.{expression_tree, statement_tree as source_tree, item_tree, items_of}
 use Rattle.cyc_tree.specs.Tree.{Statement}
 use Rattle.cyc_tree.specs.declared.statement.Statement as code_statement
@@ -9,7 +9,8 @@ use Rattle.source_lowering.specs.Lowered.{expression_code}
 use Rattle.source_lowering.specs.Programs.{block_shapes, statement_code}
 use Rattle.source_lowering.specs.Taken.{TakesStatement, TakesItems}
 use Rattle.lower_checks.specs.Refusals.{AreLocals}
-use Rattle.lower_checks.specs.Views.{shape_tree, names_of}
+use Rattle.lower_checks.specs.Views.{shape_tree}
+use Rattle.lower_checks.specs.Visible.{Declared, names_of}
 use Rattle.lower_checks.proofs.Lists.{on_ok, choice_of}
 use Rattle.lower_checks.proofs.Taken.{block_locals}
 use Rattle.lower_checks.proofs.statement.+statement.Goals as goal
@@ -65,6 +66,7 @@ lower_statement-returns-in_ok-those-in-IfElse-clause-code t c =
     ∙ ap (λ (s : code_statement.Statement). statement_code w result names (source_tree s)) c.deref-in-IfElse.ensures in
     let those_are : map statement_tree c.in_ok-those-in-IfElse.those.items ≡ statement_code w result names those =
     c.in_ok-those-in-IfElse.ensures.code
+    ∙ ap (λ (ms : List (Option Declared)). statement_code w result (names_of ms) (source_tree c.deref-in-IfElse-2.result.now)) c.in_ok-these-in-IfElse.ensures.kept
     ∙ ap (λ (s : code_statement.Statement). statement_code w result names (source_tree s)) c.deref-in-IfElse-2.ensures in
     on_ok c.emit_if-in-IfElse.result c.emit_if-in-IfElse.ensures.code
     (choice_of (map statement_tree c.args.body.now.items) (map statement_tree c.lower_expression-in-IfElse.new.body.items)

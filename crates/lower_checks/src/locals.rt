@@ -1,0 +1,117 @@
+// The locals that are visible at a point.
+
+ghost use Rattle.std.specs.Prelude.{◌≡◌, ◌∷◌, [], OnOk, Some, None, option_map};
+ghost use Rattle.cyc_tree.specs.View.{name_tree};
+ghost use Rattle.source_lowering.specs.Lowered.{local_named};
+ghost use Rattle.lower_checks.specs.Views.{named_tree};
+ghost use Rattle.lower_checks.specs.Visible.{declared, left, names_of};
+ghost use Rattle.lower_checks.specs.Refusals.{NeverRefused};
+
+use crate::fault::LowerFault;
+use crate::last::LastLocals;
+use crate::mark::{Local, Mark};
+use crate::names::{Named, after};
+use crate::shape::Shape;
+use cyc_tree::Name;
+use std::alloc::Global;
+use std::marker::Model;
+
+/// The locals that are visible at a point. A contract sees them with the beginnings of the open blocks, the last one first.
+#[derive(Drop)]
+pub struct Locals<'p> {
+    marks: Vec<Mark<'p>>,
+    last: LastLocals<'p>,
+    depth: u32,
+}
+
+impl<'p> Model for Locals<'p> {
+    ghost use Rattle.std.specs.Prelude.{List, Option, reverse};
+    ghost use Rattle.lower_checks.specs.Visible.{Declared};
+    ghost use Rattle.lower_checks.specs.Marks.{AreLinked, marks_of};
+
+    ghost Value = { List (Option Declared) };
+
+    ghost view = { λ s. marks_of (reverse s.marks.items) };
+
+    ghost invariant = { λ s. AreLinked (reverse s.marks.items) s.last s.depth };
+}
+
+impl<'p> Locals<'p> {
+    /// No locals, outside of all blocks.
+    pub fn new(alloc: Global) -> Self
+        ensures { result ≡ [] }
+    {
+        Locals {
+            marks: Vec::new(alloc),
+            last: LastLocals::new(alloc),
+            depth: 0,
+        }
+    }
+
+    /// The innermost local of a name.
+    pub fn named(&self, name: &[u8]) -> Option<Named<'p>>
+        ensures { option_map named_tree result ≡ local_named (names_of self.now) name.now }
+    {
+        match self.last.of(name) {
+            Some(local) => Some(Named {
+                name: local.name,
+                shape: local.shape,
+                out: self.depth.saturating_sub(local.depth),
+                index: local.index,
+            }),
+            None => None,
+        }
+    }
+
+    /// Declares a local of the innermost block, which has this number in it.
+    pub fn declare(&mut self, name: &'p Name, shape: Shape, index: u32) -> Result<(), LowerFault>
+        ensures declared { OnOk result (self.new ≡ Some (declared (name_tree name.entry.now).text shape index) ∷ self.old) }
+        ensures taken { NeverRefused result }
+    {
+        let local = Local {
+            name: &name.text,
+            shape,
+            index,
+            depth: self.depth,
+        };
+        let hidden = self.last.of(local.name);
+        if let Err(_) = self.marks.push(Mark::Declare(local, hidden)) {
+            return Err(LowerFault::Memory);
+        }
+        match self.last.add(local) {
+            Ok(()) => Ok(()),
+            Err(_) => {
+                self.marks.pop();
+                Err(LowerFault::Memory)
+            }
+        }
+    }
+
+    /// Begins a block.
+    pub fn enter(&mut self) -> Result<(), LowerFault>
+        ensures entered { OnOk result (self.new ≡ None ∷ self.old) }
+        ensures taken { NeverRefused result }
+    {
+        let depth = after(self.depth)?;
+        if let Err(_) = self.marks.push(Mark::Begin) {
+            return Err(LowerFault::Memory);
+        }
+        self.depth = depth;
+        Ok(())
+    }
+
+    /// Leaves the innermost block.
+    pub fn leave(&mut self)
+        ensures { self.new ≡ left self.old }
+    {
+        'marks: while let Some(mark) = self.marks.pop() {
+            match mark {
+                Mark::Begin => {
+                    self.depth = self.depth.saturating_sub(1);
+                    return;
+                }
+                Mark::Declare(local, hidden) => self.last.set(local.name, hidden),
+            }
+        }
+    }
+}

@@ -6,8 +6,8 @@ ghost use Rattle.core_eval.specs.Evaluated.{reads_failed, writes_failed};
 ghost use Rattle.cyc_meaning.specs.Evaluated.{IsEvaluated};
 
 use core_eval::{EvalEnding, evaluate_core};
-use lower_checks::{LowerFault, lower};
 use cyc_words::{Input, Output};
+use lower_checks::{LowerFault, lower};
 use std::alloc::Global;
 use unique_flow::Checked;
 

@@ -13,16 +13,16 @@ ghost use Rattle.cycc_driver.specs.Refused.{HasNoCodeFor};
 ghost use Rattle.cycc_driver.specs.Outcome.{IsCode, IsImplementedBy, IsTextImage};
 
 use crate::fault::{CompileFault, Place, of_checking, of_flow, of_lexing, of_parsing};
-use lower_checks::{LowerFault, lower};
-use rv32_layout::{PlaceFault, data, place};
-use rv32_select::select;
 use cyc_core::Program as Core;
 use cyc_image::{Parts, write};
 use cyc_lexer::tokens;
 use cyc_parser::parse;
 use cyc_tree::Program;
 use effect_check::effects;
+use lower_checks::{LowerFault, lower};
 use region_types::typed;
+use rv32_layout::{PlaceFault, data, place};
+use rv32_select::select;
 use std::alloc::Global;
 use unique_flow::{Checked, flow};
 

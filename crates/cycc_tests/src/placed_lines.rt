@@ -1,10 +1,10 @@
 // The code of lines with labels, and the bytes of globals, by words worked out by hand.
 
 use core_frames::Line;
-use rv32_layout::{PlaceFault, data, place};
-use rv32_select::Labelled;
 use cyc_core::{Datum, Program};
 use rv32_isa::{Instr, Register, Signed12};
+use rv32_layout::{PlaceFault, data, place};
+use rv32_select::Labelled;
 use std::test::Fail;
 
 // addi x0, x0, 0

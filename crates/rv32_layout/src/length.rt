@@ -5,8 +5,8 @@ ghost use Rattle.cyc_image.specs.Format.{code_limit};
 ghost use Rattle.core_frames.specs.Lines.{size_of, code_length};
 
 use core_frames::Line;
-use rv32_select::Labelled;
 use cyc_image::CODE_LIMIT;
+use rv32_select::Labelled;
 
 /// How many bytes a line takes.
 pub(crate) fn size(line: Line) -> u32

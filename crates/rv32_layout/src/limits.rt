@@ -8,8 +8,8 @@ ghost use Rattle.rv32_layout.specs.Limits.{first_target, GoesTooFar, AreTooLarge
 
 use crate::length::{length, size};
 use core_frames::Line;
-use rv32_select::Labelled;
 use cyc_image::CODE_LIMIT;
+use rv32_select::Labelled;
 
 /// The label to which the first instruction jumps, where it is a jump or a call.
 fn first_target(lines: &[Line]) -> Option<usize>

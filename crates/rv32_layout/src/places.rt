@@ -10,8 +10,8 @@ ghost use Rattle.rv32_layout.specs.Placing.{place_in};
 
 use crate::length::size;
 use core_frames::Line;
-use rv32_select::Labelled;
 use indexmap::IndexMap;
+use rv32_select::Labelled;
 use std::alloc::{AllocError, Global};
 
 /// The places of labels, in bytes from the first line on.

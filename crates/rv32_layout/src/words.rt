@@ -10,8 +10,8 @@ ghost use Rattle.rv32_layout.specs.Placing.{place_in, IsInReach, Reaches, Starts
 use crate::places::{Places, find_places};
 use byteorder::{ByteOrder, LittleEndian};
 use core_frames::Line;
-use rv32_select::Labelled;
 use rv32_isa::{BranchOffset, Instr, JumpOffset, Register, encode};
+use rv32_select::Labelled;
 use std::alloc::{AllocError, Global};
 
 /// The bytes of a word, the lowest first.

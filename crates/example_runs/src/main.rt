@@ -49,13 +49,10 @@ fn bytes_of(rt: &HostRuntime, path: &str) -> io::Result<Vec<u8>> {
     Ok(bytes)
 }
 
-/// What is expected of an example: the input, the output or the ending. An example without input has no file of it.
+/// What is expected of an example: the input, the output or the ending.
 fn expected(rt: &HostRuntime, name: &str, what: &str) -> io::Result<Vec<u8>> {
     let path = format!(in rt.alloc(); "expected/{name}.{what}")?;
-    match bytes_of(rt, path.as_str()) {
-        Err(error) if error.kind() == ErrorKind::NotFound => Ok(Vec::new(rt.alloc())),
-        bytes => bytes,
-    }
+    bytes_of(rt, path.as_str())
 }
 
 /// What a command writes on a source and an input, and what it says.

@@ -33,6 +33,8 @@ const LARGE_TEXTS: &str = "\
 8 | IN:1:1: Lex$ | - <- check IN <- 1048577 <- ~ ~~~
 0 | - | - | 1024 pages <- compile IN OUT <- 406 <- int main() {~putchar(1); ~;;;;}~~
 0 | - | - | 1024 pages <- compile IN OUT <- 406 <- int main() {~putchar(1); ~;;;;;}~~
+0 | - | - | 1024 pages <- compile IN OUT <- 43687 <- int main() {~putchar(1); ~}~~
+8 | IN:1:1: TooLarge$ | - <- compile IN OUT <- 43688 <- int main() {~putchar(1); ~}~~
 0 | - | accepted$ <- check IN <- 50000 <- int main() {~putchar(1); ~}~~
 8 | IN:1:1: TooLarge$ | - <- compile IN OUT <- 50000 <- int main() {~putchar(1); ~}~~
 8 | IN:1:1: TooLarge$ | - <- run IN <- 50000 <- int main() {~putchar(1); ~}~~";

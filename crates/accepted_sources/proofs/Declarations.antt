@@ -6,7 +6,7 @@ use Rattle.cyc_tree.specs.declared.name.Sign.TheVariants as sign
 use Rattle.cyc_tree.specs.Operands.{DeclarationHasOperands}
 use Rattle.cyc_tree.specs.Tree as tree
 use Rattle.cyc_tree.specs.Tree.{TypeName, Initializer, Expression}
-use Rattle.source_lowering.specs.Taken.{IsIntegerBase, IsIntegerType, IsVoidBase, IsVoidType, TakesResult, GivesInteger, GivesNothing}
+use Rattle.accepted_sources.specs.IntegerForms.{IsIntegerBase, IsIntegerType, IsVoidBase, IsVoidType, TakesResult, GivesInteger, GivesNothing}
 use Rattle.source_typing.specs.Converts.{IsInteger}
 use Rattle.source_typing.specs.Declarations.{converted_to, declare, set_faults, set_type, unset_type, what_after, what_of}
 use Rattle.source_typing.specs.Expressions.{judge}

@@ -9,7 +9,7 @@ use Rattle.cyc_tree.specs.Tree.{Expression, Expressions, NoExpressions, MoreExpr
 use Rattle.source_meaning.specs.Calls.{number_type}
 use Rattle.source_meaning.specs.Expressions.{is_unique_region}
 use Rattle.source_meaning.specs.Memory.{AsChar, AsInt, AsUnsigned, IntegerType}
-use Rattle.source_lowering.specs.Taken.{Takes, TakesAll, TakesLinks, TakesPrefix}
+use Rattle.accepted_sources.specs.IntegerForms.{Takes, TakesAll, TakesLinks, TakesPrefix}
 use Rattle.source_typing.specs.Calls.{Target, called, target}
 use Rattle.source_typing.specs.Conversions.{converts}
 use Rattle.source_typing.specs.Expressions.{judge, judge_all, judge_links, judge_tests, number_typed}

@@ -6,7 +6,7 @@ use Rattle.cyc_tree.specs.Operands.{ItemsHaveOperands}
 use Rattle.cyc_tree.specs.Tree as tree
 use Rattle.cyc_tree.specs.Tree.{TypeName}
 use Rattle.source_meaning.specs.Shapes.{VoidShape, written, settled}
-use Rattle.source_lowering.specs.Taken.{IsIntegerBase, TakesFunction, TakesResult, GivesInteger, GivesNothing}
+use Rattle.accepted_sources.specs.IntegerForms.{IsIntegerBase, TakesFunction, TakesResult, GivesInteger, GivesNothing}
 use Rattle.source_typing.specs.Faults.{own_after, test, type_rule}
 use Rattle.source_typing.specs.Functions.{Head, body_scope, end_reached, function_faults, function_scope, head_of, what_of_known, with_parameters}
 use Rattle.source_typing.specs.Scope.{Env, with_local}

@@ -5,7 +5,7 @@ use Rattle.cyc_tree.specs.Tree as tree
 use Rattle.cyc_tree.specs.Tree.{Constant, Initial, TypeName}
 use Rattle.source_meaning.specs.Calls.{number_type}
 use Rattle.source_meaning.specs.Memory.{AsChar, AsInt, AsUnsigned, IntegerType}
-use Rattle.source_lowering.specs.Taken.{IsIntegerBase, IsIntegerType, IsVoidType, TakesConstant, TakesInitial, TakesResult, GivesInteger, GivesNothing}
+use Rattle.accepted_sources.specs.IntegerForms.{IsIntegerBase, IsIntegerType, IsVoidType, TakesConstant, TakesInitial, TakesResult, GivesInteger, GivesNothing}
 use Rattle.source_typing.specs.Conversions.{broken, conversion, if_integer}
 use Rattle.source_typing.specs.Converts.{IsInteger}
 use Rattle.source_typing.specs.Declarations.{converted_to, what_after, what_of}

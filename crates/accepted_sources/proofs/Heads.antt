@@ -3,7 +3,7 @@ use Rattle.std.proofs.Common.{◌≡◌, Bool, true, false, Option, Some, None, 
 use Rattle.std.specs.Prelude.{◌||◌, ◌++◌, if◌then◌else◌, map, not}
 use Rattle.cyc_tree.specs.Tree as tree
 use Rattle.cyc_tree.specs.Tree.{TypeName}
-use Rattle.source_lowering.specs.Taken.{AreIntegers, IsIntegerBase, IsIntegerType, IsVoidType, TakesResult, GivesInteger, GivesNothing}
+use Rattle.accepted_sources.specs.IntegerForms.{AreIntegers, IsIntegerBase, IsIntegerType, IsVoidType, TakesResult, GivesInteger, GivesNothing}
 use Rattle.source_typing.specs.Faults.{Fault, is_clean, type_rule}
 use Rattle.source_typing.specs.Functions.{
   Head,

@@ -3,7 +3,7 @@ use Rattle.std.proofs.Common.{◌≡◌, ℕ, suc, Bool, true, false, Option, So
 use Rattle.std.specs.Prelude.{if◌then◌else◌, map, ◌++◌, ◌&&◌}
 use Rattle.cyc_tree.specs.Tree as tree
 use Rattle.cyc_tree.specs.Tree.{Initial, Item, Program, TypeName}
-use Rattle.source_lowering.specs.Taken.{IsIntegerBase, TakesResult, GivesInteger, GivesNothing}
+use Rattle.accepted_sources.specs.IntegerForms.{IsIntegerBase, TakesResult, GivesInteger, GivesNothing}
 use Rattle.source_typing.specs.Converts.{IsInteger}
 use Rattle.source_typing.specs.Declarations.{what_after, what_of}
 use Rattle.source_typing.specs.Functions.{Variables, parameter_type, read_parameters, take_spots, variables, what_of_known, with_parameters}

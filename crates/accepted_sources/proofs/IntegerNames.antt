@@ -3,7 +3,7 @@ use Rattle.std.proofs.Common.{◌≡◌, ℕ, Bool, true, false, Option, Some, N
 use Rattle.std.specs.Prelude.{bytes_eq, if◌then◌else◌, ◌&&◌}
 use Rattle.cyc_tree.specs.Tree as tree
 use Rattle.cyc_tree.specs.Tree.{Initializer, TypeName}
-use Rattle.source_lowering.specs.Taken.{IsIntegerBase, TakesResult, GivesInteger, GivesNothing}
+use Rattle.accepted_sources.specs.IntegerForms.{IsIntegerBase, TakesResult, GivesInteger, GivesNothing}
 use Rattle.source_typing.specs.Converts.{IsInteger}
 use Rattle.source_typing.specs.Declarations.{declare, set_faults, set_type, unset_type, what_after, what_of}
 use Rattle.source_typing.specs.Expressions.{judge}

@@ -10,6 +10,7 @@ pub mod Globals
 pub mod Sizes
 pub mod Tags
 pub mod Strings
+pub mod Lowerable
 pub mod Programs
 pub mod StillStates
 pub mod IntegerNames

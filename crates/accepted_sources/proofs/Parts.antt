@@ -7,7 +7,7 @@ use Rattle.cyc_tree.specs.declared.expression.Prefix.{Prefix}
 use Rattle.cyc_tree.specs.declared.expression.Prefix.TheVariants as prefix
 use Rattle.cyc_tree.specs.Operands.{ExpressionHasOperands, AllHaveOperands, LinksHaveOperands}
 use Rattle.cyc_tree.specs.Tree.{Expression, Expressions, NoExpressions, MoreExpressions, Links, NoLinks, MoreLinks}
-use Rattle.source_lowering.specs.Taken.{TakesPrefix}
+use Rattle.accepted_sources.specs.IntegerForms.{TakesPrefix}
 use Rattle.source_typing.specs.Calls.{Target, ToBuiltin, ToFunction, ToStruct, arguments_fit, builtin_parameters, call_entered, called, target}
 use Rattle.source_typing.specs.Converts.{Converts, IsInteger, Same, Integers, NullToThin, NullToFat, NullToUnique, Thins, Fats, ThinToFat, FatToThin, Uniques}
 use Rattle.source_typing.specs.Expressions.{judge, judge_all, judge_links, judge_tests}

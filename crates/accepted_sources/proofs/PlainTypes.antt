@@ -5,7 +5,7 @@ use Rattle.cyc_tree.specs.declared.expression.Operator.{Operator}
 use Rattle.cyc_tree.specs.declared.expression.Operator.TheVariants as operator
 use Rattle.cyc_tree.specs.declared.expression.Prefix.{Prefix}
 use Rattle.cyc_tree.specs.declared.expression.Prefix.TheVariants as prefix
-use Rattle.source_lowering.specs.Taken.{TakesPrefix}
+use Rattle.accepted_sources.specs.IntegerForms.{TakesPrefix}
 use Rattle.source_typing.specs.Conversions.{broken, conversion}
 use Rattle.source_typing.specs.Converts.{IsInteger}
 use Rattle.source_typing.specs.Operators.{applied_to, common, if_equality, integers_joined, is_equality, on_integers, prefixed, promoted, tested_both}

@@ -4,7 +4,7 @@ use Rattle.std.specs.Prelude.{◌++◌, codes}
 use Rattle.cyc_tree.specs.Operands.{HasOperands}
 use Rattle.cyc_tree.specs.Tree as tree
 use Rattle.cyc_tree.specs.Tree.{Item, Program}
-use Rattle.source_lowering.specs.Taken.{TakesProgram}
+use Rattle.accepted_sources.specs.IntegerForms.{TakesProgram}
 use Rattle.source_typing.specs.Answers.{program_faults, rule_faults}
 use Rattle.source_typing.specs.Functions.{Head, function_faults}
 use Rattle.source_typing.specs.Globals.{global_faults}
@@ -31,11 +31,12 @@ use Rattle.source_typing.specs.Taken.{constant_forms, function_taken, integers, 
 use Rattle.source_typing.proofs.Inversion.{none_of_both}
 use Rattle.source_typing.proofs.TakenItems.{program_is_taken}
 use Rattle.accepted_sources.specs.Accepted.{AllAccepted, IsGlobal, IsInOrder}
-use Rattle.accepted_sources.specs.Laws.{AcceptedIsInOrder, AcceptedIsLowerable}
+use Rattle.accepted_sources.specs.Laws.{AcceptedIsInOrder, AcceptedIsLowerable, AcceptedIsOfIntegers}
 use Rattle.accepted_sources.specs.Plain.{AllSound}
 use Rattle.accepted_sources.proofs.Functions.{IsClean, function_accepted, function_clean, function_takes}
 use Rattle.accepted_sources.proofs.Globals.{entry_sound, global_accepted}
 use Rattle.accepted_sources.proofs.Heads.{head_same, signature_sound}
+use Rattle.accepted_sources.proofs.Lowerable.{program_taken}
 use Rattle.accepted_sources.proofs.Strings.{program_silent}
 use Rattle.accepted_sources.proofs.Tags.{AreNoTags, IsNoTag, no_tags}
 
@@ -151,8 +152,10 @@ accepted_is_in_order p o e =
     let s : AllSound g = tables_sound p k in
     record { tables = s; items = all_accepted g 0 p s k t o b.items; names = b.names; main = b.main; sizes = b.sizes }
 
+pub accepted_is_of_integers : AcceptedIsOfIntegers
+accepted_is_of_integers p o e = all_take (tables_of false p) 0 p (accepted_is_in_order p o e).items
+
 pub accepted_is_lowerable : AcceptedIsLowerable
 accepted_is_lowerable p o e =
-    let a : IsInOrder p = accepted_is_in_order p o e in
-    let k : TakesProgram p = all_take (tables_of false p) 0 p a.items in
-    record { items = k; strings = program_silent p k }
+    let k : TakesProgram p = accepted_is_of_integers p o e in
+    record { items = program_taken p k; strings = program_silent p k }

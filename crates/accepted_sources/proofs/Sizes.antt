@@ -1,12 +1,11 @@
 -- How many bytes a global without fault has.
-use Rattle.std.proofs.Common.{◌≡◌, ℕ, refl, sym, subst, ◌∙◌, ap}
+use Rattle.std.proofs.Common.{◌≡◌, ℕ, refl, ◌∙◌, ap}
 use Rattle.cyc_tree.specs.Tree as tree
 use Rattle.cyc_tree.specs.Tree.{Initial}
-use Rattle.source_lowering.specs.Taken.{IsIntegerBase, TakesInitial}
-use Rattle.source_typing.specs.Globals.{count_of, global_faults, global_size, global_type, if_clean, typed_size}
+use Rattle.accepted_sources.specs.IntegerForms.{IsIntegerBase, TakesInitial}
+use Rattle.source_typing.specs.Globals.{count_of, global_size, global_type, if_clean, typed_size}
 use Rattle.source_typing.specs.Scope.{Env}
 use Rattle.source_typing.specs.Extents.{variable_size}
-use Rattle.source_typing.specs.Verdicts.{Of}
 use Rattle.accepted_sources.specs.Accepted.{IsGlobal, base_type}
 use Rattle.accepted_sources.proofs.Globals.{entry_clean, global_integer}
 

@@ -6,7 +6,7 @@ use Rattle.cyc_tree.specs.Places.{expression_place}
 use Rattle.cyc_tree.specs.Tree as tree
 use Rattle.cyc_tree.specs.Tree.{Expression, Initializer, Statement, BlockItems, NoItems, Declare, Execute}
 use Rattle.source_meaning.specs.Shapes.{Shape, VoidShape}
-use Rattle.source_lowering.specs.Taken.{TakesDeclaration, TakesStatement, TakesItems}
+use Rattle.accepted_sources.specs.IntegerForms.{TakesDeclaration, TakesStatement, TakesItems}
 use Rattle.source_typing.specs.Converts.{IsInteger}
 use Rattle.source_typing.specs.Declarations.{declare}
 use Rattle.source_typing.specs.Expressions.{judge}

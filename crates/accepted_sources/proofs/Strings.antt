@@ -33,7 +33,7 @@ use Rattle.source_meaning.specs.Strings.{
   program_strings,
   statement_strings,
 }
-use Rattle.source_lowering.specs.Taken.{
+use Rattle.accepted_sources.specs.IntegerForms.{
   Takes,
   TakesAll,
   TakesConstant,

@@ -3,7 +3,7 @@ use Rattle.std.proofs.Common.{◌≡◌, ℕ, suc, Bool, true, List, [], ◌∷�
 use Rattle.std.specs.Prelude.{map, not, ◌++◌, ◌&&◌}
 use Rattle.cyc_tree.specs.Tree as tree
 use Rattle.cyc_tree.specs.Tree.{Initial, Item, Program, TypeName}
-use Rattle.source_lowering.specs.Taken.{IsIntegerBase, TakesResult, GivesInteger, GivesNothing}
+use Rattle.accepted_sources.specs.IntegerForms.{IsIntegerBase, TakesResult, GivesInteger, GivesNothing}
 use Rattle.source_meaning.specs.Sizes.{rounded_up}
 use Rattle.source_typing.specs.Faults.{Fault}
 use Rattle.source_typing.specs.Globals.{Static, global_faults, global_size, if_clean, item_statics, static_string, total_faults}

@@ -4,7 +4,7 @@ use Rattle.cyc_tree.specs.Tree as tree
 use Rattle.cyc_tree.specs.Tree.{Expression, Expressions, NoExpressions, MoreExpressions, Links, NoLinks, MoreLinks}
 use Rattle.cyc_tree.specs.Tree.{Initializer, Statement, BlockItems, NoItems, Declare, Execute, Item, Program}
 use Rattle.source_meaning.specs.Programs.{is_main}
-use Rattle.source_lowering.specs.Taken.{AreIntegers, IsIntegerType, TakesInitial, TakesResult}
+use Rattle.accepted_sources.specs.IntegerForms.{AreIntegers, IsIntegerType, TakesInitial, TakesResult}
 use Rattle.source_typing.specs.Converts.{IsInteger}
 use Rattle.source_typing.specs.Declarations.{declare}
 use Rattle.source_typing.specs.Functions.{body_scope, end_reached, head_of}

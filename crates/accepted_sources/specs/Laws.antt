@@ -6,7 +6,12 @@ use Rattle.source_lowering.specs.Taken.{IsLowerable}
 use Rattle.source_typing.specs.Answers.{program_faults}
 use Rattle.source_typing.specs.Left.{flow_faults}
 use Rattle.source_typing.specs.Taken.{integers, only_taken}
+use Rattle.accepted_sources.specs.IntegerForms.{TakesProgram}
 use Rattle.accepted_sources.specs.Accepted.{IsInOrder}
+
+-- each has the forms of integers alone
+abbrev pub AcceptedIsOfIntegers : Type 0
+AcceptedIsOfIntegers = (p : Program) → HasOperands p → program_faults integers p ≡ [] → TakesProgram p
 
 -- lowering takes each
 abbrev pub AcceptedIsLowerable : Type 0

@@ -1,3 +1,4 @@
+pub mod IntegerForms
 pub mod Plain
 pub mod Accepted
 pub mod Laws

@@ -1,7 +1,7 @@
 -- What is known of the types and names of a program of integers in which nothing is at fault.
 use Rattle.std.specs.Prelude.{◌≡◌, true, Option, Some, None, List, [], ◌∷◌}
 use Rattle.cyc_tree.specs.Tree.{Expression}
-use Rattle.source_lowering.specs.Taken.{Takes, TakesPlace}
+use Rattle.accepted_sources.specs.IntegerForms.{Takes, TakesPlace}
 use Rattle.source_typing.specs.Converts.{IsInteger}
 use Rattle.source_typing.specs.Expressions.{judge}
 use Rattle.source_typing.specs.Scope.{Env, Value, in_scope, is_place}

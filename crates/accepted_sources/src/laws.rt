@@ -1,9 +1,14 @@
 // What holds of all programs of integers in which the rules find no fault.
 
-ghost use Rattle.accepted_sources.specs.Laws.{AcceptedIsInOrder, AcceptedIsLowerable, IntegersHaveNoFlowFaults};
+ghost use Rattle.accepted_sources.specs.Laws.{AcceptedIsInOrder, AcceptedIsLowerable, AcceptedIsOfIntegers, IntegersHaveNoFlowFaults};
 
 /// A law, with nothing to run: a program in which the rules on functions and globals of integers find
-/// no fault is one that lowering takes, if its tree has the operands that each text's tree has.
+/// no fault has the forms of integers alone, if its tree has the operands that each text's tree has.
+pub fn accepted_is_of_integers()
+    ensures { AcceptedIsOfIntegers }
+{}
+
+/// A law, with nothing to run: such a program is one that lowering takes.
 pub fn accepted_is_lowerable()
     ensures { AcceptedIsLowerable }
 {}

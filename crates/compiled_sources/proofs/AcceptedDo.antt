@@ -2,12 +2,12 @@
 use Rattle.std.specs.Prelude.{false}
 use Rattle.compiled_sources.specs.Laws.{AllAcceptedDo}
 use Rattle.accepted_sources.proofs.Programs.{accepted_is_lowerable, no_typing_faults}
-use Rattle.compiled_sources.proofs.IntegersDo.{integers_do}
+use Rattle.compiled_sources.proofs.LowerableDo.{lowerable_do}
 use Rattle.compiled_sources.proofs.NamedApart.{named_apart}
 use Rattle.compiled_sources.proofs.DataWithin.{data_within}
 
 pub accepted_do : AllAcceptedDo
 accepted_do p o e = record {
-  promised = integers_do p (accepted_is_lowerable p o e) (named_apart false p (no_typing_faults p e));
+  promised = lowerable_do p (accepted_is_lowerable p o e) (named_apart false p (no_typing_faults p e));
   data_within = data_within p o e;
 }

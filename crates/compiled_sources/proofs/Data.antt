@@ -1,8 +1,9 @@
--- The data of a program of integers are numbers, each in one word or byte.
-use Rattle.std.proofs.Common.{◌^◌, ◌<◌, List, [], ◌∷◌, inl, inr, refl, arith}
+-- The data of a program that is taken are numbers and NULL, each in one word or byte.
+use Rattle.std.proofs.Common.{◌≡◌, ◌^◌, ◌<◌, Bool, List, [], ◌∷◌, inl, inr, refl, sym, subst, arith}
 use Rattle.cyc_tree.specs.Tree as tree
 use Rattle.cyc_tree.specs.Tree.{Initial, Item}
 use Rattle.source_meaning.specs.Shapes.{
+  Owner,
   Shape,
   IntShape,
   UnsignedShape,
@@ -19,43 +20,64 @@ use Rattle.source_meaning.specs.Shapes.{
   settled,
 }
 use Rattle.source_meaning.specs.Steps.{World}
-use Rattle.core_meaning.specs.Memory.{Word}
+use Rattle.core_meaning.specs.Memory.{Word, Null}
 use Rattle.core_frames.specs.Statics.{IsPlain, IsPlainDatum, ArePlainData}
-use Rattle.source_lowering.specs.Programs.{constant_word, initial_content, datum_of, data_of}
-use Rattle.source_lowering.specs.Taken.{TakesConstant, TakesInitial, TakesProgram}
-use Rattle.source_lowering.proofs.Integers.{IsInteger}
-use Rattle.source_lowering.proofs.EachStatement.{type_settled}
+use Rattle.source_lowering.specs.Programs.{word_in, constant_word, constant_content, initial_content, datum_of, data_of}
+use Rattle.source_lowering.specs.Taken.{IsIntegerShape, TakesConstant, TakesInitial, TakesProgram}
+use Rattle.source_lowering.proofs.Integers.{IsWordShape}
+use Rattle.source_lowering.proofs.WrittenTypes.{type_settled}
 
-constant_small : (c : tree.Constant) → TakesConstant c → constant_word c < 2 ^ 32
-constant_small (tree.Number at value suffix) h = omega arith
-constant_small (tree.Negative at value suffix) h = omega arith
-constant_small (tree.Character at byte) h = omega arith
-constant_small (tree.Text at bytes) h = absurd h
-constant_small (tree.Null at) h = absurd h
+constant_plain : (c : tree.Constant) (s : Shape) → IsIntegerShape s → TakesConstant s c → word_in s (constant_word c) ≡ constant_word c
+    → IsPlain 4 (constant_content c s)
+constant_plain (tree.Number at value suffix) s i h e = subst (λ z. z < 2 ^ 32) (sym e) (omega arith)
+constant_plain (tree.Negative at value suffix) s i h e = subst (λ z. z < 2 ^ 32) (sym e) (omega arith)
+constant_plain (tree.Character at byte) s i h e = subst (λ z. z < 2 ^ 32) (sym e) (omega arith)
+constant_plain (tree.Text at bytes) s i h e = absurd h
+constant_plain (tree.Null at) s i h e = tt
 
 -- a word of an int or an unsigned
-word_plain : (i : Initial) → TakesInitial i → IsPlain 4 (initial_content i IntShape)
+word_plain : (i : Initial) → TakesInitial IntShape i → IsPlain 4 (initial_content i IntShape)
 word_plain Initial.Unset h = omega arith
 word_plain (Initial.Elements count) h = absurd h
-word_plain (Initial.Given c) h = constant_small c h
+word_plain (Initial.Given c) h = constant_plain c IntShape tt h refl
 
-byte_plain : (i : Initial) → TakesInitial i → IsPlain 1 (initial_content i CharShape)
-byte_plain Initial.Unset h = omega arith
-byte_plain (Initial.Elements count) h = absurd h
-byte_plain (Initial.Given c) h = omega arith
-
-unsigned_plain : (i : Initial) → TakesInitial i → IsPlain 4 (initial_content i UnsignedShape)
+unsigned_plain : (i : Initial) → TakesInitial UnsignedShape i → IsPlain 4 (initial_content i UnsignedShape)
 unsigned_plain Initial.Unset h = omega arith
 unsigned_plain (Initial.Elements count) h = absurd h
-unsigned_plain (Initial.Given c) h = constant_small c h
+unsigned_plain (Initial.Given c) h = constant_plain c UnsignedShape tt h refl
 
-datum_plain : (w : World) (i : Initial) (s : Shape) → IsInteger s → TakesInitial i → IsPlainDatum (datum_of w s (initial_content i s))
-datum_plain w i IntShape h t =
-    record { width = 4; wide = inr refl; first = Word 0; layout = refl; plain = λ cell. word_plain i t }
+constant_byte : (c : tree.Constant) → TakesConstant CharShape c → IsPlain 1 (constant_content c CharShape)
+constant_byte (tree.Number at value suffix) h = omega arith
+constant_byte (tree.Negative at value suffix) h = omega arith
+constant_byte (tree.Character at byte) h = omega arith
+constant_byte (tree.Text at bytes) h = absurd h
+constant_byte (tree.Null at) h = tt
+
+byte_plain : (i : Initial) → TakesInitial CharShape i → IsPlain 1 (initial_content i CharShape)
+byte_plain Initial.Unset h = omega arith
+byte_plain (Initial.Elements count) h = absurd h
+byte_plain (Initial.Given c) h = constant_byte c h
+
+-- a pointer is NULL at first
+null_plain : (c : tree.Constant) (b : Bool) (o : Owner) (to : Shape) → TakesConstant (ThinShape b o to) c → IsPlain 4 (constant_content c (ThinShape b o to))
+null_plain (tree.Number at value suffix) b o to h = absurd h
+null_plain (tree.Negative at value suffix) b o to h = absurd h
+null_plain (tree.Character at byte) b o to h = absurd h
+null_plain (tree.Text at bytes) b o to h = absurd h
+null_plain (tree.Null at) b o to h = tt
+
+pointer_plain : (i : Initial) (b : Bool) (o : Owner) (to : Shape) → TakesInitial (ThinShape b o to) i → IsPlain 4 (initial_content i (ThinShape b o to))
+pointer_plain Initial.Unset b o to h = tt
+pointer_plain (Initial.Elements count) b o to h = absurd h
+pointer_plain (Initial.Given c) b o to h = null_plain c b o to h
+
+datum_plain : (w : World) (i : Initial) (s : Shape) → IsWordShape s → TakesInitial s i → IsPlainDatum (datum_of w s (initial_content i s))
+datum_plain w i IntShape h t = record { width = 4; wide = inr refl; first = Word 0; layout = refl; plain = λ cell. word_plain i t }
 datum_plain w i UnsignedShape h t = record { width = 4; wide = inr refl; first = Word 0; layout = refl; plain = λ cell. unsigned_plain i t }
 datum_plain w i CharShape h t = record { width = 1; wide = inl refl; first = Word 0; layout = refl; plain = λ cell. byte_plain i t }
+datum_plain w i (ThinShape may_be_null owner to) h t =
+    record { width = 4; wide = inr refl; first = Null; layout = refl; plain = λ cell. pointer_plain i may_be_null owner to t }
 datum_plain w i VoidShape h t = absurd h
-datum_plain w i (ThinShape may_be_null owner to) h t = absurd h
 datum_plain w i (FatShape to) h t = absurd h
 datum_plain w i HandleShape h t = absurd h
 datum_plain w i KeyShape h t = absurd h
@@ -69,6 +91,6 @@ data_plain w (tree.StructItem s ∷ items) h = absurd h.0
 data_plain w (tree.UnionItem u ∷ items) h = absurd h.0
 data_plain w (tree.FunctionItem g ∷ items) h = data_plain w items h.1
 data_plain w (tree.GlobalItem g ∷ items) h = (
-  datum_plain w g.initial (settled (written g.of)) (type_settled g.of h.0.0).integer h.0.1,
+  datum_plain w g.initial (settled (written g.of)) (type_settled g.of h.0.0).is_word h.0.1,
   data_plain w items h.1,
 )

@@ -15,7 +15,7 @@ use Rattle.core_meaning.specs.Memory.{Content}
 use Rattle.core_frames.specs.Selected.{rounded, bytes_of, end_from, datum_local, datum_locals}
 use Rattle.core_frames.specs.Running.{data_end}
 use Rattle.source_lowering.specs.Programs.{data_of, datum_of, initial_content, program_code}
-use Rattle.source_lowering.specs.Taken.{IsIntegerBase, IsIntegerType}
+use Rattle.accepted_sources.specs.IntegerForms.{IsIntegerBase, IsIntegerType}
 use Rattle.source_typing.specs.Answers.{program_faults}
 use Rattle.source_typing.specs.Faults.{Fault, name_rule, test}
 use Rattle.source_typing.specs.Globals.{Static, global_size, if_passed, item_statics, static_string, total_faults}

@@ -24,7 +24,7 @@ use Rattle.source_meaning.specs.Steps.{World, Routine}
 use Rattle.source_meaning.specs.Programs.{globals_from}
 use Rattle.core_meaning.specs.Core as core
 use Rattle.core_meaning.specs.Core.{Do, Put}
-use Rattle.core_meaning.specs.Memory.{Word}
+use Rattle.core_meaning.specs.Memory.{Word, Null}
 use Rattle.core_frames.specs.Layouts.{IsLayout}
 use Rattle.core_frames.specs.Selectable.{AreLayouts, HaveLayouts}
 use Rattle.core_frames.proofs.Fitting.{none_some}
@@ -37,6 +37,7 @@ use Rattle.source_lowering.specs.Programs.{
   locals_of,
   outward,
   named_here,
+  first_code,
   declaration_code,
   statement_code,
   items_code,
@@ -47,16 +48,18 @@ use Rattle.source_lowering.specs.Programs.{
   data_of,
 }
 use Rattle.source_lowering.specs.Taken.{TakesStatement, TakesItems, TakesProgram}
-use Rattle.source_lowering.proofs.Integers.{IsTaken, integer_taken}
+use Rattle.source_lowering.proofs.Integers.{IsTaken, word_taken}
 use Rattle.source_lowering.proofs.Names.{IsRoutine}
 use Rattle.source_lowering.proofs.Entering.{AreTaken}
-use Rattle.source_lowering.proofs.EachStatement.{shapes_taken, type_settled}
+use Rattle.source_lowering.proofs.EachStatement.{shapes_taken}
+use Rattle.source_lowering.proofs.WrittenTypes.{type_settled}
 use Rattle.source_lowering.proofs.Functions.{parameters_taken}
 use Rattle.source_lowering.proofs.PartCosts.{results_many}
 use Rattle.source_lowering.proofs.Bounded.{all_shapes}
-use Rattle.compiled_sources.specs.Naming.{AreNaming, CodeNames}
+use Rattle.compiled_sources.specs.Naming.{NamesIn, AreNaming, CodeNames}
 use Rattle.compiled_sources.proofs.Naming.{both_name, all_name}
-use Rattle.compiled_sources.proofs.Expressions.{LocalsLie, GlobalsLie, Around, conversion_names, expression_names}
+use Rattle.compiled_sources.proofs.Parts.{LocalsLie, GlobalsLie, Around, conversion_names}
+use Rattle.compiled_sources.proofs.Expressions.{expression_names}
 
 -- ---- layouts
 
@@ -69,7 +72,7 @@ taken_layout w VoidShape h = record {
   even = λ cell part s has. absurd (none_some s has.is);
   apart = λ cell part cell' part' s s' other has has'. absurd (none_some s has.is);
 }
-taken_layout w (ThinShape may_be_null owner to) h = absurd h
+taken_layout w (ThinShape may_be_null owner to) h = one_part_is_layout 4 Null (inr refl)
 taken_layout w (FatShape to) h = absurd h
 taken_layout w HandleShape h = absurd h
 taken_layout w KeyShape h = absurd h
@@ -100,9 +103,23 @@ one_more k blocks n w names name s index h a = record { locals = (h, a.locals); 
 
 -- ---- statements
 
+first_names : (blocks : List ℕ) (n : ℕ) (s : Shape) → NamesIn blocks n (first_code s)
+first_names blocks n (ThinShape may_be_null owner to) = tt
+first_names blocks n IntShape = tt
+first_names blocks n UnsignedShape = tt
+first_names blocks n CharShape = tt
+first_names blocks n VoidShape = tt
+first_names blocks n (FatShape to) = tt
+first_names blocks n HandleShape = tt
+first_names blocks n KeyShape = tt
+first_names blocks n (StructShape tag) = tt
+first_names blocks n (UnionShape tag) = tt
+first_names blocks n (ArrayShape count of) = tt
+
 declaration_names : (k : ℕ) (blocks : List ℕ) (n : ℕ) (w : World) (names : List Named) → Around (k ∷ blocks) n w names → (d : Declaration) (index : ℕ)
     → index < k → CodeNames (k ∷ blocks) n (declaration_code w names d index)
-declaration_names k blocks n w names a (tree.Local of name Initializer.Unset) index h = (tt, (h, tt))
+declaration_names k blocks n w names a (tree.Local of name Initializer.Unset) index h =
+    (first_names (k ∷ blocks) n (settled (written of)), (h, tt))
 declaration_names k blocks n w names a (tree.Local of name (Initializer.Elements count)) index h = tt
 declaration_names k blocks n w names a (tree.Local of name (Initializer.Value e)) index h =
     both_name (k ∷ blocks) n _ _ (expression_names (k ∷ blocks) n w names a e 0)
@@ -234,6 +251,6 @@ data_layouts w (tree.StructItem s ∷ items) h = absurd h.0
 data_layouts w (tree.UnionItem u ∷ items) h = absurd h.0
 data_layouts w (tree.FunctionItem g ∷ items) h = data_layouts w items h.1
 data_layouts w (tree.GlobalItem g ∷ items) h = (
-  taken_layout w (settled (written g.of)) (integer_taken (settled (written g.of)) (type_settled g.of h.0.0).integer),
+  taken_layout w (settled (written g.of)) (word_taken (settled (written g.of)) (type_settled g.of h.0.0).is_word),
   data_layouts w items h.1,
 )

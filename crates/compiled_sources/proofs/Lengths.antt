@@ -335,7 +335,7 @@ mutual
   statement_within bytes u next out again (Return values) =
       less_within (12 * length values + 28) (64 * (1 + length values)) _ (omega arith)
       (both_within (12 * length values) 28 (values_code u.passed 9 values) (leave_code bytes) (values_within u.passed 9 values) (leave_within bytes))
-  statement_within bytes u next out again (Raise kind) = nothing_within 64
+  statement_within bytes u next out again (Raise kind) = record { is = omega arith }
 
   statements_within : (bytes : ℕ) (u : Surroundings) (next out again : ℕ) (ss : Statements)
       → IsWithin (64 * operations_of ss) (statements_code bytes u next out again ss)

@@ -1,4 +1,5 @@
 pub mod Naming
+pub mod Parts
 pub mod Expressions
 pub mod Functions
 pub mod Selectable
@@ -6,7 +7,7 @@ pub mod Frames
 pub mod DoesAsSource
 pub mod Lengths
 pub mod Data
-pub mod IntegersDo
+pub mod LowerableDo
 pub mod NamedApart
 pub mod DataWithin
 pub mod AcceptedDo

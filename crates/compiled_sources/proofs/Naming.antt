@@ -76,13 +76,13 @@ all_below (x ∷ xs) t h = (max_first (suc x) (last_of xs) t h, all_below xs t (
 
 has_code : (u : Scope) (o : Operation) → NamesIn u.blocks u.data_objects o → operation_temporaries o ≤ u.temporaries → HasCode u o
 has_code u (Constant t w) h f = f
-has_code u (NullPointer t) h f = absurd h
+has_code u (NullPointer t) h f = f
 has_code u (Move t x) h f = absurd h
 has_code u (Narrow t x) h f = (max_first (suc t) (suc x) u.temporaries f, max_second (suc t) (suc x) u.temporaries f)
 has_code u (Apply o t x y) h f =
     let g = max_second (suc t) (max (suc x) (suc y)) u.temporaries f in
     (max_first (suc t) (max (suc x) (suc y)) u.temporaries f, max_first (suc x) (suc y) u.temporaries g, max_second (suc x) (suc y) u.temporaries g)
-has_code u (LocalAddress t out local) h f = absurd h
+has_code u (LocalAddress t out local) h f = (f, h)
 has_code u (OwnAddress t object) h f = absurd h
 has_code u (DataAddress t object) h f = (f, h)
 has_code u (Offset t p cells bytes) h f = absurd h
@@ -93,8 +93,10 @@ has_code u (Load t p d) h f = (max_first (suc t) (suc p) u.temporaries f, max_se
 has_code u (Store p d x) h f = (max_first (suc p) (suc x) u.temporaries f, max_second (suc p) (suc x) u.temporaries f)
 has_code u (Copy to from layout) h f = absurd h
 has_code u (Clear p layout count) h f = absurd h
-has_code u (IsNull t p) h f = absurd h
-has_code u (SamePlace t p q) h f = absurd h
+has_code u (IsNull t p) h f = (max_first (suc t) (suc p) u.temporaries f, max_second (suc t) (suc p) u.temporaries f)
+has_code u (SamePlace t p q) h f =
+    let g = max_second (suc t) (max (suc p) (suc q)) u.temporaries f in
+    (max_first (suc t) (max (suc p) (suc q)) u.temporaries f, max_first (suc p) (suc q) u.temporaries g, max_second (suc p) (suc q) u.temporaries g)
 has_code u (Getchar t) h f = f
 has_code u (Putchar t x) h f = (max_first (suc t) (suc x) u.temporaries f, max_second (suc t) (suc x) u.temporaries f)
 has_code u (RegionNew t) h f = absurd h
@@ -136,7 +138,7 @@ mutual
     g,
   )
   has_lines u (Return values) h f g = (all_below values u.temporaries f, h)
-  has_lines u (Raise kind) h f g = absurd h
+  has_lines u (Raise kind) h f g = tt
 
   pub have_lines : (u : Scope) (ss : Statements) → AreNaming u.blocks u.data_objects ss → temporaries_of ss ≤ u.temporaries → passed_by ss ≤ u.passed
       → HaveLinesIn u ss

@@ -12,7 +12,7 @@ use Rattle.source_lowering.specs.Taken.{IsLowerable}
 use Rattle.source_lowering.proofs.Names.{IsRoutine, AreRoutines}
 use Rattle.source_lowering.proofs.Programs.{routines_are}
 use Rattle.compiled_sources.proofs.Naming.{have_lines}
-use Rattle.compiled_sources.proofs.Expressions.{GlobalsLie}
+use Rattle.compiled_sources.proofs.Parts.{GlobalsLie}
 use Rattle.compiled_sources.proofs.Functions.{body_names, globals_lie, data_layouts}
 
 -- a function of Core is the code of a function of the source

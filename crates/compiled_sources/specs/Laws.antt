@@ -1,4 +1,4 @@
--- What holds of all programs of integers.
+-- What holds of all programs of integers and thin pointers.
 use Rattle.std.specs.Prelude.{◌≡◌, ◌≤◌, ◌^◌, []}
 use Rattle.cyc_tree.specs.Operands.{HasOperands}
 use Rattle.cyc_tree.specs.Tree.{Program}
@@ -8,15 +8,15 @@ use Rattle.source_lowering.specs.Programs.{program_code}
 use Rattle.source_typing.specs.Answers.{program_faults}
 use Rattle.source_typing.specs.Taken.{integers}
 use Rattle.core_frames.specs.Running.{data_end}
-use Rattle.compiled_sources.specs.Promise.{AreNamedApart, IntegersDo}
+use Rattle.compiled_sources.specs.Promise.{AreNamedApart, LowerableDoes}
 
--- what is promised of a program of integers holds of each in which no two functions have one name
-abbrev pub AllIntegersDo : Type 0
-AllIntegersDo = (p : Program) → IsLowerable p → AreNamedApart (world_of p).functions → IntegersDo p
+-- what is promised of a program of integers and thin pointers holds of each in which no two functions have one name
+abbrev pub AllLowerableDo : Type 0
+AllLowerableDo = (p : Program) → IsLowerable p → AreNamedApart (world_of p).functions → LowerableDoes p
 
--- a program in which the rules find no fault: what is promised of one of integers, and its data are no longer than those of an image
+-- a program in which the rules find no fault: what is promised, and its data are no longer than those of an image
 pub record AcceptedDoes (p : Program) : Type 0 where
-  pub promised : IntegersDo p
+  pub promised : LowerableDoes p
   pub data_within : data_end (program_code p).data_objects ≤ 2 ^ 20
 
 -- that holds of each such program, if its tree has the operands that each text's tree has

@@ -3,13 +3,17 @@ use Rattle.std.specs.Prelude.{ℕ, ◌≤◌, ◌<◌, List, [], ◌∷◌, leng
 use Rattle.core_meaning.specs.Core.{
   Operation,
   Constant,
+  NullPointer,
   Narrow,
   Apply,
+  LocalAddress,
   DataAddress,
   Get,
   Put,
   Load,
   Store,
+  IsNull,
+  SamePlace,
   Getchar,
   Putchar,
   Statement,
@@ -31,13 +35,17 @@ use Rattle.core_frames.specs.Selectable.{AreLayouts, IsLocal}
 -- An operation within blocks that have so many locals each, the innermost first, over so many objects of the data. Only these are used.
 abbrev pub NamesIn : List ℕ → ℕ → Operation → Type 0
 NamesIn blocks objects (Constant t w) = Unit {0}
+NamesIn blocks objects (NullPointer t) = Unit {0}
 NamesIn blocks objects (Narrow t x) = Unit {0}
 NamesIn blocks objects (Apply o t x y) = Unit {0}
+NamesIn blocks objects (LocalAddress t out local) = IsLocal blocks out local
 NamesIn blocks objects (DataAddress t object) = object < objects
 NamesIn blocks objects (Get t out local width) = IsLocal blocks out local
 NamesIn blocks objects (Put out local width x) = IsLocal blocks out local
 NamesIn blocks objects (Load t p d) = Unit {0}
 NamesIn blocks objects (Store p d x) = Unit {0}
+NamesIn blocks objects (IsNull t p) = Unit {0}
+NamesIn blocks objects (SamePlace t p q) = Unit {0}
 NamesIn blocks objects (Getchar t) = Unit {0}
 NamesIn blocks objects (Putchar t x) = Unit {0}
 NamesIn blocks objects _ = ⊥
@@ -52,7 +60,7 @@ abbrev mutual
   IsNaming blocks objects Continue = Unit {0}
   IsNaming blocks objects (Call results f arguments) = Unit {0}
   IsNaming blocks objects (Return values) = length values ≤ 8
-  IsNaming blocks objects (Raise kind) = ⊥
+  IsNaming blocks objects (Raise kind) = Unit {0}
 
   pub AreNaming : List ℕ → ℕ → Statements → Type 0
   AreNaming blocks objects NoStatements = Unit {0}

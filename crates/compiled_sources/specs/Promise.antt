@@ -58,9 +58,9 @@ DoesAsSource p =
     (n : Areas) (places : ℕ → ℕ) (s : State) (input : List ℕ) → AreBytes input → Begins n places (lines_of p) (lower.program_code p).data_objects s
     → IsNeverStuck (meaning_of p input) → Implements (frame_bound_of (world_of p).functions) n s input (meaning_of p input)
 
--- What holds of a program of integers where no two functions have one name: its lines do what it does and take no more
+-- What holds of a program of integers and thin pointers where no two functions have one name: its lines do what it does and take no more
 -- bytes than its text allows, and its data are numbers that fit their places.
-pub record IntegersDo (p : Program) : Type 0 where
+pub record LowerableDoes (p : Program) : Type 0 where
   pub does : DoesAsSource p
   pub code : code_length (lines_of p) ≤ code_bound (world_of p).functions
   pub plain : ArePlainData (lower.program_code p).data_objects

@@ -131,7 +131,8 @@ null_quiet (memory.Birth d) next h = tt
 same_quiet : (m : Memory) (x y : Content) (next : ℕ → Step) → ((n : ℕ) → IsQuiet (next n)) → IsQuiet (same_place m x y next)
 same_quiet m memory.Null y next h = null_quiet y next h
 same_quiet m (memory.Pointer s b) memory.Null next h = h 0
-same_quiet m (memory.Pointer s b) (memory.Pointer t c) next h = checked_quiet _ _ (h _)
+same_quiet m (memory.Pointer s b) (memory.Pointer t c) next h =
+    needed_quiet (part_at m s 0) _ (λ p. needed_quiet (part_at m t 0) _ (λ q. checked_quiet _ _ (h _)))
 same_quiet m (memory.Pointer s b) memory.Blank next h = tt
 same_quiet m (memory.Pointer s b) (memory.Word n) next h = tt
 same_quiet m (memory.Pointer s b) (memory.Birth d) next h = tt

@@ -5,7 +5,7 @@ use Rattle.std.proofs.lemmas.Bool.{and_parts, eqb-true}
 use Rattle.cyc_words.specs.Events.{ByteWritten}
 use Rattle.rv32_machine.specs.State.{data_base}
 use Rattle.step_trees.specs.Trees.{Pays, Says}
-use Rattle.core_meaning.specs.Memory.{Spot, Frame, Own, Born, Content, Blank, Word, Null, Pointer, Birth, Part, Memory, is_live, with_part, beyond}
+use Rattle.core_meaning.specs.Memory.{Spot, Frame, Own, Born, Content, Blank, Word, Null, Pointer, Birth, Part, Memory, is_live, same_spot, part_at, with_part, beyond}
 use Rattle.core_meaning.specs.Core.{
   Distance,
   Operation,
@@ -39,9 +39,9 @@ use Rattle.core_meaning.specs.Core.{
   KeyClose,
   KeyFree,
 }
-use Rattle.core_meaning.specs.Words.{two}
+use Rattle.core_meaning.specs.Words.{truth, two}
 use Rattle.core_meaning.specs.Steps.{Config, Step, Exit, Falls, with_temp, with_memory, word_of, pointer_of, needed, checked, stuck}
-use Rattle.core_meaning.specs.Operations.{does, reached, local_spot, at_once, fitting, is_null}
+use Rattle.core_meaning.specs.Operations.{does, reached, local_spot, at_once, fitting, is_null, same_place}
 use Rattle.core_frames.specs.declared.line.Line.{Line}
 use Rattle.core_frames.specs.Machines.{Machine}
 use Rattle.core_frames.specs.Lines.{code_length}
@@ -58,6 +58,8 @@ use Rattle.core_frames.proofs.Operations.{having, saving, then_saves, constant_i
 use Rattle.core_frames.proofs.Zero.{null_pointer}
 use Rattle.core_frames.proofs.Parts.{load, store, get, put, object_address}
 use Rattle.core_frames.proofs.Streams.{putchar_goes, getchar_goes}
+use Rattle.core_frames.proofs.Values.{truth_below}
+use Rattle.core_frames.proofs.Comparing.{IsAtPart, GivesTruth, compare_places, two_nulls, null_and_pointer, pointer_and_null, two_pointers}
 
 -- ---- what an operation needs
 
@@ -88,6 +90,53 @@ module _ (w : World) (R : Machine → Type 0) (active : List (List ℕ)) (fuel :
   block_goes : (o : Option ℕ) (k : ℕ → Step) → ((n : ℕ) → o ≡ Some n → Goes w fuel (k n) R active) → Goes w fuel (needed o k) R active
   block_goes None k goes = goes_stuck w R active fuel
   block_goes (Some n) k goes = goes n refl
+
+  -- a part of a live region
+  part_goes : (m : Memory) (s : Spot) (k : Part → Step)
+      → ((p : Part) → m.parts s 0 ≡ Some p → is_live (m.standing s.region) ≡ true → Goes w fuel (k p) R active)
+      → Goes w fuel (needed (part_at m s 0) k) R active
+  part_goes m s k goes = by (is_live (m.standing s.region)) refl (m.parts s 0) refl
+    where
+      by : (live : Bool) → is_live (m.standing s.region) ≡ live → (found : Option Part) → m.parts s 0 ≡ found
+          → Goes w fuel (needed (if live then found else None) k) R active
+      by false e found f = goes_stuck w R active fuel
+      by true e None f = goes_stuck w R active fuel
+      by true e (Some p) f = goes p f e
+
+  -- two pointers that are compared
+  module _ (m : Memory) (k : ℕ → Step) (Gives : Content → Content → ℕ → Type 0) (two_none : Gives Null Null 1)
+      (none_first : (t : Spot) (c : ℕ) → Gives Null (Pointer t c) 0) (none_second : (s : Spot) (b : ℕ) → Gives (Pointer s b) Null 0)
+      (two_places : (s t : Spot) (b c : ℕ) → IsAtPart m s b → IsAtPart m t c → Gives (Pointer s b) (Pointer t c) (truth (same_spot s t))) where
+    places_of : (s t : Spot) (b c : ℕ) → ((n : ℕ) → n < 2 ^ 32 → Gives (Pointer s b) (Pointer t c) n → Goes w fuel (k n) R active)
+        → Goes w fuel (same_place m (Pointer s b) (Pointer t c) k) R active
+    places_of s t b c go =
+        part_goes m s (λ p. needed (part_at m t 0) (λ q. checked (nat_eq p.offset b && nat_eq q.offset c) (k (truth (same_spot s t))))) (λ p is live.
+        part_goes m t (λ q. checked (nat_eq p.offset b && nat_eq q.offset c) (k (truth (same_spot s t)))) (λ q is' live'.
+        by p q is live is' live' (nat_eq p.offset b && nat_eq q.offset c) refl))
+      where
+        by : (p q : Part) → m.parts s 0 ≡ Some p → is_live (m.standing s.region) ≡ true → m.parts t 0 ≡ Some q → is_live (m.standing t.region) ≡ true
+            → (same : Bool) → (nat_eq p.offset b && nat_eq q.offset c) ≡ same → Goes w fuel (checked same (k (truth (same_spot s t)))) R active
+        by p q is live is' live' false e = goes_stuck w R active fuel
+        by p q is live is' live' true e =
+            let both = and_parts (nat_eq p.offset b) (nat_eq q.offset c) e in
+            go (truth (same_spot s t)) (truth_below (same_spot s t)) (two_places s t b c
+            (record { part = p; is = is; live = live; offset = eqb-true p.offset b both.0 })
+            (record { part = q; is = is'; live = live'; offset = eqb-true q.offset c both.1 }))
+
+    places_go : (a b : Content) → ((n : ℕ) → n < 2 ^ 32 → Gives a b n → Goes w fuel (k n) R active) → Goes w fuel (same_place m a b k) R active
+    places_go Null Null go = go 1 (omega arith) two_none
+    places_go Null (Pointer t c) go = go 0 (omega arith) (none_first t c)
+    places_go (Pointer s b) Null go = go 0 (omega arith) (none_second s b)
+    places_go (Pointer s b) (Pointer t c) go = places_of s t b c go
+    places_go Null Blank go = goes_stuck w R active fuel
+    places_go Null (Word n) go = goes_stuck w R active fuel
+    places_go Null (Birth d) go = goes_stuck w R active fuel
+    places_go (Pointer s b) Blank go = goes_stuck w R active fuel
+    places_go (Pointer s b) (Word n) go = goes_stuck w R active fuel
+    places_go (Pointer s b) (Birth d) go = goes_stuck w R active fuel
+    places_go Blank b go = goes_stuck w R active fuel
+    places_go (Word n) b go = goes_stuck w R active fuel
+    places_go (Birth d) b go = goes_stuck w R active fuel
 
   -- a part that is where it is looked for
   reached_goes : (m : Memory) (d : Distance) (s : Spot) (b : ℕ) (k : Spot → Part → Step)
@@ -321,7 +370,13 @@ module _ (w : World) (order : IsInOrder w) (x : Waiting) (outer : List Waiting) 
       (λ e. sets c t (Word 1) (operation_code u (IsNull t p)) is (null_is w order (with_config x c) outer c.memory t p place named.0 named.1 has e) ends)
       (λ s b e. sets c t (Word 0) (operation_code u (IsNull t p)) is (pointer_is w order
       (with_config x c) outer c.memory t p place named.0 named.1 has s b e) ends)
-  operation_goes (SamePlace t p q) named has ends c is = absurd named
+  operation_goes (SamePlace t p q) named has ends c is =
+      let y = with_config x c in
+      places_go w (At_first c) active fuel c.memory (λ n. next (with_temp t (Word n) c)) (GivesTruth w order y outer c.memory)
+      (two_nulls w order y outer c.memory) (null_and_pointer w order y outer c.memory) (pointer_and_null w order y outer c.memory)
+      (two_pointers w order y outer c.memory) (c.temps p) (c.temps q)
+      (λ n small gives. sets c t (Word n) (operation_code u (SamePlace t p q)) is
+      (compare_places w order y outer c.memory t p q n place named.0 named.1 named.2 small has gives) ends)
   operation_goes (Getchar t) named has ends c is =
       getchar_goes w order (with_config x c) outer c.memory fuel active next c t place named has
       (λ v. ends (with_temp t v c) (record { blocks = is.blocks; own = is.own }))

@@ -10,14 +10,15 @@ use Rattle.core_frames.specs.Lines.{code_length}
 use Rattle.core_frames.specs.Frames.{return_code}
 use Rattle.core_frames.specs.Selected.{offsets_from, end_from, highest, highest_of, labels_in, labels_of, statement_code, statements_code}
 use Rattle.core_frames.specs.Selectable.{HasLinesIn, HaveLinesIn, AreBelow}
-use Rattle.core_frames.proofs.Relations.{World, IsInOrder, Has, Waiting, Place}
+use Rattle.core_frames.proofs.Relations.{active_of, World, IsInOrder, Has, Waiting, Place}
 use Rattle.core_frames.proofs.Access.{behind, length_of_both}
 use Rattle.core_frames.proofs.Passing.{has_first, has_second, AreWithin}
-use Rattle.core_frames.proofs.Bodies.{GoesFrom, BodyGoes, call_goes, return_goes}
+use Rattle.core_frames.proofs.Bodies.{with_config, GoesFrom, BodyGoes, call_goes, return_goes}
 use Rattle.core_frames.proofs.Forms.{Does, within_block, break_does, nothing_does, sequence_does, block_does, jump_goes, choice_goes, loop_goes}
 use Rattle.core_frames.proofs.Laying.{NestFits}
 use Rattle.core_frames.proofs.Locals.{offsets_lie, as_many_offsets, end_above, offset_below, highest_of_above, both_below}
 use Rattle.core_frames.proofs.Nests.{BlocksAre}
+use Rattle.core_frames.proofs.Raising.{raise_goes}
 use Rattle.core_frames.proofs.Tests.{test_lines, tests_and_jumps}
 use Rattle.core_frames.proofs.EachOperation.{DataSmall, OwnSmall, surrounding, scoped, operation_goes}
 
@@ -183,7 +184,10 @@ module _ (w : World) (order : IsInOrder w) (outer : List Waiting) (small : DataS
           return_goes w order x outer fuel values k place (same_below x.fn.temporaries values has.0) has.1
           (subst (λ b. Has w place (return_code b x.fn.passed values)) (sym around.framed) lines) ways.returns;
     }
-    statement_does x ns oss low next out again (Raise kind) around has below = absurd has
+    statement_does x ns oss low next out again (Raise kind) around has below = record {
+      goes = λ place fuel le k aligned lines ways c is.
+          raise_goes w order (with_config x c) outer c.memory fuel kind place (active_of w (x ∷ outer)) lines;
+    }
 
     pub statements_do : (x : Waiting) (ns : List ℕ) (oss : List (List ℕ)) (low next out again : ℕ) (ss : Statements) → IsAround w x ns oss low bytes
         → HaveLinesIn (scoped w x ns) ss → highest_of low ss ≤ bytes

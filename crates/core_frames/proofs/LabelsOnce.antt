@@ -18,7 +18,7 @@ use Rattle.rv32_machine.specs.State.{data_base}
 use Rattle.core_frames.specs.declared.line.Line.{Line}
 use Rattle.core_frames.specs.declared.line.Line.TheVariants.{Plain, Label, Jump, JumpIfZero, CallTo}
 use Rattle.core_frames.specs.Lines.{labels_placed, AreOnce}
-use Rattle.core_frames.specs.Frames.{is_short, word_code, load_code, save_code, slot_of, pass_code, result_code, call_code, environment_code, take_code}
+use Rattle.core_frames.specs.Frames.{is_short, word_code, load_code, save_code, slot_of, pass_code, result_code, call_code, environment_code, raise_code, take_code}
 use Rattle.core_frames.specs.Frames.{test_code, move_code, prologue_code, values_code, leave_code, return_code}
 use Rattle.core_frames.specs.Selected.{frame_bytes, Surroundings, local_offset, nth, from_temp, to_temp, constant_code, far_code, read_line, read_code}
 use Rattle.core_frames.specs.Selected.{write_line, write_code, binary_code, address_code, operation_code, labels_in, labels_of, choice_code, within_block}
@@ -277,7 +277,7 @@ mutual
   statement_places bytes u next out again (Call results f arguments) =
       none_from next (next + 0) (call_code u.passed results f arguments) (call_none u.passed results f arguments)
   statement_places bytes u next out again (Return values) = none_from next (next + 0) (return_code bytes u.passed values) (return_none bytes u.passed values)
-  statement_places bytes u next out again (Raise kind) = none_from next (next + 0) [] refl
+  statement_places bytes u next out again (Raise kind) = none_from next (next + 0) (raise_code kind) refl
 
   pub statements_places : (bytes : ℕ) (u : Surroundings) (next out again : ℕ) (ss : Statements) → PlacesFrom next (next + labels_of ss)
       (statements_code bytes u next out again ss)

@@ -32,7 +32,9 @@ pub mod Locals
 pub mod Nests
 pub mod Registers
 pub mod Values
-pub mod Reaching
+pub mod Raising
+pub mod Comparing
+mod Reaching
 pub mod Writing
 pub mod Operations
 pub mod Parts

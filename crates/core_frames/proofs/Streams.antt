@@ -29,7 +29,7 @@ use Rattle.core_frames.proofs.Showing.{shown_first, Shows_then, leads_shown}
 
 module _ (w : World) (order : IsInOrder w) (x : Waiting) (outer : List Waiting) (mem : Memory) where
   -- the number of a call into x17
-  numbered : (number place : ℕ) (P : Maps → (ℕ → ℕ) → Type 0) → number < 2 ^ 32 → Has w place (environment_code number)
+  pub numbered : (number place : ℕ) (P : Maps → (ℕ → ℕ) → Type 0) → number < 2 ^ 32 → Has w place (environment_code number)
       → ((m : Maps) (registers : ℕ → ℕ) (v : ℕ) → P m registers → P m (set_register 17 v registers))
       → Comes w (AtWith w x outer mem place P) (AtWith w x outer mem (place + 4) (λ m registers. (registers 17 ≡ number) × P m registers))
   numbered number place P small has keeps =
@@ -39,18 +39,18 @@ module _ (w : World) (order : IsInOrder w) (x : Waiting) (outer : List Waiting) 
 
   module _ (place : ℕ) (has : Has w place (Plain Ecall ∷ [])) (P : Maps → (ℕ → ℕ) → Type 0) (number : ℕ) (s : Machine)
       (a : AtWith w x outer mem place (λ m registers. (registers 17 ≡ number) × P m registers) s) where
-    abbrev now : Machine
+    abbrev pub now : Machine
     now = state_at place s.registers s.bytes s.store
 
-    here : s ≡ now
+    pub here : s ≡ now
     here = written_out w order mem place a.maps (a.frame ∷ a.others) a.sp s a.stands
 
-    call_is : (answer : Answer) → step w.areas answer (state_of now) ≡ calls w.areas answer number (s.registers 10) (s.registers 11) (state_of now)
+    pub call_is : (answer : Answer) → step w.areas answer (state_of now) ≡ calls w.areas answer number (s.registers 10) (s.registers 11) (state_of now)
     call_is answer =
         step_is w.areas w.code order.code_within s.store place s.registers s.bytes a.stands.kept Ecall has.0.0 answer
         ∙ ap (λ k. calls w.areas answer k (s.registers 10) (s.registers 11) (state_of now)) a.holds.0
 
-    lawful_here : (input : List ℕ) (answers : ℕ → Answer) → IsLawful w.areas (run_from s input answers)
+    pub lawful_here : (input : List ℕ) (answers : ℕ → Answer) → IsLawful w.areas (run_from s input answers)
     lawful_here input answers = subst (λ (q : Machine). IsLawful w.areas (run_from q input answers)) (sym here)
         (lawful_alike w.areas now input answers [] (is_lawful w.areas w.code order.code_within s.store place s.registers s.bytes a.stands.kept Ecall has.0.0
         tt))

@@ -54,7 +54,7 @@ use Rattle.core_meaning.specs.Words as meaning
 
 -- ---- the values
 
-same_truth : (b : Bool) → truth b ≡ meaning.truth b
+pub same_truth : (b : Bool) → truth b ≡ meaning.truth b
 same_truth true = refl
 same_truth false = refl
 
@@ -63,7 +63,7 @@ opposite true = refl
 opposite false = refl
 
 -- a difference is 0 where both words are equal
-is_zero : (a b : ℕ) → a < 2 ^ 32 → b < 2 ^ 32 → nat_lt (difference_of a b) 1 ≡ nat_eq a b
+pub is_zero : (a b : ℕ) → a < 2 ^ 32 → b < 2 ^ 32 → nat_lt (difference_of a b) 1 ≡ nat_eq a b
 is_zero a b l m = grind (arith, nat_tests)
 
 is_some : (a b : ℕ) → a < 2 ^ 32 → b < 2 ^ 32 → nat_lt 0 (difference_of a b) ≡ not (nat_eq a b)
@@ -76,7 +76,7 @@ word_below : (z : ℤ) → word z < 2 ^ 32
 word_below (pos n) = omega arith
 word_below (negsuc n) = omega arith
 
-truth_below : (b : Bool) → meaning.truth b < 2 ^ 32
+pub truth_below : (b : Bool) → meaning.truth b < 2 ^ 32
 truth_below true = omega arith
 truth_below false = omega arith
 

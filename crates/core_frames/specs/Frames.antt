@@ -1,5 +1,7 @@
 -- The code of frames: words into registers, loads and saves of slots, calls with their arguments and results, prologues and returns.
 use Rattle.std.specs.Prelude.{zero, suc, ℕ, ℤ, pos, ◌+◌, ◌*◌, ◌/◌, ◌%◌, ◌^◌, Bool, ◌||◌, nat_lt, nat_le, if◌then◌else◌, List, [], ◌∷◌, ◌++◌}
+use Rattle.cyc_words.specs.declared.faults.Kind.{Kind}
+use Rattle.cyc_words.specs.declared.faults.Kind.TheVariants.{NullException, ArrayBounds}
 use Rattle.rv32_isa.specs.Numbers.{signed}
 use Rattle.rv32_isa.specs.declared.instruction.Instr.TheVariants.{Lui, Jalr, Bgeu, Lw, Sw, Addi, Add, Sub, Ecall}
 use Rattle.rv32_machine.specs.State.{stack_base}
@@ -56,6 +58,15 @@ call_code passed results f arguments = pass_code passed 0 arguments ++ (CallTo f
 -- a call of the environment
 abbrev pub environment_code : ℕ → List Line
 environment_code number = Plain (Addi 17 0 (pos number)) ∷ Plain Ecall ∷ []
+
+-- an exception, by the number of its kind
+abbrev pub kind_number : Kind → ℕ
+kind_number NullException = 1
+kind_number ArrayBounds = 2
+
+-- it is raised: the kind's number is the call's argument
+abbrev pub raise_code : Kind → List Line
+raise_code kind = (Plain (Addi 10 0 (pos (kind_number kind))) ∷ []) ++ environment_code 3
 
 -- the stack is refused where fewer bytes than the frame's are left of it
 abbrev pub test_code : ℕ → List Line

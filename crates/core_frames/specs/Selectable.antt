@@ -100,7 +100,7 @@ HasCode u (Store p d x) = (p < u.temporaries) × (x < u.temporaries)
 HasCode u (Copy to from layout) = ⊥
 HasCode u (Clear p layout count) = ⊥
 HasCode u (IsNull t p) = (t < u.temporaries) × (p < u.temporaries)
-HasCode u (SamePlace t p q) = ⊥
+HasCode u (SamePlace t p q) = (t < u.temporaries) × (p < u.temporaries) × (q < u.temporaries)
 HasCode u (Getchar t) = t < u.temporaries
 HasCode u (Putchar t x) = (t < u.temporaries) × (x < u.temporaries)
 HasCode u (RegionNew t) = ⊥
@@ -127,7 +127,7 @@ abbrev mutual
   HasLinesIn u Continue = Unit {0}
   HasLinesIn u (Call results f arguments) = AreBelow u.temporaries results × AreBelow u.temporaries arguments × (length arguments ≤ u.passed)
   HasLinesIn u (Return values) = AreBelow u.temporaries values × (length values ≤ 8)
-  HasLinesIn u (Raise kind) = ⊥
+  HasLinesIn u (Raise kind) = Unit {0}
 
   pub HaveLinesIn : Scope → Statements → Type 0
   HaveLinesIn u NoStatements = Unit {0}

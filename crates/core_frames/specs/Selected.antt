@@ -86,6 +86,7 @@ use Rattle.core_frames.specs.Frames.{
   return_code,
   prologue_code,
   environment_code,
+  raise_code,
 }
 
 -- ---- where locals lie in a frame
@@ -318,7 +319,7 @@ abbrev mutual
   statement_code bytes u next out again Continue = Jump again ∷ []
   statement_code bytes u next out again (Call results f arguments) = call_code u.passed results f arguments
   statement_code bytes u next out again (Return values) = return_code bytes u.passed values
-  statement_code bytes u next out again (Raise kind) = []
+  statement_code bytes u next out again (Raise kind) = raise_code kind
 
   pub statements_code : (bytes : ℕ) → Surroundings → (next out again : ℕ) → Statements → List Line
   statements_code bytes u next out again NoStatements = []

@@ -107,12 +107,13 @@ is_null Blank next = stuck
 is_null (Word n) next = stuck
 is_null (Birth d) next = stuck
 
--- two pointers into live regions, or NULL
+-- NULL, or two pointers to parts of live regions, each at the byte that its pointer carries
 abbrev pub same_place : Memory → Content → Content → (ℕ → Step) → Step
 same_place m Null y next = is_null y next
 same_place m (Pointer s b) Null next = next 0
 same_place m (Pointer s b) (Pointer t c) next =
-    checked (is_live (m.standing s.region) && is_live (m.standing t.region)) (next (truth (same_spot s t)))
+    needed (part_at m s 0) (λ p. needed (part_at m t 0) (λ q.
+    checked (nat_eq p.offset b && nat_eq q.offset c) (next (truth (same_spot s t)))))
 same_place m (Pointer s b) Blank next = stuck
 same_place m (Pointer s b) (Word n) next = stuck
 same_place m (Pointer s b) (Birth d) next = stuck

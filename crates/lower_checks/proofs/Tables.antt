@@ -7,7 +7,7 @@ use Rattle.source_meaning.specs.Places.{or_else}
 use Rattle.source_meaning.specs.Calls.{function_of}
 use Rattle.source_meaning.specs.Programs.{functions_of, routine_of}
 use Rattle.source_lowering.specs.Lowered.{number_of}
-use Rattle.source_lowering.specs.Taken.{TakesFunction, TakesProgram}
+use Rattle.accepted_sources.specs.IntegerForms.{TakesFunction, TakesProgram}
 use Rattle.cyc_tree.specs.View.{function_tree}
 use Rattle.lower_checks.specs.Tables.{Numbered, callee_tree, first_function}
 use Rattle.lower_checks.specs.Views.{found_entity}

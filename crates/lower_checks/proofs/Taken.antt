@@ -1,9 +1,9 @@
--- What is taken can be a local, and a place that is taken is an expression that is.
+-- What is taken can be a local.
 use Rattle.std.proofs.Common.{sym, subst, List, [], ◌∷◌, ◌++◌, map}
 use Rattle.cyc_tree.specs.Tree as tree
-use Rattle.cyc_tree.specs.Tree.{Base, TypeName, Expression, Declaration, BlockItems, NoItems, Declare, Execute, Member}
+use Rattle.cyc_tree.specs.Tree.{Base, TypeName, Declaration, BlockItems, NoItems, Declare, Execute, Member}
 use Rattle.source_meaning.specs.Shapes.{Shape, base_shape, pointed, written, settled, part_of, part_shapes}
-use Rattle.source_lowering.specs.Taken.{IsIntegerBase, IsIntegerType, TakesPlace, Takes, TakesDeclaration, TakesItems, AreIntegers}
+use Rattle.accepted_sources.specs.IntegerForms.{IsIntegerBase, IsIntegerType, TakesDeclaration, TakesItems, AreIntegers}
 use Rattle.source_lowering.specs.Programs.{local_shape, block_shapes}
 use Rattle.lower_checks.specs.Refusals.{IsLocal, AreLocals}
 
@@ -22,30 +22,6 @@ base_local (tree.Key region) h = absurd h
 -- a local can be an integer
 pub type_local : (t : TypeName) → IsIntegerType t → IsLocal (settled (written t))
 type_local t h = subst (λ ps. IsLocal (settled (pointed ps (base_shape t.base)))) (sym h.pointers) (base_local t.base h.base)
-
--- ---- expressions
-
--- a place that is written can be read
-pub place_taken : (e : Expression) → TakesPlace e → Takes e
-place_taken (Expression.Variable name) h = tt
-place_taken (Expression.Grouped at inner) h = place_taken inner h
-place_taken (Expression.Number at value suffix) h = absurd h
-place_taken (Expression.Character at byte) h = absurd h
-place_taken (Expression.Text at bytes) h = absurd h
-place_taken (Expression.Null at) h = absurd h
-place_taken (Expression.HeapRegion at) h = absurd h
-place_taken (Expression.UniqueRegion at) h = absurd h
-place_taken (Expression.Call name arguments) h = absurd h
-place_taken (Expression.MakeUnion tag member value) h = absurd h
-place_taken (Expression.NumElts at operand) h = absurd h
-place_taken (Expression.Suffixed primary _) h = absurd h
-place_taken (Expression.Prefixed at operator operand) h = absurd h
-place_taken (Expression.New at made) h = absurd h
-place_taken (Expression.NewIn at handle made) h = absurd h
-place_taken (Expression.Chain first others) h = absurd h
-place_taken (Expression.AllOf first others) h = absurd h
-place_taken (Expression.AnyOf first others) h = absurd h
-place_taken (Expression.Assign place value) h = absurd h
 
 -- ---- locals
 

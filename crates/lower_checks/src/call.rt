@@ -7,7 +7,7 @@ ghost use Rattle.source_meaning.specs.Shapes.{part_of, part_shapes};
 ghost use Rattle.source_meaning.specs.Programs.{world_of};
 ghost use Rattle.source_lowering.specs.Lowered.{call_parameters, from_on, count_of, call_code};
 ghost use Rattle.lower_checks.specs.Views.{shape_tree};
-ghost use Rattle.source_lowering.specs.Taken.{AreIntegers, TakesProgram};
+ghost use Rattle.accepted_sources.specs.IntegerForms.{AreIntegers, TakesProgram};
 ghost use Rattle.lower_checks.specs.Refusals.{NeverRefused};
 
 use crate::emit::{emit, emit_operation};

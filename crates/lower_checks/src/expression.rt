@@ -1,13 +1,13 @@
 // Expressions.
 
-ghost use Rattle.std.specs.Prelude.{◌≡◌, ◌+◌, ◌++◌, OnOk, map};
+ghost use Rattle.std.specs.Prelude.{◌≡◌, ◌+◌, ◌++◌, IfOk, OnOk, map};
 ghost use Rattle.cyc_tree.specs.View.{expression_tree, expressions_of, link_tree, links_of};
 ghost use Rattle.cyc_core.specs.Trees.{statement_tree};
 ghost use Rattle.source_meaning.specs.Programs.{world_of};
-ghost use Rattle.source_lowering.specs.Lowered.{static_shape, call_parameters, put_code, conversion_code, prefix_code, truth_code, count_of, call_code, expression_code, links_code, all_code, any_code, arguments_code};
+ghost use Rattle.source_lowering.specs.Lowered.{static_shape, linked_shape, prefix_shape, call_shape, call_parameters, put_code, place_code, conversion_code, prefix_code, count_of, call_code, expression_code, links_code, all_code, any_code, arguments_code};
 ghost use Rattle.lower_checks.specs.Views.{shape_tree};
 ghost use Rattle.lower_checks.specs.Visible.{names_of};
-ghost use Rattle.source_lowering.specs.Taken.{TakesPrefix, TakesPlace, Takes, TakesAll, TakesLinks, TakesProgram};
+ghost use Rattle.accepted_sources.specs.IntegerForms.{TakesPrefix, TakesPlace, Takes, TakesAll, TakesLinks, TakesProgram};
 ghost use Rattle.lower_checks.specs.Refusals.{NeverRefused};
 
 use crate::call::{call_parameters, lower_call};
@@ -15,45 +15,17 @@ use crate::emit::{emit_if, emit_operation};
 use crate::fault::LowerFault;
 use crate::locals::Locals;
 use crate::names::after;
-use crate::operator::{applied, operator_shape};
+use crate::operator::operator_shape;
 use crate::shape::Shape;
-use crate::shaped::static_shape;
+use crate::shaped::{call_shape, number_shape, place_shape};
 use crate::table::Table;
+use crate::values::{lower_conversion, lower_not, lower_operator, lower_truth, lower_word};
 use crate::variable::{lower_get, lower_put};
-use cyc_core::{Binary, Operation, Statement, Temporary};
+use cyc_core::{Operation, Statement, Temporary};
 use cyc_tree::{Expression, Link, Operator, Prefix};
 use std::alloc::Global;
 
-/// Appends what makes 1 of a word that isn't 0.
-fn lower_truth(body: &mut Vec<Statement>, to: Temporary) -> Result<(), LowerFault>
-    ensures code { OnOk result (map statement_tree body.new.items ≡ map statement_tree body.old.items ++ truth_code to.0) }
-    ensures taken { NeverRefused result }
-{
-    let zero = Temporary(after(to.0)?);
-    emit_operation(body, Operation::Constant(zero, 0))?;
-    emit_operation(body, Operation::Apply(Binary::NotEqual, to, to, zero))
-}
-
-/// Appends what converts a value in a temporary to a shape.
-pub fn lower_conversion(
-    body: &mut Vec<Statement>,
-    to: Shape,
-    from: Shape,
-    value: Temporary,
-) -> Result<(), LowerFault>
-    ensures code { OnOk result
-        (map statement_tree body.new.items ≡
-        map statement_tree body.old.items ++ conversion_code (shape_tree to) (shape_tree from) value.0) }
-    ensures taken { NeverRefused result }
-{
-    match (to, from) {
-        (Shape::Char, Shape::Char) => Ok(()),
-        (Shape::Char, _) => emit_operation(body, Operation::Narrow(value, value)),
-        _ => Ok(()),
-    }
-}
-
-/// Appends what leaves an expression's value in a temporary. Refuses what isn't of integers.
+/// Appends what leaves an expression's value in a temporary, and gives the shape of its type. Refuses what isn't of integers.
 #[cycle(expression)]
 pub fn lower_expression(
     alloc: Global,
@@ -62,16 +34,21 @@ pub fn lower_expression(
     expression: &Expression,
     body: &mut Vec<Statement>,
     to: Temporary,
-) -> Result<(), LowerFault>
+) -> Result<Shape, LowerFault>
     ensures code { OnOk result
         (map statement_tree body.new.items ≡
         map statement_tree body.old.items ++ expression_code (world_of program.now) (names_of locals.now) (expression_tree expression.now) to.0) }
+    ensures shape { IfOk result (λ shape. shape_tree shape ≡ static_shape (world_of program.now) (names_of locals.now) (expression_tree expression.now)) }
     ensures taken { TakesProgram program.now → Takes (expression_tree expression.now) → NeverRefused result }
 {
     match expression {
-        Expression::Number(_, value, _) => emit_operation(body, Operation::Constant(to, *value)),
+        Expression::Number(_, value, suffix) => {
+            emit_operation(body, Operation::Constant(to, *value))?;
+            Ok(number_shape(*value, *suffix))
+        }
         Expression::Character(_, byte) => {
-            emit_operation(body, Operation::Constant(to, u32::from(*byte)))
+            emit_operation(body, Operation::Constant(to, u32::from(*byte)))?;
+            Ok(Shape::Char)
         }
         Expression::Variable(name) => lower_get(program, locals, body, &name.text, to),
         Expression::Grouped(_, inner) => {
@@ -81,19 +58,22 @@ pub fn lower_expression(
             lower_prefixed(alloc, program, locals, operand, body, *operator, to)
         }
         Expression::Chain(first, links) => {
-            lower_expression(alloc, program, locals, first, body, to)?;
-            let left = static_shape(program, locals, first)?;
+            let left = lower_expression(alloc, program, locals, first, body, to)?;
             lower_links(alloc, program, locals, links, body, left, to)
         }
         Expression::AllOf(first, others) => {
-            lower_expression(alloc, program, locals, first, body, to)?;
+            let shape = lower_expression(alloc, program, locals, first, body, to)?;
+            lower_word(body, shape, to)?;
             lower_all(alloc, program, locals, others, body, to)?;
-            lower_truth(body, to)
+            lower_truth(body, to)?;
+            Ok(Shape::Int)
         }
         Expression::AnyOf(first, others) => {
-            lower_expression(alloc, program, locals, first, body, to)?;
+            let shape = lower_expression(alloc, program, locals, first, body, to)?;
+            lower_word(body, shape, to)?;
             lower_any(alloc, program, locals, others, body, to)?;
-            lower_truth(body, to)
+            lower_truth(body, to)?;
+            Ok(Shape::Int)
         }
         Expression::Assign(place, value) => {
             lower_assign(alloc, program, locals, value, place, body, to)
@@ -105,7 +85,7 @@ pub fn lower_expression(
     }
 }
 
-/// Appends what leaves a value in a temporary, converted to the shape of a place, and writes it there.
+/// Appends what leaves a value in a temporary, converted to the shape of a place, and writes it there; gives the place's shape.
 #[cycle(expression)]
 fn lower_assign(
     alloc: Global,
@@ -115,7 +95,7 @@ fn lower_assign(
     place: &Expression,
     body: &mut Vec<Statement>,
     to: Temporary,
-) -> Result<(), LowerFault>
+) -> Result<Shape, LowerFault>
     ensures code { let w = world_of program.now in
         let names = names_of locals.now in
         let e = expression_tree value.now in
@@ -125,16 +105,17 @@ fn lower_assign(
         map statement_tree body.old.items ++
         (expression_code w names e to.0 ++
         (conversion_code (static_shape w names p) (static_shape w names e) to.0 ++ put_code w names p to.0))) }
+    ensures shape { IfOk result (λ shape. shape_tree shape ≡ static_shape (world_of program.now) (names_of locals.now) (expression_tree place.now)) }
     ensures taken { TakesProgram program.now → TakesPlace (expression_tree place.now) → Takes (expression_tree value.now) → NeverRefused result }
 {
-    lower_expression(alloc, program, locals, value, body, to)?;
-    let shape = static_shape(program, locals, place)?;
-    let from = static_shape(program, locals, value)?;
+    let from = lower_expression(alloc, program, locals, value, body, to)?;
+    let shape = place_shape(program, locals, place)?;
     lower_conversion(body, shape, from, to)?;
-    lower_put(program, locals, body, place, to)
+    lower_put(program, locals, body, place, to)?;
+    Ok(shape)
 }
 
-/// Appends a call of the function of a name, after its arguments.
+/// Appends a call of the function of a name, after its arguments; gives the shape of its result.
 #[cycle(expression)]
 fn lower_called(
     alloc: Global,
@@ -144,21 +125,23 @@ fn lower_called(
     body: &mut Vec<Statement>,
     name: &[u8],
     to: Temporary,
-) -> Result<(), LowerFault>
+) -> Result<Shape, LowerFault>
     ensures code { let w = world_of program.now in
         OnOk result
         (map statement_tree body.new.items ≡
         map statement_tree body.old.items ++
         (arguments_code w (names_of locals.now) (call_parameters w name.now) (expressions_of (map expression_tree arguments.now)) to.0 ++
         call_code w name.now (count_of (expressions_of (map expression_tree arguments.now))) to.0)) }
+    ensures shape { IfOk result (λ shape. shape_tree shape ≡ call_shape (world_of program.now) name.now) }
     ensures taken { TakesProgram program.now → TakesAll (expressions_of (map expression_tree arguments.now)) → NeverRefused result }
 {
     let shapes = call_parameters(alloc, program, name)?;
     lower_arguments(alloc, program, locals, arguments, body, &shapes, to)?;
-    lower_call(alloc, program, body, name, arguments, to)
+    lower_call(alloc, program, body, name, arguments, to)?;
+    call_shape(program, name)
 }
 
-/// Appends what applies a prefix operator to its operand, and leaves the result in a temporary.
+/// Appends what applies a prefix operator to its operand, and leaves the result in a temporary; gives the result's shape.
 #[cycle(expression)]
 fn lower_prefixed(
     alloc: Global,
@@ -168,44 +151,43 @@ fn lower_prefixed(
     body: &mut Vec<Statement>,
     operator: Prefix,
     to: Temporary,
-) -> Result<(), LowerFault>
+) -> Result<Shape, LowerFault>
     ensures code { let w = world_of program.now in
         let names = names_of locals.now in
         let e = expression_tree operand.now in
         OnOk result
         (map statement_tree body.new.items ≡
-        map statement_tree body.old.items ++ prefix_code operator (static_shape w names e) to.0 (expression_code w names e (to.0 + 1))) }
+        map statement_tree body.old.items ++
+        prefix_code operator (static_shape w names e) to.0 (expression_code w names e (to.0 + 1)) (expression_code w names e to.0)
+        (place_code w names e to.0)) }
+    ensures shape { let e = expression_tree operand.now in
+        IfOk result (λ shape. shape_tree shape ≡ prefix_shape operator (static_shape (world_of program.now) (names_of locals.now) e)) }
     ensures taken { TakesProgram program.now → TakesPrefix operator → Takes (expression_tree operand.now) → NeverRefused result }
 {
     let right = Temporary(after(to.0)?);
-    let shape = static_shape(program, locals, operand)?;
     match operator {
         Prefix::Negate => {
             emit_operation(body, Operation::Constant(to, 0))?;
-            lower_expression(alloc, program, locals, operand, body, right)?;
-            emit_operation(
-                body,
-                applied(Operator::Subtract, Shape::Int, shape, to, to, right),
-            )
+            let shape = lower_expression(alloc, program, locals, operand, body, right)?;
+            lower_operator(body, Operator::Subtract, Shape::Int, shape, to)?;
+            Ok(operator_shape(Operator::Subtract, Shape::Int, shape))
         }
         Prefix::Complement => {
             emit_operation(body, Operation::Constant(to, u32::MAX))?;
-            lower_expression(alloc, program, locals, operand, body, right)?;
-            emit_operation(
-                body,
-                applied(Operator::BitXor, Shape::Int, shape, to, to, right),
-            )
+            let shape = lower_expression(alloc, program, locals, operand, body, right)?;
+            lower_operator(body, Operator::BitXor, Shape::Int, shape, to)?;
+            Ok(operator_shape(Operator::BitXor, Shape::Int, shape))
         }
         Prefix::Not => {
-            lower_expression(alloc, program, locals, operand, body, right)?;
-            emit_operation(body, Operation::Constant(to, 0))?;
-            emit_operation(body, Operation::Apply(Binary::Equal, to, right, to))
+            let shape = lower_expression(alloc, program, locals, operand, body, right)?;
+            lower_not(body, shape, to)?;
+            Ok(Shape::Int)
         }
         Prefix::Dereference | Prefix::AddressOf => Err(LowerFault::NotTaken),
     }
 }
 
-/// Appends what applies the operators of a chain to the value in a temporary, which has this shape.
+/// Appends what applies the operators of a chain to the value in a temporary, which has this shape; gives the result's shape.
 #[cycle(expression)]
 fn lower_links(
     alloc: Global,
@@ -215,22 +197,24 @@ fn lower_links(
     body: &mut Vec<Statement>,
     first: Shape,
     to: Temporary,
-) -> Result<(), LowerFault>
+) -> Result<Shape, LowerFault>
     ensures code { OnOk result
         (map statement_tree body.new.items ≡
         map statement_tree body.old.items ++
         links_code (world_of program.now) (names_of locals.now) (links_of (map link_tree links.now)) (shape_tree first) to.0) }
+    ensures shape { IfOk result
+        (λ shape.
+        shape_tree shape ≡ linked_shape (world_of program.now) (names_of locals.now) (links_of (map link_tree links.now)) (shape_tree first)) }
     ensures taken { TakesProgram program.now → TakesLinks (links_of (map link_tree links.now)) → NeverRefused result }
 {
     let right = Temporary(after(to.0)?);
     let mut left = first;
     'each: for link in links {
-        lower_expression(alloc, program, locals, &link.operand, body, right)?;
-        let shape = static_shape(program, locals, &link.operand)?;
-        emit_operation(body, applied(link.operator, left, shape, to, to, right))?;
+        let shape = lower_expression(alloc, program, locals, &link.operand, body, right)?;
+        lower_operator(body, link.operator, left, shape, to)?;
         left = operator_shape(link.operator, left, shape);
     }
-    Ok(())
+    Ok(left)
 }
 
 /// Appends what evaluates the operands of `&&` after the first, each where those before it were not 0.
@@ -251,7 +235,8 @@ fn lower_all(
 {
     'each: for operand in operands {
         let mut these = Vec::new(alloc);
-        lower_expression(alloc, program, locals, operand, &mut these, to)?;
+        let shape = lower_expression(alloc, program, locals, operand, &mut these, to)?;
+        lower_word(&mut these, shape, to)?;
         emit_if(body, to, these, Vec::new(alloc))?;
     }
     Ok(())
@@ -275,7 +260,8 @@ fn lower_any(
 {
     'each: for operand in operands {
         let mut those = Vec::new(alloc);
-        lower_expression(alloc, program, locals, operand, &mut those, to)?;
+        let shape = lower_expression(alloc, program, locals, operand, &mut those, to)?;
+        lower_word(&mut those, shape, to)?;
         emit_if(body, to, Vec::new(alloc), those)?;
     }
     Ok(())
@@ -306,8 +292,8 @@ fn lower_arguments(
         let [shape, others @ ..] = left else {
             return Ok(());
         };
-        lower_expression(alloc, program, locals, argument, body, to)?;
-        lower_conversion(body, *shape, static_shape(program, locals, argument)?, to)?;
+        let from = lower_expression(alloc, program, locals, argument, body, to)?;
+        lower_conversion(body, *shape, from, to)?;
         left = others;
         to = Temporary(after(to.0)?);
     }

@@ -8,7 +8,7 @@ ghost use Rattle.source_meaning.specs.Programs.{world_of, routine_of};
 ghost use Rattle.source_lowering.specs.Programs.{parameter_names, parameters_code, end_code, body_code, function_code};
 ghost use Rattle.lower_checks.specs.Views.{shape_tree};
 ghost use Rattle.lower_checks.specs.Visible.{names_of};
-ghost use Rattle.source_lowering.specs.Taken.{AreIntegers, TakesFunction, TakesProgram};
+ghost use Rattle.accepted_sources.specs.IntegerForms.{AreIntegers, TakesFunction, TakesProgram};
 ghost use Rattle.lower_checks.specs.Refusals.{NeverRefused};
 
 use crate::call::part_shapes;

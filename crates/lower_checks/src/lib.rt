@@ -24,6 +24,7 @@ mod shaped;
 mod statement;
 mod table;
 mod usage;
+mod values;
 mod variable;
 
 pub use fault::LowerFault;

@@ -1,4 +1,4 @@
-// The locals that are visible at a point.
+// A local that was found by its name, and numbers.
 
 ghost use Rattle.std.specs.Prelude.{◌≡◌, ◌+◌, IfOk};
 ghost use Rattle.lower_checks.specs.Refusals.{NeverRefused};

@@ -1,17 +1,14 @@
 // Operators on integers.
 
-ghost use Rattle.std.specs.Prelude.{◌≡◌, IfOk};
+ghost use Rattle.std.specs.Prelude.{◌≡◌};
 ghost use Rattle.source_meaning.specs.Operators.{common, by_type, promoted_shape, common_shape, operator_shape};
-ghost use Rattle.source_lowering.specs.Lowered.{type_of, prefix_shape, applied_to};
+ghost use Rattle.source_lowering.specs.Lowered.{type_of, applied_to};
 ghost use Rattle.cyc_core.specs.Trees.{binary_tree, operation_tree};
 ghost use Rattle.lower_checks.specs.Views.{shape_tree};
-ghost use Rattle.source_lowering.specs.Taken.{TakesPrefix};
-ghost use Rattle.lower_checks.specs.Refusals.{NeverRefused};
 
-use crate::fault::LowerFault;
 use crate::shape::Shape;
 use cyc_core::{Binary, Operation, Temporary};
-use cyc_tree::{Operator, Prefix};
+use cyc_tree::Operator;
 
 /// The shape of two operands.
 pub fn common_shape(left: Shape, right: Shape) -> Shape
@@ -47,18 +44,6 @@ pub fn operator_shape(operator: Operator, left: Shape, right: Shape) -> Shape
         | Operator::GreaterEqual => Shape::Int,
         Operator::ShiftLeft | Operator::ShiftRight => promoted(left),
         _ => common_shape(left, right),
-    }
-}
-
-/// The shape of what a prefix operator gives. Refuses those of pointers.
-pub fn prefix_shape(operator: Prefix, operand: Shape) -> Result<Shape, LowerFault>
-    ensures shape { IfOk result (λ shape. shape_tree shape ≡ prefix_shape operator (shape_tree operand)) }
-    ensures taken { TakesPrefix operator → NeverRefused result }
-{
-    match operator {
-        Prefix::Negate | Prefix::Complement => Ok(promoted(operand)),
-        Prefix::Not => Ok(Shape::Int),
-        Prefix::Dereference | Prefix::AddressOf => Err(LowerFault::NotTaken),
     }
 }
 

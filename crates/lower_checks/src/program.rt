@@ -7,8 +7,8 @@ ghost use Rattle.cyc_core.specs.Trees.{function_tree, datum_tree, program_tree};
 ghost use Rattle.source_meaning.specs.Shapes.{IntShape, UnsignedShape, CharShape, written, settled};
 ghost use Rattle.source_meaning.specs.Steps.{World};
 ghost use Rattle.source_meaning.specs.Programs.{world_of, functions_of};
-ghost use Rattle.source_lowering.specs.Programs.{function_code, constant_word, initial_content, datum_of, data_of, program_code};
-ghost use Rattle.source_lowering.specs.Taken.{IsIntegerType, TakesConstant, TakesInitial, TakesProgram, IsLowerable};
+ghost use Rattle.source_lowering.specs.Programs.{function_code, constant_content, initial_content, datum_of, data_of, program_code};
+ghost use Rattle.accepted_sources.specs.IntegerForms.{IsIntegerType, TakesConstant, TakesInitial, TakesProgram};
 ghost use Rattle.lower_checks.specs.Refusals.{NeverRefused};
 
 use crate::fault::LowerFault;
@@ -22,7 +22,9 @@ use std::alloc::Global;
 
 /// The word of a constant. Refuses a string and `NULL`.
 fn constant_word(constant: &Constant) -> Result<u32, LowerFault>
-    ensures word { IfOk result (λ word. word ≡ constant_word (constant_tree constant.now)) }
+    ensures int { IfOk result (λ word. constant_content (constant_tree constant.now) IntShape ≡ Word word) }
+    ensures unsigned { IfOk result (λ word. constant_content (constant_tree constant.now) UnsignedShape ≡ Word word) }
+    ensures char { IfOk result (λ word. constant_content (constant_tree constant.now) CharShape ≡ Word (word % 256)) }
     ensures taken { TakesConstant (constant_tree constant.now) → NeverRefused result }
 {
     match constant {
@@ -102,11 +104,11 @@ fn lower_functions(alloc: Global, program: &Table<'_>) -> Result<Vec<Function>, 
 }
 
 /// The Core of a program. Refuses a program that has something else than functions, globals and locals of integers; and fails
-/// where no host memory is left, or a number of temporaries, locals, functions or globals is over the greatest u32. So it takes each program that is
-/// lowerable, where memory and numbers are enough.
+/// where no host memory is left, or a number of temporaries, locals, functions or globals is over the greatest u32. So it takes each program of
+/// integers alone, where memory and numbers are enough.
 pub fn lower(alloc: Global, program: &Source) -> Result<Program, LowerFault>
     ensures code { IfOk result (λ core. program_tree core ≡ program_code program.now) }
-    ensures taken { IsLowerable program.now → NeverRefused result }
+    ensures taken { TakesProgram program.now → NeverRefused result }
 {
     let table = Table::new(alloc, program.items())?;
     let functions = lower_functions(alloc, &table)?;

@@ -9,7 +9,7 @@ ghost use Rattle.source_lowering.specs.Lowered.{width_of, results_in};
 ghost use Rattle.source_lowering.specs.Programs.{locals_of};
 ghost use Rattle.cyc_core.specs.Trees.{bytes_of, local_tree, optional_tree};
 ghost use Rattle.lower_checks.specs.Views.{shape_tree};
-ghost use Rattle.source_lowering.specs.Taken.{TakesResult};
+ghost use Rattle.accepted_sources.specs.IntegerForms.{TakesResult};
 ghost use Rattle.lower_checks.specs.Refusals.{IsLocal, AreLocals, NeverRefused};
 
 use crate::fault::LowerFault;

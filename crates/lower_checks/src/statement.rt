@@ -9,17 +9,17 @@ ghost use Rattle.source_lowering.specs.Lowered.{static_shape, conversion_code, r
 ghost use Rattle.source_lowering.specs.Programs.{local_shape, block_shapes, declaration_code, statement_code, items_code};
 ghost use Rattle.lower_checks.specs.Views.{shape_tree};
 ghost use Rattle.lower_checks.specs.Visible.{left, names_of};
-ghost use Rattle.source_lowering.specs.Taken.{Takes, TakesDeclaration, TakesStatement, TakesItems, TakesProgram};
+ghost use Rattle.accepted_sources.specs.IntegerForms.{Takes, TakesDeclaration, TakesStatement, TakesItems, TakesProgram};
 ghost use Rattle.lower_checks.specs.Refusals.{NeverRefused};
 
 use crate::emit::{emit, emit_block, emit_if, emit_operation, emit_while};
-use crate::expression::{lower_conversion, lower_expression};
+use crate::expression::lower_expression;
 use crate::fault::LowerFault;
 use crate::locals::Locals;
 use crate::names::number;
 use crate::shape::{Shape, add_shape, widths_of};
-use crate::shaped::static_shape;
 use crate::table::Table;
+use crate::values::{first_value, lower_conversion};
 use cyc_core::{Operation, Statement, Temporary, Variable};
 use cyc_tree::{BlockItem, Declaration, Expression, Initializer, Statement as Source};
 use std::alloc::Global;
@@ -38,7 +38,7 @@ fn declared_shape(declaration: &Declaration) -> Result<Shape, LowerFault>
     }
 }
 
-/// Appends what gives the local of a number its first value: 0, or its initializer's value.
+/// Appends what gives the local of a number its first value: that of its shape, or its initializer's value.
 fn lower_declaration(
     alloc: Global,
     program: &Table<'_>,
@@ -60,13 +60,13 @@ fn lower_declaration(
     let local = Variable { out: 0, index };
     match initializer {
         Initializer::None => {
-            emit_operation(body, Operation::Constant(VALUE, 0))?;
+            emit_operation(body, first_value(shape))?;
             emit_operation(body, Operation::Put(local, shape.width(), VALUE))
         }
         Initializer::Array(_) => Err(LowerFault::NotTaken),
         Initializer::Value(value) => {
-            lower_expression(alloc, program, locals, value, body, VALUE)?;
-            lower_conversion(body, shape, static_shape(program, locals, value)?, VALUE)?;
+            let from = lower_expression(alloc, program, locals, value, body, VALUE)?;
+            lower_conversion(body, shape, from, VALUE)?;
             emit_operation(body, Operation::Put(local, shape.width(), VALUE))
         }
     }
@@ -91,8 +91,8 @@ fn lower_return(
         (conversion_code (shape_tree shape) (static_shape w names e) 0 ++ core.Return (results_in (shape_tree shape) 0) ∷ []))) }
     ensures taken { TakesProgram program.now → Takes (expression_tree value.now) → NeverRefused result }
 {
-    lower_expression(alloc, program, locals, value, body, VALUE)?;
-    lower_conversion(body, shape, static_shape(program, locals, value)?, VALUE)?;
+    let from = lower_expression(alloc, program, locals, value, body, VALUE)?;
+    lower_conversion(body, shape, from, VALUE)?;
     emit(body, Statement::Return(shape.result_in(VALUE)))
 }
 
@@ -131,7 +131,10 @@ fn lower_statement<'p>(
             locals.leave();
             emit_block(body, widths_of(alloc, &shapes)?, inside)
         }
-        Source::Run(value) => lower_expression(alloc, program, locals, value, body, VALUE),
+        Source::Run(value) => {
+            lower_expression(alloc, program, locals, value, body, VALUE)?;
+            Ok(())
+        }
         Source::If(_, condition, these) => {
             lower_expression(alloc, program, locals, condition, body, VALUE)?;
             let these = lower_part(alloc, program, shape, locals, these)?;

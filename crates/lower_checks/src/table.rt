@@ -11,7 +11,7 @@ ghost use Rattle.source_meaning.specs.Programs.{functions_of, routine_of, global
 ghost use Rattle.source_lowering.specs.Lowered.{number_of};
 ghost use Rattle.lower_checks.specs.Views.{found_entity};
 ghost use Rattle.lower_checks.specs.Tables.{first_function, function_in, global_in};
-ghost use Rattle.source_lowering.specs.Taken.{IsIntegerType, TakesFunction, TakesInitial, TakesProgram};
+ghost use Rattle.accepted_sources.specs.IntegerForms.{IsIntegerType, TakesFunction, TakesInitial, TakesProgram};
 ghost use Rattle.lower_checks.specs.Refusals.{NeverRefused};
 
 use crate::fault::LowerFault;

@@ -1,19 +1,21 @@
 // Variables are read and written.
 
-ghost use Rattle.std.specs.Prelude.{◌≡◌, ◌++◌, OnOk, map};
+ghost use Rattle.std.specs.Prelude.{◌≡◌, ◌++◌, IfOk, OnOk, map};
 ghost use Rattle.cyc_tree.specs.View.{expression_tree};
 ghost use Rattle.cyc_core.specs.Trees.{statement_tree};
 ghost use Rattle.source_meaning.specs.Programs.{world_of};
-ghost use Rattle.source_lowering.specs.Lowered.{get_code, put_code, put_by, local_named};
+ghost use Rattle.source_lowering.specs.Lowered.{get_code, put_code, put_by, local_named, named_shape};
 ghost use Rattle.source_meaning.specs.Places.{bound_to};
+ghost use Rattle.lower_checks.specs.Views.{shape_tree};
 ghost use Rattle.lower_checks.specs.Visible.{names_of};
-ghost use Rattle.source_lowering.specs.Taken.{TakesPlace, TakesProgram};
+ghost use Rattle.accepted_sources.specs.IntegerForms.{TakesPlace, TakesProgram};
 ghost use Rattle.lower_checks.specs.Refusals.{NeverRefused};
 
 use crate::emit::emit_operation;
 use crate::fault::LowerFault;
 use crate::locals::Locals;
 use crate::names::{Named, after};
+use crate::shape::Shape;
 use crate::table::Table;
 use cyc_core::{Operation, Statement, Temporary, Variable};
 use cyc_tree::Expression;
@@ -29,30 +31,33 @@ fn place_of(local: Named<'_>) -> Variable
     }
 }
 
-/// Appends what reads a variable into a temporary: a local by one operation.
+/// Appends what reads a variable into a temporary, a local by one operation; gives its shape, which is `void` where there is none of that name.
 pub fn lower_get(
     program: &Table<'_>,
     locals: &Locals<'_>,
     body: &mut Vec<Statement>,
     name: &[u8],
     to: Temporary,
-) -> Result<(), LowerFault>
+) -> Result<Shape, LowerFault>
     ensures code { OnOk result
         (map statement_tree body.new.items ≡
         map statement_tree body.old.items ++ get_code (world_of program.now) (names_of locals.now) name.now to.0) }
+    ensures shape { IfOk result (λ shape. shape_tree shape ≡ named_shape (world_of program.now) (names_of locals.now) name.now) }
     ensures taken { TakesProgram program.now → NeverRefused result }
 {
     if let Some(local) = locals.named(name) {
-        return emit_operation(
+        emit_operation(
             body,
             Operation::Get(to, place_of(local), local.shape.width()),
-        );
+        )?;
+        return Ok(local.shape);
     }
     let Some(global) = program.global_named(name) else {
-        return Ok(());
+        return Ok(Shape::Void);
     };
     emit_operation(body, Operation::DataAddress(to, global.object))?;
-    emit_operation(body, Operation::Load(to, to, global.shape.width()))
+    emit_operation(body, Operation::Load(to, to, global.shape.width()))?;
+    Ok(global.shape)
 }
 
 /// Appends what writes the word of a temporary to the variable of a name.

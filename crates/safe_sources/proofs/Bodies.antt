@@ -8,7 +8,7 @@ use Rattle.source_meaning.specs.Calls.{function_of}
 use Rattle.source_meaning.specs.Programs.{is_main, routine_of}
 use Rattle.source_meaning.specs.Shapes.{Layout, has_tag, part_of, part_shapes, settled, written}
 use Rattle.source_meaning.specs.Steps.{World}
-use Rattle.source_lowering.specs.Taken.{AreIntegers, GivesInteger, GivesNothing, TakesResult}
+use Rattle.accepted_sources.specs.IntegerForms.{AreIntegers, GivesInteger, GivesNothing, TakesResult}
 use Rattle.source_typing.specs.Faults.{is_clean, name_rule, own_after, test, type_rule}
 use Rattle.source_typing.specs.Functions.{Head, body_scope, end_reached, function_faults, function_scope, head_of, needs_return, with_parameters}
 use Rattle.source_typing.specs.Regions.{Region, entry_regions}

@@ -7,7 +7,7 @@ use Rattle.source_meaning.specs.Calls.{number_type}
 use Rattle.source_meaning.specs.Memory.{AsChar}
 use Rattle.source_meaning.specs.Programs.{global_shape}
 use Rattle.source_meaning.specs.Shapes.{settled, written}
-use Rattle.source_lowering.specs.Taken.{IsIntegerBase, TakesConstant, TakesInitial}
+use Rattle.accepted_sources.specs.IntegerForms.{IsIntegerBase, TakesConstant, TakesInitial}
 use Rattle.source_typing.specs.Declarations.{what_after, what_of}
 use Rattle.source_typing.specs.Faults.{Fault}
 use Rattle.source_typing.specs.Globals.{count_of, global_entry, global_type}

@@ -2,7 +2,7 @@
 use Rattle.std.proofs.Common.{◌≡◌, ℕ, Bool, true, false, Option, Some, None, List, [], ◌∷◌, refl, sym, ap, ◌∙◌}
 use Rattle.std.specs.Prelude.{◌||◌, ◌++◌, map, not}
 use Rattle.cyc_tree.specs.Tree as tree
-use Rattle.source_lowering.specs.Taken.{AreIntegers}
+use Rattle.accepted_sources.specs.IntegerForms.{AreIntegers}
 use Rattle.source_typing.specs.Faults.{Fault, type_rule}
 use Rattle.source_typing.specs.Functions.{
   Parameters,

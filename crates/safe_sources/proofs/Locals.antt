@@ -5,7 +5,7 @@ use Rattle.cyc_tree.specs.Operands.{DeclarationHasOperands, ExpressionHasOperand
 use Rattle.cyc_tree.specs.Tree as tree
 use Rattle.cyc_tree.specs.Tree.{Expression, Initializer, TypeName}
 use Rattle.source_meaning.specs.Shapes.{settled, settled_by, written}
-use Rattle.source_lowering.specs.Taken.{IsIntegerBase, IsIntegerType}
+use Rattle.accepted_sources.specs.IntegerForms.{IsIntegerBase, IsIntegerType}
 use Rattle.source_typing.specs.Converts.{Integers, IsInteger}
 use Rattle.source_typing.specs.Declarations.{declare, set_faults, set_type, unset_type, what_after, what_of}
 use Rattle.source_typing.specs.Expressions.{judge}

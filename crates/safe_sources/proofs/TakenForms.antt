@@ -3,7 +3,7 @@ use Rattle.std.proofs.Common.{◌≡◌, refl, ap, ap₂}
 use Rattle.cyc_tree.specs.declared.expression.Prefix.{Prefix}
 use Rattle.cyc_tree.specs.declared.expression.Prefix.TheVariants as prefix
 use Rattle.cyc_tree.specs.Tree.{Expression, Expressions, NoExpressions, MoreExpressions, Links, NoLinks, MoreLinks}
-use Rattle.source_lowering.specs.Taken.{Takes, TakesAll, TakesLinks, TakesPlace, TakesPrefix, TakesSome}
+use Rattle.accepted_sources.specs.IntegerForms.{Takes, TakesAll, TakesLinks, TakesPlace, TakesPrefix, TakesSome}
 use Rattle.source_typing.specs.Taken.{all_taken, thin_pointers, links_taken, taken}
 
 place_itself : (e : Expression) → TakesPlace e → taken thin_pointers e ≡ e

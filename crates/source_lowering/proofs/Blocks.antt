@@ -16,7 +16,7 @@ use Rattle.source_lowering.specs.Lowered.{Named, all_of}
 use Rattle.source_lowering.specs.Programs.{locals_of, outward}
 use Rattle.source_lowering.proofs.Relations.{ArePending, Agree, Later, AreLocals, AreLed, Place, Fits, Next}
 use Rattle.source_lowering.proofs.Keeping.{later_on, later_less, shown_later, all_led_later, left_later, agree_left}
-use Rattle.source_lowering.proofs.Names.{AreIntegerNames}
+use Rattle.source_lowering.proofs.Names.{AreWordNames}
 use Rattle.source_lowering.proofs.Entering.{source_in, core_in, agree_entered, entered_later, AreTaken, pending_entered}
 use Rattle.source_lowering.proofs.Calls.{OneResult, NoResult, ResultIs}
 use Rattle.source_lowering.proofs.Statements.{WaysOn, RunsAs}
@@ -33,7 +33,7 @@ locals_outward k blocks (b ∷ bs) (l ∷ ls) h = (
       bs ls h.1,
 )
 
-pub integers_outward : (ls : List Named) → AreIntegerNames ls → AreIntegerNames (outward ls)
+pub integers_outward : (ls : List Named) → AreWordNames ls → AreWordNames (outward ls)
 integers_outward [] h = tt
 integers_outward (l ∷ ls) h = (h.0, integers_outward ls h.1)
 

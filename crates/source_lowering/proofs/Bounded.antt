@@ -33,6 +33,7 @@ use Rattle.source_lowering.specs.Programs.{
   locals_of,
   outward,
   named_here,
+  first_code,
   declaration_code,
   statement_code,
   items_code,
@@ -80,7 +81,7 @@ one_word w ss IntShape h = omega arith
 one_word w ss UnsignedShape h = omega arith
 one_word w ss CharShape h = omega arith
 one_word w ss VoidShape h = omega arith
-one_word w ss (ThinShape may_be_null owner to) h = absurd h
+one_word w ss (ThinShape may_be_null owner to) h = omega arith
 one_word w ss (FatShape to) h = absurd h
 one_word w ss HandleShape h = absurd h
 one_word w ss KeyShape h = absurd h
@@ -104,11 +105,25 @@ record IsBounded (t p l n : ℕ) (code : List core.Statement) : Type 0 where
   costs : Costs t p l operations code
   less : operations ≤ 8 * n
 
+first_costs : (t p : ℕ) (s : Shape) → 1 ≤ t → Costs t p 0 1 (Do (first_code s) ∷ [])
+first_costs t p IntShape h = does_one t p _ h
+first_costs t p UnsignedShape h = does_one t p _ h
+first_costs t p CharShape h = does_one t p _ h
+first_costs t p VoidShape h = does_one t p _ h
+first_costs t p (ThinShape may_be_null owner to) h = does_one t p _ h
+first_costs t p (FatShape to) h = does_one t p _ h
+first_costs t p HandleShape h = does_one t p _ h
+first_costs t p KeyShape h = does_one t p _ h
+first_costs t p (StructShape tag) h = does_one t p _ h
+first_costs t p (UnionShape tag) h = does_one t p _ h
+first_costs t p (ArrayShape count of) h = does_one t p _ h
+
 declaration_bounded : (w : World) (names : List Named) (d : Declaration) (index t p : ℕ) → TakesDeclaration d → declaration_nodes d + 1 ≤ t
     → declaration_nodes d ≤ p → IsBounded t p 0 (1 + declaration_nodes d) (declaration_code w names d index)
 declaration_bounded w names (tree.Local of name Initializer.Unset) index t p h f g = record {
   operations = 2;
-  costs = both_cost t p 0 1 0 1 (Do (Constant 0 0) ∷ []) (Do (Put 0 index (width_of (settled (written of))) 0) ∷ []) (does_one t p _ f) (does_one t p _ f);
+  costs = both_cost t p 0 1 0 1 (Do (first_code (settled (written of))) ∷ [])
+      (Do (Put 0 index (width_of (settled (written of))) 0) ∷ []) (first_costs t p (settled (written of)) f) (does_one t p _ f);
   less = omega arith;
 }
 declaration_bounded w names (tree.Local of name (Initializer.Elements count)) index t p h f g = absurd h.1
@@ -116,8 +131,8 @@ declaration_bounded w names (tree.Local of name (Initializer.Value e)) index t p
     let a = expression_costs w names e t p 0 h.1 (omega (arith, f)) g in
     let l = a.less in
     record {
-      operations = a.operations + (1 + 1);
-      costs = both_cost t p 0 a.operations 0 (1 + 1) _ _ a.costs (both_cost t p 0 1 0 1 _ _ (conversion_costs t p 0 (settled (written of))
+      operations = a.operations + (2 + 1);
+      costs = both_cost t p 0 a.operations 0 (2 + 1) _ _ a.costs (both_cost t p 0 2 0 1 _ _ (conversion_costs t p 0 (settled (written of))
           (static_shape w names e) (omega (arith, f))) (does_one t p (Put 0 index (width_of (settled (written of))) 0) (omega (arith, f))));
       less = omega (arith, l);
     }
@@ -215,8 +230,8 @@ mutual
       let a = expression_costs w names e t p 0 h (omega (arith, f)) g in
       let l = a.less in let r = results_last result 0 in let m = results_many result 0 in
       record {
-        operations = a.operations + (1 + 2);
-        costs = both_cost t p 0 a.operations 0 (1 + 2) _ _ a.costs (both_cost t p 0 1 0 2 _ _ (conversion_costs t p 0 result (static_shape w names e)
+        operations = a.operations + (2 + 2);
+        costs = both_cost t p 0 a.operations 0 (2 + 2) _ _ a.costs (both_cost t p 0 2 0 2 _ _ (conversion_costs t p 0 result (static_shape w names e)
             (omega (arith, f)))
             (one_costs t p 0 2 (Return (results_in result 0)) (omega (arith, r, f)) (omega arith) (omega arith) (omega (arith, m))));
         less = omega (arith, l);

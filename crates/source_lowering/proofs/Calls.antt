@@ -82,7 +82,7 @@ use Rattle.source_lowering.proofs.Relations.{
 }
 use Rattle.source_lowering.proofs.Keeping.{later_self, later_on, later_less, shown_later, fits_later}
 use Rattle.source_lowering.proofs.Runs.{stuck_same, says_same, reads_same, pays_same, calls_same, less_fuel, put_all}
-use Rattle.source_lowering.proofs.Integers.{IsTaken, IsInteger, integer_taken, word_given}
+use Rattle.source_lowering.proofs.Integers.{IsTaken, IsWordShape, word_taken, word_given}
 use Rattle.source_lowering.proofs.Names.{IsRoutine}
 use Rattle.source_lowering.proofs.Values.{put_value, put_three}
 use Rattle.source_lowering.proofs.Variables.{Agrees, value_of}
@@ -147,17 +147,17 @@ pub stuck_arguments : (p : Place) (n d count : ℕ) (shapes : List Shape) (code 
 stuck_arguments p n d count shapes code = record { same = λ m c s rest next fits goes. stuck_same p.world p.program n _ }
 
 pub more_arguments : (p : Place) (n d count : ℕ) (shape : Shape) (shapes : List Shape) (e : Sense) (es : List Sense) (from : Shape)
-    (first others : List Statement) → IsInteger shape → Agrees p n d e from first → ArgumentsAs p n (d + 1) count shapes (converted_all p.world shapes es)
+    (first others : List Statement) → IsWordShape shape → Agrees p n d e from first → ArgumentsAs p n (d + 1) count shapes (converted_all p.world shapes es)
     others
     → ArgumentsAs p n d (suc count) (shape ∷ shapes) (converted_all p.world (shape ∷ shapes) (e ∷ es)) (first ++ (conversion_code shape from d ++ others))
-more_arguments p n d count shape shapes e es from first others integer one more = record {
+more_arguments p n d count shape shapes e es from first others is_word one more = record {
   same = λ m c s rest next fits goes.
       subst (λ z. SameAt p n (converted_all p.world (shape ∷ shapes) (e ∷ es) s m) (meaning.statements z next c))
       (sym (put_three first (conversion_code shape from d) others rest ∙ sym (put_all first (conversion_code shape from d) (put others rest))))
-      ((converted_gives p n d shape e from first (integer_taken shape integer) one).same m c (λ vs. converted_all p.world shapes es (λ vss. s (vs ∷ vss)))
+      ((converted_gives p n d shape e from first (word_taken shape is_word) one).same m c (λ vs. converted_all p.world shapes es (λ vss. s (vs ∷ vss)))
       (put others rest) next fits (record {
         go = λ m1 c1 vs fits1 later1 kept1 given1.
-            let v = value_of p.world m1 c1.memory shape vs (c1.temps d) integer given1 in
+            let v = value_of p.world m1 c1.memory shape vs (c1.temps d) is_word given1 in
             more.same m1 c1 (λ vss. s (vs ∷ vss)) rest next fits1 (record {
               go = λ m2 c2 vss fits2 later2 kept2 all.
                   let same : c1.temps d ≡ c2.temps d = sym (kept2 d (omega arith)) in
@@ -190,12 +190,12 @@ results_same p n d m0 c0 m c shape vs xs s k taken result fits later kept goes =
         subst (λ z. SameAt p n (s vs m) (with_results (d ∷ []) z c k)) (sym o.alone)
         (put_value p n d m0 c0 m c of vs o.content s k fits later kept (inl o.value) go)
 
-    not_void : (of : Shape) → IsInteger of → of ≡ VoidShape → ⊥
-    not_void of integer e = subst (λ z. IsInteger z) e integer
+    not_void : (of : Shape) → IsWordShape of → of ≡ VoidShape → ⊥
+    not_void of is_word e = subst (λ z. IsWordShape z) e is_word
 
-    some : (of : Shape) → IsInteger of → GoesOn p n d m0 c0 of s k → ResultIs p.world m c.memory of vs xs → SameAt p n (s vs m) (with_results (d ∷ []) xs c k)
-    some of integer go r = ⊎_elim (λ (o : OneResult p.world m c.memory of vs xs). one of go o) (λ (o : NoResult of vs xs). absurd
-        (not_void of integer o.value.void)) r
+    some : (of : Shape) → IsWordShape of → GoesOn p n d m0 c0 of s k → ResultIs p.world m c.memory of vs xs → SameAt p n (s vs m) (with_results (d ∷ []) xs c k)
+    some of is_word go r = ⊎_elim (λ (o : OneResult p.world m c.memory of vs xs). one of go o) (λ (o : NoResult of vs xs). absurd
+        (not_void of is_word o.value.void)) r
 
     none : GoesOn p n d m0 c0 VoidShape s k → ResultIs p.world m c.memory VoidShape vs xs → SameAt p n (s vs m) (with_results [] xs c k)
     none go r =
@@ -209,7 +209,7 @@ results_same p n d m0 c0 m c shape vs xs s k taken result fits later kept goes =
     by UnsignedShape h go r = some UnsignedShape tt go r
     by CharShape h go r = some CharShape tt go r
     by VoidShape h go r = none go r
-    by (ThinShape may_be_null owner to) h go r = absurd h
+    by (ThinShape may_be_null owner to) h go r = some (ThinShape may_be_null owner to) h go r
     by (FatShape to) h go r = absurd h
     by HandleShape h go r = absurd h
     by KeyShape h go r = absurd h

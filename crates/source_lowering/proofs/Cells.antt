@@ -1,5 +1,5 @@
 -- A variable's one cell is read and written, in the source and in Core.
-use Rattle.std.proofs.Common.{◌≡◌, ℕ, ◌+◌, ◌%◌, ◌<◌, List, [], ◌∷◌, length, Bool, true, false, not, Option, Some, None, refl, sym, ap, ◌∙◌, subst, arith}
+use Rattle.std.proofs.Common.{◌≡◌, ⊎_elim, ℕ, ◌+◌, ◌%◌, ◌<◌, List, [], ◌∷◌, length, Bool, true, false, not, Option, Some, None, refl, sym, ap, ◌∙◌, subst, arith}
 use Rattle.source_meaning.specs.Shapes.{
   Shape,
   IntShape,
@@ -22,16 +22,16 @@ use Rattle.source_meaning.specs.Conversions.{cells_of}
 use Rattle.source_meaning.specs.Values.{read_cells, value_held, write_cells, put_content, is_lent, take_cells}
 use Rattle.source_meaning.specs.Places.{place_sense, entity_sense, given_by}
 use Rattle.core_meaning.specs.Memory as core
-use Rattle.core_meaning.specs.Memory.{Content, Word, Part, with_part}
+use Rattle.core_meaning.specs.Memory.{Content, Word, Null, Pointer, Part, with_part}
 use Rattle.core_meaning.specs.Core.{Program}
 use Rattle.core_meaning.specs.Steps as core_steps
 use Rattle.core_meaning.specs.Operations.{fitting}
 use Rattle.source_lowering.specs.Layouts.{placed_of, pieces_of}
 use Rattle.source_lowering.specs.Lowered.{width_of}
-use Rattle.source_lowering.proofs.Relations.{region_at, at, HasShape, PartsAre, AreLaid, Leads, Shown, PartsHold, Agree, Later, Same}
+use Rattle.source_lowering.proofs.Relations.{region_at, at, HasShape, PartsAre, AreLaid, Leads, ANull, APointer, Shown, PartsHold, Agree, Later, Same}
 use Rattle.source_lowering.proofs.Keeping.{later_written, agree_written, m_written}
 use Rattle.source_lowering.proofs.Runs.{stuck_same}
-use Rattle.source_lowering.proofs.Integers.{IsInteger}
+use Rattle.source_lowering.proofs.Integers.{IsWordShape}
 
 -- ---- shapes of one word
 
@@ -55,7 +55,7 @@ pub record IsPlain (w : World) (shape : Shape) (width : ℕ) : Type 0 where
 low : (x : ℕ) → x < 256 → x % 256 ≡ x
 low x h = omega (arith, h)
 
-pub plain_of : (w : World) (s : Shape) → IsInteger s → IsPlain w s (width_of s)
+pub plain_of : (w : World) (s : Shape) → IsWordShape s → IsPlain w s (width_of s)
 plain_of w IntShape h = record {
   cells = refl;
   placed = refl;
@@ -93,7 +93,19 @@ plain_of w CharShape h = record {
   variable = λ s. refl;
 }
 plain_of w VoidShape h = absurd h
-plain_of w (ThinShape may_be_null owner to) h = absurd h
+plain_of w (ThinShape may_be_null owner to) h =
+    subst (λ z. IsPlain w (ThinShape may_be_null z to) 4) (sym h.0)
+    (record {
+      cells = refl;
+      placed = refl;
+      pieces = refl;
+      one = λ m c v cs o.
+          ⊎_elim (λ (z : ANull may_be_null v cs). record { word = Null; is = z.shown; fits = refl })
+          (λ (z : APointer w m c to v cs). record { word = Pointer (at z.spot) z.byte; is = z.shown; fits = refl }) o;
+      taken = λ s k m. refl;
+      given = λ vs. refl;
+      variable = λ s. refl;
+    })
 plain_of w (FatShape to) h = absurd h
 plain_of w HandleShape h = absurd h
 plain_of w KeyShape h = absurd h

@@ -1,10 +1,9 @@
 -- The globals' constants are stored before `main` is entered; Core's data have them from the start.
-use Rattle.std.proofs.Common.{◌≡◌, ℕ, suc, ◌+◌, ◌-◌, ◌%◌, ◌^◌, ◌<◌, List, [], ◌∷◌, Bool, true, false, nat_eq, Some, refl, sym, ap, ◌∙◌, subst, arith}
+use Rattle.std.proofs.Common.{◌≡◌, inl, None, ℕ, suc, ◌+◌, ◌-◌, ◌%◌, ◌^◌, ◌<◌, List, [], ◌∷◌, Bool, true, false, nat_eq, Some, refl, sym, ap, ◌∙◌, subst, arith}
 use Rattle.std.specs.Prelude.{◌&&◌, if◌then◌else◌}
 use Rattle.std.proofs.lemmas.Bool.{eqb-true, and_parts}
 use Rattle.cyc_tree.specs.Tree as tree
 use Rattle.cyc_tree.specs.Tree.{Initial, Item, Constant}
-use Rattle.cyc_words.specs.Words.{difference_of}
 use Rattle.source_meaning.specs.Shapes.{
   Shape,
   IntShape,
@@ -22,7 +21,7 @@ use Rattle.source_meaning.specs.Shapes.{
   settled,
 }
 use Rattle.source_meaning.specs.Memory as source
-use Rattle.source_meaning.specs.Memory.{IntegerType, AsInt, AsUnsigned, AsChar, Integer, Scalar}
+use Rattle.source_meaning.specs.Memory.{IntegerType, AsInt, AsUnsigned, AsChar, Integer, Thin, Scalar}
 use Rattle.source_meaning.specs.Steps as steps
 use Rattle.source_meaning.specs.Steps.{World}
 use Rattle.source_meaning.specs.Conversions.{converted}
@@ -34,14 +33,14 @@ use Rattle.core_meaning.specs.Memory.{Content, Word, Part, with_part}
 use Rattle.core_meaning.specs.Core.{Program}
 use Rattle.core_meaning.specs.Steps as core_steps
 use Rattle.source_lowering.specs.Lowered.{width_of}
-use Rattle.source_lowering.specs.Programs.{word_in, constant_word, initial_content}
-use Rattle.source_lowering.specs.Taken.{TakesConstant, TakesInitial, TakesProgram}
+use Rattle.source_lowering.specs.Programs.{word_in, constant_word, constant_content, initial_content}
+use Rattle.source_lowering.specs.Taken.{IsIntegerShape, IsNullable, TakesConstant, TakesInitial, TakesProgram}
 use Rattle.source_lowering.proofs.Relations.{at, Leads, Shown, Agree, Later, AreLed, Same}
 use Rattle.source_lowering.proofs.Keeping.{spot_same, later_self, all_led_later, m_written}
 use Rattle.source_lowering.proofs.Operators.{modulo_small}
-use Rattle.source_lowering.proofs.Integers.{IsInteger, limit, word_shown}
+use Rattle.source_lowering.proofs.Integers.{IsWordShape, limit, word_shown}
 use Rattle.source_lowering.proofs.Cells.{plain_of, write_same}
-use Rattle.source_lowering.proofs.EachStatement.{type_settled}
+use Rattle.source_lowering.proofs.WrittenTypes.{type_settled}
 use Rattle.source_lowering.proofs.Heap.{part_of, AreStored}
 
 -- ---- a part that is written with what it has
@@ -64,11 +63,10 @@ same_part c s p is = λ i. record c { parts = λ t j. each t j i }
 
 -- a constant's value, converted to a global's shape
 record IsConverted (w : World) (c : Constant) (s : Shape) : Type 0 where
-  type : IntegerType
-  shape : s ≡ integer_shape type
-  small : word_in s (constant_word c) < limit type
+  value : Scalar
+  shown : (m : source.Memory) (k : core.Memory) → Shown w m k s value (constant_content c s ∷ [])
   gives : (k : List Scalar → source.Memory → steps.Step) (m : source.Memory) → constant_value w.strings c (λ v. converted w s (constant_shape c) (v ∷ []) k) m
-      ≡ k (Integer type (word_in s (constant_word c)) ∷ []) m
+      ≡ k (value ∷ []) m
 
 low_small : (x : ℕ) → x % 256 < 256
 low_small x = omega arith
@@ -77,7 +75,7 @@ byte_small : (x : ℕ) → x % 256 < 2 ^ 32
 byte_small x = omega arith
 
 -- an integer's word, of whatever type
-integer_converted : (w : World) (s : Shape) (word : ℕ) (t : IntegerType) (from : Shape) → IsInteger s → word < 2 ^ 32
+integer_converted : (w : World) (s : Shape) (word : ℕ) (t : IntegerType) (from : Shape) → IsIntegerShape s → word < 2 ^ 32
     → (type : IntegerType) × ((s ≡ integer_shape type) × ((word_in s word < limit type) × ((k : List Scalar → source.Memory → steps.Step) (m : source.Memory)
     → converted w s from (Integer t word ∷ []) k m ≡ k (Integer type (word_in s word) ∷ []) m)))
 integer_converted w IntShape word t from h small = (AsInt, (refl, (small, λ k m. refl)))
@@ -92,19 +90,51 @@ integer_converted w (StructShape tag) word t from h small = absurd h
 integer_converted w (UnionShape tag) word t from h small = absurd h
 integer_converted w (ArrayShape count of) word t from h small = absurd h
 
-constant_converted : (w : World) (c : Constant) (s : Shape) → TakesConstant c → IsInteger s → IsConverted w c s
-constant_converted w (Constant.Number at value suffix) s h integer =
-    let one = integer_converted w s (value % 2 ^ 32) (number_type value suffix) (integer_shape (number_type value suffix)) integer (modulo_small value) in
-    record { type = one.0; shape = one.1.0; small = one.1.1.0; gives = one.1.1.1 }
-constant_converted w (Constant.Negative at value suffix) s h integer =
-    let one = integer_converted w s (difference_of 0 (value % 2 ^ 32)) (number_type value suffix) (integer_shape (number_type value suffix)) integer
-    (modulo_small (0 + 2 ^ 32 - value % 2 ^ 32)) in
-    record { type = one.0; shape = one.1.0; small = one.1.1.0; gives = one.1.1.1 }
-constant_converted w (Constant.Character at byte) s h integer =
-    let one = integer_converted w s (byte % 256) AsChar CharShape integer (byte_small byte) in
-    record { type = one.0; shape = one.1.0; small = one.1.1.0; gives = one.1.1.1 }
-constant_converted w (Constant.Text at bytes) s h integer = absurd h
-constant_converted w (Constant.Null at) s h integer = absurd h
+number_converted : (w : World) (c : Constant) (s : Shape) (t : IntegerType) (from : Shape) → IsIntegerShape s → constant_word c < 2 ^ 32
+    → constant_content c s ≡ Word (word_in s (constant_word c)) → ((k : List Scalar → source.Memory → steps.Step) (m : source.Memory)
+    → constant_value w.strings c (λ v. converted w s (constant_shape c) (v ∷ []) k) m ≡ converted w s from (Integer t (constant_word c) ∷ []) k m)
+    → IsConverted w c s
+number_converted w c s t from h small content gives =
+    let one = integer_converted w s (constant_word c) t from h small in
+    record {
+      value = Integer one.0 (word_in s (constant_word c));
+      shown = λ m k.
+          subst (λ x. Shown w m k s (Integer one.0 (word_in s (constant_word c))) (x ∷ [])) (sym content)
+          (subst (λ z. Shown w m k z (Integer one.0 (word_in s (constant_word c))) (Word (word_in s (constant_word c)) ∷ [])) (sym one.1.0)
+          (word_shown w m k one.0 (word_in s (constant_word c)) one.1.1.0));
+      gives = λ k m. gives k m ∙ one.1.1.1 k m;
+    }
+
+-- NULL, for a pointer that may be it
+null_converted : (w : World) (at : ℕ) (s : Shape) → IsNullable s → IsConverted w (Constant.Null at) s
+null_converted w at (ThinShape true owner to) h = record {
+  value = Thin None;
+  shown = λ m k. inl (record { allowed = refl; value = refl; shown = refl });
+  gives = λ k m. refl;
+}
+null_converted w at (ThinShape false owner to) h = absurd h
+null_converted w at IntShape h = absurd h
+null_converted w at UnsignedShape h = absurd h
+null_converted w at CharShape h = absurd h
+null_converted w at VoidShape h = absurd h
+null_converted w at (FatShape to) h = absurd h
+null_converted w at HandleShape h = absurd h
+null_converted w at KeyShape h = absurd h
+null_converted w at (StructShape tag) h = absurd h
+null_converted w at (UnionShape tag) h = absurd h
+null_converted w at (ArrayShape count of) h = absurd h
+
+constant_converted : (w : World) (c : Constant) (s : Shape) → TakesConstant s c → IsConverted w c s
+constant_converted w (Constant.Number at value suffix) s h =
+    number_converted w (Constant.Number at value suffix) s (number_type value suffix) (integer_shape (number_type value suffix)) h (modulo_small value) refl
+    (λ k m. refl)
+constant_converted w (Constant.Negative at value suffix) s h =
+    number_converted w (Constant.Negative at value suffix) s (number_type value suffix) (integer_shape (number_type value suffix)) h
+    (modulo_small (0 + 2 ^ 32 - value % 2 ^ 32)) refl (λ k m. refl)
+constant_converted w (Constant.Character at byte) s h =
+    number_converted w (Constant.Character at byte) s AsChar CharShape h (byte_small byte) refl (λ k m. refl)
+constant_converted w (Constant.Text at bytes) s h = absurd h
+constant_converted w (Constant.Null at) s h = null_converted w at s h
 
 -- ---- the globals
 
@@ -114,27 +144,26 @@ pub record Begins (w : World) (fs : Program) (n : ℕ) (c : core.Memory) (s : so
 
 -- one global's constant is stored
 one_stored : (w : World) (fs : Program) (n : ℕ) (initial : Initial) (shape : Shape) (i : ℕ) (m : source.Memory) (c : core.Memory)
-    (s : Unit {0} → source.Memory → steps.Step) (k : core_steps.Step) → TakesInitial initial → IsInteger shape → Agree w m c
+    (s : Unit {0} → source.Memory → steps.Step) (k : core_steps.Step) → TakesInitial shape initial → IsWordShape shape → Agree w m c
     → Leads w m c (global_shape initial shape) (heap_spot i) 0 → c.parts (at (heap_spot i)) 0 ≡ Some (part_of (width_of shape) (initial_content initial shape))
     → ((m' : source.Memory) → Agree w m' c → Later 0 m c m' c → Same w fs n (s tt m') k) → Same w fs n (global_stored w initial shape (heap_spot i) s m) k
-one_stored w fs n Initial.Unset shape i m c s k h integer agree leads part go = go m agree (later_self 0 m c)
-one_stored w fs n (Initial.Elements count) shape i m c s k h integer agree leads part go = absurd h
-one_stored w fs n (Initial.Given constant) shape i m c s k h integer agree leads part go =
+one_stored w fs n Initial.Unset shape i m c s k h is_word agree leads part go = go m agree (later_self 0 m c)
+one_stored w fs n (Initial.Elements count) shape i m c s k h is_word agree leads part go = absurd h
+one_stored w fs n (Initial.Given constant) shape i m c s k h is_word agree leads part go =
     subst (λ z. Same w fs n z k) (sym (o.gives (λ vs. write_cells (heap_spot i) vs s) m))
-    (write_same w fs n shape (width_of shape) m c (heap_spot i) 0 (Integer o.type word) (Word word) s k (plain_of w shape integer) agree leads
-    (subst (λ z. Shown w m c z (Integer o.type word) (Word word ∷ [])) (sym o.shape) (word_shown w m c o.type word o.small))
-    (λ x. go (m_written m (heap_spot i) shape (Integer o.type word)) (subst (λ z. Agree w (m_written m (heap_spot i) shape (Integer o.type word)) z) same
-    x.agree)
-    (subst (λ z. Later 0 m c (m_written m (heap_spot i) shape (Integer o.type word)) z) same (x.later 0))))
+    (write_same w fs n shape (width_of shape) m c (heap_spot i) 0 o.value x s k (plain_of w shape is_word) agree leads (o.shown m c)
+    (λ y. go (m_written m (heap_spot i) shape o.value) (subst (λ z. Agree w (m_written m (heap_spot i) shape o.value) z) same
+    y.agree)
+    (subst (λ z. Later 0 m c (m_written m (heap_spot i) shape o.value) z) same (y.later 0))))
   where
     o : IsConverted w constant shape
-    o = constant_converted w constant shape h integer
+    o = constant_converted w constant shape h
 
-    word : ℕ
-    word = word_in shape (constant_word constant)
+    x : Content
+    x = constant_content constant shape
 
-    same : with_part c (at (heap_spot i)) 0 (part_of (width_of shape) (Word word)) ≡ c
-    same = same_part c (at (heap_spot i)) (part_of (width_of shape) (Word word)) part
+    same : with_part c (at (heap_spot i)) 0 (part_of (width_of shape) x) ≡ c
+    same = same_part c (at (heap_spot i)) (part_of (width_of shape) x) part
 
 pub globals_same : (w : World) (fs : Program) (n : ℕ) (items : List Item) (i : ℕ) (m : source.Memory) (c : core.Memory)
     (s : Unit {0} → source.Memory → steps.Step) (k : core_steps.Step) → TakesProgram items → Agree w m c → AreLed w m c w.globals
@@ -146,7 +175,7 @@ globals_same w fs n (tree.UnionItem u ∷ items) i m c s k h agree led here stor
 globals_same w fs n (tree.FunctionItem f ∷ items) i m c s k h agree led here stored begins = globals_same w fs n items i m c s k h.1 agree led here stored
     begins
 globals_same w fs n (tree.GlobalItem g ∷ items) i m c s k h agree led here stored begins =
-    one_stored w fs n g.initial (settled (written g.of)) i m c (λ u. globals_stored w items (suc i) s) k h.0.1 (type_settled g.of h.0.0).integer agree here.0
+    one_stored w fs n g.initial (settled (written g.of)) i m c (λ u. globals_stored w items (suc i) s) k h.0.1 (type_settled g.of h.0.0).is_word agree here.0
     stored.0
     (λ m' agree' later.
     globals_same w fs n items (suc i) m' c s k h.1 agree' (all_led_later 0 w m m' c c w.globals later led) (all_led_later 0 w m m' c c

@@ -1,6 +1,13 @@
 -- A value in a temporary is converted to another shape.
-use Rattle.std.proofs.Common.{◌≡◌, ℕ, ◌%◌, ◌^◌, ◌<◌, inl, inr, ⊎_elim, List, [], ◌∷◌, ◌++◌, refl, sym, ap, ◌∙◌, subst, arith}
+use Rattle.std.proofs.Common.{◌≡◌, Bool, true, false, Option, Some, None, ℕ, ◌%◌, ◌^◌, ◌<◌, inl, inr, ⊎_elim, List, [], ◌∷◌, ◌++◌, refl, sym, ap, ◌∙◌, subst, arith}
+use Rattle.std.specs.Prelude.{◌&&◌}
+use Rattle.std.proofs.lemmas.Bool.{and_parts, false≢true}
+use Rattle.cyc_words.specs.declared.faults.Kind.TheVariants.{NullException}
+use Rattle.cyc_words.specs.Events.{SourceEnding}
 use Rattle.source_meaning.specs.Shapes.{
+  Owner,
+  same_shape,
+  goes_to,
   Shape,
   IntShape,
   UnsignedShape,
@@ -15,22 +22,24 @@ use Rattle.source_meaning.specs.Shapes.{
   ArrayShape,
 }
 use Rattle.source_meaning.specs.Memory as source
-use Rattle.source_meaning.specs.Memory.{IntegerType, AsInt, AsUnsigned, AsChar, Scalar, Integer, Spot}
+use Rattle.source_meaning.specs.Memory.{IntegerType, AsInt, AsUnsigned, AsChar, Scalar, Integer, Thin, Spot}
 use Rattle.source_meaning.specs.Steps as steps
 use Rattle.source_meaning.specs.Steps.{World, give, need, ◌>>=◌}
-use Rattle.source_meaning.specs.Conversions.{one, converted}
+use Rattle.source_meaning.specs.Conversions.{one, converted, thin_to_thin}
 use Rattle.source_meaning.specs.Places.{Sense}
 use Rattle.source_meaning.specs.Programs.{integer_shape}
-use Rattle.core_meaning.specs.Memory.{Word}
+use Rattle.core_meaning.specs.Memory as core
+use Rattle.core_meaning.specs.Memory.{Content, Word, Null, Pointer}
 use Rattle.core_meaning.specs.Core.{Statement, Do, Narrow, Statements, MoreStatements}
 use Rattle.core_meaning.specs.Steps as core_steps
 use Rattle.core_meaning.specs.Steps.{Config, with_temp}
 use Rattle.core_meaning.specs.Meaning as meaning
 use Rattle.core_meaning.specs.Operations.{does}
 use Rattle.source_lowering.specs.Lowered.{put, conversion_code}
-use Rattle.source_lowering.proofs.Relations.{Place, Fits, SameAt, Next, AreKept, LaterAt, AValue, ANothing, Given, GoesOn, GivesAs}
-use Rattle.source_lowering.proofs.Runs.{stuck_same, put_all}
-use Rattle.source_lowering.proofs.Integers.{IsTaken, limit, shown_word, word_given, small_word}
+use Rattle.source_lowering.proofs.Relations.{at, Leads, Shown, ANull, APointer, Place, Fits, SameAt, Next, AreKept, LaterAt, AValue, ANothing, Given, GoesOn, GivesAs}
+use Rattle.source_lowering.proofs.Runs.{stuck_same, stops_same, put_all}
+use Rattle.source_lowering.proofs.Integers.{IsTaken, IsWord, limit, shown_word, word_given, small_word, null_is, pointer_is}
+use Rattle.source_lowering.proofs.SameShapes.{shapes_same}
 use Rattle.source_lowering.proofs.Values.{put_value}
 use Rattle.source_lowering.proofs.Variables.{Agrees}
 
@@ -43,8 +52,29 @@ pub record ConvertsAs (p : Place) (n d : ℕ) (to from : Shape) (code : List Sta
       → GoesOn p n d m0 c0 to s (meaning.statements rest next)
       → SameAt p n (converted p.world to from vs s m) (meaning.statements (put code rest) next c)
 
+-- an integer's shape, or none
+abbrev IsNumber : Shape → Type 0
+IsNumber IntShape = Unit {0}
+IsNumber UnsignedShape = Unit {0}
+IsNumber CharShape = Unit {0}
+IsNumber VoidShape = Unit {0}
+IsNumber _ = ⊥
+
+number_word : (w : World) (m : source.Memory) (c : core.Memory) (s : Shape) (v : Scalar) (x : Content) → IsNumber s → Shown w m c s v (x ∷ []) → IsWord s v x
+number_word w m c IntShape v x h o = shown_word w m c IntShape v x tt o
+number_word w m c UnsignedShape v x h o = shown_word w m c UnsignedShape v x tt o
+number_word w m c CharShape v x h o = shown_word w m c CharShape v x tt o
+number_word w m c VoidShape v x h o = absurd o
+number_word w m c (ThinShape may_be_null owner to) v x h o = absurd h
+number_word w m c (FatShape to) v x h o = absurd h
+number_word w m c HandleShape v x h o = absurd h
+number_word w m c KeyShape v x h o = absurd h
+number_word w m c (StructShape tag) v x h o = absurd h
+number_word w m c (UnionShape tag) v x h o = absurd h
+number_word w m c (ArrayShape count of) v x h o = absurd h
+
 -- the source is stuck at each value of an integer, and at none
-stuck_converts : (p : Place) (n d : ℕ) (to from : Shape) (code : List Statement) → IsTaken from
+stuck_converts : (p : Place) (n d : ℕ) (to from : Shape) (code : List Statement) → IsNumber from
     → ((t : IntegerType) (word : ℕ) (s : List Scalar → source.Memory → steps.Step) (m : source.Memory) (k : core_steps.Step) → from ≡ integer_shape t
     → SameAt p n (converted p.world to from (Integer t word ∷ []) s m) k) → ((s : List Scalar → source.Memory → steps.Step) (m : source.Memory)
     (k : core_steps.Step) → from ≡ VoidShape → SameAt p n (converted p.world to from [] s m) k) → ConvertsAs p n d to from code
@@ -52,7 +82,7 @@ stuck_converts p n d to from code taken word none = record {
   same = λ m0 c0 m c vs s rest next fits later kept given goes.
       ⊎_elim
       (λ (v : AValue p.world m c.memory from vs (c.temps d)).
-      let o = shown_word p.world m c.memory from v.value (c.temps d) taken v.shown in
+      let o = number_word p.world m c.memory from v.value (c.temps d) taken v.shown in
       subst (λ z. SameAt p n (converted p.world to from z s m) (meaning.statements (put code rest) next c)) (sym (v.alone ∙ ap (λ z. z ∷ []) o.value))
       (word o.type o.word s m _ o.shape_is))
       (λ (v : ANothing from vs).
@@ -61,7 +91,7 @@ stuck_converts p n d to from code taken word none = record {
 }
 
 -- the value as it is, of another type
-kept_converts : (p : Place) (n d : ℕ) (t : IntegerType) (from : Shape) → IsTaken from → limit t ≡ 2 ^ 32
+kept_converts : (p : Place) (n d : ℕ) (t : IntegerType) (from : Shape) → IsNumber from → limit t ≡ 2 ^ 32
     → ((u : IntegerType) (word : ℕ) (s : List Scalar → source.Memory → steps.Step) (m : source.Memory)
     → converted p.world (integer_shape t) from (Integer u word ∷ []) s m ≡ s (Integer t word ∷ []) m)
     → ((s : List Scalar → source.Memory → steps.Step) (m : source.Memory) (k : core_steps.Step) → from ≡ VoidShape
@@ -70,7 +100,7 @@ kept_converts p n d t from taken wide same none = record {
   same = λ m0 c0 m c vs s rest next fits later kept given goes.
       ⊎_elim
       (λ (v : AValue p.world m c.memory from vs (c.temps d)).
-      let o = shown_word p.world m c.memory from v.value (c.temps d) taken v.shown in
+      let o = number_word p.world m c.memory from v.value (c.temps d) taken v.shown in
       subst (λ z. SameAt p n (converted p.world (integer_shape t) from z s m) (meaning.statements rest next c)) (sym (v.alone ∙ ap (λ z. z ∷ []) o.value))
       (subst (λ z. SameAt p n z (meaning.statements rest next c)) (sym (same o.type o.word s m))
       (goes.go m c (Integer t o.word ∷ []) fits later kept
@@ -84,7 +114,7 @@ narrowed : (c : Config) (d x : ℕ) (next : Config → core_steps.Step) → c.te
 narrowed c d x next e = rw e refl
 
 -- the low bits, of a word that isn't a char's
-low_converts : (p : Place) (n d : ℕ) (from : Shape) → IsTaken from → ((u : IntegerType) (word : ℕ) (s : List Scalar → source.Memory → steps.Step)
+low_converts : (p : Place) (n d : ℕ) (from : Shape) → IsNumber from → ((u : IntegerType) (word : ℕ) (s : List Scalar → source.Memory → steps.Step)
     (m : source.Memory) → converted p.world CharShape from (Integer u word ∷ []) s m ≡ s (Integer AsChar (word % 256) ∷ []) m)
     → ((s : List Scalar → source.Memory → steps.Step) (m : source.Memory) (k : core_steps.Step) → from ≡ VoidShape
     → SameAt p n (converted p.world CharShape from [] s m) k) → ConvertsAs p n d CharShape from (Do (Narrow d d) ∷ [])
@@ -92,7 +122,7 @@ low_converts p n d from taken same none = record {
   same = λ m0 c0 m c vs s rest next fits later kept given goes.
       ⊎_elim
       (λ (v : AValue p.world m c.memory from vs (c.temps d)).
-      let o = shown_word p.world m c.memory from v.value (c.temps d) taken v.shown in
+      let o = number_word p.world m c.memory from v.value (c.temps d) taken v.shown in
       subst (λ z. SameAt p n (converted p.world CharShape from z s m) (meaning.statements (MoreStatements (Do (Narrow d d)) rest) next c))
       (sym (v.alone ∙ ap (λ z. z ∷ []) o.value))
       (subst (λ z. SameAt p n z (meaning.statements (MoreStatements (Do (Narrow d d)) rest) next c)) (sym (same o.type o.word s m))
@@ -152,6 +182,105 @@ void_converts p n d = record {
       given;
 }
 
+-- ---- pointers
+
+thin_void : (b : Bool) (o : Owner) (to : Shape) → ThinShape b o to ≡ VoidShape → ⊥
+thin_void b o to e = cc e
+
+-- what is given of a pointer's shape is a value
+thin_value : (w : World) (m : source.Memory) (c : core.Memory) (b : Bool) (o : Owner) (to : Shape) (vs : List Scalar) (x : Content)
+    → Given w m c (ThinShape b o to) vs x → AValue w m c (ThinShape b o to) vs x
+thin_value w m c b o to vs x given =
+    ⊎_elim (λ (v : AValue w m c (ThinShape b o to) vs x). v) (λ (v : ANothing (ThinShape b o to) vs). absurd (thin_void b o to v.void)) given
+
+-- the source is stuck at each pointer
+stuck_thin : (p : Place) (n d : ℕ) (to : Shape) (b : Bool) (o : Owner) (from : Shape) (code : List Statement)
+    → ((q : Option Spot) (s : List Scalar → source.Memory → steps.Step) (m : source.Memory) (k : core_steps.Step)
+    → SameAt p n (converted p.world to (ThinShape b o from) (Thin q ∷ []) s m) k) → ConvertsAs p n d to (ThinShape b o from) code
+stuck_thin p n d to b o from code stuck = record {
+  same = λ m0 c0 m c vs s rest next fits later kept given goes.
+      let v = thin_value p.world m c.memory b o from vs (c.temps d) given in
+      let step : core_steps.Step = meaning.statements (put code rest) next c in
+      subst (λ z. SameAt p n (converted p.world to (ThinShape b o from) z s m) step) (sym v.alone)
+      (⊎_elim
+      (λ (z : ANull b v.value (c.temps d ∷ [])).
+      subst (λ u. SameAt p n (converted p.world to (ThinShape b o from) (u ∷ []) s m) step) (sym z.value) (stuck None s m step))
+      (λ (z : APointer p.world m c.memory from v.value (c.temps d ∷ [])).
+      subst (λ u. SameAt p n (converted p.world to (ThinShape b o from) (u ∷ []) s m) step) (sym z.value) (stuck (Some z.spot) s m step))
+      v.shown);
+}
+
+null_word : (c : Config) (d : ℕ) (b : Bool) (v : Scalar) → ANull b v (c.temps d ∷ []) → c.temps d ≡ Null
+null_word c d b v z = null_is (c.temps d) b v z
+
+-- NULL stays NULL, or raises
+null_converts : (p : Place) (n d : ℕ) (a b : Bool) (o q : Owner) (to from : Shape) (m0 : source.Memory) (c0 : Config) (m : source.Memory) (c : Config)
+    (s : List Scalar → source.Memory → steps.Step) (rest : Statements) (next : Next) → Fits p m c → LaterAt p m0 c0 m c → AreKept d c0 c → b ≡ true
+    → c.temps d ≡ Null → GoesOn p n d m0 c0 (ThinShape a o to) s (meaning.statements rest next)
+    → SameAt p n (thin_to_thin a None (λ r. s (r ∷ [])) m) (meaning.statements (put (conversion_code (ThinShape a o to) (ThinShape b q from) d) rest) next c)
+null_converts p n d true b o q to from m0 c0 m c s rest next fits later kept allowed null goes =
+    goes.go m c (Thin None ∷ []) fits later kept (inl (record {
+      value = Thin None;
+      alone = refl;
+      shown = inl (record { allowed = refl; value = refl; shown = ap (λ z. z ∷ []) null });
+    }))
+null_converts p n d false true o q to from m0 c0 m c s rest next fits later kept allowed null goes =
+    rw null (stops_same p.world p.program n (SourceEnding.Raised NullException))
+null_converts p n d false false o q to from m0 c0 m c s rest next fits later kept allowed null goes = absurd (false≢true allowed)
+
+-- another pointer stays as it is
+spot_converts : (p : Place) (n d : ℕ) (a b : Bool) (o q : Owner) (to from : Shape) (m0 : source.Memory) (c0 : Config) (m : source.Memory) (c : Config)
+    (t : Spot) (byte : ℕ) (s : List Scalar → source.Memory → steps.Step) (rest : Statements) (next : Next) → Fits p m c → LaterAt p m0 c0 m c
+    → AreKept d c0 c → c.temps d ≡ Pointer (at t) byte → (to ≡ VoidShape → ⊥) → Leads p.world m c.memory to t byte
+    → GoesOn p n d m0 c0 (ThinShape a o to) s (meaning.statements rest next)
+    → SameAt p n (thin_to_thin a (Some t) (λ r. s (r ∷ [])) m) (meaning.statements (put (conversion_code (ThinShape a o to) (ThinShape b q from) d) rest)
+    next c)
+spot_converts p n d a b o q to from m0 c0 m c t byte s rest next fits later kept temp full leads goes = by a b goes
+  where
+    there : (x : Bool) → GoesOn p n d m0 c0 (ThinShape x o to) s (meaning.statements rest next) → SameAt p n (s (Thin (Some t) ∷ []) m)
+        (meaning.statements rest next c)
+    there x go = go.go m c (Thin (Some t) ∷ []) fits later kept (inl (record {
+      value = Thin (Some t);
+      alone = refl;
+      shown = inr (record { spot = t; byte = byte; value = refl; shown = ap (λ z. z ∷ []) temp; full = full; leads = leads });
+    }))
+
+    by : (x y : Bool) → GoesOn p n d m0 c0 (ThinShape x o to) s (meaning.statements rest next)
+        → SameAt p n (thin_to_thin x (Some t) (λ r. s (r ∷ [])) m) (meaning.statements (put (conversion_code (ThinShape x o to) (ThinShape y q from) d) rest)
+        next c)
+    by true y go = there true go
+    by false true go = rw temp (there false go)
+    by false false go = there false go
+
+thin_converts : (p : Place) (n d : ℕ) (a b : Bool) (o q : Owner) (to from : Shape) → ConvertsAs p n d (ThinShape a o to) (ThinShape b q from)
+    (conversion_code (ThinShape a o to) (ThinShape b q from) d)
+thin_converts p n d a b o q to from = record {
+  same = λ m0 c0 m c vs s rest next fits later kept given goes.
+      let v = thin_value p.world m c.memory b q from vs (c.temps d) given in
+      let step : core_steps.Step = meaning.statements (put (conversion_code (ThinShape a o to) (ThinShape b q from) d) rest) next c in
+      subst (λ z. SameAt p n (converted p.world (ThinShape a o to) (ThinShape b q from) z s m) step) (sym v.alone)
+      (⊎_elim
+      (λ (z : ANull b v.value (c.temps d ∷ [])).
+      subst (λ u. SameAt p n (converted p.world (ThinShape a o to) (ThinShape b q from) (u ∷ []) s m) step) (sym z.value)
+      (null_converts p n d a b o q to from m0 c0 m c s rest next fits later kept z.allowed (null_word c d b v.value z) goes))
+      (λ (z : APointer p.world m c.memory from v.value (c.temps d ∷ [])).
+      subst (λ u. SameAt p n (converted p.world (ThinShape a o to) (ThinShape b q from) (u ∷ []) s m) step) (sym z.value)
+      (checked (goes_to o (ThinShape b q from) && same_shape to from) refl m0 c0 m c v.value s rest next fits later kept z goes))
+      v.shown);
+}
+  where
+    checked : (t : Bool) → (goes_to o (ThinShape b q from) && same_shape to from) ≡ t → (m0 : source.Memory) (c0 : Config) (m : source.Memory) (c : Config)
+        (v : Scalar) (s : List Scalar → source.Memory → steps.Step) (rest : Statements) (next : Next) → Fits p m c → LaterAt p m0 c0 m c → AreKept d c0 c
+        → (z : APointer p.world m c.memory from v (c.temps d ∷ [])) → GoesOn p n d m0 c0 (ThinShape a o to) s (meaning.statements rest next)
+        → SameAt p n (converted p.world (ThinShape a o to) (ThinShape b q from) (Thin (Some z.spot) ∷ []) s m)
+        (meaning.statements (put (conversion_code (ThinShape a o to) (ThinShape b q from) d) rest) next c)
+    checked false e m0 c0 m c v s rest next fits later kept z goes = rw e (stuck_same p.world p.program n _)
+    checked true e m0 c0 m c v s rest next fits later kept z goes =
+        let same : from ≡ to = sym (shapes_same to from ((and_parts (goes_to o (ThinShape b q from)) (same_shape to from) e).1)) in
+        rw e
+        (spot_converts p n d a b o q to from m0 c0 m c z.spot z.byte s rest next fits later kept (pointer_is p.world m c.memory from (c.temps d) v z)
+        (λ void. z.full (same ∙ void)) (subst (λ y. Leads p.world m c.memory y z.spot z.byte) same z.leads) goes)
+
 int_void : IntShape ≡ VoidShape → ⊥
 int_void e = cc e
 
@@ -164,6 +293,8 @@ conversion_same p n d IntShape UnsignedShape f g = kept_converts p n d AsInt Uns
     (λ s m k e. stuck_same p.world p.program n k)
 conversion_same p n d IntShape CharShape f g = kept_converts p n d AsInt CharShape g refl (λ u word s m. refl) (λ s m k e. stuck_same p.world p.program n k)
 conversion_same p n d IntShape VoidShape f g = kept_converts p n d AsInt VoidShape g refl (λ u word s m. refl) (λ s m k e. stuck_same p.world p.program n k)
+conversion_same p n d IntShape (ThinShape b o from) f g =
+    stuck_thin p n d IntShape b o from (conversion_code IntShape (ThinShape b o from) d) (λ q s m k. stuck_same p.world p.program n k)
 conversion_same p n d UnsignedShape IntShape f g = kept_converts p n d AsUnsigned IntShape g refl (λ u word s m. refl)
     (λ s m k e. stuck_same p.world p.program n k)
 conversion_same p n d UnsignedShape UnsignedShape f g = kept_converts p n d AsUnsigned UnsignedShape g refl (λ u word s m. refl)
@@ -172,10 +303,14 @@ conversion_same p n d UnsignedShape CharShape f g = kept_converts p n d AsUnsign
     (λ s m k e. stuck_same p.world p.program n k)
 conversion_same p n d UnsignedShape VoidShape f g = kept_converts p n d AsUnsigned VoidShape g refl (λ u word s m. refl)
     (λ s m k e. stuck_same p.world p.program n k)
+conversion_same p n d UnsignedShape (ThinShape b o from) f g =
+    stuck_thin p n d UnsignedShape b o from (conversion_code UnsignedShape (ThinShape b o from) d) (λ q s m k. stuck_same p.world p.program n k)
 conversion_same p n d CharShape IntShape f g = low_converts p n d IntShape g (λ u word s m. refl) (λ s m k e. stuck_same p.world p.program n k)
 conversion_same p n d CharShape UnsignedShape f g = low_converts p n d UnsignedShape g (λ u word s m. refl) (λ s m k e. stuck_same p.world p.program n k)
 conversion_same p n d CharShape CharShape f g = char_converts p n d
 conversion_same p n d CharShape VoidShape f g = low_converts p n d VoidShape g (λ u word s m. refl) (λ s m k e. stuck_same p.world p.program n k)
+conversion_same p n d CharShape (ThinShape b o from) f g =
+    stuck_thin p n d CharShape b o from (conversion_code CharShape (ThinShape b o from) d) (λ q s m k. stuck_same p.world p.program n k)
 conversion_same p n d VoidShape IntShape f g = stuck_converts p n d VoidShape IntShape [] g (λ t word s m k e. stuck_same p.world p.program n k)
     (λ s m k e. stuck_same p.world p.program n k)
 conversion_same p n d VoidShape UnsignedShape f g = stuck_converts p n d VoidShape UnsignedShape [] g (λ t word s m k e. stuck_same p.world p.program n k)
@@ -183,7 +318,21 @@ conversion_same p n d VoidShape UnsignedShape f g = stuck_converts p n d VoidSha
 conversion_same p n d VoidShape CharShape f g = stuck_converts p n d VoidShape CharShape [] g (λ t word s m k e. stuck_same p.world p.program n k)
     (λ s m k e. stuck_same p.world p.program n k)
 conversion_same p n d VoidShape VoidShape f g = void_converts p n d
-conversion_same p n d (ThinShape may_be_null owner to) from f g = absurd f
+conversion_same p n d VoidShape (ThinShape b o from) f g =
+    stuck_thin p n d VoidShape b o from (conversion_code VoidShape (ThinShape b o from) d) (λ q s m k. stuck_same p.world p.program n k)
+conversion_same p n d (ThinShape a o to) IntShape f g =
+    stuck_converts p n d (ThinShape a o to) IntShape (conversion_code (ThinShape a o to) IntShape d) g (λ t word s m k e. stuck_same p.world p.program n k)
+    (λ s m k e. stuck_same p.world p.program n k)
+conversion_same p n d (ThinShape a o to) UnsignedShape f g =
+    stuck_converts p n d (ThinShape a o to) UnsignedShape (conversion_code (ThinShape a o to) UnsignedShape d) g (λ t word s m k e. stuck_same p.world p.program n k)
+    (λ s m k e. stuck_same p.world p.program n k)
+conversion_same p n d (ThinShape a o to) CharShape f g =
+    stuck_converts p n d (ThinShape a o to) CharShape (conversion_code (ThinShape a o to) CharShape d) g (λ t word s m k e. stuck_same p.world p.program n k)
+    (λ s m k e. stuck_same p.world p.program n k)
+conversion_same p n d (ThinShape a o to) VoidShape f g =
+    stuck_converts p n d (ThinShape a o to) VoidShape (conversion_code (ThinShape a o to) VoidShape d) g (λ t word s m k e. stuck_same p.world p.program n k)
+    (λ s m k e. stuck_same p.world p.program n k)
+conversion_same p n d (ThinShape a o to) (ThinShape b q from) f g = thin_converts p n d a b o q to from
 conversion_same p n d (FatShape to) from f g = absurd f
 conversion_same p n d HandleShape from f g = absurd f
 conversion_same p n d KeyShape from f g = absurd f

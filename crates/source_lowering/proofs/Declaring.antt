@@ -1,5 +1,5 @@
 -- A local is declared: the source makes it, and its value is put where Core has it.
-use Rattle.std.proofs.Common.{◌≡◌, ℕ, suc, ◌+◌, ◌≤◌, List, [], ◌∷◌, Bool, true, false, Some, None, refl, sym, ap, ◌∙◌, subst, arith}
+use Rattle.std.proofs.Common.{◌≡◌, inl, None, ℕ, suc, ◌+◌, ◌≤◌, List, [], ◌∷◌, Bool, true, false, Some, None, refl, sym, ap, ◌∙◌, subst, arith}
 use Rattle.std.proofs.lemmas.Bool.{eq-eqb}
 use Rattle.source_meaning.specs.Shapes.{
   Shape,
@@ -22,6 +22,7 @@ use Rattle.source_meaning.specs.Memory.{
   AsUnsigned,
   AsChar,
   Integer,
+  Thin,
   Scalar,
   Spot,
   Holds,
@@ -41,7 +42,7 @@ use Rattle.source_meaning.specs.Places.{with_binding}
 use Rattle.source_meaning.specs.Regions.{declared, local_with}
 use Rattle.source_meaning.specs.Statements.{first_object}
 use Rattle.core_meaning.specs.Memory as core
-use Rattle.core_meaning.specs.Memory.{Content, Word, Part, with_part, with_standing}
+use Rattle.core_meaning.specs.Memory.{Content, Word, Null, Part, with_part, with_standing}
 use Rattle.core_meaning.specs.Core.{Do, Constant, Put, Statements, MoreStatements}
 use Rattle.core_meaning.specs.Steps as core_steps
 use Rattle.core_meaning.specs.Steps.{Config, with_temp, with_memory}
@@ -49,6 +50,9 @@ use Rattle.core_meaning.specs.Operations.{does, fitting}
 use Rattle.core_meaning.specs.Meaning as meaning
 use Rattle.source_lowering.specs.Lowered.{width_of}
 use Rattle.source_lowering.specs.Programs.{named_here}
+use Rattle.source_lowering.specs.Layouts.{first_part}
+use Rattle.source_lowering.specs.Programs.{first_code}
+use Rattle.source_lowering.specs.Taken.{HasFirst}
 use Rattle.source_lowering.proofs.Relations.{
   at,
   PartIs,
@@ -68,7 +72,7 @@ use Rattle.source_lowering.proofs.Relations.{
 }
 use Rattle.source_lowering.proofs.Keeping.{core_itself, later_on, later_less, shown_later, all_led_later, fits_later, m_written}
 use Rattle.source_lowering.proofs.Runs.{stuck_same}
-use Rattle.source_lowering.proofs.Integers.{IsInteger, word_shown}
+use Rattle.source_lowering.proofs.Integers.{IsWordShape, word_shown}
 use Rattle.source_lowering.proofs.Cells.{IsPlain, plain_of, IsWritten, write_same}
 use Rattle.source_lowering.proofs.Making.{one_cell, local_spot, m_made, objects_here, grown_later, here_is, agree_made, ahead_later, agree_ahead}
 use Rattle.source_lowering.proofs.Values.{put_temp}
@@ -141,11 +145,11 @@ no_value v e = cc e
 -- a local with a value that is in a temporary
 pub local_with_same : (p : Place) (n d : ℕ) (scope : Scope) (name : List ℕ) (shape : Shape) (shapes : List Shape) (vs : List Scalar)
     (then_act : Scope → Act Flow) (next : Flow → source.Memory → steps.Step) (m : source.Memory) (c : Config) (rest : Statements) (after : Next)
-    → scope.world ≡ p.world → scope.frame ≡ p.frame → IsInteger shape → p.pending ≡ shape ∷ shapes → Fits p m c → AValue p.world m c.memory shape vs (c.temps d)
+    → scope.world ≡ p.world → scope.frame ≡ p.frame → IsWordShape shape → p.pending ≡ shape ∷ shapes → Fits p m c → AValue p.world m c.memory shape vs (c.temps d)
     → GoesOnIn p (with_local p name shape shapes) n m c (λ m'. then_act (with_binding scope name (Variable shape (local_spot p.frame p.made))) next m')
     (meaning.statements rest after)
     → SameAt p n (local_with scope name shape vs then_act next m) (meaning.statements (MoreStatements (Do (Put 0 p.made (width_of shape) d)) rest) after c)
-local_with_same p n d scope name shape shapes vs then_act next m c rest after world frame integer pending fits v goes =
+local_with_same p n d scope name shape shapes vs then_act next m c rest after world frame is_word pending fits v goes =
     subst (λ z. SameAt p n (begun z scope.frame (next_of scope.frame)) code) (sym world)
     (subst (λ z. SameAt p n (begun p.world z (next_of z)) code) (sym frame)
     (by (is_live m (source.Frame p.frame)) refl))
@@ -165,7 +169,7 @@ local_with_same p n d scope name shape shapes vs then_act next m c rest after wo
     begun w f spot = check (is_live m (source.Frame f)) (λ u m'. written w f spot) m
 
     plain : IsPlain p.world shape (width_of shape)
-    plain = plain_of p.world shape integer
+    plain = plain_of p.world shape is_word
 
     q : Place
     q = with_local p name shape shapes
@@ -217,17 +221,42 @@ local_with_same p n d scope name shape shapes vs then_act next m c rest after wo
 -- ---- what a local begins with
 
 pub record IsFirst (w : World) (shape : Shape) : Type 0 where
-  pub type : IntegerType
-  pub first : first_object w shape ≡ one_cell shape (Holds (Integer type 0))
-  pub shown : (m : source.Memory) (c : core.Memory) → Shown w m c shape (Integer type 0) (Word 0 ∷ [])
-  pub fits : fitting (width_of shape) (Word 0) ≡ Word 0
+  pub value : Scalar
+  pub content : Content
+  pub first : first_object w shape ≡ one_cell shape (Holds value)
+  pub shown : (m : source.Memory) (c : core.Memory) → Shown w m c shape value (content ∷ [])
+  pub fits : fitting (width_of shape) content ≡ content
+  pub does : (next : Config → core_steps.Step) (c : Config) → does (first_code shape) next c ≡ next (with_temp 0 content c)
+  pub part : first_part shape ≡ content
 
-pub first_of : (w : World) (shape : Shape) → IsInteger shape → IsFirst w shape
-first_of w IntShape h = record { type = AsInt; first = refl; shown = λ m c. word_shown w m c AsInt 0 (omega arith); fits = refl }
-first_of w UnsignedShape h = record { type = AsUnsigned; first = refl; shown = λ m c. word_shown w m c AsUnsigned 0 (omega arith); fits = refl }
-first_of w CharShape h = record { type = AsChar; first = refl; shown = λ m c. word_shown w m c AsChar 0 (omega arith); fits = refl }
+first_word : (w : World) (shape : Shape) (t : IntegerType) → first_object w shape ≡ one_cell shape (Holds (Integer t 0)) → ((m : source.Memory)
+    (c : core.Memory) → Shown w m c shape (Integer t 0) (Word 0 ∷ [])) → fitting (width_of shape) (Word 0) ≡ Word 0 → first_code shape ≡ Constant 0 0
+    → first_part shape ≡ Word 0 → IsFirst w shape
+first_word w shape t first shown fits code part = record {
+  value = Integer t 0;
+  content = Word 0;
+  first = first;
+  shown = shown;
+  fits = fits;
+  does = λ next c. ap (λ z. does z next c) code;
+  part = part;
+}
+
+pub first_of : (w : World) (shape : Shape) → HasFirst shape → IsFirst w shape
+first_of w IntShape h = first_word w IntShape AsInt refl (λ m c. word_shown w m c AsInt 0 (omega arith)) refl refl refl
+first_of w UnsignedShape h = first_word w UnsignedShape AsUnsigned refl (λ m c. word_shown w m c AsUnsigned 0 (omega arith)) refl refl refl
+first_of w CharShape h = first_word w CharShape AsChar refl (λ m c. word_shown w m c AsChar 0 (omega arith)) refl refl refl
+first_of w (ThinShape true owner to) h = record {
+  value = Thin None;
+  content = Null;
+  first = refl;
+  shown = λ m c. inl (record { allowed = refl; value = refl; shown = refl });
+  fits = refl;
+  does = λ next c. refl;
+  part = refl;
+}
+first_of w (ThinShape false owner to) h = absurd h
 first_of w VoidShape h = absurd h
-first_of w (ThinShape may_be_null owner to) h = absurd h
 first_of w (FatShape to) h = absurd h
 first_of w HandleShape h = absurd h
 first_of w KeyShape h = absurd h
@@ -238,18 +267,18 @@ first_of w (ArrayShape count of) h = absurd h
 -- a local without an initializer
 pub declared_same : (p : Place) (n : ℕ) (scope : Scope) (name : List ℕ) (shape : Shape) (shapes : List Shape) (then_act : Scope → Act Flow)
     (next : Flow → source.Memory → steps.Step) (m : source.Memory) (c : Config) (rest : Statements) (after : Next)
-    → scope.world ≡ p.world → scope.frame ≡ p.frame → IsInteger shape → p.pending ≡ shape ∷ shapes → Fits p m c
+    → scope.world ≡ p.world → scope.frame ≡ p.frame → IsWordShape shape → HasFirst shape → p.pending ≡ shape ∷ shapes → Fits p m c
     → ((m' : source.Memory) (c' : Config) → Fits (with_local p name shape shapes) m' c' → Later p.frame m c.memory m' c'.memory → c'.blocks ≡ c.blocks
     → SameAt p n (then_act (with_binding scope name (Variable shape (local_spot p.frame p.made))) next m') (meaning.statements rest after c'))
     → SameAt p n (declared scope name shape (first_object scope.world shape) then_act next m) (meaning.statements
-    (MoreStatements (Do (Constant 0 0)) (MoreStatements (Do (Put 0 p.made (width_of shape) 0)) rest)) after c)
-declared_same p n scope name shape shapes then_act next m c rest after world frame integer pending fits goes =
+    (MoreStatements (Do (first_code shape)) (MoreStatements (Do (Put 0 p.made (width_of shape) 0)) rest)) after c)
+declared_same p n scope name shape shapes then_act next m c rest after world frame is_word begins pending fits goes =
     subst (λ z. SameAt p n (begun z scope.frame (next_of scope.frame)) code) (sym world)
     (subst (λ z. SameAt p n (begun p.world z (next_of z)) code) (sym frame)
     (by (is_live m (source.Frame p.frame)) refl))
   where
     code : core_steps.Step
-    code = meaning.statements (MoreStatements (Do (Constant 0 0)) (MoreStatements (Do (Put 0 p.made (width_of shape) 0)) rest)) after c
+    code = meaning.statements (MoreStatements (Do (first_code shape)) (MoreStatements (Do (Put 0 p.made (width_of shape) 0)) rest)) after c
 
     next_of : ℕ → Spot
     next_of f = record { region = source.Frame f; object = m.objects (source.Frame f); cell = 0 }
@@ -261,16 +290,16 @@ declared_same p n scope name shape shapes then_act next m c rest after world fra
     begun w f spot = check (is_live m (source.Frame f)) (λ u m'. made w f spot) m
 
     plain : IsPlain p.world shape (width_of shape)
-    plain = plain_of p.world shape integer
+    plain = plain_of p.world shape is_word
 
     first : IsFirst p.world shape
-    first = first_of p.world shape integer
+    first = first_of p.world shape begins
 
     spot : Spot
     spot = local_spot p.frame p.made
 
     c0 : Config
-    c0 = with_temp 0 (Word 0) c
+    c0 = with_temp 0 first.content c
 
     part : PartIs c.memory (at spot) 0 0 (width_of shape)
     part = part_to_come p m c shape shapes plain pending fits
@@ -279,16 +308,16 @@ declared_same p n scope name shape shapes then_act next m c rest after world fra
     old = part_with (width_of shape) part.content
 
     c1 : Config
-    c1 = with_memory (with_part c.memory (at spot) 0 (part_with (width_of shape) (Word 0))) c0
+    c1 = with_memory (with_part c.memory (at spot) 0 (part_with (width_of shape) first.content)) c0
 
     none : m.cells spot ≡ None
     none = fits.agree.unmade spot (subst (λ z. z ≤ p.made) (sym fits.made) (omega arith))
 
     agree1 : Agree p.world m c1.memory
-    agree1 = agree_ahead p.world m c.memory spot old (Word 0) fits.agree none part.is
+    agree1 = agree_ahead p.world m c.memory spot old first.content fits.agree none part.is
 
     later1 : (b : ℕ) → Later b m c.memory m c1.memory
-    later1 b = ahead_later b m c.memory (at spot) old (Word 0) part.is
+    later1 b = ahead_later b m c.memory (at spot) old first.content part.is
 
     fits1 : Fits p m c1
     fits1 = fits_later p m m c c1 fits agree1 (later1 (suc p.frame)) refl
@@ -299,15 +328,15 @@ declared_same p n scope name shape shapes then_act next m c rest after world fra
     value_in v source.Gone = v
     value_in v source.Lent = v
 
-    shown : (v : Scalar) → Holds (Integer first.type 0) ≡ Holds v → IsShown p.world m c1.memory spot shape v
+    shown : (v : Scalar) → Holds first.value ≡ Holds v → IsShown p.world m c1.memory spot shape v
     shown v e =
         subst (λ z. IsShown p.world m c1.memory spot shape z) (ap (value_in v) e)
         (record {
-          contents = Word 0 ∷ [];
+          contents = first.content ∷ [];
           shown = first.shown m c1.memory;
           held = (
             (
-              part_with (width_of shape) (Word 0),
+              part_with (width_of shape) first.content,
               (rw (core_itself (at spot)) refl, refl),
             ),
             tt,
@@ -315,17 +344,17 @@ declared_same p n scope name shape shapes then_act next m c rest after world fra
         })
 
     m2 : source.Memory
-    m2 = m_made m p.frame shape (Holds (Integer first.type 0))
+    m2 = m_made m p.frame shape (Holds first.value)
 
     stored : is_live m (source.Frame p.frame) ≡ true → SameAt p n (then_act (with_binding scope name (Variable shape spot)) next m2) code
     stored live =
         subst (λ z. SameAt p n (then_act (with_binding scope name (Variable shape spot)) next m2) z)
-        (sym (put_here c0 0 p.made (width_of shape) p.frame p.outer part.content (meaning.statements rest after) fits.blocks
+        (sym (first.does (meaning.statements (MoreStatements (Do (Put 0 p.made (width_of shape) 0)) rest) after) c ∙ put_here c0 0 p.made (width_of shape) p.frame p.outer part.content (meaning.statements rest after) fits.blocks
         (sym (fits.agree.live (source.Frame p.frame)) ∙ live) part.is ∙
         ap (λ z. meaning.statements rest after (with_memory (with_part c.memory (at spot) 0 (part_with (width_of shape) z)) c0))
-        (ap (fitting (width_of shape)) (put_temp 0 (Word 0) c) ∙ first.fits)))
-        (goes m2 c1 (local_fits p m c1 name shape shapes (Holds (Integer first.type 0)) plain pending fits1 shown)
-        (later_on p.frame m m m2 c.memory c1.memory c1.memory (later1 p.frame) (grown_later m c1.memory p.frame shape (Holds (Integer first.type 0))
+        (ap (fitting (width_of shape)) (put_temp 0 first.content c) ∙ first.fits)))
+        (goes m2 c1 (local_fits p m c1 name shape shapes (Holds first.value) plain pending fits1 shown)
+        (later_on p.frame m m m2 c.memory c1.memory c1.memory (later1 p.frame) (grown_later m c1.memory p.frame shape (Holds first.value)
         fits.agree.unmade)) refl)
 
     by : (b : Bool) → is_live m (source.Frame p.frame) ≡ b → SameAt p n (begun p.world p.frame (next_of p.frame)) code

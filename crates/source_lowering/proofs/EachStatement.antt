@@ -1,8 +1,8 @@
 -- Each statement that is taken, each block's items, and a function's body with its arguments do the same as their code.
 use Rattle.std.proofs.Common.{◌≡◌, ℕ, suc, ◌+◌, ◌≤◌, List, [], ◌∷◌, ◌++◌, length, Some, None, refl, sym, ap, ◌∙◌, subst, arith}
 use Rattle.cyc_tree.specs.Tree as tree
-use Rattle.cyc_tree.specs.Tree.{Base, TypeName, Pointer, Initializer, Declaration, Statement, BlockItems, NoItems, Declare, Execute}
-use Rattle.source_meaning.specs.Shapes.{Shape, Part, part_shapes, written, settled, settled_by}
+use Rattle.cyc_tree.specs.Tree.{RegionName, Base, TypeName, Pointer, Initializer, Declaration, Statement, BlockItems, NoItems, Declare, Execute}
+use Rattle.source_meaning.specs.Shapes.{Shape, Part, part_shapes, written, settled}
 use Rattle.source_meaning.specs.Memory as source
 use Rattle.source_meaning.specs.Memory.{Scalar}
 use Rattle.source_meaning.specs.Steps as steps
@@ -25,17 +25,19 @@ use Rattle.source_lowering.specs.Programs.{
   block_shapes,
   outward,
   named_here,
+  first_code,
   declaration_code,
   statement_code,
   items_code,
   parameter_names,
   parameters_code,
 }
-use Rattle.source_lowering.specs.Taken.{IsIntegerBase, IsIntegerType, TakesDeclaration, TakesStatement, TakesItems}
+use Rattle.source_lowering.specs.Taken.{HasFirst, TakesDeclaration, TakesStatement, TakesItems}
 use Rattle.source_lowering.proofs.Relations.{Later, Place, Fits, SameAt, Next}
 use Rattle.source_lowering.proofs.Keeping.{later_on, later_less, shown_later}
 use Rattle.source_lowering.proofs.Runs.{stuck_same, put_all}
-use Rattle.source_lowering.proofs.Integers.{IsTaken, IsInteger, integer_taken}
+use Rattle.source_lowering.proofs.Integers.{IsTaken, IsWordShape, word_taken}
+use Rattle.source_lowering.proofs.WrittenTypes.{type_settled}
 use Rattle.source_lowering.proofs.Names.{AreParameters}
 use Rattle.source_lowering.proofs.Values.{put_three}
 use Rattle.source_lowering.proofs.Variables.{Agrees, value_of}
@@ -62,29 +64,6 @@ use Rattle.source_lowering.proofs.Statements.{
 use Rattle.source_lowering.proofs.Declaring.{local_with_same, declared_same}
 use Rattle.source_lowering.proofs.Blocks.{locals_outward, integers_outward, block_same}
 
--- ---- types as they are written
-
--- an integer's type settles to its shape, whatever its initializer
-pub record IsSettled (t : TypeName) : Type 0 where
-  pub integer : IsInteger (settled (written t))
-  pub by : (s : Shape) → settled_by (written t) s ≡ settled (written t)
-
-base_settled : (b : Base) (ps : List Pointer) (at : ℕ) → ps ≡ [] → IsIntegerBase b → IsSettled (record { at = at; base = b; pointers = ps })
-base_settled b ps at e h = subst (λ z. IsSettled (record { at = at; base = b; pointers = z })) (sym e) (by b h)
-  where
-    by : (of : Base) → IsIntegerBase of → IsSettled (record { at = at; base = of; pointers = [] })
-    by tree.Int h = record { integer = tt; by = λ s. refl }
-    by tree.Unsigned h = record { integer = tt; by = λ s. refl }
-    by tree.Char h = record { integer = tt; by = λ s. refl }
-    by tree.Void h = absurd h
-    by (tree.Struct tag arguments) h = absurd h
-    by (tree.Union tag arguments) h = absurd h
-    by (tree.Handle region) h = absurd h
-    by (tree.Key region) h = absurd h
-
-pub type_settled : (t : TypeName) → IsIntegerType t → IsSettled t
-type_settled t h = base_settled t.base t.pointers t.at h.pointers h.base
-
 -- ---- declarations
 
 -- the place after a declaration, as lowering knows it
@@ -95,22 +74,22 @@ known_more k name shape pending =
 abbrev pub scope_more : Scope → Known → List ℕ → Shape → Scope
 scope_more scope k name shape = with_binding scope name (Variable shape (local_spot scope.frame k.made))
 
-pub known_still : (scope : Scope) (k : Known) (name : List ℕ) (shape : Shape) (pending : List Shape) → IsInteger shape → IsKnown scope k
+pub known_still : (scope : Scope) (k : Known) (name : List ℕ) (shape : Shape) (pending : List Shape) → IsWordShape shape → IsKnown scope k
     → IsKnown (scope_more scope k name shape) (known_more k name shape pending)
-known_still scope k name shape pending integer known = record {
+known_still scope k name shape pending is_word known = record {
   world = known.world;
   locals = (record { frame = scope.frame; in_block = refl; named = refl; is = refl }, known.locals);
-  integers = (integer, known.integers);
+  words = (is_word, known.words);
 }
 
 unset_same : (n : ℕ) (scope : Scope) (k : Known) (result : Shape) (name : List ℕ) (shape : Shape) (shapes : List Shape) (then_act : Scope → Act Flow)
-    (others : List core.Statement) → IsInteger shape → k.pending ≡ shape ∷ shapes
+    (others : List core.Statement) → IsWordShape shape → HasFirst shape → k.pending ≡ shape ∷ shapes
     → RunsAs (place_in (scope_more scope k name shape) (known_more k name shape shapes)) n scope.frame result (then_act (scope_more scope k name shape)) others
     → RunsAs (place_in scope k) n scope.frame result (declared scope name shape (meaning_of.first_object scope.world shape) then_act)
-    ((Do (core.Constant 0 0) ∷ Do (Put 0 k.made (width_of shape) 0) ∷ []) ++ others)
-unset_same n scope k result name shape shapes then_act others integer pending more = record {
+    ((Do (first_code shape) ∷ Do (Put 0 k.made (width_of shape) 0) ∷ []) ++ others)
+unset_same n scope k result name shape shapes then_act others is_word begins pending more = record {
   same = λ m c next rest after fits ways.
-      declared_same (place_in scope k) n scope name shape shapes then_act next m c (put others rest) after refl refl integer pending fits
+      declared_same (place_in scope k) n scope name shape shapes then_act next m c (put others rest) after refl refl is_word begins pending fits
       (λ m2 c2 fits2 later2 blocks2.
       more.same m2 c2 next rest after fits2
       (ways_later scope.world k.program n scope.frame scope.frame m m2 c c2 result next (meaning.statements rest after) after (omega arith) later2 blocks2
@@ -118,21 +97,21 @@ unset_same n scope k result name shape shapes then_act others integer pending mo
 }
 
 value_same : (n : ℕ) (scope : Scope) (k : Known) (result : Shape) (name : List ℕ) (shape : Shape) (shapes : List Shape) (e : Sense) (from : Shape)
-    (first : List core.Statement) (then_act : Scope → Act Flow) (others : List core.Statement) → IsInteger shape → k.pending ≡ shape ∷ shapes
+    (first : List core.Statement) (then_act : Scope → Act Flow) (others : List core.Statement) → IsWordShape shape → k.pending ≡ shape ∷ shapes
     → Agrees (place_in scope k) n 0 e from first
     → RunsAs (place_in (scope_more scope k name shape) (known_more k name shape shapes)) n scope.frame result (then_act (scope_more scope k name shape)) others
     → RunsAs (place_in scope k) n scope.frame result (initialised scope name shape e then_act) ((first ++ (conversion_code shape from 0 ++
     (Do (Put 0 k.made (width_of shape) 0) ∷ []))) ++ others)
-value_same n scope k result name shape shapes e from first then_act others integer pending one more = record {
+value_same n scope k result name shape shapes e from first then_act others is_word pending one more = record {
   same = λ m c next rest after fits ways.
       subst (λ z. SameAt p n (initialised scope name shape e then_act next m) (meaning.statements z after c))
       (sym (put_all (first ++ (conversion_code shape from 0 ++ stores)) others rest ∙ put_three first (conversion_code shape from 0) stores (put others rest)
       ∙ sym (put_all first (conversion_code shape from 0) (put stores (put others rest)))))
-      ((converted_gives p n 0 shape e from first (integer_taken shape integer) one).same m c (λ vs. local_with scope name shape vs then_act next)
+      ((converted_gives p n 0 shape e from first (word_taken shape is_word) one).same m c (λ vs. local_with scope name shape vs then_act next)
       (put stores (put others rest)) after fits (record {
         go = λ m1 c1 vs fits1 later1 kept1 given1.
-            local_with_same p n 0 scope name shape shapes vs then_act next m1 c1 (put others rest) after refl refl integer pending fits1
-            (value_of p.world m1 c1.memory shape vs (c1.temps 0) integer given1) (record {
+            local_with_same p n 0 scope name shape shapes vs then_act next m1 c1 (put others rest) after refl refl is_word pending fits1
+            (value_of p.world m1 c1.memory shape vs (c1.temps 0) is_word given1) (record {
               go = λ m2 c2 fits2 later2 temps2 blocks2.
                   more.same m2 c2 next rest after fits2
                   (ways_later scope.world k.program n scope.frame scope.frame m m2 c c2 result next (meaning.statements rest after) after (omega arith)
@@ -155,22 +134,23 @@ declaration_same : (n : ℕ) (d : Declaration) (scope : Scope) (k : Known) (resu
     result (then_act (scope_more scope k (tree.local_of d).text (local_shape d))) others
     → RunsAs (place_in scope k) n scope.frame result (meaning_of.declaration d scope then_act) (declaration_code scope.world k.names d k.made ++ others)
 declaration_same n (tree.Local of name Initializer.Unset) scope k result shapes then_act others h known calls pending more =
-    unset_same n scope k result name.text (settled (written of)) shapes then_act others (type_settled of h.0).integer pending more
+    unset_same n scope k result name.text (settled (written of)) shapes then_act others (type_settled of h.0).is_word h.1 pending more
 declaration_same n (tree.Local of name (Initializer.Elements count)) scope k result shapes then_act others h known calls pending more = absurd h.1
 declaration_same n (tree.Local of name (Initializer.Value e)) scope k result shapes then_act others h known calls pending more =
     let type = type_settled of h.0 in
+    let one = expression_same e scope k h.1 known n calls 0 in
     subst (λ z. RunsAs (place_in scope k) n scope.frame result (initialised scope name.text z (sense e scope) then_act)
-    (declaration_code scope.world k.names (tree.Local of name (Initializer.Value e)) k.made ++ others)) (sym (type.by (sense e scope).shape))
+    (declaration_code scope.world k.names (tree.Local of name (Initializer.Value e)) k.made ++ others)) (sym (type.by (sense e scope).shape (subst (λ z. IsTaken z) (sym one.shape_is) one.taken)))
     (value_same n scope k result name.text (settled (written of)) shapes (sense e scope) (static_shape scope.world k.names e)
-    (expression_code scope.world k.names e 0) then_act others type.integer pending (expression_same e scope k h.1 known n calls 0) more)
+    (expression_code scope.world k.names e 0) then_act others type.is_word pending one more)
 declaration_same n (tree.Region at region handle) scope k result shapes then_act others h known calls pending more = absurd h
 declaration_same n (tree.Open at region handle key) scope k result shapes then_act others h known calls pending more = absurd h
 declaration_same n (tree.Alias at region of alias pointer) scope k result shapes then_act others h known calls pending more = absurd h
 declaration_same n (tree.NewKey at region key) scope k result shapes then_act others h known calls pending more = absurd h
 
--- the locals of a block are of integers
-shape_taken : (d : Declaration) → TakesDeclaration d → IsInteger (local_shape d)
-shape_taken (tree.Local of name initializer) h = (type_settled of h.0).integer
+-- the locals of a block are of words
+shape_taken : (d : Declaration) → TakesDeclaration d → IsWordShape (local_shape d)
+shape_taken (tree.Local of name initializer) h = (type_settled of h.0).is_word
 shape_taken (tree.Region at region handle) h = absurd h
 shape_taken (tree.Open at region handle key) h = absurd h
 shape_taken (tree.Alias at region of alias pointer) h = absurd h
@@ -178,7 +158,7 @@ shape_taken (tree.NewKey at region key) h = absurd h
 
 pub shapes_taken : (result : Shape) (items : BlockItems) → TakesItems result items → AreTaken (block_shapes items)
 shapes_taken result NoItems h = tt
-shapes_taken result (Declare d others) h = (integer_taken (local_shape d) (shape_taken d h.0), shapes_taken result others h.1)
+shapes_taken result (Declare d others) h = (word_taken (local_shape d) (shape_taken d h.0), shapes_taken result others h.1)
 shapes_taken result (Execute s others) h = shapes_taken result others h.1
 
 -- ---- statements
@@ -192,7 +172,7 @@ known_in_block : (scope : Scope) (k : Known) (frame : ℕ) (shapes : List Shape)
 known_in_block scope k frame shapes known = record {
   world = known.world;
   locals = locals_outward frame (scope.frame ∷ k.outer) scope.locals k.names known.locals;
-  integers = integers_outward k.names known.integers;
+  words = integers_outward k.names known.words;
 }
 
 calls_less : (w : World) (fs : Program) (n j : ℕ) → j ≤ n → CallsAs w fs n → CallsAs w fs j

@@ -153,7 +153,7 @@ made_of w IntShape c r index taken h = ((record { content = core.Blank; is = h 0
 made_of w UnsignedShape c r index taken h = ((record { content = core.Blank; is = h 0 }, tt), tt)
 made_of w CharShape c r index taken h = ((record { content = core.Blank; is = h 0 }, tt), tt)
 made_of w VoidShape c r index taken h = tt
-made_of w (ThinShape may_be_null owner to) c r index taken h = absurd taken
+made_of w (ThinShape may_be_null owner to) c r index taken h = ((record { content = core.Blank; is = h 0 }, tt), tt)
 made_of w (FatShape to) c r index taken h = absurd taken
 made_of w HandleShape c r index taken h = absurd taken
 made_of w KeyShape c r index taken h = absurd taken

@@ -1,17 +1,20 @@
 -- What the code of an expression takes: temporaries and operations by its nodes.
 use Rattle.std.proofs.Common.{ℕ, suc, ◌+◌, ◌*◌, ◌%◌, ◌≤◌, List, [], ◌∷◌, ◌++◌, arith}
+use Rattle.cyc_tree.specs.declared.expression.Prefix.TheVariants as prefix
 use Rattle.cyc_tree.specs.Tree.{Expression, Expressions, NoExpressions, MoreExpressions, Links, NoLinks, MoreLinks}
 use Rattle.source_meaning.specs.Shapes.{Shape}
 use Rattle.source_meaning.specs.Steps.{World}
 use Rattle.source_meaning.specs.Operators.{operator_shape}
 use Rattle.source_meaning.specs.Places.{bound_to}
-use Rattle.core_meaning.specs.Core.{Statement, If, Constant, NoStatements}
+use Rattle.core_meaning.specs.Core.{Statement, If, Constant, NullPointer, NoStatements}
 use Rattle.source_lowering.specs.Lowered.{
   Named,
   local_named,
   static_shape,
   all_of,
+  place_code,
   put_code,
+  word_code,
   truth_code,
   call_parameters,
   count_of,
@@ -21,11 +24,27 @@ use Rattle.source_lowering.specs.Lowered.{
   any_code,
   arguments_code,
 }
-use Rattle.source_lowering.specs.Taken.{TakesPlace, Takes, TakesAll, TakesSome, TakesLinks}
-use Rattle.source_lowering.specs.Bounds.{nodes_of, all_nodes, joined_nodes, link_nodes}
+use Rattle.source_lowering.specs.Taken.{TakesPlace, Takes, TakesAll, TakesLinks}
+use Rattle.source_lowering.specs.Bounds.{nodes_of, all_nodes, joined_nodes, tested_nodes, link_nodes}
 use Rattle.source_lowering.proofs.Costs.{Costs, no_costs, one_costs, both_cost}
-use Rattle.source_lowering.proofs.EachExpression.{takes_all}
-use Rattle.source_lowering.proofs.PartCosts.{IsCheap, does_one, get_costs, put_costs, conversion_costs, operator_costs, truth_costs, prefix_costs, call_costs}
+use Rattle.source_lowering.proofs.PartCosts.{
+  IsCheap,
+  IsPointed,
+  does_one,
+  get_costs,
+  put_costs,
+  address_costs,
+  conversion_costs,
+  operator_costs,
+  tested_word,
+  truth_costs,
+  negate_costs,
+  complement_costs,
+  inverted_costs,
+  contents_costs,
+  loaded_costs,
+  call_costs,
+}
 
 -- ---- all of them
 
@@ -54,34 +73,14 @@ many_nodes : (es : Expressions) → count_of es ≤ all_nodes es
 many_nodes NoExpressions = omega arith
 many_nodes (MoreExpressions e es) = let h = many_nodes es in let g = nodes_positive e in omega (arith, h, g)
 
-stores_costs : (w : World) (names : List Named) (e : Expression) (t p d : ℕ) → TakesPlace e → d + 2 ≤ t → Costs t p 0 2 (put_code w names e d)
-stores_costs w names (Expression.Variable name) t p d h g = put_costs t p d (local_named names name.text) (bound_to w.globals name.text) g
-stores_costs w names (Expression.Grouped at inner) t p d h g = stores_costs w names inner t p d h g
-stores_costs w names (Expression.Number at value suffix) t p d h g = absurd h
-stores_costs w names (Expression.Character at byte) t p d h g = absurd h
-stores_costs w names (Expression.Text at bytes) t p d h g = absurd h
-stores_costs w names (Expression.Null at) t p d h g = absurd h
-stores_costs w names (Expression.HeapRegion at) t p d h g = absurd h
-stores_costs w names (Expression.UniqueRegion at) t p d h g = absurd h
-stores_costs w names (Expression.Call name arguments) t p d h g = absurd h
-stores_costs w names (Expression.MakeUnion tag member value) t p d h g = absurd h
-stores_costs w names (Expression.NumElts at operand) t p d h g = absurd h
-stores_costs w names (Expression.Suffixed primary _) t p d h g = absurd h
-stores_costs w names (Expression.Prefixed at operator operand) t p d h g = absurd h
-stores_costs w names (Expression.New at made) t p d h g = absurd h
-stores_costs w names (Expression.NewIn at handle made) t p d h g = absurd h
-stores_costs w names (Expression.Chain first others) t p d h g = absurd h
-stores_costs w names (Expression.AllOf first others) t p d h g = absurd h
-stores_costs w names (Expression.AnyOf first others) t p d h g = absurd h
-stores_costs w names (Expression.Assign place value) t p d h g = absurd h
-
 -- operands that are tested, in either way
-tested_costs : (t p d n j o : ℕ) (first others : List Statement) → d + 2 ≤ t → IsCheap t p n first → Costs t p 0 o others → o + 4 ≤ 4 * j
-    → IsCheap t p (n + j) (first ++ (others ++ truth_code d))
-tested_costs t p d n j o first others h c rest e = record {
-  operations = c.operations + (o + 2);
-  costs = both_cost t p 0 c.operations 0 (o + 2) first (others ++ truth_code d) c.costs (both_cost t p 0 o 0 2 others (truth_code d) rest
-      (truth_costs t p d h));
+tested_costs : (t p d n j o : ℕ) (s : Shape) (first others : List Statement) → d + 2 ≤ t → IsCheap t p n first → Costs t p 0 o others → o + 6 ≤ 6 * j
+    → IsCheap t p (n + j) ((first ++ word_code s d) ++ (others ++ truth_code d))
+tested_costs t p d n j o s first others h c rest e = record {
+  operations = c.operations + 3 + (o + 2);
+  costs = both_cost t p 0 (c.operations + 3) 0 (o + 2) (first ++ word_code s d) (others ++ truth_code d)
+      (both_cost t p 0 c.operations 0 3 first (word_code s d) c.costs (tested_word t p d s h))
+      (both_cost t p 0 o 0 2 others (truth_code d) rest (truth_costs t p d h));
   less = let l = c.less in omega (arith, l, e);
 }
 
@@ -89,11 +88,15 @@ tested_costs t p d n j o first others h c rest e = record {
 pub record IsJoined (t p : ℕ) (es : Expressions) (code : List Statement) : Type 0 where
   pub operations : ℕ
   pub costs : Costs t p 0 operations code
-  pub less : operations + 4 * count_of es ≤ 4 * joined_nodes es
+  pub less : operations + 6 * count_of es ≤ 6 * joined_nodes es
 
-some_joined : (es : Expressions) → TakesSome es → 1 ≤ count_of es
-some_joined NoExpressions h = absurd h
-some_joined (MoreExpressions e es) h = omega arith
+tested_less : (es : Expressions) (o : ℕ) → o + 6 * count_of es ≤ 6 * joined_nodes es → o + 6 ≤ 6 * tested_nodes es
+tested_less NoExpressions o h = omega (arith, h)
+tested_less (MoreExpressions e es) o h = omega (arith, h)
+
+joined_less : (es : Expressions) → joined_nodes es ≤ tested_nodes es
+joined_less NoExpressions = omega arith
+joined_less (MoreExpressions e es) = omega arith
 
 these_costs : (t p d o : ℕ) (code : List Statement) → suc d ≤ t → Costs t p 0 o code → Costs t p 0 (1 + o) (If d (all_of code) NoStatements ∷ [])
 these_costs t p d o code h c =
@@ -109,19 +112,85 @@ those_costs t p d o code h c =
 pub record AreArguments (t p : ℕ) (es : Expressions) (code : List Statement) : Type 0 where
   pub operations : ℕ
   pub costs : Costs t p 0 operations code
-  pub less : operations + count_of es ≤ 4 * all_nodes es
+  pub less : operations + count_of es ≤ 6 * all_nodes es
 
 -- operands with their operators
 pub record ArePassed (t p n : ℕ) (code : List Statement) : Type 0 where
   pub operations : ℕ
   pub costs : Costs t p 0 operations code
-  pub less : operations ≤ 4 * n
+  pub less : operations ≤ 6 * n
 
 -- one expression's cost, written out
-one_cheap : (t p n o : ℕ) (code : List Statement) → Costs t p 0 o code → o + 2 ≤ 4 * n → IsCheap t p n code
+one_cheap : (t p n o : ℕ) (code : List Statement) → Costs t p 0 o code → o + 4 ≤ 6 * n → IsCheap t p n code
 one_cheap t p n o code c h = record { operations = o; costs = c; less = h }
 
 mutual
+  -- a value is stored
+  pub stores_costs : (w : World) (names : List Named) (e : Expression) (t p d : ℕ) → TakesPlace e → d + 1 + nodes_of e + 1 ≤ t → nodes_of e ≤ p
+      → IsCheap t p (nodes_of e) (put_code w names e d)
+  stores_costs w names (Expression.Variable name) t p d h f g =
+      one_cheap t p 1 2 _ (put_costs t p d (local_named names name.text) (bound_to w.globals name.text) (omega (arith, f))) (omega arith)
+  stores_costs w names (Expression.Grouped at inner) t p d h f g = stores_costs w names inner t p d h f g
+  stores_costs w names (Expression.Prefixed at prefix.Dereference operand) t p d h f g =
+      let a = expression_costs w names operand t p (d + 1) h (omega (arith, f)) (omega (arith, g)) in
+      let one = contents_costs t p (d + 1) (nodes_of operand) (static_shape w names operand) (expression_code w names operand (d + 1)) (omega (arith, f)) a in
+      let l = one.less in
+      one_cheap t p (1 + nodes_of operand) (one.operations + 1) _ (both_cost t p 0 one.operations 0 1 _ _ one.costs (does_one t p _ (omega (arith, f))))
+      (omega (arith, l))
+  stores_costs w names (Expression.Prefixed at prefix.Negate operand) t p d h f g = absurd h
+  stores_costs w names (Expression.Prefixed at prefix.Complement operand) t p d h f g = absurd h
+  stores_costs w names (Expression.Prefixed at prefix.Not operand) t p d h f g = absurd h
+  stores_costs w names (Expression.Prefixed at prefix.AddressOf operand) t p d h f g = absurd h
+  stores_costs w names (Expression.Number at value suffix) t p d h f g = absurd h
+  stores_costs w names (Expression.Character at byte) t p d h f g = absurd h
+  stores_costs w names (Expression.Text at bytes) t p d h f g = absurd h
+  stores_costs w names (Expression.Null at) t p d h f g = absurd h
+  stores_costs w names (Expression.HeapRegion at) t p d h f g = absurd h
+  stores_costs w names (Expression.UniqueRegion at) t p d h f g = absurd h
+  stores_costs w names (Expression.Call name arguments) t p d h f g = absurd h
+  stores_costs w names (Expression.MakeUnion tag member value) t p d h f g = absurd h
+  stores_costs w names (Expression.NumElts at operand) t p d h f g = absurd h
+  stores_costs w names (Expression.Suffixed primary _) t p d h f g = absurd h
+  stores_costs w names (Expression.New at made) t p d h f g = absurd h
+  stores_costs w names (Expression.NewIn at handle made) t p d h f g = absurd h
+  stores_costs w names (Expression.Chain first others) t p d h f g = absurd h
+  stores_costs w names (Expression.AllOf first others) t p d h f g = absurd h
+  stores_costs w names (Expression.AnyOf first others) t p d h f g = absurd h
+  stores_costs w names (Expression.Assign place value) t p d h f g = absurd h
+
+  -- a pointer to a place
+  pub place_costs : (w : World) (names : List Named) (e : Expression) (t p d : ℕ) → TakesPlace e → d + nodes_of e + 1 ≤ t → nodes_of e ≤ p
+      → IsPointed t p (nodes_of e) (place_code w names e d)
+  place_costs w names (Expression.Variable name) t p d h f g = record {
+    operations = 1;
+    costs = address_costs t p d (local_named names name.text) (bound_to w.globals name.text) (omega (arith, f));
+    less = omega arith;
+  }
+  place_costs w names (Expression.Grouped at inner) t p d h f g = place_costs w names inner t p d h f g
+  place_costs w names (Expression.Prefixed at prefix.Dereference operand) t p d h f g =
+      contents_costs t p d (nodes_of operand) (static_shape w names operand) (expression_code w names operand d) (omega (arith, f))
+      (expression_costs w names operand t p d h (omega (arith, f)) (omega (arith, g)))
+  place_costs w names (Expression.Prefixed at prefix.Negate operand) t p d h f g = absurd h
+  place_costs w names (Expression.Prefixed at prefix.Complement operand) t p d h f g = absurd h
+  place_costs w names (Expression.Prefixed at prefix.Not operand) t p d h f g = absurd h
+  place_costs w names (Expression.Prefixed at prefix.AddressOf operand) t p d h f g = absurd h
+  place_costs w names (Expression.Number at value suffix) t p d h f g = absurd h
+  place_costs w names (Expression.Character at byte) t p d h f g = absurd h
+  place_costs w names (Expression.Text at bytes) t p d h f g = absurd h
+  place_costs w names (Expression.Null at) t p d h f g = absurd h
+  place_costs w names (Expression.HeapRegion at) t p d h f g = absurd h
+  place_costs w names (Expression.UniqueRegion at) t p d h f g = absurd h
+  place_costs w names (Expression.Call name arguments) t p d h f g = absurd h
+  place_costs w names (Expression.MakeUnion tag member value) t p d h f g = absurd h
+  place_costs w names (Expression.NumElts at operand) t p d h f g = absurd h
+  place_costs w names (Expression.Suffixed primary _) t p d h f g = absurd h
+  place_costs w names (Expression.New at made) t p d h f g = absurd h
+  place_costs w names (Expression.NewIn at handle made) t p d h f g = absurd h
+  place_costs w names (Expression.Chain first others) t p d h f g = absurd h
+  place_costs w names (Expression.AllOf first others) t p d h f g = absurd h
+  place_costs w names (Expression.AnyOf first others) t p d h f g = absurd h
+  place_costs w names (Expression.Assign place value) t p d h f g = absurd h
+
   pub expression_costs : (w : World) (names : List Named) (e : Expression) (t p d : ℕ) → Takes e → d + nodes_of e + 1 ≤ t → nodes_of e ≤ p
       → IsCheap t p (nodes_of e) (expression_code w names e d)
   expression_costs w names (Expression.Number at value suffix) t p d h f g = one_cheap t p 1 1 _ (does_one t p (Constant d value) (omega (arith, f)))
@@ -137,9 +206,22 @@ mutual
       one_cheap t p (1 + all_nodes arguments) (a.operations + (2 + count_of arguments)) _ (both_cost t p 0 a.operations 0 (2 + count_of arguments) _ _ a.costs
       (call_costs w name.text t p d (count_of arguments) (omega (arith, f)) (omega (arith, f, n)) (omega (arith, g, n)))) (omega (arith, l))
   expression_costs w names (Expression.Grouped at inner) t p d h f g = expression_costs w names inner t p d h f g
-  expression_costs w names (Expression.Prefixed at operator operand) t p d h f g =
-      prefix_costs t p d (nodes_of operand) operator (static_shape w names operand) (expression_code w names operand (d + 1)) h.0 (omega (arith, f))
-      (expression_costs w names operand t p (d + 1) h.1 (omega (arith, f)) (omega (arith, g)))
+  expression_costs w names (Expression.Prefixed at prefix.Negate operand) t p d h f g =
+      negate_costs t p d (nodes_of operand) (static_shape w names operand) (expression_code w names operand (d + 1)) (expression_code w names operand d)
+      (place_code w names operand d) (omega (arith, f)) (expression_costs w names operand t p (d + 1) h (omega (arith, f)) (omega (arith, g)))
+  expression_costs w names (Expression.Prefixed at prefix.Complement operand) t p d h f g =
+      complement_costs t p d (nodes_of operand) (static_shape w names operand) (expression_code w names operand (d + 1)) (expression_code w names operand d)
+      (place_code w names operand d) (omega (arith, f)) (expression_costs w names operand t p (d + 1) h (omega (arith, f)) (omega (arith, g)))
+  expression_costs w names (Expression.Prefixed at prefix.Not operand) t p d h f g =
+      inverted_costs t p d (nodes_of operand) (static_shape w names operand) (expression_code w names operand (d + 1)) (expression_code w names operand d)
+      (place_code w names operand d) (omega (arith, f)) (expression_costs w names operand t p (d + 1) h (omega (arith, f)) (omega (arith, g)))
+  expression_costs w names (Expression.Prefixed at prefix.Dereference operand) t p d h f g =
+      loaded_costs t p d (nodes_of operand) (static_shape w names operand) (expression_code w names operand (d + 1)) (expression_code w names operand d)
+      (place_code w names operand d) (omega (arith, f)) (expression_costs w names operand t p d h (omega (arith, f)) (omega (arith, g)))
+  expression_costs w names (Expression.Prefixed at prefix.AddressOf operand) t p d h f g =
+      let a = place_costs w names operand t p d h (omega (arith, f)) (omega (arith, g)) in
+      let l = a.less in
+      one_cheap t p (1 + nodes_of operand) a.operations _ a.costs (omega (arith, l))
   expression_costs w names (Expression.Chain first others) t p d h f g =
       let a = expression_costs w names first t p d h.0 (omega (arith, f)) (omega (arith, g)) in
       let b = links_costs w names others (static_shape w names first) t p d h.1 (let n = nodes_positive first in omega (arith, f, n)) (omega (arith, g)) in
@@ -147,30 +229,28 @@ mutual
       one_cheap t p (nodes_of first + link_nodes others) (a.operations + b.operations) _ (both_cost t p 0 a.operations 0 b.operations _ _ a.costs b.costs)
       (omega (arith, l, k))
   expression_costs w names (Expression.AllOf first others) t p d h f g =
-      let n = nodes_positive first in
+      let n = nodes_positive first in let j = joined_less others in
       let a = expression_costs w names first t p d h.0 (omega (arith, f)) (omega (arith, g)) in
-      let b = all_costs w names others t p d (takes_all others h.1) (omega (arith, f, n)) (omega (arith, g)) in
-      let some = some_joined others h.1 in let l = b.less in
-      tested_costs t p d (nodes_of first) (joined_nodes others) b.operations (expression_code w names first d) (all_code w names others d)
-      (omega (arith, f, n, some, l)) a b.costs (omega (arith, l, some))
+      let b = all_costs w names others t p d h.1 (omega (arith, f, n, j)) (omega (arith, g, j)) in
+      tested_costs t p d (nodes_of first) (tested_nodes others) b.operations (static_shape w names first) (expression_code w names first d)
+      (all_code w names others d) (omega (arith, f, n)) a b.costs (tested_less others b.operations b.less)
   expression_costs w names (Expression.AnyOf first others) t p d h f g =
-      let n = nodes_positive first in
+      let n = nodes_positive first in let j = joined_less others in
       let a = expression_costs w names first t p d h.0 (omega (arith, f)) (omega (arith, g)) in
-      let b = any_costs w names others t p d (takes_all others h.1) (omega (arith, f, n)) (omega (arith, g)) in
-      let some = some_joined others h.1 in let l = b.less in
-      tested_costs t p d (nodes_of first) (joined_nodes others) b.operations (expression_code w names first d) (any_code w names others d)
-      (omega (arith, f, n, some, l)) a b.costs (omega (arith, l, some))
+      let b = any_costs w names others t p d h.1 (omega (arith, f, n, j)) (omega (arith, g, j)) in
+      tested_costs t p d (nodes_of first) (tested_nodes others) b.operations (static_shape w names first) (expression_code w names first d)
+      (any_code w names others d) (omega (arith, f, n)) a b.costs (tested_less others b.operations b.less)
   expression_costs w names (Expression.Assign place value) t p d h f g =
       let n = nodes_positive place in
       let a = expression_costs w names value t p d h.1 (omega (arith, f)) (omega (arith, g)) in
-      let l = a.less in
-      one_cheap t p (nodes_of place + (1 + nodes_of value)) (a.operations + (1 + 2)) _
-      (both_cost t p 0 a.operations 0 (1 + 2) _ _ a.costs
-      (both_cost t p 0 1 0 2 _ _ (conversion_costs t p d (static_shape w names place) (static_shape w names value) (omega (arith, f)))
-      (stores_costs w names place t p d h.0 (omega (arith, f, n)))))
-      (omega (arith, l, n))
+      let b = stores_costs w names place t p d h.0 (omega (arith, f)) (omega (arith, g)) in
+      let l = a.less in let k = b.less in
+      one_cheap t p (nodes_of place + (1 + nodes_of value)) (a.operations + (2 + b.operations)) _
+      (both_cost t p 0 a.operations 0 (2 + b.operations) _ _ a.costs
+      (both_cost t p 0 2 0 b.operations _ _ (conversion_costs t p d (static_shape w names place) (static_shape w names value) (omega (arith, f))) b.costs))
+      (omega (arith, l, k))
   expression_costs w names (Expression.Text at bytes) t p d h f g = absurd h
-  expression_costs w names (Expression.Null at) t p d h f g = absurd h
+  expression_costs w names (Expression.Null at) t p d h f g = one_cheap t p 1 1 _ (does_one t p (NullPointer d) (omega (arith, f))) (omega arith)
   expression_costs w names (Expression.HeapRegion at) t p d h f g = absurd h
   expression_costs w names (Expression.UniqueRegion at) t p d h f g = absurd h
   expression_costs w names (Expression.MakeUnion tag member value) t p d h f g = absurd h
@@ -189,8 +269,8 @@ mutual
       let b = arguments_costs w names ss es t p (d + 1) h.1 (omega (arith, f, n)) (omega (arith, g)) in
       let l = a.less in let k = b.less in
       record {
-        operations = a.operations + (1 + b.operations);
-        costs = both_cost t p 0 a.operations 0 (1 + b.operations) _ _ a.costs (both_cost t p 0 1 0 b.operations _ _
+        operations = a.operations + (2 + b.operations);
+        costs = both_cost t p 0 a.operations 0 (2 + b.operations) _ _ a.costs (both_cost t p 0 2 0 b.operations _ _
             (conversion_costs t p d s (static_shape w names e) (omega (arith, f))) b.costs);
         less = omega (arith, l, k);
       }
@@ -203,8 +283,8 @@ mutual
       let b = links_costs w names others (operator_shape operator left (static_shape w names operand)) t p d h.1 (omega (arith, f)) (omega (arith, g)) in
       let l = a.less in let k = b.less in
       record {
-        operations = a.operations + (1 + b.operations);
-        costs = both_cost t p 0 a.operations 0 (1 + b.operations) _ _ a.costs (both_cost t p 0 1 0 b.operations _ _
+        operations = a.operations + (3 + b.operations);
+        costs = both_cost t p 0 a.operations 0 (3 + b.operations) _ _ a.costs (both_cost t p 0 3 0 b.operations _ _
             (operator_costs t p d operator left (static_shape w names operand) (omega (arith, f))) b.costs);
         less = omega (arith, l, k);
       }
@@ -217,9 +297,11 @@ mutual
       let b = all_costs w names es t p d h.1 (omega (arith, f)) (omega (arith, g)) in
       let l = a.less in let k = b.less in
       record {
-        operations = 1 + a.operations + b.operations;
-        costs = both_cost t p 0 (1 + a.operations) 0 b.operations (If d (all_of (expression_code w names e d)) NoStatements ∷ []) _
-            (these_costs t p d a.operations (expression_code w names e d) (omega (arith, f)) a.costs) b.costs;
+        operations = 1 + (a.operations + 3) + b.operations;
+        costs = both_cost t p 0 (1 + (a.operations + 3)) 0 b.operations (If d (all_of (expression_code w names e d ++ word_code (static_shape w names e) d)) NoStatements ∷ []) _
+            (these_costs t p d (a.operations + 3) (expression_code w names e d ++ word_code (static_shape w names e) d) (omega (arith, f))
+            (both_cost t p 0 a.operations 0 3 _ _ a.costs (tested_word t p d (static_shape w names e) (let n = nodes_positive e in omega (arith, f, n)))))
+            b.costs;
         less = omega (arith, l, k);
       }
 
@@ -231,8 +313,10 @@ mutual
       let b = any_costs w names es t p d h.1 (omega (arith, f)) (omega (arith, g)) in
       let l = a.less in let k = b.less in
       record {
-        operations = 1 + a.operations + b.operations;
-        costs = both_cost t p 0 (1 + a.operations) 0 b.operations (If d NoStatements (all_of (expression_code w names e d)) ∷ []) _
-            (those_costs t p d a.operations (expression_code w names e d) (omega (arith, f)) a.costs) b.costs;
+        operations = 1 + (a.operations + 3) + b.operations;
+        costs = both_cost t p 0 (1 + (a.operations + 3)) 0 b.operations (If d NoStatements (all_of (expression_code w names e d ++ word_code (static_shape w names e) d)) ∷ []) _
+            (those_costs t p d (a.operations + 3) (expression_code w names e d ++ word_code (static_shape w names e) d) (omega (arith, f))
+            (both_cost t p 0 a.operations 0 3 _ _ a.costs (tested_word t p d (static_shape w names e) (let n = nodes_positive e in omega (arith, f, n)))))
+            b.costs;
         less = omega (arith, l, k);
       }

@@ -36,8 +36,9 @@ use Rattle.core_meaning.specs.Operations.{does}
 use Rattle.source_lowering.specs.Lowered.{put, type_of, applied_to, operator_code, conversion_code}
 use Rattle.source_lowering.proofs.Relations.{Place, Fits, SameAt, Next, AreKept, LaterAt, Given, GoesOn, GivesAs}
 use Rattle.source_lowering.proofs.Keeping.{later_self, later_on}
-use Rattle.source_lowering.proofs.Runs.{put_all}
-use Rattle.source_lowering.proofs.Integers.{IsTaken, limit, word_given, small_word, one_same}
+use Rattle.source_lowering.proofs.Runs.{put_all, stuck_same}
+use Rattle.source_lowering.proofs.Integers.{IsTaken, IsThin, limit, word_given, small_word, one_same, thin_same}
+use Rattle.source_lowering.proofs.Pointers.{thin_later, pointers_operated}
 use Rattle.source_lowering.proofs.Operators.{modulo_small, operated}
 use Rattle.source_lowering.proofs.Values.{put_value, put_three}
 use Rattle.source_lowering.proofs.Conversions.{converted_gives}
@@ -99,7 +100,7 @@ common_taken IntShape t h = promoted_taken t
 common_taken UnsignedShape t h = tt
 common_taken CharShape t h = promoted_taken t
 common_taken VoidShape t h = promoted_taken t
-common_taken (ThinShape may_be_null owner to) t h = absurd h
+common_taken (ThinShape may_be_null owner to) t h = promoted_taken t
 common_taken (FatShape to) t h = absurd h
 common_taken HandleShape t h = absurd h
 common_taken KeyShape t h = absurd h
@@ -125,6 +126,15 @@ operator_taken operator.Multiply s t h = common_taken s t h
 operator_taken operator.Divide s t h = common_taken s t h
 operator_taken operator.Remainder s t h = common_taken s t h
 
+word_operator : (o : Operator) (t : IntegerType) (sa sb : Shape) (d : ℕ) → sa ≡ integer_shape t
+    → operator_code o sa sb d ≡ Do (applied_to o (type_of sa) (type_of sb) d d (d + 1)) ∷ []
+word_operator o t sa sb d e = subst (λ z. operator_code o z sb d ≡ Do (applied_to o (type_of z) (type_of sb) d d (d + 1)) ∷ []) (sym e) (by t)
+  where
+    by : (u : IntegerType) → operator_code o (integer_shape u) sb d ≡ Do (applied_to o (type_of (integer_shape u)) (type_of sb) d d (d + 1)) ∷ []
+    by AsInt = refl
+    by AsUnsigned = refl
+    by AsChar = refl
+
 -- both operands are in their temporaries
 operator_same : (p : Place) (n d : ℕ) (o : Operator) (sa sb : Shape) (t1 t2 : IntegerType) (w1 w2 : ℕ) (m0 : source.Memory) (c0 : Config) (m : source.Memory)
     (c : Config) (s : List Scalar → source.Memory → steps.Step) (rest : Statements) (next : Next)
@@ -136,16 +146,18 @@ operator_same p n d o sa sb t1 t2 w1 w2 m0 c0 m c s rest next shape1 type1 small
     let op = operated o t1 w1 t2 w2 d d (d + 1) (small_word t1 w1 small1) (small_word t2 w2 small2) in
     let shape : operator_shape o sa sb ≡ integer_shape op.type = ap (λ z. operator_shape o z sb) shape1 ∙ ap (λ z. operator_shape o (integer_shape t1) z)
     shape2 ∙ op.shape in
+    let is_word : operator_code o sa sb d ≡ Do (applied_to o (type_of sa) (type_of sb) d d (d + 1)) ∷ [] = word_operator o t1 sa sb d shape1 in
     let code : does (applied_to o (type_of sa) (type_of sb) d d (d + 1)) (meaning.statements rest next) c ≡ meaning.statements rest next
     (with_temp d (Word op.word) c) =
     ap (λ z. does (applied_to o z (type_of sb) d d (d + 1)) (meaning.statements rest next) c) type1 ∙
     ap (λ z. does (applied_to o t1 z d d (d + 1)) (meaning.statements rest next) c) type2 ∙ op.does c (meaning.statements rest next) temp1 temp2 in
-    subst (λ z. SameAt p n (s (integers o t1 w1 t2 w2 ∷ []) m) z) (sym code)
+    subst (λ z. SameAt p n (s (integers o t1 w1 t2 w2 ∷ []) m) (meaning.statements (put z rest) next c)) (sym is_word)
+    (subst (λ z. SameAt p n (s (integers o t1 w1 t2 w2 ∷ []) m) z) (sym code)
     (put_value p n d m0 c0 m c (operator_shape o sa sb) (integers o t1 w1 t2 w2 ∷ []) (Word op.word) s (meaning.statements rest next) fits later kept
     (subst (λ z. Given p.world m c.memory z (integers o t1 w1 t2 w2 ∷ []) (Word op.word)) (sym shape)
     (subst (λ z. Given p.world m c.memory (integer_shape op.type) (z ∷ []) (Word op.word)) (sym op.gives) (word_given p.world m c.memory op.type op.word
     (Word op.word) op.small refl)))
-    goes)
+    goes))
 
 pub applied_gives : (p : Place) (n d : ℕ) (o : Operator) (a b : Sense) (sa sb : Shape) (ca cb : List Statement) → IsTaken sa → IsTaken sb
     → GivesAs p n d sa a.look ca → GivesAs p n (d + 1) sb b.look cb → GivesAs p n d (operator_shape o sa sb) (applied o a b).look
@@ -163,6 +175,22 @@ applied_gives p n d o a b sa sb ca cb taken1 taken2 left right = record {
                   (λ t2 w2 temp2 shape2 type2 small2.
                   operator_same p n d o sa sb t1 t2 w1 w2 m c m2 c2 s rest next shape1 type1 small1 shape2 type2 small2 (kept2 d (omega arith) ∙ temp1) temp2
                   fits2
+                  (later_on (suc p.frame) m m1 m2 c.memory c1.memory c2.memory later1 later2) (λ k h. kept2 k (omega (arith, h)) ∙ kept1 k h) goes)
+                  (λ v o2.
+                  thin_same p.world p.program n sb m2 c2.memory v (c2.temps (d + 1)) (λ y. third s (Integer t1 w1) y) _ o2
+                  (λ x f. stuck_same p.world p.program n _) (λ t byte x full leads. stuck_same p.world p.program n _));
+            }))
+            (λ u o1.
+            right.same m1 c1 (λ ys. second s u ys) (put (operator_code o sa sb d) rest) next fits1 (record {
+              go = λ m2 c2 vs2 fits2 later2 kept2 given2.
+                  let o1' = thin_later (suc p.frame) p.world m1 m2 c1.memory c2.memory sa u (c1.temps d) later2 o1 in
+                  one_same p.world p.program n sb m2 c2.memory vs2 (c2.temps (d + 1)) (λ y. third s u y) _ taken2 given2
+                  (λ t2 w2 temp2 shape2 type2 small2.
+                  thin_same p.world p.program n sa m2 c2.memory u (c1.temps d) (λ z. third s z (Integer t2 w2)) _ o1'
+                  (λ x f. stuck_same p.world p.program n _) (λ t byte x full leads. stuck_same p.world p.program n _))
+                  (λ v o2.
+                  pointers_operated p n d o sa sb u v m c m2 c2 s rest next
+                  (subst (λ z. IsThin p.world m2 c2.memory sa u z) (sym (kept2 d (omega arith))) o1') o2 fits2
                   (later_on (suc p.frame) m m1 m2 c.memory c1.memory c2.memory later1 later2) (λ k h. kept2 k (omega (arith, h)) ∙ kept1 k h) goes);
             }));
       }));

@@ -66,7 +66,7 @@ use Rattle.source_lowering.specs.Programs.{locals_of, block_shapes, end_code, bo
 use Rattle.source_lowering.proofs.Relations.{region_at, at, Shown, Agree, Later, AreLed, Same, Next, BothCalled, BothReturned}
 use Rattle.source_lowering.proofs.Keeping.{later_on, shown_later, held_same, all_led_later}
 use Rattle.source_lowering.proofs.Runs.{stuck_same, says_same}
-use Rattle.source_lowering.proofs.Integers.{IsTaken, integer_taken, word_shown}
+use Rattle.source_lowering.proofs.Integers.{IsTaken, word_taken, word_shown}
 use Rattle.source_lowering.proofs.Names.{AreParameters, IsRoutine, IsPlainWorld}
 use Rattle.source_lowering.proofs.Entering.{source_in, AreTaken, entered_later}
 use Rattle.source_lowering.proofs.Calls.{AllGiven, ResultIs, Returning, EntersAs, CallsAs}
@@ -220,7 +220,8 @@ end_same w fs n number own f m0 c0 s k m c numbered routine goes a l = by f.resu
     by UnsignedShape e taken = rw e (main_alone (is_main f.name) UnsignedShape refl e (all_of (end_code UnsignedShape)) (λ z. refl))
     by CharShape e taken = rw e (main_alone (is_main f.name) CharShape refl e (all_of (end_code CharShape)) (λ z. refl))
     by VoidShape e taken = rw e (nothing e)
-    by (ThinShape may_be_null owner to) e taken = absurd taken
+    by (ThinShape may_be_null owner to) e taken =
+        rw e (main_alone (is_main f.name) (ThinShape may_be_null owner to) refl e (all_of (end_code (ThinShape may_be_null owner to))) (λ z. refl))
     by (FatShape to) e taken = absurd taken
     by HandleShape e taken = absurd taken
     by KeyShape e taken = absurd taken
@@ -232,7 +233,7 @@ end_same w fs n number own f m0 c0 s k m c numbered routine goes a l = by f.resu
 
 pub parameters_taken : (ps : List Part) (shapes : List Shape) → AreParameters ps → AreTaken shapes → AreTaken (part_shapes ps ++ shapes)
 parameters_taken [] shapes h g = g
-parameters_taken (p ∷ ps) shapes h g = (integer_taken p.shape h.0, parameters_taken ps shapes h.1 g)
+parameters_taken (p ∷ ps) shapes h g = (word_taken p.shape h.0, parameters_taken ps shapes h.1 g)
 
 -- the body's block, from memories that agree
 entered_same : (w : World) (fs : Program) (n number own : ℕ) (f : Routine) (vss : List (List Scalar)) (xs : List Content) (m : source.Memory)
@@ -249,7 +250,7 @@ entered_same : (w : World) (fs : Program) (n number own : ℕ) (f : Routine) (vs
     })) (left_by f s) m) (meaning.statements (body_code w f) (meaning.left number own k) c0)
 entered_same w fs n number own f vss xs m c c0 s k plain calls numbered routine agree led given temps blocks later goes =
     body_same f.parameters f.body scope known (length f.parameters) n vss routine.parameters routine.body (record
-    { world = plain; locals = tt; integers = tt }) routine.result calls (omega arith) refl
+    { world = plain; locals = tt; words = tt }) routine.result calls (omega arith) refl
     (source_in m) inside (next_out (left_by f s) m.activations) NoStatements (after_out (ended f number own k) c0)
     (entered_fits w fs [] [] [] shapes m c0 taken agree blocks tt led)
     (given_later 0 w m (source_in m) c0.memory inside.memory (part_shapes f.parameters) vss (values_of inside.temps (from_on 0 (length f.parameters)))

@@ -32,11 +32,11 @@ use Rattle.source_lowering.specs.Lowered.{width_of}
 use Rattle.source_lowering.specs.Programs.{initial_content, datum_of, data_of}
 use Rattle.source_lowering.specs.Taken.{TakesInitial, TakesProgram}
 use Rattle.source_lowering.proofs.Relations.{region_at, at, HasShape, PartsAre, AreLaid, Leads, Shown, IsShown, Agree, AreLed}
-use Rattle.source_lowering.proofs.Integers.{IsInteger}
+use Rattle.source_lowering.proofs.Integers.{IsWordShape}
 use Rattle.source_lowering.proofs.Cells.{plain_of}
 use Rattle.source_lowering.proofs.Making.{one_cell}
 use Rattle.source_lowering.proofs.Declaring.{no_value, first_of}
-use Rattle.source_lowering.proofs.EachStatement.{type_settled}
+use Rattle.source_lowering.proofs.WrittenTypes.{type_settled}
 
 abbrev pub part_of : ℕ → Content → Part
 part_of width x = record { offset = 0; width = width; content = x }
@@ -47,31 +47,18 @@ cell_of shape content = record { shape = shape; content = content }
 -- ---- one global
 
 -- an object of Core's data
-datum_is : (w : World) (s : Shape) (x : Content) (ds : List Datum) → IsInteger s → datum_parts (datum_of w s x ∷ ds) 0 0 0 ≡ Some (part_of (width_of s) x)
+datum_is : (w : World) (s : Shape) (x : Content) (ds : List Datum) → IsWordShape s → datum_parts (datum_of w s x ∷ ds) 0 0 0 ≡ Some (part_of (width_of s) x)
 datum_is w IntShape x ds h = refl
 datum_is w UnsignedShape x ds h = refl
 datum_is w CharShape x ds h = refl
 datum_is w VoidShape x ds h = absurd h
-datum_is w (ThinShape may_be_null owner to) x ds h = absurd h
+datum_is w (ThinShape may_be_null owner to) x ds h = refl
 datum_is w (FatShape to) x ds h = absurd h
 datum_is w HandleShape x ds h = absurd h
 datum_is w KeyShape x ds h = absurd h
 datum_is w (StructShape tag) x ds h = absurd h
 datum_is w (UnionShape tag) x ds h = absurd h
 datum_is w (ArrayShape count of) x ds h = absurd h
-
-first_word : (s : Shape) → IsInteger s → initial_content Initial.Unset s ≡ Word 0
-first_word IntShape h = refl
-first_word UnsignedShape h = refl
-first_word CharShape h = refl
-first_word VoidShape h = absurd h
-first_word (ThinShape may_be_null owner to) h = absurd h
-first_word (FatShape to) h = absurd h
-first_word HandleShape h = absurd h
-first_word KeyShape h = absurd h
-first_word (StructShape tag) h = absurd h
-first_word (UnionShape tag) h = absurd h
-first_word (ArrayShape count of) h = absurd h
 
 -- the source's object of a global: one cell, blank where a constant will be stored
 record IsObject (w : World) (initial : Initial) (s : Shape) : Type 0 where
@@ -86,20 +73,20 @@ value_in v source.Blank = v
 value_in v source.Gone = v
 value_in v source.Lent = v
 
-object_is : (w : World) (initial : Initial) (s : Shape) → TakesInitial initial → IsInteger s → IsObject w initial s
-object_is w Initial.Unset s h integer =
-    let first = first_of w s integer in
+object_is : (w : World) (initial : Initial) (s : Shape) → TakesInitial s initial → IsWordShape s → IsObject w initial s
+object_is w Initial.Unset s h is_word =
+    let first = first_of w s h in
     record {
-      content = Holds (Integer first.type 0);
+      content = Holds first.value;
       is = first.first;
       shape = refl;
       shown = λ v e m c. subst (λ z. Shown w m c s z (initial_content Initial.Unset s ∷ [])) (ap (value_in v) e)
-          (subst (λ z. Shown w m c s (Integer first.type 0) (z ∷ [])) (sym (first_word s integer)) (first.shown m c));
+          (subst (λ z. Shown w m c s first.value (z ∷ [])) (sym first.part) (first.shown m c));
     }
-object_is w (Initial.Elements count) s h integer = absurd h
-object_is w (Initial.Given c) s h integer = record {
+object_is w (Initial.Elements count) s h is_word = absurd h
+object_is w (Initial.Given c) s h is_word = record {
   content = source.Blank;
-  is = ap (λ z. source.blank_object z) (plain_of w s integer).cells;
+  is = ap (λ z. source.blank_object z) (plain_of w s is_word).cells;
   shape = refl;
   shown = λ v e m k. absurd (no_value v e);
 }
@@ -127,12 +114,12 @@ cell_in cell o = option_and_then (λ f. f cell) o
 no_cell : (x : Cell) → None ≡ Some x → ⊥
 no_cell x e = cc e
 
-global_value : (w : World) (initial : Initial) (s : Shape) (ds : List Datum) (cell : ℕ) (shape : Shape) (v : Scalar) → TakesInitial initial → IsInteger s
+global_value : (w : World) (initial : Initial) (s : Shape) (ds : List Datum) (cell : ℕ) (shape : Shape) (v : Scalar) → TakesInitial s initial → IsWordShape s
     → global_object w initial s cell ≡ Some (cell_of shape (Holds v)) → IsHeapValue w (datum_of w s (initial_content initial s) ∷ ds) 0 cell shape v
-global_value w initial s ds cell shape v h integer e = by cell refl
+global_value w initial s ds cell shape v h is_word e = by cell refl
   where
     o : IsObject w initial s
-    o = object_is w initial s h integer
+    o = object_is w initial s h is_word
 
     by : (k : ℕ) → cell ≡ k → IsHeapValue w (datum_of w s (initial_content initial s) ∷ ds) 0 cell shape v
     by zero z =
@@ -143,7 +130,7 @@ global_value w initial s ds cell shape v h integer e = by cell refl
           first = z;
           content = initial_content initial s;
           part = subst (λ q. datum_parts (datum_of w s (initial_content initial s) ∷ ds) 0 0 0 ≡ Some (part_of (width_of q) (initial_content initial s)))
-              shapes (datum_is w s (initial_content initial s) ds integer);
+              shapes (datum_is w s (initial_content initial s) ds is_word);
           shown = λ m c. subst (λ q. Shown w m c q v (initial_content initial s ∷ [])) shapes (o.shown v holds m c);
         }
     by (suc k) z = absurd (no_cell (cell_of shape (Holds v)) (ap (λ j. one_cell s o.content j) (sym z) ∙ ap (λ f. f cell) (sym o.is) ∙ e))
@@ -155,7 +142,7 @@ heap_value w (tree.StructItem s ∷ items) i cell shape v h e = absurd h.0
 heap_value w (tree.UnionItem u ∷ items) i cell shape v h e = absurd h.0
 heap_value w (tree.FunctionItem f ∷ items) i cell shape v h e = heap_value w items i cell shape v h.1 e
 heap_value w (tree.GlobalItem g ∷ items) zero cell shape v h e = global_value w g.initial (settled (written g.of)) (data_of w items) cell shape v h.0.1
-    (type_settled g.of h.0.0).integer e
+    (type_settled g.of h.0.0).is_word e
 heap_value w (tree.GlobalItem g ∷ items) (suc i) cell shape v h e =
     let one = heap_value w items i cell shape v h.1 e in
     record { first = one.first; content = one.content; part = one.part; shown = one.shown }
@@ -251,7 +238,7 @@ stored_from w c (tree.UnionItem u ∷ items) k h e = absurd h.0
 stored_from w c (tree.FunctionItem f ∷ items) k h e = stored_from w c items k h.1 e
 stored_from w c (tree.GlobalItem g ∷ items) k h e = (
   ap (λ z. c.parts (at (heap_spot z)) 0) (no_more k) ∙ e 0 ∙ datum_is w (settled (written g.of)) (initial_content g.initial (settled (written g.of)))
-      (data_of w items) (type_settled g.of h.0.0).integer,
+      (data_of w items) (type_settled g.of h.0.0).is_word,
   stored_from w c items (suc k) h.1 (λ i. ap (λ z. c.parts (at (heap_spot z)) 0) (one_on k i) ∙ e (suc i)),
 )
 
@@ -267,10 +254,10 @@ led_from w m c (tree.UnionItem u ∷ items) k h e stored = absurd h.0
 led_from w m c (tree.FunctionItem f ∷ items) k h e stored = led_from w m c items k h.1 e stored
 led_from w m c (tree.GlobalItem g ∷ items) k h e stored = (
   subst (λ z. Leads w m c z (heap_spot k) 0) (sym o.shape)
-      (subst (λ z. AreLaid m c (heap_spot k) 0 z) (sym (plain_of w (settled (written g.of)) integer).placed) (
+      (subst (λ z. AreLaid m c (heap_spot k) 0 z) (sym (plain_of w (settled (written g.of)) is_word).placed) (
         record {
           has = has;
-          parts = subst (λ z. PartsAre c (at (heap_spot k)) 0 0 z) (sym (plain_of w (settled (written g.of)) integer).pieces)
+          parts = subst (λ z. PartsAre c (at (heap_spot k)) 0 0 z) (sym (plain_of w (settled (written g.of)) is_word).pieces)
               (record { content = initial_content g.initial (settled (written g.of)); is = stored.0 }, tt);
         },
         tt,
@@ -278,11 +265,11 @@ led_from w m c (tree.GlobalItem g ∷ items) k h e stored = (
   led_from w m c items (suc k) h.1 (λ i. ap (λ z. m.cells (heap_spot z)) (one_on k i) ∙ e (suc i)) stored.1,
 )
   where
-    integer : IsInteger (settled (written g.of))
-    integer = (type_settled g.of h.0.0).integer
+    is_word : IsWordShape (settled (written g.of))
+    is_word = (type_settled g.of h.0.0).is_word
 
     o : IsObject w g.initial (settled (written g.of))
-    o = object_is w g.initial (settled (written g.of)) h.0.1 integer
+    o = object_is w g.initial (settled (written g.of)) h.0.1 is_word
 
     has : HasShape m (heap_spot k) (settled (written g.of))
     has = record { content = o.content; is = ap (λ z. m.cells (heap_spot z)) (no_more k) ∙ e 0 ∙ ap (λ f. f 0) o.is }

@@ -1,7 +1,8 @@
--- Values of integers: their words, and what operators give of them.
-use Rattle.std.proofs.Common.{◌≡◌, ℕ, ◌^◌, ◌<◌, inl, ⊎_elim, List, [], ◌∷◌, refl, sym, ap, subst, arith}
+-- Values of one word: integers and thin pointers.
+use Rattle.std.proofs.Common.{◌≡◌, ℕ, Bool, true, Some, None, ◌^◌, ◌<◌, ◌⊎◌, inl, inr, ⊎_elim, List, [], ◌∷◌, refl, sym, ap, subst, arith}
 use Rattle.source_meaning.specs.Shapes.{
   Shape,
+  Shared,
   IntShape,
   UnsignedShape,
   CharShape,
@@ -15,26 +16,27 @@ use Rattle.source_meaning.specs.Shapes.{
   ArrayShape,
 }
 use Rattle.source_meaning.specs.Memory as source
-use Rattle.source_meaning.specs.Memory.{IntegerType, AsInt, AsUnsigned, AsChar, Scalar, Integer}
+use Rattle.source_meaning.specs.Memory.{IntegerType, AsInt, AsUnsigned, AsChar, Scalar, Integer, Thin, Spot}
 use Rattle.source_meaning.specs.Steps as steps
 use Rattle.source_meaning.specs.Steps.{World}
 use Rattle.source_meaning.specs.Conversions.{one}
 use Rattle.source_meaning.specs.Programs.{integer_shape}
 use Rattle.core_meaning.specs.Memory as core
-use Rattle.core_meaning.specs.Memory.{Content, Word}
+use Rattle.core_meaning.specs.Memory.{Content, Word, Null, Pointer}
 use Rattle.core_meaning.specs.Core.{Program}
 use Rattle.core_meaning.specs.Steps as core_steps
 use Rattle.source_lowering.specs.Lowered.{type_of}
-use Rattle.source_lowering.proofs.Relations.{Shown, AValue, ANothing, Given, Same}
+use Rattle.source_lowering.specs.Taken.{IsIntegerShape}
+use Rattle.source_lowering.proofs.Relations.{at, Leads, Shown, ANull, APointer, AValue, ANothing, Given, Same}
 use Rattle.source_lowering.proofs.Runs.{stuck_same}
 
--- the shapes that are taken: those of integers, and none
+-- the shapes that are taken: those of integers and of thin pointers, and none
 abbrev pub IsTaken : Shape → Type 0
 IsTaken IntShape = Unit {0}
 IsTaken UnsignedShape = Unit {0}
 IsTaken CharShape = Unit {0}
 IsTaken VoidShape = Unit {0}
-IsTaken (ThinShape may_be_null owner to) = ⊥
+IsTaken (ThinShape may_be_null owner to) = (owner ≡ Shared) × IsTaken to
 IsTaken (FatShape to) = ⊥
 IsTaken HandleShape = ⊥
 IsTaken KeyShape = ⊥
@@ -42,32 +44,32 @@ IsTaken (StructShape tag) = ⊥
 IsTaken (UnionShape tag) = ⊥
 IsTaken (ArrayShape count of) = ⊥
 
--- those of integers alone
-abbrev pub IsInteger : Shape → Type 0
-IsInteger IntShape = Unit {0}
-IsInteger UnsignedShape = Unit {0}
-IsInteger CharShape = Unit {0}
-IsInteger VoidShape = ⊥
-IsInteger (ThinShape may_be_null owner to) = ⊥
-IsInteger (FatShape to) = ⊥
-IsInteger HandleShape = ⊥
-IsInteger KeyShape = ⊥
-IsInteger (StructShape tag) = ⊥
-IsInteger (UnionShape tag) = ⊥
-IsInteger (ArrayShape count of) = ⊥
+-- those of a word
+abbrev pub IsWordShape : Shape → Type 0
+IsWordShape IntShape = Unit {0}
+IsWordShape UnsignedShape = Unit {0}
+IsWordShape CharShape = Unit {0}
+IsWordShape VoidShape = ⊥
+IsWordShape (ThinShape may_be_null owner to) = (owner ≡ Shared) × IsTaken to
+IsWordShape (FatShape to) = ⊥
+IsWordShape HandleShape = ⊥
+IsWordShape KeyShape = ⊥
+IsWordShape (StructShape tag) = ⊥
+IsWordShape (UnionShape tag) = ⊥
+IsWordShape (ArrayShape count of) = ⊥
 
-pub integer_taken : (s : Shape) → IsInteger s → IsTaken s
-integer_taken IntShape h = tt
-integer_taken UnsignedShape h = tt
-integer_taken CharShape h = tt
-integer_taken VoidShape h = tt
-integer_taken (ThinShape may_be_null owner to) h = h
-integer_taken (FatShape to) h = h
-integer_taken HandleShape h = h
-integer_taken KeyShape h = h
-integer_taken (StructShape tag) h = h
-integer_taken (UnionShape tag) h = h
-integer_taken (ArrayShape count of) h = h
+pub word_taken : (s : Shape) → IsWordShape s → IsTaken s
+word_taken IntShape h = tt
+word_taken UnsignedShape h = tt
+word_taken CharShape h = tt
+word_taken VoidShape h = tt
+word_taken (ThinShape may_be_null owner to) h = h
+word_taken (FatShape to) h = h
+word_taken HandleShape h = h
+word_taken KeyShape h = h
+word_taken (StructShape tag) h = h
+word_taken (UnionShape tag) h = h
+word_taken (ArrayShape count of) h = h
 
 abbrev pub limit : IntegerType → ℕ
 limit AsInt = 2 ^ 32
@@ -88,9 +90,55 @@ abbrev first_in : Content → List Content → Content
 first_in x [] = x
 first_in x (y ∷ ys) = y
 
--- what stands for a value of a taken shape is its word
-pub shown_word : (w : World) (m : source.Memory) (c : core.Memory) (s : Shape) (v : Scalar) (x : Content) → IsTaken s → Shown w m c s v (x ∷ []) → IsWord s v x
-shown_word w m c IntShape v x h o = record {
+pub integer_word : (s : Shape) → IsIntegerShape s → IsWordShape s
+integer_word IntShape h = tt
+integer_word UnsignedShape h = tt
+integer_word CharShape h = tt
+integer_word VoidShape h = absurd h
+integer_word (ThinShape may_be_null owner to) h = absurd h
+integer_word (FatShape to) h = absurd h
+integer_word HandleShape h = absurd h
+integer_word KeyShape h = absurd h
+integer_word (StructShape tag) h = absurd h
+integer_word (UnionShape tag) h = absurd h
+integer_word (ArrayShape count of) h = absurd h
+
+-- all that is taken but nothing
+pub full_word : (s : Shape) → IsTaken s → (s ≡ VoidShape → ⊥) → IsWordShape s
+full_word IntShape h f = tt
+full_word UnsignedShape h f = tt
+full_word CharShape h f = tt
+full_word VoidShape h f = absurd (f refl)
+full_word (ThinShape may_be_null owner to) h f = h
+full_word (FatShape to) h f = h
+full_word HandleShape h f = h
+full_word KeyShape h f = h
+full_word (StructShape tag) h f = h
+full_word (UnionShape tag) h f = h
+full_word (ArrayShape count of) h f = h
+
+pub not_void : (shape : Shape) → IsWordShape shape → shape ≡ VoidShape → ⊥
+not_void shape h e = subst (λ z. IsWordShape z) e h
+
+-- a thin pointer's value and what stands for it
+pub record IsThin (w : World) (m : source.Memory) (c : core.Memory) (shape : Shape) (v : Scalar) (x : Content) : Type 0 where
+  pub may_be_null : Bool
+  pub to : Shape
+  pub taken : IsTaken to
+  pub shape_is : shape ≡ ThinShape may_be_null Shared to
+  pub shown : ANull may_be_null v (x ∷ []) ⊎ APointer w m c to v (x ∷ [])
+
+pub null_is : (x : Content) (b : Bool) (v : Scalar) → ANull b v (x ∷ []) → x ≡ Null
+null_is x b v n = ap (first_in x) n.shown
+
+pub pointer_is : (w : World) (m : source.Memory) (c : core.Memory) (to : Shape) (x : Content) (v : Scalar) (p : APointer w m c to v (x ∷ []))
+    → x ≡ Pointer (at p.spot) p.byte
+pointer_is w m c to x v p = ap (first_in x) p.shown
+
+-- what stands for a value of a taken shape is its word, or a pointer
+pub shown_one : (w : World) (m : source.Memory) (c : core.Memory) (s : Shape) (v : Scalar) (x : Content) → IsTaken s → Shown w m c s v (x ∷ [])
+    → IsWord s v x ⊎ IsThin w m c s v x
+shown_one w m c IntShape v x h o = inl (record {
   type = AsInt;
   word = o.word;
   value = o.value;
@@ -98,8 +146,8 @@ shown_word w m c IntShape v x h o = record {
   small = o.small;
   shape_is = refl;
   type_is = refl;
-}
-shown_word w m c UnsignedShape v x h o = record {
+})
+shown_one w m c UnsignedShape v x h o = inl (record {
   type = AsUnsigned;
   word = o.word;
   value = o.value;
@@ -107,25 +155,37 @@ shown_word w m c UnsignedShape v x h o = record {
   small = o.small;
   shape_is = refl;
   type_is = refl;
-}
-shown_word w m c CharShape v x h o = record {
+})
+shown_one w m c CharShape v x h o = inl (record {
   type = AsChar;
   word = o.word;
   value = o.value;
   shown = ap (first_in x) o.shown;
   small = o.small;
-  shape_is =
-      refl;
+  shape_is = refl;
   type_is = refl;
-}
-shown_word w m c VoidShape v x h o = absurd o
-shown_word w m c (ThinShape may_be_null owner to) v x h o = absurd h
-shown_word w m c (FatShape to) v x h o = absurd h
-shown_word w m c HandleShape v x h o = absurd h
-shown_word w m c KeyShape v x h o = absurd h
-shown_word w m c (StructShape tag) v x h o = absurd h
-shown_word w m c (UnionShape tag) v x h o = absurd h
-shown_word w m c (ArrayShape count of) v x h o = absurd h
+})
+shown_one w m c VoidShape v x h o = absurd o
+shown_one w m c (ThinShape may_be_null owner to) v x h o = inr (record {
+  may_be_null = may_be_null;
+  to = to;
+  taken = h.1;
+  shape_is = ap (λ z. ThinShape may_be_null z to) h.0;
+  shown = o;
+})
+shown_one w m c (FatShape to) v x h o = absurd h
+shown_one w m c HandleShape v x h o = absurd h
+shown_one w m c KeyShape v x h o = absurd h
+shown_one w m c (StructShape tag) v x h o = absurd h
+shown_one w m c (UnionShape tag) v x h o = absurd h
+shown_one w m c (ArrayShape count of) v x h o = absurd h
+
+-- of an integer's shape, its word
+pub shown_word : (w : World) (m : source.Memory) (c : core.Memory) (s : Shape) (v : Scalar) (x : Content) → IsIntegerShape s → Shown w m c s v (x ∷ [])
+    → IsWord s v x
+shown_word w m c s v x h o =
+    ⊎_elim (λ (one : IsWord s v x). one) (λ (thin : IsThin w m c s v x). absurd (subst (λ z. IsIntegerShape z) thin.shape_is h))
+    (shown_one w m c s v x (word_taken s (integer_word s h)) o)
 
 -- and a word stands for its value
 pub word_shown : (w : World) (m : source.Memory) (c : core.Memory) (t : IntegerType) (n : ℕ) → n < limit t
@@ -152,14 +212,29 @@ small_word AsChar n h = omega (arith, h)
 pub one_same : (w : World) (fs : Program) (n : ℕ) (shape : Shape) (m : source.Memory) (c : core.Memory) (vs : List Scalar) (x : Content)
     (s : Scalar → source.Memory → steps.Step) (k : core_steps.Step) → IsTaken shape → Given w m c shape vs x
     → ((t : IntegerType) (word : ℕ) → x ≡ Word word → shape ≡ integer_shape t → type_of shape ≡ t → word < limit t → Same w fs n (s (Integer t word) m) k)
-    → Same w fs n (one vs s m) k
-one_same w fs n shape m c vs x s k taken given go = ⊎_elim value nothing given
+    → ((v : Scalar) → IsThin w m c shape v x → Same w fs n (s v m) k) → Same w fs n (one vs s m) k
+one_same w fs n shape m c vs x s k taken given go_word go_thin = ⊎_elim value nothing given
   where
     value : AValue w m c shape vs x → Same w fs n (one vs s m) k
     value v =
-        let o = shown_word w m c shape v.value x taken v.shown in
         subst (λ z. Same w fs n (one z s m) k) (sym v.alone)
-        (subst (λ z. Same w fs n (s z m) k) (sym o.value) (go o.type o.word o.shown o.shape_is o.type_is o.small))
+        (⊎_elim
+        (λ (o : IsWord shape v.value x). subst (λ z. Same w fs n (s z m) k) (sym o.value) (go_word o.type o.word o.shown o.shape_is o.type_is o.small))
+        (λ (o : IsThin w m c shape v.value x). go_thin v.value o)
+        (shown_one w m c shape v.value x taken v.shown))
 
     nothing : ANothing shape vs → Same w fs n (one vs s m) k
     nothing v = subst (λ z. Same w fs n (one z s m) k) (sym v.none) (stuck_same w fs n k)
+
+-- NULL, or a pointer to a place
+pub thin_same : (w : World) (fs : Program) (n : ℕ) (shape : Shape) (m : source.Memory) (c : core.Memory) (v : Scalar) (x : Content)
+    (s : Scalar → source.Memory → steps.Step) (k : core_steps.Step) (o : IsThin w m c shape v x)
+    → (x ≡ Null → o.may_be_null ≡ true → Same w fs n (s (Thin None) m) k)
+    → ((t : Spot) (byte : ℕ) → x ≡ Pointer (at t) byte → (o.to ≡ VoidShape → ⊥) → Leads w m c o.to t byte → Same w fs n (s (Thin (Some t)) m) k)
+    → Same w fs n (s v m) k
+thin_same w fs n shape m c v x s k o go_null go_spot =
+    ⊎_elim
+    (λ (z : ANull o.may_be_null v (x ∷ [])). subst (λ u. Same w fs n (s u m) k) (sym z.value) (go_null (null_is x o.may_be_null v z) z.allowed))
+    (λ (z : APointer w m c o.to v (x ∷ [])).
+    subst (λ u. Same w fs n (s u m) k) (sym z.value) (go_spot z.spot z.byte (pointer_is w m c o.to x v z) z.full z.leads))
+    o.shown

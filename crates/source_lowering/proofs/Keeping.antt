@@ -184,6 +184,7 @@ shown_later b w m m' c c' (ThinShape n o to) v cs l h =
       byte = p.byte;
       value = p.value;
       shown = p.shown;
+      full = p.full;
       leads = laid_later b m
           m' c c' p.spot p.byte (placed_of w to) l p.leads;
     })) h

@@ -12,11 +12,15 @@ pub mod Variables
 pub mod Conversions
 pub mod Forms
 pub mod Tests
+pub mod Places
+pub mod Pointers
 pub mod Calls
+pub mod EachCall
 pub mod EachExpression
 pub mod Statements
 pub mod Declaring
 pub mod Blocks
+pub mod WrittenTypes
 pub mod EachStatement
 pub mod Functions
 pub mod Heap
@@ -27,3 +31,4 @@ pub mod PartCosts
 pub mod ExpressionCosts
 pub mod Bounded
 mod Samples
+mod SameShapes

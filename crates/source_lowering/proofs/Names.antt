@@ -13,20 +13,20 @@ use Rattle.core_meaning.specs.Memory as core
 use Rattle.source_lowering.specs.Lowered.{Named, local_named, number_of}
 use Rattle.source_lowering.specs.Taken.{TakesItems}
 use Rattle.source_lowering.proofs.Relations.{Leads, IsLed, AreLed, IsLocal, AreLocals}
-use Rattle.source_lowering.proofs.Integers.{IsTaken, IsInteger}
+use Rattle.source_lowering.proofs.Integers.{IsTaken, IsWordShape}
 use Rattle.source_lowering.proofs.Making.{local_spot}
 
 -- ---- what is known of the program's names
 
-abbrev pub AreIntegerNames : List Named → Type 0
-AreIntegerNames [] = Unit {0}
-AreIntegerNames (l ∷ ls) = IsInteger l.shape × AreIntegerNames ls
+abbrev pub AreWordNames : List Named → Type 0
+AreWordNames [] = Unit {0}
+AreWordNames (l ∷ ls) = IsWordShape l.shape × AreWordNames ls
 
 pub record IsGlobal (b : Binding) : Type 0 where
   pub shape : Shape
   pub number : ℕ
   pub is : b.entity ≡ Variable shape (heap_spot number)
-  pub integer : IsInteger shape
+  pub is_word : IsWordShape shape
 
 abbrev pub AreGlobals : List Binding → Type 0
 AreGlobals [] = Unit {0}
@@ -34,7 +34,7 @@ AreGlobals (b ∷ bs) = IsGlobal b × AreGlobals bs
 
 abbrev pub AreParameters : List Part → Type 0
 AreParameters [] = Unit {0}
-AreParameters (p ∷ ps) = IsInteger p.shape × AreParameters ps
+AreParameters (p ∷ ps) = IsWordShape p.shape × AreParameters ps
 
 pub record IsRoutine (f : Routine) : Type 0 where
   pub result : IsTaken f.result
@@ -46,7 +46,7 @@ abbrev pub AreRoutines : List Routine → Type 0
 AreRoutines [] = Unit {0}
 AreRoutines (f ∷ fs) = IsRoutine f × AreRoutines fs
 
--- a program of integers alone
+-- a program of words alone
 pub record IsPlainWorld (w : World) : Type 0 where
   pub structs : w.structs ≡ []
   pub globals : AreGlobals w.globals
@@ -60,14 +60,14 @@ pub record FoundLocal (blocks : List ℕ) (bs : List Binding) (ls : List Named) 
   pub found : local_named ls name ≡ Some local
   pub bound : bound_to bs name ≡ Some (Variable local.shape (local_spot frame local.index))
   pub in_block : slice_get blocks local.out ≡ Some frame
-  pub integer : IsInteger local.shape
+  pub is_word : IsWordShape local.shape
   pub led : (w : World) (m : source.Memory) (c : core.Memory) → AreLed w m c bs → Leads w m c local.shape (local_spot frame local.index) 0
 
 pub record MissingLocal (bs : List Binding) (ls : List Named) (name : List ℕ) : Type 0 where
   pub found : local_named ls name ≡ None
   pub bound : bound_to bs name ≡ None
 
-pub find_local : (blocks : List ℕ) (bs : List Binding) (ls : List Named) (name : List ℕ) → AreLocals blocks bs ls → AreIntegerNames ls
+pub find_local : (blocks : List ℕ) (bs : List Binding) (ls : List Named) (name : List ℕ) → AreLocals blocks bs ls → AreWordNames ls
     → FoundLocal blocks bs ls name ⊎ MissingLocal bs ls name
 find_local blocks [] [] name all integers = inr (record { found = refl; bound = refl })
 find_local blocks [] (l ∷ ls) name all integers = absurd all
@@ -88,7 +88,7 @@ find_local blocks (b ∷ bs) (l ∷ ls) name all integers = by (bytes_eq l.name 
           found = ap (λ z. if z then Some l else local_named ls name) e ∙ f.found;
           bound = ap (λ z. if z then Some b.entity else bound_to bs name) same ∙ f.bound;
           in_block = f.in_block;
-          integer = f.integer;
+          is_word = f.is_word;
           led = λ w m c h. f.led w m c h.1;
         }))
         (λ (f : MissingLocal bs ls name). inr (record {
@@ -105,7 +105,7 @@ find_local blocks (b ∷ bs) (l ∷ ls) name all integers = by (bytes_eq l.name 
       found = ap (λ z. if z then Some l else local_named ls name) e;
       bound = ap (λ z. if z then Some b.entity else bound_to bs name) (ap (λ z. bytes_eq z name) one.named ∙ e) ∙ ap (λ z. Some z) one.is;
       in_block = one.in_block;
-      integer = integers.0;
+      is_word = integers.0;
       led = λ w m c h. subst (λ z. IsLed w m c z) one.is h.0;
     })
     by false e rest = other e rest
@@ -116,7 +116,7 @@ pub record FoundGlobal (bs : List Binding) (name : List ℕ) : Type 0 where
   pub shape : Shape
   pub number : ℕ
   pub bound : bound_to bs name ≡ Some (Variable shape (heap_spot number))
-  pub integer : IsInteger shape
+  pub is_word : IsWordShape shape
   pub led : (w : World) (m : source.Memory) (c : core.Memory) → AreLed w m c bs → Leads w m c shape (heap_spot number) 0
 
 pub find_global : (bs : List Binding) (name : List ℕ) → AreGlobals bs → FoundGlobal bs name ⊎ (bound_to bs name ≡ None)
@@ -130,7 +130,7 @@ find_global (b ∷ bs) name all = by (bytes_eq b.name name) refl (find_global bs
           shape = f.shape;
           number = f.number;
           bound = ap (λ z. if z then Some b.entity else bound_to bs name) e ∙ f.bound;
-          integer = f.integer;
+          is_word = f.is_word;
           led = λ w m c h. f.led w m c h.1;
         }))
         (λ (f : bound_to bs name ≡ None). inr (ap (λ z. if z then Some b.entity else bound_to bs name) e ∙ f))
@@ -141,7 +141,7 @@ find_global (b ∷ bs) name all = by (bytes_eq b.name name) refl (find_global bs
       shape = all.0.shape;
       number = all.0.number;
       bound = ap (λ z. if z then Some b.entity else bound_to bs name) e ∙ ap (λ z. Some z) all.0.is;
-      integer = all.0.integer;
+      is_word = all.0.is_word;
       led = λ w m c h. subst (λ z. IsLed w m c z) all.0.is h.0;
     })
     by false e rest = other e rest

@@ -41,25 +41,25 @@ use Rattle.source_lowering.specs.Programs.{data_of, program_code}
 use Rattle.source_lowering.specs.Taken.{
   IsVoidBase,
   TakesResult,
-  GivesInteger,
+  GivesWord,
   GivesNothing,
   TakesFunction,
-  AreIntegers,
+  AreWords,
   TakesInitial,
   TakesProgram,
   IsLowerable,
 }
 use Rattle.source_lowering.proofs.Relations.{Agree, AreLed, AreBytes, SameOutcome, Same}
 use Rattle.source_lowering.proofs.Runs.{stuck_same, stops_same}
-use Rattle.source_lowering.proofs.Integers.{IsTaken, IsInteger, integer_taken, shown_word}
+use Rattle.source_lowering.proofs.Integers.{IsTaken, IsWordShape, word_taken, shown_one, IsWord, IsThin, thin_same}
 use Rattle.source_lowering.proofs.Names.{AreGlobals, AreParameters, IsRoutine, AreRoutines, IsPlainWorld, FoundFunction, find_function}
 use Rattle.source_lowering.proofs.Calls.{AllGiven, OneResult, NoResult, ResultIs, EntersAs}
-use Rattle.source_lowering.proofs.EachStatement.{type_settled}
+use Rattle.source_lowering.proofs.WrittenTypes.{type_settled}
 use Rattle.source_lowering.proofs.Functions.{enters_always}
 use Rattle.source_lowering.proofs.Heap.{heap_of, heap_agrees, heap_stored, heap_led}
 use Rattle.source_lowering.proofs.Constants.{globals_same}
 
--- ---- a program of integers
+-- ---- a program of words
 
 no_structs : (items : List Item) → TakesProgram items → structs_from items [] ≡ []
 no_structs [] h = refl
@@ -68,7 +68,7 @@ no_structs (tree.UnionItem u ∷ items) h = absurd h.0
 no_structs (tree.GlobalItem g ∷ items) h = no_structs items h.1
 no_structs (tree.FunctionItem f ∷ items) h = no_structs items h.1
 
-same_shape : (i : tree.Initial) (s : Shape) → TakesInitial i → global_shape i s ≡ s
+same_shape : (i : tree.Initial) (s : Shape) → TakesInitial s i → global_shape i s ≡ s
 same_shape tree.Initial.Unset s h = refl
 same_shape (tree.Initial.Elements count) s h = absurd h
 same_shape (tree.Initial.Given c) s h = refl
@@ -83,14 +83,14 @@ globals_are (tree.GlobalItem g ∷ items) k h = (
     shape = global_shape g.initial (settled (written g.of));
     number = k;
     is = refl;
-    integer = subst (λ z. IsInteger z) (sym (same_shape g.initial (settled (written g.of)) h.0.1)) (type_settled g.of h.0.0).integer;
+    is_word = subst (λ z. IsWordShape z) (sym (same_shape g.initial (settled (written g.of)) h.0.1)) (type_settled g.of h.0.0).is_word;
   },
   globals_are items (suc k) h.1,
 )
 
-parameters_are : (ms : List Member) → AreIntegers ms → AreParameters (map part_of ms)
+parameters_are : (ms : List Member) → AreWords ms → AreParameters (map part_of ms)
 parameters_are [] h = tt
-parameters_are (m ∷ ms) h = ((type_settled m.of h.0).integer, parameters_are ms h.1)
+parameters_are (m ∷ ms) h = ((type_settled m.of h.0).is_word, parameters_are ms h.1)
 
 void_taken : (b : Base) (ps : List Pointer) (at : ℕ) → ps ≡ [] → IsVoidBase b → IsTaken (settled (written (record { at = at; base = b; pointers = ps })))
 void_taken b ps at e h = subst (λ z. IsTaken (settled (written (record { at = at; base = b; pointers = z })))) (sym e) (by b h)
@@ -106,12 +106,8 @@ void_taken b ps at e h = subst (λ z. IsTaken (settled (written (record { at = a
     by (tree.Key region) h = absurd h
 
 result_taken : (t : TypeName) → TakesResult t → IsTaken (settled (written t))
-result_taken t (GivesInteger h) = integer_taken (settled (written t)) (type_settled t h).integer
+result_taken t (GivesWord h) = word_taken (settled (written t)) (type_settled t h).is_word
 result_taken t (GivesNothing h) = void_taken t.base t.pointers t.at h.pointers h.base
-
-no_pointers : (t : TypeName) → TakesResult t → t.pointers ≡ []
-no_pointers t (GivesInteger h) = h.pointers
-no_pointers t (GivesNothing h) = h.pointers
 
 int_written : (t : TypeName) → t.pointers ≡ [] → t.base ≡ tree.Int → settled (written t) ≡ IntShape
 int_written t e b =
@@ -121,7 +117,7 @@ int_written t e b =
 routine_is : (f : Function) → TakesFunction f → IsRoutine (routine_of f)
 routine_is f h = record {
   result = result_taken f.result h.result;
-  main = λ e. int_written f.result (no_pointers f.result h.result) (h.main e);
+  main = λ e. int_written f.result (h.main e).pointers (h.main e).base;
   parameters = parameters_are f.parameters h.parameters;
   body = h.body;
 }
@@ -147,10 +143,16 @@ status_same : (w : World) (fs : Program) (n : ℕ) (shape : Shape) (m : source.M
 status_same w fs n shape m c vs xs taken r =
     ⊎_elim
     (λ (o : OneResult w m c shape vs xs).
-    let word = shown_word w m c shape o.value.value o.content taken o.value.shown in
-    subst (λ z. Same w fs n (status z m) (meaning.status_of xs c)) (sym (o.value.alone ∙ ap (λ z. z ∷ []) word.value))
+    subst (λ z. Same w fs n (status z m) (meaning.status_of xs c)) (sym o.value.alone)
+    (⊎_elim
+    (λ (word : IsWord shape o.value.value o.content).
+    subst (λ z. Same w fs n (status (z ∷ []) m) (meaning.status_of xs c)) (sym word.value)
     (subst (λ z. Same w fs n (Stops (SourceEnding.Ended word.word)) (meaning.status_of z c)) (sym (o.alone ∙ ap (λ z. z ∷ []) word.shown))
     (stops_same w fs n (SourceEnding.Ended word.word))))
+    (λ (thin : IsThin w m c shape o.value.value o.content).
+    thin_same w fs n shape m c o.value.value o.content (λ v. status (v ∷ [])) (meaning.status_of xs c) thin
+    (λ x b. stuck_same w fs n (meaning.status_of xs c)) (λ t byte x full leads. stuck_same w fs n (meaning.status_of xs c)))
+    (shown_one w m c shape o.value.value o.content taken o.value.shown)))
     (λ (o : NoResult shape vs xs). subst (λ z. Same w fs n (status z m) (meaning.status_of xs c)) (sym o.value.none)
     (stuck_same w fs n (meaning.status_of xs c)))
     r

@@ -1,10 +1,9 @@
 -- The relation between a source's memory and Core's, and when both do the same from there on.
 use Rattle.std.proofs.Common.{◌≡◌, ℕ, suc, ◌+◌, ◌*◌, ◌^◌, ◌<◌, ◌≤◌, ◌⊎◌, List, [], ◌∷◌, length, Bool, true, Option, Some, None}
 use Rattle.std.specs.Prelude.{slice_get}
-use Rattle.cyc_words.specs.Events as events
 use Rattle.cyc_words.specs.Events.{SourceEnding}
 pub use Rattle.source_lowering.specs.Agreeing.{SameEvent, BothVisible, BothCalled, BothReturned, SameEvents, SameOutcome, AreBytes}
-use Rattle.step_trees.specs.Trees.{Outcome, run}
+use Rattle.step_trees.specs.Trees.{run}
 use Rattle.source_meaning.specs.Shapes.{
   Shape,
   IntShape,
@@ -118,6 +117,8 @@ pub record APointer (w : World) (m : source.Memory) (c : core.Memory) (to : Shap
   pub byte : ℕ
   pub value : v ≡ Thin (Some spot)
   pub shown : cs ≡ Pointer (at spot) byte ∷ []
+  -- NULL alone is of a pointer to nothing
+  pub full : to ≡ VoidShape → ⊥
   pub leads : Leads w m c to spot byte
 
 pub record AFatNull (v : Scalar) (cs : List Content) : Type 0 where

@@ -1,15 +1,17 @@
 -- A program of each taken form: it is taken, and Core's run of its code is computed.
-use Rattle.std.proofs.Common.{◌≡◌, false, Some, [], ◌∷◌, refl}
-use Rattle.cyc_tree.specs.declared.expression.Operator.TheVariants.{Less, Add, Multiply, Divide, GreaterEqual}
-use Rattle.cyc_tree.specs.declared.expression.Prefix.TheVariants.{Not}
+use Rattle.std.proofs.Common.{◌≡◌, false, Some, None, List, [], ◌∷◌, ◌++◌, refl}
+use Rattle.cyc_tree.specs.declared.expression.Operator.TheVariants.{Less, Add, Multiply, Divide, Equal, GreaterEqual}
+use Rattle.cyc_tree.specs.declared.expression.Prefix.TheVariants.{Not, Dereference, AddressOf}
+use Rattle.cyc_tree.specs.declared.name.Sign.TheVariants.{Nullable, NotNull}
 use Rattle.cyc_tree.specs.Tree as tree
 use Rattle.cyc_tree.specs.Tree.{Expression, NoExpressions, MoreExpressions, NoLinks, MoreLinks, Initializer, Statement, NoItems, Constant, Initial, Program}
+use Rattle.cyc_words.specs.declared.faults.Kind.TheVariants.{NullException}
 use Rattle.cyc_words.specs.Events.{ByteRead, ByteWritten, SourceEnding}
 use Rattle.source_meaning.proofs.Trees.{named, variable, number, typed, ◌▸◌, ◌▹◌, function}
 use Rattle.core_meaning.specs.Steps.{Visible, Called, Returned}
 use Rattle.core_meaning.specs.Meaning.{core}
 use Rattle.source_lowering.specs.Programs.{program_code}
-use Rattle.source_lowering.specs.Taken.{IsIntegerBase, IsIntegerType, GivesInteger, GivesNothing, IsLowerable}
+use Rattle.source_lowering.specs.Taken.{IsIntegerBase, IsWordType, GivesWord, GivesNothing, IsLowerable}
 
 -- char g = 321; void put(char c) { putchar(c); }
 -- int main() { int i; unsigned s = g; while (i < 3 && !(s >= 100)) { int b = getchar(); s = s * 2 + b / 4; put(b); i = i + 1; if (i >= 2) break; } return s; }
@@ -50,8 +52,8 @@ end_alone = tree.FunctionItem (function (typed tree.Int []) (named "main") [] No
 end_alone_runs : core (program_code end_alone) [] 0 ≡ record { events = Called 0 ∷ Returned 0 ∷ []; ending = SourceEnding.Ended 0 }
 end_alone_runs = refl
 
-integer : (b : tree.Base) → IsIntegerBase b → IsIntegerType (typed b [])
-integer b h = record { pointers = refl; base = h }
+integer : (b : tree.Base) → IsIntegerBase b → IsWordType (typed b [])
+integer b h = record { pointers = tt; base = h }
 
 all_forms_taken : IsLowerable all_forms
 all_forms_taken = record {
@@ -67,8 +69,8 @@ all_forms_taken = record {
       },
       (
         record {
-          result = GivesInteger (integer tree.Int tt);
-          main = λ e. refl;
+          result = GivesWord (integer tree.Int tt);
+          main = λ e. record { pointers = refl; base = refl };
           parameters = tt;
           body = (
             (integer tree.Int tt, tt),
@@ -76,7 +78,7 @@ all_forms_taken = record {
               (integer tree.Unsigned tt, tt),
               (
                 (
-                  ((tt, (tt, tt)), ((tt, (tt, (tt, tt))), tt)),
+                  ((tt, (tt, tt)), ((tt, (tt, tt)), tt)),
                   ((integer tree.Int tt, tt), ((tt, ((tt, (tt, tt)), ((tt, (tt, tt)), tt))), ((tt, tt), ((tt, (tt, (tt, tt))), (((tt, (tt, tt)), tt), tt))))),
                 ),
                 (tt, tt),
@@ -90,3 +92,65 @@ all_forms_taken = record {
   );
   strings = refl;
 }
+
+-- ---- pointers
+
+abbrev nullable : List tree.Pointer
+nullable = (record { sign = Nullable; region = None }) ∷ []
+
+abbrev not_null : List tree.Pointer
+not_null = (record { sign = NotNull; region = None }) ∷ []
+
+abbrev contents_of : Expression → Expression
+contents_of e = Expression.Prefixed 0 Dereference e
+
+abbrev address_of : Expression → Expression
+address_of e = Expression.Prefixed 0 AddressOf e
+
+-- int *g = NULL; char *same(char *p) { return p; }
+-- void set(int @p, char *c) { *p = *p + 1; if (c) *same(c) = 66; }
+-- int main() { int x = 4; int *p = &x; int **r = &p; char k = 65; set(*r, NULL); set(p, &k); if ((p == *r) && !g) putchar(k); g = &x; if (g == p) x = *g + *p; return x; }
+abbrev pointer_forms : Program
+pointer_forms =
+    tree.GlobalItem (record { of = (typed tree.Int nullable); name = (named "g"); initial = (Initial.Given (Constant.Null 0)) }) ∷
+    tree.FunctionItem (function (typed tree.Char nullable) (named "same") ((record { of = (typed tree.Char nullable); name = (named "p") }) ∷ []) (
+    (Statement.Return 0 (Some (variable "p"))) ▸
+    NoItems)) ∷
+    tree.FunctionItem (function (typed tree.Void []) (named "set") ((record { of = (typed tree.Int not_null); name = (named "p") }) ∷
+    (record { of = (typed tree.Char nullable); name = (named "c") }) ∷ []) (
+    (Statement.Run (Expression.Assign (contents_of (variable "p")) (Expression.Chain (contents_of (variable "p")) (MoreLinks Add (number 1) NoLinks)))) ▸
+    (Statement.If 0 (variable "c") (Statement.Run (Expression.Assign (contents_of (Expression.Call (named "same") (MoreExpressions (variable "c")
+    NoExpressions))) (number 66)))) ▸
+    NoItems)) ∷
+    tree.FunctionItem (function (typed tree.Int []) (named "main") [] (
+    (tree.Local (typed tree.Int []) (named "x") (Initializer.Value (number 4))) ▹
+    (tree.Local (typed tree.Int nullable) (named "p") (Initializer.Value (address_of (variable "x")))) ▹
+    (tree.Local (typed tree.Int (nullable ++ nullable)) (named "r") (Initializer.Value (address_of (variable "p")))) ▹
+    (tree.Local (typed tree.Char []) (named "k") (Initializer.Value (number 65))) ▹
+    (Statement.Run (Expression.Call (named "set") (MoreExpressions (contents_of (variable "r")) (MoreExpressions (Expression.Null 0) NoExpressions)))) ▸
+    (Statement.Run (Expression.Call (named "set") (MoreExpressions (variable "p") (MoreExpressions (address_of (variable "k")) NoExpressions)))) ▸
+    (Statement.If 0 (Expression.AllOf (Expression.Chain (variable "p") (MoreLinks Equal (contents_of (variable "r")) NoLinks))
+    (MoreExpressions (Expression.Prefixed 0 Not (variable "g")) NoExpressions))
+    (Statement.Run (Expression.Call (named "putchar") (MoreExpressions (variable "k") NoExpressions)))) ▸
+    (Statement.Run (Expression.Assign (variable "g") (address_of (variable "x")))) ▸
+    (Statement.If 0 (Expression.Chain (variable "g") (MoreLinks Equal (variable "p") NoLinks))
+    (Statement.Run (Expression.Assign (variable "x") (Expression.Chain (contents_of (variable "g")) (MoreLinks Add (contents_of (variable "p")) NoLinks))))) ▸
+    (Statement.Return 0 (Some (variable "x"))) ▸
+    NoItems)) ∷ []
+
+pointer_forms_run : core (program_code pointer_forms) [] 20 ≡ record {
+  events = Called 2 ∷ Called 1 ∷ Returned 1 ∷ Called 1 ∷ Called 0 ∷ Returned 0 ∷ Returned 1 ∷ Visible (ByteWritten 66) ∷ Returned 2 ∷ [];
+  ending = SourceEnding.Ended 12;
+}
+pointer_forms_run = refl
+
+-- int main() { int *p; return *p; }
+abbrev null_read : Program
+null_read =
+    tree.FunctionItem (function (typed tree.Int []) (named "main") [] (
+    (tree.Local (typed tree.Int nullable) (named "p") Initializer.Unset) ▹
+    (Statement.Return 0 (Some (contents_of (variable "p")))) ▸
+    NoItems)) ∷ []
+
+null_read_runs : core (program_code null_read) [] 0 ≡ record { events = Called 0 ∷ []; ending = SourceEnding.Raised NullException }
+null_read_runs = refl

@@ -1,5 +1,5 @@
 -- Each form of a statement does the same as its code, where its parts do.
-use Rattle.std.proofs.Common.{◌≡◌, ℕ, zero, suc, ◌≤◌, inl, inr, ⊎_elim, List, [], ◌∷◌, ◌++◌, Bool, true, false, not, nat_eq, refl, sym, ◌∙◌, subst, arith}
+use Rattle.std.proofs.Common.{◌≡◌, ℕ, zero, suc, ◌≤◌, inl, inr, ⊎_elim, List, [], ◌∷◌, ◌++◌, Bool, true, false, refl, sym, ◌∙◌, subst, arith}
 use Rattle.step_trees.specs.Trees.{Turns}
 use Rattle.cyc_tree.specs.Tree as tree
 use Rattle.cyc_tree.specs.Tree.{Expression}
@@ -27,7 +27,6 @@ use Rattle.source_meaning.specs.Calls.{truth}
 use Rattle.source_meaning.specs.Expressions.{sense}
 use Rattle.source_meaning.specs.Statements as source_statements
 use Rattle.source_meaning.specs.Programs as programs
-use Rattle.core_meaning.specs.Memory as core
 use Rattle.core_meaning.specs.Memory.{Content}
 use Rattle.core_meaning.specs.Core.{Program, Statement, If, While, Break, Continue, Return, Statements, NoStatements, MoreStatements}
 use Rattle.core_meaning.specs.Steps as core_steps
@@ -38,11 +37,11 @@ use Rattle.source_lowering.specs.Lowered.{put, all_of, results_in, conversion_co
 use Rattle.source_lowering.proofs.Relations.{Agree, Later, Place, Fits, SameAt, Same, Next, LaterAt, AValue, ANothing, Given, GivesAs}
 use Rattle.source_lowering.proofs.Keeping.{later_self, later_on, later_less, fits_later}
 use Rattle.source_lowering.proofs.Runs.{turns_same, less_fuel, put_all}
-use Rattle.source_lowering.proofs.Integers.{IsTaken, IsInteger}
+use Rattle.source_lowering.proofs.Integers.{IsTaken, IsWordShape}
 use Rattle.source_lowering.proofs.Values.{put_three}
 use Rattle.source_lowering.proofs.Variables.{Agrees}
 use Rattle.source_lowering.proofs.Conversions.{converted_gives}
-use Rattle.source_lowering.proofs.Tests.{branch_by, truth_tested}
+use Rattle.source_lowering.proofs.Tests.{Decides, truth_decided}
 use Rattle.source_lowering.proofs.Calls.{ResultIs}
 
 -- What comes after a statement for each way out of it: with memories that agree, in which the blocks before one have no more locals, both go on alike.
@@ -127,10 +126,10 @@ result_here : (w : World) (m : source.Memory) (c : Config) (shape : Shape) (vs :
     → ResultIs w m c.memory shape vs (values_of c.temps (results_in shape 0))
 result_here w m c shape vs taken given = by shape taken given
   where
-    some : (of : Shape) → IsInteger of → Given w m c.memory of vs (c.temps 0) → ResultIs w m c.memory of vs (c.temps 0 ∷ [])
-    some of integer g =
+    some : (of : Shape) → IsWordShape of → Given w m c.memory of vs (c.temps 0) → ResultIs w m c.memory of vs (c.temps 0 ∷ [])
+    some of is_word g =
         ⊎_elim (λ (v : AValue w m c.memory of vs (c.temps 0)). inl (record { content = c.temps 0; alone = refl; value = v }))
-        (λ (v : ANothing of vs). absurd (subst (λ z. IsInteger z) v.void integer)) g
+        (λ (v : ANothing of vs). absurd (subst (λ z. IsWordShape z) v.void is_word)) g
 
     none : Given w m c.memory VoidShape vs (c.temps 0) → ResultIs w m c.memory VoidShape vs []
     none g =
@@ -142,7 +141,7 @@ result_here w m c shape vs taken given = by shape taken given
     by UnsignedShape h g = some UnsignedShape tt g
     by CharShape h g = some CharShape tt g
     by VoidShape h g = none g
-    by (ThinShape may_be_null owner to) h g = absurd h
+    by (ThinShape may_be_null owner to) h g = some (ThinShape may_be_null owner to) h g
     by (FatShape to) h g = absurd h
     by HandleShape h g = absurd h
     by KeyShape h g = absurd h
@@ -175,23 +174,20 @@ leave_same p n b result void = record {
 
 -- ---- one of two statements
 
-choice_by : (t : Bool) (p : Place) (n b word : ℕ) (result : Shape) (first second : Act Flow) (these those : List Statement) (m : source.Memory) (c : Config)
-    (next : Flow → source.Memory → steps.Step) (rest : Statements) (after : Next) → nat_eq word 0 ≡ t → c.temps 0 ≡ core.Word word
-    → RunsAs p n b result first these → RunsAs p n b result second those → Fits p m c → WaysOn p.world p.program n b m c result next
-    (meaning.statements rest after) after
-    → SameAt p n (choose (not (nat_eq word 0)) first second next m) (meaning.statements (MoreStatements (If 0 (all_of these) (all_of those)) rest) after c)
-choice_by true p n b word result first second these those m c next rest after test temp one other fits ways =
+choice_by : (t : Bool) (p : Place) (n b : ℕ) (result : Shape) (first second : Act Flow) (these those : List Statement) (m : source.Memory) (c : Config)
+    (next : Flow → source.Memory → steps.Step) (rest : Statements) (after : Next) → Decides t (c.temps 0) → RunsAs p n b result first these
+    → RunsAs p n b result second those → Fits p m c → WaysOn p.world p.program n b m c result next (meaning.statements rest after) after
+    → SameAt p n (choose t first second next m) (meaning.statements (MoreStatements (If 0 (all_of these) (all_of those)) rest) after c)
+choice_by true p n b result first second these those m c next rest after decides one other fits ways =
     let inner : Next = λ exit. meaning.falls_to exit (meaning.statements rest after) after in
-    subst (λ z. SameAt p n (choose (not (nat_eq word 0)) first second next m) z)
-    (sym (branch_by c 0 word true (meaning.statements (all_of these) inner c) (meaning.statements (all_of those) inner c) temp test))
-    (subst (λ z. SameAt p n (choose (not z) first second next m) (meaning.statements (all_of those) inner c)) (sym test)
-    (other.same m c next NoStatements inner fits (ways_inside p.world p.program n b m c result next rest after ways)))
-choice_by false p n b word result first second these those m c next rest after test temp one other fits ways =
+    subst (λ z. SameAt p n (first next m) z)
+    (sym (decides.branches (meaning.statements (all_of these) inner c) (meaning.statements (all_of those) inner c)))
+    (one.same m c next NoStatements inner fits (ways_inside p.world p.program n b m c result next rest after ways))
+choice_by false p n b result first second these those m c next rest after decides one other fits ways =
     let inner : Next = λ exit. meaning.falls_to exit (meaning.statements rest after) after in
-    subst (λ z. SameAt p n (choose (not (nat_eq word 0)) first second next m) z)
-    (sym (branch_by c 0 word false (meaning.statements (all_of these) inner c) (meaning.statements (all_of those) inner c) temp test))
-    (subst (λ z. SameAt p n (choose (not z) first second next m) (meaning.statements (all_of these) inner c)) (sym test)
-    (one.same m c next NoStatements inner fits (ways_inside p.world p.program n b m c result next rest after ways)))
+    subst (λ z. SameAt p n (second next m) z)
+    (sym (decides.branches (meaning.statements (all_of these) inner c) (meaning.statements (all_of those) inner c)))
+    (other.same m c next NoStatements inner fits (ways_inside p.world p.program n b m c result next rest after ways))
 
 pub choice_same : (p : Place) (n : ℕ) (result : Shape) (condition : Sense) (shape : Shape) (test : List Statement) (first second : Act Flow)
     (these those : List Statement) → Agrees p n 0 condition shape test → RunsAs p n (suc p.frame) result first these
@@ -201,10 +197,10 @@ choice_same p n result condition shape test first second these those looks one o
   same = λ m c next rest after fits ways.
       subst (λ z. SameAt p n (truth condition (λ t. choose t first second next) m) (meaning.statements z after c))
       (sym (put_all test (If 0 (all_of these) (all_of those) ∷ []) rest))
-      (truth_tested p n 0 condition shape test m c (λ t. choose t first second next) (MoreStatements (If 0 (all_of these) (all_of those)) rest) after
+      (truth_decided p n 0 condition shape test m c (λ t. choose t first second next) (MoreStatements (If 0 (all_of these) (all_of those)) rest) after
       looks.taken looks.looks fits (record {
-        go = λ m2 c2 word fits2 later2 kept2 temp2.
-            choice_by (nat_eq word 0) p n (suc p.frame) word result first second these those m2 c2 next rest after refl temp2 one other fits2
+        go = λ m2 c2 t fits2 later2 kept2 decides2.
+            choice_by t p n (suc p.frame) result first second these those m2 c2 next rest after decides2 one other fits2
             (ways_later p.world p.program n (suc p.frame) (suc p.frame) m m2 c c2 result next (meaning.statements rest after) after (omega arith) later2
             (blocks_of p m m2 c c2 fits fits2) ways);
       }));
@@ -271,32 +267,29 @@ one_loop p n result scope condition body shape test these looks runs again = rec
         body = all_of
             these;
       }) after now) (after core_steps.Falls now)) after in
-      truth_tested p n 0 (sense condition scope) shape test m c (λ t. choose t (steps.take_turn condition body scope) (give steps.Falls) next) NoStatements
+      truth_decided p n 0 (sense condition scope) shape test m c (λ t. choose t (steps.take_turn condition body scope) (give steps.Falls) next) NoStatements
       tested looks.taken looks.looks fits (record {
-        go = λ m2 c2 word fits2 later2 kept2 temp2.
-            by (nat_eq word 0) word m2 c2 next after refl temp2 fits2
+        go = λ m2 c2 t fits2 later2 kept2 decides2.
+            by t m2 c2 next after decides2 fits2
             (ways_later p.world p.program n (suc p.frame) (suc p.frame) m m2 c c2 result next (after core_steps.Falls) after (omega arith) later2
             (blocks_of p m m2 c c2 fits fits2) ways);
       });
 }
   where
-    by : (t : Bool) (word : ℕ) (m : source.Memory) (c : Config) (next : Flow → source.Memory → steps.Step) (after : Next) → nat_eq word 0 ≡ t
-        → c.temps 0 ≡ core.Word word → Fits p m c → WaysOn p.world p.program n (suc p.frame) m c result next (after core_steps.Falls) after
-        → SameAt p n (choose (not (nat_eq word 0)) (steps.take_turn condition body scope) (give steps.Falls) next m)
+    by : (t : Bool) (m : source.Memory) (c : Config) (next : Flow → source.Memory → steps.Step) (after : Next) → Decides t (c.temps 0) → Fits p m c
+        → WaysOn p.world p.program n (suc p.frame) m c result next (after core_steps.Falls) after
+        → SameAt p n (choose t (steps.take_turn condition body scope) (give steps.Falls) next m)
         (meaning.branch (c.temps 0) (Turns (record { test = all_of test; flag = 0; body = all_of these }) after c) (after core_steps.Falls c))
-    by true word m c next after is_zero temp fits ways =
-        subst (λ z. SameAt p n (choose (not (nat_eq word 0)) (steps.take_turn condition body scope) (give steps.Falls) next m) z)
-        (sym (branch_by c 0 word true (Turns (record { test = all_of test; flag = 0; body = all_of these }) after c) (after core_steps.Falls c) temp is_zero))
-        (subst (λ z. SameAt p n (choose (not z) (steps.take_turn condition body scope) (give steps.Falls) next m) (after core_steps.Falls c)) (sym is_zero)
-        (ways.falls m c fits.agree (later_self (suc p.frame) m c.memory) refl))
-    by false word m c next after is_zero temp fits ways =
-        subst (λ z. SameAt p n (choose (not (nat_eq word 0)) (steps.take_turn condition body scope) (give steps.Falls) next m) z)
-        (sym (branch_by c 0 word false (Turns (record { test = all_of test; flag = 0; body = all_of these }) after c) (after core_steps.Falls c) temp is_zero))
-        (subst (λ z. SameAt p n (choose (not z) (steps.take_turn condition body scope) (give steps.Falls) next m)
-        (Turns (record { test = all_of test; flag = 0; body = all_of these }) after c)) (sym is_zero)
+    by false m c next after decides fits ways =
+        subst (λ z. SameAt p n (next steps.Falls m) z)
+        (sym (decides.branches (Turns (record { test = all_of test; flag = 0; body = all_of these }) after c) (after core_steps.Falls c)))
+        (ways.falls m c fits.agree (later_self (suc p.frame) m c.memory) refl)
+    by true m c next after decides fits ways =
+        subst (λ z. SameAt p n (steps.take_turn condition body scope next m) z)
+        (sym (decides.branches (Turns (record { test = all_of test; flag = 0; body = all_of these }) after c) (after core_steps.Falls c)))
         (turns_same p.world p.program n (record { condition = condition; body = body; scope = scope }) next m (record
         { test = all_of test; flag = 0; body = all_of these }) after c
-        (λ j less. turn_same p n j result scope condition body test these m c next after less (runs j less) (again j less) fits ways)))
+        (λ j less. turn_same p n j result scope condition body test these m c next after less (runs j less) (again j less) fits ways))
 
 -- with each amount of fuel up to one
 loops_to : (n : ℕ) (p : Place) (result : Shape) (scope : Scope) (condition : Expression) (body : tree.Statement) (shape : Shape) (test these : List Statement)

@@ -38,11 +38,11 @@ use Rattle.source_lowering.proofs.Relations.{
 }
 use Rattle.source_lowering.proofs.Keeping.{later_self, later_on, fits_later, shown_later, m_written}
 use Rattle.source_lowering.proofs.Runs.{stuck_same}
-use Rattle.source_lowering.proofs.Integers.{IsTaken, IsInteger, integer_taken}
+use Rattle.source_lowering.proofs.Integers.{IsTaken, IsWordShape, word_taken, not_void}
 use Rattle.source_lowering.proofs.Cells.{IsPlain, plain_of, read_same, IsWritten, write_same}
 use Rattle.source_lowering.proofs.Making.{local_spot}
 use Rattle.source_lowering.proofs.Values.{put_temp, other_temp, kept_temp, temp_fits, put_value}
-use Rattle.source_lowering.proofs.Names.{AreIntegerNames, AreGlobals, FoundLocal, MissingLocal, find_local, FoundGlobal, find_global}
+use Rattle.source_lowering.proofs.Names.{AreWordNames, AreGlobals, FoundLocal, MissingLocal, find_local, FoundGlobal, find_global}
 
 -- an expression's meaning and its code: the same shape, and the same value, looked at or given away
 pub record Agrees (p : Place) (n d : ℕ) (e : Sense) (shape : Shape) (code : List Statement) : Type 0 where
@@ -81,12 +81,12 @@ stored c d e width number old next temp live part = rw (temp, live, part, eq-eqb
 -- ---- reads
 
 -- a local is read
-get_local : (p : Place) (n d out index frame : ℕ) (shape : Shape) → IsInteger shape → slice_get (p.frame ∷ p.outer) out ≡ Some frame
+get_local : (p : Place) (n d out index frame : ℕ) (shape : Shape) → IsWordShape shape → slice_get (p.frame ∷ p.outer) out ≡ Some frame
     → ((m : source.Memory) (c : core.Memory) → AreLed p.world m c p.locals → Leads p.world m c shape (local_spot frame index) 0)
     → GivesAs p n d shape (read_cells (length (cells_of p.world shape)) (local_spot frame index)) (Do (Get d out index (width_of shape)) ∷ [])
-get_local p n d out index frame shape integer block led = record {
+get_local p n d out index frame shape is_word block led = record {
   same = λ m c s rest next fits goes.
-      read_same p.world p.program n shape (width_of shape) m c.memory (local_spot frame index) 0 s _ (plain_of p.world shape integer) fits.agree
+      read_same p.world p.program n shape (width_of shape) m c.memory (local_spot frame index) 0 s _ (plain_of p.world shape is_word) fits.agree
       (led m c.memory fits.locals)
       (λ v o.
       subst (λ z. SameAt p n (s (v ∷ []) m) z)
@@ -96,14 +96,14 @@ get_local p n d out index frame shape integer block led = record {
 }
 
 -- a global is read
-load_global : (p : Place) (n d number : ℕ) (shape : Shape) → IsInteger shape → ((m : source.Memory) (c : core.Memory) → AreLed p.world m c p.world.globals
+load_global : (p : Place) (n d number : ℕ) (shape : Shape) → IsWordShape shape → ((m : source.Memory) (c : core.Memory) → AreLed p.world m c p.world.globals
     → Leads p.world m c shape (heap_spot number) 0)
     → GivesAs p n d shape (read_cells (length (cells_of p.world shape)) (heap_spot number)) (Do (DataAddress d number) ∷ Do
     (Load d d (distance 0 0 (width_of shape))) ∷ [])
-load_global p n d number shape integer led = record {
+load_global p n d number shape is_word led = record {
   same = λ m c s rest next fits goes.
       let here : Config = with_temp d (Pointer (at (heap_spot number)) 0) c in
-      read_same p.world p.program n shape (width_of shape) m c.memory (heap_spot number) 0 s _ (plain_of p.world shape integer) fits.agree
+      read_same p.world p.program n shape (width_of shape) m c.memory (heap_spot number) 0 s _ (plain_of p.world shape is_word) fits.agree
       (led m c.memory fits.globals)
       (λ v o.
       subst (λ z. SameAt p n (s (v ∷ []) m) z)
@@ -115,15 +115,15 @@ load_global p n d number shape integer led = record {
 }
 
 -- a variable's place, looked at and given away
-place_agrees : (p : Place) (n d : ℕ) (shape : Shape) (spot : Spot) (code : List Statement) → IsInteger shape
+place_agrees : (p : Place) (n d : ℕ) (shape : Shape) (spot : Spot) (code : List Statement) → IsWordShape shape
     → GivesAs p n d shape (read_cells (length (cells_of p.world shape)) spot) code → Agrees p n d (place_sense p.world shape (give spot)) shape code
-place_agrees p n d shape spot code integer gives = record {
+place_agrees p n d shape spot code is_word gives = record {
   shape_is = refl;
-  taken = integer_taken shape integer;
+  taken = word_taken shape is_word;
   looks = gives;
   values = record {
     same = λ m c s rest next fits goes.
-        subst (λ z. SameAt p n z (meaning.statements (put code rest) next c)) (sym ((plain_of p.world shape integer).taken spot s m))
+        subst (λ z. SameAt p n z (meaning.statements (put code rest) next c)) (sym ((plain_of p.world shape is_word).taken spot s m))
         (gives.same m c s rest next fits goes);
   };
 }
@@ -137,7 +137,7 @@ stuck_agrees p n d code = record { shape_is = refl; taken = tt; looks = stuck_gi
 
 -- ---- a name's value
 
-pub variable_agrees : (p : Place) (n d : ℕ) (name : List ℕ) → AreLocals (p.frame ∷ p.outer) p.locals p.names → AreIntegerNames p.names
+pub variable_agrees : (p : Place) (n d : ℕ) (name : List ℕ) → AreLocals (p.frame ∷ p.outer) p.locals p.names → AreWordNames p.names
     → AreGlobals p.world.globals
     → Agrees p n d (entity_sense p.world (or_else (bound_to p.locals name) (bound_to p.world.globals name))) (shape_by (local_named p.names name)
     (bound_to p.world.globals name)) (get_by (local_named p.names name) (bound_to p.world.globals name) d)
@@ -146,18 +146,18 @@ variable_agrees p n d name locals integers globals = ⊎_elim here missing (find
     here : FoundLocal (p.frame ∷ p.outer) p.locals p.names name → Agrees p n d (entity_sense p.world (or_else (bound_to p.locals name)
         (bound_to p.world.globals name))) (shape_by (local_named p.names name) (bound_to p.world.globals name))
         (get_by (local_named p.names name) (bound_to p.world.globals name) d)
-    here f = rw (f.bound, f.found, (plain_of p.world f.local.shape f.integer).variable (local_spot f.frame f.local.index))
-        (place_agrees p n d f.local.shape (local_spot f.frame f.local.index) (Do (Get d f.local.out f.local.index (width_of f.local.shape)) ∷ []) f.integer
-        (get_local p n d f.local.out f.local.index f.frame f.local.shape f.integer f.in_block (f.led p.world)))
+    here f = rw (f.bound, f.found, (plain_of p.world f.local.shape f.is_word).variable (local_spot f.frame f.local.index))
+        (place_agrees p n d f.local.shape (local_spot f.frame f.local.index) (Do (Get d f.local.out f.local.index (width_of f.local.shape)) ∷ []) f.is_word
+        (get_local p n d f.local.out f.local.index f.frame f.local.shape f.is_word f.in_block (f.led p.world)))
 
     missing : MissingLocal p.locals p.names name → Agrees p n d (entity_sense p.world (or_else (bound_to p.locals name) (bound_to p.world.globals name)))
         (shape_by (local_named p.names name) (bound_to p.world.globals name)) (get_by (local_named p.names name) (bound_to p.world.globals name) d)
     missing f = rw (f.bound, f.found)
         (⊎_elim
         (λ (g : FoundGlobal p.world.globals name).
-        rw (g.bound, (plain_of p.world g.shape g.integer).variable (heap_spot g.number))
-        (place_agrees p n d g.shape (heap_spot g.number) (Do (DataAddress d g.number) ∷ Do (Load d d (distance 0 0 (width_of g.shape))) ∷ []) g.integer
-        (load_global p n d g.number g.shape g.integer (g.led p.world))))
+        rw (g.bound, (plain_of p.world g.shape g.is_word).variable (heap_spot g.number))
+        (place_agrees p n d g.shape (heap_spot g.number) (Do (DataAddress d g.number) ∷ Do (Load d d (distance 0 0 (width_of g.shape))) ∷ []) g.is_word
+        (load_global p n d g.number g.shape g.is_word (g.led p.world))))
         (λ (g : bound_to p.world.globals name ≡ None). rw g (stuck_agrees p n d []))
         (find_global p.world.globals name globals))
 
@@ -170,23 +170,24 @@ pub record StoresAs (p : Place) (n d : ℕ) (shape : Shape) (act : steps.Act Spo
       → GoesOn p n d m0 c0 shape s (meaning.statements rest next)
       → SameAt p n (act (λ t. write_cells t vs (λ u. s (given_by shape vs))) m) (meaning.statements (put code rest) next c)
 
-not_void : (shape : Shape) → IsInteger shape → shape ≡ VoidShape → ⊥
-not_void shape integer e = subst (λ z. IsInteger z) e integer
-
--- what is given of an integer's shape is a value
-pub value_of : (w : World) (m : source.Memory) (c : core.Memory) (shape : Shape) (vs : List Scalar) (x : Content) → IsInteger shape → Given w m c shape vs x
+-- what is given of a word's shape is a value
+pub value_of : (w : World) (m : source.Memory) (c : core.Memory) (shape : Shape) (vs : List Scalar) (x : Content) → IsWordShape shape → Given w m c shape vs x
     → AValue w m c shape vs x
-value_of w m c shape vs x integer given = ⊎_elim (λ (v : AValue w m c shape vs x). v) (λ (v : ANothing shape vs). absurd (not_void shape integer v.void)) given
+value_of w m c shape vs x is_word given = ⊎_elim (λ (v : AValue w m c shape vs x). v) (λ (v : ANothing shape vs). absurd (not_void shape is_word v.void)) given
+
+abbrev pub part_at_byte : ℕ → ℕ → Content → Part
+part_at_byte byte width x = record { offset = byte; width = width; content = x }
 
 -- after the store the value is given on
-written_on : (p : Place) (n d : ℕ) (shape : Shape) (m0 : source.Memory) (c0 : Config) (m : source.Memory) (c : Config) (t : Spot) (width : ℕ)
+pub written_on : (p : Place) (n d : ℕ) (shape : Shape) (m0 : source.Memory) (c0 : Config) (m : source.Memory) (c : Config) (t : Spot) (byte width : ℕ)
     (vs : List Scalar) (s : List Scalar → source.Memory → steps.Step) (k : Config → core_steps.Step) (v : AValue p.world m c.memory shape vs (c.temps d))
     → IsPlain p.world shape width → Fits p m c → LaterAt p m0 c0 m c → AreKept d c0 c → GoesOn p n d m0 c0 shape s k
-    → IsWritten p.world m c.memory shape t 0 width v.value (c.temps d)
-    → SameAt p n (s (given_by shape vs) (m_written m t shape v.value)) (k (with_memory (with_part c.memory (at t) 0 (part_with width (c.temps d))) c))
-written_on p n d shape m0 c0 m c t width vs s k v plain fits later kept goes o =
+    → IsWritten p.world m c.memory shape t byte width v.value (c.temps d)
+    → SameAt p n (s (given_by shape vs) (m_written m t shape v.value)) (k (with_memory (with_part c.memory (at t) 0
+    (part_at_byte byte width (c.temps d))) c))
+written_on p n d shape m0 c0 m c t byte width vs s k v plain fits later kept goes o =
     let m' : source.Memory = m_written m t shape v.value in
-    let c' : Config = with_memory (with_part c.memory (at t) 0 (part_with width (c.temps d))) c in
+    let c' : Config = with_memory (with_part c.memory (at t) 0 (part_at_byte byte width (c.temps d))) c in
     let more = o.later (suc p.frame) in
     subst (λ z. SameAt p n (s z m') (k c')) (sym (plain.given vs))
     (goes.go m' c' vs (fits_later p m m' c c' fits o.agree more refl) (later_on (suc p.frame) m0 m m' c0.memory c.memory c'.memory later more) kept
@@ -197,14 +198,14 @@ written_on p n d shape m0 c0 m c t width vs s k v plain fits later kept goes o =
           v.shown;
     })))
 
-put_local : (p : Place) (n d out index frame : ℕ) (shape : Shape) → IsInteger shape → slice_get (p.frame ∷ p.outer) out ≡ Some frame
+put_local : (p : Place) (n d out index frame : ℕ) (shape : Shape) → IsWordShape shape → slice_get (p.frame ∷ p.outer) out ≡ Some frame
     → ((m : source.Memory) (c : core.Memory) → AreLed p.world m c p.locals → Leads p.world m c shape (local_spot frame index) 0)
     → StoresAs p n d shape (give (local_spot frame index)) (Do (Put out index (width_of shape) d) ∷ [])
-put_local p n d out index frame shape integer block led = record {
+put_local p n d out index frame shape is_word block led = record {
   same = λ m0 c0 m c vs s rest next fits later kept given goes.
       let t : Spot = local_spot frame index in
-      let plain = plain_of p.world shape integer in
-      let v = value_of p.world m c.memory shape vs (c.temps d) integer given in
+      let plain = plain_of p.world shape is_word in
+      let v = value_of p.world m c.memory shape vs (c.temps d) is_word given in
       subst (λ z. SameAt p n (write_cells t z (λ u. s (given_by shape vs)) m) (meaning.statements (put (Do (Put out index (width_of shape) d) ∷ []) rest) next
       c)) (sym v.alone)
       (write_same p.world p.program n shape (width_of shape) m c.memory t 0 v.value (c.temps d) (λ u. s (given_by shape vs)) _ plain fits.agree
@@ -213,20 +214,20 @@ put_local p n d out index frame shape integer block led = record {
       subst (λ z. SameAt p n (s (given_by shape vs) (m_written m t shape v.value)) z)
       (sym (placed c d out index (width_of shape) frame o.old (meaning.statements rest next) (ap (λ z. slice_get z out) fits.blocks ∙ block) o.live o.part ∙
       ap (λ z. meaning.statements rest next (with_memory (with_part c.memory (at t) 0 (part_with (width_of shape) z)) c)) o.fits))
-      (written_on p n d shape m0 c0 m c t (width_of shape) vs s (meaning.statements rest next) v plain fits later kept goes o)));
+      (written_on p n d shape m0 c0 m c t 0 (width_of shape) vs s (meaning.statements rest next) v plain fits later kept goes o)));
 }
 
-store_global : (p : Place) (n d number : ℕ) (shape : Shape) → IsInteger shape → ((m : source.Memory) (c : core.Memory) → AreLed p.world m c p.world.globals
+store_global : (p : Place) (n d number : ℕ) (shape : Shape) → IsWordShape shape → ((m : source.Memory) (c : core.Memory) → AreLed p.world m c p.world.globals
     → Leads p.world m c shape (heap_spot number) 0)
     → StoresAs p n d shape (give (heap_spot number)) (Do (DataAddress (d + 1) number) ∷ Do (Store (d + 1) (distance 0 0 (width_of shape)) d) ∷ [])
-store_global p n d number shape integer led = record {
+store_global p n d number shape is_word led = record {
   same = λ m0 c0 m c vs s rest next fits later kept given goes.
       let t : Spot = heap_spot number in
       let x : Content = Pointer (at t) 0 in
       let here : Config = with_temp (d + 1) x c in
       let temp : here.temps d ≡ c.temps d = other_temp (d + 1) d x c (omega arith) in
-      let plain = plain_of p.world shape integer in
-      let v = value_of p.world m c.memory shape vs (here.temps d) integer (subst (λ z. Given p.world m c.memory shape vs z) (sym temp) given) in
+      let plain = plain_of p.world shape is_word in
+      let v = value_of p.world m c.memory shape vs (here.temps d) is_word (subst (λ z. Given p.world m c.memory shape vs z) (sym temp) given) in
       subst (λ z. SameAt p n (write_cells t z (λ u. s (given_by shape vs)) m) (meaning.statements (put (Do (DataAddress (d + 1) number) ∷ Do
       (Store (d + 1) (distance 0 0 (width_of shape)) d) ∷ []) rest) next c)) (sym v.alone)
       (write_same p.world p.program n shape (width_of shape) m c.memory t 0 v.value (here.temps d) (λ u. s (given_by shape vs)) _ plain fits.agree
@@ -235,7 +236,7 @@ store_global p n d number shape integer led = record {
       subst (λ z. SameAt p n (s (given_by shape vs) (m_written m t shape v.value)) z)
       (sym (stored here d (d + 1) (width_of shape) number o.old (meaning.statements rest next) (put_temp (d + 1) x c) o.live o.part ∙
       ap (λ z. meaning.statements rest next (with_memory (with_part c.memory (at t) 0 (part_with (width_of shape) z)) here)) o.fits))
-      (written_on p n d shape m0 c0 m here t (width_of shape) vs s (meaning.statements rest next) v plain (temp_fits p m c (d + 1) x fits) later
+      (written_on p n d shape m0 c0 m here t 0 (width_of shape) vs s (meaning.statements rest next) v plain (temp_fits p m c (d + 1) x fits) later
       (kept_temp d (d + 1) x c0 c (omega arith) kept) goes o)));
 }
 
@@ -244,7 +245,7 @@ store_global p n d number shape integer led = record {
 stuck_stores : (p : Place) (n d : ℕ) (shape : Shape) (code : List Statement) → StoresAs p n d shape steps.stuck code
 stuck_stores p n d shape code = record { same = λ m0 c0 m c vs s rest next fits later kept given goes. stuck_same p.world p.program n _ }
 
-pub variable_stores : (p : Place) (n d : ℕ) (name : List ℕ) → AreLocals (p.frame ∷ p.outer) p.locals p.names → AreIntegerNames p.names
+pub variable_stores : (p : Place) (n d : ℕ) (name : List ℕ) → AreLocals (p.frame ∷ p.outer) p.locals p.names → AreWordNames p.names
     → AreGlobals p.world.globals
     → StoresAs p n d (shape_by (local_named p.names name) (bound_to p.world.globals name)) (entity_sense p.world
     (or_else (bound_to p.locals name) (bound_to p.world.globals name))).place (put_by (local_named p.names name) (bound_to p.world.globals name) d)
@@ -253,8 +254,8 @@ variable_stores p n d name locals integers globals = ⊎_elim here missing (find
     here : FoundLocal (p.frame ∷ p.outer) p.locals p.names name → StoresAs p n d (shape_by (local_named p.names name) (bound_to p.world.globals name))
         (entity_sense p.world (or_else (bound_to p.locals name) (bound_to p.world.globals name))).place (put_by (local_named p.names name)
         (bound_to p.world.globals name) d)
-    here f = rw (f.bound, f.found, (plain_of p.world f.local.shape f.integer).variable (local_spot f.frame f.local.index))
-        (put_local p n d f.local.out f.local.index f.frame f.local.shape f.integer f.in_block (f.led p.world))
+    here f = rw (f.bound, f.found, (plain_of p.world f.local.shape f.is_word).variable (local_spot f.frame f.local.index))
+        (put_local p n d f.local.out f.local.index f.frame f.local.shape f.is_word f.in_block (f.led p.world))
 
     missing : MissingLocal p.locals p.names name → StoresAs p n d (shape_by (local_named p.names name) (bound_to p.world.globals name))
         (entity_sense p.world (or_else (bound_to p.locals name) (bound_to p.world.globals name))).place (put_by (local_named p.names name)
@@ -262,7 +263,7 @@ variable_stores p n d name locals integers globals = ⊎_elim here missing (find
     missing f = rw (f.bound, f.found)
         (⊎_elim
         (λ (g : FoundGlobal p.world.globals name).
-        rw (g.bound, (plain_of p.world g.shape g.integer).variable (heap_spot g.number))
-        (store_global p n d g.number g.shape g.integer (g.led p.world)))
+        rw (g.bound, (plain_of p.world g.shape g.is_word).variable (heap_spot g.number))
+        (store_global p n d g.number g.shape g.is_word (g.led p.world)))
         (λ (g : bound_to p.world.globals name ≡ None). rw g (stuck_stores p n d VoidShape []))
         (find_global p.world.globals name globals))

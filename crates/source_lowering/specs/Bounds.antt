@@ -91,8 +91,8 @@ abbrev mutual
   nodes_of (Expression.Grouped at inner) = nodes_of inner
   nodes_of (Expression.Prefixed at operator operand) = 1 + nodes_of operand
   nodes_of (Expression.Chain first others) = nodes_of first + link_nodes others
-  nodes_of (Expression.AllOf first others) = nodes_of first + joined_nodes others
-  nodes_of (Expression.AnyOf first others) = nodes_of first + joined_nodes others
+  nodes_of (Expression.AllOf first others) = nodes_of first + tested_nodes others
+  nodes_of (Expression.AnyOf first others) = nodes_of first + tested_nodes others
   nodes_of (Expression.Assign place value) = nodes_of place + (1 + nodes_of value)
   nodes_of _ = 1
 
@@ -100,7 +100,11 @@ abbrev mutual
   all_nodes NoExpressions = 0
   all_nodes (MoreExpressions first others) = nodes_of first + all_nodes others
 
-  -- operands of `&&` and `||` with the operators before them
+  -- operands of `&&` and `||` after the first, with the operators before them; a first one alone is a test too
+  pub tested_nodes : Expressions → ℕ
+  tested_nodes NoExpressions = 1
+  tested_nodes (MoreExpressions first others) = 1 + (nodes_of first + joined_nodes others)
+
   pub joined_nodes : Expressions → ℕ
   joined_nodes NoExpressions = 0
   joined_nodes (MoreExpressions first others) = 1 + (nodes_of first + joined_nodes others)
@@ -140,7 +144,7 @@ abbrev mutual
   item_nodes (Execute s others) = statement_nodes s + item_nodes others
 
 abbrev mutual
-  -- the locals that are declared in a statement: of integers one word each
+  -- the locals that are declared in a statement, one word each
   pub statement_locals : Statement → ℕ
   statement_locals (Statement.Block at items) = item_locals items
   statement_locals (Statement.If at condition body) = statement_locals body
@@ -180,7 +184,7 @@ routines_size (f ∷ fs) = 5 + (length f.parameters + item_size f.body) + routin
 abbrev pub code_bound : List Routine → ℕ
 code_bound fs = 4096 + 512 * routines_size fs
 
--- 128 bytes, and 16 for each word of parameters and locals and for each node and its value, which is an integer or none
+-- 128 bytes, and 16 for each word of parameters and locals and for each node and its value, which is one word or none
 abbrev pub frame_bound : Routine → ℕ
 frame_bound f = 128 + 16 * (length f.parameters + (item_locals f.body + item_nodes f.body))
 

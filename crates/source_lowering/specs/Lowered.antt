@@ -1,11 +1,12 @@
 -- What an expression is lowered to. It leaves its value in the temporary of a number, and uses those from there on.
-use Rattle.std.specs.Prelude.{ℕ, zero, suc, ◌+◌, ◌%◌, Option, Some, None, List, [], ◌∷◌, ◌++◌, bytes_eq, codes, if◌then◌else◌}
+use Rattle.std.specs.Prelude.{ℕ, zero, suc, ◌+◌, ◌%◌, true, false, Option, Some, None, List, [], ◌∷◌, ◌++◌, bytes_eq, codes, if◌then◌else◌}
 use Rattle.cyc_tree.specs.declared.expression.Operator.{Operator}
 use Rattle.cyc_tree.specs.declared.expression.Operator.TheVariants as operator
 use Rattle.cyc_tree.specs.declared.expression.Prefix.{Prefix}
 use Rattle.cyc_tree.specs.declared.expression.Prefix.TheVariants as prefix
+use Rattle.cyc_words.specs.declared.faults.Kind.TheVariants.{NullException}
 use Rattle.cyc_tree.specs.Tree.{Expression, Expressions, NoExpressions, MoreExpressions, Links, NoLinks, MoreLinks}
-use Rattle.source_meaning.specs.Shapes.{Shape, IntShape, UnsignedShape, CharShape, VoidShape, part_shapes}
+use Rattle.source_meaning.specs.Shapes.{Shape, Shared, IntShape, UnsignedShape, CharShape, VoidShape, ThinShape, pointee, part_shapes}
 use Rattle.source_meaning.specs.Memory.{IntegerType, AsInt, AsUnsigned, AsChar}
 use Rattle.source_meaning.specs.Steps.{Entity, Variable, Fixed, Routine, World}
 use Rattle.source_meaning.specs.Operators.{common, by_type, operator_shape}
@@ -18,19 +19,23 @@ use Rattle.core_meaning.specs.Core.{
   Binary,
   Operation,
   Constant,
-  Move,
+  NullPointer,
   Narrow,
   Apply,
+  LocalAddress,
   DataAddress,
   Get,
   Put,
   Load,
   Store,
+  IsNull,
+  SamePlace,
   Getchar,
   Putchar,
   Statement,
   Do,
   If,
+  Raise,
   Call,
   Statements,
   NoStatements,
@@ -84,14 +89,15 @@ abbrev pub prefix_shape : Prefix → Shape → Shape
 prefix_shape prefix.Negate s = operator_shape operator.Subtract IntShape s
 prefix_shape prefix.Complement s = operator_shape operator.BitXor IntShape s
 prefix_shape prefix.Not s = IntShape
-prefix_shape prefix.Dereference s = VoidShape
-prefix_shape prefix.AddressOf s = VoidShape
+prefix_shape prefix.Dereference s = pointee s
+prefix_shape prefix.AddressOf s = ThinShape false Shared s
 
 abbrev mutual
   -- the shape of an expression's type
   pub static_shape : World → List Named → Expression → Shape
   static_shape w names (Expression.Number at value suffix) = integer_shape (number_type value suffix)
   static_shape w names (Expression.Character at byte) = CharShape
+  static_shape w names (Expression.Null at) = ThinShape true Shared VoidShape
   static_shape w names (Expression.Variable name) = named_shape w names name.text
   static_shape w names (Expression.Call name arguments) = call_shape w name.text
   static_shape w names (Expression.Grouped at inner) = static_shape w names inner
@@ -149,11 +155,33 @@ abbrev pub put_by : Option Named → Option Entity → ℕ → List Statement
 put_by (Some l) global d = Do (Put l.out l.index (width_of l.shape) d) ∷ []
 put_by None global d = put_global global d
 
--- a variable is written, in parentheses too
-abbrev pub put_code : World → List Named → Expression → ℕ → List Statement
-put_code w names (Expression.Variable name) d = put_by (local_named names name.text) (bound_to w.globals name.text) d
-put_code w names (Expression.Grouped at inner) d = put_code w names inner d
-put_code w names _ d = []
+-- ---- places
+
+abbrev pub global_address : Option Entity → ℕ → List Statement
+global_address (Some (Variable s at)) d = Do (DataAddress d at.object) ∷ []
+global_address (Some (Fixed s v)) d = []
+global_address None d = []
+
+-- a pointer to a variable
+abbrev pub address_by : Option Named → Option Entity → ℕ → List Statement
+address_by (Some l) global d = Do (LocalAddress d l.out l.index) ∷ []
+address_by None global d = global_address global d
+
+-- NULL raises
+abbrev pub null_check : ℕ → List Statement
+null_check d = If d NoStatements (MoreStatements (Raise NullException) NoStatements) ∷ []
+
+-- a pointer of a shape is checked where it may be NULL
+abbrev pub check_code : Shape → ℕ → List Statement
+check_code (ThinShape true owner to) d = null_check d
+check_code s d = []
+
+-- the object of a shape that a pointer leads to is read, into the pointer's temporary; or a value is stored there, from the temporary before it
+abbrev pub load_code : Shape → ℕ → List Statement
+load_code s d = Do (Load d d (distance 0 0 (width_of s))) ∷ []
+
+abbrev pub store_code : Shape → ℕ → List Statement
+store_code s d = Do (Store (d + 1) (distance 0 0 (width_of s)) d) ∷ []
 
 -- ---- conversions and operators
 
@@ -162,8 +190,10 @@ abbrev pub narrow_code : Shape → ℕ → List Statement
 narrow_code CharShape d = []
 narrow_code s d = Do (Narrow d d) ∷ []
 
+-- a pointer that may be NULL becomes one that never is by a check
 abbrev pub conversion_code : Shape → Shape → ℕ → List Statement
 conversion_code CharShape from d = narrow_code from d
+conversion_code (ThinShape false owner to) from d = check_code from d
 conversion_code to from d = []
 
 abbrev pub type_of : Shape → IntegerType
@@ -190,21 +220,50 @@ applied_to operator.Multiply s t d x y = Apply core.Multiply d x y
 applied_to operator.Divide s t d x y = Apply (by_type (common s t) core.Divide core.DivideUnsigned) d x y
 applied_to operator.Remainder s t d x y = Apply (by_type (common s t) core.Remainder core.RemainderUnsigned) d x y
 
+-- 1 becomes 0, and 0 becomes 1
+abbrev pub turned_code : ℕ → List Statement
+turned_code d = Do (Constant (d + 1) 0) ∷ Do (Apply core.Equal d d (d + 1)) ∷ []
+
+-- pointers are compared by `==` and `!=` alone
+abbrev pub pointers_code : Operator → ℕ → List Statement
+pointers_code operator.Equal d = Do (SamePlace d d (d + 1)) ∷ []
+pointers_code operator.NotEqual d = Do (SamePlace d d (d + 1)) ∷ turned_code d
+pointers_code o d = []
+
 -- the operands are in this temporary and the next, and the result comes into this one
 abbrev pub operator_code : Operator → Shape → Shape → ℕ → List Statement
+operator_code o (ThinShape may_be_null owner to) t d = pointers_code o d
 operator_code o s t d = Do (applied_to o (type_of s) (type_of t) d d (d + 1)) ∷ []
 
 -- 0 stays 0, and another word becomes 1
 abbrev pub truth_code : ℕ → List Statement
 truth_code d = Do (Constant (d + 1) 0) ∷ Do (Apply core.NotEqual d d (d + 1)) ∷ []
 
--- `-e` is 0 - e, `~e` is all ones ^ e, and `!e` is e == 0; the operand goes into the next temporary
-abbrev pub prefix_code : Prefix → Shape → ℕ → List Statement → List Statement
-prefix_code prefix.Negate s d operand = (Do (Constant d 0) ∷ []) ++ (operand ++ operator_code operator.Subtract IntShape s d)
-prefix_code prefix.Complement s d operand = (Do (Constant d 4294967295) ∷ []) ++ (operand ++ operator_code operator.BitXor IntShape s d)
-prefix_code prefix.Not s d operand = operand ++ (Do (Constant d 0) ∷ Do (Apply core.Equal d (d + 1) d) ∷ [])
-prefix_code prefix.Dereference s d operand = []
-prefix_code prefix.AddressOf s d operand = []
+-- an operand of `&&` and `||` becomes a word: NULL 0, and another pointer 1
+abbrev pub word_code : Shape → ℕ → List Statement
+word_code (ThinShape may_be_null owner to) d = Do (IsNull d d) ∷ turned_code d
+word_code s d = []
+
+-- `!e`, from the next temporary: whether it is 0, or NULL
+abbrev pub not_code : Shape → ℕ → List Statement
+not_code (ThinShape may_be_null owner to) d = Do (IsNull d (d + 1)) ∷ []
+not_code s d = Do (Constant d 0) ∷ Do (Apply core.Equal d (d + 1) d) ∷ []
+
+-- `-e` is 0 - e, `~e` is all ones ^ e, and `!e` is e == 0: the operand goes into the next temporary. `*e` and `&e` have their pointer in this one.
+abbrev pub prefix_code : Prefix → Shape → ℕ → (above here place : List Statement) → List Statement
+prefix_code prefix.Negate s d above here place = (Do (Constant d 0) ∷ []) ++ (above ++ operator_code operator.Subtract IntShape s d)
+prefix_code prefix.Complement s d above here place = (Do (Constant d 4294967295) ∷ []) ++ (above ++ operator_code operator.BitXor IntShape s d)
+prefix_code prefix.Not s d above here place = above ++ not_code s d
+prefix_code prefix.Dereference s d above here place = (here ++ check_code s d) ++ load_code (pointee s) d
+prefix_code prefix.AddressOf s d above here place = place
+
+-- a pointer to `*e`, whose code is here
+abbrev pub pointed_code : Prefix → Shape → ℕ → (here : List Statement) → List Statement
+pointed_code prefix.Negate s d here = []
+pointed_code prefix.Complement s d here = []
+pointed_code prefix.Not s d here = []
+pointed_code prefix.Dereference s d here = here ++ check_code s d
+pointed_code prefix.AddressOf s d here = []
 
 -- ---- calls
 
@@ -247,19 +306,40 @@ abbrev mutual
   pub expression_code : World → List Named → Expression → ℕ → List Statement
   expression_code w names (Expression.Number at value suffix) d = Do (Constant d value) ∷ []
   expression_code w names (Expression.Character at byte) d = Do (Constant d (byte % 256)) ∷ []
+  expression_code w names (Expression.Null at) d = Do (NullPointer d) ∷ []
   expression_code w names (Expression.Variable name) d = get_code w names name.text d
   expression_code w names (Expression.Call name arguments) d =
       arguments_code w names (call_parameters w name.text) arguments d ++ call_code w name.text (count_of arguments) d
   expression_code w names (Expression.Grouped at inner) d = expression_code w names inner d
   expression_code w names (Expression.Prefixed at operator operand) d =
-      prefix_code operator (static_shape w names operand) d (expression_code w names operand (d + 1))
+      prefix_code operator (static_shape w names operand) d (expression_code w names operand (d + 1)) (expression_code w names operand d)
+      (place_code w names operand d)
   expression_code w names (Expression.Chain first others) d =
       expression_code w names first d ++ links_code w names others (static_shape w names first) d
-  expression_code w names (Expression.AllOf first others) d = expression_code w names first d ++ (all_code w names others d ++ truth_code d)
-  expression_code w names (Expression.AnyOf first others) d = expression_code w names first d ++ (any_code w names others d ++ truth_code d)
+  expression_code w names (Expression.AllOf first others) d =
+      (expression_code w names first d ++ word_code (static_shape w names first) d) ++ (all_code w names others d ++ truth_code d)
+  expression_code w names (Expression.AnyOf first others) d =
+      (expression_code w names first d ++ word_code (static_shape w names first) d) ++ (any_code w names others d ++ truth_code d)
   expression_code w names (Expression.Assign place value) d =
       expression_code w names value d ++ (conversion_code (static_shape w names place) (static_shape w names value) d ++ put_code w names place d)
   expression_code w names _ d = []
+
+  -- a pointer to the place that an expression names
+  pub place_code : World → List Named → Expression → ℕ → List Statement
+  place_code w names (Expression.Variable name) d = address_by (local_named names name.text) (bound_to w.globals name.text) d
+  place_code w names (Expression.Grouped at inner) d = place_code w names inner d
+  place_code w names (Expression.Prefixed at operator operand) d =
+      pointed_code operator (static_shape w names operand) d (expression_code w names operand d)
+  place_code w names _ d = []
+
+  -- the value is stored: a variable is written by its name, and another place through its pointer, in the next temporary
+  pub put_code : World → List Named → Expression → ℕ → List Statement
+  put_code w names (Expression.Variable name) d = put_by (local_named names name.text) (bound_to w.globals name.text) d
+  put_code w names (Expression.Grouped at inner) d = put_code w names inner d
+  put_code w names (Expression.Prefixed at operator operand) d =
+      pointed_code operator (static_shape w names operand) (d + 1) (expression_code w names operand (d + 1)) ++
+      store_code (prefix_shape operator (static_shape w names operand)) d
+  put_code w names _ d = []
 
   -- each operand goes into the next temporary, and the result into the chain's
   pub links_code : World → List Named → Links → Shape → ℕ → List Statement
@@ -272,12 +352,14 @@ abbrev mutual
   -- of `&&`: each operand is evaluated where those before it were not 0
   pub all_code : World → List Named → Expressions → ℕ → List Statement
   all_code w names NoExpressions d = []
-  all_code w names (MoreExpressions first others) d = If d (all_of (expression_code w names first d)) NoStatements ∷ all_code w names others d
+  all_code w names (MoreExpressions first others) d =
+      If d (all_of (expression_code w names first d ++ word_code (static_shape w names first) d)) NoStatements ∷ all_code w names others d
 
   -- of `||`: each operand is evaluated where those before it were 0
   pub any_code : World → List Named → Expressions → ℕ → List Statement
   any_code w names NoExpressions d = []
-  any_code w names (MoreExpressions first others) d = If d NoStatements (all_of (expression_code w names first d)) ∷ any_code w names others d
+  any_code w names (MoreExpressions first others) d =
+      If d NoStatements (all_of (expression_code w names first d ++ word_code (static_shape w names first) d)) ∷ any_code w names others d
 
   -- each argument is converted to its parameter's shape, and goes into the next temporary
   pub arguments_code : World → List Named → List Shape → Expressions → ℕ → List Statement

@@ -3,7 +3,7 @@ use Rattle.std.specs.Prelude.{ℕ, suc, ◌%◌, ◌^◌, Some, None, List, [], 
 use Rattle.cyc_tree.specs.Tree as tree
 use Rattle.cyc_tree.specs.Tree.{Initializer, Declaration, Statement, BlockItems, NoItems, Declare, Execute, Initial, Item, Program}
 use Rattle.cyc_words.specs.Words.{difference_of}
-use Rattle.source_meaning.specs.Shapes.{Shape, CharShape, VoidShape, Part, part_shapes, written, settled}
+use Rattle.source_meaning.specs.Shapes.{Shape, CharShape, VoidShape, ThinShape, Part, part_shapes, written, settled}
 use Rattle.source_meaning.specs.Steps.{Routine, World}
 use Rattle.source_meaning.specs.Programs.{world_of}
 use Rattle.core_meaning.specs.Memory as memory
@@ -87,11 +87,15 @@ outward names = map one_out names
 abbrev pub named_here : List ℕ → Shape → ℕ → Named
 named_here name shape index = record { name = name; shape = shape; out = 0; index = index }
 
--- ---- declarations: the local of a number gets 0, or its initializer's value
+-- ---- declarations: the local of a number gets 0 or NULL, or its initializer's value
+
+abbrev pub first_code : Shape → Operation
+first_code (ThinShape may_be_null owner to) = NullPointer 0
+first_code s = Constant 0 0
 
 abbrev pub declaration_code : World → List Named → Declaration → ℕ → List core.Statement
 declaration_code w names (tree.Local of name Initializer.Unset) index =
-    Do (Constant 0 0) ∷ Do (Put 0 index (width_of (settled (written of))) 0) ∷ []
+    Do (first_code (settled (written of))) ∷ Do (Put 0 index (width_of (settled (written of))) 0) ∷ []
 declaration_code w names (tree.Local of name (Initializer.Elements count)) index = []
 declaration_code w names (tree.Local of name (Initializer.Value e)) index =
     expression_code w names e 0 ++
@@ -165,11 +169,15 @@ abbrev pub operation_temporaries : Operation → ℕ
 operation_temporaries (Constant t w) = suc t
 operation_temporaries (Narrow t x) = max (suc t) (suc x)
 operation_temporaries (Apply o t x y) = max (suc t) (max (suc x) (suc y))
+operation_temporaries (NullPointer t) = suc t
+operation_temporaries (LocalAddress t out local) = suc t
 operation_temporaries (DataAddress t object) = suc t
 operation_temporaries (Get t out local width) = suc t
 operation_temporaries (Put out local width x) = suc x
 operation_temporaries (Load t p d) = max (suc t) (suc p)
 operation_temporaries (Store p d x) = max (suc p) (suc x)
+operation_temporaries (IsNull t p) = max (suc t) (suc p)
+operation_temporaries (SamePlace t p q) = max (suc t) (max (suc p) (suc q))
 operation_temporaries (Getchar t) = suc t
 operation_temporaries (Putchar t x) = max (suc t) (suc x)
 operation_temporaries _ = 0
@@ -229,11 +237,15 @@ constant_word (tree.Character at byte) = byte % 256
 constant_word (tree.Text at bytes) = 0
 constant_word (tree.Null at) = 0
 
+abbrev pub constant_content : tree.Constant → Shape → memory.Content
+constant_content (tree.Null at) s = memory.Null
+constant_content c s = memory.Word (word_in s (constant_word c))
+
 -- what a global begins with
 abbrev pub initial_content : Initial → Shape → memory.Content
 initial_content Initial.Unset s = first_part s
 initial_content (Initial.Elements count) s = first_part s
-initial_content (Initial.Given c) s = memory.Word (word_in s (constant_word c))
+initial_content (Initial.Given c) s = constant_content c s
 
 abbrev pub datum_of : World → Shape → memory.Content → Datum
 datum_of w s first = record { layout = layout_of w s; count = 1; first = λ cell part. first }

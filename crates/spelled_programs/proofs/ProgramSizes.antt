@@ -1,11 +1,11 @@
 -- A program has at least the tokens that its functions are large.
-use Rattle.std.proofs.Common.{◌≡◌, ℕ, ◌+◌, ◌≤◌, List, [], ◌∷◌, length, map, Option, Some, None, ⊎_elim, arith}
+use Rattle.std.proofs.Common.{◌≡◌, ◌+◌, ◌≤◌, List, [], ◌∷◌, length, map, Option, Some, None, ⊎_elim, arith}
 use Rattle.cyc_lexer.specs.declared.token.Sign.TheVariants as sign
 use Rattle.cyc_tree.specs.Tree as tree
 use Rattle.cyc_tree.specs.Tree.{RegionName, Member, Bound, Initial, Item, Program}
-use Rattle.cyc_parser.specs.Phrases.{Tokens, IsRegion, Each, Behind, Listed}
-use Rattle.cyc_parser.specs.TypeGrammar.{AreRegions, IsTyped}
-use Rattle.cyc_parser.specs.Grammar.{IsMember, AreMembers, IsStructure, IsConstant, IsInitial, AreParameters, MayBeListed, IsEffect, IsBound, AreBounds, IsFunctionRest}
+use Rattle.cyc_parser.specs.Phrases.{Tokens, IsRegion, Each, Behind}
+use Rattle.cyc_parser.specs.TypeGrammar.{IsTyped}
+use Rattle.cyc_parser.specs.Grammar.{IsMember, AreMembers, IsStructure, IsConstant, IsInitial, AreParameters, MayBeListed, IsEffect, IsBound, AreBounds}
 use Rattle.cyc_parser.specs.Grammar.{IsItem, IsProgram}
 use Rattle.source_meaning.specs.Shapes.{part_of}
 use Rattle.source_meaning.specs.Programs.{functions_of, world_of}

@@ -1,11 +1,11 @@
 use Rattle.std.proofs.Common.{◌≡◌, sym, ap, ◌∙◌, subst}
+use Rattle.accepted_sources.specs.IntegerForms.{TakesProgram}
 use Rattle.core_eval.proofs.Endings.{nothing_done}
 use Rattle.cyc_core.specs.Trees.{program_tree}
 use Rattle.cyc_tree.specs.Operands.{HasOperands}
 use Rattle.cyc_tree.specs.Tree.{Program}
 use Rattle.source_lowering.specs.Programs.{program_code}
-use Rattle.source_lowering.specs.Taken.{IsLowerable}
-use Rattle.cyc_meaning.proofs.Agreeing.{does_the_same, is_lowerable, is_never_stuck}
+use Rattle.cyc_meaning.proofs.Agreeing.{does_the_same, is_never_stuck, is_of_integers}
 use Rattle.cyc_meaning.proofs.Carried.{carried, not_stuck, of_code}
 use Rattle.cyc_meaning.proofs.running.eval.Goals as goal
 
@@ -33,12 +33,12 @@ pub returns-in-Err-NotTaken-clause-evaluated : goal.returns-in-Err-NotTaken-clau
 returns-in-Err-NotTaken-clause-evaluated g c = λ operands.
     let p : Program = c.args.checked.now in
     let taken = c.in-Err-NotTaken.ensures.taken
-    (subst IsLowerable (sym c.program.ensures.same) (is_lowerable p operands c.program.ensures.accepted)) in
+    (subst TakesProgram (sym c.program.ensures.same) (is_of_integers p operands c.program.ensures.accepted)) in
     absurd cc
 
 pub returns-in-Err-NotTaken-clause-never_stuck : goal.returns-in-Err-NotTaken-clause-never_stuck
 returns-in-Err-NotTaken-clause-never_stuck g c = λ operands is.
     let p : Program = c.args.checked.now in
     let taken = c.in-Err-NotTaken.ensures.taken
-    (subst IsLowerable (sym c.program.ensures.same) (is_lowerable p operands c.program.ensures.accepted)) in
+    (subst TakesProgram (sym c.program.ensures.same) (is_of_integers p operands c.program.ensures.accepted)) in
     absurd cc

@@ -2,7 +2,7 @@ use Rattle.std.proofs.Common.{◌≡◌, ◌++◌, map, drop}
 use Rattle.cyc_tree.specs.View.{member_tree}
 use Rattle.source_meaning.specs.Shapes.{part_of, part_shapes}
 use Rattle.lower_checks.specs.Views.{shape_tree}
-use Rattle.source_lowering.specs.Taken.{AreIntegers}
+use Rattle.accepted_sources.specs.IntegerForms.{AreIntegers}
 use Rattle.lower_checks.proofs.call.part_shapes.Given as goal
 
 abbrev pub invariant-each : goal.invariant-each

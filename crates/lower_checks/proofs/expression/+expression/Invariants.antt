@@ -2,10 +2,10 @@ use Rattle.std.proofs.Common.{◌≡◌, ◌++◌, map, drop}
 use Rattle.cyc_tree.specs.View.{expression_tree, expressions_of, link_tree, links_of}
 use Rattle.cyc_core.specs.Trees.{statement_tree}
 use Rattle.source_meaning.specs.Programs.{world_of}
-use Rattle.source_lowering.specs.Lowered.{links_code, all_code, any_code, arguments_code}
+use Rattle.source_lowering.specs.Lowered.{linked_shape, links_code, all_code, any_code, arguments_code}
 use Rattle.lower_checks.specs.Views.{shape_tree}
 use Rattle.lower_checks.specs.Visible.{names_of}
-use Rattle.source_lowering.specs.Taken.{TakesAll, TakesLinks}
+use Rattle.accepted_sources.specs.IntegerForms.{TakesAll, TakesLinks}
 use Rattle.lower_checks.proofs.expression.+expression.Given as goal
 
 -- what is appended, and the code of the links that are left, is the code of all
@@ -15,6 +15,8 @@ invariant-lower_links-each l = record {
       links_code (world_of l.program) (names_of l.locals) (links_of (map link_tree (drop l.link-index l.links))) (shape_tree l.left) l.to.0 ≡
       map statement_tree l.initial.body.items ++
       links_code (world_of l.program) (names_of l.locals) (links_of (map link_tree l.links)) (shape_tree l.fn.first) l.to.0;
+  shape : linked_shape (world_of l.program) (names_of l.locals) (links_of (map link_tree (drop l.link-index l.links))) (shape_tree l.left) ≡
+      linked_shape (world_of l.program) (names_of l.locals) (links_of (map link_tree l.links)) (shape_tree l.fn.first);
   taken : TakesLinks (links_of (map link_tree l.links)) → TakesLinks (links_of (map link_tree (drop l.link-index l.links)));
 }
 

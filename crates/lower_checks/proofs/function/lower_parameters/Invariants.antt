@@ -3,7 +3,7 @@ use Rattle.cyc_tree.specs.View.{member_tree}
 use Rattle.cyc_core.specs.Trees.{statement_tree}
 use Rattle.source_meaning.specs.Shapes.{part_of}
 use Rattle.source_lowering.specs.Programs.{parameter_names, parameters_code}
-use Rattle.source_lowering.specs.Taken.{AreIntegers}
+use Rattle.accepted_sources.specs.IntegerForms.{AreIntegers}
 use Rattle.lower_checks.specs.Visible.{names_of}
 use Rattle.lower_checks.proofs.function.lower_parameters.Given as goal
 

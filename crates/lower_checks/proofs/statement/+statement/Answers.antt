@@ -7,7 +7,7 @@ use Rattle.cyc_core.specs.Trees.{statement_tree}
 use Rattle.source_meaning.specs.Programs.{world_of}
 use Rattle.source_lowering.specs.Lowered.{expression_code}
 use Rattle.source_lowering.specs.Programs.{block_shapes, statement_code}
-use Rattle.source_lowering.specs.Taken.{TakesStatement, TakesItems}
+use Rattle.accepted_sources.specs.IntegerForms.{TakesStatement, TakesItems}
 use Rattle.lower_checks.specs.Refusals.{AreLocals}
 use Rattle.lower_checks.specs.Views.{shape_tree}
 use Rattle.lower_checks.specs.Visible.{Declared, names_of}

@@ -3,7 +3,7 @@ use Rattle.std.specs.Prelude.{option_map, IfSome}
 use Rattle.cyc_tree.specs.Tree as tree
 use Rattle.source_meaning.specs.Programs.{functions_of, routine_of}
 use Rattle.source_lowering.specs.Lowered.{number_of}
-use Rattle.source_lowering.specs.Taken.{TakesFunction}
+use Rattle.accepted_sources.specs.IntegerForms.{TakesFunction}
 use Rattle.lower_checks.specs.Tables.{Numbered, callee_tree, first_function}
 use Rattle.lower_checks.proofs.Tables.{callee_routine, first_is, first_number, first_taken, from_zero, if_callee}
 use Rattle.lower_checks.proofs.table.Table.function_named.Goals as goal

@@ -112,7 +112,7 @@ mutual
   use_idle (Expression.MakeUnion tag f e) g h = refl
   use_idle (Expression.NumElts at e) g h = refl
   use_idle (Expression.Grouped at e) g h = use_idle e g h
-  use_idle (Expression.Suffixed e NoSuffixes) g h = use_idle e g h
+  use_idle (Expression.Suffixed e NoSuffixes) g h = refl
   use_idle (Expression.Suffixed e (Index index others)) g h = refl
   use_idle (Expression.Suffixed e (Dot f others)) g h = refl
   use_idle (Expression.Suffixed e (Arrow f others)) g h = refl
@@ -123,9 +123,15 @@ mutual
   use_idle (Expression.Prefixed at prefix.AddressOf e) g h = refl
   use_idle (Expression.New at new) g h = refl
   use_idle (Expression.NewIn at handle new) g h = made_idle g (is_unique_region handle) at handle new
-  use_idle (Expression.Chain e es) g h = subst (λ u. use_links g u (links_taken integers es) ≡ idle) (sym (use_idle e g h)) (links_idle es g h)
-  use_idle (Expression.AllOf e es) g h = subst (λ u. use_tests g u (all_taken integers es) ≡ idle) (sym (use_idle e g h)) (tests_idle es g h)
-  use_idle (Expression.AnyOf e es) g h = subst (λ u. use_tests g u (all_taken integers es) ≡ idle) (sym (use_idle e g h)) (tests_idle es g h)
+  use_idle (Expression.Chain e NoLinks) g h = refl
+  use_idle (Expression.Chain e (MoreLinks o y es)) g h =
+      subst (λ u. use_links g u (links_taken integers (MoreLinks o y es)) ≡ idle) (sym (use_idle e g h)) (links_idle (MoreLinks o y es) g h)
+  use_idle (Expression.AllOf e NoExpressions) g h = refl
+  use_idle (Expression.AllOf e (MoreExpressions y es)) g h =
+      subst (λ u. use_tests g u (all_taken integers (MoreExpressions y es)) ≡ idle) (sym (use_idle e g h)) (tests_idle (MoreExpressions y es) g h)
+  use_idle (Expression.AnyOf e NoExpressions) g h = refl
+  use_idle (Expression.AnyOf e (MoreExpressions y es)) g h =
+      subst (λ u. use_tests g u (all_taken integers (MoreExpressions y es)) ≡ idle) (sym (use_idle e g h)) (tests_idle (MoreExpressions y es) g h)
   use_idle (Expression.Assign a b) g h = ap₂ (λ u v. assigned_use u v) (use_idle a g h) (use_idle b g h)
 
   arguments_idle : (es : Expressions) (g : Env) → HasIntegersAlone g → (s : States) → use_all g (all_taken integers es) s ≡ passed [] s

@@ -20,7 +20,6 @@ pub mod IntegerHeads
 pub mod IntegerFlow
 pub mod NoFlow
 pub mod RefusedTags
-pub mod TakenStrings
 pub mod TakenSizes
 pub mod TakenTables
 mod Samples

@@ -30,6 +30,7 @@ use Rattle.source_typing.specs.Tables.{Tables}
 use Rattle.source_typing.specs.Taken.{constant_forms, function_taken, integers, item_forms, item_taken, only_taken}
 use Rattle.source_typing.proofs.Inversion.{none_of_both}
 use Rattle.source_typing.proofs.TakenItems.{program_is_taken}
+use Rattle.source_typing.proofs.TakenOperands.{taken_has_operands}
 use Rattle.accepted_sources.specs.Accepted.{AllAccepted, IsGlobal, IsInOrder}
 use Rattle.accepted_sources.specs.Laws.{AcceptedIsInOrder, AcceptedIsLowerable, AcceptedIsOfIntegers}
 use Rattle.accepted_sources.specs.Plain.{AllSound}
@@ -141,9 +142,10 @@ all_take g i (tree.FunctionItem f ∷ is) a = (function_takes false g i f a.0, a
 -- ---- programs
 
 pub accepted_is_in_order : AcceptedIsInOrder
-accepted_is_in_order p o e =
+accepted_is_in_order p e =
     let g : Tables = tables_of false p in
     let t : only_taken integers p ≡ p = program_is_taken integers p e in
+    let o : HasOperands p = taken_has_operands integers p t in
     let f : constant_forms integers p ≡ [] = (none_of_both (constant_forms integers p) (rule_faults (only_taken integers p)) e).0 in
     let a : (all_tag_faults (judged_tags p) ≡ []) × (faults_with false g p ≡ []) =
     none_of_both (all_tag_faults (judged_tags p)) (faults_with false g p) (no_typing_faults p e) in
@@ -153,9 +155,9 @@ accepted_is_in_order p o e =
     record { tables = s; items = all_accepted g 0 p s k t o b.items; names = b.names; main = b.main; sizes = b.sizes }
 
 pub accepted_is_of_integers : AcceptedIsOfIntegers
-accepted_is_of_integers p o e = all_take (tables_of false p) 0 p (accepted_is_in_order p o e).items
+accepted_is_of_integers p e = all_take (tables_of false p) 0 p (accepted_is_in_order p e).items
 
 pub accepted_is_lowerable : AcceptedIsLowerable
-accepted_is_lowerable p o e =
-    let k : TakesProgram p = accepted_is_of_integers p o e in
+accepted_is_lowerable p e =
+    let k : TakesProgram p = accepted_is_of_integers p e in
     record { items = program_taken p k; strings = program_silent p k }

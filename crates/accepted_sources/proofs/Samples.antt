@@ -2,7 +2,6 @@
 use Rattle.std.proofs.Common.{◌≡◌, false, Some, [], ◌∷◌, refl}
 use Rattle.cyc_tree.specs.declared.expression.Operator.TheVariants.{Less, Add, Multiply, Divide, GreaterEqual}
 use Rattle.cyc_tree.specs.declared.expression.Prefix.TheVariants.{Not}
-use Rattle.cyc_tree.specs.Operands.{HasOperands}
 use Rattle.cyc_tree.specs.Tree as tree
 use Rattle.cyc_tree.specs.Tree.{Expression, NoExpressions, MoreExpressions, NoLinks, MoreLinks, Initializer, Statement, NoItems, Constant, Initial, Program}
 use Rattle.source_meaning.proofs.Trees.{named, variable, number, typed, ◌▸◌, ◌▹◌, function}
@@ -44,41 +43,11 @@ all_forms =
 all_forms_clean : program_faults integers all_forms ≡ []
 all_forms_clean = refl
 
-all_forms_joined : HasOperands all_forms
-all_forms_joined = (
-  tt,
-  (
-    ((tt, tt), tt),
-    (
-      (
-        tt,
-        (
-          tt,
-          (
-            (
-              (tt, ((tt, (tt, (tt, tt))), ((tt, (tt, (tt, tt))), tt))),
-              (
-                tt,
-                (
-                  (tt, (tt, ((tt, (tt, (tt, tt))), ((tt, (tt, (tt, tt))), tt)))),
-                  ((tt, tt), ((tt, (tt, (tt, (tt, tt)))), (((tt, (tt, (tt, tt))), tt), tt))),
-                ),
-              ),
-            ),
-            (tt, tt),
-          ),
-        ),
-      ),
-      tt,
-    ),
-  ),
-)
-
 all_forms_in_order : IsInOrder all_forms
-all_forms_in_order = accepted_is_in_order all_forms all_forms_joined all_forms_clean
+all_forms_in_order = accepted_is_in_order all_forms all_forms_clean
 
 all_forms_taken : IsLowerable all_forms
-all_forms_taken = accepted_is_lowerable all_forms all_forms_joined all_forms_clean
+all_forms_taken = accepted_is_lowerable all_forms all_forms_clean
 
 -- int nothing(void c) { return 0; } int main() { nothing() = 1; return 0; }
 -- The head of `nothing` is at fault, so the assignment isn't judged and has no fault of its own.

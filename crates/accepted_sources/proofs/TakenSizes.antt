@@ -14,7 +14,7 @@ use Rattle.source_typing.specs.Taken.{global_if, initial_taken, integers, item_t
 use Rattle.accepted_sources.proofs.Declarations.{by_base, by_nothing}
 use Rattle.accepted_sources.proofs.Globals.{global_of}
 use Rattle.accepted_sources.proofs.IntegerHeads.{IsTakenGlobal, GlobalFault, TakenGlobal, taken_global}
-use Rattle.accepted_sources.proofs.TakenStrings.{taken_item_silent}
+use Rattle.source_typing.proofs.NoStrings.{item_silent}
 
 -- ---- a global
 
@@ -64,10 +64,10 @@ global_statics g item = []
 pub item_is_global : (g : Env) (x : Item) → item_statics g (item_taken integers x) ≡ global_statics g (item_taken integers x)
 item_is_global g (tree.StructItem s) = refl
 item_is_global g (tree.UnionItem u) = refl
-item_is_global g (tree.FunctionItem f) = ap (λ ls. map static_string ls) (taken_item_silent (tree.FunctionItem f))
+item_is_global g (tree.FunctionItem f) = ap (λ ls. map static_string ls) (item_silent (tree.FunctionItem f))
 item_is_global g (tree.GlobalItem x) =
     let y : tree.Global = global_if (takes_type integers x.of && takes_initial integers x.initial) x (initial_taken integers x.of x.initial) in
-    ap₂ (λ n ls. (y.of.at, n) ∷ map static_string ls) (global_bytes g y (taken_global x)) (taken_item_silent (tree.GlobalItem x))
+    ap₂ (λ n ls. (y.of.at, n) ∷ map static_string ls) (global_bytes g y (taken_global x)) (item_silent (tree.GlobalItem x))
 
 -- the globals, each the first item of its name
 abbrev pub globals_from : Bool → Tables → ℕ → List (List ℕ) → List Item → List Static

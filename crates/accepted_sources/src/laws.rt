@@ -3,7 +3,7 @@
 ghost use Rattle.accepted_sources.specs.Laws.{AcceptedIsInOrder, AcceptedIsLowerable, AcceptedIsOfIntegers, IntegersHaveNoFlowFaults};
 
 /// A law, with nothing to run: a program in which the rules on functions and globals of integers find
-/// no fault has the forms of integers alone, if its tree has the operands that each text's tree has.
+/// no fault has the forms of integers alone.
 pub fn accepted_is_of_integers()
     ensures { AcceptedIsOfIntegers }
 {}

@@ -7,7 +7,7 @@ use Rattle.compiled_sources.proofs.NamedApart.{named_apart}
 use Rattle.compiled_sources.proofs.DataWithin.{data_within}
 
 pub accepted_do : AllAcceptedDo
-accepted_do p o e = record {
-  promised = lowerable_do p (accepted_is_lowerable p o e) (named_apart false p (no_typing_faults p e));
-  data_within = data_within p o e;
+accepted_do p e = record {
+  promised = lowerable_do p (accepted_is_lowerable p e) (named_apart false p (no_typing_faults p e));
+  data_within = data_within p e;
 }

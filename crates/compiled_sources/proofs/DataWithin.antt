@@ -2,7 +2,6 @@
 use Rattle.std.specs.Prelude.{nat_le, not, ◌||◌, bytes_eq, codes, map}
 use Rattle.std.proofs.Common.{◌≡◌, ℕ, suc, ◌+◌, ◌*◌, ◌/◌, ◌%◌, ◌^◌, ◌≤◌, Bool, true, false, List, [], ◌∷◌, ◌++◌, refl, sym, ap, subst, ◌∙◌, arith}
 use Rattle.std.proofs.lemmas.Bool.{leb-true}
-use Rattle.cyc_tree.specs.Operands.{HasOperands}
 use Rattle.cyc_tree.specs.Tree as tree
 use Rattle.cyc_tree.specs.Tree.{Item, Program}
 use Rattle.source_meaning.specs.Shapes.{Shape, written, settled}
@@ -140,8 +139,8 @@ module _ (g : Tables) (w : World) where
       (omega (arith, room, bytes, above)) below none)
 
 -- where the rules find no fault, the data end within the limit
-pub data_within : (p : Program) → HasOperands p → program_faults integers p ≡ [] → data_end (program_code p).data_objects ≤ 2 ^ 20
-data_within p o e =
-    let order = accepted_is_in_order p o e in
+pub data_within : (p : Program) → program_faults integers p ≡ [] → data_end (program_code p).data_objects ≤ 2 ^ 20
+data_within p e =
+    let order = accepted_is_in_order p e in
     within (tables_of false p) (world_of p) p 0 0 0 [] (codes "getchar" ∷ codes "putchar" ∷ []) (λ x f. absurd cc) order.names order.items (omega arith) (omega arith)
     order.sizes

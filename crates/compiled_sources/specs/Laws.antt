@@ -1,6 +1,5 @@
 -- What holds of all programs of integers and thin pointers.
 use Rattle.std.specs.Prelude.{◌≡◌, ◌≤◌, ◌^◌, []}
-use Rattle.cyc_tree.specs.Operands.{HasOperands}
 use Rattle.cyc_tree.specs.Tree.{Program}
 use Rattle.source_meaning.specs.Programs.{world_of}
 use Rattle.source_lowering.specs.Taken.{IsLowerable}
@@ -19,6 +18,6 @@ pub record AcceptedDoes (p : Program) : Type 0 where
   pub promised : LowerableDoes p
   pub data_within : data_end (program_code p).data_objects ≤ 2 ^ 20
 
--- that holds of each such program, if its tree has the operands that each text's tree has
+-- that holds of each such program
 abbrev pub AllAcceptedDo : Type 0
-AllAcceptedDo = (p : Program) → HasOperands p → program_faults integers p ≡ [] → AcceptedDoes p
+AllAcceptedDo = (p : Program) → program_faults integers p ≡ [] → AcceptedDoes p

@@ -11,8 +11,7 @@ pub fn lowerable_do()
 {}
 
 /// A law, with nothing to run: of each program in which the rules on functions and globals of integers
-/// find no fault, and whose tree has the operands that each text's tree has, `lowerable_do` holds, and its
-/// data take no more bytes than the data of an image may.
+/// find no fault, `lowerable_do` holds, and its data take no more bytes than the data of an image may.
 pub fn accepted_do()
     ensures { AllAcceptedDo }
 {}

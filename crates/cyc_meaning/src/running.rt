@@ -1,13 +1,12 @@
 // Runs of checked programs.
 
 ghost use Rattle.std.specs.Prelude.{◌≡◌, ◌≢◌};
-ghost use Rattle.cyc_tree.specs.Operands.{HasOperands};
 ghost use Rattle.core_eval.specs.Evaluated.{reads_failed, writes_failed};
 ghost use Rattle.cyc_meaning.specs.Evaluated.{IsEvaluated};
 
 use core_eval::{EvalEnding, evaluate_core};
 use cyc_words::{Input, Output};
-use lower_checks::{LowerFault, lower};
+use lower_checks::lower;
 use std::alloc::Global;
 use unique_flow::Checked;
 
@@ -17,8 +16,7 @@ use unique_flow::Checked;
 /// left. `WriteFault` comes in place of any other ending, where a write failed or took no byte; `ReadFault` where a read
 /// failed; `HostMemory` where the host has no memory for what is still to be done. After a failed call neither device is
 /// called again. Output is written when 4,096 bytes are gathered, before each read and at each ending. Each byte that is
-/// taken from the reader was asked for. A program whose tree was made by hand and lacks an operand that each text's tree
-/// has is `Stuck`.
+/// taken from the reader was asked for. It is never `Stuck`.
 pub fn eval<R: Input, W: Output>(
     alloc: Global,
     checked: &Checked,
@@ -27,17 +25,18 @@ pub fn eval<R: Input, W: Output>(
     fuel: u64,
 ) -> EvalEnding
     // what is written is the output of the source's run on the bytes that the reader gave, and the ending is that run's
-    ensures evaluated { HasOperands checked.now → IsEvaluated result checked.now fuel
+    ensures evaluated { IsEvaluated result checked.now fuel
         (R.remaining reader.old) (R.remaining reader.new) (W.contents writer.old) (W.contents writer.new) }
     // no checked program does what no rule gives a meaning
-    ensures never_stuck { HasOperands checked.now → result ≢ EvalEnding.Stuck }
+    ensures never_stuck { result ≢ EvalEnding.Stuck }
     // each device's fault comes where just one call of that device failed, and any other ending where none did
     ensures reads { R.fault_count reader.new ≡ reads_failed result (R.fault_count reader.old) }
     ensures writes { W.fault_count writer.new ≡ writes_failed result (W.fault_count writer.old) }
 {
-    match lower(alloc, checked.program()) {
+    // a checked program is an accepted one
+    checked.program();
+    match lower(alloc, checked) {
         Ok(core) => evaluate_core(alloc, &core, reader, writer, fuel),
-        Err(LowerFault::Memory) => EvalEnding::HostMemory,
-        Err(LowerFault::NotTaken) => EvalEnding::Stuck,
+        Err(_) => EvalEnding::HostMemory,
     }
 }

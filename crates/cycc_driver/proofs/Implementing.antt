@@ -1,7 +1,6 @@
 -- From the layers to the whole: an image of a program's placed code and data does what the program does.
 use Rattle.std.specs.Prelude.{slice_index}
 use Rattle.std.proofs.Common.{◌≡◌, ℕ, ◌+◌, ◌^◌, ◌≤◌, ◌<◌, List, [], length, refl, sym, ap, ◌∙◌, subst, arith}
-use Rattle.cyc_tree.specs.Operands.{HasOperands}
 use Rattle.arena_laws.specs.Holdings.{Holdings, fresh}
 use Rattle.compiled_sources.specs.Promise.{lines_of}
 use Rattle.compiled_sources.proofs.AcceptedDo.{accepted_do}
@@ -55,15 +54,15 @@ module _ (program : Program) (code statics : List ℕ) (parts : Contents) (layer
         unheld = λ number. ap (λ (h : Holdings). h.standing number) starts.held;
       }
 
-  pub implemented : HasOperands program → IsAccepted program → IsImplementedBy program parts
-  implemented operands accepted arena start small starts input are_bytes =
+  pub implemented : IsAccepted program → IsImplementedBy program parts
+  implemented accepted arena start small starts input are_bytes =
       let faultless : program_faults integers program ≡ [] = no_faults program accepted in
-      let does = (accepted_do program operands faultless).promised in
+      let does = (accepted_do program faultless).promised in
       let begun : Begins (areas_of start) (place_of (lines_of program)) (lines_of program) (program_code program).data_objects (state_of start) =
       begins_as start (place_of (lines_of program)) (lines_of program) (program_code program).data_objects (first_machine arena start small starts) does.plain
       (starts.statics ∙ is_statics ∙ layers.statics_are) layers.places (layers.has start (starts.code ∙ is_code)) in
       does.does (areas_of start) (place_of (lines_of program)) (state_of start) input are_bytes begun
-      (λ fuel. accepted_is_never_stuck program operands faultless input fuel)
+      (λ fuel. accepted_is_never_stuck program faultless input fuel)
 
 -- ---- sizes
 
@@ -74,13 +73,13 @@ is_code program code long within =
     record { some = omega (arith, long); within = within; whole_words = omega (arith, long, words) }
 
 -- code that can't be placed is over the limit
-pub long_code : (program : Program) → HasOperands program → IsAccepted program → AreTooLarge (lines_of program) → code_limit < code_length (lines_of program)
-long_code program operands accepted large = too_long (program_code program) (has_main program operands (no_faults program accepted)) large
+pub long_code : (program : Program) → IsAccepted program → AreTooLarge (lines_of program) → code_limit < code_length (lines_of program)
+long_code program accepted large = too_long (program_code program) (has_main program (no_faults program accepted)) large
 
 -- the data are never over theirs
-pub data_fit : (program : Program) → HasOperands program → IsAccepted program → data_limit < length (data_bytes 0 (program_code program).data_objects) → ⊥
-data_fit program operands accepted large =
-    let does = accepted_do program operands (no_faults program accepted) in
+pub data_fit : (program : Program) → IsAccepted program → data_limit < length (data_bytes 0 (program_code program).data_objects) → ⊥
+data_fit program accepted large =
+    let does = accepted_do program (no_faults program accepted) in
     let within = does.data_within in
     let long = data_length 0 (program_code program).data_objects does.promised.plain in
     omega (arith, within, long, large)

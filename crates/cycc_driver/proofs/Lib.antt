@@ -1,4 +1,3 @@
-pub mod Accepting
 pub mod Small
 pub mod Longer
 pub mod Implementing

@@ -9,7 +9,6 @@ use Rattle.cycc_driver.specs.Refused.{HasNoCodeFor}
 use Rattle.compiled_sources.proofs.AcceptedDo.{accepted_do}
 use Rattle.spelled_programs.proofs.ProgramSizes.{tokens_pay}
 use Rattle.unique_flow.proofs.Accepted.{no_faults}
-use Rattle.cycc_driver.proofs.Accepting.{has_operands}
 
 -- what a text is refused for
 pub refused_image : (f : CompileFault) (text : List ℕ) → IsRefusedFor f text → HasNoImageFor f text
@@ -43,7 +42,7 @@ codeless_image (fault.Lent place) text program accepted why = absurd why
 codeless_image (fault.Copy place) text program accepted why = absurd why
 codeless_image (fault.Size place) text program accepted why = absurd why
 codeless_image (fault.TooLarge place) text program accepted why =
-    let bounded = (accepted_do program (has_operands text program accepted.spelled) (no_faults program accepted.accepted)).promised.code in
+    let bounded = (accepted_do program (no_faults program accepted.accepted)).promised.code in
     let paid = tokens_pay program accepted.spelled.tokens accepted.spelled.parsed in
     let long = why.long in
     record { program = program; accepted = accepted; large = omega (arith, bounded, paid, long); line = why.line; column = why.column }

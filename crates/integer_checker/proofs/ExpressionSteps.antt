@@ -1,14 +1,14 @@
 -- What expressions are, an operand at a time.
-use Rattle.std.proofs.Common.{◌≡◌, ℕ, ◌+◌, ◌<◌, List, [], ◌∷◌, Bool, true, false, nat_eq, refl, sym, ap, ◌∙◌, arith, map, length, drop, get_or}
-use Rattle.std.specs.Prelude.{Option, Some, None, nat_le, if◌then◌else◌, ◌&&◌}
+use Rattle.std.proofs.Common.{◌≡◌, ℕ, suc, ◌+◌, ◌<◌, List, [], ◌∷◌, Bool, true, false, nat_eq, refl, sym, ap, ◌∙◌, arith, map, length, drop, get_or}
+use Rattle.std.specs.Prelude.{Option, Some, None, nat_le, not, if◌then◌else◌, ◌&&◌}
 use Rattle.std.proofs.lemmas.Bool.Decides.{nat_tests}
 use Rattle.std.proofs.lemmas.List.{drop_more}
 use Rattle.cyc_tree.specs.declared.expression.Expression as code
 use Rattle.cyc_tree.specs.declared.expression.Link as code_link
-use Rattle.cyc_tree.specs.declared.expression.Suffix as code_suffix
-use Rattle.cyc_tree.specs.View.{OneSuffix, expression_tree, expressions_of, link_tree, links_of, suffix_tree, suffixes_of}
+use Rattle.cyc_tree.specs.View.{expression_tree, expressions_of, link_tree, links_of}
 use Rattle.cyc_tree.proofs.Forms.{link_parts}
-use Rattle.integer_checker.specs.Expressions.{count_of, judge, judge_all, judge_links, judge_tests, not_taken, suffixed}
+use Rattle.integer_checker.specs.Expressions.{count_of, judge, judge_all, judge_links, judge_tests}
+use Rattle.source_typing.specs.Taken.{are_linked, are_some}
 use Rattle.integer_checker.specs.Faults.{rank_of, sooner_of}
 use Rattle.integer_checker.specs.Judging.{applied, fault_in, given_after, given_before, given_both, is_judged, paired, refused_in, tested}
 use Rattle.integer_checker.specs.Scopes.{Known}
@@ -79,14 +79,15 @@ links_more ks es i e j h is_item =
     ap (λ p. judge_links ks j (links_of (p ∷ map link_tree (drop (i + 1) es)))) (sym (link_parts e))
     ∙ ap (λ l. judge_links ks j (links_of (map link_tree l))) (sym next)
 
--- ---- suffixes
+-- ---- operands behind the first
 
-one_suffix : (at : ℕ) (j : Judged) (s : OneSuffix) (ss : List OneSuffix) → suffixed at j (suffixes_of (s ∷ ss)) ≡ not_taken at
-one_suffix at j (OneSuffix.Index e) ss = refl
-one_suffix at j (OneSuffix.Dot f) ss = refl
-one_suffix at j (OneSuffix.Arrow f) ss = refl
+not_none : (n : ℕ) → not (nat_eq (suc n) 0) ≡ true
+not_none n = grind (arith, nat_tests)
 
-pub some_suffix : (at : ℕ) (j : Judged) (ss : List code_suffix.Suffix) → nat_eq (length ss) 0 ≡ false
-    → suffixed at j (suffixes_of (map suffix_tree ss)) ≡ not_taken at
-some_suffix at j [] e = absurd cc
-some_suffix at j (s ∷ ss) e = one_suffix at j (suffix_tree s) (map suffix_tree ss)
+pub some_links : (ls : List code_link.Link) → not (nat_eq (length ls) 0) ≡ are_linked (links_of (map link_tree ls))
+some_links [] = refl
+some_links (l ∷ ls) = not_none (length ls)
+
+pub some_expressions : (es : List code.Expression) → not (nat_eq (length es) 0) ≡ are_some (expressions_of (map expression_tree es))
+some_expressions [] = refl
+some_expressions (e ∷ es) = not_none (length es)

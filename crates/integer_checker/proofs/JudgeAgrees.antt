@@ -10,13 +10,15 @@ use Rattle.source_meaning.specs.Memory.{AsInt, AsUnsigned}
 use Rattle.source_typing.specs.Operators.{tested_both}
 use Rattle.source_typing.specs.Scope.{Env}
 use Rattle.source_typing.specs.Taken.{all_taken, if_taken, integers, links_taken, made_taken, suffixes_taken, taken, takes_handle, takes_made, takes_suffixes}
+use Rattle.source_typing.specs.Taken.{are_linked, are_some, are_suffixed}
 use Rattle.source_typing.specs.Types.{integer_type}
 use Rattle.source_typing.specs.Verdicts.{Verdict, both}
+use Rattle.source_typing.proofs.TakenOperands.{no_suffixes}
 use Rattle.integer_checker.proofs.CallsAgree.{call_agrees, more_agree}
 use Rattle.integer_checker.proofs.RulesAgree.{applied_agrees, assigned_agrees, both_agree, fault_agrees, grouped_agrees, inverted_agrees, prefixed_agrees}
 use Rattle.integer_checker.proofs.RulesAgree.{tested_agrees, value_agrees, variable_agrees}
 use Rattle.integer_checker.specs.Agreement.{AgreeAll, AgreeOn, Agrees, AllSame}
-use Rattle.integer_checker.specs.Expressions.{count_of, judge, judge_all, judge_links, judge_tests, not_taken, prefixed, suffixed}
+use Rattle.integer_checker.specs.Expressions.{count_of, judge, judge_all, judge_links, judge_tests, not_taken, prefixed}
 use Rattle.integer_checker.specs.Faults.{mistyped}
 use Rattle.integer_checker.specs.Scopes.{Known, find_last}
 use Rattle.integer_checker.specs.Types.{number_typed, static_type}
@@ -45,13 +47,11 @@ no_handle : (b c : Bool) → takes_handle integers b && c ≡ false
 no_handle true c = refl
 no_handle false c = refl
 
-suffixed_agrees : (g : Env) (at : ℕ) (e : Expression) (j : Judged) (es : Suffixes) → Agrees (rules.judge g (taken integers e)) j
-    → Agrees (rules.judge g (if_taken (takes_suffixes integers es) at
-    (Expression.Suffixed (taken integers e) (suffixes_taken integers es)))) (suffixed at j es)
-suffixed_agrees g at e j NoSuffixes agrees = agrees
-suffixed_agrees g at e j (Index i es) agrees = fault_agrees (mistyped at)
-suffixed_agrees g at e j (Dot f es) agrees = fault_agrees (mistyped at)
-suffixed_agrees g at e j (Arrow f es) agrees = fault_agrees (mistyped at)
+-- a form that is taken only where it has its operands
+joined_agrees : (g : Env) (b : Bool) (at : ℕ) (e : Expression) (j : Judged) → Agrees (rules.judge g e) j
+    → Agrees (rules.judge g (if_taken b at e)) (if b then j else not_taken at)
+joined_agrees g true at e j agrees = agrees
+joined_agrees g false at e j agrees = fault_agrees (mistyped at)
 
 prefixed_is : (g : Env) (at : ℕ) (o : Prefix) (e : Expression) (j : Judged) → Agrees (rules.judge g (taken integers e)) j
     → Agrees (rules.judge g (taken integers (Expression.Prefixed at o e))) (prefixed at o j)
@@ -76,7 +76,9 @@ mutual
   judge_agrees g ks on (Expression.MakeUnion tag f e) = fault_agrees (mistyped tag.at)
   judge_agrees g ks on (Expression.NumElts at e) = fault_agrees (mistyped at)
   judge_agrees g ks on (Expression.Grouped at e) = grouped_agrees (rules.judge g (taken integers e)) (judge ks e) at (judge_agrees g ks on e)
-  judge_agrees g ks on (Expression.Suffixed e es) = suffixed_agrees g (expression_place e) e (judge ks e) es (judge_agrees g ks on e)
+  judge_agrees g ks on (Expression.Suffixed e es) =
+      refused_agrees g (are_suffixed es && takes_suffixes integers es) (expression_place e)
+      (Expression.Suffixed (taken integers e) (suffixes_taken integers es)) (no_suffixes es)
   judge_agrees g ks on (Expression.Prefixed at o e) = prefixed_is g at o e (judge ks e) (judge_agrees g ks on e)
   judge_agrees g ks on (Expression.New at new) = fault_agrees (mistyped at)
   judge_agrees g ks on (Expression.NewIn at h new) =
@@ -84,11 +86,14 @@ mutual
       (Expression.NewIn at (taken integers h) (made_taken integers new))
       (no_handle (is_unique_region h) (takes_made integers new))
   judge_agrees g ks on (Expression.Chain e es) =
-      links_agree g ks on (rules.judge g (taken integers e)) (judge ks e) es (judge_agrees g ks on e)
+      joined_agrees g (are_linked es) (expression_place e) (Expression.Chain (taken integers e) (links_taken integers es)) (judge_links ks (judge ks e) es)
+      (links_agree g ks on (rules.judge g (taken integers e)) (judge ks e) es (judge_agrees g ks on e))
   judge_agrees g ks on (Expression.AllOf e es) =
-      tests_agree g ks on (rules.judge g (taken integers e)) (judge ks e) es (judge_agrees g ks on e)
+      joined_agrees g (are_some es) (expression_place e) (Expression.AllOf (taken integers e) (all_taken integers es)) (judge_tests ks (judge ks e) es)
+      (tests_agree g ks on (rules.judge g (taken integers e)) (judge ks e) es (judge_agrees g ks on e))
   judge_agrees g ks on (Expression.AnyOf e es) =
-      tests_agree g ks on (rules.judge g (taken integers e)) (judge ks e) es (judge_agrees g ks on e)
+      joined_agrees g (are_some es) (expression_place e) (Expression.AnyOf (taken integers e) (all_taken integers es)) (judge_tests ks (judge ks e) es)
+      (tests_agree g ks on (rules.judge g (taken integers e)) (judge ks e) es (judge_agrees g ks on e))
   judge_agrees g ks on (Expression.Assign a b) =
       both_agree (rules.judge g (taken integers a)) (rules.judge g (taken integers b)) (judge ks a) (judge ks b) (places.assigned g) plain.assigned
       (λ f. refl) refl (assigned_agrees g) (judge_agrees g ks on a) (judge_agrees g ks on b)

@@ -12,7 +12,6 @@ pub mod ItemsAgree
 pub mod Joining
 pub mod JudgeAgrees
 mod Linking
-pub mod NoStrings
 pub mod ParametersAgree
 pub mod Positions
 pub mod ProgramSteps

@@ -14,7 +14,7 @@ use Rattle.source_typing.specs.Taken.{global_if, initial_taken, integers, item_t
 use Rattle.integer_checker.proofs.Finding.{finds_none, finds_one}
 use Rattle.integer_checker.proofs.GlobalsAgree.{global_bytes, taken_global}
 use Rattle.integer_checker.proofs.ItemsAgree.{SeenAgree, name_stays, seen_more}
-use Rattle.integer_checker.proofs.NoStrings.{item_silent}
+use Rattle.source_typing.proofs.NoStrings.{item_silent}
 use Rattle.integer_checker.specs.Agreement.{Finds}
 use Rattle.integer_checker.specs.Faults.{too_large}
 use Rattle.integer_checker.specs.Programs.{and_seen, bytes_of, clean_bytes, global_fault, is_seen, sizes_fault}

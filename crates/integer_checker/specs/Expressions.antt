@@ -1,9 +1,10 @@
 -- What an expression is, where all types are of integers: one line a form. A form that isn't of integers is Type at its first token.
-use Rattle.std.specs.Prelude.{List, suc, ℕ}
+use Rattle.std.specs.Prelude.{List, suc, ℕ, if◌then◌else◌}
 use Rattle.cyc_tree.specs.Places.{expression_place}
-use Rattle.cyc_tree.specs.Tree.{Arrow, Dot, Expression, Expressions, Index, Links, MoreExpressions, MoreLinks, NoExpressions, NoLinks, NoSuffixes, Suffixes}
+use Rattle.cyc_tree.specs.Tree.{Expression, Expressions, Links, MoreExpressions, MoreLinks, NoExpressions, NoLinks}
 use Rattle.cyc_tree.specs.declared.expression.Prefix.{Prefix}
 use Rattle.cyc_tree.specs.declared.expression.Prefix.TheVariants.{AddressOf, Complement, Dereference, Negate, Not}
+use Rattle.source_typing.specs.Taken.{are_linked, are_some}
 use Rattle.integer_checker.specs.Faults.{mistyped}
 use Rattle.integer_checker.specs.Judging.{applied, assigned, called, given_before, grouped, inverted, none_given, paired, signed, tested, value, variable}
 use Rattle.integer_checker.specs.Scopes.{Known, find_last}
@@ -29,13 +30,6 @@ abbrev pub count_of : Expressions → ℕ
 count_of NoExpressions = 0
 count_of (MoreExpressions e es) = suc (count_of es)
 
--- a primary with suffixes isn't taken
-abbrev pub suffixed : ℕ → Judged → Suffixes → Judged
-suffixed at j NoSuffixes = j
-suffixed at j (Index e es) = not_taken at
-suffixed at j (Dot f es) = not_taken at
-suffixed at j (Arrow f es) = not_taken at
-
 abbrev mutual
   pub judge : List Known → Expression → Judged
   judge ks (Expression.Number at n suffix) = value at (number_typed n suffix)
@@ -49,13 +43,13 @@ abbrev mutual
   judge ks (Expression.MakeUnion tag f e) = not_taken tag.at
   judge ks (Expression.NumElts at e) = not_taken at
   judge ks (Expression.Grouped at e) = grouped at (judge ks e)
-  judge ks (Expression.Suffixed e suffixes) = suffixed (expression_place e) (judge ks e) suffixes
+  judge ks (Expression.Suffixed e suffixes) = not_taken (expression_place e)
   judge ks (Expression.Prefixed at o e) = prefixed at o (judge ks e)
   judge ks (Expression.New at new) = not_taken at
   judge ks (Expression.NewIn at h new) = not_taken at
-  judge ks (Expression.Chain first others) = judge_links ks (judge ks first) others
-  judge ks (Expression.AllOf first others) = judge_tests ks (judge ks first) others
-  judge ks (Expression.AnyOf first others) = judge_tests ks (judge ks first) others
+  judge ks (Expression.Chain first others) = (if are_linked others then judge_links ks (judge ks first) others else not_taken (expression_place first))
+  judge ks (Expression.AllOf first others) = (if are_some others then judge_tests ks (judge ks first) others else not_taken (expression_place first))
+  judge ks (Expression.AnyOf first others) = (if are_some others then judge_tests ks (judge ks first) others else not_taken (expression_place first))
   judge ks (Expression.Assign to from) = assigned (paired (judge ks to) (judge ks from))
 
   pub judge_all : List Known → Expressions → Given

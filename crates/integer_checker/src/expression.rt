@@ -1,16 +1,17 @@
 // What the expressions of a program are.
 
-ghost use Rattle.std.specs.Prelude.{◌≡◌, map};
-ghost use Rattle.cyc_tree.specs.View.{expression_tree, expressions_of, link_tree, links_of, name_tree, suffix_tree, suffixes_of};
-ghost use Rattle.integer_checker.specs.Expressions.{count_of, judge, judge_all, judge_links, judge_tests, not_taken, prefixed, suffixed};
+ghost use Rattle.std.specs.Prelude.{◌≡◌, map, if◌then◌else◌};
+ghost use Rattle.cyc_tree.specs.View.{expression_tree, expressions_of, link_tree, links_of, name_tree};
+ghost use Rattle.integer_checker.specs.Expressions.{count_of, judge, judge_all, judge_links, judge_tests, not_taken, prefixed};
 ghost use Rattle.integer_checker.specs.Scopes.{find_last};
 ghost use Rattle.integer_checker.specs.Judging.{called, given_after, none_given};
+ghost use Rattle.source_typing.specs.Taken.{are_linked, are_some};
 
 use crate::fault::sooner;
 use crate::judged::{Given, Judged, called, mistyped, plain_value, variable};
 use crate::scope::Scope;
 use crate::types::{PlainType, number_type};
-use cyc_tree::{Expression, Link, Name, Prefix, Suffix};
+use cyc_tree::{Expression, Link, Name, Prefix};
 
 /// A form that isn't of integers.
 fn not_taken(at: u32) -> Judged
@@ -52,15 +53,27 @@ fn given_after(before: Given, argument: Judged) -> Given
     }
 }
 
-/// A primary with its suffixes.
-fn suffixed(at: u32, primary: Judged, suffixes: &[Suffix]) -> Judged
-    ensures { result ≡ suffixed at primary (suffixes_of (map suffix_tree suffixes.now)) }
+/// What operands are that an operator joins, from this place on. A first one alone isn't taken.
+fn only_joined(are_joined: bool, at: u32, judged: Judged) -> Judged
+    ensures { result ≡ (if are_joined then judged else not_taken at) }
 {
-    if suffixes.is_empty() {
-        primary
-    } else {
-        not_taken(at)
-    }
+    if are_joined { judged } else { not_taken(at) }
+}
+
+/// Whether there is an operator with its operand.
+#[tactic(auto, using(crate::proofs::ExpressionSteps::some_links))]
+fn are_linked(links: &[Link]) -> bool
+    ensures { result ≡ are_linked (links_of (map link_tree links.now)) }
+{
+    !links.is_empty()
+}
+
+/// Whether there is an expression.
+#[tactic(auto, using(crate::proofs::ExpressionSteps::some_expressions))]
+fn are_some(expressions: &[Expression]) -> bool
+    ensures { result ≡ are_some (expressions_of (map expression_tree expressions.now)) }
+{
+    !expressions.is_empty()
 }
 
 /// What an expression is.
@@ -74,15 +87,22 @@ pub fn judge(scope: &Scope<'_>, expression: &Expression) -> Judged
         Expression::Variable(name) => variable(name.at, scope.meaning(&name.text)),
         Expression::Call(name, arguments) => judge_call(scope, name, arguments),
         Expression::Grouped(at, inner) => judge(scope, inner).grouped(*at),
-        Expression::Suffixed(primary, suffixes) => {
-            suffixed(primary.place(), judge(scope, primary), suffixes)
-        }
+        Expression::Suffixed(primary, _) => not_taken(primary.place()),
         Expression::Prefixed(at, operator, operand) => {
             prefixed(*at, *operator, judge(scope, operand))
         }
-        Expression::Chain(first, links) => judge_links(scope, judge(scope, first), links),
-        Expression::AllOf(first, others) => judge_tests(scope, judge(scope, first), others),
-        Expression::AnyOf(first, others) => judge_tests(scope, judge(scope, first), others),
+        Expression::Chain(first, links) => {
+            let judged = judge_links(scope, judge(scope, first), links);
+            only_joined(are_linked(links), first.place(), judged)
+        }
+        Expression::AllOf(first, others) => {
+            let judged = judge_tests(scope, judge(scope, first), others);
+            only_joined(are_some(others), first.place(), judged)
+        }
+        Expression::AnyOf(first, others) => {
+            let judged = judge_tests(scope, judge(scope, first), others);
+            only_joined(are_some(others), first.place(), judged)
+        }
         Expression::Assign(place, from) => {
             judge(scope, place).paired(judge(scope, from)).assigned()
         }

@@ -4,3 +4,4 @@ mod Linking
 mod Lists
 mod Tables
 mod Taken
+mod OfIntegers

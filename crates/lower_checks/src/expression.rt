@@ -158,8 +158,7 @@ fn lower_prefixed(
         OnOk result
         (map statement_tree body.new.items ≡
         map statement_tree body.old.items ++
-        prefix_code operator (static_shape w names e) to.0 (expression_code w names e (to.0 + 1)) (expression_code w names e to.0)
-        (place_code w names e to.0)) }
+        prefix_code operator (static_shape w names e) to.0 (expression_code w names e (to.0 + 1)) (expression_code w names e to.0) (place_code w names e to.0)) }
     ensures shape { let e = expression_tree operand.now in
         IfOk result (λ shape. shape_tree shape ≡ prefix_shape operator (static_shape (world_of program.now) (names_of locals.now) e)) }
     ensures taken { TakesProgram program.now → TakesPrefix operator → Takes (expression_tree operand.now) → NeverRefused result }

@@ -4,16 +4,13 @@ ghost use Rattle.std.specs.Prelude.{◌≡◌};
 ghost use Rattle.lower_checks.specs.declared.fault.LowerFault.TheVariants.{Memory};
 
 use std::alloc::AllocError;
-use thiserror::Error;
 
-/// Why `lower` refuses a program.
-#[derive(Clone, Copy, PartialEq, Eq, Debug, Error)]
+/// Why a program has no Core.
+#[derive(Clone, Copy, PartialEq, Eq, Debug)]
 pub enum LowerFault {
     /// It has something else than functions, globals and locals of integers.
-    #[error("only programs of integers have a Core as yet")]
     NotTaken,
     /// No host memory is left, or a number of something is over the greatest u32.
-    #[error("out of memory")]
     Memory,
 }
 

@@ -3,8 +3,9 @@
 //! `lower` appends operation after operation: an expression leaves its value in a temporary, and its
 //! parts use the temporaries above it; a block's locals have numbers in it. The result is the Core
 //! program of `program_code` in `source_lowering`. Programs of functions, globals and locals of
-//! integers are taken, and all others are refused. Functions and globals are found by tables of
-//! their names. Stands on `cyc_core`, `source_lowering`, `cyc_tree` and `indexmap`.
+//! integers are taken, and no other is checked as yet. Functions and globals are found by tables of
+//! their names. Stands on `unique_flow`, `cyc_core`, `accepted_sources`,
+//! `source_lowering`, `cyc_tree` and `indexmap`.
 #![tactic(auto)]
 
 mod call;
@@ -27,5 +28,4 @@ mod usage;
 mod values;
 mod variable;
 
-pub use fault::LowerFault;
 pub use program::lower;

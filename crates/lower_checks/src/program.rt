@@ -18,7 +18,8 @@ use crate::table::{Table, function_number};
 use cyc_core::{Datum, Function, Program};
 use cyc_tree::{Constant, Global as Declared, Initial, Item, Program as Source};
 use cyc_words::sub32;
-use std::alloc::Global;
+use std::alloc::{AllocError, Global};
+use unique_flow::Checked;
 
 /// The word of a constant. Refuses a string and `NULL`.
 fn constant_word(constant: &Constant) -> Result<u32, LowerFault>
@@ -103,10 +104,8 @@ fn lower_functions(alloc: Global, program: &Table<'_>) -> Result<Vec<Function>, 
     Ok(functions)
 }
 
-/// The Core of a program. Refuses a program that has something else than functions, globals and locals of integers; and fails
-/// where no host memory is left, or a number of temporaries, locals, functions or globals is over the greatest u32. So it takes each program of
-/// integers alone, where memory and numbers are enough.
-pub fn lower(alloc: Global, program: &Source) -> Result<Program, LowerFault>
+/// The Core of a program's tree. Refuses a tree that has something else than functions, globals and locals of integers.
+fn lower_tree(alloc: Global, program: &Source) -> Result<Program, LowerFault>
     ensures code { IfOk result (λ core. program_tree core ≡ program_code program.now) }
     ensures taken { TakesProgram program.now → NeverRefused result }
 {
@@ -119,4 +118,17 @@ pub fn lower(alloc: Global, program: &Source) -> Result<Program, LowerFault>
         main,
         globals,
     })
+}
+
+/// The Core of a checked program. Fails only where no host memory is left, or a number of temporaries, locals, functions or
+/// globals is over the greatest u32.
+pub fn lower(alloc: Global, checked: &Checked) -> Result<Program, AllocError>
+    ensures code { IfOk result (λ core. program_tree core ≡ program_code checked.now) }
+{
+    match lower_tree(alloc, checked.program()) {
+        Ok(core) => Ok(core),
+        Err(LowerFault::Memory) => Err(AllocError),
+        // each form of a checked program is taken
+        Err(LowerFault::NotTaken) => unreachable!(),
+    }
 }

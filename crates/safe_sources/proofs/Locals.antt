@@ -25,7 +25,7 @@ use Rattle.safe_sources.proofs.TakenForms.{takes_itself}
 -- ---- expressions
 
 abbrev pub accepted_is : (g : Env) (e : Expression) → IsAccepted g e → ExpressionHasOperands e → Accepted g e
-accepted_is g e a o = record { value = a.value; judged = a.judged; is_taken = takes_itself e a.takes; operands = o }
+accepted_is g e a o = record { value = a.value; judged = a.judged; is_taken = takes_itself e a.takes o; operands = o }
 
 -- what is an integer converts to each integer
 abbrev pub fitting_is : (g : Env) (e : Expression) (t : StaticType) → IsIntegerIn g e → ExpressionHasOperands e → IsInteger t → Fitting g e t

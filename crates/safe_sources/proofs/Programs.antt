@@ -3,7 +3,6 @@ use Rattle.std.specs.Prelude.{bytes_eq, codes, if◌then◌else◌, length}
 use Rattle.std.proofs.Common.{◌≡◌, ℕ, ◌<◌, Bool, true, false, inl, inr, Option, Some, List, [], ◌∷◌, ◌++◌, refl, sym, subst, ap, ◌∙◌}
 use Rattle.std.proofs.lemmas.List.{length-map}
 use Rattle.std.proofs.lemmas.Slice.Eq.{bytes_eq-Decides}
-use Rattle.cyc_tree.specs.Operands.{HasOperands}
 use Rattle.cyc_tree.specs.Tree as tree
 use Rattle.cyc_tree.specs.Tree.{Program}
 use Rattle.source_meaning.specs.Steps.{World}
@@ -44,6 +43,7 @@ use Rattle.source_typing.specs.Taken.{integers}
 use Rattle.source_typing.specs.Types.{StaticType}
 use Rattle.source_typing.proofs.Inversion.{none_of_both}
 use Rattle.source_typing.proofs.TakenItems.{program_is_taken}
+use Rattle.source_typing.proofs.TakenOperands.{taken_has_operands}
 use Rattle.accepted_sources.specs.Accepted.{IsInOrder, base_type}
 use Rattle.accepted_sources.specs.Plain.{IsSoundEntry}
 use Rattle.accepted_sources.proofs.Names.{MeansSound, found_sound}
@@ -82,7 +82,7 @@ record IsOwn (es : Tables) (x : List ℕ) (e : Entry) : Type 0 where
 abbrev entry_by : Tables → List ℕ → Bool → Bool → Option Entry
 entry_by es x a c = (if a then Some (OfBuiltin 0) else (if c then Some (OfBuiltin 1) else find es x))
 
-module _ (p : Program) (o : HasOperands p) (e : program_faults integers p ≡ []) where
+module _ (p : Program) (e : program_faults integers p ≡ []) where
   abbrev tables : Tables
   tables = tables_of false p
 
@@ -96,7 +96,7 @@ module _ (p : Program) (o : HasOperands p) (e : program_faults integers p ≡ []
   world = world_of p
 
   order : IsInOrder p
-  order = accepted_is_in_order p o e
+  order = accepted_is_in_order p e
 
   items_clean : items_from false tables 0 p ≡ []
   items_clean =
@@ -107,7 +107,9 @@ module _ (p : Program) (o : HasOperands p) (e : program_faults integers p ≡ []
       (none_of_both seconds (items_from false tables 0 p) c.0).1
 
   known : AllKnown tables 0 p
-  known = all_known tables 0 p order.items (program_is_taken integers p e) o items_clean
+  known =
+      let taken = program_is_taken integers p e in
+      all_known tables 0 p order.items taken (taken_has_operands integers p taken) items_clean
 
   structs : world.structs ≡ []
   structs = no_structs tables 0 p [] known
@@ -216,7 +218,7 @@ module _ (p : Program) (o : HasOperands p) (e : program_faults integers p ≡ []
 -- ---- the laws
 
 pub accepted_is_never_stuck : AcceptedIsNeverStuck
-accepted_is_never_stuck p o e = never_stuck p (tables_of false p) (judged p o e)
+accepted_is_never_stuck p e = never_stuck p (tables_of false p) (judged p e)
 
 pub has_main : HasMain
-has_main p o e = main_below p o e
+has_main p e = main_below p e

@@ -2,7 +2,6 @@
 use Rattle.std.proofs.Common.{◌≡◌, ℕ, ◌<◌, false, Some, List, [], ◌∷◌, refl}
 use Rattle.std.specs.Prelude.{length}
 use Rattle.cyc_tree.specs.declared.expression.Operator.TheVariants.{Add}
-use Rattle.cyc_tree.specs.Operands.{HasOperands}
 use Rattle.cyc_tree.specs.Tree as tree
 use Rattle.cyc_tree.specs.Tree.{Constant, Expression, Initial, MoreExpressions, MoreLinks, NoExpressions, NoItems, NoLinks, Program, Statement}
 use Rattle.cyc_words.specs.Events.{SourceEnding}
@@ -25,17 +24,14 @@ doubled =
     (Statement.Return 0 (Some (variable "g"))) ▸
     NoItems)) ∷ []
 
-doubled_joined : HasOperands doubled
-doubled_joined = (tt, (((tt, (tt, (tt, tt))), tt), (((tt, (tt, tt)), (tt, tt)), tt)))
-
 doubled_clean : program_faults integers doubled ≡ []
 doubled_clean = refl
 
 doubled_never_stuck : (input : List ℕ) (n : ℕ) → (source doubled input n).ending ≡ SourceEnding.Stuck → ⊥
-doubled_never_stuck = accepted_is_never_stuck doubled doubled_joined doubled_clean
+doubled_never_stuck = accepted_is_never_stuck doubled doubled_clean
 
 doubled_has_main : (program_code doubled).main < length (program_code doubled).functions
-doubled_has_main = has_main doubled doubled_joined doubled_clean
+doubled_has_main = has_main doubled doubled_clean
 
 -- with the unit of fuel that its one call takes it ends, and without it it is still running
 doubled_ends : (source doubled [] 1).ending ≡ SourceEnding.Ended 6

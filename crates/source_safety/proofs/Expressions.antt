@@ -209,7 +209,7 @@ module _ (n : ℕ) (d : Tables) (g : Env) (scope : Scope) (f : NameOf → Region
       expression_sound (Expression.New at new) v t o j = absurd cc
       expression_sound (Expression.NewIn at x new) v t o j =
           absurd (refused_new (is_unique_region x) (takes_made thin_pointers new) at (taken thin_pointers x) x (made_taken thin_pointers new) new t)
-      expression_sound (Expression.Suffixed x NoSuffixes) v t o j = let i : taken thin_pointers x ≡ x = cc in expression_sound x v i o.1.0 j
+      expression_sound (Expression.Suffixed x NoSuffixes) v t o j = absurd cc
       expression_sound (Expression.Suffixed x (Index y es)) v t o j = absurd cc
       expression_sound (Expression.Suffixed x (Dot m es)) v t o j = absurd cc
       expression_sound (Expression.Suffixed x (Arrow m es)) v t o j = absurd cc
@@ -229,29 +229,35 @@ module _ (n : ℕ) (d : Tables) (g : Env) (scope : Scope) (f : NameOf → Region
           let k : (takes_prefix thin_pointers p ≡ true) × (taken thin_pointers x ≡ x) = prefix_taken at p x t in
           let a : (a : Value) × (judge g x ≡ Of a) × (rules.prefixed g at p a ≡ Of v) = prefix_is g at p x v j in
           prefixed_sound at p (sense x scope) a.0 v k.0 (expression_sound x a.0 k.1 o a.1) a.2
-      expression_sound (Expression.Chain x es) v t o j =
+      expression_sound (Expression.Chain x NoLinks) v t o j = absurd cc
+      expression_sound (Expression.Chain x (MoreLinks p e es)) v t o j =
           let i : taken thin_pointers x ≡ x = cc in
-          let k : links_taken thin_pointers es ≡ es = cc in
-          let a : (a : Value) × (judge g x ≡ Of a) = links_first g (judge g x) es v j in
-          links_sound es a.0 v (sense x scope) k o.1.1 (expression_sound x a.0 i o.1.0 a.1) (subst (λ (y : Verdict Value). judge_links g y es ≡ Of v) a.1 j)
-      expression_sound (Expression.AllOf x es) v t o j =
+          let k : links_taken thin_pointers (MoreLinks p e es) ≡ MoreLinks p e es = cc in
+          let a : (a : Value) × (judge g x ≡ Of a) = links_first g (judge g x) (MoreLinks p e es) v j in
+          links_sound (MoreLinks p e es) a.0 v (sense x scope) k o.1.1 (expression_sound x a.0 i o.1.0 a.1)
+          (subst (λ (y : Verdict Value). judge_links g y (MoreLinks p e es) ≡ Of v) a.1 j)
+      expression_sound (Expression.AllOf x NoExpressions) v t o j = absurd cc
+      expression_sound (Expression.AllOf x (MoreExpressions e es)) v t o j =
           let i : taken thin_pointers x ≡ x = cc in
-          let k : all_taken thin_pointers es ≡ es = cc in
-          let a : (a : Value) × (judge g x ≡ Of a) = tests_first g (judge g x) es v j in
+          let k : all_taken thin_pointers (MoreExpressions e es) ≡ MoreExpressions e es = cc in
+          let a : (a : Value) × (judge g x ≡ Of a) = tests_first g (judge g x) (MoreExpressions e es) v j in
           let h : Denotes n d g scope f b a.0 (sense x scope) = expression_sound x a.0 i o.1.0 a.1 in
-          let r : Tested a.0 v es = tests_sound es a.0 v k o.1.1 (subst (λ (y : Verdict Value). judge_tests g y es ≡ Of v) a.1 j) in
+          let r : Tested a.0 v (MoreExpressions e es) = tests_sound (MoreExpressions e es) a.0 v k o.1.1
+          (subst (λ (y : Verdict Value). judge_tests g y (MoreExpressions e es) ≡ Of v) a.1 j) in
           let q : (is_testable a.0.type ≡ true) × Valued v Int = r.some o.0 in
-          denotes_tested n d g scope f b v (all_true (sense x scope ∷ senses es scope)) q.1
-          (tells_all n d g scope f b (sense x scope ∷ senses es scope) (denotes_tells n d g scope f b a.0 (sense x scope) h q.0, r.others))
-      expression_sound (Expression.AnyOf x es) v t o j =
+          denotes_tested n d g scope f b v (all_true (sense x scope ∷ senses (MoreExpressions e es) scope)) q.1
+          (tells_all n d g scope f b (sense x scope ∷ senses (MoreExpressions e es) scope) (denotes_tells n d g scope f b a.0 (sense x scope) h q.0, r.others))
+      expression_sound (Expression.AnyOf x NoExpressions) v t o j = absurd cc
+      expression_sound (Expression.AnyOf x (MoreExpressions e es)) v t o j =
           let i : taken thin_pointers x ≡ x = cc in
-          let k : all_taken thin_pointers es ≡ es = cc in
-          let a : (a : Value) × (judge g x ≡ Of a) = tests_first g (judge g x) es v j in
+          let k : all_taken thin_pointers (MoreExpressions e es) ≡ MoreExpressions e es = cc in
+          let a : (a : Value) × (judge g x ≡ Of a) = tests_first g (judge g x) (MoreExpressions e es) v j in
           let h : Denotes n d g scope f b a.0 (sense x scope) = expression_sound x a.0 i o.1.0 a.1 in
-          let r : Tested a.0 v es = tests_sound es a.0 v k o.1.1 (subst (λ (y : Verdict Value). judge_tests g y es ≡ Of v) a.1 j) in
+          let r : Tested a.0 v (MoreExpressions e es) = tests_sound (MoreExpressions e es) a.0 v k o.1.1
+          (subst (λ (y : Verdict Value). judge_tests g y (MoreExpressions e es) ≡ Of v) a.1 j) in
           let q : (is_testable a.0.type ≡ true) × Valued v Int = r.some o.0 in
-          denotes_tested n d g scope f b v (any_true (sense x scope ∷ senses es scope)) q.1
-          (tells_any n d g scope f b (sense x scope ∷ senses es scope) (denotes_tells n d g scope f b a.0 (sense x scope) h q.0, r.others))
+          denotes_tested n d g scope f b v (any_true (sense x scope ∷ senses (MoreExpressions e es) scope)) q.1
+          (tells_any n d g scope f b (sense x scope ∷ senses (MoreExpressions e es) scope) (denotes_tells n d g scope f b a.0 (sense x scope) h q.0, r.others))
       expression_sound (Expression.Assign to from) v t o j =
           let i : taken thin_pointers to ≡ to = cc in
           let k : taken thin_pointers from ≡ from = cc in

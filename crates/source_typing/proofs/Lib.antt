@@ -7,6 +7,8 @@ pub mod CallsFit
 pub mod TakenExpressions
 pub mod TakenStatements
 pub mod TakenItems
+pub mod TakenOperands
+pub mod NoStrings
 mod SampleTrees
 mod AcceptedSamples1
 mod AcceptedSamples2

@@ -15,6 +15,7 @@ use Rattle.source_typing.specs.Regions.{TheHeap}
 use Rattle.source_typing.specs.Fixing.{more}
 use Rattle.source_typing.specs.Calls.{target, called, union_tag, union_made}
 use Rattle.source_typing.specs.Expressions.{judge, judge_all, judge_tests, judge_links, judge_suffixes, judge_made, judge_made_in}
+use Rattle.source_typing.specs.Taken.{are_linked, are_some, are_suffixed}
 use Rattle.source_typing.specs.Taken.{Taken, if_taken, takes_suffixes, takes_prefix, takes_made, takes_handle, taken, all_taken, links_taken}
 use Rattle.source_typing.specs.Taken.{suffixes_taken, made_taken}
 
@@ -85,9 +86,15 @@ unique_kept k (Expression.Number at n suffix) e = refl
 unique_kept k (Expression.Character at byte) e = refl
 unique_kept k (Expression.Variable x) e = refl
 unique_kept k (Expression.Call x es) e = absurd cc
-unique_kept k (Expression.Chain x es) e = absurd cc
-unique_kept k (Expression.AllOf x es) e = absurd cc
-unique_kept k (Expression.AnyOf x es) e = absurd cc
+unique_kept k (Expression.Chain x es) e =
+    differs (is_unique_region (if_taken (are_linked es) (expression_place x) (Expression.Chain (taken k x) (links_taken k es)))) (taken k
+    (Expression.Chain x es)) (Expression.Chain x es) (no_unique (are_linked es) (expression_place x) (Expression.Chain (taken k x) (links_taken k es)) refl) e
+unique_kept k (Expression.AllOf x es) e =
+    differs (is_unique_region (if_taken (are_some es) (expression_place x) (Expression.AllOf (taken k x) (all_taken k es)))) (taken k
+    (Expression.AllOf x es)) (Expression.AllOf x es) (no_unique (are_some es) (expression_place x) (Expression.AllOf (taken k x) (all_taken k es)) refl) e
+unique_kept k (Expression.AnyOf x es) e =
+    differs (is_unique_region (if_taken (are_some es) (expression_place x) (Expression.AnyOf (taken k x) (all_taken k es)))) (taken k
+    (Expression.AnyOf x es)) (Expression.AnyOf x es) (no_unique (are_some es) (expression_place x) (Expression.AnyOf (taken k x) (all_taken k es)) refl) e
 unique_kept k (Expression.Assign x y) e = absurd cc
 unique_kept k (Expression.Text at bytes) e =
     differs (is_unique_region (if_taken (k.arrays) at (Expression.Text at bytes))) (taken k (Expression.Text at bytes)) (Expression.Text at bytes)
@@ -105,9 +112,9 @@ unique_kept k (Expression.NumElts at x) e =
     differs (is_unique_region (if_taken (k.arrays) at (Expression.NumElts at (taken k x)))) (taken k (Expression.NumElts at x)) (Expression.NumElts at x)
     (no_unique (k.arrays) at (Expression.NumElts at (taken k x)) refl) e
 unique_kept k (Expression.Suffixed x es) e =
-    differs (is_unique_region (if_taken (takes_suffixes k es) (expression_place x) (Expression.Suffixed (taken k x) (suffixes_taken k es)))) (taken k
-    (Expression.Suffixed x es)) (Expression.Suffixed x es) (no_unique (takes_suffixes k es) (expression_place x) (Expression.Suffixed (taken k x)
-    (suffixes_taken k es)) refl) e
+    differs (is_unique_region (if_taken (are_suffixed es && takes_suffixes k es) (expression_place x) (Expression.Suffixed (taken k x)
+    (suffixes_taken k es)))) (taken k (Expression.Suffixed x es)) (Expression.Suffixed x es) (no_unique (are_suffixed es && takes_suffixes k es)
+    (expression_place x) (Expression.Suffixed (taken k x) (suffixes_taken k es)) refl) e
 unique_kept k (Expression.Prefixed at o x) e =
     differs (is_unique_region (if_taken (takes_prefix k o) at (Expression.Prefixed at o (taken k x)))) (taken k (Expression.Prefixed at o x))
     (Expression.Prefixed at o x) (no_unique (takes_prefix k o) at (Expression.Prefixed at o (taken k x)) refl) e
@@ -149,7 +156,7 @@ mutual
   expression_is_taken k (Expression.Grouped at x) g p =
       ap (λ z. Expression.Grouped at z) (expression_is_taken k x g (after_clean (judge g (taken k x)) (grouped at) p))
   expression_is_taken k (Expression.Suffixed x es) g p =
-      kept g (takes_suffixes k es) (expression_place x) (Expression.Suffixed (taken k x) (suffixes_taken k es)) (Expression.Suffixed x es) p
+      kept g (are_suffixed es && takes_suffixes k es) (expression_place x) (Expression.Suffixed (taken k x) (suffixes_taken k es)) (Expression.Suffixed x es) p
       (λ q. let a : taken k x ≡ x = expression_is_taken k x g (suffixes_clean g (judge g (taken k x)) (suffixes_taken k es) q) in
       let b : suffixes_taken k es ≡ es = suffixes_are_taken k es g (judge g (taken k x)) q in cc)
   expression_is_taken k (Expression.Prefixed at o x) g p =
@@ -165,14 +172,17 @@ mutual
       let b : taken k h ≡ h = handle_kept k h g (is_unique_region (taken k h)) refl a.0 (λ r. expression_is_taken k h g r) in
       let c : made_taken k new ≡ new = a.1 in cc)
   expression_is_taken k (Expression.Chain x es) g p =
-      let a : taken k x ≡ x = expression_is_taken k x g (links_clean g (judge g (taken k x)) (links_taken k es) p) in
-      let b : links_taken k es ≡ es = links_are_taken k es g (judge g (taken k x)) p in cc
+      kept g (are_linked es) (expression_place x) (Expression.Chain (taken k x) (links_taken k es)) (Expression.Chain x es) p
+      (λ q. let a : taken k x ≡ x = expression_is_taken k x g (links_clean g (judge g (taken k x)) (links_taken k es) q) in
+      let b : links_taken k es ≡ es = links_are_taken k es g (judge g (taken k x)) q in cc)
   expression_is_taken k (Expression.AllOf x es) g p =
-      let a : taken k x ≡ x = expression_is_taken k x g (tests_clean g (judge g (taken k x)) (all_taken k es) p) in
-      let b : all_taken k es ≡ es = tests_are_taken k es g (judge g (taken k x)) p in cc
+      kept g (are_some es) (expression_place x) (Expression.AllOf (taken k x) (all_taken k es)) (Expression.AllOf x es) p
+      (λ q. let a : taken k x ≡ x = expression_is_taken k x g (tests_clean g (judge g (taken k x)) (all_taken k es) q) in
+      let b : all_taken k es ≡ es = tests_are_taken k es g (judge g (taken k x)) q in cc)
   expression_is_taken k (Expression.AnyOf x es) g p =
-      let a : taken k x ≡ x = expression_is_taken k x g (tests_clean g (judge g (taken k x)) (all_taken k es) p) in
-      let b : all_taken k es ≡ es = tests_are_taken k es g (judge g (taken k x)) p in cc
+      kept g (are_some es) (expression_place x) (Expression.AnyOf (taken k x) (all_taken k es)) (Expression.AnyOf x es) p
+      (λ q. let a : taken k x ≡ x = expression_is_taken k x g (tests_clean g (judge g (taken k x)) (all_taken k es) q) in
+      let b : all_taken k es ≡ es = tests_are_taken k es g (judge g (taken k x)) q in cc)
   expression_is_taken k (Expression.Assign x y) g p =
       let c : (faults_of (judge g (taken k x)) ≡ []) × (faults_of (judge g (taken k y)) ≡ []) =
       both_clean (judge g (taken k x)) (judge g (taken k y)) (assigned g) p in

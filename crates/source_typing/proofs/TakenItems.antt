@@ -24,6 +24,7 @@ use Rattle.source_typing.specs.Taken.{constant_forms}
 use Rattle.source_typing.specs.Answers.{rule_faults, program_faults, first_fault}
 use Rattle.source_typing.proofs.Inversion.{none_of_both, own_is, test_is}
 use Rattle.source_typing.proofs.TakenWhole.{if_is, function_as_is, program_whole, forms_whole}
+use Rattle.source_typing.proofs.TakenOperands.{taken_has_operands}
 use Rattle.source_typing.proofs.TakenStatements.{items_are_taken}
 
 -- ---- structs and unions
@@ -254,7 +255,7 @@ accepted_whole k p e =
     let n : program_faults k p ≡ [] = none_is (program_faults k p) e in
     let a : (constant_forms k p ≡ []) × (rule_faults (only_taken k p) ≡ []) = none_of_both (constant_forms k p) (rule_faults (only_taken k p)) n in
     let b : rule_faults p ≡ [] = subst (λ (q : Program). rule_faults q ≡ []) (program_is_taken k p n) a.1 in
-    let c : rule_faults (only_taken whole p) ≡ [] = subst (λ (q : Program). rule_faults q ≡ []) (sym (program_whole p)) b in
+    let c : rule_faults (only_taken whole p) ≡ [] = subst (λ (q : Program). rule_faults q ≡ []) (sym (program_whole p (taken_has_operands k p (program_is_taken k p n)))) b in
     let d : constant_forms whole p ++ rule_faults (only_taken whole p) ≡ [] =
     subst (λ (fs : List Fault). fs ++ rule_faults (only_taken whole p) ≡ []) (sym (forms_whole p)) c in
     ap (λ (fs : List Fault). earliest fs) d

@@ -1,10 +1,13 @@
--- Where all forms are taken, a program stands as it is.
+-- Where all forms are taken, a program stands as it is, if its tree has the operands that each text's tree has.
 use Rattle.std.proofs.Common.{◌≡◌, Bool, true, false, Option, Some, None, List, [], ◌∷◌, refl, ap, ◌∙◌, ℕ}
 use Rattle.std.specs.Prelude.{◌&&◌, ◌++◌, if◌then◌else◌}
 use Rattle.cyc_tree.specs.declared.name.Sign.{Sign}
 use Rattle.cyc_tree.specs.declared.name.Sign.TheVariants as sign
 use Rattle.cyc_tree.specs.declared.expression.Prefix.{Prefix}
 use Rattle.cyc_tree.specs.declared.expression.Prefix.TheVariants.{Negate, Not, Complement, Dereference, AddressOf}
+use Rattle.cyc_tree.specs.Operands.{AreSome, AreLinked, AreSuffixed, ExpressionHasOperands, AllHaveOperands, LinksHaveOperands, SuffixesHaveOperands}
+use Rattle.cyc_tree.specs.Operands.{MadeHasOperands, InitializerHasOperands, DeclarationHasOperands, ResultHasOperands, StatementHasOperands}
+use Rattle.cyc_tree.specs.Operands.{ItemsHaveOperands, ClausesHaveOperands, ItemHasOperands, HasOperands}
 use Rattle.cyc_tree.specs.Places.{expression_place}
 use Rattle.cyc_tree.specs.Tree as tree
 use Rattle.cyc_tree.specs.Tree.{TypeName, Expression, Expressions, NoExpressions, MoreExpressions, Links, NoLinks, MoreLinks, Suffixes, NoSuffixes}
@@ -12,7 +15,7 @@ use Rattle.cyc_tree.specs.Tree.{Index, Dot, Arrow, Made, One, Array, Initializer
 use Rattle.cyc_tree.specs.Tree.{NoClauses, MoreClauses, Constant, Initial, Item, Program}
 use Rattle.source_meaning.specs.Expressions.{is_unique_region}
 use Rattle.source_typing.specs.Taken.{whole, takes_base, takes_arguments, takes_pointers, takes_sign, takes_region, takes_type, type_taken, takes_suffixes}
-use Rattle.source_typing.specs.Taken.{takes_made}
+use Rattle.source_typing.specs.Taken.{takes_made, are_some, are_linked, are_suffixed}
 use Rattle.source_typing.specs.Taken.{takes_handle, if_taken, taken, all_taken, links_taken, suffixes_taken, made_taken, initializer_taken, takes_initializer}
 use Rattle.source_typing.specs.Taken.{declared_if, declaration_taken, result_taken, statement_taken, items_taken, clauses_taken, member_taken}
 use Rattle.source_typing.specs.Taken.{members_taken, structure_if, constant_taken, initial_taken, takes_initial, global_if, function_taken, item_taken}
@@ -74,6 +77,20 @@ suffixes_are_taken (Index e es) = suffixes_are_taken es
 suffixes_are_taken (Dot f es) = suffixes_are_taken es
 suffixes_are_taken (Arrow f es) = suffixes_are_taken es
 
+some_operands : (es : Expressions) → AreSome es → are_some es ≡ true
+some_operands NoExpressions h = absurd h
+some_operands (MoreExpressions e es) h = refl
+
+some_links : (es : Links) → AreLinked es → are_linked es ≡ true
+some_links NoLinks h = absurd h
+some_links (MoreLinks o e es) h = refl
+
+some_suffixes : (es : Suffixes) → AreSuffixed es → are_suffixed es ≡ true
+some_suffixes NoSuffixes h = absurd h
+some_suffixes (Index e es) h = refl
+some_suffixes (Dot f es) h = refl
+some_suffixes (Arrow f es) h = refl
+
 prefix_is_taken : (o : Prefix) → takes_prefix whole o ≡ true
 prefix_is_taken Negate = refl
 prefix_is_taken Not = refl
@@ -96,62 +113,72 @@ kept true at e f p q = q
 kept false at e f p q = absurd cc
 
 mutual
-  taken_whole : (e : Expression) → taken whole e ≡ e
-  taken_whole (Expression.Number at n suffix) = refl
-  taken_whole (Expression.Character at byte) = refl
-  taken_whole (Expression.Text at bytes) = refl
-  taken_whole (Expression.Null at) = refl
-  taken_whole (Expression.HeapRegion at) = refl
-  taken_whole (Expression.UniqueRegion at) = refl
-  taken_whole (Expression.Variable x) = refl
-  taken_whole (Expression.Call x es) = ap (λ z. Expression.Call x z) (all_whole es)
-  taken_whole (Expression.MakeUnion tag f e) = ap (λ z. Expression.MakeUnion tag f z) (taken_whole e)
-  taken_whole (Expression.NumElts at e) = ap (λ z. Expression.NumElts at z) (taken_whole e)
-  taken_whole (Expression.Grouped at e) = ap (λ z. Expression.Grouped at z) (taken_whole e)
-  taken_whole (Expression.Suffixed e es) =
-      let a : taken whole e ≡ e = taken_whole e in let b : suffixes_taken whole es ≡ es = suffixes_whole es in
-      kept (takes_suffixes whole es) (expression_place e) (Expression.Suffixed (taken whole e) (suffixes_taken whole es)) (Expression.Suffixed e es)
-      (suffixes_are_taken es) cc
-  taken_whole (Expression.Prefixed at o e) =
+  taken_whole : (e : Expression) → ExpressionHasOperands e → taken whole e ≡ e
+  taken_whole (Expression.Number at n suffix) h = refl
+  taken_whole (Expression.Character at byte) h = refl
+  taken_whole (Expression.Text at bytes) h = refl
+  taken_whole (Expression.Null at) h = refl
+  taken_whole (Expression.HeapRegion at) h = refl
+  taken_whole (Expression.UniqueRegion at) h = refl
+  taken_whole (Expression.Variable x) h = refl
+  taken_whole (Expression.Call x es) h = ap (λ z. Expression.Call x z) (all_whole es h)
+  taken_whole (Expression.MakeUnion tag f e) h = ap (λ z. Expression.MakeUnion tag f z) (taken_whole e h)
+  taken_whole (Expression.NumElts at e) h = ap (λ z. Expression.NumElts at z) (taken_whole e h)
+  taken_whole (Expression.Grouped at e) h = ap (λ z. Expression.Grouped at z) (taken_whole e h)
+  taken_whole (Expression.Suffixed e es) h =
+      let a : taken whole e ≡ e = taken_whole e h.1.0 in let b : suffixes_taken whole es ≡ es = suffixes_whole es h.1.1 in
+      kept (are_suffixed es && takes_suffixes whole es) (expression_place e) (Expression.Suffixed (taken whole e) (suffixes_taken whole es))
+      (Expression.Suffixed e es) (both_true (are_suffixed es) (takes_suffixes whole es) (some_suffixes es h.0) (suffixes_are_taken es)) cc
+  taken_whole (Expression.Prefixed at o e) h =
       kept (takes_prefix whole o) at (Expression.Prefixed at o (taken whole e)) (Expression.Prefixed at o e) (prefix_is_taken o)
-      (ap (λ z. Expression.Prefixed at o z) (taken_whole e))
-  taken_whole (Expression.New at new) =
+      (ap (λ z. Expression.Prefixed at o z) (taken_whole e h))
+  taken_whole (Expression.New at new) h =
       kept (takes_made whole new) at (Expression.New at (made_taken whole new)) (Expression.New at new) (made_is_taken new)
-      (ap (λ z. Expression.New at z) (made_whole new))
-  taken_whole (Expression.NewIn at h new) =
-      let a : taken whole h ≡ h = taken_whole h in let b : made_taken whole new ≡ new = made_whole new in
+      (ap (λ z. Expression.New at z) (made_whole new h))
+  taken_whole (Expression.NewIn at h new) o =
+      let a : taken whole h ≡ h = taken_whole h o.0 in let b : made_taken whole new ≡ new = made_whole new o.1 in
       kept (takes_handle whole (is_unique_region h) && takes_made whole new) at (Expression.NewIn at (taken whole h) (made_taken whole new))
       (Expression.NewIn at h new) (handle_is_taken (is_unique_region h) (takes_made whole new) (made_is_taken new)) cc
-  taken_whole (Expression.Chain e links) =
-      let a : taken whole e ≡ e = taken_whole e in let b : links_taken whole links ≡ links = links_whole links in cc
-  taken_whole (Expression.AllOf e es) = let a : taken whole e ≡ e = taken_whole e in let b : all_taken whole es ≡ es = all_whole es in cc
-  taken_whole (Expression.AnyOf e es) = let a : taken whole e ≡ e = taken_whole e in let b : all_taken whole es ≡ es = all_whole es in cc
-  taken_whole (Expression.Assign x y) = let a : taken whole x ≡ x = taken_whole x in let b : taken whole y ≡ y = taken_whole y in cc
+  taken_whole (Expression.Chain e links) h =
+      let a : taken whole e ≡ e = taken_whole e h.1.0 in let b : links_taken whole links ≡ links = links_whole links h.1.1 in
+      kept (are_linked links) (expression_place e) (Expression.Chain (taken whole e) (links_taken whole links)) (Expression.Chain e links)
+      (some_links links h.0) cc
+  taken_whole (Expression.AllOf e es) h =
+      let a : taken whole e ≡ e = taken_whole e h.1.0 in let b : all_taken whole es ≡ es = all_whole es h.1.1 in
+      kept (are_some es) (expression_place e) (Expression.AllOf (taken whole e) (all_taken whole es)) (Expression.AllOf e es) (some_operands es h.0) cc
+  taken_whole (Expression.AnyOf e es) h =
+      let a : taken whole e ≡ e = taken_whole e h.1.0 in let b : all_taken whole es ≡ es = all_whole es h.1.1 in
+      kept (are_some es) (expression_place e) (Expression.AnyOf (taken whole e) (all_taken whole es)) (Expression.AnyOf e es) (some_operands es h.0) cc
+  taken_whole (Expression.Assign x y) h =
+      let a : taken whole x ≡ x = taken_whole x h.0 in let b : taken whole y ≡ y = taken_whole y h.1 in cc
 
-  all_whole : (es : Expressions) → all_taken whole es ≡ es
-  all_whole NoExpressions = refl
-  all_whole (MoreExpressions e es) = let a : taken whole e ≡ e = taken_whole e in let b : all_taken whole es ≡ es = all_whole es in cc
+  all_whole : (es : Expressions) → AllHaveOperands es → all_taken whole es ≡ es
+  all_whole NoExpressions h = refl
+  all_whole (MoreExpressions e es) h =
+      let a : taken whole e ≡ e = taken_whole e h.0 in let b : all_taken whole es ≡ es = all_whole es h.1 in cc
 
-  links_whole : (es : Links) → links_taken whole es ≡ es
-  links_whole NoLinks = refl
-  links_whole (MoreLinks o e es) = let a : taken whole e ≡ e = taken_whole e in let b : links_taken whole es ≡ es = links_whole es in cc
+  links_whole : (es : Links) → LinksHaveOperands es → links_taken whole es ≡ es
+  links_whole NoLinks h = refl
+  links_whole (MoreLinks o e es) h =
+      let a : taken whole e ≡ e = taken_whole e h.0 in let b : links_taken whole es ≡ es = links_whole es h.1 in cc
 
-  suffixes_whole : (es : Suffixes) → suffixes_taken whole es ≡ es
-  suffixes_whole NoSuffixes = refl
-  suffixes_whole (Index e es) = let a : taken whole e ≡ e = taken_whole e in let b : suffixes_taken whole es ≡ es = suffixes_whole es in cc
-  suffixes_whole (Dot f es) = ap (λ z. Dot f z) (suffixes_whole es)
-  suffixes_whole (Arrow f es) = ap (λ z. Arrow f z) (suffixes_whole es)
+  suffixes_whole : (es : Suffixes) → SuffixesHaveOperands es → suffixes_taken whole es ≡ es
+  suffixes_whole NoSuffixes h = refl
+  suffixes_whole (Index e es) h =
+      let a : taken whole e ≡ e = taken_whole e h.0 in let b : suffixes_taken whole es ≡ es = suffixes_whole es h.1 in cc
+  suffixes_whole (Dot f es) h = ap (λ z. Dot f z) (suffixes_whole es h)
+  suffixes_whole (Arrow f es) h = ap (λ z. Arrow f z) (suffixes_whole es h)
 
-  made_whole : (n : Made) → made_taken whole n ≡ n
-  made_whole (One e) = ap (λ z. One z) (taken_whole e)
-  made_whole (Array x n e) = let a : taken whole n ≡ n = taken_whole n in let b : taken whole e ≡ e = taken_whole e in cc
+  made_whole : (n : Made) → MadeHasOperands n → made_taken whole n ≡ n
+  made_whole (One e) h = ap (λ z. One z) (taken_whole e h)
+  made_whole (Array x n e) h = let a : taken whole n ≡ n = taken_whole n h.0 in let b : taken whole e ≡ e = taken_whole e h.1 in cc
 
 -- ---- declarations and statements
 
-initializer_whole : (i : Initializer) → initializer_taken whole i ≡ i
-initializer_whole Initializer.Unset = refl
-initializer_whole (Initializer.Elements n) = refl
-initializer_whole (Initializer.Value e) = ap (λ z. Initializer.Value z) (taken_whole e)
+initializer_whole : (i : Initializer) → InitializerHasOperands i → initializer_taken whole i ≡ i
+initializer_whole Initializer.Unset h = refl
+initializer_whole (Initializer.Elements n) h = refl
+initializer_whole (Initializer.Value e) h = ap (λ z. Initializer.Value z) (taken_whole e h)
 
 initializer_is_taken : (i : Initializer) → takes_initializer whole i ≡ true
 initializer_is_taken Initializer.Unset = refl
@@ -162,52 +189,53 @@ kept_declaration : (b : Bool) (at : ℕ) (d e : tree.Declaration) → b ≡ true
 kept_declaration true at d e p q = q
 kept_declaration false at d e p q = absurd cc
 
-declaration_whole : (d : tree.Declaration) → declaration_taken whole d ≡ d
-declaration_whole (tree.Local t x i) =
+declaration_whole : (d : tree.Declaration) → DeclarationHasOperands d → declaration_taken whole d ≡ d
+declaration_whole (tree.Local t x i) h =
     kept_declaration (takes_type whole t && takes_initializer whole i) t.at (tree.Local t x (initializer_taken whole i)) (tree.Local t x i)
     (both_true (takes_type whole t) (takes_initializer whole i) (takes_type_whole t) (initializer_is_taken i))
-    (ap (λ z. tree.Local t x z) (initializer_whole i))
-declaration_whole (tree.Region at r x) = refl
-declaration_whole (tree.Open at r x y) = refl
-declaration_whole (tree.Alias at r t x p) = refl
-declaration_whole (tree.NewKey at r x) = refl
+    (ap (λ z. tree.Local t x z) (initializer_whole i h))
+declaration_whole (tree.Region at r x) h = refl
+declaration_whole (tree.Open at r x y) h = refl
+declaration_whole (tree.Alias at r t x p) h = refl
+declaration_whole (tree.NewKey at r x) h = refl
 
-result_whole : (v : Option Expression) → result_taken whole v ≡ v
-result_whole None = refl
-result_whole (Some e) = ap (λ z. Some z) (taken_whole e)
+result_whole : (v : Option Expression) → ResultHasOperands v → result_taken whole v ≡ v
+result_whole None h = refl
+result_whole (Some e) h = ap (λ z. Some z) (taken_whole e h)
 
 mutual
-  statement_whole : (s : Statement) → statement_taken whole s ≡ s
-  statement_whole (Statement.Empty at) = refl
-  statement_whole (Statement.Block at items) = ap (λ z. Statement.Block at z) (items_whole items)
-  statement_whole (Statement.Run e) = ap (λ z. Statement.Run z) (taken_whole e)
-  statement_whole (Statement.Exchange x y) = let a : taken whole x ≡ x = taken_whole x in let b : taken whole y ≡ y = taken_whole y in cc
-  statement_whole (Statement.If at e s) =
-      let a : taken whole e ≡ e = taken_whole e in let b : statement_taken whole s ≡ s = statement_whole s in cc
-  statement_whole (Statement.IfElse at e s t) =
-      let a : taken whole e ≡ e = taken_whole e in let b : statement_taken whole s ≡ s = statement_whole s in
-      let c : statement_taken whole t ≡ t = statement_whole t in cc
-  statement_whole (Statement.While at e s) =
-      let a : taken whole e ≡ e = taken_whole e in let b : statement_taken whole s ≡ s = statement_whole s in cc
-  statement_whole (Statement.Switch at e cs) =
-      let a : taken whole e ≡ e = taken_whole e in let b : clauses_taken whole cs ≡ cs = clauses_whole cs in cc
-  statement_whole (Statement.Break at) = refl
-  statement_whole (Statement.Continue at) = refl
-  statement_whole (Statement.Return at v) = ap (λ z. Statement.Return at z) (result_whole v)
-  statement_whole (Statement.FreeUnique at p) = refl
-  statement_whole (Statement.FreeKey at x) = refl
+  statement_whole : (s : Statement) → StatementHasOperands s → statement_taken whole s ≡ s
+  statement_whole (Statement.Empty at) h = refl
+  statement_whole (Statement.Block at items) h = ap (λ z. Statement.Block at z) (items_whole items h)
+  statement_whole (Statement.Run e) h = ap (λ z. Statement.Run z) (taken_whole e h)
+  statement_whole (Statement.Exchange x y) h =
+      let a : taken whole x ≡ x = taken_whole x h.0 in let b : taken whole y ≡ y = taken_whole y h.1 in cc
+  statement_whole (Statement.If at e s) h =
+      let a : taken whole e ≡ e = taken_whole e h.0 in let b : statement_taken whole s ≡ s = statement_whole s h.1 in cc
+  statement_whole (Statement.IfElse at e s t) h =
+      let a : taken whole e ≡ e = taken_whole e h.0 in let b : statement_taken whole s ≡ s = statement_whole s h.1.0 in
+      let c : statement_taken whole t ≡ t = statement_whole t h.1.1 in cc
+  statement_whole (Statement.While at e s) h =
+      let a : taken whole e ≡ e = taken_whole e h.0 in let b : statement_taken whole s ≡ s = statement_whole s h.1 in cc
+  statement_whole (Statement.Switch at e cs) h =
+      let a : taken whole e ≡ e = taken_whole e h.0 in let b : clauses_taken whole cs ≡ cs = clauses_whole cs h.1 in cc
+  statement_whole (Statement.Break at) h = refl
+  statement_whole (Statement.Continue at) h = refl
+  statement_whole (Statement.Return at v) h = ap (λ z. Statement.Return at z) (result_whole v h)
+  statement_whole (Statement.FreeUnique at p) h = refl
+  statement_whole (Statement.FreeKey at x) h = refl
 
-  items_whole : (is : BlockItems) → items_taken whole is ≡ is
-  items_whole NoItems = refl
-  items_whole (Declare d others) =
-      let a : declaration_taken whole d ≡ d = declaration_whole d in let b : items_taken whole others ≡ others = items_whole others in cc
-  items_whole (Execute s others) =
-      let a : statement_taken whole s ≡ s = statement_whole s in let b : items_taken whole others ≡ others = items_whole others in cc
+  items_whole : (is : BlockItems) → ItemsHaveOperands is → items_taken whole is ≡ is
+  items_whole NoItems h = refl
+  items_whole (Declare d others) h =
+      let a : declaration_taken whole d ≡ d = declaration_whole d h.0 in let b : items_taken whole others ≡ others = items_whole others h.1 in cc
+  items_whole (Execute s others) h =
+      let a : statement_taken whole s ≡ s = statement_whole s h.0 in let b : items_taken whole others ≡ others = items_whole others h.1 in cc
 
-  clauses_whole : (cs : Clauses) → clauses_taken whole cs ≡ cs
-  clauses_whole NoClauses = refl
-  clauses_whole (MoreClauses at pattern body others) =
-      let a : items_taken whole body ≡ body = items_whole body in let b : clauses_taken whole others ≡ others = clauses_whole others in cc
+  clauses_whole : (cs : Clauses) → ClausesHaveOperands cs → clauses_taken whole cs ≡ cs
+  clauses_whole NoClauses h = refl
+  clauses_whole (MoreClauses at pattern body others) h =
+      let a : items_taken whole body ≡ body = items_whole body h.0 in let b : clauses_taken whole others ≡ others = clauses_whole others h.1 in cc
 
 -- ---- items
 
@@ -279,23 +307,23 @@ function_as_is k f a b c d e g h =
     ∙ (ap (λ (bs : List tree.Bound). function_with f f.result f.parameters f.effect bs (items_taken k f.body)) g
     ∙ ap (λ (body : BlockItems). function_with f f.result f.parameters f.effect f.bounds body) h)))
 
-function_whole : (f : tree.Function) → function_taken whole f ≡ f
-function_whole f =
-    function_as_is whole f (type_whole f.result) (members_whole f.parameters) (effect_taken f.effect) (bounds_taken f.bounds) refl refl (items_whole f.body)
+function_whole : (f : tree.Function) → ItemsHaveOperands f.body → function_taken whole f ≡ f
+function_whole f h =
+    function_as_is whole f (type_whole f.result) (members_whole f.parameters) (effect_taken f.effect) (bounds_taken f.bounds) refl refl (items_whole f.body h)
 
-item_whole : (i : Item) → item_taken whole i ≡ i
-item_whole (tree.StructItem s) = ap (λ z. tree.StructItem z) (structure_whole (takes_arguments whole s.regions) s (arguments_whole s.regions))
-item_whole (tree.UnionItem s) = ap (λ z. tree.UnionItem z) (structure_whole (takes_arguments whole s.regions) s (arguments_whole s.regions))
-item_whole (tree.GlobalItem x) =
+item_whole : (i : Item) → ItemHasOperands i → item_taken whole i ≡ i
+item_whole (tree.StructItem s) h = ap (λ z. tree.StructItem z) (structure_whole (takes_arguments whole s.regions) s (arguments_whole s.regions))
+item_whole (tree.UnionItem s) h = ap (λ z. tree.UnionItem z) (structure_whole (takes_arguments whole s.regions) s (arguments_whole s.regions))
+item_whole (tree.GlobalItem x) h =
     ap (λ z. tree.GlobalItem z)
     (global_whole (takes_type whole x.of && takes_initial whole x.initial) x
     (both_true (takes_type whole x.of) (takes_initial whole x.initial) (takes_type_whole x.of) (initial_is_taken x.initial)))
-item_whole (tree.FunctionItem f) = ap (λ z. tree.FunctionItem z) (function_whole f)
+item_whole (tree.FunctionItem f) h = ap (λ z. tree.FunctionItem z) (function_whole f h)
 
-pub program_whole : (p : Program) → only_taken whole p ≡ p
-program_whole [] = refl
-program_whole (i ∷ others) =
-    let a : item_taken whole i ≡ i = item_whole i in let b : only_taken whole others ≡ others = program_whole others in cc
+pub program_whole : (p : Program) → HasOperands p → only_taken whole p ≡ p
+program_whole [] h = refl
+program_whole (i ∷ others) h =
+    let a : item_taken whole i ≡ i = item_whole i h.0 in let b : only_taken whole others ≡ others = program_whole others h.1 in cc
 
 -- no constant is a form that isn't taken
 constant_forms_whole : (c : Constant) → constant_form whole c ≡ []

@@ -116,6 +116,22 @@ takes_suffixes k (Index e others) = k.arrays && takes_suffixes k others
 takes_suffixes k (Dot f others) = k.structs && takes_suffixes k others
 takes_suffixes k (Arrow f others) = k.structs && k.pointers && takes_suffixes k others
 
+-- An operator that joins operands has at least two, and a form with suffixes has one: each text's tree has them. A tree without them is a form that is
+-- never taken.
+abbrev pub are_some : Expressions → Bool
+are_some NoExpressions = false
+are_some (MoreExpressions e others) = true
+
+abbrev pub are_linked : Links → Bool
+are_linked NoLinks = false
+are_linked (MoreLinks o e others) = true
+
+abbrev pub are_suffixed : Suffixes → Bool
+are_suffixed NoSuffixes = false
+are_suffixed (Index e others) = true
+are_suffixed (Dot f others) = true
+are_suffixed (Arrow f others) = true
+
 abbrev pub takes_prefix : Taken → Prefix → Bool
 takes_prefix k Negate = true
 takes_prefix k Not = true
@@ -149,14 +165,14 @@ abbrev mutual
   taken k (Expression.NumElts at e) = if_taken k.arrays at (Expression.NumElts at (taken k e))
   taken k (Expression.Grouped at e) = Expression.Grouped at (taken k e)
   taken k (Expression.Suffixed e suffixes) =
-      if_taken (takes_suffixes k suffixes) (expression_place e) (Expression.Suffixed (taken k e) (suffixes_taken k suffixes))
+      if_taken (are_suffixed suffixes && takes_suffixes k suffixes) (expression_place e) (Expression.Suffixed (taken k e) (suffixes_taken k suffixes))
   taken k (Expression.Prefixed at o e) = if_taken (takes_prefix k o) at (Expression.Prefixed at o (taken k e))
   taken k (Expression.New at new) = if_taken (k.regions && takes_made k new) at (Expression.New at (made_taken k new))
   taken k (Expression.NewIn at h new) =
       if_taken (takes_handle k (is_unique_region h) && takes_made k new) at (Expression.NewIn at (taken k h) (made_taken k new))
-  taken k (Expression.Chain e links) = Expression.Chain (taken k e) (links_taken k links)
-  taken k (Expression.AllOf e es) = Expression.AllOf (taken k e) (all_taken k es)
-  taken k (Expression.AnyOf e es) = Expression.AnyOf (taken k e) (all_taken k es)
+  taken k (Expression.Chain e links) = if_taken (are_linked links) (expression_place e) (Expression.Chain (taken k e) (links_taken k links))
+  taken k (Expression.AllOf e es) = if_taken (are_some es) (expression_place e) (Expression.AllOf (taken k e) (all_taken k es))
+  taken k (Expression.AnyOf e es) = if_taken (are_some es) (expression_place e) (Expression.AnyOf (taken k e) (all_taken k es))
   taken k (Expression.Assign a b) = Expression.Assign (taken k a) (taken k b)
 
   pub all_taken : Taken → Expressions → Expressions

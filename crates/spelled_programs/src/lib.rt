@@ -2,7 +2,7 @@
 //! that operators have their operands.
 //!
 //! `tokens_pay` says that a text has a token for each piece that the bound on its code counts, and
-//! `spelled_has_operands` what the laws on accepted programs ask of a tree. There is no code but
+//! `spelled_has_operands` that no text's tree is refused for want of operands. There is no code but
 //! these laws. Stands on the grammar of `cyc_parser` and on the bounds of `source_lowering`.
 #![tactic(auto)]
 

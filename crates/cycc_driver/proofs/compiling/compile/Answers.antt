@@ -1,12 +1,8 @@
 use Rattle.std.proofs.Common.{◌≡◌, refl}
 use Rattle.cyc_image.specs.Format.{Contents}
-use Rattle.cycc_driver.proofs.Accepting.{has_operands}
 use Rattle.cycc_driver.proofs.Implementing.{text_image}
 use Rattle.cycc_driver.proofs.Refusing.{codeless_image}
 use Rattle.cycc_driver.proofs.compiling.compile.Goals as goal
-
-pub lay_out-requires : goal.lay_out-requires
-lay_out-requires c = has_operands c.args.text.now c.in-Ok.checked c.in-Ok.ensures.accepted.spelled
 
 pub returns-clause-implemented : goal.returns-clause-implemented
 returns-clause-implemented c =

@@ -1,4 +1,4 @@
--- There are no strings where only forms of integers are taken. This is of the rules' forms alone, and belongs to source_typing.
+-- There are no strings where only forms of integers are taken.
 use Rattle.std.proofs.Common.{◌≡◌, ℕ, List, [], ◌∷◌, ◌++◌, Bool, true, false, refl, ap, ◌∙◌}
 use Rattle.std.specs.Prelude.{Some, None, ◌&&◌}
 use Rattle.cyc_tree.specs.Places.{expression_place}
@@ -11,8 +11,9 @@ use Rattle.source_meaning.specs.Strings.{Literal, declaration_strings, expressio
 use Rattle.source_meaning.specs.Strings.{links_strings, statement_strings}
 use Rattle.source_typing.specs.Taken.{all_taken, declaration_taken, declared_if, global_if, if_taken, initial_taken, initializer_taken, integers}
 use Rattle.source_typing.specs.Taken.{item_taken, items_taken, links_taken, made_taken, refused_constant, statement_taken, suffixes_taken, taken, takes_handle}
-use Rattle.source_typing.specs.Taken.{takes_initial, takes_initializer, takes_made, takes_suffixes, takes_type}
+use Rattle.source_typing.specs.Taken.{takes_initial, takes_initializer, takes_made, takes_suffixes, takes_type, are_linked, are_some, are_suffixed}
 use Rattle.cyc_tree.specs.Tree as tree
+use Rattle.source_typing.proofs.TakenOperands.{no_suffixes}
 
 no_more : (xs ys : List Literal) → xs ≡ [] → ys ≡ [] → xs ++ ys ≡ []
 no_more xs ys a b = ap (λ l. l ++ ys) a ∙ b
@@ -27,12 +28,9 @@ no_handle : (b c : Bool) → takes_handle integers b && c ≡ false
 no_handle true c = refl
 no_handle false c = refl
 
-suffixed_silent : (at : ℕ) (e : Expression) (es : Suffixes) → expression_strings e ≡ []
-    → expression_strings (if_taken (takes_suffixes integers es) at (Expression.Suffixed e (suffixes_taken integers es))) ≡ []
-suffixed_silent at e NoSuffixes h = no_more (expression_strings e) [] h refl
-suffixed_silent at e (Index i es) h = refl
-suffixed_silent at e (Dot f es) h = refl
-suffixed_silent at e (Arrow f es) h = refl
+if_silent : (b : Bool) (at : ℕ) (e : Expression) → expression_strings e ≡ [] → expression_strings (if_taken b at e) ≡ []
+if_silent true at e h = h
+if_silent false at e h = refl
 
 prefixed_silent : (at : ℕ) (o : Prefix) (e : Expression) → expression_strings (taken integers e) ≡ []
     → expression_strings (taken integers (Expression.Prefixed at o e)) ≡ []
@@ -55,18 +53,23 @@ mutual
   expression_silent (Expression.MakeUnion tag f e) = refl
   expression_silent (Expression.NumElts at e) = refl
   expression_silent (Expression.Grouped at e) = expression_silent e
-  expression_silent (Expression.Suffixed e es) = suffixed_silent (expression_place e) (taken integers e) es (expression_silent e)
+  expression_silent (Expression.Suffixed e es) =
+      not_taken (are_suffixed es && takes_suffixes integers es) (expression_place e) (Expression.Suffixed (taken integers e) (suffixes_taken integers es))
+      (no_suffixes es)
   expression_silent (Expression.Prefixed at o e) = prefixed_silent at o e (expression_silent e)
   expression_silent (Expression.New at new) = refl
   expression_silent (Expression.NewIn at h new) =
       not_taken (takes_handle integers (is_unique_region h) && takes_made integers new) at
       (Expression.NewIn at (taken integers h) (made_taken integers new)) (no_handle (is_unique_region h) (takes_made integers new))
   expression_silent (Expression.Chain e es) =
-      no_more (expression_strings (taken integers e)) (links_strings (links_taken integers es)) (expression_silent e) (links_silent es)
+      if_silent (are_linked es) (expression_place e) (Expression.Chain (taken integers e) (links_taken integers es))
+      (no_more (expression_strings (taken integers e)) (links_strings (links_taken integers es)) (expression_silent e) (links_silent es))
   expression_silent (Expression.AllOf e es) =
-      no_more (expression_strings (taken integers e)) (expressions_strings (all_taken integers es)) (expression_silent e) (all_silent es)
+      if_silent (are_some es) (expression_place e) (Expression.AllOf (taken integers e) (all_taken integers es))
+      (no_more (expression_strings (taken integers e)) (expressions_strings (all_taken integers es)) (expression_silent e) (all_silent es))
   expression_silent (Expression.AnyOf e es) =
-      no_more (expression_strings (taken integers e)) (expressions_strings (all_taken integers es)) (expression_silent e) (all_silent es)
+      if_silent (are_some es) (expression_place e) (Expression.AnyOf (taken integers e) (all_taken integers es))
+      (no_more (expression_strings (taken integers e)) (expressions_strings (all_taken integers es)) (expression_silent e) (all_silent es))
   expression_silent (Expression.Assign a b) =
       no_more (expression_strings (taken integers a)) (expression_strings (taken integers b)) (expression_silent a) (expression_silent b)
 

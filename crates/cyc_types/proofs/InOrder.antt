@@ -272,7 +272,7 @@ begins_known all known t = by_tables begins quick_begins (λ k. k.begins) begins
 
 -- ---- one more tag
 
-some_found : (es : List Entry) (tag : List ℕ) → is_some (tag_in (entries_of es) tag) ≡ is_some (found es tag)
+pub some_found : (es : List Entry) (tag : List ℕ) → is_some (tag_in (entries_of es) tag) ≡ is_some (found es tag)
 some_found es tag = ap is_some (tag_found es tag) ∙ by (found es tag)
   where
     by : (k : Option Known) → is_some (option_map (λ k. tag_of tag k.tag) k) ≡ is_some k
@@ -304,6 +304,10 @@ each_as f g (p ∷ ps) same = ap (λ b. b && each_part f ps) (by p.type) ∙ ap 
 pub each_member : (holds : StaticType → Bool) (ms : List Member) → list_all (λ m. if_known holds (member_of m).type) ms ≡ each_part holds (members_of ms)
 each_member holds [] = refl
 each_member holds (m ∷ ms) = ap (λ b. if_known holds (member_of m).type && b) (each_member holds ms)
+
+pub all_declared : (es : List Entry) (ms : List Member)
+    → list_all (λ m. if_known (is_declared es) (member_of m).type) ms ≡ each_part (has_declared (entries_of es)) (members_of ms)
+all_declared es ms = each_member (is_declared es) ms ∙ sym (each_as (has_declared (entries_of es)) (is_declared es) (members_of ms) (declared_same es))
 
 all_known_more : (acc es : List Entry) (e : Entry) → are_known acc es ≡ true → is_known (acc ++ es) e.0.now e.1 ≡ true → are_known acc (es ++ e ∷ []) ≡ true
 all_known_more acc [] e h own = ap (λ b. b && true) (subst (λ l. is_known l e.0.now e.1 ≡ true) (append-nil acc) own)

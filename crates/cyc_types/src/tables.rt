@@ -5,10 +5,11 @@ ghost use Rattle.cyc_types.specs.Known.{are_known};
 
 use crate::base::BaseType;
 use crate::ctype::CType;
+use crate::fault::TableFault;
 use crate::layer::Layer;
 use crate::tag::{Known, Member, Tag};
 use indexmap::IndexMap;
-use std::alloc::{AllocError, Global};
+use std::alloc::Global;
 
 /// The structs and unions of a program, in the order of their declarations.
 #[derive(Drop)]
@@ -18,7 +19,7 @@ pub struct Tables<'p> {
 }
 
 impl<'p> Tables<'p> {
-    ghost use Rattle.std.specs.Prelude.{OnOk, OnErr, ◌++◌, ◌∷◌, None, option_copied};
+    ghost use Rattle.std.specs.Prelude.{IsErrOf, IsOkUnless, IsSome, OnOk, OnErr, ◌++◌, ◌∷◌, None, false, is_some, option_copied};
     ghost use Rattle.std.specs.List.{list_all};
     ghost use Rattle.source_typing.specs.Tables.{each_part, if_known, is_copyable, has_beginning, tag_in};
     ghost use Rattle.cyc_types.specs.Known.{found, has_declared, is_declared, quick_copies, quick_begins, known_tag};
@@ -163,13 +164,46 @@ impl<'p> Tables<'p> {
         members.iter().all(|member| self.member_begins(member))
     }
 
-    /// Declares a struct or union. Fails only where no host memory is left, and then none is declared.
-    pub fn add(&mut self, name: &'p [u8], tag: Tag<'p>) -> Result<(), AllocError>
+    /// Whether what a member is is declared, where it is known and a struct or union.
+    fn has_member(&self, member: &Member) -> bool
+        ensures { result ≡ if_known (is_declared self.now.tags.entries) (member_of member.now).type }
+    {
+        match &member.of {
+            Some(of) => self.has(of),
+            None => true,
+        }
+    }
+
+    /// Whether the structs and unions are declared that members are.
+    fn has_members(&self, members: &[Member]) -> bool
+        ensures { result ≡ list_all (λ m. if_known (is_declared self.now.tags.entries) (member_of m).type) members.now }
+    {
+        members.iter().all(|member| self.has_member(member))
+    }
+
+    /// Whether the structs and unions are declared that members are.
+    fn declares_members(&self, members: &[Member]) -> bool
+        ensures { result ≡ each_part (has_declared (tables_of self.now)) (members_of members.now) }
+    {
+        self.has_members(members)
+    }
+
+    /// Whether a struct or union of a name is declared.
+    #[tactic(auto, using(crate::proofs::InOrder::some_found))]
+    fn has_tag(&self, name: &[u8]) -> bool
+        ensures { result ≡ is_some (tag_in (tables_of self.now) name.now) }
+    {
+        self.known(name).is_some()
+    }
+
+    /// Declares a struct or union with a new name and declared members. Fails only where no host memory is left.
+    fn add_known(&mut self, name: &'p [u8], tag: Tag<'p>) -> Result<(), TableFault>
         // its name is new
         requires new { tag_in (tables_of self.old) name.now ≡ None }
         // the structs and unions that its members are were declared before it
         requires declared { each_part (has_declared (tables_of self.old)) (members_of tag.members.items) ≡ true }
         ensures added { OnOk result (tables_of self.new ≡ tables_of self.old ++ named_tag name.entry.now tag.entry ∷ []) }
+        ensures memory { IsOkUnless result TableFault.Memory }
         ensures kept { OnErr result (tables_of self.new ≡ tables_of self.old) }
     {
         let copyable = self.all_copied(&tag.members);
@@ -183,6 +217,31 @@ impl<'p> Tables<'p> {
             },
         )?;
         Ok(())
+    }
+
+    /// Declares a struct or union. A name can be declared once, and after the structs and unions that its members are. After a
+    /// fault the tables are as they were.
+    pub fn add(&mut self, name: &'p [u8], tag: Tag<'p>) -> Result<(), TableFault>
+        ensures added { OnOk result (tables_of self.new ≡ tables_of self.old ++ named_tag name.entry.now tag.entry ∷ []) }
+        // its name isn't new
+        ensures again { IsSome (tag_in (tables_of self.old) name.now) → IsErrOf result TableFault.Again }
+        // its name is new, and a member is of a struct or union that isn't declared
+        ensures undeclared { tag_in (tables_of self.old) name.now ≡ None
+            → each_part (has_declared (tables_of self.old)) (members_of tag.entry.members.items) ≡ false
+            → IsErrOf result TableFault.Undeclared }
+        // its name is new, and all its members are declared
+        ensures memory { tag_in (tables_of self.old) name.now ≡ None
+            → each_part (has_declared (tables_of self.old)) (members_of tag.entry.members.items) ≡ true
+            → IsOkUnless result TableFault.Memory }
+        ensures kept { OnErr result (tables_of self.new ≡ tables_of self.old) }
+    {
+        if self.has_tag(name) {
+            return Err(TableFault::Again);
+        }
+        if !self.declares_members(&tag.members) {
+            return Err(TableFault::Undeclared);
+        }
+        self.add_known(name, tag)
     }
 
     /// Whether a value of a type is copied: it is no unique pointer and no key, and no struct that holds one.

@@ -7,7 +7,7 @@ use Rattle.cyc_types.specs.Known.{entries_of, quick_begins, quick_copies}
 use Rattle.cyc_types.specs.Tags.{member_of}
 use Rattle.cyc_types.specs.declared.tag.Known.{Known}
 use Rattle.cyc_types.proofs.InOrder.{each_member, entries_more, known_either, known_more, none_found, ok_then}
-use Rattle.cyc_types.proofs.tables.Tables.add.Goals as goal
+use Rattle.cyc_types.proofs.tables.Tables.add_known.Goals as goal
 
 pub invariant_of-self : goal.invariant_of-self
 invariant_of-self c =

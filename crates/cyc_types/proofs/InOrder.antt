@@ -1,9 +1,10 @@
 -- What is known of structs and unions in order is what the rules say of them.
 use Rattle.std.proofs.Common.{◌≡◌, ℕ, ◌<◌, ◌+◌, Bool, true, false, Bor, List, [], ◌∷◌, ◌++◌, length, refl, sym, ap, subst, ◌∙◌, arith, suc, zero, cond, true≢false, length-append}
+use Rattle.std.proofs.lemmas.Bool.{and_parts}
 use Rattle.std.proofs.lemmas.List.{append_assoc, append-nil, length-map, map_push}
 use Rattle.std.proofs.lemmas.Slice.Eq.{bytes_eq-Decides}
 use Rattle.std.specs.List.{list_all}
-use Rattle.std.specs.Prelude.{Err, None, Ok, OnErr, OnOk, Option, Result, Some, bytes_eq, is_none, is_some, nat_eq, option_map, ◌&&◌}
+use Rattle.std.specs.Prelude.{Err, None, Ok, OnErr, OnOk, Option, Result, Some, bytes_eq, is_none, is_some, nat_eq, option_map, unwrap_or, ◌&&◌}
 use Rattle.source_typing.specs.Regions.{Region}
 use Rattle.source_typing.specs.Tables.{OfTag, Part, as_tag, begins, copies, each_part, find, has_beginning, if_known, is_copyable, parts_in, parts_of_tag, tag_in}
 use Rattle.source_typing.specs.Types.{Char, Fat, Handle, Int, Key, Null, StaticType, Struct, Thin, Union, Unique, Unsigned, Void, same_bool}
@@ -13,14 +14,6 @@ use Rattle.cyc_types.specs.declared.tag.Member.{Member}
 use Rattle.cyc_types.specs.declared.tag.Known.{Known}
 use Rattle.source_typing.specs.Tables as rules
 
-left_true : (a b : Bool) → (a && b) ≡ true → a ≡ true
-left_true true b h = refl
-left_true false b h = h
-
-right_true : (a b : Bool) → (a && b) ≡ true → b ≡ true
-right_true true b h = h
-right_true false b h = absurd (true≢false (sym h))
-
 same_as : (a b : Bool) → same_bool a b ≡ true → a ≡ b
 same_as true true h = refl
 same_as true false h = sym h
@@ -29,25 +22,18 @@ same_as false false h = refl
 
 -- ---- spellings
 
-spelled : (x y : List ℕ) → bytes_eq x y ≡ true → x ≡ y
-spelled x y h = (bytes_eq-Decides x y).0 h
-
 same_bytes : (x y : List ℕ) → bytes_eq x y ≡ bytes_eq y x
 same_bytes [] [] = refl
 same_bytes [] (y ∷ ys) = refl
 same_bytes (x ∷ xs) [] = refl
 same_bytes (x ∷ xs) (y ∷ ys) = let e : nat_eq x y ≡ nat_eq y x = grind arith in ap (λ b. b && bytes_eq xs ys) e ∙ ap (λ b. nat_eq y x && b) (same_bytes xs ys)
 
-same_self : (x : List ℕ) → bytes_eq x x ≡ true
-same_self [] = refl
-same_self (x ∷ xs) = let e : nat_eq x x ≡ true = grind arith in ap (λ b. b && bytes_eq xs xs) e ∙ same_self xs
-
 -- ---- the rules' look-ups
 
 tag_step : (e : Entry) (es : List Entry) (x : List ℕ) (b : Bool) → bytes_eq e.0.now x ≡ b
     → as_tag (find (entries_of es) x) ≡ option_map (λ k. tag_of x k.tag) (found es x)
     → as_tag (cond b (Some (OfTag (tag_of e.0.now e.1.tag))) (find (entries_of es) x)) ≡ option_map (λ k. tag_of x k.tag) (cond b (Some e.1) (found es x))
-tag_step e es x true h ih = ap (λ n. Some (tag_of n e.1.tag)) (spelled e.0.now x h)
+tag_step e es x true h ih = ap (λ n. Some (tag_of n e.1.tag)) ((bytes_eq-Decides e.0.now x).0 h)
 tag_step e es x false h ih = ih
 
 pub tag_found : (es : List Entry) (x : List ℕ) → tag_in (entries_of es) x ≡ option_map (λ k. tag_of x k.tag) (found es x)
@@ -71,17 +57,10 @@ record Split (es : List Entry) (x : List ℕ) (k : Known) : Type 0 where
   is : es ≡ before ++ (at, k) ∷ after
   spelling : at.now ≡ x
 
-some_same : {A : Type 0} (a b : A) → Some a ≡ Some b → a ≡ b
-some_same a b h = ap (λ o. or_that o a) h
-  where
-    or_that : {A : Type 0} → Option A → A → A
-    or_that None a = a
-    or_that (Some b) a = b
-
 split_step : (e : Entry) (es : List Entry) (x : List ℕ) (k : Known) (b : Bool) → bytes_eq x e.0.now ≡ b
     → cond b (Some e.1) (found es x) ≡ Some k → (found es x ≡ Some k → Split es x k) → Split (e ∷ es) x k
 split_step e es x k true b h ih =
-    record { before = []; after = es; at = e.0; is = ap (λ v. (e.0, v) ∷ es) (some_same e.1 k h); spelling = sym (spelled x e.0.now b) }
+    record { before = []; after = es; at = e.0; is = ap (λ v. (e.0, v) ∷ es) (ap (λ o. unwrap_or o e.1) h); spelling = sym ((bytes_eq-Decides x e.0.now).0 b) }
 split_step e es x k false b h ih =
     let s = ih h in
     record { before = e ∷ s.before; after = s.after; at = s.at; is = ap (λ l. e ∷ l) s.is; spelling = s.spelling }
@@ -92,10 +71,10 @@ split (e ∷ es) x k h = split_step e es x k (bytes_eq x e.0.now) refl h (split 
 
 known_at : (acc before after : List Entry) (e : Entry) → are_known acc (before ++ e ∷ after) ≡ true → is_known (acc ++ before) e.0.now e.1 ≡ true
 known_at acc [] after e h =
-    subst (λ l. is_known l e.0.now e.1 ≡ true) (sym (append-nil acc)) (left_true (is_known acc e.0.now e.1) (are_known (acc ++ e ∷ []) after) h)
+    subst (λ l. is_known l e.0.now e.1 ≡ true) (sym (append-nil acc)) ((and_parts (is_known acc e.0.now e.1) (are_known (acc ++ e ∷ []) after) h).0)
 known_at acc (b ∷ bs) after e h =
     subst (λ l. is_known l e.0.now e.1 ≡ true) (append_assoc acc (b ∷ []) bs)
-    (known_at (acc ++ b ∷ []) bs after e (right_true (is_known acc b.0.now b.1) (are_known (acc ++ b ∷ []) (bs ++ e ∷ after)) h))
+    (known_at (acc ++ b ∷ []) bs after e ((and_parts (is_known acc b.0.now b.1) (are_known (acc ++ b ∷ []) (bs ++ e ∷ after)) h).1))
 
 here_step : (b : Bool) (first k : Known) (others rest : Option Known) → is_none (cond b (Some first) others) ≡ true
     → (is_none others ≡ true → rest ≡ Some k) → cond b (Some first) rest ≡ Some k
@@ -104,7 +83,7 @@ here_step false first k others rest h ih = ih h
 
 found_here : (before after : List Entry) (at : Bor (List ℕ)) (k : Known) → is_none (found before at.now) ≡ true
     → found (before ++ (at, k) ∷ after) at.now ≡ Some k
-found_here [] after at k h = ap (λ b. cond b (Some k) (found after at.now)) (same_self at.now)
+found_here [] after at k h = ap (λ b. cond b (Some k) (found after at.now)) ((bytes_eq-Decides at.now at.now).1 refl)
 found_here (b ∷ bs) after at k h =
     here_step (bytes_eq at.now b.0.now) b.1 k (found bs at.now) (found (bs ++ (at, k) ∷ after) at.now) h (found_here bs after at k)
 
@@ -119,8 +98,8 @@ each_same : (f g holds : StaticType → Bool) (ps : List Part) → each_part hol
     → ((t : StaticType) → holds t ≡ true → f t ≡ g t) → each_part f ps ≡ each_part g ps
 each_same f g holds [] h same = refl
 each_same f g holds (p ∷ ps) h same =
-    ap (λ b. b && each_part f ps) (part_same f g holds p.type (left_true (if_known holds p.type) (each_part holds ps) h) same)
-    ∙ ap (λ b. if_known g p.type && b) (each_same f g holds ps (right_true (if_known holds p.type) (each_part holds ps) h) same)
+    ap (λ b. b && each_part f ps) (part_same f g holds p.type ((and_parts (if_known holds p.type) (each_part holds ps) h).0) same)
+    ∙ ap (λ b. if_known g p.type && b) (each_same f g holds ps ((and_parts (if_known holds p.type) (each_part holds ps) h).1) same)
 
 abbrev is_struct : StaticType → Bool
 is_struct (Struct tag rs) = true
@@ -174,11 +153,11 @@ module _ (deep : ℕ → rules.Tables → StaticType → Bool) (quick : List Ent
   to_depth (suc n) all before after at k known is fewer rs =
       let members = members_of k.tag.members.items in
       let own : is_known before at.now k ≡ true = known_at [] before after (at, k) (subst (λ l. are_known [] l ≡ true) is known) in
-      let new_declared = left_true (is_none (found before at.now) && each_part (is_declared before) members)
-      (same_bool k.copyable (each_part (quick_copies before) members))
-      (left_true _ (same_bool k.begins (each_part (quick_begins before) members)) own) in
-      let new = left_true (is_none (found before at.now)) (each_part (is_declared before) members) new_declared in
-      let declared = right_true (is_none (found before at.now)) (each_part (is_declared before) members) new_declared in
+      let but_begins = (and_parts _ (same_bool k.begins (each_part (quick_begins before) members)) own).0 in
+      let new_declared = (and_parts (is_none (found before at.now) && each_part (is_declared before) members)
+      (same_bool k.copyable (each_part (quick_copies before) members)) but_begins).0 in
+      let new = (and_parts (is_none (found before at.now)) (each_part (is_declared before) members) new_declared).0 in
+      let declared = (and_parts (is_none (found before at.now)) (each_part (is_declared before) members) new_declared).1 in
       let here : found all at.now ≡ Some k = ap (λ l. found l at.now) is ∙ found_here before after at k new in
       looks.into n (entries_of all) at.now rs
       ∙ ap (each_part (deep n (entries_of all))) (parts_known all at.now k here)
@@ -237,8 +216,8 @@ copies_looks = record {
   else = copies_looks_else;
   by_flag = λ es tag rs. refl;
   known = λ before x k h. same_as k.copyable (each_part (quick_copies before) (members_of k.tag.members.items))
-      (right_true (is_none (found before x) && each_part (is_declared before) (members_of k.tag.members.items)) _
-      (left_true _ (same_bool k.begins (each_part (quick_begins before) (members_of k.tag.members.items))) h));
+      ((and_parts (is_none (found before x) && each_part (is_declared before) (members_of k.tag.members.items)) _
+      ((and_parts _ (same_bool k.begins (each_part (quick_begins before) (members_of k.tag.members.items))) h).0)).1);
 }
 
 begins_looks_else : (n : ℕ) (g : rules.Tables) (es : List Entry) (t : StaticType) → is_struct t ≡ false → begins n g t ≡ quick_begins es t
@@ -261,7 +240,7 @@ begins_looks = record {
   nowhere = λ g tag rs. refl;
   else = begins_looks_else;
   by_flag = λ es tag rs. refl;
-  known = λ before x k h. same_as k.begins (each_part (quick_begins before) (members_of k.tag.members.items)) (right_true _ _ h);
+  known = λ before x k h. same_as k.begins (each_part (quick_begins before) (members_of k.tag.members.items)) ((and_parts _ _ h).1);
 }
 
 pub copies_known : (all : List Entry) → are_known [] all ≡ true → (t : StaticType) → is_copyable (entries_of all) t ≡ quick_copies all t
@@ -312,8 +291,8 @@ all_declared es ms = each_member (is_declared es) ms ∙ sym (each_as (has_decla
 all_known_more : (acc es : List Entry) (e : Entry) → are_known acc es ≡ true → is_known (acc ++ es) e.0.now e.1 ≡ true → are_known acc (es ++ e ∷ []) ≡ true
 all_known_more acc [] e h own = ap (λ b. b && true) (subst (λ l. is_known l e.0.now e.1 ≡ true) (append-nil acc) own)
 all_known_more acc (f ∷ es) e h own =
-    ap (λ b. b && are_known (acc ++ f ∷ []) (es ++ e ∷ [])) (left_true (is_known acc f.0.now f.1) (are_known (acc ++ f ∷ []) es) h)
-    ∙ all_known_more (acc ++ f ∷ []) es e (right_true (is_known acc f.0.now f.1) (are_known (acc ++ f ∷ []) es) h)
+    ap (λ b. b && are_known (acc ++ f ∷ []) (es ++ e ∷ [])) ((and_parts (is_known acc f.0.now f.1) (are_known (acc ++ f ∷ []) es) h).0)
+    ∙ all_known_more (acc ++ f ∷ []) es e ((and_parts (is_known acc f.0.now f.1) (are_known (acc ++ f ∷ []) es) h).1)
     (subst (λ l. is_known l e.0.now e.1 ≡ true) (sym (append_assoc acc (f ∷ []) es)) own)
 
 same_bool_self : (b : Bool) → same_bool b b ≡ true

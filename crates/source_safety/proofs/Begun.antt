@@ -6,8 +6,9 @@ use Rattle.source_meaning.specs.Memory.{Region, Spot, Scalar, Holds, Cell, Objec
 use Rattle.source_meaning.specs.Steps.{Act, ◌>>=◌}
 use Rattle.source_meaning.specs.Making.{make_object}
 use Rattle.source_typing.specs.Types.{shape_of}
+use Rattle.source_meaning.proofs.Cases.{region_itself}
 use Rattle.source_safety.specs.Flat.{Tables}
-use Rattle.source_safety.proofs.Facts.{at_region, at_spot, region_itself}
+use Rattle.source_safety.proofs.Facts.{at_region, at_spot}
 use Rattle.source_safety.proofs.Invariant.{RunType, Flying, Reached, Ghost, HasType, CellOk, Inv, Grows}
 use Rattle.source_safety.proofs.Runs.{Runs, runs_check}
 use Rattle.source_safety.proofs.Moves.{Class, inv_cells}

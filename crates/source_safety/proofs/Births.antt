@@ -3,8 +3,9 @@ use Rattle.std.proofs.Common.{◌≡◌, ℕ, Bool, true, ◌⊎◌, inl, inr, r
 use Rattle.std.specs.Prelude.{if◌then◌else◌}
 use Rattle.std.proofs.Math.Decide.{dec_lt}
 use Rattle.source_meaning.specs.Memory.{Region, Frame, Born, Spot, State, Live, Dead, Memory, same_region, with_state}
+use Rattle.source_meaning.proofs.Cases.{region_is, region_itself}
 use Rattle.source_safety.specs.Flat.{Tables}
-use Rattle.source_safety.proofs.Facts.{tells, at_region, region_itself, region_is, not_region}
+use Rattle.source_safety.proofs.Facts.{tells, at_region, not_region}
 use Rattle.source_safety.proofs.Invariant.{heap, Owner, Nobody, Flying, Returned, Pinned, InCell, Freed, Ghost, Steady, StateOk, Counted, Known, Inv}
 use Rattle.source_safety.proofs.Values.{Carries}
 use Rattle.source_safety.proofs.Moves.{cell_kept, Alone}

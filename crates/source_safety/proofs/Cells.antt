@@ -95,7 +95,7 @@ runs_read_laid d n w m s (t ∷ ts) by f Q i l h c k =
 
 -- ---- a value is stored to cells that pointers may reach
 
-into_it : (s : Spot) (i c : ℕ) → into s i c (Flying i c) ≡ InCell s
+pub into_it : (s : Spot) (i c : ℕ) → into s i c (Flying i c) ≡ InCell s
 into_it s i c = ap (λ (b : Bool). if b && nat_eq c c then InCell s else Flying i c) (eq-eqb i i refl) ∙ ap (λ (b : Bool). if b then InCell s else Flying i c) (eq-eqb c c refl)
 
 into_later : (s : Spot) (i c j : ℕ) → (j ≡ c → ⊥) → into s i c (Flying i j) ≡ Flying i j

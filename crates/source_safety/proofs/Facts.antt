@@ -1,8 +1,9 @@
 -- Functions of regions and spots that are changed at one place.
 use Rattle.std.proofs.Common.{◌≡◌, ℕ, Bool, true, false, ◌⊎◌, inl, inr, refl, sym, ◌∙◌, ap}
-use Rattle.std.specs.Prelude.{◌&&◌, if◌then◌else◌}
-use Rattle.std.proofs.lemmas.Bool.{eqb-true, eq-eqb, false≢true}
-use Rattle.source_meaning.specs.Memory.{Region, Frame, Born, Spot, same_region, same_spot}
+use Rattle.std.specs.Prelude.{if◌then◌else◌}
+use Rattle.std.proofs.lemmas.Bool.{and_parts, eqb-true, false≢true}
+use Rattle.source_meaning.specs.Memory.{Region, Spot, same_region, same_spot}
+use Rattle.source_meaning.proofs.Cases.{region_is, region_itself, spot_itself}
 
 pub if_cases : {A : Type 0} (b : Bool) (x y : A) (P : A → Type 0) → (b ≡ true → P x) → (b ≡ false → P y) → P (if b then x else y)
 if_cases true x y P h k = h refl
@@ -12,27 +13,6 @@ pub tells : (b : Bool) → (b ≡ true) ⊎ (b ≡ false)
 tells true = inl refl
 tells false = inr refl
 
-pub region_itself : (r : Region) → same_region r r ≡ true
-region_itself (Frame k) = eq-eqb k k refl
-region_itself (Born k) = eq-eqb k k refl
-
-pub region_is : (q r : Region) → same_region q r ≡ true → q ≡ r
-region_is (Frame j) (Frame k) h = ap (λ (n : ℕ). Frame n) (eqb-true j k h)
-region_is (Born j) (Born k) h = ap (λ (n : ℕ). Born n) (eqb-true j k h)
-region_is (Frame j) (Born k) h = absurd (false≢true h)
-region_is (Born j) (Frame k) h = absurd (false≢true h)
-
-pub spot_itself : (s : Spot) → same_spot s s ≡ true
-spot_itself s = rw (region_itself s.region, eq-eqb s.object s.object refl, eq-eqb s.cell s.cell refl) refl
-
-and_left : (a b : Bool) → a && b ≡ true → a ≡ true
-and_left true b h = refl
-and_left false b h = h
-
-and_right : (a b : Bool) → a && b ≡ true → b ≡ true
-and_right true b h = h
-and_right false b h = absurd (false≢true h)
-
 abbrev spot_of : Region → ℕ → ℕ → Spot
 spot_of r o c = record { region = r; object = o; cell = c }
 
@@ -41,9 +21,10 @@ joined r r' o o' c c' p q e = cc
 
 pub spot_is : (t s : Spot) → same_spot t s ≡ true → t ≡ s
 spot_is t s h =
-    let a = region_is t.region s.region (and_left _ _ h) in
-    let b = eqb-true t.object s.object (and_left _ _ (and_right _ _ h)) in
-    let c = eqb-true t.cell s.cell (and_right _ _ (and_right _ _ h)) in
+    let a = region_is t.region s.region (and_parts _ _ h).0 in
+    let others = (and_parts _ _ h).1 in
+    let b = eqb-true t.object s.object (and_parts _ _ others).0 in
+    let c = eqb-true t.cell s.cell (and_parts _ _ others).1 in
     joined t.region s.region t.object s.object t.cell s.cell a b c
 
 pub not_region : (q r : Region) → same_region q r ≡ false → q ≡ r → ⊥

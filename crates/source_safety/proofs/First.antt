@@ -1,29 +1,22 @@
 -- The memory at the start, before its cells have types, is well formed: so what is proved of such memories speaks of some.
 use Rattle.std.proofs.Common.{◌≡◌, ℕ, Bool, true, false, None, List, refl, sym, ◌∙◌, ap, subst, arith, if◌then◌else◌}
 use Rattle.std.specs.Prelude.{◌&&◌}
-use Rattle.std.proofs.lemmas.Bool.{false≢true}
+use Rattle.std.proofs.lemmas.Bool.{and_parts}
 use Rattle.source_meaning.specs.Memory.{Region, Frame, Born, Object, Live, Closed, Dead, same_region}
 use Rattle.source_meaning.specs.Programs.{heap_alone}
+use Rattle.source_meaning.proofs.Cases.{region_is}
 use Rattle.source_safety.specs.Flat.{Tables}
-use Rattle.source_safety.proofs.Facts.{if_cases, at_region, region_is}
+use Rattle.source_safety.proofs.Facts.{if_cases, at_region}
 use Rattle.source_safety.proofs.Invariant.{heap, Nobody, Ghost, ByScope, Known, Inv}
 
 abbrev pub first_ghost : Ghost
 first_ghost = record { types = λ s. None; above = λ q r. same_region q heap && same_region r heap; owner = λ r. Nobody; keyed = λ r. false }
 
-and_left : (a b : Bool) → a && b ≡ true → a ≡ true
-and_left true b h = refl
-and_left false b h = h
-
-and_right : (a b : Bool) → a && b ≡ true → b ≡ true
-and_right true b h = h
-and_right false b h = absurd (false≢true h)
-
 upper_is : (q r : Region) → first_ghost.above q r ≡ true → q ≡ heap
-upper_is q r e = region_is q heap (and_left _ _ e)
+upper_is q r e = region_is q heap (and_parts _ _ e).0
 
 lower_is : (q r : Region) → first_ghost.above q r ≡ true → r ≡ heap
-lower_is q r e = region_is r heap (and_right _ _ e)
+lower_is q r e = region_is r heap (and_parts _ _ e).1
 
 both_heap : (q r : Region) → q ≡ heap → r ≡ heap → first_ghost.above q r ≡ true
 both_heap q r a b = ap (λ (x : Bool). x && same_region r heap) (ap (λ (x : Region). same_region x heap) a) ∙ ap (λ (x : Region). same_region x heap) b

@@ -1,5 +1,6 @@
 -- How statements are left, and what they return.
 use Rattle.std.proofs.Common.{◌≡◌, ℕ, Bool, true, false, List, refl, subst}
+use Rattle.std.specs.Cmp.Derive.{both_true}
 use Rattle.std.specs.Prelude.{◌&&◌, ◌||◌}
 use Rattle.source_meaning.specs.Memory.{Region, Scalar, Memory}
 use Rattle.source_meaning.specs.Steps.{World, Scope, Flow, Falls, Breaks, Continues, Returns, Act, take_turn}
@@ -55,10 +56,6 @@ or_right : (a b : Bool) → b ≡ true → a || b ≡ true
 or_right true b e = refl
 or_right false b e = e
 
-and_both : (a b : Bool) → a ≡ true → b ≡ true → a && b ≡ true
-and_both true b p q = q
-and_both false b p q = absurd cc
-
 pub flow_left : (d : Tables) (gives : RunType) (g : Env) (s t : Ways) (flow : Flow) (w : Ghost) → FlowOk d gives g s flow w → FlowOk d gives g (either_way s t) flow w
 flow_left d gives g s t Falls w x = or_left s.falls t.falls x
 flow_left d gives g s t Breaks w x = (or_left s.breaks t.breaks x.0, x.1)
@@ -73,8 +70,8 @@ flow_right d gives g s t (Returns vs) w x = x
 
 -- what follows a statement that falls through
 pub flow_then : (d : Tables) (gives : RunType) (g : Env) (s t : Ways) (flow : Flow) (w : Ghost) → s.falls ≡ true → FlowOk d gives g t flow w → FlowOk d gives g (then_ways s t) flow w
-flow_then d gives g s t Falls w e x = and_both s.falls t.falls e x
-flow_then d gives g s t Breaks w e x = (or_right s.breaks (s.falls && t.breaks) (and_both s.falls t.breaks e x.0), x.1)
+flow_then d gives g s t Falls w e x = both_true e x
+flow_then d gives g s t Breaks w e x = (or_right s.breaks (s.falls && t.breaks) (both_true e x.0), x.1)
 flow_then d gives g s t Continues w e x = x
 flow_then d gives g s t (Returns vs) w e x = x
 

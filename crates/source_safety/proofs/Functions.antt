@@ -13,6 +13,7 @@ use Rattle.source_typing.specs.Types.{StaticType, renamed}
 use Rattle.source_safety.specs.Flat.{Tables, flat}
 pub use Rattle.source_safety.specs.Programs.{FunctionJudged}
 use Rattle.source_safety.proofs.Invariant.{RunType, heap, Ghost, Laid, Inv}
+use Rattle.source_safety.proofs.Same.{some_is}
 use Rattle.source_safety.proofs.Values.{laid_kept}
 use Rattle.source_safety.proofs.Scopes.{block_ghost, block_memory, frame_births}
 use Rattle.source_safety.proofs.Arguments.{Agrees}
@@ -88,9 +89,6 @@ module _ (d : Tables) (world : World) (tables : typing.Tables) (sources : Source
       frame_lives = ap (λ (c : Bool). if c then true else judged.outside.regions.live (Level judged.outside.regions.count)) (eq-eqb judged.outside.regions.count judged.outside.regions.count refl);
       frame_below = omega arith;
     }
-      where
-        some_is : (t u : StaticType) → Some t ≡ Some u → t ≡ u
-        some_is t u e = cc
 
 -- the scene where the body begins
 pub scene_entry : (d : Tables) (world : World) (tables : typing.Tables) (sources : Sources d world tables) (x : List ℕ) (s : Signature) (F : Function world x s)

@@ -2,8 +2,9 @@
 use Rattle.std.proofs.Common.{◌≡◌, ℕ, Bool, true, ◌⊎◌, inl, inr, Option, Some, refl, sym, ◌∙◌, ap, subst}
 use Rattle.std.specs.Prelude.{nat_eq, ◌&&◌, if◌then◌else◌}
 use Rattle.source_meaning.specs.Memory.{Region, Born, Spot, Cell, State, Live, Dead, Memory, same_region, same_spot, with_state}
+use Rattle.source_meaning.proofs.Cases.{region_is}
 use Rattle.source_safety.specs.Flat.{Tables}
-use Rattle.source_safety.proofs.Facts.{if_cases, tells, at_region, region_is, not_region}
+use Rattle.source_safety.proofs.Facts.{if_cases, tells, at_region, not_region}
 use Rattle.source_safety.proofs.Invariant.{heap, Owner, Nobody, Flying, Returned, Pinned, InCell, Freed, Kept, Ghost, CellOk, Steady, ByScope, StateOk, Inv}
 use Rattle.source_safety.proofs.Values.{Carries, content_kept}
 

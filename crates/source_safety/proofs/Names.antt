@@ -7,9 +7,10 @@ use Rattle.source_typing.specs.Regions as names
 use Rattle.source_typing.specs.Regions.{TheHeap, Level, same_id, is_heap, is_among, any_of, by_bounds, reaches, Regions, with_scope, entry_regions}
 use Rattle.source_typing.proofs.Converting.{and_is}
 use Rattle.source_typing.proofs.OperatorsFit.{or_is}
+use Rattle.source_meaning.proofs.Cases.{region_is, region_itself}
 use Rattle.source_safety.specs.Flat.{Tables}
 pub use Rattle.source_safety.specs.Named.{Below, AllBelow, BoundsBelow}
-use Rattle.source_safety.proofs.Facts.{if_cases, tells, at_region, region_itself, region_is, not_region}
+use Rattle.source_safety.proofs.Facts.{if_cases, tells, at_region, not_region}
 use Rattle.source_safety.proofs.Invariant.{heap, Owner, Nobody, Pinned, Ghost, Steady, ByScope, ByLoan, StateOk, Counted, Known, Inv, Grows}
 use Rattle.source_safety.proofs.Births.{bearing, with_birth, Births}
 use Rattle.source_safety.proofs.Scopes.{above_scope, lasts}
@@ -107,7 +108,7 @@ below_more n (Level k) h e = less k n h (λ z. false≢true (sym e ∙ eq-eqb k 
     less : (x y : ℕ) → x < y + 1 → (x ≡ y → ⊥) → x < y
     less x y p z = omega (arith, p, z)
 
-below_up : (n : ℕ) (a : NameOf) → Below n a → Below (n + 1) a
+pub below_up : (n : ℕ) (a : NameOf) → Below n a → Below (n + 1) a
 below_up n TheHeap h = tt
 below_up n (Level k) h = omega (arith, h)
 

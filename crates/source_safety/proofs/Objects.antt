@@ -8,14 +8,15 @@ use Rattle.source_meaning.specs.Steps.{Act, ◌>>=◌, ◌>>◌}
 use Rattle.source_meaning.specs.Values.{write_cells}
 use Rattle.source_meaning.specs.Making.{make_object}
 use Rattle.source_typing.specs.Types.{shape_of}
+use Rattle.source_meaning.proofs.Cases.{region_is, region_itself}
 use Rattle.source_safety.specs.Flat.{Tables}
-use Rattle.source_safety.proofs.Facts.{if_cases, tells, at_region, at_spot, same_at, same_here, region_itself}
+use Rattle.source_safety.proofs.Facts.{if_cases, at_region, at_spot, same_at}
 use Rattle.source_safety.proofs.Invariant.{RunType, Flying, InCell, Kept, Reached, Private, type_of, Ghost, HasType, HaveTypes, CellOk, Known, Inv, Grows}
 use Rattle.source_safety.proofs.Values.{value_kept, values_kept}
 use Rattle.source_safety.proofs.Moves.{passing, Class, cell_kept, into, into_class}
 use Rattle.source_safety.proofs.Births.{known_live}
 use Rattle.source_safety.proofs.Runs.{Runs, runs_check}
-use Rattle.source_safety.proofs.Cells.{cell, seen, typed_is, runs_write}
+use Rattle.source_safety.proofs.Cells.{cell, into_it, seen, typed_is, runs_write}
 use Rattle.source_safety.proofs.After.{flying}
 
 -- ---- an object whose cells have no type yet
@@ -44,7 +45,7 @@ inv_object d w m r o i l = record {
   where
     apart : (s : Spot) → s.object < m.objects s.region → (b : Bool) → same_region s.region r ≡ b → b && nat_eq s.object (m.objects r) ≡ false
     apart s c true e = elim (eqb_tells s.object (m.objects r)) [
-      | inl f ↦ absurd (let p : m.objects s.region ≡ m.objects r = ap m.objects (Rattle.source_safety.proofs.Facts.region_is s.region r e) in let q = f.1 in omega (arith, c, p))
+      | inl f ↦ absurd (let p : m.objects s.region ≡ m.objects r = ap m.objects (region_is s.region r e) in let q = f.1 in omega (arith, c, p))
       | inr f ↦ f.0
     ]
     apart s c false e = refl
@@ -54,7 +55,7 @@ inv_object d w m r o i l = record {
 
 new_apart : (m : Memory) (r : Region) (s : Spot) → s.object < m.objects s.region → (b : Bool) → same_region s.region r ≡ b → b && nat_eq s.object (m.objects r) ≡ false
 new_apart m r s c true e = elim (eqb_tells s.object (m.objects r)) [
-  | inl f ↦ absurd (let p : m.objects s.region ≡ m.objects r = ap m.objects (Rattle.source_safety.proofs.Facts.region_is s.region r e) in let q = f.1 in omega (arith, c, p))
+  | inl f ↦ absurd (let p : m.objects s.region ≡ m.objects r = ap m.objects (region_is s.region r e) in let q = f.1 in omega (arith, c, p))
   | inr f ↦ f.0
 ]
 new_apart m r s c false e = refl
@@ -87,9 +88,6 @@ typed s k w = record w { types = λ t. if same_spot t s then Some k else w.types
 
 abbrev pub filled : Spot → Kept → ℕ → ℕ → Ghost → Ghost
 filled s kept k c w = passing (into s k c) (typed s kept w)
-
-into_here : (s : Spot) (i c : ℕ) → into s i c (Flying i c) ≡ InCell s
-into_here s i c = ap (λ (b : Bool). if b && nat_eq c c then InCell s else Flying i c) (eq-eqb i i refl) ∙ ap (λ (b : Bool). if b then InCell s else Flying i c) (eq-eqb c c refl)
 
 still : (w : Ghost) (s : Spot) (kept : Kept) → w.types s ≡ None → (x : Spot) (k : Kept) → w.types x ≡ Some k → (typed s kept w).types x ≡ Some k
 still w s kept none x k e = at_spot w.types s (Some kept) x (λ z. z ≡ Some k) (λ z. absurd (let a = ap w.types z in cc)) (λ z. e)
@@ -129,7 +127,7 @@ inv_filled d w m s kept k c v i none there h = record {
     held = into_class s k c
 
     now : (t : RunType) → HasType d w (Flying k c) v t → HasType d w' (InCell s) v t
-    now t x = value_kept d w w' (Flying k c) (InCell s) v t (record { types = λ y u a. still w s kept none y (Reached u) a; above = λ a b u. u; owner = λ b u. ap (into s k c) u ∙ into_here s k c; keyed = λ b u. refl }) x
+    now t x = value_kept d w w' (Flying k c) (InCell s) v t (record { types = λ y u a. still w s kept none y (Reached u) a; above = λ a b u. u; owner = λ b u. ap (into s k c) u ∙ into_it s k c; keyed = λ b u. refl }) x
 
     here : (q : Kept) → HasType d w (Flying k c) v (type_of q) → CellOk d w' s (Some (cell (type_of q) (Holds v))) q
     here (Reached t) x = record { content = Holds v; is = refl; ok = record { value = v; is = refl; typed = now t x } }

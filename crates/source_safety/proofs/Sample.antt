@@ -93,19 +93,16 @@ abbrev by_names : Bool → Bool → Bool → Option Entry
 by_names read written main =
     (if read then Some (OfBuiltin 0) else (if written then Some (OfBuiltin 1) else (if main then Some (OfFunction main_signature) else None)))
 
-text_is : (a x : List ℕ) → bytes_eq a x ≡ true → a ≡ x
-text_is a x = (bytes_eq-Decides a x).0
-
 entry_plain : (x : List ℕ) (e : Entry) (a c m : Bool) → bytes_eq (codes "getchar") x ≡ a → bytes_eq (codes "putchar") x ≡ c → bytes_eq (codes "main") x ≡ m
     → by_names a c m ≡ Some e → PlainEntry its_world x e
 entry_plain x e true c m p q r h =
-    subst (λ (y : Entry). PlainEntry its_world x y) (some_is (OfBuiltin 0) e h) (subst (λ (y : List ℕ). Builtin y 0) (text_is (codes "getchar") x p) (inl (refl, refl)))
+    subst (λ (y : Entry). PlainEntry its_world x y) (some_is (OfBuiltin 0) e h) (subst (λ (y : List ℕ). Builtin y 0) ((bytes_eq-Decides (codes "getchar") x).0 p) (inl (refl, refl)))
 entry_plain x e false true m p q r h =
     subst (λ (y : Entry). PlainEntry its_world x y) (some_is (OfBuiltin 1) e h)
-    (subst (λ (y : List ℕ). Builtin y 1) (text_is (codes "putchar") x q) (inr (refl, refl, refl)))
+    (subst (λ (y : List ℕ). Builtin y 1) ((bytes_eq-Decides (codes "putchar") x).0 q) (inr (refl, refl, refl)))
 entry_plain x e false false true p q r h =
     subst (λ (y : Entry). PlainEntry its_world x y) (some_is (OfFunction main_signature) e h)
-    (subst (λ (y : List ℕ). Function its_world y main_signature) (text_is (codes "main") x r) main_function)
+    (subst (λ (y : List ℕ). Function its_world y main_signature) ((bytes_eq-Decides (codes "main") x).0 r) main_function)
 entry_plain x e false false false p q r h = absurd cc
 
 function_judged : (x : List ℕ) (s : Signature) (a c m : Bool) → bytes_eq (codes "main") x ≡ m → by_names a c m ≡ Some (OfFunction s)
@@ -115,7 +112,7 @@ function_judged x s false true m r h = absurd cc
 function_judged x s false false false r h = absurd cc
 function_judged x s false false true r h =
     let same : main_signature ≡ s = signature_is main_signature s (some_is (OfFunction main_signature) (OfFunction s) h) in
-    subst (λ (y : List ℕ). (F : Function its_world y s) → FunctionJudged its_world its_tables y s F) (text_is (codes "main") x r)
+    subst (λ (y : List ℕ). (F : Function its_world y s) → FunctionJudged its_world its_tables y s F) ((bytes_eq-Decides (codes "main") x).0 r)
     (subst (λ (u : Signature). (F : Function its_world (codes "main") u) → FunctionJudged its_world its_tables (codes "main") u F) same
     (λ F. judged_same its_world its_tables (codes "main") main_signature main_function F main_judged))
   where

@@ -1,14 +1,16 @@
 -- Blocks and lexical regions are entered and left.
 use Rattle.std.proofs.Common.{◌≡◌, ℕ, ◌+◌, ◌<◌, Bool, true, false, inl, inr, refl, sym, ◌∙◌, ap, subst, arith}
+use Rattle.std.specs.Cmp.Derive.{both_true}
 use Rattle.std.specs.Prelude.{◌&&◌, if◌then◌else◌}
-use Rattle.std.proofs.lemmas.Bool.{false≢true}
+use Rattle.std.proofs.lemmas.Bool.{and_parts, false≢true}
 use Rattle.cyc_words.specs.Events.{RegionNew, RegionFree}
 use Rattle.source_meaning.specs.Memory.{Region, Frame, Born, State, Live, Closed, Dead, Memory, same_region, with_state, is_live, state_is_live}
 use Rattle.source_meaning.specs.Steps.{Step, Flow, Act, give, ◌>>=◌, ◌>>◌, show}
 use Rattle.source_meaning.specs.Making.{set_state}
 use Rattle.source_meaning.specs.Regions.{in_region, in_block, region_born, region_freed}
+use Rattle.source_meaning.proofs.Cases.{region_is, region_itself}
 use Rattle.source_safety.specs.Flat.{Tables}
-use Rattle.source_safety.proofs.Facts.{if_cases, tells, same_here, region_itself, region_is, not_region}
+use Rattle.source_safety.proofs.Facts.{if_cases, tells, same_here, not_region}
 use Rattle.source_safety.proofs.Invariant.{heap, Owner, Nobody, Flying, Returned, Pinned, InCell, Freed, Ghost, Steady, ByScope, ByLoan, Counted, Known, Inv, Grows}
 use Rattle.source_safety.proofs.Births.{bearing, with_birth, Births, inv_birth, inv_death, known_live}
 use Rattle.source_safety.proofs.Growth.{grows_scope, scope_alone}
@@ -52,20 +54,8 @@ live_by Live h = refl
 live_by Closed h = absurd (false≢true h)
 live_by Dead h = absurd (false≢true h)
 
-and_both : (a b : Bool) → a ≡ true → b ≡ true → a && b ≡ true
-and_both true b p q = q
-and_both false b p q = absurd (false≢true p)
-
-and_first : (a b : Bool) → a && b ≡ true → a ≡ true
-and_first true b h = refl
-and_first false b h = h
-
-and_second : (a b : Bool) → a && b ≡ true → b ≡ true
-and_second true b h = h
-and_second false b h = absurd (false≢true h)
-
 pub lasts : (w : Ghost) (m : Memory) (r q : Region) → m.state q ≡ Live → Steady (w.owner q) → above_scope w m r q ≡ true
-lasts w m r q l s = if_cases (same_region q r) true (lasting w m q) (λ x. x ≡ true) (λ e. refl) (λ e. and_both _ _ (ap state_is_live l) (by_steady _ s))
+lasts w m r q l s = if_cases (same_region q r) true (lasting w m q) (λ x. x ≡ true) (λ e. refl) (λ e. both_true (ap state_is_live l) (by_steady _ s))
 
 pub scope_births : (d : Tables) (w : Ghost) (m : Memory) (a b : ℕ) (r : Region) → Inv d w m → (Known m r → ⊥) → Counted a b r → ((q : Region) → Known m q → Counted a b q) → ((q : Region) → Counted a b q → (q ≡ r → ⊥) → Known m q) → Births w m a b r Live (above_scope w m r) Nobody false
 scope_births d w m a b r i new here more only = record {
@@ -76,11 +66,11 @@ scope_births d w m a b r i new here more only = record {
   ok = λ e. cc;
   up_itself = ap (λ (x : Bool). if x then true else lasting w m r) (region_itself r);
   up_heap = lasts w m r heap i.heap_lives (subst Steady (sym i.heap_is_free) ByScope);
-  up_live = λ q e n. live_by _ (and_first _ _ (old q e n));
-  up_steady = λ q e n. steady_by _ (and_second _ _ (old q e n));
+  up_live = λ q e n. live_by _ (and_parts _ _ (old q e n)).0;
+  up_steady = λ q e n. steady_by _ (and_parts _ _ (old q e n)).1;
   up_along = λ p q v e n. elim (tells (same_region p q)) [
     | inl z ↦ (let same : p ≡ q = region_is p q z in subst (λ (x : Region). above_scope w m r x ≡ true) (sym same) e)
-    | inr z ↦ (let l : m.state q ≡ Live = live_by _ (and_first _ _ (old q e n)) in lasts w m r p (i.closed q p l v) (i.rests q p l v (not_region p q z)))
+    | inr z ↦ (let l : m.state q ≡ Live = live_by _ (and_parts _ _ (old q e n)).0 in lasts w m r p (i.closed q p l v) (i.rests q p l v (not_region p q z)))
   ];
   up_sole = λ q n e z. absurd (n refl);
 }

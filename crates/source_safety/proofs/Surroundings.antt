@@ -20,7 +20,7 @@ use Rattle.source_safety.proofs.Invariant.{RunType, heap, Ghost, Laid, Inv}
 use Rattle.source_safety.proofs.Values.{laid_kept}
 use Rattle.source_safety.proofs.Arguments.{Agrees}
 use Rattle.source_safety.proofs.Scopes.{block_ghost, block_memory, frame_births}
-use Rattle.source_safety.proofs.Names.{NameOf, Below, naming, names_scope}
+use Rattle.source_safety.proofs.Names.{NameOf, Below, below_up, naming, names_scope}
 use Rattle.source_safety.proofs.Scenes.{AllBelow, TypeBelow, Alike, renamed_alike, Bound, bound_alike, Binds, Scene}
 use Rattle.source_safety.proofs.Entries.{IsWordType, PlainEntry, MeansPlain}
 
@@ -144,10 +144,6 @@ module _ (d : Tables) (world : World) (tables : typing.Tables) (g : Env) (scope 
     }
 
 -- ---- a block is entered
-
-pub below_up : (n : ℕ) (a : NameOf) → Below n a → Below (n + 1) a
-below_up n TheHeap h = tt
-below_up n (Level k) h = omega (arith, h)
 
 all_up : (n : ℕ) (rs : List NameOf) → AllBelow n rs → AllBelow (n + 1) rs
 all_up n [] h = tt

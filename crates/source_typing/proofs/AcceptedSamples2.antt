@@ -4,8 +4,9 @@ use Rattle.cyc_tree.specs.declared.expression.Prefix.TheVariants.{Dereference, A
 use Rattle.cyc_tree.specs.declared.name.Sign.TheVariants as sign
 use Rattle.cyc_tree.specs.Tree as tree
 use Rattle.cyc_tree.specs.Tree.{Expression, NoExpressions, MoreExpressions, NoSuffixes, Arrow, Initializer, Statement, NoItems, Declare, Execute}
+use Rattle.source_meaning.proofs.Trees.{pointer}
 use Rattle.source_typing.specs.Programs.{typing_fault}
-use Rattle.source_typing.proofs.SampleTrees.{name_at, region_at, pointer, type_at, int_at, number, variable_at, returns, member, structure, bound, routine}
+use Rattle.source_typing.proofs.SampleTrees.{name_at, region_at, type_at, int_at, number, variable_at, returns, member, structure, bound, routine}
 use Rattle.source_typing.proofs.SampleTrees.{main_at, main_returns}
 
 -- int f(int *`r *`s p) { return **p; } int main() { int x; int *p = &x; { int *q = p; int **z = &p; f(&q); f(z); } return 0; }

@@ -1,12 +1,12 @@
 -- What no fault says of calls and makings.
-use Rattle.std.proofs.Common.{◌≡◌, ℕ, Bool, true, false, Option, Some, None, List, [], ◌∷◌, refl, sym, ap, subst}
+use Rattle.std.proofs.Common.{◌≡◌, ℕ, Bool, true, false, Option, Some, None, List, [], ◌∷◌, refl, ap, subst}
 use Rattle.std.specs.Prelude.{nat_eq, length, ◌++◌}
 use Rattle.source_typing.specs.Faults.{Fault, test, effect_rule, outlives_rule}
 use Rattle.source_typing.specs.Verdicts.{Verdict, Faulty, Unjudged, Of, after, if_fits, unless_faulty}
 use Rattle.source_typing.specs.Regions.{Region}
 use Rattle.source_typing.specs.Types.{StaticType, Thin, Unique, renamed, is_makeable}
 use Rattle.source_typing.specs.Tables.{Signature, argument}
-use Rattle.source_typing.specs.Scope.{Env, Value, Nowhere, value}
+use Rattle.source_typing.specs.Scope.{Env, Value}
 use Rattle.source_typing.specs.Conversions.{conversion, converts}
 use Rattle.source_typing.specs.Converts.{Converts}
 use Rattle.source_typing.specs.Fixing.{fixed_from, fixed_known, all_fits}
@@ -17,16 +17,14 @@ use Rattle.source_typing.specs.Calls.{call_entered}
 use Rattle.source_typing.specs.Making.{Goal, To, ToUnique, NoHandle, made_to, made}
 use Rattle.source_typing.proofs.Inversion.{of_is, unless_is, test_is, none_of_both}
 use Rattle.source_typing.proofs.Converting.{conversion_is, broken_is}
-
-typed_value : (at : ℕ) (t : StaticType) (w : Value) → value at t ≡ Of w → w.type ≡ t
-typed_value at t w e = ap (λ (v : Value). v.type) (sym (of_is (record { at = at; type = t; seat = Nowhere }) w e))
+use Rattle.source_typing.proofs.OperatorsFit.{value_is}
 
 -- ---- effects and bounds
 
 result_is : (at : ℕ) (rs : List Region) (t : Option StaticType) (w : Value) → typed_result at rs t ≡ Of w
     → (u : StaticType) × (t ≡ Some u) × (w.type ≡ renamed (argument rs) u)
 result_is at rs None w e = absurd cc
-result_is at rs (Some t) w e = (t, refl, typed_value at (renamed (argument rs) t) w e)
+result_is at rs (Some t) w e = (t, refl, value_is at (renamed (argument rs) t) w e)
 
 -- what a call without fault shows: its effect is live, its bounds are in order, and its result's type is known
 pub record Entered (g : Env) (s : Signature) (rs : List Region) (w : Value) : Type 0 where
@@ -124,8 +122,8 @@ MadeTo ToUnique t u = u ≡ Unique false t
 MadeTo NoHandle t u = ⊥
 
 made_to_is : (at : ℕ) (goal : Goal) (t : StaticType) (w : Value) → made_to at goal t ≡ Of w → MadeTo goal t w.type
-made_to_is at (To r) t w e = typed_value at (Thin false r t) w e
-made_to_is at ToUnique t w e = typed_value at (Unique false t) w e
+made_to_is at (To r) t w e = value_is at (Thin false r t) w e
+made_to_is at ToUnique t w e = value_is at (Unique false t) w e
 made_to_is at NoHandle t w e = absurd cc
 
 makeable_is : (b : Bool) (at : ℕ) (goal : Goal) (t : StaticType) (w : Value) → after (if_fits b at t) (made_to at goal) ≡ Of w

@@ -12,9 +12,6 @@ use Rattle.source_typing.specs.Converts.{Converts, Integers, NullToThin, NullToF
 
 -- ---- equal types
 
-tags_are : (a b : List ℕ) → bytes_eq a b ≡ true → a ≡ b
-tags_are a b = (bytes_eq-Decides a b).0
-
 only_is : (b : Bool) (m : Match) → only b m ≡ Equals → (b ≡ true) × (m ≡ Equals)
 only_is true m e = (refl, e)
 only_is false m e = absurd cc
@@ -28,7 +25,7 @@ matched_is : (b : Bool) (m : Match) → matched b m ≡ Equals → (b ≡ true) 
 matched_is true m e = (refl, e)
 matched_is false m e = absurd (not_by_regions m e)
 
-bool_is : (a b : Bool) → same_bool a b ≡ true → a ≡ b
+pub bool_is : (a b : Bool) → same_bool a b ≡ true → a ≡ b
 bool_is true true e = refl
 bool_is true false e = absurd cc
 bool_is false true e = absurd cc
@@ -55,7 +52,7 @@ ids_are (r ∷ rs) (q ∷ qs) e =
 tags_match : (a b : List ℕ) (rs qs : List Region) → only (bytes_eq a b) (matched (same_ids rs qs) Equals) ≡ Equals → (a ≡ b) × (rs ≡ qs)
 tags_match a b rs qs e =
     let h : (bytes_eq a b ≡ true) × (matched (same_ids rs qs) Equals ≡ Equals) = only_is (bytes_eq a b) (matched (same_ids rs qs) Equals) e in
-    (tags_are a b h.0, ids_are rs qs (matched_is (same_ids rs qs) Equals h.1).0)
+    ((bytes_eq-Decides a b).0 h.0, ids_are rs qs (matched_is (same_ids rs qs) Equals h.1).0)
 
 -- types that compare as equal are equal
 pub compare_is : (t u : StaticType) → compare t u ≡ Equals → t ≡ u

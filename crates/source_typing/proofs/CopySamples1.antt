@@ -6,10 +6,11 @@ use Rattle.cyc_tree.specs.declared.name.Sign.TheVariants as sign
 use Rattle.cyc_tree.specs.Tree as tree
 use Rattle.cyc_tree.specs.Tree.{Expression, NoExpressions, MoreExpressions, NoLinks, MoreLinks, NoSuffixes, Index, Dot, Arrow, One, Initializer, Statement}
 use Rattle.cyc_tree.specs.Tree.{NoItems, Declare, Execute, Initial}
+use Rattle.source_meaning.proofs.Trees.{pointer}
 use Rattle.source_typing.specs.Faults.{fault, copy_rule}
 use Rattle.source_typing.specs.Answers.{first_fault}
 use Rattle.source_typing.specs.Taken.{whole}
-use Rattle.source_typing.proofs.SampleTrees.{name_at, region_at, pointer, type_at, int_at, number, variable_at, returns, member, structure, global, routine}
+use Rattle.source_typing.proofs.SampleTrees.{name_at, region_at, type_at, int_at, number, variable_at, returns, member, structure, global, routine}
 use Rattle.source_typing.proofs.SampleTrees.{main_at, main_returns}
 
 -- int main() { int *`U p = rnew(unique_region) 3; int *`U @q = &p; return 0; }

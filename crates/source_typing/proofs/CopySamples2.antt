@@ -3,10 +3,11 @@ use Rattle.std.proofs.Common.{◌≡◌, refl, Some, None, [], ◌∷◌}
 use Rattle.cyc_tree.specs.declared.name.Sign.TheVariants as sign
 use Rattle.cyc_tree.specs.Tree as tree
 use Rattle.cyc_tree.specs.Tree.{Expression, NoExpressions, MoreExpressions, NoSuffixes, Arrow, One, Initializer, Statement, NoItems, Declare, Execute}
+use Rattle.source_meaning.proofs.Trees.{pointer}
 use Rattle.source_typing.specs.Faults.{fault, type_rule}
 use Rattle.source_typing.specs.Answers.{first_fault}
 use Rattle.source_typing.specs.Taken.{whole}
-use Rattle.source_typing.proofs.SampleTrees.{name_at, pointer, type_at, int_at, number, variable_at, returns, member, structure, routine, main_at}
+use Rattle.source_typing.proofs.SampleTrees.{name_at, type_at, int_at, number, variable_at, returns, member, structure, routine, main_at}
 
 -- no call stands in the places of an exchange
 -- struct B { int *`U p; int x; }; struct B @g(struct B *`U b) { ufree(b); return new B(NULL, 2); } int main() { struct B *`U b = rnew(unique_region) B(NULL,

@@ -4,9 +4,10 @@ use Rattle.cyc_tree.specs.declared.expression.Prefix.TheVariants.{Dereference}
 use Rattle.cyc_tree.specs.declared.name.Sign.TheVariants as sign
 use Rattle.cyc_tree.specs.Tree as tree
 use Rattle.cyc_tree.specs.Tree.{Expression, NoExpressions, MoreExpressions, Statement, NoItems, Execute}
+use Rattle.source_meaning.proofs.Trees.{pointer}
 use Rattle.source_typing.specs.Faults.{fault, effect_rule}
 use Rattle.source_typing.specs.Programs.{typing_fault}
-use Rattle.source_typing.proofs.SampleTrees.{name_at, region_at, pointer, type_at, int_at, number, variable_at, returns, member, routine, main_returns}
+use Rattle.source_typing.proofs.SampleTrees.{name_at, region_at, type_at, int_at, number, variable_at, returns, member, routine, main_returns}
 
 -- int f(uregion_key_t<`r> k; {`r}) { return 0; } int main() { return 0; }
 effect_1 : typing_fault false

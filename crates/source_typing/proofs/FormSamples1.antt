@@ -3,10 +3,11 @@ use Rattle.std.proofs.Common.{◌≡◌, refl, Some, None, [], ◌∷◌}
 use Rattle.cyc_tree.specs.declared.name.Sign.TheVariants as sign
 use Rattle.cyc_tree.specs.Tree as tree
 use Rattle.cyc_tree.specs.Tree.{Expression, NoExpressions, MoreExpressions, Initializer, Statement, NoItems, Declare, Execute}
+use Rattle.source_meaning.proofs.Trees.{pointer}
 use Rattle.source_typing.specs.Faults.{fault, name_rule, type_rule, region_rule, outlives_rule}
 use Rattle.source_typing.specs.Answers.{first_fault}
 use Rattle.source_typing.specs.Taken.{whole}
-use Rattle.source_typing.proofs.SampleTrees.{name_at, region_at, pointer, type_at, int_at, number, variable_at, returns, member, structure, routine, main_at}
+use Rattle.source_typing.proofs.SampleTrees.{name_at, region_at, type_at, int_at, number, variable_at, returns, member, structure, routine, main_at}
 use Rattle.source_typing.proofs.SampleTrees.{main_returns}
 
 -- struct S { int x; }; struct T { int x; }; int main() { struct S s; struct T t; s = t; return 0; }

@@ -7,10 +7,11 @@ use Rattle.cyc_tree.specs.declared.name.Sign.TheVariants as sign
 use Rattle.cyc_tree.specs.Tree as tree
 use Rattle.cyc_tree.specs.Tree.{Expression, NoExpressions, MoreExpressions, NoLinks, MoreLinks, NoSuffixes, Index, Dot, Arrow, Initializer, Statement}
 use Rattle.cyc_tree.specs.Tree.{NoItems, Declare, Execute, Constant, Initial}
+use Rattle.source_meaning.proofs.Trees.{pointer}
 use Rattle.source_typing.specs.Faults.{fault, name_rule, type_rule}
 use Rattle.source_typing.specs.Answers.{first_fault}
 use Rattle.source_typing.specs.Taken.{whole}
-use Rattle.source_typing.proofs.SampleTrees.{name_at, region_at, pointer, type_at, int_at, number, variable_at, returns, member, structure, global, main_at}
+use Rattle.source_typing.proofs.SampleTrees.{name_at, region_at, type_at, int_at, number, variable_at, returns, member, structure, global, main_at}
 
 -- struct S { int @p; }; int main() { struct S a[2]; return 0; }
 form_37 : first_fault whole

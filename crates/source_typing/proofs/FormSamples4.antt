@@ -5,10 +5,11 @@ use Rattle.cyc_tree.specs.declared.expression.Prefix.TheVariants.{AddressOf}
 use Rattle.cyc_tree.specs.declared.name.Sign.TheVariants as sign
 use Rattle.cyc_tree.specs.Tree as tree
 use Rattle.cyc_tree.specs.Tree.{Expression, NoLinks, MoreLinks, NoSuffixes, Index, Arrow, One, Initializer, Statement, NoItems, Declare, Execute}
+use Rattle.source_meaning.proofs.Trees.{pointer}
 use Rattle.source_typing.specs.Faults.{fault, type_rule, region_rule, outlives_rule}
 use Rattle.source_typing.specs.Answers.{first_fault}
 use Rattle.source_typing.specs.Taken.{whole}
-use Rattle.source_typing.proofs.SampleTrees.{name_at, region_at, pointer, type_at, int_at, number, variable_at, returns, member, structure, bound, routine}
+use Rattle.source_typing.proofs.SampleTrees.{name_at, region_at, type_at, int_at, number, variable_at, returns, member, structure, bound, routine}
 use Rattle.source_typing.proofs.SampleTrees.{main_at, main_returns}
 
 -- struct S<`r> { int *`r p; }; void f(struct S<`a, `b> *s) { } int main() { return 0; }

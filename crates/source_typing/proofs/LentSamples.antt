@@ -5,10 +5,11 @@ use Rattle.cyc_tree.specs.declared.expression.Prefix.TheVariants.{Dereference}
 use Rattle.cyc_tree.specs.declared.name.Sign.TheVariants as sign
 use Rattle.cyc_tree.specs.Tree as tree
 use Rattle.cyc_tree.specs.Tree.{Expression, NoExpressions, MoreExpressions, NoLinks, MoreLinks, One, Initializer, Statement, NoItems, Declare, Execute}
+use Rattle.source_meaning.proofs.Trees.{pointer}
 use Rattle.source_typing.specs.Faults.{fault, region_rule, lent_rule}
 use Rattle.source_typing.specs.Answers.{first_fault}
 use Rattle.source_typing.specs.Taken.{whole}
-use Rattle.source_typing.proofs.SampleTrees.{name_at, region_at, pointer, type_at, int_at, number, variable_at, returns, member, routine, main_at}
+use Rattle.source_typing.proofs.SampleTrees.{name_at, region_at, type_at, int_at, number, variable_at, returns, member, routine, main_at}
 
 -- int main() { int @`U p = rnew(unique_region) 4; { let alias<`r> int @`r x = p; int @`r y = x; *y = *x + 1; ufree(p); } return *p; }
 lent_flow_1 : first_fault whole

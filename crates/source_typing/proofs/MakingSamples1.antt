@@ -5,10 +5,11 @@ use Rattle.cyc_tree.specs.declared.expression.Prefix.TheVariants.{AddressOf}
 use Rattle.cyc_tree.specs.declared.name.Sign.TheVariants as sign
 use Rattle.cyc_tree.specs.Tree as tree
 use Rattle.cyc_tree.specs.Tree.{Expression, NoExpressions, MoreExpressions, NoLinks, MoreLinks, One, Array, Initializer, Statement, NoItems, Declare, Execute}
+use Rattle.source_meaning.proofs.Trees.{pointer}
 use Rattle.source_typing.specs.Faults.{fault, name_rule, type_rule, region_rule, outlives_rule}
 use Rattle.source_typing.specs.Answers.{first_fault}
 use Rattle.source_typing.specs.Taken.{whole}
-use Rattle.source_typing.proofs.SampleTrees.{name_at, region_at, pointer, type_at, int_at, number, variable_at, returns, member, structure, routine, main_at}
+use Rattle.source_typing.proofs.SampleTrees.{name_at, region_at, type_at, int_at, number, variable_at, returns, member, structure, routine, main_at}
 use Rattle.source_typing.proofs.SampleTrees.{main_returns}
 
 -- int main() { new NULL; return 0; }

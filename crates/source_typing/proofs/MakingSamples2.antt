@@ -4,10 +4,11 @@ use Rattle.cyc_tree.specs.declared.expression.Prefix.TheVariants.{AddressOf}
 use Rattle.cyc_tree.specs.declared.name.Sign.TheVariants as sign
 use Rattle.cyc_tree.specs.Tree as tree
 use Rattle.cyc_tree.specs.Tree.{Expression, NoExpressions, MoreExpressions, Initializer, Statement, NoItems, Declare, Execute}
+use Rattle.source_meaning.proofs.Trees.{pointer}
 use Rattle.source_typing.specs.Faults.{fault, type_rule, outlives_rule, effect_rule}
 use Rattle.source_typing.specs.Answers.{first_fault}
 use Rattle.source_typing.specs.Taken.{whole}
-use Rattle.source_typing.proofs.SampleTrees.{name_at, region_at, pointer, type_at, int_at, number, variable_at, returns, member, structure, bound, routine}
+use Rattle.source_typing.proofs.SampleTrees.{name_at, region_at, type_at, int_at, number, variable_at, returns, member, structure, bound, routine}
 use Rattle.source_typing.proofs.SampleTrees.{main_at, main_returns}
 
 -- @tagged union U { int a; char b; }; int main() { union U x = U.a(NULL); return 0; }

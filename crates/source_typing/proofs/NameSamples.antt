@@ -4,9 +4,10 @@ use Rattle.cyc_tree.specs.declared.name.Sign.TheVariants as sign
 use Rattle.cyc_tree.specs.Tree as tree
 use Rattle.cyc_tree.specs.Tree.{Expression, NoExpressions, MoreExpressions, NoSuffixes, Dot, One, Initializer, Case, Default, Statement, NoItems, Declare}
 use Rattle.cyc_tree.specs.Tree.{Execute, NoClauses, MoreClauses}
+use Rattle.source_meaning.proofs.Trees.{pointer}
 use Rattle.source_typing.specs.Faults.{fault, name_rule}
 use Rattle.source_typing.specs.Programs.{typing_fault}
-use Rattle.source_typing.proofs.SampleTrees.{name_at, region_at, pointer, type_at, int_at, number, variable_at, returns, member, structure, routine, main_at}
+use Rattle.source_typing.proofs.SampleTrees.{name_at, region_at, type_at, int_at, number, variable_at, returns, member, structure, routine, main_at}
 use Rattle.source_typing.proofs.SampleTrees.{main_returns}
 
 -- int f() { return 0; }

@@ -45,7 +45,7 @@ null_is (Key r) e = absurd cc
 null_is (Struct tag rs) e = absurd cc
 null_is (Union tag rs) e = absurd cc
 
-value_is : (at : ℕ) (t : StaticType) (w : Value) → value at t ≡ Of w → w.type ≡ t
+pub value_is : (at : ℕ) (t : StaticType) (w : Value) → value at t ≡ Of w → w.type ≡ t
 value_is at t w e = ap (λ (v : Value). v.type) (sym (of_is (record { at = at; type = t; seat = Nowhere }) w e))
 
 -- a test, and then a value of a type

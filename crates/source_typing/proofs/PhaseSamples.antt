@@ -6,13 +6,14 @@ use Rattle.cyc_tree.specs.declared.name.Sign.TheVariants as sign
 use Rattle.cyc_tree.specs.Tree as tree
 use Rattle.cyc_tree.specs.Tree.{Expression, NoExpressions, MoreExpressions, NoSuffixes, Index, One, Initializer, Statement, NoItems, Declare, Execute}
 use Rattle.cyc_tree.specs.Tree.{Constant, Initial}
+use Rattle.source_meaning.proofs.Trees.{pointer}
 use Rattle.source_typing.specs.Faults.{fault, type_rule, region_rule, outlives_rule, effect_rule, consumed_rule}
 use Rattle.source_typing.specs.Answers.{first_fault}
 use Rattle.source_typing.specs.Answers.{type_fault}
 use Rattle.source_typing.specs.Answers.{effect_fault}
 use Rattle.source_typing.specs.Taken.{whole}
 use Rattle.source_typing.specs.Taken.{integers}
-use Rattle.source_typing.proofs.SampleTrees.{name_at, region_at, pointer, type_at, int_at, number, variable_at, returns, member, structure, global, bound}
+use Rattle.source_typing.proofs.SampleTrees.{name_at, region_at, type_at, int_at, number, variable_at, returns, member, structure, global, bound}
 use Rattle.source_typing.proofs.SampleTrees.{routine, main_at, main_returns}
 
 -- with the rules on liveness the initializer is at fault, and the conversion is not judged

@@ -5,10 +5,11 @@ use Rattle.cyc_tree.specs.declared.name.Sign.TheVariants as sign
 use Rattle.cyc_tree.specs.Tree as tree
 use Rattle.cyc_tree.specs.Tree.{Expression, NoExpressions, MoreExpressions, One, Initializer, Default, Statement, NoItems, Declare, Execute, NoClauses}
 use Rattle.cyc_tree.specs.Tree.{MoreClauses, Constant, Initial}
+use Rattle.source_meaning.proofs.Trees.{pointer}
 use Rattle.source_typing.specs.Faults.{fault, type_rule, region_rule, effect_rule}
 use Rattle.source_typing.specs.Answers.{first_fault}
 use Rattle.source_typing.specs.Taken.{whole}
-use Rattle.source_typing.proofs.SampleTrees.{name_at, region_at, pointer, type_at, int_at, number, variable_at, returns, member, structure, global, routine}
+use Rattle.source_typing.proofs.SampleTrees.{name_at, region_at, type_at, int_at, number, variable_at, returns, member, structure, global, routine}
 use Rattle.source_typing.proofs.SampleTrees.{main_at, main_returns}
 
 -- int f() { return *x; } int x = NULL; int main() { return 0; }

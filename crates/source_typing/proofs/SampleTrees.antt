@@ -1,7 +1,6 @@
 -- Short words for the trees of samples, with their places.
 use Rattle.std.specs.Prelude.{ℕ, ◌+◌, false, codes, Option, Some, None, List, []}
 use Prim.Native.String.{String}
-use Rattle.cyc_tree.specs.declared.name.Sign.{Sign}
 use Rattle.cyc_tree.specs.Tree as tree
 use Rattle.cyc_tree.specs.Tree.{Name, RegionName, Base, Pointer, TypeName, Expression, Member, Structure, Initial, Global, Bound}
 use Rattle.cyc_tree.specs.Tree.{Statement, BlockItems, NoItems, Execute, Function, Item}
@@ -11,9 +10,6 @@ name_at at s = record { at = at; text = codes s }
 
 abbrev pub region_at : ℕ → String → RegionName
 region_at at s = tree.Named (name_at at s)
-
-abbrev pub pointer : Sign → Option RegionName → Pointer
-pointer sign region = record { sign = sign; region = region }
 
 abbrev pub type_at : ℕ → Base → List Pointer → TypeName
 type_at at base pointers = record { at = at; base = base; pointers = pointers }

@@ -4,10 +4,11 @@ use Rattle.std.specs.Prelude.{replicate}
 use Rattle.cyc_tree.specs.declared.name.Sign.TheVariants as sign
 use Rattle.cyc_tree.specs.Tree as tree
 use Rattle.cyc_tree.specs.Tree.{Expression, NoSuffixes, Index, Dot, Initializer, Statement, NoItems, Declare, Execute, Constant, Initial}
+use Rattle.source_meaning.proofs.Trees.{pointer}
 use Rattle.source_typing.specs.Faults.{fault, type_rule, size_rule}
 use Rattle.source_typing.specs.Answers.{first_fault}
 use Rattle.source_typing.specs.Taken.{whole}
-use Rattle.source_typing.proofs.SampleTrees.{name_at, pointer, type_at, int_at, number, variable_at, returns, member, structure, global, main_at}
+use Rattle.source_typing.proofs.SampleTrees.{name_at, type_at, int_at, number, variable_at, returns, member, structure, global, main_at}
 use Rattle.source_typing.proofs.SampleTrees.{main_returns}
 
 -- a struct of 4,096 bytes

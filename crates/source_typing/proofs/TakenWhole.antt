@@ -1,5 +1,6 @@
 -- Where all forms are taken, a program stands as it is, if its tree has the operands that each text's tree has.
 use Rattle.std.proofs.Common.{◌≡◌, Bool, true, false, Option, Some, None, List, [], ◌∷◌, refl, ap, ◌∙◌, ℕ}
+use Rattle.std.specs.Cmp.Derive.{both_true}
 use Rattle.std.specs.Prelude.{◌&&◌, ◌++◌, if◌then◌else◌}
 use Rattle.cyc_tree.specs.declared.name.Sign.{Sign}
 use Rattle.cyc_tree.specs.declared.name.Sign.TheVariants as sign
@@ -40,10 +41,6 @@ base_whole (tree.Union tag rs) = arguments_whole rs
 base_whole (tree.Handle r) = refl
 base_whole (tree.Key r) = refl
 
-both_true : (a b : Bool) → a ≡ true → b ≡ true → a && b ≡ true
-both_true true b p q = q
-both_true false b p q = p
-
 sign_whole : (s : Sign) → takes_sign whole s ≡ true
 sign_whole sign.Nullable = refl
 sign_whole sign.NotNull = refl
@@ -58,11 +55,10 @@ region_whole (Some (tree.Named n)) = refl
 pointers_whole : (ps : List tree.Pointer) → takes_pointers whole ps ≡ true
 pointers_whole [] = refl
 pointers_whole (p ∷ ps) =
-    both_true (takes_sign whole p.sign && takes_region whole p.region) (takes_pointers whole ps)
-    (both_true (takes_sign whole p.sign) (takes_region whole p.region) (sign_whole p.sign) (region_whole p.region)) (pointers_whole ps)
+    both_true (both_true (sign_whole p.sign) (region_whole p.region)) (pointers_whole ps)
 
 takes_type_whole : (t : TypeName) → takes_type whole t ≡ true
-takes_type_whole t = both_true (takes_base whole t.base) (takes_pointers whole t.pointers) (base_whole t.base) (pointers_whole t.pointers)
+takes_type_whole t = both_true (base_whole t.base) (pointers_whole t.pointers)
 
 pub if_is : {A : Type 0} (b : Bool) (x y : A) → b ≡ true → (if b then x else y) ≡ x
 if_is true x y p = refl
@@ -128,7 +124,7 @@ mutual
   taken_whole (Expression.Suffixed e es) h =
       let a : taken whole e ≡ e = taken_whole e h.1.0 in let b : suffixes_taken whole es ≡ es = suffixes_whole es h.1.1 in
       kept (are_suffixed es && takes_suffixes whole es) (expression_place e) (Expression.Suffixed (taken whole e) (suffixes_taken whole es))
-      (Expression.Suffixed e es) (both_true (are_suffixed es) (takes_suffixes whole es) (some_suffixes es h.0) (suffixes_are_taken es)) cc
+      (Expression.Suffixed e es) (both_true (some_suffixes es h.0) (suffixes_are_taken es)) cc
   taken_whole (Expression.Prefixed at o e) h =
       kept (takes_prefix whole o) at (Expression.Prefixed at o (taken whole e)) (Expression.Prefixed at o e) (prefix_is_taken o)
       (ap (λ z. Expression.Prefixed at o z) (taken_whole e h))
@@ -192,7 +188,7 @@ kept_declaration false at d e p q = absurd cc
 declaration_whole : (d : tree.Declaration) → DeclarationHasOperands d → declaration_taken whole d ≡ d
 declaration_whole (tree.Local t x i) h =
     kept_declaration (takes_type whole t && takes_initializer whole i) t.at (tree.Local t x (initializer_taken whole i)) (tree.Local t x i)
-    (both_true (takes_type whole t) (takes_initializer whole i) (takes_type_whole t) (initializer_is_taken i))
+    (both_true (takes_type_whole t) (initializer_is_taken i))
     (ap (λ z. tree.Local t x z) (initializer_whole i h))
 declaration_whole (tree.Region at r x) h = refl
 declaration_whole (tree.Open at r x y) h = refl
@@ -317,7 +313,7 @@ item_whole (tree.UnionItem s) h = ap (λ z. tree.UnionItem z) (structure_whole (
 item_whole (tree.GlobalItem x) h =
     ap (λ z. tree.GlobalItem z)
     (global_whole (takes_type whole x.of && takes_initial whole x.initial) x
-    (both_true (takes_type whole x.of) (takes_initial whole x.initial) (takes_type_whole x.of) (initial_is_taken x.initial)))
+    (both_true (takes_type_whole x.of) (initial_is_taken x.initial)))
 item_whole (tree.FunctionItem f) h = ap (λ z. tree.FunctionItem z) (function_whole f h)
 
 pub program_whole : (p : Program) → HasOperands p → only_taken whole p ≡ p

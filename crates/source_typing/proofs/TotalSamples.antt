@@ -4,12 +4,13 @@ use Rattle.std.specs.Prelude.{ℕ, ◌+◌, ◌*◌, List, ◌++◌, replicate}
 use Rattle.cyc_tree.specs.Tree as tree
 use Rattle.cyc_tree.specs.Tree.{Expression, Statement, NoItems, Execute, Constant, Initial, Item, TypeName}
 use Rattle.cyc_tree.specs.declared.name.Sign.TheVariants as sign
+use Rattle.source_meaning.proofs.Trees.{pointer}
 use Rattle.source_typing.specs.Faults.{Fault, fault, size_rule}
 use Rattle.source_typing.specs.Scope.{at_item}
 use Rattle.source_typing.specs.Globals.{item_statics, total_faults}
 use Rattle.source_typing.specs.Answers.{first_fault}
 use Rattle.source_typing.specs.Taken.{whole}
-use Rattle.source_typing.proofs.SampleTrees.{name_at, pointer, type_at, int_at, number, returns, global, main_at, main_returns}
+use Rattle.source_typing.proofs.SampleTrees.{name_at, type_at, int_at, number, returns, global, main_at, main_returns}
 
 -- So many arrays of 4,096 bytes, 20 bytes of text for each, the first one last. Each has a name of its own.
 abbrev arrays : ℕ → List Item

@@ -6,9 +6,10 @@ use Rattle.cyc_tree.specs.declared.name.Sign.TheVariants as sign
 use Rattle.cyc_tree.specs.Tree as tree
 use Rattle.cyc_tree.specs.Tree.{Expression, NoExpressions, MoreExpressions, NoLinks, MoreLinks, One, Initializer, Case, Default, Statement, NoItems, Declare}
 use Rattle.cyc_tree.specs.Tree.{Execute, NoClauses, MoreClauses, Initial}
+use Rattle.source_meaning.proofs.Trees.{pointer}
 use Rattle.source_typing.specs.Faults.{fault, type_rule}
 use Rattle.source_typing.specs.Programs.{typing_fault}
-use Rattle.source_typing.proofs.SampleTrees.{name_at, region_at, pointer, type_at, int_at, number, variable_at, returns, member, structure, global, routine}
+use Rattle.source_typing.proofs.SampleTrees.{name_at, region_at, type_at, int_at, number, variable_at, returns, member, structure, global, routine}
 use Rattle.source_typing.proofs.SampleTrees.{main_at, main_returns}
 
 -- int main;

@@ -5,6 +5,7 @@ use Rattle.std.proofs.lemmas.List.{append_assoc, append-nil, length-map, map_pus
 use Rattle.std.proofs.lemmas.Slice.Eq.{bytes_eq-Decides}
 use Rattle.std.specs.List.{list_all}
 use Rattle.std.specs.Prelude.{Err, None, Ok, OnErr, OnOk, Option, Result, Some, bytes_eq, is_none, is_some, nat_eq, option_map, unwrap_or, ◌&&◌}
+use Rattle.source_typing.proofs.Converting.{bool_is}
 use Rattle.source_typing.specs.Regions.{Region}
 use Rattle.source_typing.specs.Tables.{OfTag, Part, as_tag, begins, copies, each_part, find, has_beginning, if_known, is_copyable, parts_in, parts_of_tag, tag_in}
 use Rattle.source_typing.specs.Types.{Char, Fat, Handle, Int, Key, Null, StaticType, Struct, Thin, Union, Unique, Unsigned, Void, same_bool}
@@ -13,12 +14,6 @@ use Rattle.cyc_types.specs.Tags.{member_of, members_of, tag_of}
 use Rattle.cyc_types.specs.declared.tag.Member.{Member}
 use Rattle.cyc_types.specs.declared.tag.Known.{Known}
 use Rattle.source_typing.specs.Tables as rules
-
-same_as : (a b : Bool) → same_bool a b ≡ true → a ≡ b
-same_as true true h = refl
-same_as true false h = sym h
-same_as false true h = h
-same_as false false h = refl
 
 -- ---- spellings
 
@@ -215,7 +210,7 @@ copies_looks = record {
   nowhere = λ g tag rs. refl;
   else = copies_looks_else;
   by_flag = λ es tag rs. refl;
-  known = λ before x k h. same_as k.copyable (each_part (quick_copies before) (members_of k.tag.members.items))
+  known = λ before x k h. bool_is k.copyable (each_part (quick_copies before) (members_of k.tag.members.items))
       ((and_parts (is_none (found before x) && each_part (is_declared before) (members_of k.tag.members.items)) _
       ((and_parts _ (same_bool k.begins (each_part (quick_begins before) (members_of k.tag.members.items))) h).0)).1);
 }
@@ -240,7 +235,7 @@ begins_looks = record {
   nowhere = λ g tag rs. refl;
   else = begins_looks_else;
   by_flag = λ es tag rs. refl;
-  known = λ before x k h. same_as k.begins (each_part (quick_begins before) (members_of k.tag.members.items)) ((and_parts _ _ h).1);
+  known = λ before x k h. bool_is k.begins (each_part (quick_begins before) (members_of k.tag.members.items)) ((and_parts _ _ h).1);
 }
 
 pub copies_known : (all : List Entry) → are_known [] all ≡ true → (t : StaticType) → is_copyable (entries_of all) t ≡ quick_copies all t

@@ -96,7 +96,8 @@ by_names read written main =
 entry_plain : (x : List ℕ) (e : Entry) (a c m : Bool) → bytes_eq (codes "getchar") x ≡ a → bytes_eq (codes "putchar") x ≡ c → bytes_eq (codes "main") x ≡ m
     → by_names a c m ≡ Some e → PlainEntry its_world x e
 entry_plain x e true c m p q r h =
-    subst (λ (y : Entry). PlainEntry its_world x y) (some_is (OfBuiltin 0) e h) (subst (λ (y : List ℕ). Builtin y 0) ((bytes_eq-Decides (codes "getchar") x).0 p) (inl (refl, refl)))
+    subst (λ (y : Entry). PlainEntry its_world x y) (some_is (OfBuiltin 0) e h)
+    (subst (λ (y : List ℕ). Builtin y 0) ((bytes_eq-Decides (codes "getchar") x).0 p) (inl (refl, refl)))
 entry_plain x e false true m p q r h =
     subst (λ (y : Entry). PlainEntry its_world x y) (some_is (OfBuiltin 1) e h)
     (subst (λ (y : List ℕ). Builtin y 1) ((bytes_eq-Decides (codes "putchar") x).0 q) (inr (refl, refl, refl)))

@@ -29,6 +29,8 @@ mod large_texts;
 #[cfg(test)]
 mod lexed_texts;
 #[cfg(test)]
+mod limits;
+#[cfg(test)]
 mod made_trees;
 #[cfg(test)]
 mod nested_texts;

@@ -234,3 +234,19 @@ taken_32 : first_fault integers
     ((main_at 0 (Execute (Statement.Return 13 (Some (Expression.Prefixed 20 Negate (Expression.Grouped 21 (Expression.HeapRegion 22))))) NoItems) 36) ∷ [])
     ≡ Some (fault type_rule 22)
 taken_32 = refl
+
+-- trees that no text has: an operand whose operator has no second one, and a primary without a suffix
+operands_1 : first_fault whole ((main_at 0 (Execute (returns 13 (Expression.Chain (number 20 7) NoLinks)) NoItems) 23) ∷ []) ≡ Some (fault type_rule 20)
+operands_1 = refl
+
+operands_2 : first_fault whole ((main_at 0 (Execute (returns 13 (Expression.AllOf (number 20 7) NoExpressions)) NoItems) 23) ∷ [])
+    ≡ Some (fault type_rule 20)
+operands_2 = refl
+
+operands_3 : first_fault whole ((main_at 0 (Execute (returns 13 (Expression.AnyOf (number 20 7) NoExpressions)) NoItems) 23) ∷ [])
+    ≡ Some (fault type_rule 20)
+operands_3 = refl
+
+operands_4 : first_fault whole ((main_at 0 (Execute (returns 13 (Expression.Suffixed (number 20 7) NoSuffixes)) NoItems) 23) ∷ [])
+    ≡ Some (fault type_rule 20)
+operands_4 = refl

@@ -1,7 +1,6 @@
 // The plain store's tables: lists of words, which are looked through from their beginning.
 
 ghost use Rattle.std.specs.Prelude.{◌≡◌, ◌+◌, ◌-◌, ◌≤◌, ◌<◌, length, slice_index};
-ghost use Rattle.arena_laws.specs.Counts.{class_of, room_of};
 ghost use Rattle.arena_laws.specs.Lawful.{takes_blocks};
 ghost use Rattle.cyc_arena.specs.Plain.{Finds, IsCleared, filled, left_of, standing_at};
 
@@ -89,36 +88,5 @@ pub(crate) fn left_in(used: &Vec<u32>, last: u32) -> u32
         0
     } else {
         PAGE - used[last as usize - 1]
-    }
-}
-
-// the room of a region's block
-pub(crate) fn room_for(bytes: u32) -> u32
-    requires { bytes ≤ 4096 }
-    ensures { result ≡ room_of bytes }
-{
-    if bytes == 0 { 8 } else { (bytes + 7) / 8 * 8 }
-}
-
-// the class of a unique block
-pub(crate) fn class_for(bytes: u32) -> u32
-    ensures { result ≡ class_of bytes }
-{
-    if bytes <= 32 {
-        32
-    } else if bytes <= 64 {
-        64
-    } else if bytes <= 128 {
-        128
-    } else if bytes <= 256 {
-        256
-    } else if bytes <= 512 {
-        512
-    } else if bytes <= 1024 {
-        1024
-    } else if bytes <= 2048 {
-        2048
-    } else {
-        4096
     }
 }

@@ -12,7 +12,8 @@ ghost use Rattle.region_runtime.specs.Pool.{AreApart, byte_at, changed_words, he
 use crate::book::{BASE, Book, OWNER, PAGE, TAKEN, USED};
 use crate::handle::Handle;
 use crate::refusal::Refusal;
-use crate::walk::{is_held, room_for};
+use crate::walk::is_held;
+use arena_laws::room_for;
 use raw_pages::{PagesFault, RawPages};
 use std::alloc::Global;
 use std::marker::Model;

@@ -2,7 +2,6 @@
 
 ghost use Rattle.std.specs.Prelude.{◌≡◌, ◌+◌, ◌-◌, ◌*◌, ◌/◌, ◌<◌, ◌≤◌, ℕ, length, nat_eq, nat_lt, true};
 ghost use Rattle.region_runtime.specs.Chains.{follow, times};
-ghost use Rattle.arena_laws.specs.Counts.{room_of};
 ghost use Rattle.arena_laws.specs.Holdings.{is_some};
 ghost use Rattle.region_runtime.specs.Headers.{word_in, owner_of, link_of, holder_of, is_live_number, pages_of};
 ghost use Rattle.raw_pages.specs.Raw.{count};
@@ -59,12 +58,4 @@ pub(crate) fn is_held(raw: &RawPages, page: u32) -> bool
     let newest = raw.word(owner - 1, NEWEST);
     let many = raw.word(owner - 1, COUNT);
     leads_to(raw, many, newest, page)
-}
-
-// the room of a block
-pub(crate) fn room_for(bytes: u32) -> u32
-    requires { bytes ≤ 4096 }
-    ensures { result ≡ room_of bytes }
-{
-    if bytes == 0 { 8 } else { (bytes + 7) / 8 * 8 }
 }

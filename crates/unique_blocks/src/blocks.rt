@@ -12,11 +12,12 @@ ghost use Rattle.unique_blocks.specs.Blocks.{byte_at, held, slots_in, tag_of};
 ghost use Rattle.unique_blocks.specs.Calls.{IsOpened, IsSlotGiven, IsSlotTaken, IsUnopened, said_block, said_freed};
 ghost use Rattle.unique_blocks.specs.Slots.{address_of, alone_at, place_of};
 
-use crate::class::{class_for, place_for};
+use crate::class::place_for;
 use crate::refusal::UniqueRefusal;
 use crate::slots::{
     CLASS, NEXT, cut, first_vacant, forget_pages, give_slot, is_set, set_next, take_slot, word,
 };
+use arena_laws::class_for;
 use region_runtime::{Handle, Pool, Refusal};
 use std::marker::Model;
 

@@ -1,0 +1,29 @@
+// The rooms that blocks take.
+
+ghost use Rattle.std.specs.Prelude.{◌≡◌, ◌≤◌};
+ghost use Rattle.arena_laws.specs.Counts.{class_of, room_of};
+
+/// The bytes of a region's block, for so many that are asked for: rounded up to 8, and 8 for none.
+pub fn room_for(bytes: u32) -> u32
+    requires { bytes ≤ 4096 }
+    ensures { result ≡ room_of bytes }
+{
+    if bytes == 0 { 8 } else { (bytes + 7) / 8 * 8 }
+}
+
+/// The bytes of a unique block's slot, for so many that are asked for: the smallest class that holds
+/// them, and 4,096 where none does.
+pub fn class_for(bytes: u32) -> u32
+    ensures { result ≡ class_of bytes }
+{
+    match bytes {
+        0..=32 => 32,
+        33..=64 => 64,
+        65..=128 => 128,
+        129..=256 => 256,
+        257..=512 => 512,
+        513..=1024 => 1024,
+        1025..=2048 => 2048,
+        _ => 4096,
+    }
+}

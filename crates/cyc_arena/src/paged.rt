@@ -2,15 +2,16 @@
 
 ghost use Rattle.std.specs.Prelude.{◌≡◌, ◌≢◌, ◌≤◌, IfOk};
 ghost use Rattle.arena_laws.specs.Asked.{KeyNew, RegionAlloc, RegionNew, UniqueAlloc, is_short};
-ghost use Rattle.arena_laws.specs.Holdings.{fresh};
+ghost use Rattle.arena_laws.specs.Holdings.{fresh, is_in_arena};
 ghost use Rattle.arena_laws.specs.Lawful.{Lacks, key_free, region_free};
-ghost use Rattle.arena_laws.specs.Laws.{Does, answer_of, is_refused_full, key_new, region_alloc, region_new, unique_alloc, unit_result};
+ghost use Rattle.arena_laws.specs.Laws.{Does, answer_of, is_refused_full, key_new, region_alloc, region_new, stored, unique_alloc, unit_result};
 ghost use Rattle.dynamic_region.specs.Calls as key_calls;
 ghost use Rattle.dynamic_region.specs.Keyed.{held_by};
 ghost use Rattle.region_runtime.specs.Calls as region_calls;
 ghost use Rattle.raw_pages.specs.Raw.{is_no_page_count, is_pages_fault};
 ghost use Rattle.region_runtime.specs.Pool.{changed_words};
 ghost use Rattle.unique_blocks.specs.Blocks as blocks;
+ghost use Rattle.unique_blocks.specs.Calls as block_calls;
 
 use crate::store::BlockStore;
 use arena_laws::StoreRefusal;
@@ -18,7 +19,7 @@ use dynamic_region::{Blocks, Handle, Key, KeyRefusal, Keys, Refusal};
 use raw_pages::PagesFault;
 use region_runtime::Pool;
 use std::alloc::Global;
-use unique_blocks::UniqueBlocks;
+use unique_blocks::{UniqueBlocks, UniqueRefusal};
 
 // a region's refusal, as a store's
 fn of_region(why: Refusal) -> StoreRefusal
@@ -39,6 +40,16 @@ fn of_key(why: KeyRefusal) -> StoreRefusal
         KeyRefusal::BadKey => StoreRefusal::BadKey,
         KeyRefusal::Open => StoreRefusal::Open,
         KeyRefusal::NotOpen => StoreRefusal::NotOpen,
+    }
+}
+
+// a unique block's refusal, as a store's
+fn of_block(why: UniqueRefusal) -> StoreRefusal
+    ensures { result ≡ block_calls.refusal_of why }
+{
+    match why {
+        UniqueRefusal::Full => StoreRefusal::Full,
+        UniqueRefusal::NotABlock => StoreRefusal::NotABlock,
     }
 }
 
@@ -133,11 +144,17 @@ impl<R: Blocks> BlockStore for PagedStore<R> {
         ensures full { is_refused_full result ≡ is_short (UniqueAlloc bytes) (held_by R.holdings R.tag_of self.old.keys.regions) }
         ensures never { answer_of result ≢ Lacks }
     {
-        self.keys.unique_alloc(bytes)
+        match self.keys.unique_alloc(bytes) {
+            Ok(at) => Ok(at),
+            Err(why) => Err(of_block(why)),
+        }
     }
 
     fn unique_free(&mut self, at: u32) -> Result<(), StoreRefusal> {
-        self.keys.unique_free(at)
+        match self.keys.unique_free(at) {
+            Ok(()) => Ok(()),
+            Err(why) => Err(of_block(why)),
+        }
     }
 
     fn key_new(&mut self) -> Result<u32, StoreRefusal>
@@ -185,7 +202,12 @@ impl<R: Blocks> BlockStore for PagedStore<R> {
         self.keys.load8(at)
     }
 
-    fn store8(&mut self, at: u32, byte: u8) -> bool {
+    fn store8(&mut self, at: u32, byte: u8) -> bool
+        ensures says { result ≡ is_in_arena (held_by R.holdings R.tag_of self.old.keys.regions) at }
+        ensures bytes { R.byte_at self.new.keys.regions ≡ stored at byte (held_by R.holdings R.tag_of self.old.keys.regions) (R.byte_at self.old.keys.regions) }
+        ensures holds { let held = held_by R.holdings R.tag_of in held self.new.keys.regions ≡ held self.old.keys.regions }
+        ensures same { R.headers self.new.keys.regions ≡ R.headers self.old.keys.regions }
+    {
         self.keys.store8(at, byte)
     }
 

@@ -1,32 +1,32 @@
 // Unique blocks beside the regions.
 
-ghost use Rattle.std.specs.Prelude.{◌≡◌, ◌≢◌, ◌≤◌};
+ghost use Rattle.std.specs.Prelude.{◌≡◌, ◌≤◌};
 ghost use Rattle.arena_laws.specs.Counts.{is_full_for_slot};
-ghost use Rattle.arena_laws.specs.Lawful.{Lacks, unique_free};
-ghost use Rattle.arena_laws.specs.Laws.{Does, answer_of, is_refused_full, unique_alloc, unit_result};
+ghost use Rattle.arena_laws.specs.Lawful.{unique_free};
+ghost use Rattle.arena_laws.specs.Laws.{Does, answer_of, is_refused_full, unique_alloc};
 ghost use Rattle.dynamic_region.specs.Keyed.{held_by};
+ghost use Rattle.unique_blocks.specs.Calls.{said_block, said_freed};
 
 use crate::keys::Keys;
 use crate::regions::Regions;
-use arena_laws::StoreRefusal;
+use unique_blocks::UniqueRefusal;
 
 /// Regions with unique blocks beside them, whose pages and addresses are theirs alone.
 pub trait Blocks: Regions {
     /// A unique block of so many bytes: its address, a multiple of 8. The room is the smallest class
     /// that holds it. Full above 4,096 bytes, or where no page of that class has a free slot and no
-    /// page is free; no other refusal.
-    fn unique_alloc(&mut self, bytes: u32) -> Result<u32, StoreRefusal>
-        ensures does { Does result (Self.holdings self.new) (unique_alloc bytes (answer_of result) (Self.holdings self.old)) }
-        ensures full { is_refused_full result ≡ is_full_for_slot bytes (Self.holdings self.old).counts }
-        ensures never { answer_of result ≢ Lacks }
+    /// page is free.
+    fn unique_alloc(&mut self, bytes: u32) -> Result<u32, UniqueRefusal>
+        ensures does { Does (said_block result) (Self.holdings self.new) (unique_alloc bytes (answer_of (said_block result)) (Self.holdings self.old)) }
+        ensures full { is_refused_full (said_block result) ≡ is_full_for_slot bytes (Self.holdings self.old).counts }
         ensures tags { Self.tag_of self.new ≡ Self.tag_of self.old }
         ensures bytes { Self.byte_at self.new ≡ Self.byte_at self.old }
         ensures fresh { Self.ever_used self.old ≤ Self.ever_used self.new };
 
     /// Frees the unique block that begins at an address; its page stays with its class. NotABlock
     /// where no live unique block begins there.
-    fn unique_free(&mut self, at: u32) -> Result<(), StoreRefusal>
-        ensures does { Does (unit_result result) (Self.holdings self.new) (unique_free at (Self.holdings self.old)) }
+    fn unique_free(&mut self, at: u32) -> Result<(), UniqueRefusal>
+        ensures does { Does (said_freed result) (Self.holdings self.new) (unique_free at (Self.holdings self.old)) }
         ensures tags { Self.tag_of self.new ≡ Self.tag_of self.old }
         ensures bytes { Self.byte_at self.new ≡ Self.byte_at self.old }
         ensures fresh { Self.ever_used self.new ≡ Self.ever_used self.old };
@@ -35,12 +35,11 @@ pub trait Blocks: Regions {
 impl<R: Blocks> Keys<R> {
     /// A unique block of so many bytes: its address, a multiple of 8. The room is the smallest class
     /// that holds it. Full above 4,096 bytes, or where no page of that class has a free slot and no
-    /// page is free; no other refusal.
-    pub fn unique_alloc(&mut self, bytes: u32) -> Result<u32, StoreRefusal>
+    /// page is free.
+    pub fn unique_alloc(&mut self, bytes: u32) -> Result<u32, UniqueRefusal>
         ensures does { let held = held_by R.holdings R.tag_of in
-            Does result (held self.new.regions) (unique_alloc bytes (answer_of result) (held self.old.regions)) }
-        ensures full { is_refused_full result ≡ is_full_for_slot bytes (R.holdings self.old.regions).counts }
-        ensures never { answer_of result ≢ Lacks }
+            Does (said_block result) (held self.new.regions) (unique_alloc bytes (answer_of (said_block result)) (held self.old.regions)) }
+        ensures full { is_refused_full (said_block result) ≡ is_full_for_slot bytes (R.holdings self.old.regions).counts }
         ensures bytes { R.byte_at self.new.regions ≡ R.byte_at self.old.regions }
         ensures fresh { R.ever_used self.old.regions ≤ R.ever_used self.new.regions }
     {
@@ -51,9 +50,9 @@ impl<R: Blocks> Keys<R> {
 
     /// Frees the unique block that begins at an address; its page stays with its class. NotABlock
     /// where no live unique block begins there.
-    pub fn unique_free(&mut self, at: u32) -> Result<(), StoreRefusal>
+    pub fn unique_free(&mut self, at: u32) -> Result<(), UniqueRefusal>
         ensures does { let held = held_by R.holdings R.tag_of in
-            Does (unit_result result) (held self.new.regions) (unique_free at (held self.old.regions)) }
+            Does (said_freed result) (held self.new.regions) (unique_free at (held self.old.regions)) }
         ensures bytes { R.byte_at self.new.regions ≡ R.byte_at self.old.regions }
         ensures fresh { R.ever_used self.new.regions ≡ R.ever_used self.old.regions }
     {

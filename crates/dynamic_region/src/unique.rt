@@ -1,25 +1,12 @@
 // Keys over regions with unique blocks.
 
-ghost use Rattle.std.specs.Prelude.{◌≡◌};
 ghost use Rattle.dynamic_region.specs.Tagged.{blocks_tagged};
 ghost use Rattle.unique_blocks.specs.Blocks.{byte_at, held, tag_of};
-ghost use Rattle.unique_blocks.specs.Calls.{refusal_of};
 
 use crate::blocks::Blocks;
 use crate::regions::Regions;
-use arena_laws::StoreRefusal;
 use region_runtime::{Handle, Refusal};
 use unique_blocks::{UniqueBlocks, UniqueRefusal};
-
-// a unique block's refusal, as a store's
-fn of_block(why: UniqueRefusal) -> StoreRefusal
-    ensures { result ≡ refusal_of why }
-{
-    match why {
-        UniqueRefusal::Full => StoreRefusal::Full,
-        UniqueRefusal::NotABlock => StoreRefusal::NotABlock,
-    }
-}
 
 impl Regions for UniqueBlocks {
     ghost holdings = { held };
@@ -86,17 +73,11 @@ impl Regions for UniqueBlocks {
 }
 
 impl Blocks for UniqueBlocks {
-    fn unique_alloc(&mut self, bytes: u32) -> Result<u32, StoreRefusal> {
-        match UniqueBlocks::unique_alloc(self, bytes) {
-            Ok(at) => Ok(at),
-            Err(why) => Err(of_block(why)),
-        }
+    fn unique_alloc(&mut self, bytes: u32) -> Result<u32, UniqueRefusal> {
+        UniqueBlocks::unique_alloc(self, bytes)
     }
 
-    fn unique_free(&mut self, at: u32) -> Result<(), StoreRefusal> {
-        match UniqueBlocks::unique_free(self, at) {
-            Ok(()) => Ok(()),
-            Err(why) => Err(of_block(why)),
-        }
+    fn unique_free(&mut self, at: u32) -> Result<(), UniqueRefusal> {
+        UniqueBlocks::unique_free(self, at)
     }
 }

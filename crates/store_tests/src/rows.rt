@@ -4,6 +4,7 @@ use crate::tables::{Asked, COUNTED_PAGES, MANY_PAGES, ONE_PAGE, TWO_PAGES, count
 use cyc_arena::{BlockStore, PagedStore, PagesFault, PlainStore, StoreRefusal};
 use dynamic_region::{Blocks, Handle, Key, KeyRefusal, Keys, Pool, Refusal, Regions, UniqueBlocks};
 use std::test::Fail;
+use unique_blocks::UniqueRefusal;
 
 // a region's refusal, as a store's
 fn of_region(why: Refusal) -> StoreRefusal {
@@ -20,6 +21,14 @@ fn of_key(why: KeyRefusal) -> StoreRefusal {
         KeyRefusal::BadKey => StoreRefusal::BadKey,
         KeyRefusal::Open => StoreRefusal::Open,
         KeyRefusal::NotOpen => StoreRefusal::NotOpen,
+    }
+}
+
+// a unique block's refusal, as a store's
+fn of_block(why: UniqueRefusal) -> StoreRefusal {
+    match why {
+        UniqueRefusal::Full => StoreRefusal::Full,
+        UniqueRefusal::NotABlock => StoreRefusal::NotABlock,
     }
 }
 
@@ -95,8 +104,11 @@ impl<R: Blocks> Asked for Keys<R> {
             },
             "region_alloc" => self.region_alloc(handle, number).map_err(of_region),
             "region_free" => self.region_free(handle).map(|()| 0).map_err(of_region),
-            "unique_alloc" => self.unique_alloc(number),
-            "unique_free" => self.unique_free(last.wrapping_add(number)).map(|()| 0),
+            "unique_alloc" => self.unique_alloc(number).map_err(of_block),
+            "unique_free" => self
+                .unique_free(last.wrapping_add(number))
+                .map(|()| 0)
+                .map_err(of_block),
             "key_new" => self.key_new().map(|key| key.0).map_err(of_key),
             "key_open" => self.key_open(key).map(|handle| handle.0).map_err(of_key),
             "key_close" => self.key_close(key).map(|()| 0).map_err(of_key),

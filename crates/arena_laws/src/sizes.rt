@@ -1,14 +1,19 @@
 // The rooms that blocks take.
 
-ghost use Rattle.std.specs.Prelude.{◌≡◌, ◌≤◌};
+ghost use Rattle.std.specs.Prelude.{◌≡◌, ◌<◌, ◌≤◌};
 ghost use Rattle.arena_laws.specs.Counts.{class_of, room_of};
 
-/// The bytes of a region's block, for so many that are asked for: rounded up to 8, and 8 for none.
+/// The bytes of a region's block, for so many that are asked for, up to 4,096: rounded up to 8, and 8
+/// for none. Above 4,096 there is no block, and the answer is 0.
 pub fn room_for(bytes: u32) -> u32
-    requires { bytes ≤ 4096 }
-    ensures { result ≡ room_of bytes }
+    ensures room { bytes ≤ 4096 → result ≡ room_of bytes }
+    ensures none { 4096 < bytes → result ≡ 0 }
 {
-    if bytes == 0 { 8 } else { (bytes + 7) / 8 * 8 }
+    match bytes {
+        0 => 8,
+        1..=4096 => (bytes + 7) / 8 * 8,
+        _ => 0,
+    }
 }
 
 /// The bytes of a unique block's slot, for so many that are asked for: the smallest class that holds

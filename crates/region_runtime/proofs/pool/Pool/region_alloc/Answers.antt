@@ -55,7 +55,7 @@ cut-requires-clause-page c =
     let s = last_some (pool_of c.self.inside.book) c.args.self.now (pool_of c.self.inside.book) c.self.view_is c.self.invariant refl refl h c.args.bytes
     (ap (λ t. takes_blocks c.args.handle.0 (standing_by (owner_of t.word) c.args.handle.0)) (sym c.begin.ensures.shape) ∙ sym c.serves.ensures.value
     ∙ c.if-not-serves.false)
-    c.room_for-room.result c.if-bytes-gt-PAGE.false c.room_for-room.ensures c.last-last.result c.left.result last_is left_is c.if-room-left.true in
+    c.room_for-room.result c.if-bytes-gt-PAGE.false (c.room_for-room.ensures.room c.if-bytes-gt-PAGE.false) c.last-last.result c.left.result last_is left_is c.if-room-left.true in
     let l = last_in (pool_of c.self.inside.book) c.self.invariant h in
     subst (λ r. c.last-last.result - 1 < length r.words / 16) (sym raws) (omega (arith, s, l, last_is))
 
@@ -71,7 +71,7 @@ cut-requires-clause-within c =
     let f = last_fits (pool_of c.self.inside.book) c.args.self.now (pool_of c.self.inside.book) c.self.view_is c.self.invariant refl refl h c.args.bytes
     (ap (λ t. takes_blocks c.args.handle.0 (standing_by (owner_of t.word) c.args.handle.0)) (sym c.begin.ensures.shape) ∙ sym c.serves.ensures.value
     ∙ c.if-not-serves.false)
-    c.room_for-room.result c.if-bytes-gt-PAGE.false c.room_for-room.ensures c.last-last.result c.left.result last_is left_is c.if-room-left.true in
+    c.room_for-room.result c.if-bytes-gt-PAGE.false (c.room_for-room.ensures.room c.if-bytes-gt-PAGE.false) c.last-last.result c.left.result last_is left_is c.if-room-left.true in
     subst (λ k. used_of k.word (c.last-last.result - 1) + c.room_for-room.result ≤ 4096) (sym shapes) f
 
 pub invariant_of-self-then-room-left : goal.invariant_of-self-then-room-left
@@ -88,7 +88,7 @@ invariant_of-self-then-room-left c =
     (c.cut.ensures.bytes ∙ ap (λ r. r.bytes) raws) h c.args.bytes
     (ap (λ t. takes_blocks c.args.handle.0 (standing_by (owner_of t.word) c.args.handle.0)) (sym c.begin.ensures.shape) ∙ sym c.serves.ensures.value
     ∙ c.if-not-serves.false)
-    c.room_for-room.result c.if-bytes-gt-PAGE.false c.room_for-room.ensures c.last-last.result c.left.result last_is left_is
+    c.room_for-room.result c.if-bytes-gt-PAGE.false (c.room_for-room.ensures.room c.if-bytes-gt-PAGE.false) c.last-last.result c.left.result last_is left_is
     c.if-room-left.true c.cut.result (c.cut.ensures.value
     ∙ ap (λ k. 268435456 + 4096 * (c.last-last.result - 1) + used_of k.word (c.last-last.result - 1)) shapes)
     (c.cut.ensures.shape ∙ ap (λ k. with_word (c.last-last.result - 1) 2 (used_of k.word (c.last-last.result - 1) + c.room_for-room.result) k) shapes)).sound
@@ -107,7 +107,7 @@ returns-then-room-left-clause-does c =
     (c.cut.ensures.bytes ∙ ap (λ r. r.bytes) raws) h c.args.bytes
     (ap (λ t. takes_blocks c.args.handle.0 (standing_by (owner_of t.word) c.args.handle.0)) (sym c.begin.ensures.shape) ∙ sym c.serves.ensures.value
     ∙ c.if-not-serves.false)
-    c.room_for-room.result c.if-bytes-gt-PAGE.false c.room_for-room.ensures c.last-last.result c.left.result last_is left_is
+    c.room_for-room.result c.if-bytes-gt-PAGE.false (c.room_for-room.ensures.room c.if-bytes-gt-PAGE.false) c.last-last.result c.left.result last_is left_is
     c.if-room-left.true c.cut.result (c.cut.ensures.value
     ∙ ap (λ k. 268435456 + 4096 * (c.last-last.result - 1) + used_of k.word (c.last-last.result - 1)) shapes)
     (c.cut.ensures.shape ∙ ap (λ k. with_word (c.last-last.result - 1) 2 (used_of k.word (c.last-last.result - 1) + c.room_for-room.result) k) shapes)).does
@@ -126,7 +126,7 @@ returns-then-room-left-clause-full c =
     (c.cut.ensures.bytes ∙ ap (λ r. r.bytes) raws) h c.args.bytes
     (ap (λ t. takes_blocks c.args.handle.0 (standing_by (owner_of t.word) c.args.handle.0)) (sym c.begin.ensures.shape) ∙ sym c.serves.ensures.value
     ∙ c.if-not-serves.false)
-    c.room_for-room.result c.if-bytes-gt-PAGE.false c.room_for-room.ensures c.last-last.result c.left.result last_is left_is
+    c.room_for-room.result c.if-bytes-gt-PAGE.false (c.room_for-room.ensures.room c.if-bytes-gt-PAGE.false) c.last-last.result c.left.result last_is left_is
     c.if-room-left.true c.cut.result (c.cut.ensures.value
     ∙ ap (λ k. 268435456 + 4096 * (c.last-last.result - 1) + used_of k.word (c.last-last.result - 1)) shapes)
     (c.cut.ensures.shape ∙ ap (λ k. with_word (c.last-last.result - 1) 2 (used_of k.word (c.last-last.result - 1) + c.room_for-room.result) k) shapes)).full
@@ -145,7 +145,7 @@ returns-then-room-left-clause-tags c =
     (c.cut.ensures.bytes ∙ ap (λ r. r.bytes) raws) h c.args.bytes
     (ap (λ t. takes_blocks c.args.handle.0 (standing_by (owner_of t.word) c.args.handle.0)) (sym c.begin.ensures.shape) ∙ sym c.serves.ensures.value
     ∙ c.if-not-serves.false)
-    c.room_for-room.result c.if-bytes-gt-PAGE.false c.room_for-room.ensures c.last-last.result c.left.result last_is left_is
+    c.room_for-room.result c.if-bytes-gt-PAGE.false (c.room_for-room.ensures.room c.if-bytes-gt-PAGE.false) c.last-last.result c.left.result last_is left_is
     c.if-room-left.true c.cut.result (c.cut.ensures.value
     ∙ ap (λ k. 268435456 + 4096 * (c.last-last.result - 1) + used_of k.word (c.last-last.result - 1)) shapes)
     (c.cut.ensures.shape ∙ ap (λ k. with_word (c.last-last.result - 1) 2 (used_of k.word (c.last-last.result - 1) + c.room_for-room.result) k) shapes)).tags
@@ -164,7 +164,7 @@ returns-then-room-left-clause-taken c =
     (c.cut.ensures.bytes ∙ ap (λ r. r.bytes) raws) h c.args.bytes
     (ap (λ t. takes_blocks c.args.handle.0 (standing_by (owner_of t.word) c.args.handle.0)) (sym c.begin.ensures.shape) ∙ sym c.serves.ensures.value
     ∙ c.if-not-serves.false)
-    c.room_for-room.result c.if-bytes-gt-PAGE.false c.room_for-room.ensures c.last-last.result c.left.result last_is left_is
+    c.room_for-room.result c.if-bytes-gt-PAGE.false (c.room_for-room.ensures.room c.if-bytes-gt-PAGE.false) c.last-last.result c.left.result last_is left_is
     c.if-room-left.true c.cut.result (c.cut.ensures.value
     ∙ ap (λ k. 268435456 + 4096 * (c.last-last.result - 1) + used_of k.word (c.last-last.result - 1)) shapes)
     (c.cut.ensures.shape ∙ ap (λ k. with_word (c.last-last.result - 1) 2 (used_of k.word (c.last-last.result - 1) + c.room_for-room.result) k) shapes)).taken
@@ -183,7 +183,7 @@ returns-then-room-left-clause-words c =
     (c.cut.ensures.bytes ∙ ap (λ r. r.bytes) raws) h c.args.bytes
     (ap (λ t. takes_blocks c.args.handle.0 (standing_by (owner_of t.word) c.args.handle.0)) (sym c.begin.ensures.shape) ∙ sym c.serves.ensures.value
     ∙ c.if-not-serves.false)
-    c.room_for-room.result c.if-bytes-gt-PAGE.false c.room_for-room.ensures c.last-last.result c.left.result last_is left_is
+    c.room_for-room.result c.if-bytes-gt-PAGE.false (c.room_for-room.ensures.room c.if-bytes-gt-PAGE.false) c.last-last.result c.left.result last_is left_is
     c.if-room-left.true c.cut.result (c.cut.ensures.value
     ∙ ap (λ k. 268435456 + 4096 * (c.last-last.result - 1) + used_of k.word (c.last-last.result - 1)) shapes)
     (c.cut.ensures.shape ∙ ap (λ k. with_word (c.last-last.result - 1) 2 (used_of k.word (c.last-last.result - 1) + c.room_for-room.result) k) shapes)).words
@@ -202,7 +202,7 @@ returns-then-room-left-clause-bytes c =
     (c.cut.ensures.bytes ∙ ap (λ r. r.bytes) raws) h c.args.bytes
     (ap (λ t. takes_blocks c.args.handle.0 (standing_by (owner_of t.word) c.args.handle.0)) (sym c.begin.ensures.shape) ∙ sym c.serves.ensures.value
     ∙ c.if-not-serves.false)
-    c.room_for-room.result c.if-bytes-gt-PAGE.false c.room_for-room.ensures c.last-last.result c.left.result last_is left_is
+    c.room_for-room.result c.if-bytes-gt-PAGE.false (c.room_for-room.ensures.room c.if-bytes-gt-PAGE.false) c.last-last.result c.left.result last_is left_is
     c.if-room-left.true c.cut.result (c.cut.ensures.value
     ∙ ap (λ k. 268435456 + 4096 * (c.last-last.result - 1) + used_of k.word (c.last-last.result - 1)) shapes)
     (c.cut.ensures.shape ∙ ap (λ k. with_word (c.last-last.result - 1) 2 (used_of k.word (c.last-last.result - 1) + c.room_for-room.result) k) shapes)).bytes
@@ -327,7 +327,7 @@ invariant_of-self-2 c =
     (c.grow.ensures.bytes ∙ ap (λ r. r.bytes) (c.take-page.ensures.raw ∙ raws)) h c.args.bytes
     (ap (λ t. takes_blocks c.args.handle.0 (standing_by (owner_of t.word) c.args.handle.0)) (sym c.begin.ensures.shape) ∙ sym c.serves.ensures.value
     ∙ c.if-not-serves.false)
-    c.room_for-room.result c.if-bytes-gt-PAGE.false c.room_for-room.ensures c.last-last.result c.left.result last_is left_is
+    c.room_for-room.result c.if-bytes-gt-PAGE.false (c.room_for-room.ensures.room c.if-bytes-gt-PAGE.false) c.last-last.result c.left.result last_is left_is
     c.if-room-left.false c.take-page.result (free_seen t _ _ shapes c.is_full.ensures c.if-is_full.false) (c.take-page.ensures.page ∙ ap next_page shapes)
     (c.grow.ensures.shape ∙ ap (with_page h c.take-page.result c.room_for-room.result) (c.take-page.ensures.shape ∙ ap without_page shapes))).sound
 
@@ -345,7 +345,7 @@ returns-clause-does c =
     (c.grow.ensures.bytes ∙ ap (λ r. r.bytes) (c.take-page.ensures.raw ∙ raws)) h c.args.bytes
     (ap (λ t. takes_blocks c.args.handle.0 (standing_by (owner_of t.word) c.args.handle.0)) (sym c.begin.ensures.shape) ∙ sym c.serves.ensures.value
     ∙ c.if-not-serves.false)
-    c.room_for-room.result c.if-bytes-gt-PAGE.false c.room_for-room.ensures c.last-last.result c.left.result last_is left_is
+    c.room_for-room.result c.if-bytes-gt-PAGE.false (c.room_for-room.ensures.room c.if-bytes-gt-PAGE.false) c.last-last.result c.left.result last_is left_is
     c.if-room-left.false c.take-page.result (free_seen t _ _ shapes c.is_full.ensures c.if-is_full.false) (c.take-page.ensures.page ∙ ap next_page shapes)
     (c.grow.ensures.shape ∙ ap (with_page h c.take-page.result c.room_for-room.result) (c.take-page.ensures.shape ∙ ap without_page shapes))).does
 
@@ -363,7 +363,7 @@ returns-clause-full c =
     (c.grow.ensures.bytes ∙ ap (λ r. r.bytes) (c.take-page.ensures.raw ∙ raws)) h c.args.bytes
     (ap (λ t. takes_blocks c.args.handle.0 (standing_by (owner_of t.word) c.args.handle.0)) (sym c.begin.ensures.shape) ∙ sym c.serves.ensures.value
     ∙ c.if-not-serves.false)
-    c.room_for-room.result c.if-bytes-gt-PAGE.false c.room_for-room.ensures c.last-last.result c.left.result last_is left_is
+    c.room_for-room.result c.if-bytes-gt-PAGE.false (c.room_for-room.ensures.room c.if-bytes-gt-PAGE.false) c.last-last.result c.left.result last_is left_is
     c.if-room-left.false c.take-page.result (free_seen t _ _ shapes c.is_full.ensures c.if-is_full.false) (c.take-page.ensures.page ∙ ap next_page shapes)
     (c.grow.ensures.shape ∙ ap (with_page h c.take-page.result c.room_for-room.result) (c.take-page.ensures.shape ∙ ap without_page shapes))).full
 
@@ -381,7 +381,7 @@ returns-clause-tags c =
     (c.grow.ensures.bytes ∙ ap (λ r. r.bytes) (c.take-page.ensures.raw ∙ raws)) h c.args.bytes
     (ap (λ t. takes_blocks c.args.handle.0 (standing_by (owner_of t.word) c.args.handle.0)) (sym c.begin.ensures.shape) ∙ sym c.serves.ensures.value
     ∙ c.if-not-serves.false)
-    c.room_for-room.result c.if-bytes-gt-PAGE.false c.room_for-room.ensures c.last-last.result c.left.result last_is left_is
+    c.room_for-room.result c.if-bytes-gt-PAGE.false (c.room_for-room.ensures.room c.if-bytes-gt-PAGE.false) c.last-last.result c.left.result last_is left_is
     c.if-room-left.false c.take-page.result (free_seen t _ _ shapes c.is_full.ensures c.if-is_full.false) (c.take-page.ensures.page ∙ ap next_page shapes)
     (c.grow.ensures.shape ∙ ap (with_page h c.take-page.result c.room_for-room.result) (c.take-page.ensures.shape ∙ ap without_page shapes))).tags
 
@@ -399,7 +399,7 @@ returns-clause-taken c =
     (c.grow.ensures.bytes ∙ ap (λ r. r.bytes) (c.take-page.ensures.raw ∙ raws)) h c.args.bytes
     (ap (λ t. takes_blocks c.args.handle.0 (standing_by (owner_of t.word) c.args.handle.0)) (sym c.begin.ensures.shape) ∙ sym c.serves.ensures.value
     ∙ c.if-not-serves.false)
-    c.room_for-room.result c.if-bytes-gt-PAGE.false c.room_for-room.ensures c.last-last.result c.left.result last_is left_is
+    c.room_for-room.result c.if-bytes-gt-PAGE.false (c.room_for-room.ensures.room c.if-bytes-gt-PAGE.false) c.last-last.result c.left.result last_is left_is
     c.if-room-left.false c.take-page.result (free_seen t _ _ shapes c.is_full.ensures c.if-is_full.false) (c.take-page.ensures.page ∙ ap next_page shapes)
     (c.grow.ensures.shape ∙ ap (with_page h c.take-page.result c.room_for-room.result) (c.take-page.ensures.shape ∙ ap without_page shapes))).taken
 
@@ -417,7 +417,7 @@ returns-clause-words c =
     (c.grow.ensures.bytes ∙ ap (λ r. r.bytes) (c.take-page.ensures.raw ∙ raws)) h c.args.bytes
     (ap (λ t. takes_blocks c.args.handle.0 (standing_by (owner_of t.word) c.args.handle.0)) (sym c.begin.ensures.shape) ∙ sym c.serves.ensures.value
     ∙ c.if-not-serves.false)
-    c.room_for-room.result c.if-bytes-gt-PAGE.false c.room_for-room.ensures c.last-last.result c.left.result last_is left_is
+    c.room_for-room.result c.if-bytes-gt-PAGE.false (c.room_for-room.ensures.room c.if-bytes-gt-PAGE.false) c.last-last.result c.left.result last_is left_is
     c.if-room-left.false c.take-page.result (free_seen t _ _ shapes c.is_full.ensures c.if-is_full.false) (c.take-page.ensures.page ∙ ap next_page shapes)
     (c.grow.ensures.shape ∙ ap (with_page h c.take-page.result c.room_for-room.result) (c.take-page.ensures.shape ∙ ap without_page shapes))).words
 
@@ -435,7 +435,7 @@ returns-clause-bytes c =
     (c.grow.ensures.bytes ∙ ap (λ r. r.bytes) (c.take-page.ensures.raw ∙ raws)) h c.args.bytes
     (ap (λ t. takes_blocks c.args.handle.0 (standing_by (owner_of t.word) c.args.handle.0)) (sym c.begin.ensures.shape) ∙ sym c.serves.ensures.value
     ∙ c.if-not-serves.false)
-    c.room_for-room.result c.if-bytes-gt-PAGE.false c.room_for-room.ensures c.last-last.result c.left.result last_is left_is
+    c.room_for-room.result c.if-bytes-gt-PAGE.false (c.room_for-room.ensures.room c.if-bytes-gt-PAGE.false) c.last-last.result c.left.result last_is left_is
     c.if-room-left.false c.take-page.result (free_seen t _ _ shapes c.is_full.ensures c.if-is_full.false) (c.take-page.ensures.page ∙ ap next_page shapes)
     (c.grow.ensures.shape ∙ ap (with_page h c.take-page.result c.room_for-room.result) (c.take-page.ensures.shape ∙ ap without_page shapes))).bytes
 
@@ -453,7 +453,7 @@ returns-clause-fresh c =
     (c.grow.ensures.bytes ∙ ap (λ r. r.bytes) (c.take-page.ensures.raw ∙ raws)) h c.args.bytes
     (ap (λ t. takes_blocks c.args.handle.0 (standing_by (owner_of t.word) c.args.handle.0)) (sym c.begin.ensures.shape) ∙ sym c.serves.ensures.value
     ∙ c.if-not-serves.false)
-    c.room_for-room.result c.if-bytes-gt-PAGE.false c.room_for-room.ensures c.last-last.result c.left.result last_is left_is
+    c.room_for-room.result c.if-bytes-gt-PAGE.false (c.room_for-room.ensures.room c.if-bytes-gt-PAGE.false) c.last-last.result c.left.result last_is left_is
     c.if-room-left.false c.take-page.result (free_seen t _ _ shapes c.is_full.ensures c.if-is_full.false) (c.take-page.ensures.page ∙ ap next_page shapes)
     (c.grow.ensures.shape ∙ ap (with_page h c.take-page.result c.room_for-room.result) (c.take-page.ensures.shape ∙ ap without_page shapes))).fresh
 

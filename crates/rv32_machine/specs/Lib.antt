@@ -5,6 +5,7 @@ pub mod Run
 pub mod Arrays
 pub mod Shortage
 pub mod Places
+pub mod Widths
 pub mod Audit
 pub mod Implements
 pub use Rattle.cyc_words.specs.Words

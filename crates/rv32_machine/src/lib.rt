@@ -20,6 +20,7 @@ mod numbers;
 mod phase;
 mod registers;
 mod requests;
+mod width;
 
 pub use areas::CODE_BASE;
 pub use cyc_words::{Kind, MachineFault};

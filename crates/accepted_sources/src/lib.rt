@@ -11,5 +11,6 @@
 mod laws;
 
 pub use laws::{
-    accepted_is_in_order, accepted_is_lowerable, accepted_is_of_integers, integers_have_no_flow_faults,
+    accepted_is_in_order, accepted_is_lowerable, accepted_is_of_integers,
+    integers_have_no_flow_faults,
 };

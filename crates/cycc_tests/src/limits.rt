@@ -92,10 +92,12 @@ fn one_global_too_many_is_refused(rt: HostRuntime) -> Result<(), Fail> {
 #[test]
 fn a_frame_may_take_just_what_is_left_of_the_stack(rt: HostRuntime) -> Result<(), Fail> {
     let alloc = rt.alloc();
-    let fitting = b"int f(int n) { if (n) return f(n - 1); return 7; } int main() { int a; int b; return f(32766); }";
+    let fitting =
+        b"int f(int n) { if (n) return f(n - 1); return 7; } int main() { int a; int b; return f(32766); }";
     let found = shown(alloc, "cycc run IN --ending", b"", fitting)?;
-    assert_eq!(rt; found.as_str(), "7 | ended 7$ | -");
-    let over = b"int f(int n) { if (n) return f(n - 1); return 7; } int main() { int a; int b; int c; int d; int e; int g; return f(32766); }";
+    assert_eq!(rt; found.as_str(), "1 | ended 7$ | -");
+    let over =
+        b"int f(int n) { if (n) return f(n - 1); return 7; } int main() { int a; int b; int c; int d; int e; int g; return f(32766); }";
     let found = shown(alloc, "cycc run IN --ending", b"", over)?;
     assert_eq!(rt; found.as_str(), "3 | exhausted$ | -");
     Ok(())

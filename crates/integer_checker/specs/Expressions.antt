@@ -43,7 +43,7 @@ abbrev mutual
   judge ks (Expression.MakeUnion tag f e) = not_taken tag.at
   judge ks (Expression.NumElts at e) = not_taken at
   judge ks (Expression.Grouped at e) = grouped at (judge ks e)
-  judge ks (Expression.Suffixed e suffixes) = not_taken (expression_place e)
+  judge ks (Expression.Suffixed e _) = not_taken (expression_place e)
   judge ks (Expression.Prefixed at o e) = prefixed at o (judge ks e)
   judge ks (Expression.New at new) = not_taken at
   judge ks (Expression.NewIn at h new) = not_taken at

@@ -1,11 +1,13 @@
 -- The code's programs as programs of Core.
 use Rattle.std.specs.Prelude.{ℕ, Option, Some, None, List, [], ◌∷◌, map}
-use Rattle.core_meaning.specs.Memory.{Layout}
+use Rattle.core_meaning.specs.Memory.{Layout, Content}
 use Rattle.core_meaning.specs.Memory as memory
 use Rattle.core_meaning.specs.Core as core
 use Rattle.cyc_core.specs.declared.operation.Temporary.{Temporary}
 use Rattle.cyc_core.specs.declared.operation.Width.{Width}
 use Rattle.cyc_core.specs.declared.operation.Width.TheVariants as width
+use Rattle.cyc_core.specs.declared.operation.Cell.{Cell}
+use Rattle.cyc_core.specs.declared.operation.Cell.TheVariants as cell
 use Rattle.cyc_core.specs.declared.operation.Binary.{Binary}
 use Rattle.cyc_core.specs.declared.operation.Binary.TheVariants as binary
 use Rattle.cyc_core.specs.declared.operation.Operation.{Operation}
@@ -23,12 +25,27 @@ abbrev pub bytes_of : Width → ℕ
 bytes_of width.Byte = 1
 bytes_of width.Word = 4
 
--- an object of one cell of one part, which begins as 0
-abbrev pub part_layout : ℕ → Layout
-part_layout bytes = record { cells = (record { offset = 0; width = bytes; first = memory.Word 0 } ∷ []) ∷ []; bytes = bytes }
+-- how wide a local or a global is: a pointer is a word
+abbrev pub cell_width : Cell → Width
+cell_width cell.Byte = width.Byte
+cell_width cell.Word = width.Word
+cell_width cell.Pointer = width.Word
 
-abbrev pub local_tree : Width → core.Local
-local_tree w = record { layout = part_layout (bytes_of w); count = 1 }
+-- what it begins as: a pointer is NULL, and a number is 0
+abbrev pub cell_first : Cell → Content
+cell_first cell.Byte = memory.Word 0
+cell_first cell.Word = memory.Word 0
+cell_first cell.Pointer = memory.Null
+
+-- an object of one cell of one part
+abbrev pub part_layout : Cell → Layout
+part_layout c = record {
+  cells = (record { offset = 0; width = bytes_of (cell_width c); first = cell_first c } ∷ []) ∷ [];
+  bytes = bytes_of (cell_width c);
+}
+
+abbrev pub local_tree : Cell → core.Local
+local_tree c = record { layout = part_layout c; count = 1 }
 
 -- right where a pointer leads
 abbrev pub at_once : Width → core.Distance
@@ -65,14 +82,18 @@ binary_tree binary.LessEqualUnsigned = core.LessEqualUnsigned
 
 abbrev pub operation_tree : Operation → core.Operation
 operation_tree (operation.Constant t word) = core.Constant t.0 word
+operation_tree (operation.NullPointer t) = core.NullPointer t.0
 operation_tree (operation.Move t x) = core.Move t.0 x.0
 operation_tree (operation.Narrow t x) = core.Narrow t.0 x.0
 operation_tree (operation.Apply o t x y) = core.Apply (binary_tree o) t.0 x.0 y.0
+operation_tree (operation.LocalAddress t v) = core.LocalAddress t.0 v.out v.index
 operation_tree (operation.DataAddress t object) = core.DataAddress t.0 object
 operation_tree (operation.Get t v w) = core.Get t.0 v.out v.index (bytes_of w)
 operation_tree (operation.Put v w x) = core.Put v.out v.index (bytes_of w) x.0
 operation_tree (operation.Load t p w) = core.Load t.0 p.0 (at_once w)
 operation_tree (operation.Store p w x) = core.Store p.0 (at_once w) x.0
+operation_tree (operation.IsNull t p) = core.IsNull t.0 p.0
+operation_tree (operation.SamePlace t p q) = core.SamePlace t.0 p.0 q.0
 operation_tree (operation.Getchar t) = core.Getchar t.0
 operation_tree (operation.Putchar t x) = core.Putchar t.0 x.0
 
@@ -84,11 +105,12 @@ abbrev pub statement_step : Statement-F core.Statement → core.Statement
 statement_step (Statement-F.Do o) = core.Do (operation_tree o)
 statement_step (Statement-F.If t these those) = core.If t.0 (statements_of these.items) (statements_of those.items)
 statement_step (Statement-F.While test t body) = core.While (statements_of test.items) t.0 (statements_of body.items)
-statement_step (Statement-F.Block widths body) = core.Block (map local_tree widths.items) (statements_of body.items)
+statement_step (Statement-F.Block locals body) = core.Block (map local_tree locals.items) (statements_of body.items)
 statement_step Statement-F.Break = core.Break
 statement_step Statement-F.Continue = core.Continue
 statement_step (Statement-F.Call result f arguments) = core.Call (optional_tree result) f (map temporary_tree arguments.items)
 statement_step (Statement-F.Return value) = core.Return (optional_tree value)
+statement_step (Statement-F.Raise kind) = core.Raise kind
 
 abbrev pub statement_tree : code.Statement → core.Statement
 statement_tree = fold-Statement core.Statement statement_step
@@ -100,17 +122,19 @@ body_tree ss = statements_of (map statement_tree ss)
 abbrev pub function_tree : Function → core.Function
 function_tree f = record { parameters = f.parameters; temporaries = f.temporaries; passed = f.passed; own = []; body = body_tree f.body.items }
 
-abbrev pub datum_width : Datum → Width
-datum_width (datum.Byte b) = width.Byte
-datum_width (datum.Word w) = width.Word
+abbrev pub datum_cell : Datum → Cell
+datum_cell (datum.Byte b) = cell.Byte
+datum_cell (datum.Word w) = cell.Word
+datum_cell datum.Null = cell.Pointer
 
 -- what a global holds at the start
-abbrev pub datum_word : Datum → ℕ
-datum_word (datum.Byte b) = b
-datum_word (datum.Word w) = w
+abbrev pub datum_content : Datum → Content
+datum_content (datum.Byte b) = memory.Word b
+datum_content (datum.Word w) = memory.Word w
+datum_content datum.Null = memory.Null
 
 abbrev pub datum_tree : Datum → core.Datum
-datum_tree d = record { layout = part_layout (bytes_of (datum_width d)); count = 1; first = λ cell part. memory.Word (datum_word d) }
+datum_tree d = record { layout = part_layout (datum_cell d); count = 1; first = λ cell part. datum_content d }
 
 abbrev pub program_tree : Program → core.Program
 program_tree p = record {

@@ -9,6 +9,6 @@ mod operation;
 mod program;
 mod statement;
 
-pub use operation::{Binary, Operation, Temporary, Variable, Width};
+pub use operation::{Binary, Cell, Operation, Temporary, Variable, Width};
 pub use program::{Datum, Function, Program};
 pub use statement::Statement;

@@ -1,6 +1,9 @@
 // Temporaries, locals, and the operations on them.
 
-/// A temporary of a function: a word, named by its number.
+ghost use Rattle.std.specs.Prelude.{◌≡◌};
+ghost use Rattle.cyc_core.specs.Trees.{cell_width};
+
+/// A temporary of a function: a word or a pointer, named by its number.
 #[derive(Clone, Copy, PartialEq, Eq, Debug)]
 pub struct Temporary(pub u32);
 
@@ -20,6 +23,29 @@ pub enum Width {
     Byte,
     /// Four bytes, at an address that four divides.
     Word,
+}
+
+/// What a local or a global is made for.
+#[derive(Clone, Copy, PartialEq, Eq, Debug)]
+pub enum Cell {
+    /// A number of one byte.
+    Byte,
+    /// A number of four bytes.
+    Word,
+    /// A pointer, of four bytes.
+    Pointer,
+}
+
+impl Cell {
+    /// How wide it is.
+    pub fn width(self) -> Width
+        ensures { result ≡ cell_width self }
+    {
+        match self {
+            Cell::Byte => Width::Byte,
+            Cell::Word | Cell::Pointer => Width::Word,
+        }
+    }
 }
 
 /// An operation on two words.
@@ -70,22 +96,30 @@ pub enum Binary {
 pub enum Operation {
     /// The temporary gets the word.
     Constant(Temporary, u32),
-    /// The first temporary gets the second's word.
+    /// The temporary gets NULL.
+    NullPointer(Temporary),
+    /// The first temporary gets what the second holds.
     Move(Temporary, Temporary),
     /// The first temporary gets the lowest byte of the second's word.
     Narrow(Temporary, Temporary),
     /// The first temporary gets the operation's result on the two others.
     Apply(Binary, Temporary, Temporary, Temporary),
-    /// The temporary gets the address of the global with this number.
+    /// The temporary gets a pointer to the local.
+    LocalAddress(Temporary, Variable),
+    /// The temporary gets a pointer to the global with this number.
     DataAddress(Temporary, u32),
     /// The temporary gets what the local holds.
     Get(Temporary, Variable, Width),
-    /// The local gets the temporary's word, or its lowest byte.
+    /// The local gets what the temporary holds, or the lowest byte of its word.
     Put(Variable, Width, Temporary),
     /// The first temporary gets what lies where the second points.
     Load(Temporary, Temporary, Width),
-    /// Where the first temporary points gets the second's word, or its lowest byte.
+    /// Where the first temporary points gets what the second holds, or the lowest byte of its word.
     Store(Temporary, Width, Temporary),
+    /// The first temporary gets 1 where the second holds NULL, and 0 where it holds another pointer.
+    IsNull(Temporary, Temporary),
+    /// The first temporary gets 1 where the two others hold the same pointer, and 0 where they hold two.
+    SamePlace(Temporary, Temporary, Temporary),
     /// The temporary gets the next byte of the input, or -1 at its end.
     Getchar(Temporary),
     /// The second temporary's lowest byte is written, and the first gets it.

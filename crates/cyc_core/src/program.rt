@@ -1,9 +1,9 @@
 // Functions, globals and programs.
 
 ghost use Rattle.std.specs.Prelude.{◌≡◌};
-ghost use Rattle.cyc_core.specs.Trees.{datum_width};
+ghost use Rattle.cyc_core.specs.Trees.{datum_cell};
 
-use crate::operation::Width;
+use crate::operation::Cell;
 use crate::statement::Statement;
 
 /// A function of Core.
@@ -26,16 +26,19 @@ pub enum Datum {
     Byte(u8),
     /// A word.
     Word(u32),
+    /// NULL.
+    Null,
 }
 
 impl Datum {
-    /// How wide the global is.
-    pub fn width(self) -> Width
-        ensures { result ≡ datum_width self }
+    /// What the global is made for.
+    pub fn cell(self) -> Cell
+        ensures { result ≡ datum_cell self }
     {
         match self {
-            Datum::Byte(_) => Width::Byte,
-            Datum::Word(_) => Width::Word,
+            Datum::Byte(_) => Cell::Byte,
+            Datum::Word(_) => Cell::Word,
+            Datum::Null => Cell::Pointer,
         }
     }
 }

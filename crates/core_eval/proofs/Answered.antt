@@ -9,6 +9,7 @@ use Rattle.std.proofs.Common.{
   Bool,
   true,
   false,
+  Option,
   Some,
   None,
   List,
@@ -28,6 +29,8 @@ use Rattle.std.proofs.Common.{
   subst,
   arith,
 }
+use Rattle.std.specs.declared.vec.Vec.{Vec}
+use Rattle.std.specs.declared.alloc.Global.{Global}
 use Rattle.core_meaning.specs.Memory.{Content}
 use Rattle.core_meaning.specs.Core as core
 use Rattle.core_meaning.specs.Steps as steps
@@ -40,12 +43,14 @@ use Rattle.core_eval.specs.declared.value.Value.TheVariants as value
 use Rattle.core_eval.specs.declared.value.Object.{Object}
 use Rattle.core_eval.specs.declared.frame.Frame.{Frame}
 use Rattle.core_eval.specs.declared.pending.Due.{Due}
-use Rattle.core_eval.specs.Values.{content_of, temp_of, put_in, put_local}
+use Rattle.core_eval.specs.declared.memory.Memory.{Memory}
+use Rattle.core_eval.specs.Values.{content_of, temp_of, put_in}
+use Rattle.core_eval.specs.Blocks.{Activation, Descends, activation_of, position_of, put_through, put_local}
 use Rattle.core_eval.specs.Pendings.{Task, Execute, Leave, Wait, Next, Go, Wrong, next_of}
 use Rattle.core_eval.specs.Standing.{Known, Gives, known_of}
 use Rattle.core_eval.specs.Costs.{IsMove}
 use Rattle.core_eval.proofs.OperationMoves.{given}
-use Rattle.core_eval.proofs.StoreMoves.{put_moves, put_wrong, store_moves, store_wrong}
+use Rattle.core_eval.proofs.StoreMoves.{put_moves, put_wrong, store_moves, store_wrong, store_local_moves, store_local_wrong}
 
 -- a move to what is said in another way
 pub move_as : (task : Task) (ws : List Wait) (known : Known) (next next' : Next) (ws' : List Wait) (known' known2 : Known) → next' ≡ next → known2 ≡ known'
@@ -54,44 +59,37 @@ move_as task ws known next next' ws' known' known2 n k h =
     subst (λ (x : Next). IsMove task ws known x ws' known2) (sym n) (subst (λ (x : Known). IsMove task ws known next ws' x) (sym k) h)
 
 -- what a frame is known as, where only its temporaries changed
-pub given_known : (f f' : Frame) (globals : List Object) → f'.blocks ≡ f.blocks → known_of f' globals ≡ given (known_of f globals) f'.temps.items
-given_known f f' globals same = ap (λ bs. record { temps = f'.temps.items; blocks = map (λ objects. objects.items) bs.items; globals = globals }) same
+pub given_known : (f f' : Frame) (m : Memory) → f'.base ≡ f.base → known_of f' m ≡ given (known_of f m) f'.temps.items
+given_known f f' m same = ap (λ b. record (known_of f m) { temps = f'.temps.items; base = b }) same
 
 -- what `give` answers
 pub given_answer : {E : Type 0} (r : Result Due E) (f f' : Frame) (t : ℕ) (v : Content) (task : Task) → IfOk r (λ due. next_of due ≡ Go (Leave steps.Falls))
-    → OnOk r (Gives t v f.temps.items f'.temps.items) → OnOk r (f'.blocks ≡ f.blocks)
-    → ((ws : List Wait) (globals : List Object) → Gives t v f.temps.items f'.temps.items
-    → IsMove task ws (known_of f globals) (Go (Leave steps.Falls)) ws (given (known_of f globals) f'.temps.items))
-    → IfOk r (λ due. (ws : List Wait) (globals : List Object) → IsMove task ws (known_of f globals) (next_of due) ws (known_of f' globals))
-given_answer (Ok due) f f' t v task next gives blocks h =
-    λ ws globals. move_as task ws (known_of f globals) (Go (Leave steps.Falls)) (next_of due) ws (given (known_of f globals) f'.temps.items)
-    (known_of f' globals)
-    next (given_known f f' globals blocks) (h ws globals gives)
-given_answer (Err e) f f' t v task next gives blocks h = tt
+    → OnOk r (Gives t v f.temps.items f'.temps.items) → OnOk r (f'.base ≡ f.base)
+    → ((ws : List Wait) (m : Memory) → Gives t v f.temps.items f'.temps.items
+    → IsMove task ws (known_of f m) (Go (Leave steps.Falls)) ws (given (known_of f m) f'.temps.items))
+    → IfOk r (λ due. (ws : List Wait) (m : Memory) → IsMove task ws (known_of f m) (next_of due) ws (known_of f' m))
+given_answer (Ok due) f f' t v task next gives base h =
+    λ ws m. move_as task ws (known_of f m) (Go (Leave steps.Falls)) (next_of due) ws (given (known_of f m) f'.temps.items)
+    (known_of f' m)
+    next (given_known f f' m base) (h ws m gives)
+given_answer (Err e) f f' t v task next gives base h = tt
 
-pub given_here : {E : Type 0} (r : Result Due E) (f f' : Frame) (t : ℕ) (v : Content) (task : Task) (globals : List Object)
-    → IfOk r (λ due. next_of due ≡ Go (Leave steps.Falls)) → OnOk r (Gives t v f.temps.items f'.temps.items) → OnOk r (f'.blocks ≡ f.blocks)
+pub given_here : {E : Type 0} (r : Result Due E) (f f' : Frame) (t : ℕ) (v : Content) (task : Task) (m : Memory)
+    → IfOk r (λ due. next_of due ≡ Go (Leave steps.Falls)) → OnOk r (Gives t v f.temps.items f'.temps.items) → OnOk r (f'.base ≡ f.base)
     → ((ws : List Wait) → Gives t v f.temps.items f'.temps.items
-    → IsMove task ws (known_of f globals) (Go (Leave steps.Falls)) ws (given (known_of f globals) f'.temps.items))
-    → IfOk r (λ due. (ws : List Wait) → IsMove task ws (known_of f globals) (next_of due) ws (known_of f' globals))
-given_here (Ok due) f f' t v task globals next gives blocks h =
-    λ ws. move_as task ws (known_of f globals) (Go (Leave steps.Falls)) (next_of due) ws (given (known_of f globals) f'.temps.items) (known_of f' globals)
-    next (given_known f f' globals blocks) (h ws gives)
-given_here (Err e) f f' t v task globals next gives blocks h = tt
+    → IsMove task ws (known_of f m) (Go (Leave steps.Falls)) ws (given (known_of f m) f'.temps.items))
+    → IfOk r (λ due. (ws : List Wait) → IsMove task ws (known_of f m) (next_of due) ws (known_of f' m))
+given_here (Ok due) f f' t v task m next gives base h =
+    λ ws. move_as task ws (known_of f m) (Go (Leave steps.Falls)) (next_of due) ws (given (known_of f m) f'.temps.items) (known_of f' m)
+    next (given_known f f' m base) (h ws gives)
+given_here (Err e) f f' t v task m next gives base h = tt
 
--- with some globals
-pub with_globals : {E : Type 0} (r : Result Due E) (f f' : Frame) (task : Task) (globals : List Object)
-    → IfOk r (λ due. (ws : List Wait) (gs : List Object) → IsMove task ws (known_of f gs) (next_of due) ws (known_of f' gs))
-    → IfOk r (λ due. (ws : List Wait) → IsMove task ws (known_of f globals) (next_of due) ws (known_of f' globals))
-with_globals (Ok due) f f' task globals h = λ ws. h ws globals
-with_globals (Err e) f f' task globals h = tt
-
--- the globals, said in another way
-pub same_globals : {E : Type 0} (r : Result Due E) (f f' : Frame) (task : Task) (globals globals' : List Object) → globals ≡ globals'
-    → IfOk r (λ due. (ws : List Wait) → IsMove task ws (known_of f globals) (next_of due) ws (known_of f' globals))
-    → IfOk r (λ due. (ws : List Wait) → IsMove task ws (known_of f globals') (next_of due) ws (known_of f' globals'))
-same_globals r f f' task globals globals' same h =
-    subst (λ (gs : List Object). IfOk r (λ due. (ws : List Wait) → IsMove task ws (known_of f gs) (next_of due) ws (known_of f' gs))) same h
+-- with some memory
+pub with_memory : {E : Type 0} (r : Result Due E) (f f' : Frame) (task : Task) (m : Memory)
+    → IfOk r (λ due. (ws : List Wait) (m : Memory) → IsMove task ws (known_of f m) (next_of due) ws (known_of f' m))
+    → IfOk r (λ due. (ws : List Wait) → IsMove task ws (known_of f m) (next_of due) ws (known_of f' m))
+with_memory (Ok due) f f' task m h = λ ws. h ws m
+with_memory (Err e) f f' task m h = tt
 
 -- the operation that it is
 pub for_operation : {E : Type 0} (r : Result Due E) (o o' : Operation) (known known' : Known) → o ≡ o'
@@ -114,40 +112,70 @@ set_same (y ∷ xs) (suc k) x h e = ap (λ l. y ∷ l) (set_same xs k x (omega (
 
 -- ---- stores
 
-module _ (f f' : Frame) (x out i : ℕ) (w : Width) (v : Value) (is_there : Bool) (read : content_of v ≡ temp_of f.temps.items x)
-    (put : put_local (map (λ objects. objects.items) f.blocks.items) out i w v
-    ≡ (if is_there then Some (map (λ objects. objects.items) f'.blocks.items) else None))
-    (temps : f'.temps ≡ f.temps) (ws : List Wait) (globals : List Object) where
-  pub put_answer : is_there ≡ true → IsMove (Execute (core.Do (core.Put out i (bytes_of w) x))) ws (known_of f globals) (Go (Leave steps.Falls)) ws
-      (known_of f' globals)
-  put_answer stored =
-      let e : put_local (map (λ objects. objects.items) f.blocks.items) out i w v ≡ Some (map (λ objects. objects.items) f'.blocks.items) =
-      put ∙ ap (λ b. if b then Some (map (λ objects. objects.items) f'.blocks.items) else None) stored in
-      move_as _ ws (known_of f globals) (Go (Leave steps.Falls)) _ ws (record (known_of f globals) { blocks = map (λ objects. objects.items) f'.blocks.items })
-      (known_of f' globals)
-      refl (ap (λ ts. record { temps = ts.items; blocks = map (λ objects. objects.items) f'.blocks.items; globals = globals }) temps)
-      (put_moves (known_of f globals) ws x v read out i w (map (λ objects. objects.items) f'.blocks.items) e)
+-- what is known after a store to a local
+stored_known : (f : Frame) (m m' : Memory) → m'.entered ≡ m.entered → m'.globals ≡ m.globals
+    → known_of f m' ≡ record (known_of f m) { blocks = map activation_of m'.blocks.items }
+stored_known f m m' entered globals =
+    ap (λ n. record (known_of f m) { blocks = map activation_of m'.blocks.items; entered = n; globals = m'.globals.items }) entered
+    ∙ ap (λ gs. record (known_of f m) { blocks = map activation_of m'.blocks.items; globals = gs.items }) globals
 
-  pub unput_answer : is_there ≡ false → f'.blocks.items ≡ f.blocks.items
-      → IsMove (Execute (core.Do (core.Put out i (bytes_of w) x))) ws (known_of f globals) Wrong ws (known_of f' globals)
-  unput_answer missing same =
-      let e : put_local (map (λ objects. objects.items) f.blocks.items) out i w v ≡ None =
-      put ∙ ap (λ b. if b then Some (map (λ objects. objects.items) f'.blocks.items) else None) missing in
-      move_as _ ws (known_of f globals) Wrong _ ws (known_of f globals) (known_of f' globals)
-      refl (ap (λ ts. record { temps = ts.items; blocks = map (λ objects. objects.items) f'.blocks.items; globals = globals }) temps
-      ∙ ap (λ bs. record { temps = f.temps.items; blocks = map (λ objects. objects.items) bs; globals = globals }) same)
-      (put_wrong (known_of f globals) ws x v read out i w e)
+unstored_known : (f : Frame) (m m' : Memory) → m'.blocks.items ≡ m.blocks.items → m'.entered ≡ m.entered → m'.globals ≡ m.globals
+    → known_of f m' ≡ known_of f m
+unstored_known f m m' blocks entered globals =
+    stored_known f m m' entered globals ∙ ap (λ bs. record (known_of f m) { blocks = map activation_of bs }) blocks
 
-module _ (f : Frame) (globals globals' : List Object) (p x g : ℕ) (w : Width) (u v : Value) (is_there : Bool) (place : content_of u ≡ temp_of f.temps.items p)
-    (is_place : u ≡ value.Global g) (read : content_of v ≡ temp_of f.temps.items x)
-    (put : put_in globals g w v ≡ (if is_there then Some globals' else None)) (ws : List Wait) where
+-- what a store answers
+abbrev stored_if : Bool → List Activation → Option (List Activation)
+stored_if is_there blocks = (if is_there then Some blocks else None)
+
+module _ (f : Frame) (m m' : Memory) (x : ℕ) (v : Value) (is_there : Bool) (read : content_of v ≡ temp_of f.temps.items x)
+    (entered : m'.entered ≡ m.entered) (globals : m'.globals ≡ m.globals) (ws : List Wait) where
+  abbrev blocks_of : Memory → List Activation
+  blocks_of m = map activation_of m.blocks.items
+
+  module _ (out i : ℕ) (w : Width) (put : put_local f.base (blocks_of m) out i w v ≡ stored_if is_there (blocks_of m')) where
+    pub put_answer : is_there ≡ true
+        → IsMove (Execute (core.Do (core.Put out i (bytes_of w) x))) ws (known_of f m) (Go (Leave steps.Falls)) ws (known_of f m')
+    put_answer stored =
+        move_as _ ws (known_of f m) (Go (Leave steps.Falls)) _ ws (record (known_of f m) { blocks = blocks_of m' }) (known_of f m')
+        refl (stored_known f m m' entered globals)
+        (put_moves (known_of f m) ws x v read out i w (blocks_of m') (put ∙ ap (λ b. stored_if b (blocks_of m')) stored))
+
+    pub unput_answer : is_there ≡ false → m'.blocks.items ≡ m.blocks.items
+        → IsMove (Execute (core.Do (core.Put out i (bytes_of w) x))) ws (known_of f m) Wrong ws (known_of f m')
+    unput_answer missing same =
+        move_as _ ws (known_of f m) Wrong _ ws (known_of f m) (known_of f m') refl (unstored_known f m m' same entered globals)
+        (put_wrong (known_of f m) ws x v read out i w (put ∙ ap (λ b. stored_if b (blocks_of m')) missing))
+
+  module _ (p k i : ℕ) (w : Width) (place : content_of (value.Local k i) ≡ temp_of f.temps.items p)
+      (put : Descends m.entered (blocks_of m) → put_through (blocks_of m) (position_of (blocks_of m) k) i w v ≡ stored_if is_there (blocks_of m')) where
+    pub store_local_answer : is_there ≡ true
+        → IsMove (Execute (core.Do (core.Store p (trees.at_once w) x))) ws (known_of f m) (Go (Leave steps.Falls)) ws (known_of f m')
+    store_local_answer stored =
+        move_as _ ws (known_of f m) (Go (Leave steps.Falls)) _ ws (record (known_of f m) { blocks = blocks_of m' }) (known_of f m')
+        refl (stored_known f m m' entered globals)
+        (store_local_moves (known_of f m) ws x v read p k i place w (blocks_of m') (λ d. put d ∙ ap (λ b. stored_if b (blocks_of m')) stored))
+
+    pub unstore_local_answer : is_there ≡ false → m'.blocks.items ≡ m.blocks.items
+        → IsMove (Execute (core.Do (core.Store p (trees.at_once w) x))) ws (known_of f m) Wrong ws (known_of f m')
+    unstore_local_answer missing same =
+        move_as _ ws (known_of f m) Wrong _ ws (known_of f m) (known_of f m') refl (unstored_known f m m' same entered globals)
+        (store_local_wrong (known_of f m) ws x v read p k i place w (λ d. put d ∙ ap (λ b. stored_if b (blocks_of m')) missing))
+
+-- a store to a global
+abbrev with_globals : Memory → Vec Object Global → Memory
+with_globals m globals = record m { globals = globals }
+
+module _ (f : Frame) (m : Memory) (globals : Vec Object Global) (p x g : ℕ) (w : Width) (v : Value) (is_there : Bool)
+    (place : content_of (value.Global g) ≡ temp_of f.temps.items p) (read : content_of v ≡ temp_of f.temps.items x)
+    (put : put_in m.globals.items g w v ≡ (if is_there then Some globals.items else None)) (ws : List Wait) where
   pub store_answer : is_there ≡ true
-      → IsMove (Execute (core.Do (core.Store p (trees.at_once w) x))) ws (known_of f globals) (Go (Leave steps.Falls)) ws (known_of f globals')
+      → IsMove (Execute (core.Do (core.Store p (trees.at_once w) x))) ws (known_of f m) (Go (Leave steps.Falls)) ws (known_of f (with_globals m globals))
   store_answer stored =
-      store_moves (known_of f globals) ws x v read p g u place is_place w globals' (put ∙ ap (λ b. if b then Some globals' else None) stored)
+      store_moves (known_of f m) ws x v read p g (value.Global g) place refl w globals.items (put ∙ ap (λ b. if b then Some globals.items else None) stored)
 
-  pub unstore_answer : is_there ≡ false → globals' ≡ globals
-      → IsMove (Execute (core.Do (core.Store p (trees.at_once w) x))) ws (known_of f globals) Wrong ws (known_of f globals')
+  pub unstore_answer : is_there ≡ false → globals ≡ m.globals
+      → IsMove (Execute (core.Do (core.Store p (trees.at_once w) x))) ws (known_of f m) Wrong ws (known_of f (with_globals m globals))
   unstore_answer missing same =
-      move_as _ ws (known_of f globals) Wrong _ ws (known_of f globals) (known_of f globals') refl (ap (known_of f) same)
-      (store_wrong (known_of f globals) ws x v read p g u place is_place w (put ∙ ap (λ b. if b then Some globals' else None) missing))
+      move_as _ ws (known_of f m) Wrong _ ws (known_of f m) (known_of f (with_globals m globals)) refl (ap (λ gs. known_of f (with_globals m gs)) same)
+      (store_wrong (known_of f m) ws x v read p g (value.Global g) place refl w (put ∙ ap (λ b. if b then Some globals.items else None) missing))

@@ -1,17 +1,19 @@
 -- A block is entered, and left.
-use Rattle.std.specs.Prelude.{if◌then◌else◌, nat_eq, ◌&&◌}
-use Rattle.std.proofs.Common.{◌≡◌, ℕ, ◌+◌, false, List, [], ◌∷◌, ◌++◌, length, map, drop, refl, ap, ◌∙◌, sym, subst, append_assoc, append-nil, arith}
-use Rattle.core_meaning.specs.Memory.{Region, Frame, Born, Live, Dead, Memory, same_region, with_standing, with_object, blanks}
+use Rattle.std.specs.Prelude.{if◌then◌else◌, nat_eq, ◌&&◌, option_map}
+use Rattle.std.proofs.lemmas.Bool.Decides.{nat_tests}
+use Rattle.std.proofs.Common.{◌≡◌, ℕ, suc, ◌+◌, Bool, true, false, Option, Some, None, List, [], ◌∷◌, ◌++◌, length, map, drop, refl, ap, ◌∙◌, sym, subst, append_assoc, append-nil, arith}
+use Rattle.core_meaning.specs.Memory.{Region, Frame, Born, Live, Dead, Memory, is_live, same_region, with_standing, with_object, blanks}
 use Rattle.core_meaning.specs.Core as core
 use Rattle.core_meaning.specs.Core.{Local, Statements}
 use Rattle.core_meaning.specs.Steps.{Config, Exit}
 use Rattle.core_meaning.specs.Meaning.{with_objects, in_block, out_of_block}
-use Rattle.cyc_core.specs.declared.operation.Width.{Width}
-use Rattle.cyc_core.specs.Trees.{local_tree, bytes_of, part_layout}
+use Rattle.cyc_core.specs.declared.operation.Cell.{Cell}
+use Rattle.cyc_core.specs.Trees.{local_tree, part_layout}
 use Rattle.core_eval.specs.declared.value.Object.{Object}
 use Rattle.core_eval.specs.Values.{spot_of, Shows, blank_object}
+use Rattle.core_eval.specs.Blocks.{Activation, position_of}
 use Rattle.core_eval.specs.Pendings.{Execute, Follow, Leave, Wait, Block, Go, Mark, rest_of}
-use Rattle.core_eval.specs.Standing.{Holds, Known, Agrees, Stands, IsFresh, AreNested}
+use Rattle.core_eval.specs.Standing.{Holds, Known, Agrees, Stands, IsFresh, AreNested, AreAllLive}
 use Rattle.core_eval.specs.Costs.{IsMove}
 use Rattle.core_eval.proofs.Memories.{itself, other_number, shows_standing, shows_objects, shows_grown}
 use Rattle.core_eval.proofs.Nested.{nested_still}
@@ -41,16 +43,37 @@ length_more : {A : Type 0} (xs : List A) (x : A) → length xs + 1 ≡ length (x
 length_more [] x = refl
 length_more (y ∷ xs) x = let h = length_more xs x in omega (arith, h)
 
+-- no standing
+standing_same : (r : Region) (ls : List Local) (m : Memory) (q : Region) → (with_objects r ls m).standing q ≡ m.standing q
+standing_same r [] m q = refl
+standing_same r (l ∷ ls) m q = standing_same r ls (with_object m r (blanks l.layout l.count)) q
+
+-- a block that isn't among some is neither the first of them nor a later one
+not_first : (n k : ℕ) (o : Option ℕ) → (if nat_eq n k then Some 0 else option_map suc o) ≡ None → nat_eq n k ≡ false
+not_first n k o h = by (nat_eq n k) h
+  where
+    by : (t : Bool) → (if t then Some 0 else option_map suc o) ≡ None → t ≡ false
+    by true e = cc
+    by false e = refl
+
+not_later : (n k : ℕ) (o : Option ℕ) → (if nat_eq n k then Some 0 else option_map suc o) ≡ None → o ≡ None
+not_later n k None h = refl
+not_later n k (Some p) h = by (nat_eq n k) h
+  where
+    by : (t : Bool) → (if t then Some 0 else Some (suc p)) ≡ None → Some p ≡ None
+    by true e = cc
+    by false e = cc
+
 -- one object for each local
-all_shown : (r : Region) (widths : List Width) (m : Memory) (objects : List Object) → Shows m r objects → m.objects r ≡ length objects
-    → Shows (with_objects r (map local_tree widths) m) r (objects ++ map blank_object widths)
+all_shown : (r : Region) (locals : List Cell) (m : Memory) (objects : List Object) → Shows m r objects → m.objects r ≡ length objects
+    → Shows (with_objects r (map local_tree locals) m) r (objects ++ map blank_object locals)
 all_shown r [] m objects shows counted = subst (λ (os : List Object). Shows m r os) (sym (append-nil objects)) shows
-all_shown r (w ∷ widths) m objects shows counted =
-    let m1 = with_object m r (blanks (part_layout (bytes_of w)) 1) in
+all_shown r (w ∷ locals) m objects shows counted =
+    let m1 = with_object m r (blanks (part_layout w) 1) in
     let more : m1.objects r ≡ length (objects ++ blank_object w ∷ []) =
     ap (λ b. if b then m.objects r + 1 else m.objects r) (itself r) ∙ ap (λ n. n + 1) counted ∙ length_more objects (blank_object w) in
-    subst (λ (os : List Object). Shows (with_objects r (map local_tree widths) m1) r os) (append_assoc objects (blank_object w ∷ []) (map blank_object widths))
-    (all_shown r widths m1 (objects ++ blank_object w ∷ []) (shows_grown shows counted w) more)
+    subst (λ (os : List Object). Shows (with_objects r (map local_tree locals) m1) r os) (append_assoc objects (blank_object w ∷ []) (map blank_object locals))
+    (all_shown r locals m1 (objects ++ blank_object w ∷ []) (shows_grown shows counted w) more)
 
 -- ---- a block is entered
 
@@ -62,16 +85,19 @@ shows_begun : (m : Memory) (q : Region) (objects : List Object) → same_region 
 shows_begun m q objects other shows =
     let s = shows_standing shows (Frame m.activations) other Live in record { live = s.live; holds = s.holds }
 
-module _ (known : Known) (ws : List Wait) (widths : List Width) where
+module _ (known : Known) (ws : List Wait) (locals : List Cell) where
   -- what is known in the block
   abbrev pub inside : Known
-  inside = record known { blocks = map blank_object widths ∷ known.blocks }
+  inside = record known {
+    blocks = record { number = known.entered; objects = map blank_object locals } ∷ known.blocks;
+    entered = known.entered + 1;
+  }
 
   entered_agrees : (marks : List Mark) (c : Config) → Agrees known ws marks c
-      → Agrees inside (Block ∷ ws) (record { number = c.memory.activations; outside = c } ∷ marks) (in_block (map local_tree widths) c)
+      → Agrees inside (Block ∷ ws) (record { number = c.memory.activations; outside = c } ∷ marks) (in_block (map local_tree locals) c)
   entered_agrees marks c h =
       let m = c.memory in
-      let ls = map local_tree widths in
+      let ls = map local_tree locals in
       let a = m.activations in
       let m' = with_objects (Frame a) ls (begun m) in
       let counted : m'.activations ≡ a + 1 = activations_same (Frame a) ls (begun m) in
@@ -88,19 +114,26 @@ module _ (known : Known) (ws : List Wait) (widths : List Width) where
         globals = still (Born 0) known.globals refl h.globals;
         nested = (
           refl,
+          sym h.entered,
           omega (arith, counted),
-          all_shown (Frame a) widths (begun m) []
+          all_shown (Frame a) locals (begun m) []
               (record { live = ap (λ b. if b then Live else m.standing (Frame a)) (itself (Frame a)); holds = λ i. h.fresh.missing a i (omega arith) })
               (h.fresh.empty a (omega arith)),
-          nested_still m m' a a c.blocks known.blocks ws marks (omega arith)
+          nested_still m m' a a c.blocks known.base known.blocks ws marks (omega arith)
               (λ k objects below shows. still (Frame k) objects (other_number k a (omega (arith, below))) shows) h.nested,
         );
+        entered = ap (λ n. n + 1) h.entered ∙ sym counted;
+        live = λ k gone.
+            let other : nat_eq known.entered k ≡ false = not_first known.entered k (position_of known.blocks k) gone in
+            let apart : nat_eq k a ≡ false = let e = h.entered in grind (arith, nat_tests, other, e) in
+            ap is_live (standing_same (Frame a) ls (begun m) (Frame k) ∙ ap (λ b. if b then Live else m.standing (Frame k)) apart)
+            ∙ h.live k (not_later known.entered k (position_of known.blocks k) gone);
       }
 
-  pub block_enters : (body : Statements) → IsMove (Execute (core.Block (map local_tree widths) body)) ws known (Go (Follow body)) (Block ∷ ws) inside
+  pub block_enters : (body : Statements) → IsMove (Execute (core.Block (map local_tree locals) body)) ws known (Go (Follow body)) (Block ∷ ws) inside
   block_enters body = record {
     still = all_stand _ ws known (Go (Follow body)) (Block ∷ ws) inside (λ main marks c h.
-        goes_here main (record { number = c.memory.activations; outside = c } ∷ marks) (in_block (map local_tree widths) c) _ (Go (Follow body))
+        goes_here main (record { number = c.memory.activations; outside = c } ∷ marks) (in_block (map local_tree locals) c) _ (Go (Follow body))
         (Block ∷ ws) inside
         (entered_agrees marks c h) refl);
     fewer = omega arith;
@@ -112,26 +145,36 @@ module _ (known : Known) (ws : List Wait) (widths : List Width) where
 abbrev pub outside_of : Known → Known
 outside_of known = record known { blocks = drop 1 known.blocks }
 
-left_goes : (exit : Exit) (ws : List Wait) (known : Known) (blocks : List (List Object)) → known.blocks ≡ blocks → (main : ℕ) (marks : List Mark) (c : Config)
-    → Holds c.temps known.temps → IsFresh c.memory → Shows c.memory (Born 0) known.globals
-    → AreNested c.memory c.memory.activations c.blocks blocks (Block ∷ ws) marks
+left_goes : (exit : Exit) (ws : List Wait) (known : Known) (blocks : List Activation) → known.blocks ≡ blocks → (main : ℕ) (marks : List Mark) (c : Config)
+    → Holds c.temps known.temps → IsFresh c.memory → Shows c.memory (Born 0) known.globals → known.entered ≡ c.memory.activations
+    → AreAllLive c.memory blocks → AreNested c.memory c.memory.activations c.blocks known.base blocks (Block ∷ ws) marks
     → Stands main (rest_of main (Block ∷ ws) marks exit c) (Go (Leave exit)) ws (record known { blocks = drop 1 blocks })
-left_goes exit ws known blocks is main [] c temps fresh globals nested = absurd nested
-left_goes exit ws known [] is main (mark ∷ marks) c temps fresh globals nested = absurd nested
-left_goes exit ws known (objects ∷ blocks) is main (mark ∷ marks) c temps fresh globals (same, below, shows, rest) =
+left_goes exit ws known blocks is main [] c temps fresh globals entered live nested = absurd nested
+left_goes exit ws known [] is main (mark ∷ marks) c temps fresh globals entered live nested = absurd nested
+left_goes exit ws known (b ∷ blocks) is main (mark ∷ marks) c temps fresh globals entered live (same, number, below, shows, rest) =
     let m' = with_standing c.memory (Frame mark.number) Dead in
     goes_here main marks (out_of_block mark.number mark.outside.blocks c) _ (Go (Leave exit)) ws (record known { blocks = blocks })
     (record {
       temps = temps;
       fresh = record { empty = fresh.empty; missing = fresh.missing };
       globals = shows_standing globals (Frame mark.number) refl Dead;
-      nested = nested_still c.memory m' mark.number c.memory.activations mark.outside.blocks blocks ws marks (omega (arith, below))
+      nested = nested_still c.memory m' mark.number c.memory.activations mark.outside.blocks known.base blocks ws marks (omega (arith, below))
           (λ k os less s. shows_standing s (Frame mark.number) (other_number k mark.number (omega (arith, less))) Dead) rest;
+      entered = entered;
+      live = λ k gone. ended k (nat_eq k mark.number) refl gone;
     }) refl
+  where
+    ended : (k : ℕ) (t : Bool) → nat_eq k mark.number ≡ t → position_of blocks k ≡ None
+        → is_live (if nat_eq k mark.number then Dead else c.memory.standing (Frame k)) ≡ false
+    ended k true e gone = ap (λ b. is_live (if b then Dead else c.memory.standing (Frame k))) e
+    ended k false e gone =
+        let other : nat_eq b.number k ≡ false = grind (arith, nat_tests, e, number) in
+        ap (λ b. is_live (if b then Dead else c.memory.standing (Frame k))) e
+        ∙ live k (ap (λ t. if t then Some 0 else option_map suc (position_of blocks k)) other ∙ ap (option_map suc) gone)
 
 pub block_leaves : (exit : Exit) (ws : List Wait) (known : Known) → IsMove (Leave exit) (Block ∷ ws) known (Go (Leave exit)) ws (outside_of known)
 block_leaves exit ws known = record {
   still = all_stand (Go (Leave exit)) (Block ∷ ws) known (Go (Leave exit)) ws (outside_of known) (λ main marks c h.
-      left_goes exit ws known known.blocks refl main marks c h.temps h.fresh h.globals h.nested);
+      left_goes exit ws known known.blocks refl main marks c h.temps h.fresh h.globals h.entered h.live h.nested);
   fewer = omega arith;
 }

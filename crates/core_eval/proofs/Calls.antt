@@ -2,6 +2,7 @@
 use Rattle.std.specs.Prelude.{slice_get, slice_index_or, nat_eq}
 use Rattle.std.proofs.Common.{◌≡◌, ◌≢◌, ℕ, zero, suc, ◌<◌, ◌≤◌, true, false, Option, Some, None, List, [], ◌∷◌, length, map, refl, ap, ◌∙◌, sym, subst, arith}
 use Rattle.std.proofs.lemmas.Bool.Decides.{nat_tests}
+use Rattle.std.proofs.lemmas.List.{length-map}
 use Rattle.step_trees.specs.Trees as trees
 use Rattle.core_meaning.specs.Memory as memory
 use Rattle.core_meaning.specs.Memory.{Region, Frame, Own, Born, Standing, Live, Memory, Content, Part, with_standing}
@@ -42,11 +43,11 @@ callee f arguments m = entered (function_tree f) arguments m
 module _ (functions : List code.Function) (results : List ℕ) (n : ℕ) (arguments : List Value) (known : Known) (ws : List Wait) where
   -- what is known in the callee
   abbrev pub in_callee : Known
-  in_callee = record { temps = arguments; blocks = []; globals = known.globals }
+  in_callee = record known { temps = arguments; base = length known.blocks }
 
   -- how the caller waits
   abbrev pub for_callee : List Wait
-  for_callee = Caller results n (record { temps = known.temps; blocks = known.blocks }) ∷ ws
+  for_callee = Caller results n (record { temps = known.temps; base = known.base }) ∷ ws
 
   callee_agrees : (f : code.Function) (marks : List Mark) (c : Config) → Agrees known ws marks c
       → Agrees in_callee for_callee (record { number = c.memory.calls; outside = c } ∷ marks) (callee f (map content_of arguments) c.memory)
@@ -58,10 +59,12 @@ module _ (functions : List code.Function) (results : List ℕ) (n : ℕ) (argume
       refl,
       refl,
       h.temps,
-      nested_still c.memory (callee f (map content_of arguments) c.memory).memory c.memory.activations c.memory.activations c.blocks known.blocks ws marks
-          (omega arith)
+      nested_still c.memory (callee f (map content_of arguments) c.memory).memory c.memory.activations c.memory.activations c.blocks known.base known.blocks ws
+          marks (omega arith)
           (λ k os below s. record { live = s.live; holds = s.holds }) h.nested,
     );
+    entered = h.entered;
+    live = h.live;
   }
 
   abbrev call_step : Config → ℕ → List Mark → Option Function → Step
@@ -78,10 +81,6 @@ module _ (functions : List code.Function) (results : List ℕ) (n : ℕ) (argume
       ∙ ap (λ b. checked b (trees.Says (Called n) (coming (Go (Follow (body_tree f.body.items)))
       (rest_of main for_callee (record { number = c.memory.calls; outside = c } ∷ marks)) (callee f (map content_of arguments) c.memory)))) fits
 
-  length_same : {A B : Type 0} (g : A → B) (xs : List A) → length (map g xs) ≡ length xs
-  length_same g [] = refl
-  length_same g (x ∷ xs) = ap suc (length_same g xs)
-
   pub call_enters : (f : code.Function) → slice_get (map function_tree functions) n ≡ Some (function_tree f) → f.parameters ≡ length arguments
       → IsCall (map function_tree functions) results n (map content_of arguments) ws known (Go (Follow (body_tree f.body.items))) for_callee in_callee
   call_enters f at fits = λ main marks c h. record {
@@ -90,7 +89,7 @@ module _ (functions : List code.Function) (results : List ℕ) (n : ℕ) (argume
     marks = record { number = c.memory.calls; outside = c } ∷ marks;
     config = callee f (map content_of arguments) c.memory;
     agrees = callee_agrees f marks c h;
-    same = entered_step f main marks c (let e = length_same content_of arguments in grind (arith, nat_tests, e, fits)) at;
+    same = entered_step f main marks c (let e = length-map arguments content_of in grind (arith, nat_tests, e, fits)) at;
   }
 
   pub call_missing : slice_get (map function_tree functions) n ≡ None
@@ -101,7 +100,7 @@ module _ (functions : List code.Function) (results : List ℕ) (n : ℕ) (argume
       → IsCall (map function_tree functions) results n (map content_of arguments) ws known Wrong ws known
   call_unfit f at unfit = λ main marks c h.
       let no : nat_eq (length (map content_of arguments)) f.parameters
-      ≡ false = let e = length_same content_of arguments in grind (arith, nat_tests, e, unfit) in
+      ≡ false = let e = length-map arguments content_of in grind (arith, nat_tests, e, unfit) in
       goes_here main marks c _ Wrong ws known h
       (ap (call_step c main marks) at
       ∙ ap (λ b. checked b (trees.Says (Called n) (coming (Go (Follow (body_tree f.body.items)))
@@ -113,6 +112,7 @@ first_part : (ds : List Datum) (i : ℕ) → (first_memory (map datum_tree ds)).
 first_part [] i = refl
 first_part (datum.Byte b ∷ ds) zero = refl
 first_part (datum.Word w ∷ ds) zero = refl
+first_part (datum.Null ∷ ds) zero = refl
 first_part (d ∷ ds) (suc i) = first_part ds i
 
 module _ (p : code_program.Program) where
@@ -124,7 +124,9 @@ module _ (p : code_program.Program) where
     temps = λ k. refl;
     fresh = record { empty = λ k le. refl; missing = λ k i le. refl };
     globals = record { live = refl; holds = first_part p.globals.items };
-    nested = (refl, refl);
+    nested = (refl, refl, refl);
+    entered = refl;
+    live = λ k gone. refl;
   }
 
   abbrev main_config : code.Function → Config
@@ -135,7 +137,9 @@ module _ (p : code_program.Program) where
     temps = λ k. refl;
     fresh = record { empty = λ k le. refl; missing = λ k i le. refl };
     globals = record { live = refl; holds = first_part p.globals.items };
-    nested = (refl, refl);
+    nested = (refl, refl, refl);
+    entered = refl;
+    live = λ k gone. refl;
   }
 
   abbrev start_step : Option Function → Step

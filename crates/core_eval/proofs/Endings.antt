@@ -48,7 +48,7 @@ use Rattle.cyc_host.specs.Transfers.{WritesSome, WritesBut}
 use Rattle.cyc_host.proofs.Transfers.{some_front, some_then}
 use Rattle.core_eval.specs.declared.ending.EvalEnding.{EvalEnding}
 use Rattle.core_eval.specs.declared.ending.EvalEnding.TheVariants as ending
-use Rattle.core_eval.specs.Pendings.{Wait, Next, Go, GetcharDue, PutcharDue, TurnDue, CallDue, Over, Wrong, rest_of, coming}
+use Rattle.core_eval.specs.Pendings.{Wait, Next, Go, GetcharDue, PutcharDue, TurnDue, CallDue, Over, Raised, Wrong, rest_of, coming}
 use Rattle.core_eval.specs.Standing.{Known}
 use Rattle.core_eval.specs.Resting.{EndsNow, IsPayable}
 use Rattle.core_eval.specs.Evaluated.{seen, Wrote, EndsAs, IsReadNext, IsEvaluated, IsNeverStuck, reads_failed, writes_failed}
@@ -176,6 +176,7 @@ broke p (TurnDue test flag body) k c h = refl
 broke p (CallDue results f arguments) k c h = refl
 broke p (Go task) k c h = absurd h
 broke p (Over status) k c h = absurd h
+broke p (Raised kind) k c h = absurd h
 broke p Wrong k c h = absurd h
 
 module _ {p : Program} {fuel left : ℕ} {is_over : Bool} {next : Next} {ws : List Wait} {known : Known} {reader_old reader writer_old writer : Option
@@ -201,7 +202,10 @@ module _ {p : Program} {fuel left : ℕ} {is_over : Bool} {next : Next} {ws : Li
       (ap (λ n. run (bodies p) n (coming next (rest_of p.main ws x.stands.marks) x.stands.config) []) is.1
       ∙ broke p next (rest_of p.main ws x.stands.marks) x.stands.config is.0)
       none_silent rest (λ e. ((settle next x).spent, e))
-  over_answer (ending.Raised kind) result writer_next is same rest = absurd is
+  over_answer (ending.Raised kind) result writer_next is same rest =
+      either_end (settle next x) (ending.Raised kind) result (record { events = []; ending = SourceEnding.Raised kind }) writer_next same
+      (ap (λ (n : Next). run (bodies p) left (coming n (rest_of p.main ws x.stands.marks) x.stands.config) []) is) none_silent rest
+      (λ e. ((settle next x).spent, e))
   over_answer ending.ReadFault result writer_next is same rest = absurd is
   over_answer ending.WriteFault result writer_next is same rest = absurd is
   over_answer ending.HostMemory result writer_next is same rest = absurd is

@@ -2,6 +2,7 @@
 use Rattle.std.specs.Prelude.{if◌then◌else◌, nat_eq, not}
 use Rattle.std.proofs.Common.{◌≡◌, ℕ, ◌+◌, ◌≤◌, Bool, true, false, Option, Some, None, List, [], ◌∷◌, map, refl, ap, ◌∙◌, sym, arith}
 use Rattle.step_trees.specs.Trees as trees
+use Rattle.cyc_words.specs.declared.faults.Kind.{Kind}
 use Rattle.core_meaning.specs.Memory.{Content}
 use Rattle.core_meaning.specs.Core as core
 use Rattle.core_meaning.specs.Core.{Statements, NoStatements, MoreStatements}
@@ -11,7 +12,7 @@ use Rattle.core_meaning.specs.Meaning.{branch, values_of}
 use Rattle.core_eval.specs.declared.value.Value.{Value}
 use Rattle.core_eval.specs.declared.value.Value.TheVariants as value
 use Rattle.core_eval.specs.Values.{content_of, temp_of, truth_of, AreRead}
-use Rattle.core_eval.specs.Pendings.{Task, Follow, Execute, Leave, Wait, Then, Test, Next, Go, CallDue, Wrong, Mark, rest_of, coming, returned_to}
+use Rattle.core_eval.specs.Pendings.{Task, Follow, Execute, Leave, Wait, Then, Test, Next, Go, CallDue, Raised, Wrong, Mark, rest_of, coming, returned_to}
 use Rattle.core_eval.specs.Standing.{Known, Agrees}
 use Rattle.core_eval.specs.Costs.{next_cost, task_cost, waits_cost, IsMove}
 use Rattle.core_eval.proofs.Moves.{all_stand, goes_here}
@@ -29,7 +30,9 @@ word_choice false these those = refl
 branch_is : (v : Value) (these those : Step) → branch (content_of v) these those ≡ choice_step these those (truth_of v)
 branch_is value.Blank these those = refl
 branch_is (value.Word n) these those = word_choice (nat_eq n 0) these those
+branch_is value.Null these those = refl
 branch_is (value.Global g) these those = refl
+branch_is (value.Local k i) these those = refl
 
 pub branches : (x : Content) (v : Value) (b : Option Bool) (these those : Step) → x ≡ content_of v → truth_of v ≡ b → branch x these those
     ≡ choice_step these those b
@@ -54,7 +57,7 @@ module _ (known : Known) (ws : List Wait) where
   pub more_follow : (s : core.Statement) (ss : Statements) → IsMove (Follow (MoreStatements s ss)) ws known (Go (Execute s)) (Then ss ∷ ws) known
   more_follow s ss =
       same_state (Follow (MoreStatements s ss)) ws (Go (Execute s)) (Then ss ∷ ws) known
-      (λ main marks c h. (record { temps = h.temps; fresh = h.fresh; globals = h.globals; nested = h.nested }, refl)) (omega arith)
+      (λ main marks c h. (record { temps = h.temps; fresh = h.fresh; globals = h.globals; nested = h.nested; entered = h.entered; live = h.live }, refl)) (omega arith)
 
   pub break_leaves : IsMove (Execute core.Break) ws known (Go (Leave steps.Breaks)) ws known
   break_leaves = same_state _ ws _ ws known (λ main marks c h. (h, refl)) (omega arith)
@@ -66,10 +69,13 @@ module _ (known : Known) (ws : List Wait) where
       → IsMove (Execute (core.While test flag body)) ws known (Go (Follow test)) (Test test flag body ∷ ws) known
   loop_enters test flag body =
       same_state (Execute (core.While test flag body)) ws (Go (Follow test)) (Test test flag body ∷ ws) known
-      (λ main marks c h. (record { temps = h.temps; fresh = h.fresh; globals = h.globals; nested = h.nested }, refl)) (omega arith)
+      (λ main marks c h. (record { temps = h.temps; fresh = h.fresh; globals = h.globals; nested = h.nested; entered = h.entered; live = h.live }, refl)) (omega arith)
 
   pub return_leaves : IsMove (Execute (core.Return [])) ws known (Go (Leave (steps.Returns []))) ws known
   return_leaves = same_state _ ws _ ws known (λ main marks c h. (h, refl)) (omega arith)
+
+  pub raise_ends : (kind : Kind) → IsMove (Execute (core.Raise kind)) ws known (Raised kind) ws known
+  raise_ends kind = same_state (Execute (core.Raise kind)) ws (Raised kind) ws known (λ main marks c h. (h, refl)) (omega arith)
 
   module _ (t : ℕ) (v : Value) (read : content_of v ≡ temp_of known.temps t) where
     pub value_leaves : IsMove (Execute (core.Return (t ∷ []))) ws known (Go (Leave (steps.Returns (content_of v ∷ [])))) ws known

@@ -1,19 +1,20 @@
 -- From what the entry of a block answers to a move.
-use Rattle.std.proofs.Common.{◌≡◌, List, ◌∷◌, map, Result, Ok, Err, IfOk, OnOk, ap, ◌∙◌, sym, subst}
+use Rattle.std.proofs.Common.{◌≡◌, ◌+◌, List, ◌∷◌, map, Result, Ok, Err, IfOk, OnOk, ap, ◌∙◌, sym, subst}
 use Rattle.std.specs.declared.vec.Vec.{Vec}
 use Rattle.std.specs.declared.alloc.Global.{Global}
 use Rattle.core_meaning.specs.Core as core
 use Rattle.core_meaning.specs.Core.{Statements}
-use Rattle.cyc_core.specs.declared.operation.Width.{Width}
+use Rattle.cyc_core.specs.declared.operation.Cell.{Cell}
 use Rattle.cyc_core.specs.declared.statement.Statement as code
 use Rattle.cyc_core.specs.declared.statement.Statement.TheVariants as form
 use Rattle.cyc_core.specs.declared.statement.Statement.TheOpen.{Statement-F}
 use Rattle.cyc_core.specs.declared.statement.Statement.TheFolds.{fold-roll-Statement}
 use Rattle.cyc_core.specs.Trees.{local_tree, statement_step, statement_tree, body_tree}
-use Rattle.core_eval.specs.declared.value.Object.{Object}
 use Rattle.core_eval.specs.declared.frame.Frame.{Frame}
+use Rattle.core_eval.specs.declared.memory.Memory.{Memory}
 use Rattle.core_eval.specs.declared.pending.Due.{Due}
 use Rattle.core_eval.specs.Values.{blank_object}
+use Rattle.core_eval.specs.Blocks.{activation_of}
 use Rattle.core_eval.specs.Pendings as specs
 use Rattle.core_eval.specs.Pendings.{Execute, Follow, Wait, Block, Go, next_of}
 use Rattle.core_eval.specs.Standing as standing
@@ -21,28 +22,31 @@ use Rattle.core_eval.specs.Standing.{known_of}
 use Rattle.core_eval.specs.Costs.{IsMove}
 use Rattle.core_eval.proofs.BlockMoves.{inside, block_enters}
 
-pub block_tree : (widths : Vec Width Global) (body : Vec code.Statement Global)
-    → statement_tree (form.Block widths body) ≡ core.Block (map local_tree widths.items) (body_tree body.items)
-block_tree widths body = ap statement_tree (sym (form.rolls-Block widths body))
-    ∙ fold-roll-Statement core.Statement statement_step (Statement-F.Block widths body)
+pub block_tree : (locals : Vec Cell Global) (body : Vec code.Statement Global)
+    → statement_tree (form.Block locals body) ≡ core.Block (map local_tree locals.items) (body_tree body.items)
+block_tree locals body = ap statement_tree (sym (form.rolls-Block locals body))
+    ∙ fold-roll-Statement core.Statement statement_step (Statement-F.Block locals body)
 
-pub block_answer : {E : Type 0} (r : Result Due E) (f f' : Frame) (globals : List Object) (s : core.Statement) (widths widths' : List Width)
+pub block_answer : {E : Type 0} (r : Result Due E) (f : Frame) (m m' : Memory) (s : core.Statement) (locals locals' : List Cell)
     (body body' : Statements) (ws ws' : List Wait)
-    → s ≡ core.Block (map local_tree widths) body → widths' ≡ widths → body' ≡ body
-    → IfOk r (λ due. next_of due ≡ Go (Follow body')) → OnOk r (ws' ≡ Block ∷ ws) → OnOk r (f'.temps ≡ f.temps)
-    → OnOk r (map (λ objects. objects.items) f'.blocks.items ≡ map blank_object widths' ∷ map (λ objects. objects.items) f.blocks.items)
-    → IfOk r (λ due. IsMove (Execute s) ws (known_of f globals) (next_of due) ws' (known_of f' globals))
-block_answer (Ok due) f f' globals s widths widths' body body' ws ws' is same_widths same_body next waits temps blocks =
-    let known : known_of f' globals ≡ inside (known_of f globals) ws widths =
-    ap (λ ts. record { temps = ts.items; blocks = map (λ objects. objects.items) f'.blocks.items; globals = globals }) temps
-    ∙ ap (λ bs. record { temps = f.temps.items; blocks = bs; globals = globals }) blocks
-    ∙ ap (λ l. record { temps = f.temps.items; blocks = map blank_object l ∷ map (λ objects. objects.items) f.blocks.items; globals = globals }) same_widths in
-    subst (λ (t : core.Statement). IsMove (Execute t) ws (known_of f globals) (next_of due) ws' (known_of f' globals)) (sym is)
-    (subst (λ (n : specs.Next). IsMove (Execute (core.Block (map local_tree widths) body)) ws (known_of f globals) n ws' (known_of f' globals))
+    → s ≡ core.Block (map local_tree locals) body → locals' ≡ locals → body' ≡ body
+    → IfOk r (λ due. next_of due ≡ Go (Follow body')) → OnOk r (ws' ≡ Block ∷ ws)
+    → OnOk r (map activation_of m'.blocks.items ≡ record { number = m.entered; objects = map blank_object locals' } ∷ map activation_of m.blocks.items)
+    → OnOk r (m'.entered ≡ m.entered + 1) → OnOk r (m'.globals ≡ m.globals)
+    → IfOk r (λ due. IsMove (Execute s) ws (known_of f m) (next_of due) ws' (known_of f m'))
+block_answer (Ok due) f m m' s locals locals' body body' ws ws' is same_locals same_body next waits blocks entered globals =
+    let all : map activation_of m'.blocks.items ≡ record { number = m.entered; objects = map blank_object locals } ∷ map activation_of m.blocks.items =
+    blocks ∙ ap (λ l. record { number = m.entered; objects = map blank_object l } ∷ map activation_of m.blocks.items) same_locals in
+    let known : known_of f m' ≡ inside (known_of f m) ws locals =
+    ap (λ bs. record { temps = f.temps.items; base = f.base; blocks = bs; entered = m'.entered; globals = m'.globals.items }) all
+    ∙ ap (λ n. record (inside (known_of f m) ws locals) { entered = n; globals = m'.globals.items }) entered
+    ∙ ap (λ gs. record (inside (known_of f m) ws locals) { globals = gs.items }) globals in
+    subst (λ (t : core.Statement). IsMove (Execute t) ws (known_of f m) (next_of due) ws' (known_of f m')) (sym is)
+    (subst (λ (n : specs.Next). IsMove (Execute (core.Block (map local_tree locals) body)) ws (known_of f m) n ws' (known_of f m'))
     (sym (next ∙ ap (λ b. Go (Follow b)) same_body))
-    (subst (λ (l : List Wait). IsMove (Execute (core.Block (map local_tree widths) body)) ws (known_of f globals) (Go (Follow body)) l (known_of f' globals))
+    (subst (λ (l : List Wait). IsMove (Execute (core.Block (map local_tree locals) body)) ws (known_of f m) (Go (Follow body)) l (known_of f m'))
     (sym waits)
-    (subst (λ (k : standing.Known). IsMove (Execute (core.Block (map local_tree widths) body)) ws (known_of f globals) (Go (Follow body)) (Block ∷ ws) k)
+    (subst (λ (k : standing.Known). IsMove (Execute (core.Block (map local_tree locals) body)) ws (known_of f m) (Go (Follow body)) (Block ∷ ws) k)
     (sym known)
-    (block_enters (known_of f globals) ws widths body))))
-block_answer (Err e) f f' globals s widths widths' body body' ws ws' is same_widths same_body next waits temps blocks = tt
+    (block_enters (known_of f m) ws locals body))))
+block_answer (Err e) f m m' s locals locals' body body' ws ws' is same_locals same_body next waits blocks entered globals = tt

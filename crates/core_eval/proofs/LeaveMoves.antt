@@ -29,9 +29,11 @@ IsNoReturn _ = Unit {0}
 
 -- what is known does not tell whether a loop, or the statements after one, wait behind it
 behind : (w : Wait) (known : Known) (ws : List Wait) (marks : List Mark) (c : Config) → Agrees known (w ∷ ws) marks c
-    → (AreNested c.memory c.memory.activations c.blocks known.blocks (w ∷ ws) marks → AreNested c.memory c.memory.activations c.blocks known.blocks ws marks)
+    → (AreNested c.memory c.memory.activations c.blocks known.base known.blocks (w ∷ ws) marks
+    → AreNested c.memory c.memory.activations c.blocks known.base known.blocks ws marks)
     → Agrees known ws marks c
-behind w known ws marks c h drops = record { temps = h.temps; fresh = h.fresh; globals = h.globals; nested = drops h.nested }
+behind w known ws marks c h drops =
+    record { temps = h.temps; fresh = h.fresh; globals = h.globals; nested = drops h.nested; entered = h.entered; live = h.live }
 
 module _ (known : Known) (ws : List Wait) where
   -- ---- statements after one another
@@ -95,7 +97,8 @@ module _ (known : Known) (ws : List Wait) where
 
     again_as : (w : Wait) (main : ℕ) (marks : List Mark) (c : Config) → Agrees known (Body test flag body ∷ ws) marks c
         → Agrees known (Test test flag body ∷ ws) marks c
-    again_as w main marks c h = record { temps = h.temps; fresh = h.fresh; globals = h.globals; nested = h.nested }
+    again_as w main marks c h =
+        record { temps = h.temps; fresh = h.fresh; globals = h.globals; nested = h.nested; entered = h.entered; live = h.live }
 
     pub turn_falls : IsMove (Leave steps.Falls) (Body test flag body ∷ ws) known (Go (Follow test)) (Test test flag body ∷ ws) known
     turn_falls =
@@ -122,7 +125,7 @@ module _ (known : Known) (ws : List Wait) where
   module _ (results : List ℕ) (f : ℕ) (saved : Saved) where
     -- what is known of the caller
     abbrev pub back : Known
-    back = record { temps = saved.temps; blocks = saved.blocks; globals = known.globals }
+    back = record known { temps = saved.temps; base = saved.base }
 
     -- the caller's state
     abbrev resumed : Mark → Config → Config
@@ -131,14 +134,16 @@ module _ (known : Known) (ws : List Wait) where
     resumed_agrees : (mark : Mark) (marks : List Mark) (c : Config) → Agrees known (Caller results f saved ∷ ws) (mark ∷ marks) c
         → Agrees back ws marks (resumed mark c)
     resumed_agrees mark marks c h =
-        let (none, empty, held, rest) = h.nested in
+        let (none, outside, held, rest) = h.nested in
         record {
           temps = held;
           fresh = record { empty = h.fresh.empty; missing = h.fresh.missing };
           globals = shows_standing h.globals (Own mark.number) refl Dead;
           nested = nested_still c.memory
-              (with_standing c.memory (Own mark.number) Dead) c.memory.activations c.memory.activations mark.outside.blocks saved.blocks ws marks
+              (with_standing c.memory (Own mark.number) Dead) c.memory.activations c.memory.activations mark.outside.blocks saved.base known.blocks ws marks
               (omega arith) (λ k os below s. shows_standing s (Own mark.number) refl Dead) rest;
+          entered = h.entered;
+          live = h.live;
         }
 
     -- where something waits, there is a mark for it
@@ -183,10 +188,10 @@ module _ (known : Known) (ws : List Wait) where
   -- with a result, and a temporary that gets it
   pub one_returned : (f t : ℕ) (v : Content) (saved : Saved) (temps : List Value) → Gives t v saved.temps temps
       → IsMove (Leave (steps.Returns (v ∷ []))) (Caller (t ∷ []) f saved ∷ ws) known (Go (Leave steps.Falls)) ws
-      (record { temps = temps; blocks = saved.blocks; globals = known.globals })
+      (record known { temps = temps; base = saved.base })
   one_returned f t v saved temps gives = record {
     still = all_stand (Go (Leave (steps.Returns (v ∷ [])))) (Caller (t ∷ []) f saved ∷ ws) known (Go (Leave steps.Falls)) ws
-        (record { temps = temps; blocks = saved.blocks; globals = known.globals })
+        (record known { temps = temps; base = saved.base })
         (marked (t ∷ []) f saved (Go (Leave steps.Falls)) _ (steps.Returns (v ∷ [])) (λ main mark marks c h.
         let was = resumed_agrees (t ∷ []) f saved mark marks c h in
         record {
@@ -199,6 +204,8 @@ module _ (known : Known) (ws : List Wait) where
             fresh = was.fresh;
             globals = was.globals;
             nested = was.nested;
+            entered = was.entered;
+            live = was.live;
           };
           same = refl;
         }));
@@ -276,9 +283,35 @@ module _ (known : Known) where
     fewer = omega arith;
   }
 
+  pub main_null : IsMove (Leave (steps.Returns (content_of value.Null ∷ []))) [] known Wrong [] known
+  main_null = record {
+    still = all_stand (Go (Leave (steps.Returns (content_of value.Null ∷ [])))) [] known Wrong [] known (λ main marks c h. record {
+      said = Returned main ∷ [];
+      unseen = tt;
+      marks = marks;
+      config = c;
+      agrees = h;
+      same = refl;
+    });
+    fewer = omega arith;
+  }
+
   pub main_place : (g : ℕ) → IsMove (Leave (steps.Returns (content_of (value.Global g) ∷ []))) [] known Wrong [] known
   main_place g = record {
     still = all_stand (Go (Leave (steps.Returns (content_of (value.Global g) ∷ [])))) [] known Wrong [] known (λ main marks c h. record {
+      said = Returned main ∷ [];
+      unseen = tt;
+      marks = marks;
+      config = c;
+      agrees = h;
+      same = refl;
+    });
+    fewer = omega arith;
+  }
+
+  pub main_local : (k i : ℕ) → IsMove (Leave (steps.Returns (content_of (value.Local k i) ∷ []))) [] known Wrong [] known
+  main_local k i = record {
+    still = all_stand (Go (Leave (steps.Returns (content_of (value.Local k i) ∷ [])))) [] known Wrong [] known (λ main marks c h. record {
       said = Returned main ∷ [];
       unseen = tt;
       marks = marks;

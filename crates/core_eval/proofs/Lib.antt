@@ -1,4 +1,5 @@
 mod Lists
+mod Positions
 mod Memories
 mod Nested
 mod Moves

@@ -1,5 +1,5 @@
 -- What lists of temporaries, objects and blocks hold at an index.
-use Rattle.std.specs.Prelude.{if◌then◌else◌, slice_index_or, slice_get, slice_set, nat_eq, remove, drop}
+use Rattle.std.specs.Prelude.{if◌then◌else◌, slice_index_or, slice_get, slice_set, nat_eq, drop, option_to_list, Option}
 use Rattle.std.proofs.Common.{◌≡◌, ℕ, zero, suc, ◌<◌, ◌≤◌, Bool, true, false, Some, None, List, [], ◌∷◌, ◌++◌, length, map, refl, ap, ◌∙◌, sym, arith}
 use Rattle.std.proofs.Math.Dec.{eqb-suc-suc, eqb-zero-suc, eqb-suc-zero}
 use Rattle.core_meaning.specs.Memory.{Blank}
@@ -8,9 +8,9 @@ use Rattle.core_meaning.specs.Meaning.{values_of}
 use Rattle.cyc_core.specs.declared.operation.Width.{Width}
 use Rattle.core_eval.specs.declared.value.Value.{Value}
 use Rattle.core_eval.specs.declared.value.Value.TheVariants as value
-use Rattle.core_eval.specs.declared.value.Object.{Object}
-use Rattle.core_eval.specs.Values as specs
-use Rattle.core_eval.specs.Values.{content_of, temp_of, put_in, put_local}
+use Rattle.core_eval.specs.declared.memory.Block.{Block}
+use Rattle.core_eval.specs.Values.{content_of, temp_of, put_in}
+use Rattle.core_eval.specs.Blocks.{activation_of, put_block, put_among, put_through}
 
 -- ---- temporaries
 
@@ -66,44 +66,47 @@ module _ {A : Type 0} where
   get_past (y ∷ xs) zero h = absurd (omega (arith, h))
   get_past (y ∷ xs) (suc k) h = get_past xs k (omega (arith, h))
 
--- ---- the objects of blocks, as vectors hold them
+-- ---- blocks, as the code has them
 
-module _ {V : Type 0} (items : V → List Object) where
-  get_items : (bs : List V) (k : ℕ) (b : V) → k < length bs → b ≡ slice_index_or bs k b → slice_get (map items bs) k ≡ Some (items b)
-  get_items [] k b h e = absurd (omega (arith, h))
-  get_items (c ∷ bs) zero b h e = ap (λ c. Some (items c)) (sym e)
-  get_items (c ∷ bs) (suc k) b h e = get_items bs k b (omega (arith, h)) e
+get_block : (bs : List Block) (k : ℕ) (b : Block) → k < length bs → b ≡ slice_index_or bs k b → slice_get (map activation_of bs) k ≡ Some (activation_of b)
+get_block [] k b h e = absurd (omega (arith, h))
+get_block (c ∷ bs) zero b h e = ap (λ c. Some (activation_of c)) (sym e)
+get_block (c ∷ bs) (suc k) b h e = get_block bs k b (omega (arith, h)) e
 
-  past_items : (bs : List V) (k : ℕ) → length bs ≤ k → slice_get (map items bs) k ≡ None
-  past_items [] k h = refl
-  past_items (c ∷ bs) zero h = absurd (omega (arith, h))
-  past_items (c ∷ bs) (suc k) h = past_items bs k (omega (arith, h))
+no_block : (bs : List Block) (k : ℕ) → length bs ≤ k → slice_get (map activation_of bs) k ≡ None
+no_block [] k h = refl
+no_block (c ∷ bs) zero h = absurd (omega (arith, h))
+no_block (c ∷ bs) (suc k) h = no_block bs k (omega (arith, h))
 
-  set_items : (bs : List V) (k : ℕ) (b : V) → map items (slice_set bs k b) ≡ slice_set (map items bs) k (items b)
-  set_items [] k b = refl
-  set_items (c ∷ bs) zero b = refl
-  set_items (c ∷ bs) (suc k) b = ap (λ l. items c ∷ l) (set_items bs k b)
+set_block : (bs : List Block) (k : ℕ) (b : Block) → map activation_of (slice_set bs k b) ≡ slice_set (map activation_of bs) k (activation_of b)
+set_block [] k b = refl
+set_block (c ∷ bs) zero b = refl
+set_block (c ∷ bs) (suc k) b = ap (λ l. activation_of c ∷ l) (set_block bs k b)
 
-  -- a store to a local of one of the blocks
-  pub put_some : (bs : List V) (k : ℕ) (b new : V) (i : ℕ) (w : Width) (v : Value) (is_there : Bool) → k < length bs → b ≡ slice_index_or bs k b
-      → put_in (items b) i w v ≡ (if is_there then Some (items new) else None)
-      → put_local (map items bs) k i w v ≡ (if is_there then Some (map items (slice_set bs k new)) else None)
-  put_some bs k b new i w v true h e put =
-      ap (λ o. specs.put_among (map items bs) k i w v o) (get_items bs k b h e) ∙ ap (λ o. specs.put_block (map items bs) k o) put
-      ∙ ap Some (sym (set_items bs k new))
-  put_some bs k b new i w v false h e put =
-      ap (λ o. specs.put_among (map items bs) k i w v o) (get_items bs k b h e) ∙ ap (λ o. specs.put_block (map items bs) k o) put
+-- a store to an object of one of the blocks
+module _ (bs : List Block) (k i : ℕ) (w : Width) (v : Value) where
+  pub put_some : (b new : Block) (is_there : Bool) → k < length bs → b ≡ slice_index_or bs k b → new.number ≡ b.number
+      → put_in b.objects.items i w v ≡ (if is_there then Some new.objects.items else None)
+      → put_through (map activation_of bs) (Some k) i w v ≡ (if is_there then Some (map activation_of (slice_set bs k new)) else None)
+  put_some b new true h e same put =
+      ap (put_among (map activation_of bs) k i w v) (get_block bs k b h e) ∙ ap (put_block (map activation_of bs) k (activation_of b)) put
+      ∙ ap (λ n. Some (slice_set (map activation_of bs) k (record { number = n; objects = new.objects.items }))) (sym same)
+      ∙ ap Some (sym (set_block bs k new))
+  put_some b new false h e same put =
+      ap (put_among (map activation_of bs) k i w v) (get_block bs k b h e) ∙ ap (put_block (map activation_of bs) k (activation_of b)) put
 
-  pub put_none : (bs : List V) (k i : ℕ) (w : Width) (v : Value) → length bs ≤ k → put_local (map items bs) k i w v ≡ None
-  put_none bs k i w v h = ap (λ o. specs.put_among (map items bs) k i w v o) (past_items bs k h)
+  pub put_none : length bs ≤ k → put_through (map activation_of bs) (Some k) i w v ≡ None
+  put_none h = ap (put_among (map activation_of bs) k i w v) (no_block bs k h)
+
+-- all but the first block
+pub first_left : (gone : Option Block) (bs rest : List Block) → bs ≡ option_to_list gone ++ rest → (gone ≡ None → length bs ≡ 0)
+    → map activation_of rest ≡ drop 1 (map activation_of bs)
+first_left None [] rest e h = ap (map activation_of) (sym e)
+first_left None (b ∷ bs) rest e h = absurd (let no = h refl in omega (arith, no))
+first_left (Some b) bs rest e h = sym (ap (λ l. drop 1 (map activation_of l)) e)
 
 -- a temporary more that is read
 pub read_one : (temps values : List Value) (v : Value) (t : ℕ) (ts : List ℕ) → content_of v ≡ temp_of temps t
     → map content_of (values ++ v ∷ []) ++ values_of (temp_of temps) ts ≡ map content_of values ++ temp_of temps t ∷ values_of (temp_of temps) ts
 read_one temps [] v t ts e = ap (λ x. x ∷ values_of (temp_of temps) ts) e
 read_one temps (u ∷ values) v t ts e = ap (λ l. content_of u ∷ l) (read_one temps values v t ts e)
-
--- all but the first block
-pub first_left : {V : Type 0} (items : V → List Object) (bs : List V) → map items (remove bs 0) ≡ drop 1 (map items bs)
-first_left items [] = refl
-first_left items (b ∷ bs) = refl

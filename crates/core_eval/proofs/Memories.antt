@@ -25,6 +25,8 @@ use Rattle.core_meaning.specs.Operations.{reached, at_once}
 use Rattle.core_meaning.specs.Meaning.{with_objects}
 use Rattle.cyc_core.specs.declared.operation.Width.{Width}
 use Rattle.cyc_core.specs.declared.operation.Width.TheVariants as width
+use Rattle.cyc_core.specs.declared.operation.Cell.{Cell}
+use Rattle.cyc_core.specs.declared.operation.Cell.TheVariants as cell
 use Rattle.cyc_core.specs.Trees.{bytes_of, part_layout}
 use Rattle.core_eval.specs.declared.value.Value.{Value}
 use Rattle.core_eval.specs.declared.value.Object.{Object}
@@ -49,15 +51,20 @@ found_part : (o : Option Object) (w : Width) (next : Part → Step)
 found_part None w next = refl
 found_part (Some o) w next = found_width o.width w (next (part_of o))
 
+-- a part that is an object's
+pub reached_at : (m : Memory) (r : Region) (i : ℕ) (o : Option Object) (w : Width) (next : Spot → Part → Step) → part_at m (spot_of r i) 0 ≡ part_in o
+    → reached m (at_once (bytes_of w)) (spot_of r i) 0 next ≡ found w (next (spot_of r i)) o
+reached_at m r i o w next there =
+    ap (λ part. needed part (λ p. checked (nat_eq p.offset 0 && nat_eq p.width (bytes_of w)) (next (spot_of r i) p))) there
+    ∙ found_part o w (next (spot_of r i))
+
 module _ {m : Memory} {r : Region} {objects : List Object} (shows : Shows m r objects) where
-  part_there : (i : ℕ) → part_at m (spot_of r i) 0 ≡ part_in (slice_get objects i)
+  pub part_there : (i : ℕ) → part_at m (spot_of r i) 0 ≡ part_in (slice_get objects i)
   part_there i = ap (λ now. if is_live now then m.parts (spot_of r i) 0 else None) shows.live ∙ shows.holds i
 
   pub reached_is : (i : ℕ) (w : Width) (next : Spot → Part → Step)
       → reached m (at_once (bytes_of w)) (spot_of r i) 0 next ≡ found w (next (spot_of r i)) (slice_get objects i)
-  reached_is i w next =
-      ap (λ there. needed there (λ p. checked (nat_eq p.offset 0 && nat_eq p.width (bytes_of w)) (next (spot_of r i) p))) (part_there i)
-      ∙ found_part (slice_get objects i) w (next (spot_of r i))
+  reached_is i w next = reached_at m r i (slice_get objects i) w next (part_there i)
 
 -- ---- storing
 
@@ -137,9 +144,10 @@ shows_objects q r objects other (l ∷ ls) m shows =
 
 -- ---- a store to an object
 
-blank_part : (w : Width) → blanks (part_layout (bytes_of w)) 1 0 0 ≡ Some (part_of (blank_object w))
-blank_part width.Byte = refl
-blank_part width.Word = refl
+blank_part : (c : Cell) → blanks (part_layout c) 1 0 0 ≡ Some (part_of (blank_object c))
+blank_part cell.Byte = refl
+blank_part cell.Word = refl
+blank_part cell.Pointer = refl
 
 part_if : (b : Bool) (o : Object) (other : Option Object) → (if b then Some (part_of o) else part_in other) ≡ part_in (if b then Some o else other)
 part_if true o other = refl
@@ -160,18 +168,18 @@ module _ {m : Memory} {r : Region} {objects : List Object} (shows : Shows m r ob
       both false j = shows.holds j
 
   -- one more object
-  pub shows_grown : m.objects r ≡ length objects → (w : Width) → Shows (with_object m r (blanks (part_layout (bytes_of w)) 1)) r
-      (objects ++ blank_object w ∷ [])
-  shows_grown counted w = record {
+  pub shows_grown : m.objects r ≡ length objects → (c : Cell) → Shows (with_object m r (blanks (part_layout c) 1)) r
+      (objects ++ blank_object c ∷ [])
+  shows_grown counted c = record {
     live = shows.live;
     holds = λ j.
-        ap (λ b. if b && nat_eq j (m.objects r) then blanks (part_layout (bytes_of w)) 1 0 0 else m.parts (spot_of r j) 0) (itself r)
-        ∙ ap (λ n. if nat_eq j n then blanks (part_layout (bytes_of w)) 1 0 0 else m.parts (spot_of r j) 0) counted
-        ∙ both (nat_eq j (length objects)) j ∙ part_if (nat_eq j (length objects)) (blank_object w) (slice_get objects j)
-        ∙ ap part_in (sym (get_grown objects (blank_object w) j));
+        ap (λ b. if b && nat_eq j (m.objects r) then blanks (part_layout c) 1 0 0 else m.parts (spot_of r j) 0) (itself r)
+        ∙ ap (λ n. if nat_eq j n then blanks (part_layout c) 1 0 0 else m.parts (spot_of r j) 0) counted
+        ∙ both (nat_eq j (length objects)) j ∙ part_if (nat_eq j (length objects)) (blank_object c) (slice_get objects j)
+        ∙ ap part_in (sym (get_grown objects (blank_object c) j));
   }
     where
-      both : (b : Bool) (j : ℕ) → (if b then blanks (part_layout (bytes_of w)) 1 0 0 else m.parts (spot_of r j) 0)
-          ≡ (if b then Some (part_of (blank_object w)) else part_in (slice_get objects j))
-      both true j = blank_part w
+      both : (b : Bool) (j : ℕ) → (if b then blanks (part_layout c) 1 0 0 else m.parts (spot_of r j) 0)
+          ≡ (if b then Some (part_of (blank_object c)) else part_in (slice_get objects j))
+      both true j = blank_part c
       both false j = shows.holds j

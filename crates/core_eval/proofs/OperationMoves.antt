@@ -1,22 +1,34 @@
 -- Each operation, as the evaluator does it.
 use Rattle.std.specs.Prelude.{if◌then◌else◌, nat_eq}
-use Rattle.std.proofs.Common.{◌≡◌, ℕ, ◌%◌, ◌^◌, ◌<◌, List, refl, ap, ◌∙◌, sym, arith}
+use Rattle.std.proofs.Common.{◌≡◌, ℕ, ◌%◌, ◌^◌, ◌<◌, Bool, Option, Some, None, List, refl, ap, ◌∙◌, sym, arith}
 use Rattle.cyc_words.specs.Events as events
 use Rattle.step_trees.specs.Trees.{Pays}
 use Rattle.core_meaning.specs.Memory as memory
 use Rattle.core_meaning.specs.Memory.{Content, Born, Spot, Part, Pointer, with_part}
 use Rattle.core_meaning.specs.Core as core
-use Rattle.core_meaning.specs.Words.{two}
+use Rattle.core_meaning.specs.Words.{truth, two}
 use Rattle.core_meaning.specs.Steps as steps
 use Rattle.core_meaning.specs.Steps.{Config, with_temp, with_memory, Step, stuck, word_of, pointer_of, needed}
-use Rattle.core_meaning.specs.Operations.{does, says}
+use Rattle.core_meaning.specs.Operations.{does, is_null, says}
 use Rattle.core_eval.specs.declared.value.Value.{Value}
 use Rattle.core_eval.specs.declared.value.Value.TheVariants as value
-use Rattle.core_eval.specs.Values.{content_of, temp_of}
+use Rattle.core_eval.specs.Values.{content_of, temp_of, null_of}
 use Rattle.core_eval.specs.Pendings.{Execute, Leave, Wait, Go, GetcharDue, PutcharDue, Wrong, Mark}
 use Rattle.core_eval.specs.Standing.{Known, Agrees, Gives}
 use Rattle.core_eval.specs.Costs.{IsMove}
 use Rattle.core_eval.proofs.Moves.{Becomes, becomes, goes_wrong, comes_due}
+
+-- what comes of a test for NULL
+abbrev pub null_step : (ℕ → Step) → Option Bool → Step
+null_step next None = stuck
+null_step next (Some b) = next (truth b)
+
+pub null_is : (v : Value) (next : ℕ → Step) → is_null (content_of v) next ≡ null_step next (null_of v)
+null_is value.Blank next = refl
+null_is (value.Word n) next = refl
+null_is value.Null next = refl
+null_is (value.Global g) next = refl
+null_is (value.Local k i) next = refl
 
 -- a state whose temporary was given a content
 abbrev pub given : Known → List Value → Known
@@ -30,6 +42,8 @@ module _ (known : Known) (temps : List Value) (ws : List Wait) where
     fresh = h.fresh;
     globals = h.globals;
     nested = h.nested;
+    entered = h.entered;
+    live = h.live;
   }
 
   pub given_moves : (o : core.Operation) (t : ℕ) (v : Content) → Gives t v known.temps temps → Becomes o ws known (λ next c. next (with_temp t v c))
@@ -41,6 +55,10 @@ module _ (known : Known) (temps : List Value) (ws : List Wait) where
   constant_moves t w small gives =
       let same : w % 2 ^ 32 ≡ w = omega (arith, small) in
       given_moves (core.Constant t w) t (memory.Word w) gives (λ marks c h next. ap (λ (n : ℕ). next (with_temp t (memory.Word n) c)) same)
+
+  pub null_moves : (t : ℕ) → Gives t memory.Null known.temps temps
+      → IsMove (Execute (core.Do (core.NullPointer t))) ws known (Go (Leave steps.Falls)) ws (given known temps)
+  null_moves t gives = given_moves (core.NullPointer t) t memory.Null gives (λ marks c h next. refl)
 
   pub address_moves : (t object : ℕ) → Gives t (content_of (value.Global object)) known.temps temps
       → IsMove (Execute (core.Do (core.DataAddress t object))) ws known (Go (Leave steps.Falls)) ws (given known temps)
@@ -62,6 +80,13 @@ module _ (known : Known) (temps : List Value) (ws : List Wait) where
         given_moves (core.Narrow t x) t (memory.Word (n % 256)) gives
         (λ marks c h next. ap (λ (u : Content). word_of u (λ k. next (with_temp t (memory.Word (k % 256)) c))) (holds_it marks c h ∙ ap content_of is))
 
+    pub test_moves : (t : ℕ) (b : Bool) → null_of v ≡ Some b → Gives t (memory.Word (truth b)) known.temps temps
+        → IsMove (Execute (core.Do (core.IsNull t x))) ws known (Go (Leave steps.Falls)) ws (given known temps)
+    test_moves t b is gives =
+        given_moves (core.IsNull t x) t (memory.Word (truth b)) gives
+        (λ marks c h next. ap (λ (u : Content). is_null u (λ n. next (with_temp t (memory.Word n) c))) (holds_it marks c h)
+        ∙ null_is v (λ n. next (with_temp t (memory.Word n) c)) ∙ ap (null_step (λ n. next (with_temp t (memory.Word n) c))) is)
+
     pub apply_moves : (o : core.Binary) (t y a b : ℕ) (u : Value) → content_of u ≡ temp_of known.temps y → v ≡ value.Word a → u ≡ value.Word b
         → Gives t (memory.Word (two o a b)) known.temps temps
         → IsMove (Execute (core.Do (core.Apply o t x y))) ws known (Go (Leave steps.Falls)) ws (given known temps)
@@ -75,23 +100,31 @@ module _ (known : Known) (temps : List Value) (ws : List Wait) where
 abbrev pub IsNoWord : Value → Type 0
 IsNoWord value.Blank = Unit {0}
 IsNoWord (value.Word n) = ⊥
+IsNoWord value.Null = Unit {0}
 IsNoWord (value.Global g) = Unit {0}
+IsNoWord (value.Local k i) = Unit {0}
 
 -- what is no pointer
 abbrev pub IsNoPlace : Value → Type 0
 IsNoPlace value.Blank = Unit {0}
 IsNoPlace (value.Word n) = Unit {0}
+IsNoPlace value.Null = Unit {0}
 IsNoPlace (value.Global g) = ⊥
+IsNoPlace (value.Local k i) = ⊥
 
 no_word : (v : Value) (next : ℕ → Step) → IsNoWord v → word_of (content_of v) next ≡ stuck
 no_word value.Blank next h = refl
 no_word (value.Word n) next h = absurd h
+no_word value.Null next h = refl
 no_word (value.Global g) next h = refl
+no_word (value.Local k i) next h = refl
 
 pub no_place : (v : Value) (next : Spot → ℕ → Step) → IsNoPlace v → pointer_of (content_of v) next ≡ stuck
 no_place value.Blank next h = refl
 no_place (value.Word n) next h = refl
+no_place value.Null next h = refl
 no_place (value.Global g) next h = absurd h
+no_place (value.Local k i) next h = absurd h
 
 module _ (known : Known) (ws : List Wait) (x : ℕ) (v : Value) (read : content_of v ≡ temp_of known.temps x) where
   pub no_word_wrong : (o : core.Operation) (next' : Config → (Config → Step) → ℕ → Step)
@@ -114,6 +147,12 @@ module _ (known : Known) (ws : List Wait) (x : ℕ) (v : Value) (read : content_
       ap (λ (w : Content). word_of w (λ i. word_of (c.temps y) (λ j. next (with_temp t (memory.Word (two o i j)) c)))) (h.temps x ∙ sym read ∙ ap content_of is)
       ∙ ap (λ (w : Content). word_of w (λ j. next (with_temp t (memory.Word (two o a j)) c))) (h.temps y ∙ sym second)
       ∙ no_word u (λ j. next (with_temp t (memory.Word (two o a j)) c)) none)
+
+  pub test_wrong : (t : ℕ) → null_of v ≡ None → IsMove (Execute (core.Do (core.IsNull t x))) ws known Wrong ws known
+  test_wrong t is =
+      goes_wrong (core.IsNull t x) ws known
+      (λ marks c h next. ap (λ (u : Content). is_null u (λ n. next (with_temp t (memory.Word n) c))) (h.temps x ∙ sym read)
+      ∙ null_is v (λ n. next (with_temp t (memory.Word n) c)) ∙ ap (null_step (λ n. next (with_temp t (memory.Word n) c))) is)
 
   pub putchar_wrong : (t : ℕ) → IsNoWord v → IsMove (Execute (core.Do (core.Putchar t x))) ws known Wrong ws known
   putchar_wrong t none = no_word_wrong (core.Putchar t x) _ (λ c next. refl) none

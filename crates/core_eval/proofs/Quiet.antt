@@ -62,6 +62,7 @@ use Rattle.core_eval.specs.Pendings.{
   TurnDue,
   CallDue,
   Over,
+  Raised,
   Wrong,
   Mark,
   rest_of,
@@ -312,6 +313,7 @@ coming_quiet main (PutcharDue t x) ws marks c = tt
 coming_quiet main (TurnDue test flag body) ws marks c = tt
 coming_quiet main (CallDue results f arguments) ws marks c = tt
 coming_quiet main (Over status) ws marks c = tt
+coming_quiet main (Raised kind) ws marks c = tt
 coming_quiet main Wrong ws marks c = tt
 
 -- ---- what is seen of it

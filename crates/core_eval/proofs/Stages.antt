@@ -115,7 +115,7 @@ module _ {p : Program} {fuel left : ℕ} {is_over : Bool} {ws : List Wait} {know
       record {
         s = _;
         stands = stands_at p (Go (Follow body)) (Body test flag body ∷ ws) known st.marks st.config
-            (record { temps = a.temps; fresh = a.fresh; globals = a.globals; nested = a.nested });
+            (record { temps = a.temps; fresh = a.fresh; globals = a.globals; nested = a.nested; entered = a.entered; live = a.live });
         progress = turned_once (settle (TurnDue test flag body) x) h (record { test = test; flag = flag; body = body })
             (rest_of p.main ws st.marks) st.config refl;
       }

@@ -1,7 +1,7 @@
 -- What the evaluator stores to locals and globals, as Core does it.
-use Rattle.std.specs.Prelude.{if◌then◌else◌, slice_get, slice_set, ◌&&◌, nat_eq}
-use Rattle.std.proofs.Common.{◌≡◌, ℕ, ◌<◌, true, Option, Some, None, List, refl, ap, ◌∙◌, sym, subst, arith}
-use Rattle.core_meaning.specs.Memory.{Region, Frame, Born, Content, Spot, Part, Memory, with_part}
+use Rattle.std.specs.Prelude.{if◌then◌else◌, slice_get, slice_set, ◌&&◌, nat_eq, option_map}
+use Rattle.std.proofs.Common.{◌≡◌, ℕ, true, Option, Some, None, List, refl, ap, ◌∙◌, sym, subst, arith}
+use Rattle.core_meaning.specs.Memory.{Region, Frame, Born, Content, Part, Memory, with_part}
 use Rattle.core_meaning.specs.Core as core
 use Rattle.core_meaning.specs.Steps as steps
 use Rattle.core_meaning.specs.Steps.{Config, with_memory, Step, stuck, needed, pointer_of}
@@ -13,12 +13,27 @@ use Rattle.cyc_core.specs.Trees as trees
 use Rattle.core_eval.specs.declared.value.Value.{Value}
 use Rattle.core_eval.specs.declared.value.Value.TheVariants as value
 use Rattle.core_eval.specs.declared.value.Object.{Object}
-use Rattle.core_eval.specs.Values.{spot_of, content_of, temp_of, same_width, part_of, Shows, fitted, put_in, put_block, put_among, put_local}
+use Rattle.core_eval.specs.Values.{spot_of, content_of, temp_of, same_width, part_of, Shows, fitted, put_in}
+use Rattle.core_eval.specs.Blocks.{
+  Activation,
+  Descends,
+  own_position,
+  position_of,
+  number_through,
+  object_among,
+  object_through,
+  local_object,
+  put_block,
+  put_among,
+  put_through,
+  put_local,
+}
 use Rattle.core_eval.specs.Pendings.{Execute, Leave, Wait, Go, Wrong, Mark, rest_of}
-use Rattle.core_eval.specs.Standing.{Known, Agrees}
+use Rattle.core_eval.specs.Standing.{Known, Agrees, Stands}
 use Rattle.core_eval.specs.Costs.{IsMove}
 use Rattle.core_eval.proofs.Memories.{found, reached_is, IsPut, put_is, unput_is, other_number, shows_part, shows_put}
-use Rattle.core_eval.proofs.Nested.{AreAt, nested_at, nested_still, nested_put}
+use Rattle.core_eval.proofs.Nested.{nested_still, nested_shows, nested_put, position_there, position_put}
+use Rattle.core_eval.proofs.MemoryMoves.{descends, shown, own_number, own_is, number_is}
 use Rattle.core_eval.proofs.Moves.{all_stand, goes_here, goes_wrong}
 
 -- ---- a store to one object
@@ -30,7 +45,9 @@ put_object w v = record { width = w; value = fitted w v }
 fits : (w : Width) (v : Value) → fitting (bytes_of w) (content_of v) ≡ content_of (fitted w v)
 fits width.Byte value.Blank = refl
 fits width.Byte (value.Word n) = refl
+fits width.Byte value.Null = refl
 fits width.Byte (value.Global g) = refl
+fits width.Byte (value.Local k i) = refl
 fits width.Word v = refl
 
 same_width_is : (a w : Width) → same_width a w ≡ true → a ≡ w
@@ -64,81 +81,63 @@ store_is {m} {r} {objects} {objects'} shows i w v put u is next =
 
 -- ---- a store to a local
 
-record IsLocalPut (blocks : List (List Object)) (out i : ℕ) (w : Width) (v : Value) (blocks' : List (List Object)) : Type 0 where
-  pub objects : List Object
+-- a store to a local of the block that stands there
+record IsBlockPut (blocks : List Activation) (p i : ℕ) (w : Width) (v : Value) (blocks' : List Activation) : Type 0 where
+  pub block : Activation
   pub objects' : List Object
-  pub there : slice_get blocks out ≡ Some objects
-  pub put : IsPut objects i w v objects'
-  pub after : blocks' ≡ slice_set blocks out objects'
+  pub there : slice_get blocks p ≡ Some block
+  pub put : IsPut block.objects i w v objects'
+  pub after : blocks' ≡ slice_set blocks p (record { number = block.number; objects = objects' })
 
-module _ (blocks : List (List Object)) (out i : ℕ) (w : Width) (v : Value) where
-  local_put_there : (blocks' : List (List Object)) (objects : List Object) (o : Option (List Object)) → slice_get blocks out ≡ Some objects
-      → put_in objects i w v ≡ o
-      → put_block blocks out o ≡ Some blocks' → IsLocalPut blocks out i w v blocks'
-  local_put_there blocks' objects None at put e = cc
-  local_put_there blocks' objects (Some objects') at put e =
-      record { objects = objects; objects' = objects'; there = at; put = put_is objects i w v objects' put; after = cc }
+module _ (blocks : List Activation) (i : ℕ) (w : Width) (v : Value) where
+  put_there : (p : ℕ) (blocks' : List Activation) (b : Activation) (o : Option (List Object)) → slice_get blocks p ≡ Some b → put_in b.objects i w v ≡ o
+      → put_block blocks p b o ≡ Some blocks' → IsBlockPut blocks p i w v blocks'
+  put_there p blocks' b None at put e = cc
+  put_there p blocks' b (Some objects') at put e =
+      record { block = b; objects' = objects'; there = at; put = put_is b.objects i w v objects' put; after = cc }
 
-  local_put_case : (blocks' : List (List Object)) (o : Option (List Object)) → slice_get blocks out ≡ o → put_among blocks out i w v o ≡ Some blocks'
-      → IsLocalPut blocks out i w v blocks'
-  local_put_case blocks' None at e = cc
-  local_put_case blocks' (Some objects) at e = local_put_there blocks' objects (put_in objects i w v) at refl e
+  put_case : (p : ℕ) (blocks' : List Activation) (o : Option Activation) → slice_get blocks p ≡ o → put_among blocks p i w v o ≡ Some blocks'
+      → IsBlockPut blocks p i w v blocks'
+  put_case p blocks' None at e = cc
+  put_case p blocks' (Some b) at e = put_there p blocks' b (put_in b.objects i w v) at refl e
 
-  local_put_is : (blocks' : List (List Object)) → put_local blocks out i w v ≡ Some blocks' → IsLocalPut blocks out i w v blocks'
-  local_put_is blocks' e = local_put_case blocks' (slice_get blocks out) refl e
+  block_put_is : (p : ℕ) (blocks' : List Activation) → put_through blocks (Some p) i w v ≡ Some blocks' → IsBlockPut blocks p i w v blocks'
+  block_put_is p blocks' e = put_case p blocks' (slice_get blocks p) refl e
 
-  no_put_block : (o : Option (List Object)) → put_block blocks out o ≡ None → o ≡ None
-  no_put_block None e = refl
-  no_put_block (Some objects) e = cc
+  no_put_block : (p : ℕ) (b : Activation) (o : Option (List Object)) → put_block blocks p b o ≡ None → o ≡ None
+  no_put_block p b None e = refl
+  no_put_block p b (Some objects) e = cc
 
-  local_unput : (m : Memory) (bound : ℕ) (n : Option ℕ) (b : Option (List Object)) → AreAt m bound n b → put_among blocks out i w v b ≡ None
-      → (next : Spot → Part → Step)
-      → needed n (λ k. reached m (at_once (bytes_of w)) (local_spot k i) 0 next) ≡ stuck
-  local_unput m bound None None h e next = refl
-  local_unput m bound (Some k) (Some objects) (below, shows) e next =
-      reached_is shows i w next ∙ unput_is objects i w v (next (spot_of (Frame k) i)) (no_put_block (put_in objects i w v) e)
-  local_unput m bound None (Some objects) h e next = absurd h
-  local_unput m bound (Some k) None h e next = absurd h
+  unput_among : (p : ℕ) (o : Option Activation) (next : Part → Step) → put_among blocks p i w v o ≡ None → found w next (object_among o i) ≡ stuck
+  unput_among p None next e = refl
+  unput_among p (Some b) next e = unput_is b.objects i w v next (no_put_block p b (put_in b.objects i w v) e)
 
--- a block that is there has a number
-record IsThere (m : Memory) (bound : ℕ) (n : Option ℕ) (objects : List Object) : Type 0 where
-  pub k : ℕ
-  pub number : n ≡ Some k
-  pub below : k < bound
-  pub shows : Shows m (Frame k) objects
-
-is_there : (m : Memory) (bound : ℕ) (n : Option ℕ) (b : Option (List Object)) (objects : List Object) → b ≡ Some objects → AreAt m bound n b
-    → IsThere m bound n objects
-is_there m bound None None objects e h = cc
-is_there m bound (Some k) (Some os) objects e (below, shows) =
-    record { k = k; number = refl; below = below; shows = subst (λ (l : List Object). Shows m (Frame k) l) (cc) shows }
-is_there m bound None (Some os) objects e h = absurd h
-is_there m bound (Some k) None objects e h = absurd h
+  -- where nothing is stored nothing is found
+  unput_found : (o : Option ℕ) (next : Part → Step) → put_through blocks o i w v ≡ None → found w next (object_through blocks o i) ≡ stuck
+  unput_found None next e = refl
+  unput_found (Some p) next e = unput_among p (slice_get blocks p) next e
 
 module _ (known : Known) (ws : List Wait) (marks : List Mark) (c : Config) (h : Agrees known ws marks c) where
-  there_at : (out : ℕ) (objects : List Object) → slice_get known.blocks out ≡ Some objects
-      → IsThere c.memory c.memory.activations (slice_get c.blocks out) objects
-  there_at out objects at =
-      is_there c.memory c.memory.activations _ _ objects at (nested_at c.memory c.memory.activations c.blocks known.blocks ws marks out h.nested)
-
-  local_agrees : (out i : ℕ) (objects : List Object) (o old : Object) (there : IsThere c.memory c.memory.activations (slice_get c.blocks out) objects)
-      → slice_get objects i ≡ Some old
-      → Agrees (record known { blocks = slice_set known.blocks out (slice_set objects i o) }) ws marks (with_memory (stored c.memory (Frame there.k) i o) c)
-  local_agrees out i objects o old there at = record {
-    temps = h.temps;
-    fresh = record {
-      empty = h.fresh.empty;
-      missing = λ k j le.
-          let below = there.below in
-          ap (λ b. if (b && (nat_eq j i && true)) && true then Some (part_of o) else c.memory.parts (spot_of (Frame k) j) 0)
-          (other_number k there.k (omega (arith, below, le)))
-          ∙ h.fresh.missing k j le;
-    };
-    globals = shows_part h.globals (Frame there.k) refl i (part_of o);
-    nested = nested_put c.memory (stored c.memory (Frame there.k) i o) there.k (slice_set objects i o) (shows_put there.shows i o old at)
-        (λ q os other s. shows_part s (Frame there.k) (other_number q there.k other) i (part_of o))
-        c.memory.activations c.blocks known.blocks ws marks out there.number h.nested;
-  }
+  block_agrees : (p i : ℕ) (b : Activation) (o old : Object) → slice_get known.blocks p ≡ Some b → slice_get b.objects i ≡ Some old
+      → Agrees (record known { blocks = slice_set known.blocks p (record { number = b.number; objects = slice_set b.objects i o }) }) ws marks
+      (with_memory (stored c.memory (Frame b.number) i o) c)
+  block_agrees p i b o old at there =
+      let (below, shows) = nested_shows c.memory c.memory.activations c.blocks known.base known.blocks ws marks p b h.nested at in record {
+        temps = h.temps;
+        fresh = record {
+          empty = h.fresh.empty;
+          missing = λ k j le.
+              ap (λ t. if (t && (nat_eq j i && true)) && true then Some (part_of o) else c.memory.parts (spot_of (Frame k) j) 0)
+              (other_number k b.number (omega (arith, below, le)))
+              ∙ h.fresh.missing k j le;
+        };
+        globals = shows_part h.globals (Frame b.number) refl i (part_of o);
+        nested = nested_put c.memory (stored c.memory (Frame b.number) i o) b.number (slice_set b.objects i o) (shows_put shows i o old there)
+            (λ q os other s. shows_part s (Frame b.number) (other_number q b.number other) i (part_of o))
+            c.memory.activations c.blocks known.base known.blocks ws marks p b at refl h.nested;
+        entered = h.entered;
+        live = λ k gone. h.live k (sym (position_put known.blocks p k b (record { number = b.number; objects = slice_set b.objects i o }) at refl) ∙ gone);
+      }
 
   global_agrees : (g : ℕ) (o old : Object) → slice_get known.globals g ≡ Some old
       → Agrees (record known { globals = slice_set known.globals g o }) ws marks (with_memory (stored c.memory (Born 0) g o) c)
@@ -146,39 +145,112 @@ module _ (known : Known) (ws : List Wait) (marks : List Mark) (c : Config) (h : 
     temps = h.temps;
     fresh = record { empty = h.fresh.empty; missing = h.fresh.missing };
     globals = shows_put h.globals g o old at;
-    nested = nested_still c.memory (stored c.memory (Born 0) g o) c.memory.activations c.memory.activations c.blocks known.blocks ws marks (omega arith)
+    nested = nested_still c.memory (stored c.memory (Born 0) g o) c.memory.activations c.memory.activations c.blocks known.base known.blocks ws marks (omega arith)
         (λ k os below s. shows_part s (Born 0) refl g (part_of o)) h.nested;
+    entered = h.entered;
+    live = h.live;
   }
 
 -- ---- moves
 
 module _ (known : Known) (ws : List Wait) (x : ℕ) (v : Value) (read : content_of v ≡ temp_of known.temps x) where
-  pub put_moves : (out i : ℕ) (w : Width) (blocks : List (List Object)) → put_local known.blocks out i w v ≡ Some blocks
+  -- the memory after a store to a local of a block
+  abbrev after_put : Config → ℕ → ℕ → Width → Config
+  after_put c k i w = with_memory (stored c.memory (Frame k) i (put_object w v)) c
+
+  put_agrees : (p i : ℕ) (w : Width) (blocks : List Activation) (is : IsBlockPut known.blocks p i w v blocks) (marks : List Mark) (c : Config)
+      → Agrees known ws marks c → Agrees (record known { blocks = blocks }) ws marks (after_put c is.block.number i w)
+  put_agrees p i w blocks is marks c h =
+      subst (λ (bs : List Activation). Agrees (record known { blocks = bs }) ws marks (after_put c is.block.number i w))
+      (sym (is.after ∙ ap (λ os. slice_set known.blocks p (record { number = is.block.number; objects = os })) is.put.after))
+      (block_agrees known ws marks c h p i is.block (put_object w v) is.put.old is.there is.put.there)
+
+  put_step : (p i : ℕ) (w : Width) (blocks : List Activation) (is : IsBlockPut known.blocks p i w v blocks) (marks : List Mark) (c : Config)
+      → Agrees known ws marks c → (next : Memory → Step)
+      → reached c.memory (at_once (bytes_of w)) (spot_of (Frame is.block.number) i) 0 (λ at q.
+      next (with_part c.memory at 0 (record q { content = fitting (bytes_of w) (c.temps x) })))
+      ≡ next (stored c.memory (Frame is.block.number) i (put_object w v))
+  put_step p i w blocks is marks c h next =
+      store_is (shown known ws marks c h p is.block is.there) i w v is.put (c.temps x) (h.temps x ∙ sym read) next
+
+  own_put : (out i : ℕ) (w : Width) (blocks : List Activation) (o : Option ℕ) → own_position known.base known.blocks out ≡ o
+      → put_through known.blocks o i w v ≡ Some blocks
       → IsMove (Execute (core.Do (core.Put out i (bytes_of w) x))) ws known (Go (Leave steps.Falls)) ws (record known { blocks = blocks })
-  put_moves out i w blocks e =
-      let is = local_put_is known.blocks out i w v blocks e in
-      let all : blocks ≡ slice_set known.blocks out (slice_set is.objects i (put_object w v)) = is.after ∙ ap (slice_set known.blocks out) is.put.after in
+  own_put out i w blocks None own e = cc
+  own_put out i w blocks (Some p) own e =
+      let is = block_put_is known.blocks i w v p blocks e in
       record {
         still = all_stand _ ws known _ ws (record known { blocks = blocks }) (λ main marks c h.
-            let there = there_at known ws marks c h out is.objects is.there in
-            goes_here main marks (with_memory (stored c.memory (Frame there.k) i (put_object w v)) c) _ _ ws (record known { blocks = blocks })
-            (subst (λ (bs : List (List Object)). Agrees (record known { blocks = bs }) ws marks
-            (with_memory (stored c.memory (Frame there.k) i (put_object w v)) c)) (sym all)
-            (local_agrees known ws marks c h out i is.objects (put_object w v) is.put.old there is.put.there))
-            (ap (λ n. needed n (λ k. reached c.memory (at_once (bytes_of w)) (local_spot k i) 0 (λ at p.
-            rest_of main ws marks steps.Falls (with_memory (with_part c.memory at 0 (record p { content = fitting (bytes_of w) (c.temps x) })) c))))
-            there.number
-            ∙ store_is there.shows i w v is.put (c.temps x) (h.temps x ∙ sym read) (λ m. rest_of main ws marks steps.Falls (with_memory m c))));
+            goes_here main marks (after_put c is.block.number i w) _ _ ws (record known { blocks = blocks })
+            (put_agrees p i w blocks is marks c h)
+            (ap (λ n. needed n (λ k. reached c.memory (at_once (bytes_of w)) (local_spot k i) 0 (λ at q.
+            rest_of main ws marks steps.Falls (with_memory (with_part c.memory at 0 (record q { content = fitting (bytes_of w) (c.temps x) })) c))))
+            (own_number known ws marks c h out ∙ ap (number_through known.blocks) own ∙ ap (option_map (λ b. b.number)) is.there)
+            ∙ put_step p i w blocks is marks c h (λ m. rest_of main ws marks steps.Falls (with_memory m c))));
         fewer = omega arith;
       }
 
-  pub put_wrong : (out i : ℕ) (w : Width) → put_local known.blocks out i w v ≡ None
+  pub put_moves : (out i : ℕ) (w : Width) (blocks : List Activation) → put_local known.base known.blocks out i w v ≡ Some blocks
+      → IsMove (Execute (core.Do (core.Put out i (bytes_of w) x))) ws known (Go (Leave steps.Falls)) ws (record known { blocks = blocks })
+  put_moves out i w blocks e = own_put out i w blocks (own_position known.base known.blocks out) refl e
+
+  stuck_found : (n : Option ℕ) (step : ℕ → Step) → ((k : ℕ) → step k ≡ stuck) → needed n step ≡ stuck
+  stuck_found None step h = refl
+  stuck_found (Some k) step h = h k
+
+  pub put_wrong : (out i : ℕ) (w : Width) → put_local known.base known.blocks out i w v ≡ None
       → IsMove (Execute (core.Do (core.Put out i (bytes_of w) x))) ws known Wrong ws known
   put_wrong out i w e =
       goes_wrong (core.Put out i (bytes_of w) x) ws known (λ marks c h next.
-      local_unput known.blocks out i w v c.memory c.memory.activations _ _
-      (nested_at c.memory c.memory.activations c.blocks known.blocks ws marks out h.nested) e
-      (λ at p. next (with_memory (with_part c.memory at 0 (record p { content = fitting (bytes_of w) (c.temps x) })) c)))
+      own_is known ws marks c h out i w (λ at q. next (with_memory (with_part c.memory at 0 (record q { content = fitting (bytes_of w) (c.temps x) })) c))
+      ∙ stuck_found (number_through known.blocks (own_position known.base known.blocks out))
+      (λ k. found w (λ q. next (with_memory (with_part c.memory (local_spot k i) 0 (record q { content = fitting (bytes_of w) (c.temps x) })) c))
+      (local_object known.base known.blocks out i))
+      (λ k. unput_found known.blocks i w v (own_position known.base known.blocks out)
+      (λ q. next (with_memory (with_part c.memory (local_spot k i) 0 (record q { content = fitting (bytes_of w) (c.temps x) })) c)) e))
+
+  -- ---- through a pointer to a local
+
+  module _ (p k i : ℕ) (read_place : content_of (value.Local k i) ≡ temp_of known.temps p) where
+    -- what a store does to each state
+    abbrev stores : (w : Width) (c : Config) → (Config → Step) → Content → Step
+    stores w c next z = pointer_of z (λ s b. reached c.memory (trees.at_once w) s b (λ at q.
+        next (with_memory (with_part c.memory at 0 (record q { content = fitting (bytes_of w) (c.temps x) })) c)))
+
+    stored_there : (w : Width) (blocks : List Activation) (main : ℕ) (marks : List Mark) (c : Config) → Agrees known ws marks c → (o : Option ℕ)
+        → position_of known.blocks k ≡ o → put_through known.blocks o i w v ≡ Some blocks
+        → Stands main (stores w c (rest_of main ws marks steps.Falls) (content_of (value.Local k i))) (Go (Leave steps.Falls)) ws
+        (record known { blocks = blocks })
+    stored_there w blocks main marks c h None at e = cc
+    stored_there w blocks main marks c h (Some q) at e =
+        let is = block_put_is known.blocks i w v q blocks e in
+        let same : Some is.block.number ≡ Some k = sym (ap (option_map (λ b. b.number)) is.there) ∙ position_there known.blocks k q at in
+        let number : is.block.number ≡ k = cc in
+        subst (λ (n : ℕ). Stands main (stores w c (rest_of main ws marks steps.Falls) (content_of (value.Local n i))) (Go (Leave steps.Falls)) ws
+        (record known { blocks = blocks })) number
+        (goes_here main marks (after_put c is.block.number i w) _ _ ws (record known { blocks = blocks }) (put_agrees q i w blocks is marks c h)
+        (put_step q i w blocks is marks c h (λ m. rest_of main ws marks steps.Falls (with_memory m c))))
+
+    pub store_local_moves : (w : Width) (blocks : List Activation)
+        → (Descends known.entered known.blocks → put_through known.blocks (position_of known.blocks k) i w v ≡ Some blocks)
+        → IsMove (Execute (core.Do (core.Store p (trees.at_once w) x))) ws known (Go (Leave steps.Falls)) ws (record known { blocks = blocks })
+    store_local_moves w blocks e = record {
+      still = all_stand _ ws known _ ws (record known { blocks = blocks }) (λ main marks c h.
+          subst (λ (z : Content). Stands main (stores w c (rest_of main ws marks steps.Falls) z) (Go (Leave steps.Falls)) ws (record known { blocks = blocks }))
+          (read_place ∙ sym (h.temps p))
+          (stored_there w blocks main marks c h (position_of known.blocks k) refl (e (descends known ws marks c h))));
+      fewer = omega arith;
+    }
+
+    pub store_local_wrong : (w : Width) → (Descends known.entered known.blocks → put_through known.blocks (position_of known.blocks k) i w v ≡ None)
+        → IsMove (Execute (core.Do (core.Store p (trees.at_once w) x))) ws known Wrong ws known
+    store_local_wrong w e =
+        goes_wrong (core.Store p (trees.at_once w) x) ws known (λ marks c h next.
+        ap (stores w c next) (h.temps p ∙ sym read_place)
+        ∙ number_is known ws marks c h k i w (λ at q. next (with_memory (with_part c.memory at 0 (record q { content = fitting (bytes_of w) (c.temps x) })) c))
+        ∙ unput_found known.blocks i w v (position_of known.blocks k)
+        (λ q. next (with_memory (with_part c.memory (spot_of (Frame k) i) 0 (record q { content = fitting (bytes_of w) (c.temps x) })) c))
+        (e (descends known ws marks c h)))
 
   -- through a pointer to a global
   module _ (p g : ℕ) (u : Value) (read_place : content_of u ≡ temp_of known.temps p) (is_place : u ≡ value.Global g) where

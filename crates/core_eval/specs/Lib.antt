@@ -1,4 +1,5 @@
 pub mod Values
+pub mod Blocks
 pub mod Pendings
 pub mod Standing
 pub mod Costs

@@ -2,6 +2,7 @@
 use Rattle.std.specs.Prelude.{ℕ, List, [], ◌∷◌, Option, Some, None, map, reverse}
 use Rattle.cyc_words.specs.Events as events
 use Rattle.cyc_words.specs.Events.{SourceEnding}
+use Rattle.cyc_words.specs.declared.faults.Kind.{Kind}
 use Rattle.step_trees.specs.Trees.{Stops, Reads, Pays, Calls, Turns}
 use Rattle.core_meaning.specs.Memory as memory
 use Rattle.core_meaning.specs.Memory.{Content, Word}
@@ -13,7 +14,6 @@ use Rattle.core_meaning.specs.Operations.{byte_word, says}
 use Rattle.core_meaning.specs.Meaning.{falls_to, branch, with_results, out_of_block, after_turn, statement, statements, left, status_of}
 use Rattle.cyc_core.specs.Trees.{optional_tree, statement_tree, body_tree}
 use Rattle.core_eval.specs.declared.value.Value.{Value}
-use Rattle.core_eval.specs.declared.value.Object.{Object}
 use Rattle.core_eval.specs.declared.frame.Frame.{Frame}
 use Rattle.core_eval.specs.declared.pending.Flow as code_flow
 use Rattle.core_eval.specs.declared.pending.Flow.TheVariants as flow
@@ -33,10 +33,10 @@ pub data Task : Type 0 where
   Execute : core.Statement → Task
   Leave : Exit → Task
 
--- a caller that was left for a call: what its temporaries hold, and the locals of its blocks, the innermost first
+-- a caller that was left for a call: what its temporaries hold, and how many blocks there are outside of it
 pub record Saved : Type 0 where
   pub temps : List Value
-  pub blocks : List (List Object)
+  pub base : ℕ
 
 -- what waits for the end of a statement: the statements after it; a loop whose test it is, or whose body; a block; the caller of the function with this number
 pub data Wait : Type 0 where
@@ -54,6 +54,7 @@ pub data Next : Type 0 where
   TurnDue : (test : Statements) (flag : ℕ) (body : Statements) → Next
   CallDue : (results : List ℕ) (function : ℕ) (arguments : List Content) → Next
   Over : ℕ → Next
+  Raised : Kind → Next
   Wrong : Next
 
 -- ---- what the code has
@@ -74,7 +75,7 @@ task_of (now.Execute s) = Execute (statement_tree s.now)
 task_of (now.Leave f) = Leave (exit_of f)
 
 abbrev pub saved_of : Frame → Saved
-saved_of frame = record { temps = frame.temps.items; blocks = map (λ objects. objects.items) frame.blocks.items }
+saved_of frame = record { temps = frame.temps.items; base = frame.base }
 
 abbrev pub wait_of : code_pending.Pending → Wait
 wait_of (pending.Then ss) = Then (body_tree ss.now)
@@ -90,6 +91,7 @@ next_of (due.Putchar t x) = PutcharDue t.0 x
 next_of (due.Turn test flag body) = TurnDue (body_tree test.now) flag.0 (body_tree body.now)
 next_of (due.Call result f arguments) = CallDue (optional_tree result) f (map content_of arguments.items)
 next_of (due.Over status) = Over status
+next_of (due.Raised kind) = Raised kind
 next_of due.Wrong = Wrong
 
 -- all that waits, the last first
@@ -139,4 +141,5 @@ coming (PutcharDue t x) next c = Pays (λ kept. says (events.ByteWritten x) (nex
 coming (TurnDue test flag body) next c = Turns (record { test = test; flag = flag; body = body }) next c
 coming (CallDue results f arguments) next c = Calls (record { function = f; arguments = arguments }) (returned_to results c next) c.memory
 coming (Over status) next c = Stops (SourceEnding.Ended status)
+coming (Raised kind) next c = Stops (SourceEnding.Raised kind)
 coming Wrong next c = stuck

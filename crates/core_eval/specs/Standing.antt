@@ -1,18 +1,21 @@
 -- When an evaluator's state stands for a step of Core.
-use Rattle.std.specs.Prelude.{◌≡◌, ℕ, ◌<◌, ◌≤◌, None, List, [], ◌∷◌, map}
+use Rattle.std.specs.Prelude.{◌≡◌, ℕ, ◌<◌, ◌≤◌, false, None, List, [], ◌∷◌, length, map}
 use Rattle.step_trees.specs.Trees.{Says}
 use Rattle.core_meaning.specs.Memory as memory
-use Rattle.core_meaning.specs.Memory.{Born, Memory, Content}
+use Rattle.core_meaning.specs.Memory.{Born, Memory, Content, is_live}
 use Rattle.core_meaning.specs.Steps.{Config, set_temp, Event, Visible, Called, Returned, Step}
 use Rattle.core_meaning.specs.Core.{Function}
 use Rattle.core_meaning.specs.Meaning.{called}
 use Rattle.cyc_core.specs.declared.program.Datum.{Datum}
-use Rattle.cyc_core.specs.Trees.{datum_width, datum_word}
+use Rattle.cyc_core.specs.declared.program.Datum.TheVariants as datum
+use Rattle.cyc_core.specs.Trees.{cell_width, datum_cell}
 use Rattle.core_eval.specs.declared.value.Value.{Value}
 use Rattle.core_eval.specs.declared.value.Value.TheVariants as value
 use Rattle.core_eval.specs.declared.value.Object.{Object}
 use Rattle.core_eval.specs.declared.frame.Frame.{Frame}
+use Rattle.core_eval.specs.declared.memory.Memory as code
 use Rattle.core_eval.specs.Values.{spot_of, temp_of, Shows}
+use Rattle.core_eval.specs.Blocks.{Activation, activation_of, position_of}
 use Rattle.core_eval.specs.Pendings.{Wait, Block, Caller, Next, Mark, rest_of, returned_to, coming}
 
 -- these temporaries hold these values
@@ -24,31 +27,41 @@ pub record IsFresh (m : Memory) : Type 0 where
   pub empty : (k : ℕ) → m.activations ≤ k → m.objects (memory.Frame k) ≡ 0
   pub missing : (k i : ℕ) → m.activations ≤ k → m.parts (spot_of (memory.Frame k) i) 0 ≡ None
 
--- Each block that is to be left shows its locals, and has a number below those of the blocks inside of it; and each caller's temporaries hold what was saved.
-abbrev pub AreNested : Memory → ℕ → List ℕ → List (List Object) → List Wait → List Mark → Type 0
-AreNested m bound numbers blocks [] marks = (numbers ≡ []) × (blocks ≡ [])
-AreNested m bound numbers blocks (Block ∷ ws) [] = ⊥
-AreNested m bound numbers [] (Block ∷ ws) (mark ∷ marks) = ⊥
-AreNested m bound numbers (objects ∷ blocks) (Block ∷ ws) (mark ∷ marks) =
-    (numbers ≡ mark.number ∷ mark.outside.blocks) × (mark.number < bound) × Shows m (memory.Frame mark.number) objects
-    × AreNested m mark.number mark.outside.blocks blocks ws marks
-AreNested m bound numbers blocks (Caller results f saved ∷ ws) [] = ⊥
-AreNested m bound numbers blocks (Caller results f saved ∷ ws) (mark ∷ marks) =
-    (numbers ≡ []) × (blocks ≡ []) × Holds mark.outside.temps saved.temps × AreNested m bound mark.outside.blocks saved.blocks ws marks
-AreNested m bound numbers blocks (w ∷ ws) marks = AreNested m bound numbers blocks ws marks
+-- Each block that is to be left shows its locals, and has a number below those of the blocks inside of it; outside of each function there are so many blocks as
+-- it knows of; and each caller's temporaries hold what was saved.
+abbrev pub AreNested : Memory → ℕ → List ℕ → ℕ → List Activation → List Wait → List Mark → Type 0
+AreNested m bound numbers base blocks [] marks = (numbers ≡ []) × (base ≡ 0) × (blocks ≡ [])
+AreNested m bound numbers base blocks (Block ∷ ws) [] = ⊥
+AreNested m bound numbers base [] (Block ∷ ws) (mark ∷ marks) = ⊥
+AreNested m bound numbers base (b ∷ blocks) (Block ∷ ws) (mark ∷ marks) =
+    (numbers ≡ mark.number ∷ mark.outside.blocks) × (mark.number ≡ b.number) × (mark.number < bound) × Shows m (memory.Frame mark.number) b.objects
+    × AreNested m mark.number mark.outside.blocks base blocks ws marks
+AreNested m bound numbers base blocks (Caller results f saved ∷ ws) [] = ⊥
+AreNested m bound numbers base blocks (Caller results f saved ∷ ws) (mark ∷ marks) =
+    (numbers ≡ []) × (base ≡ length blocks) × Holds mark.outside.temps saved.temps × AreNested m bound mark.outside.blocks saved.base blocks ws marks
+AreNested m bound numbers base blocks (w ∷ ws) marks = AreNested m bound numbers base blocks ws marks
 
--- what an evaluator knows: the temporaries of the function that it is in, the locals of the blocks around, the innermost first, and the globals
+-- What an evaluator knows: the temporaries of the function that it is in, and how many blocks there are outside of that; the blocks of all functions that are
+-- active, the innermost first; how many blocks were entered so far; and the globals.
 pub record Known : Type 0 where
   pub temps : List Value
-  pub blocks : List (List Object)
+  pub base : ℕ
+  pub blocks : List Activation
+  pub entered : ℕ
   pub globals : List Object
+
+-- a block that isn't among these is over, or was not entered as yet
+abbrev pub AreAllLive : Memory → List Activation → Type 0
+AreAllLive m blocks = (k : ℕ) → position_of blocks k ≡ None → is_live (m.standing (memory.Frame k)) ≡ false
 
 -- a state of Core is as the evaluator knows it
 pub record Agrees (known : Known) (ws : List Wait) (marks : List Mark) (c : Config) : Type 0 where
   pub temps : Holds c.temps known.temps
   pub fresh : IsFresh c.memory
   pub globals : Shows c.memory (Born 0) known.globals
-  pub nested : AreNested c.memory c.memory.activations c.blocks known.blocks ws marks
+  pub nested : AreNested c.memory c.memory.activations c.blocks known.base known.blocks ws marks
+  pub entered : known.entered ≡ c.memory.activations
+  pub live : AreAllLive c.memory known.blocks
 
 -- calls and returns that were said, and then a step
 abbrev pub saying : List Event → Step → Step
@@ -81,9 +94,15 @@ StandsStill next ws known next' ws' known' = (main : ℕ) (s : Step) → Stands 
 abbrev pub Gives : ℕ → Content → List Value → List Value → Type 0
 Gives t v temps temps' = (k : ℕ) → temp_of temps' k ≡ set_temp t v (temp_of temps) k
 
--- what an activation and the globals are known as
-abbrev pub known_of : Frame → List Object → Known
-known_of frame globals = record { temps = frame.temps.items; blocks = map (λ objects. objects.items) frame.blocks.items; globals = globals }
+-- what an activation and what is stored are known as
+abbrev pub known_of : Frame → code.Memory → Known
+known_of frame m = record {
+  temps = frame.temps.items;
+  base = frame.base;
+  blocks = map activation_of m.blocks.items;
+  entered = m.entered;
+  globals = m.globals.items;
+}
 
 -- A call whose unit is paid: each state that is known so goes on thus.
 abbrev pub IsCall : List Function → List ℕ → ℕ → List Content → List Wait → Known → Next → List Wait → Known → Type 0
@@ -95,8 +114,13 @@ IsCall functions results f arguments ws known next ws' known' =
 
 -- what a global begins as
 abbrev pub first_object : Datum → Object
-first_object d = record { width = datum_width d; value = value.Word (datum_word d) }
+first_object d = record { width = cell_width (datum_cell d); value = first_value d }
+  where
+    first_value : Datum → Value
+    first_value (datum.Byte b) = value.Word b
+    first_value (datum.Word w) = value.Word w
+    first_value datum.Null = value.Null
 
 -- what is known at first
 abbrev pub first_known : List Datum → Known
-first_known ds = record { temps = []; blocks = []; globals = map first_object ds }
+first_known ds = record { temps = []; base = 0; blocks = []; entered = 0; globals = map first_object ds }

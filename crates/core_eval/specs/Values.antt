@@ -1,11 +1,12 @@
 -- The values and objects that an evaluator has, as those of Core's memory.
-use Rattle.std.specs.Prelude.{◌≡◌, ℕ, ◌%◌, Bool, true, false, Option, Some, None, List, map, slice_get, slice_set, nat_eq, not, if◌then◌else◌}
+use Rattle.std.specs.Prelude.{◌≡◌, ℕ, ◌%◌, ◌&&◌, Bool, true, false, Option, Some, None, List, map, slice_get, slice_set, nat_eq, not, if◌then◌else◌}
 use Rattle.core_meaning.specs.Memory as memory
 use Rattle.core_meaning.specs.Memory.{Region, Frame, Born, Live, Spot, Content, Pointer, Part, Memory}
 use Rattle.core_meaning.specs.Meaning.{passed_in, values_of}
+use Rattle.cyc_core.specs.declared.operation.Cell.{Cell}
 use Rattle.cyc_core.specs.declared.operation.Width.{Width}
 use Rattle.cyc_core.specs.declared.operation.Width.TheVariants as width
-use Rattle.cyc_core.specs.Trees.{bytes_of}
+use Rattle.cyc_core.specs.Trees.{bytes_of, cell_width}
 use Rattle.core_eval.specs.declared.value.Value.{Value}
 use Rattle.core_eval.specs.declared.value.Value.TheVariants as value
 use Rattle.core_eval.specs.declared.value.Object.{Object}
@@ -14,11 +15,13 @@ use Rattle.core_eval.specs.declared.value.Object.{Object}
 abbrev pub spot_of : Region → ℕ → Spot
 spot_of r object = record { region = r; object = object; cell = 0 }
 
--- only globals are pointed to
+-- locals and globals are pointed to, each at its one part
 abbrev pub content_of : Value → Content
 content_of value.Blank = memory.Blank
 content_of (value.Word n) = memory.Word n
+content_of value.Null = memory.Null
 content_of (value.Global object) = Pointer (spot_of (Born 0) object) 0
+content_of (value.Local activation object) = Pointer (spot_of (Frame activation) object) 0
 
 -- what a temporary holds: those that got nothing as yet are blank
 abbrev pub temp_of : List Value → ℕ → Content
@@ -47,8 +50,7 @@ pub record Shows (m : Memory) (r : Region) (objects : List Object) : Type 0 wher
 -- what an object of a width can hold: a byte has the low bits of a word, and nothing else
 abbrev pub low_byte : Value → Value
 low_byte (value.Word n) = value.Word (n % 256)
-low_byte value.Blank = value.Blank
-low_byte (value.Global object) = value.Blank
+low_byte _ = value.Blank
 
 abbrev pub fitted : Width → Value → Value
 fitted width.Byte v = low_byte v
@@ -59,9 +61,6 @@ abbrev pub value_of : Width → Option Object → Option Value
 value_of w None = None
 value_of w (Some o) = (if same_width o.width w then Some o.value else None)
 
-abbrev pub value_in : List Object → ℕ → Width → Option Value
-value_in objects i w = value_of w (slice_get objects i)
-
 -- the objects after a store to one of them, where there is one, and so wide
 abbrev pub put_at : List Object → ℕ → Width → Value → Option Object → Option (List Object)
 put_at objects i w v None = None
@@ -70,39 +69,32 @@ put_at objects i w v (Some o) = (if same_width o.width w then Some (slice_set ob
 abbrev pub put_in : List Object → ℕ → Width → Value → Option (List Object)
 put_in objects i w v = put_at objects i w v (slice_get objects i)
 
--- ---- the objects of blocks in blocks
-
-abbrev pub value_among : Option (List Object) → ℕ → Width → Option Value
-value_among None i w = None
-value_among (Some objects) i w = value_in objects i w
-
--- what the local of the block so many out holds
-abbrev pub local_in : List (List Object) → (out index : ℕ) → Width → Option Value
-local_in blocks out index w = value_among (slice_get blocks out) index w
-
-abbrev pub put_block : List (List Object) → ℕ → Option (List Object) → Option (List (List Object))
-put_block blocks out None = None
-put_block blocks out (Some objects) = Some (slice_set blocks out objects)
-
-abbrev pub put_among : List (List Object) → (out index : ℕ) → Width → Value → Option (List Object) → Option (List (List Object))
-put_among blocks out index w v None = None
-put_among blocks out index w v (Some objects) = put_block blocks out (put_in objects index w v)
-
--- the blocks' objects after a store to a local
-abbrev pub put_local : List (List Object) → (out index : ℕ) → Width → Value → Option (List (List Object))
-put_local blocks out index w v = put_among blocks out index w v (slice_get blocks out)
-
--- an object that holds nothing as yet
-abbrev pub blank_object : Width → Object
-blank_object w = record { width = w; value = value.Blank }
+-- a local that holds nothing as yet
+abbrev pub blank_object : Cell → Object
+blank_object c = record { width = cell_width c; value = value.Blank }
 
 -- ---- what a condition and a call read
 
--- whether a value is true: 0 is false, and a blank is neither
+-- whether a value is true: 0 and NULL are false, and a blank is neither
 abbrev pub truth_of : Value → Option Bool
 truth_of value.Blank = None
 truth_of (value.Word n) = Some (not (nat_eq n 0))
+truth_of value.Null = Some false
 truth_of (value.Global object) = Some true
+truth_of (value.Local activation object) = Some true
+
+-- whether a pointer is NULL; what is no pointer is neither
+abbrev pub null_of : Value → Option Bool
+null_of value.Null = Some true
+null_of (value.Global object) = Some false
+null_of (value.Local activation object) = Some false
+null_of _ = None
+
+-- whether two pointers lead to one place
+abbrev pub same_pointer : Value → Value → Bool
+same_pointer (value.Global g) (value.Global h) = nat_eq g h
+same_pointer (value.Local k i) (value.Local l j) = nat_eq k l && nat_eq i j
+same_pointer _ _ = false
 
 -- values that are what some temporaries hold
 abbrev pub AreRead : List Value → List ℕ → List Value → Type 0

@@ -1,7 +1,7 @@
 // What the operations on two words give.
 
 ghost use Rattle.std.specs.Prelude.{◌≡◌};
-ghost use Rattle.core_meaning.specs.Words.{two};
+ghost use Rattle.core_meaning.specs.Words.{truth, two};
 ghost use Rattle.cyc_core.specs.Trees.{binary_tree};
 
 use cyc_core::Binary;
@@ -34,5 +34,12 @@ pub fn apply(operation: Binary, x: u32, y: u32) -> u32
         Binary::LessUnsigned => ltu32(x, y),
         Binary::LessEqualUnsigned => !ltu32(y, x),
     };
+    truth(is_true)
+}
+
+/// The word of a truth: 1 or 0.
+pub fn truth(is_true: bool) -> u32
+    ensures { result ≡ truth is_true }
+{
     if is_true { 1 } else { 0 }
 }

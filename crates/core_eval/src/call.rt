@@ -1,15 +1,15 @@
 // How calls, and programs, begin.
 
-ghost use Rattle.std.specs.Prelude.{◌≡◌, [], ◌∷◌, IfOk, IfSome, IfNone, Some, None, slice_get, map, List};
+ghost use Rattle.std.specs.Prelude.{◌≡◌, [], ◌∷◌, IfOk, IfSome, IfNone, Some, None, slice_get, map};
 ghost use Rattle.cyc_core.specs.Trees.{function_tree, optional_tree, program_tree};
 ghost use Rattle.core_meaning.specs.Meaning.{start as start_of};
-ghost use Rattle.core_eval.specs.declared.value.Object.{Object as TheObject};
 ghost use Rattle.core_eval.specs.Values.{content_of};
 ghost use Rattle.core_eval.specs.Pendings.{next_of, waits_of};
 ghost use Rattle.core_eval.specs.Standing.{IsCall, Stands, first_known, first_object, known_of};
 
 use crate::enter::wait;
 use crate::frame::Frame;
+use crate::memory::Memory;
 use crate::pending::{Due, Now, Pending};
 use crate::value::{Object, Value};
 use cyc_core::{Datum, Function, Program, Temporary};
@@ -23,9 +23,10 @@ fn first_object(datum: Datum) -> Object
     let value = match datum {
         Datum::Byte(byte) => Value::Word(byte as u32),
         Datum::Word(word) => Value::Word(word),
+        Datum::Null => Value::Null,
     };
     Object {
-        width: datum.width(),
+        width: datum.cell().width(),
         value,
     }
 }
@@ -52,17 +53,16 @@ fn function_at<'p>(functions: &'p [Function], number: u32) -> Option<&'p Functio
 
 /// The move of a call whose unit is paid: the callee's statements are next, and the caller waits.
 pub fn enter_call<'p>(
-    alloc: Global,
     functions: &'p [Function],
     to: Option<Temporary>,
     function: u32,
     arguments: Vec<Value>,
     stack: &mut Vec<Pending<'p>>,
     frame: &mut Frame,
+    memory: &Memory,
 ) -> Result<Due<'p>, AllocError>
-    ensures { IfOk result (λ due. (globals : List TheObject) → IsCall (map function_tree functions.entry.now) (optional_tree to) function
-        (map content_of arguments.items)
-        (waits_of stack.old.items) (known_of frame.old globals) (next_of due) (waits_of stack.new.items) (known_of frame.new globals)) }
+    ensures { IfOk result (λ due. IsCall (map function_tree functions.entry.now) (optional_tree to) function (map content_of arguments.items)
+        (waits_of stack.old.items) (known_of frame.old memory.now) (next_of due) (waits_of stack.new.items) (known_of frame.new memory.now)) }
 {
     let Some(callee) = function_at(functions, function) else {
         return Ok(Due::Wrong);
@@ -72,7 +72,7 @@ pub fn enter_call<'p>(
     }
     let begun = Frame {
         temps: arguments,
-        blocks: Vec::new(alloc),
+        base: memory.blocks.len(),
     };
     let saved = mem::replace(frame, begun);
     wait(stack, Pending::Caller(to, function, saved))?;

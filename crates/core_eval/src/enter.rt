@@ -1,17 +1,19 @@
 // The first move of each statement.
 
-ghost use Rattle.std.specs.Prelude.{◌≡◌, ◌∷◌, IfOk, OnOk, map};
+ghost use Rattle.std.specs.Prelude.{◌≡◌, ◌∷◌, ◌+◌, IfOk, OnOk, map};
 ghost use Rattle.cyc_core.specs.Trees.{body_tree, statement_tree, temporary_tree};
 ghost use Rattle.core_eval.specs.Values.{AreRead, blank_object, truth_of};
+ghost use Rattle.core_eval.specs.Blocks.{activation_of};
 ghost use Rattle.core_eval.specs.Pendings.{Block, Execute, Follow, Go, Test, next_of, wait_of, waits_of};
 ghost use Rattle.core_eval.specs.Standing.{Known, known_of};
 ghost use Rattle.core_eval.specs.Costs.{IsMove};
 
 use crate::frame::Frame;
+use crate::memory::Memory;
 use crate::operation::operate;
 use crate::pending::{Due, Flow, Now, Pending};
 use crate::value::{Object, Value};
-use cyc_core::{Statement, Temporary, Width};
+use cyc_core::{Cell, Statement, Temporary};
 use std::alloc::{AllocError, Global};
 
 /// Puts what waits on top of the stack.
@@ -29,18 +31,19 @@ pub fn truth(value: Value) -> Option<bool>
     match value {
         Value::Blank => None,
         Value::Word(word) => Some(word != 0),
-        Value::Global(_) => Some(true),
+        Value::Null => Some(false),
+        Value::Global(_) | Value::Local(..) => Some(true),
     }
 }
 
-/// Objects of these widths, which hold nothing as yet.
-fn blank_objects(alloc: Global, widths: &[Width]) -> Result<Vec<Object>, AllocError>
-    ensures { IfOk result (λ objects. objects.items ≡ map blank_object widths.now) }
+/// These locals, which hold nothing as yet.
+fn blank_objects(alloc: Global, locals: &[Cell]) -> Result<Vec<Object>, AllocError>
+    ensures { IfOk result (λ objects. objects.items ≡ map blank_object locals.now) }
 {
     let mut objects = Vec::new(alloc);
-    'each: for width in widths {
+    'each: for local in locals {
         objects.push(Object {
-            width: *width,
+            width: local.width(),
             value: Value::Blank,
         })?;
     }
@@ -80,42 +83,43 @@ pub fn enter_loop<'p>(
 /// The first move of a block: its locals hold nothing, and its statements are next.
 fn enter_block<'p>(
     alloc: Global,
-    widths: &[Width],
+    locals: &[Cell],
     body: &'p [Statement],
     stack: &mut Vec<Pending<'p>>,
-    frame: &mut Frame,
+    memory: &mut Memory,
 ) -> Result<Due<'p>, AllocError>
     ensures next { IfOk result (λ due. next_of due ≡ Go (Follow (body_tree body.entry.now))) }
     ensures waits { OnOk result (waits_of stack.new.items ≡ Block ∷ waits_of stack.old.items) }
-    ensures temps { OnOk result (frame.new.temps ≡ frame.old.temps) }
-    ensures blocks { OnOk result (map (λ objects. objects.items) frame.new.blocks.items
-        ≡ map blank_object widths.now ∷ map (λ objects. objects.items) frame.old.blocks.items) }
+    ensures blocks { OnOk result (map activation_of memory.new.blocks.items
+        ≡ record { number = memory.old.entered; objects = map blank_object locals.now } ∷ map activation_of memory.old.blocks.items) }
+    ensures entered { OnOk result (memory.new.entered ≡ memory.old.entered + 1) }
+    ensures globals { OnOk result (memory.new.globals ≡ memory.old.globals) }
 {
-    let objects = blank_objects(alloc, widths)?;
-    frame.blocks.insert(0, objects)?;
+    let objects = blank_objects(alloc, locals)?;
+    memory.enter_block(objects)?;
     wait(stack, Pending::Block)?;
     Ok(Due::Go(Now::Follow(body)))
 }
 
-/// The first move of a statement. Fails only where no host memory is left.
+/// The first move of a statement. Fails only where no host memory is left, or 2^64 - 1 blocks were entered.
 pub fn enter_statement<'p>(
     alloc: Global,
     statement: &'p Statement,
     stack: &mut Vec<Pending<'p>>,
     frame: &mut Frame,
-    globals: &mut Vec<Object>,
+    memory: &mut Memory,
 ) -> Result<Due<'p>, AllocError>
-    ensures { IfOk result (λ due. IsMove (Execute (statement_tree statement.entry.now)) (waits_of stack.old.items) (known_of frame.old globals.old.items)
-        (next_of due) (waits_of stack.new.items) (known_of frame.new globals.new.items)) }
+    ensures { IfOk result (λ due. IsMove (Execute (statement_tree statement.entry.now)) (waits_of stack.old.items) (known_of frame.old memory.old)
+        (next_of due) (waits_of stack.new.items) (known_of frame.new memory.new)) }
 {
     match statement {
-        Statement::Do(operation) => operate(*operation, frame, globals),
+        Statement::Do(operation) => operate(*operation, frame, memory),
         Statement::If(test, these, those) => match truth(frame.temp(*test)) {
             Some(is_true) => Ok(Due::Go(Now::Follow(if is_true { these } else { those }))),
             None => Ok(Due::Wrong),
         },
         Statement::While(test, flag, body) => enter_loop(test, *flag, body, stack),
-        Statement::Block(widths, body) => enter_block(alloc, widths, body, stack, frame),
+        Statement::Block(locals, body) => enter_block(alloc, locals, body, stack, memory),
         Statement::Break => Ok(Due::Go(Now::Leave(Flow::Breaks))),
         Statement::Continue => Ok(Due::Go(Now::Leave(Flow::Continues))),
         Statement::Call(result, function, arguments) => {
@@ -126,6 +130,7 @@ pub fn enter_statement<'p>(
         Statement::Return(Some(from)) => {
             Ok(Due::Go(Now::Leave(Flow::Returns(Some(frame.temp(*from))))))
         }
+        Statement::Raise(kind) => Ok(Due::Raised(*kind)),
     }
 }
 

@@ -1,11 +1,11 @@
-// A function's activation: its temporaries, and the locals of the blocks that it is in.
+// A function's activation: its temporaries, and where its blocks begin.
 
-ghost use Rattle.std.specs.Prelude.{◌≡◌, ℕ, ◌∷◌, [], Some, None, false, if◌then◌else◌, map, drop, OnOk, IfOk};
+ghost use Rattle.std.specs.Prelude.{◌≡◌, ℕ, [], OnOk};
 ghost use Rattle.core_meaning.specs.Steps.{set_temp};
-ghost use Rattle.core_eval.specs.Values.{blank_object, content_of, local_in, put_local, temp_of};
+ghost use Rattle.core_eval.specs.Values.{content_of, temp_of};
 
-use crate::value::{Object, Value, put_in, value_in};
-use cyc_core::{Temporary, Variable, Width};
+use crate::value::Value;
+use cyc_core::Temporary;
 use std::alloc::{AllocError, Global};
 
 /// A function's activation.
@@ -13,19 +13,19 @@ use std::alloc::{AllocError, Global};
 pub struct Frame {
     /// What the temporaries hold. Those behind the last of them hold nothing.
     pub temps: Vec<Value>,
-    /// The locals of the blocks around, the innermost block first.
-    pub blocks: Vec<Vec<Object>>,
+    /// How many blocks there are outside of the function.
+    pub base: usize,
 }
 
 impl Frame {
-    /// Of a function that has got nothing, and is in no block.
+    /// Of a function that has got nothing, and outside of which there is no block.
     pub fn new(alloc: Global) -> Self
         ensures temps { result.temps.items ≡ [] }
-        ensures blocks { result.blocks.items ≡ [] }
+        ensures base { result.base ≡ 0 }
     {
         Frame {
             temps: Vec::new(alloc),
-            blocks: Vec::new(alloc),
+            base: 0,
         }
     }
 
@@ -43,7 +43,7 @@ impl Frame {
     /// Gives a temporary a value. Fails only where no host memory is left.
     pub fn set_temp(&mut self, temporary: Temporary, value: Value) -> Result<(), AllocError>
         ensures temps { OnOk result ((k : ℕ) → temp_of self.new.temps.items k ≡ set_temp temporary.0 (content_of value) (temp_of self.old.temps.items) k) }
-        ensures blocks { self.new.blocks ≡ self.old.blocks }
+        ensures base { self.new.base ≡ self.old.base }
     {
         let position = temporary.0 as usize;
         'grow: while self.temps.len() <= position {
@@ -51,40 +51,5 @@ impl Frame {
         }
         self.temps[position] = value;
         Ok(())
-    }
-
-    /// What a local holds, if there is one that is so wide.
-    pub fn local(&self, variable: Variable, width: Width) -> Option<Value>
-        ensures { result ≡ local_in (map (λ objects. objects.items) self.now.blocks.items) variable.out variable.index width }
-    {
-        match self.blocks.get(variable.out as usize) {
-            Some(objects) => value_in(objects, variable.index, width),
-            None => None,
-        }
-    }
-
-    /// Stores a value to a local, if there is one that is so wide, and answers whether there is.
-    #[tactic(auto, using(crate::proofs::Lists::put_some, crate::proofs::Lists::put_none, crate::proofs::Answered::set_same))]
-    pub fn set_local(&mut self, variable: Variable, width: Width, value: Value) -> bool
-        ensures blocks { put_local (map (λ objects. objects.items) self.old.blocks.items) variable.out variable.index width value
-            ≡ (if result then Some (map (λ objects. objects.items) self.new.blocks.items) else None) }
-        ensures kept { result ≡ false → self.new.blocks.items ≡ self.old.blocks.items }
-        ensures temps { self.new.temps ≡ self.old.temps }
-    {
-        match self.blocks.get_mut(variable.out as usize) {
-            Some(objects) => put_in(objects, variable.index, width, value),
-            None => false,
-        }
-    }
-
-    /// The innermost block is left, if there is one.
-    #[tactic(auto, using(crate::proofs::Lists::first_left))]
-    pub fn leave_block(&mut self)
-        ensures blocks { map (λ objects. objects.items) self.new.blocks.items ≡ drop 1 (map (λ objects. objects.items) self.old.blocks.items) }
-        ensures temps { self.new.temps ≡ self.old.temps }
-    {
-        if !self.blocks.is_empty() {
-            self.blocks.remove(0);
-        }
     }
 }

@@ -11,6 +11,7 @@ mod call;
 mod ending;
 mod enter;
 mod frame;
+mod memory;
 mod operation;
 mod pending;
 mod running;

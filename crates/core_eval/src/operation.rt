@@ -1,19 +1,21 @@
 // What each operation does to what is known.
 
-ghost use Rattle.std.specs.Prelude.{◌≡◌, List, IfOk, OnOk};
+ghost use Rattle.std.specs.Prelude.{◌≡◌, ℕ, List, IfOk, OnOk};
 ghost use Rattle.core_meaning.specs.Core as core;
 ghost use Rattle.core_meaning.specs.Steps.{Falls};
 ghost use Rattle.cyc_core.specs.Trees.{at_once, binary_tree, bytes_of, operation_tree};
-ghost use Rattle.core_eval.specs.declared.value.Object.{Object as TheObject};
-ghost use Rattle.core_eval.specs.Values.{content_of};
+ghost use Rattle.core_eval.specs.declared.memory.Memory.{Memory as TheMemory};
+ghost use Rattle.core_eval.specs.declared.value.Value.TheVariants as form;
+ghost use Rattle.core_eval.specs.Values.{content_of, temp_of};
 ghost use Rattle.core_eval.specs.Pendings.{Execute, Go, Leave, Wait, next_of};
 ghost use Rattle.core_eval.specs.Standing.{Gives, known_of};
 ghost use Rattle.core_eval.specs.Costs.{IsMove};
 
-use crate::arithmetic::apply;
+use crate::arithmetic::{apply, truth};
 use crate::frame::Frame;
+use crate::memory::Memory;
 use crate::pending::{Due, Flow, Now};
-use crate::value::{Object, Value, put_in, value_in};
+use crate::value::{Value, is_null, put_in, value_of};
 use cyc_core::{Binary, Operation, Temporary, Variable, Width};
 use std::alloc::AllocError;
 
@@ -21,7 +23,7 @@ use std::alloc::AllocError;
 pub fn give<'p>(frame: &mut Frame, to: Temporary, value: Value) -> Result<Due<'p>, AllocError>
     ensures next { IfOk result (λ due. next_of due ≡ Go (Leave Falls)) }
     ensures gives { OnOk result (Gives to.0 (content_of value) frame.old.temps.items frame.new.temps.items) }
-    ensures blocks { OnOk result (frame.new.blocks ≡ frame.old.blocks) }
+    ensures base { OnOk result (frame.new.base ≡ frame.old.base) }
 {
     frame.set_temp(to, value)?;
     Ok(Due::Go(Now::Leave(Flow::Falls)))
@@ -29,8 +31,8 @@ pub fn give<'p>(frame: &mut Frame, to: Temporary, value: Value) -> Result<Due<'p
 
 /// Gives a temporary the lowest byte of another one's word.
 fn narrow<'p>(frame: &mut Frame, to: Temporary, from: Temporary) -> Result<Due<'p>, AllocError>
-    ensures { IfOk result (λ due. (ws : List Wait) (globals : List TheObject) →
-        IsMove (Execute (core.Do (core.Narrow to.0 from.0))) ws (known_of frame.old globals) (next_of due) ws (known_of frame.new globals)) }
+    ensures { IfOk result (λ due. (ws : List Wait) (memory : TheMemory) →
+        IsMove (Execute (core.Do (core.Narrow to.0 from.0))) ws (known_of frame.old memory) (next_of due) ws (known_of frame.new memory)) }
 {
     match frame.temp(from) {
         Value::Word(word) => give(frame, to, Value::Word(word % 256)),
@@ -46,9 +48,9 @@ fn compute<'p>(
     left: Temporary,
     right: Temporary,
 ) -> Result<Due<'p>, AllocError>
-    ensures { IfOk result (λ due. (ws : List Wait) (globals : List TheObject) →
-        IsMove (Execute (core.Do (core.Apply (binary_tree operation) to.0 left.0 right.0))) ws (known_of frame.old globals) (next_of due) ws
-        (known_of frame.new globals)) }
+    ensures { IfOk result (λ due. (ws : List Wait) (memory : TheMemory) →
+        IsMove (Execute (core.Do (core.Apply (binary_tree operation) to.0 left.0 right.0))) ws (known_of frame.old memory) (next_of due) ws
+        (known_of frame.new memory)) }
 {
     let Value::Word(x) = frame.temp(left) else {
         return Ok(Due::Wrong);
@@ -59,84 +61,177 @@ fn compute<'p>(
     give(frame, to, Value::Word(apply(operation, x, y)))
 }
 
+/// Gives a temporary a pointer to a local.
+fn address<'p>(
+    frame: &mut Frame,
+    memory: &Memory,
+    to: Temporary,
+    of: Variable,
+) -> Result<Due<'p>, AllocError>
+    ensures { IfOk result (λ due. (ws : List Wait) →
+        IsMove (Execute (core.Do (core.LocalAddress to.0 of.out of.index))) ws (known_of frame.old memory.now) (next_of due) ws
+        (known_of frame.new memory.now)) }
+{
+    match memory.address(frame.base, of) {
+        Some(place) => give(frame, to, place),
+        None => Ok(Due::Wrong),
+    }
+}
+
 /// Gives a temporary what a local holds.
 fn get<'p>(
     frame: &mut Frame,
+    memory: &Memory,
     to: Temporary,
     from: Variable,
     width: Width,
 ) -> Result<Due<'p>, AllocError>
-    ensures { IfOk result (λ due. (ws : List Wait) (globals : List TheObject) →
-        IsMove (Execute (core.Do (core.Get to.0 from.out from.index (bytes_of width)))) ws (known_of frame.old globals) (next_of due) ws
-        (known_of frame.new globals)) }
+    ensures { IfOk result (λ due. (ws : List Wait) →
+        IsMove (Execute (core.Do (core.Get to.0 from.out from.index (bytes_of width)))) ws (known_of frame.old memory.now) (next_of due) ws
+        (known_of frame.new memory.now)) }
 {
-    match frame.local(from, width) {
+    match memory.local(frame.base, from, width) {
         Some(value) => give(frame, to, value),
         None => Ok(Due::Wrong),
     }
 }
 
 /// Stores what a temporary holds to a local.
-fn put<'p>(frame: &mut Frame, to: Variable, width: Width, from: Temporary) -> Due<'p>
-    ensures { (ws : List Wait) (globals : List TheObject) →
-        IsMove (Execute (core.Do (core.Put to.out to.index (bytes_of width) from.0))) ws (known_of frame.old globals) (next_of result) ws
-        (known_of frame.new globals) }
+fn put<'p>(
+    frame: &Frame,
+    memory: &mut Memory,
+    to: Variable,
+    width: Width,
+    from: Temporary,
+) -> Due<'p>
+    ensures { (ws : List Wait) →
+        IsMove (Execute (core.Do (core.Put to.out to.index (bytes_of width) from.0))) ws (known_of frame.now memory.old) (next_of result) ws
+        (known_of frame.now memory.new) }
 {
     let value = frame.temp(from);
-    if frame.set_local(to, width, value) {
+    if memory.set_local(frame.base, to, width, value) {
         Due::Go(Now::Leave(Flow::Falls))
     } else {
         Due::Wrong
     }
 }
 
-/// Gives a temporary what a global holds to which another one points.
+/// Gives a temporary what lies where another one points.
 fn load<'p>(
     frame: &mut Frame,
-    globals: &[Object],
+    memory: &Memory,
     to: Temporary,
     place: Temporary,
     width: Width,
 ) -> Result<Due<'p>, AllocError>
     ensures { IfOk result (λ due. (ws : List Wait) →
-        IsMove (Execute (core.Do (core.Load to.0 place.0 (at_once width)))) ws (known_of frame.old globals.now) (next_of due) ws
-        (known_of frame.new globals.now)) }
+        IsMove (Execute (core.Do (core.Load to.0 place.0 (at_once width)))) ws (known_of frame.old memory.now) (next_of due) ws
+        (known_of frame.new memory.now)) }
 {
-    let Value::Global(object) = frame.temp(place) else {
-        return Ok(Due::Wrong);
-    };
-    match value_in(globals, object, width) {
+    let pointer = frame.temp(place);
+    match value_of(memory.object_to(pointer), width) {
         Some(value) => give(frame, to, value),
         None => Ok(Due::Wrong),
     }
 }
 
-/// Stores what a temporary holds to the global to which another one points.
-fn store<'p>(
+/// Stores a value to a global, for all temporaries that hold a pointer to it and that value.
+fn store_global<'p>(
     frame: &Frame,
-    globals: &mut Vec<Object>,
-    place: Temporary,
+    memory: &mut Memory,
+    object: u32,
     width: Width,
-    from: Temporary,
+    value: Value,
 ) -> Due<'p>
-    ensures { (ws : List Wait) →
-        IsMove (Execute (core.Do (core.Store place.0 (at_once width) from.0))) ws (known_of frame.now globals.old.items) (next_of result) ws
-        (known_of frame.now globals.new.items) }
+    ensures { (ws : List Wait) (p x : ℕ) → content_of (form.Global object) ≡ temp_of frame.now.temps.items p
+        → content_of value ≡ temp_of frame.now.temps.items x
+        → IsMove (Execute (core.Do (core.Store p (at_once width) x))) ws (known_of frame.now memory.old) (next_of result) ws
+        (known_of frame.now memory.new) }
 {
-    let Value::Global(object) = frame.temp(place) else {
-        return Due::Wrong;
-    };
-    if put_in(globals, object, width, frame.temp(from)) {
+    if put_in(&mut memory.globals, object, width, value) {
         Due::Go(Now::Leave(Flow::Falls))
     } else {
         Due::Wrong
     }
 }
 
+/// Stores a value to a local of a block, for all temporaries that hold a pointer to it and that value.
+fn store_local<'p>(
+    frame: &Frame,
+    memory: &mut Memory,
+    block: u64,
+    index: u32,
+    width: Width,
+    value: Value,
+) -> Due<'p>
+    ensures { (ws : List Wait) (p x : ℕ) → content_of (form.Local block index) ≡ temp_of frame.now.temps.items p
+        → content_of value ≡ temp_of frame.now.temps.items x
+        → IsMove (Execute (core.Do (core.Store p (at_once width) x))) ws (known_of frame.now memory.old) (next_of result) ws
+        (known_of frame.now memory.new) }
+{
+    if memory.set_in_block(block, index, width, value) {
+        Due::Go(Now::Leave(Flow::Falls))
+    } else {
+        Due::Wrong
+    }
+}
+
+/// Stores what a temporary holds to where another one points.
+fn store<'p>(
+    frame: &Frame,
+    memory: &mut Memory,
+    place: Temporary,
+    width: Width,
+    from: Temporary,
+) -> Due<'p>
+    ensures { (ws : List Wait) →
+        IsMove (Execute (core.Do (core.Store place.0 (at_once width) from.0))) ws (known_of frame.now memory.old) (next_of result) ws
+        (known_of frame.now memory.new) }
+{
+    let value = frame.temp(from);
+    match frame.temp(place) {
+        Value::Global(object) => store_global(frame, memory, object, width, value),
+        Value::Local(block, index) => store_local(frame, memory, block, index, width, value),
+        Value::Blank => Due::Wrong,
+        Value::Word(_) => Due::Wrong,
+        Value::Null => Due::Wrong,
+    }
+}
+
+/// Gives a temporary whether another one holds NULL.
+fn test_null<'p>(frame: &mut Frame, to: Temporary, from: Temporary) -> Result<Due<'p>, AllocError>
+    ensures { IfOk result (λ due. (ws : List Wait) (memory : TheMemory) →
+        IsMove (Execute (core.Do (core.IsNull to.0 from.0))) ws (known_of frame.old memory) (next_of due) ws (known_of frame.new memory)) }
+{
+    match is_null(frame.temp(from)) {
+        Some(is_null) => give(frame, to, Value::Word(truth(is_null))),
+        None => Ok(Due::Wrong),
+    }
+}
+
+/// Gives a temporary whether two others hold the same pointer.
+fn test_same<'p>(
+    frame: &mut Frame,
+    memory: &Memory,
+    to: Temporary,
+    left: Temporary,
+    right: Temporary,
+) -> Result<Due<'p>, AllocError>
+    ensures { IfOk result (λ due. (ws : List Wait) →
+        IsMove (Execute (core.Do (core.SamePlace to.0 left.0 right.0))) ws (known_of frame.old memory.now) (next_of due) ws
+        (known_of frame.new memory.now)) }
+{
+    let (first, second) = (frame.temp(left), frame.temp(right));
+    match memory.same_place(first, second) {
+        Some(is_same) => give(frame, to, Value::Word(truth(is_same))),
+        None => Ok(Due::Wrong),
+    }
+}
+
 /// A unit is due for a byte that is written: the lowest one of a temporary's word.
 fn putchar<'p>(frame: &Frame, to: Temporary, from: Temporary) -> Due<'p>
-    ensures { (ws : List Wait) (globals : List TheObject) →
-        IsMove (Execute (core.Do (core.Putchar to.0 from.0))) ws (known_of frame.now globals) (next_of result) ws (known_of frame.now globals) }
+    ensures { (ws : List Wait) (memory : TheMemory) →
+        IsMove (Execute (core.Do (core.Putchar to.0 from.0))) ws (known_of frame.now memory) (next_of result) ws (known_of frame.now memory) }
 {
     match frame.temp(from) {
         Value::Word(word) => Due::Putchar(to, (word % 256) as u8),
@@ -148,25 +243,29 @@ fn putchar<'p>(frame: &Frame, to: Temporary, from: Temporary) -> Due<'p>
 pub fn operate<'p>(
     operation: Operation,
     frame: &mut Frame,
-    globals: &mut Vec<Object>,
+    memory: &mut Memory,
 ) -> Result<Due<'p>, AllocError>
     ensures { IfOk result (λ due. (ws : List Wait) →
-        IsMove (Execute (core.Do (operation_tree operation))) ws (known_of frame.old globals.old.items) (next_of due) ws
-        (known_of frame.new globals.new.items)) }
+        IsMove (Execute (core.Do (operation_tree operation))) ws (known_of frame.old memory.old) (next_of due) ws
+        (known_of frame.new memory.new)) }
 {
     match operation {
         Operation::Constant(to, word) => give(frame, to, Value::Word(word)),
+        Operation::NullPointer(to) => give(frame, to, Value::Null),
         Operation::Move(to, from) => {
             let value = frame.temp(from);
             give(frame, to, value)
         }
         Operation::Narrow(to, from) => narrow(frame, to, from),
         Operation::Apply(operation, to, left, right) => compute(frame, operation, to, left, right),
+        Operation::LocalAddress(to, of) => address(frame, memory, to, of),
         Operation::DataAddress(to, object) => give(frame, to, Value::Global(object)),
-        Operation::Get(to, from, width) => get(frame, to, from, width),
-        Operation::Put(to, width, from) => Ok(put(frame, to, width, from)),
-        Operation::Load(to, place, width) => load(frame, globals, to, place, width),
-        Operation::Store(place, width, from) => Ok(store(frame, globals, place, width, from)),
+        Operation::Get(to, from, width) => get(frame, memory, to, from, width),
+        Operation::Put(to, width, from) => Ok(put(frame, memory, to, width, from)),
+        Operation::Load(to, place, width) => load(frame, memory, to, place, width),
+        Operation::Store(place, width, from) => Ok(store(frame, memory, place, width, from)),
+        Operation::IsNull(to, from) => test_null(frame, to, from),
+        Operation::SamePlace(to, left, right) => test_same(frame, memory, to, left, right),
         Operation::Getchar(to) => Ok(Due::Getchar(to)),
         Operation::Putchar(to, from) => Ok(putchar(frame, to, from)),
     }

@@ -3,6 +3,7 @@
 use crate::frame::Frame;
 use crate::value::Value;
 use cyc_core::{Statement, Temporary};
+use cyc_words::Kind;
 
 /// How a statement is left.
 #[derive(Clone, Copy, Drop)]
@@ -53,6 +54,8 @@ pub enum Due<'p> {
     Call(Option<Temporary>, u32, Vec<Value>),
     /// The end of the program, with its status.
     Over(u32),
+    /// The end of the program, with an exception.
+    Raised(Kind),
     /// What no rule gives a meaning.
     Wrong,
 }

@@ -16,10 +16,11 @@ use crate::call::{enter_call, first_objects, start};
 use crate::ending::EvalEnding;
 use crate::enter::{enter_statement, enter_statements, wait};
 use crate::frame::Frame;
+use crate::memory::Memory;
 use crate::operation::give;
 use crate::pending::{Due, Now, Pending};
 use crate::take::take_flow;
-use crate::value::{Object, Value};
+use crate::value::Value;
 use cyc_core::{Function, Program, Statement, Temporary};
 use cyc_host::{Gathered, read};
 use cyc_words::{Input, Output};
@@ -31,15 +32,15 @@ fn step<'p>(
     now: Now<'p>,
     stack: &mut Vec<Pending<'p>>,
     frame: &mut Frame,
-    globals: &mut Vec<Object>,
+    memory: &mut Memory,
 ) -> Result<Due<'p>, AllocError>
-    ensures { IfOk result (λ due. IsMove (task_of now.entry) (waits_of stack.old.items) (known_of frame.old globals.old.items)
-        (next_of due) (waits_of stack.new.items) (known_of frame.new globals.new.items)) }
+    ensures { IfOk result (λ due. IsMove (task_of now.entry) (waits_of stack.old.items) (known_of frame.old memory.old)
+        (next_of due) (waits_of stack.new.items) (known_of frame.new memory.new)) }
 {
     match now {
         Now::Follow(statements) => enter_statements(statements, stack),
-        Now::Execute(statement) => enter_statement(alloc, statement, stack, frame, globals),
-        Now::Leave(flow) => take_flow(flow, stack, frame),
+        Now::Execute(statement) => enter_statement(alloc, statement, stack, frame, memory),
+        Now::Leave(flow) => take_flow(flow, stack, frame, memory),
     }
 }
 
@@ -49,16 +50,16 @@ fn advance<'p>(
     start: Due<'p>,
     stack: &mut Vec<Pending<'p>>,
     frame: &mut Frame,
-    globals: &mut Vec<Object>,
+    memory: &mut Memory,
 ) -> Result<Due<'p>, AllocError>
-    ensures still { IfOk result (λ due. StandsStill (next_of start.entry) (waits_of stack.old.items) (known_of frame.old globals.old.items)
-        (next_of due) (waits_of stack.new.items) (known_of frame.new globals.new.items)) }
+    ensures still { IfOk result (λ due. StandsStill (next_of start.entry) (waits_of stack.old.items) (known_of frame.old memory.old)
+        (next_of due) (waits_of stack.new.items) (known_of frame.new memory.new)) }
     ensures rests { IfOk result (λ due. IsAtRest (next_of due)) }
 {
     let mut due = start;
     'moves: loop {
         match due {
-            Due::Go(now) => due = step(alloc, now, stack, frame, globals)?,
+            Due::Go(now) => due = step(alloc, now, stack, frame, memory)?,
             rest => return Ok(rest),
         }
     }
@@ -72,6 +73,7 @@ fn ending_of(due: &Due<'_>, left: u64) -> Option<EvalEnding>
 {
     match due {
         Due::Over(status) => Some(EvalEnding::Ended(status.cast_signed())),
+        Due::Raised(kind) => Some(EvalEnding::Raised(*kind)),
         Due::Wrong => Some(EvalEnding::Stuck),
         Due::Go(_) => unreachable!(),
         Due::Getchar(_) | Due::Putchar(..) | Due::Turn(..) | Due::Call(..) => {
@@ -149,7 +151,7 @@ fn finish<W: Output>(gathered: &mut Gathered, writer: &mut W, ending: EvalEnding
 ///
 /// Ends as the definition does: with the program's status, with `Running` where a unit is due and none is left, or
 /// `Stuck`. `WriteFault` comes in place of any other ending, where a write failed or took no byte; `ReadFault` where a
-/// read failed; `HostMemory` where the host has no memory for what is still to be done. After a failed call neither
+/// read failed; `HostMemory` where the host has no memory for what is still to be done, or 2^64 - 1 blocks were entered. After a failed call neither
 /// device is called again. Output is written when 4,096 bytes are gathered, before each read and at each ending. Each
 /// byte that is taken from the reader was asked for.
 pub fn evaluate_core<R: Input, W: Output>(
@@ -173,12 +175,13 @@ pub fn evaluate_core<R: Input, W: Output>(
     let mut stack = Vec::new(alloc);
     let mut frame = Frame::new(alloc);
     let mut due = start(program);
-    let Ok(mut globals) = first_objects(alloc, &program.globals) else {
+    let Ok(globals) = first_objects(alloc, &program.globals) else {
         return EvalEnding::HostMemory;
     };
+    let mut memory = Memory::new(alloc, globals);
     let mut left = fuel;
     'units: loop {
-        let Ok(rest) = advance(alloc, due, &mut stack, &mut frame, &mut globals) else {
+        let Ok(rest) = advance(alloc, due, &mut stack, &mut frame, &mut memory) else {
             return finish(&mut gathered, writer, EvalEnding::HostMemory);
         };
         if let Some(ending) = ending_of(&rest, left) {
@@ -200,10 +203,10 @@ pub fn evaluate_core<R: Input, W: Output>(
             Due::Call(to, function, arguments) => {
                 let functions: &[Function] = &program.functions;
                 enter_call(
-                    alloc, functions, to, function, arguments, &mut stack, &mut frame,
+                    functions, to, function, arguments, &mut stack, &mut frame, &memory,
                 )
             }
-            Due::Go(_) | Due::Over(_) | Due::Wrong => unreachable!(),
+            Due::Go(_) | Due::Over(_) | Due::Raised(_) | Due::Wrong => unreachable!(),
         };
         let Ok(next) = paid else {
             return finish(&mut gathered, writer, EvalEnding::HostMemory);

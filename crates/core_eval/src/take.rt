@@ -2,13 +2,15 @@
 
 ghost use Rattle.std.specs.Prelude.{◌≡◌, ◌∷◌, [], ℕ, List, IfOk, IfSome, IfNone, map, drop};
 ghost use Rattle.cyc_core.specs.Trees.{body_tree, optional_tree};
-ghost use Rattle.core_eval.specs.declared.value.Object.{Object as TheObject};
+ghost use Rattle.core_eval.specs.declared.frame.Frame.{Frame as TheFrame};
+ghost use Rattle.core_eval.specs.declared.memory.Memory.{Memory as TheMemory};
 ghost use Rattle.core_eval.specs.Pendings.{Block, Body, Caller, Leave, Test, Wait, exit_of, next_of, saved_of, wait_of, waits_of};
 ghost use Rattle.core_eval.specs.Standing.{Known, known_of};
 ghost use Rattle.core_eval.specs.Costs.{IsMove};
 
 use crate::enter::{enter_loop, truth};
 use crate::frame::Frame;
+use crate::memory::Memory;
 use crate::pending::{Due, Flow, Now, Pending};
 use crate::value::Value;
 use cyc_core::{Statement, Temporary};
@@ -31,9 +33,9 @@ fn take_test<'p>(
     body: &'p [Statement],
     frame: &Frame,
 ) -> Due<'p>
-    ensures { (ws : List Wait) (globals : List TheObject)
+    ensures { (ws : List Wait) (memory : TheMemory)
         → IsMove (Leave (exit_of flow)) (Test (body_tree test.entry.now) flag.0 (body_tree body.entry.now) ∷ ws)
-        (known_of frame.now globals) (next_of result) ws (known_of frame.now globals) }
+        (known_of frame.now memory) (next_of result) ws (known_of frame.now memory) }
 {
     let Flow::Falls = flow else {
         return Due::Go(Now::Leave(flow));
@@ -65,11 +67,11 @@ fn take_body<'p>(
 }
 
 /// A block that is left: its locals end with it.
-fn take_block<'p>(flow: Flow, frame: &mut Frame) -> Due<'p>
-    ensures { (ws : List Wait) (globals : List TheObject) → IsMove (Leave (exit_of flow)) (Block ∷ ws) (known_of frame.old globals) (next_of result) ws
-        (known_of frame.new globals) }
+fn take_block<'p>(flow: Flow, memory: &mut Memory) -> Due<'p>
+    ensures { (ws : List Wait) (frame : TheFrame) → IsMove (Leave (exit_of flow)) (Block ∷ ws) (known_of frame memory.old) (next_of result) ws
+        (known_of frame memory.new) }
 {
-    frame.leave_block();
+    memory.leave_block();
     Due::Go(Now::Leave(flow))
 }
 
@@ -80,8 +82,8 @@ fn take_caller<'p>(
     saved: Frame,
     frame: &mut Frame,
 ) -> Result<Due<'p>, AllocError>
-    ensures { IfOk result (λ due. (f : ℕ) (ws : List Wait) (globals : List TheObject) → IsMove (Leave (exit_of flow))
-        (Caller (optional_tree to) f (saved_of saved) ∷ ws) (known_of frame.old globals) (next_of due) ws (known_of frame.new globals)) }
+    ensures { IfOk result (λ due. (f : ℕ) (ws : List Wait) (memory : TheMemory) → IsMove (Leave (exit_of flow))
+        (Caller (optional_tree to) f (saved_of saved) ∷ ws) (known_of frame.old memory) (next_of due) ws (known_of frame.new memory)) }
 {
     *frame = saved;
     match flow {
@@ -110,7 +112,9 @@ fn status<'p>(flow: Flow) -> Due<'p>
         Flow::Returns(Some(value)) => match value {
             Value::Word(word) => Due::Over(word),
             Value::Blank => Due::Wrong,
+            Value::Null => Due::Wrong,
             Value::Global(_) => Due::Wrong,
+            Value::Local(..) => Due::Wrong,
         },
         Flow::Returns(None) => Due::Wrong,
         Flow::Falls => Due::Wrong,
@@ -124,9 +128,10 @@ pub fn take_flow<'p>(
     flow: Flow,
     stack: &mut Vec<Pending<'p>>,
     frame: &mut Frame,
+    memory: &mut Memory,
 ) -> Result<Due<'p>, AllocError>
-    ensures { IfOk result (λ due. (globals : List TheObject) → IsMove (Leave (exit_of flow)) (waits_of stack.old.items) (known_of frame.old globals)
-        (next_of due) (waits_of stack.new.items) (known_of frame.new globals)) }
+    ensures { IfOk result (λ due. IsMove (Leave (exit_of flow)) (waits_of stack.old.items) (known_of frame.old memory.old)
+        (next_of due) (waits_of stack.new.items) (known_of frame.new memory.new)) }
 {
     let Some(pending) = next(stack) else {
         return Ok(status(flow));
@@ -136,7 +141,7 @@ pub fn take_flow<'p>(
         (Pending::Then(_), _) => Ok(Due::Go(Now::Leave(flow))),
         (Pending::Test(test, flag, body), _) => Ok(take_test(flow, test, flag, body, frame)),
         (Pending::Body(test, flag, body), _) => take_body(flow, test, flag, body, stack),
-        (Pending::Block, _) => Ok(take_block(flow, frame)),
+        (Pending::Block, _) => Ok(take_block(flow, memory)),
         (Pending::Caller(result, _, saved), _) => take_caller(flow, result, saved, frame),
     }
 }

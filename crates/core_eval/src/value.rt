@@ -1,7 +1,7 @@
 // What temporaries and objects hold.
 
-ghost use Rattle.std.specs.Prelude.{◌≡◌, Some, None, false, if◌then◌else◌};
-ghost use Rattle.core_eval.specs.Values.{blank_object, fitted, put_in, same_width, value_in};
+ghost use Rattle.std.specs.Prelude.{◌≡◌, Some, None, false, if◌then◌else◌, slice_get};
+ghost use Rattle.core_eval.specs.Values.{fitted, null_of, put_in, same_pointer, same_width, value_of};
 
 use cyc_core::Width;
 use std::alloc::{AllocError, Global};
@@ -13,8 +13,12 @@ pub enum Value {
     Blank,
     /// A word.
     Word(u32),
+    /// No place.
+    Null,
     /// The place of the global with this number.
     Global(u32),
+    /// The place of a local: how many blocks were entered before its block, and its number in that.
+    Local(u64, u32),
 }
 
 /// A local or a global: an object of one part.
@@ -47,11 +51,21 @@ fn fitted(width: Width, value: Value) -> Value
     }
 }
 
-/// What the object with this number holds, if there is one that is so wide.
-pub fn value_in(objects: &[Object], index: u32, width: Width) -> Option<Value>
-    ensures { result ≡ value_in objects.now index width }
+/// The object with this number, if there is one.
+pub fn object_in(objects: &[Object], index: u32) -> Option<Object>
+    ensures { result ≡ slice_get objects.now index }
 {
     match objects.get(index as usize) {
+        Some(object) => Some(*object),
+        None => None,
+    }
+}
+
+/// What an object holds, if there is one, and so wide.
+pub fn value_of(object: Option<Object>, width: Width) -> Option<Value>
+    ensures { result ≡ value_of width object }
+{
+    match object {
         Some(object) if is_same(object.width, width) => Some(object.value),
         _ => None,
     }
@@ -72,4 +86,26 @@ pub fn put_in(objects: &mut Vec<Object>, index: u32, width: Width, value: Value)
         value: fitted(width, value),
     };
     true
+}
+
+/// Whether a value is NULL, if it is a pointer.
+pub fn is_null(value: Value) -> Option<bool>
+    ensures { result ≡ null_of value }
+{
+    match value {
+        Value::Blank | Value::Word(_) => None,
+        Value::Null => Some(true),
+        Value::Global(_) | Value::Local(..) => Some(false),
+    }
+}
+
+/// Whether two pointers lead to one place.
+pub fn is_same_pointer(first: Value, second: Value) -> bool
+    ensures { result ≡ same_pointer first second }
+{
+    match (first, second) {
+        (Value::Global(object), Value::Global(other)) => object == other,
+        (Value::Local(block, index), Value::Local(other, at)) => block == other && index == at,
+        _ => false,
+    }
 }

@@ -1,6 +1,8 @@
-use Rattle.std.proofs.Common.{◌≡◌, ◌≢◌, ◌∷◌, length, map, ap, ◌∙◌, rules}
+use Rattle.std.proofs.Common.{◌≡◌, ◌≢◌, ◌∷◌, length, map, ap, ◌∙◌, sym, rules}
+use Rattle.std.proofs.lemmas.List.{length-map}
 use Rattle.cyc_core.specs.Trees.{function_tree, optional_tree, body_tree}
 use Rattle.core_eval.specs.Values.{content_of}
+use Rattle.core_eval.specs.Blocks.{activation_of}
 use Rattle.core_eval.specs.Pendings.{Go, Follow, Caller, saved_of, waits_of}
 use Rattle.core_eval.specs.Standing.{known_of}
 use Rattle.core_eval.proofs.Calls.{call_enters, call_missing, call_unfit, call_as}
@@ -8,14 +10,16 @@ use Rattle.core_eval.proofs.call.enter_call.Goals as goal
 
 pub returns-in_default : goal.returns-in_default
 returns-in_default c =
-    λ globals. call_missing c.args.functions.now (optional_tree c.args.to) c.args.function c.args.arguments.items (known_of c.args.frame.now globals)
+    let m = c.args.memory.now in
+    call_missing c.args.functions.now (optional_tree c.args.to) c.args.function c.args.arguments.items (known_of c.args.frame.now m)
     (waits_of c.args.stack.now.items)
     c.in_default.ensures.none
 
 pub returns-then-callee-len : goal.returns-then-callee-len
 returns-then-callee-len c =
+    let m = c.args.memory.now in
     let unfit : c.in-Some.callee.now.parameters ≢ length c.args.arguments.items = search rules in
-    λ globals. call_unfit c.args.functions.now (optional_tree c.args.to) c.args.function c.args.arguments.items (known_of c.args.frame.now globals)
+    call_unfit c.args.functions.now (optional_tree c.args.to) c.args.function c.args.arguments.items (known_of c.args.frame.now m)
     (waits_of c.args.stack.now.items)
     c.in-Some.callee.now c.in-Some.ensures.some unfit
 
@@ -23,12 +27,14 @@ pub returns : goal.returns
 returns c =
     let fits : c.in-Some.callee.now.parameters ≡ length c.args.arguments.items = search rules in
     let ws = waits_of c.args.stack.now.items in
-    λ globals.
+    let counted : c.len-2.result ≡ length c.args.memory.now.blocks.items = search rules in
+    let outside : c.len-2.result ≡ length (map activation_of c.args.memory.now.blocks.items) =
+    counted ∙ sym (length-map c.args.memory.now.blocks.items activation_of) in
+    let m = c.args.memory.now in
     call_as (map function_tree c.args.functions.now) (optional_tree c.args.to) c.args.function (map content_of c.args.arguments.items) ws
-    (known_of c.args.frame.now globals) _ _ _ _ _ _
+    (known_of c.args.frame.now m) _ _ _ _ _ _
     (ap (λ b. Go (Follow (body_tree b))) c.deref.ensures.value)
     (c.in_ok-wait.ensures ∙ ap (λ f. Caller (optional_tree c.args.to) c.args.function (saved_of f) ∷ ws) c.replace-saved.ensures.value)
-    (ap (λ f. known_of f globals) c.replace-saved.ensures.after
-    ∙ ap (λ l. record { temps = c.args.arguments.items; blocks = map (λ objects. objects.items) l; globals = globals }) c.new.ensures.items)
+    (ap (λ f. known_of f m) c.replace-saved.ensures.after ∙ ap (λ n. record (known_of c.args.frame.now m) { temps = c.args.arguments.items; base = n }) outside)
     (call_enters c.args.functions.now (optional_tree c.args.to) c.args.function c.args.arguments.items
-    (known_of c.args.frame.now globals) ws c.in-Some.callee.now c.in-Some.ensures.some fits)
+    (known_of c.args.frame.now m) ws c.in-Some.callee.now c.in-Some.ensures.some fits)

@@ -3,4 +3,4 @@ use Rattle.core_eval.specs.Values.{blank_object}
 use Rattle.core_eval.proofs.enter.blank_objects.Given as goal
 
 abbrev pub invariant-each : goal.invariant-each
-invariant-each l = record { whole : l.objects.items ++ map blank_object (drop l.width-index l.widths) ≡ map blank_object l.widths }
+invariant-each l = record { whole : l.objects.items ++ map blank_object (drop l.local-index l.locals) ≡ map blank_object l.locals }

@@ -6,8 +6,8 @@ use Rattle.core_eval.proofs.enter.enter_statement.Goals as goal
 
 pub returns-in-Block : goal.returns-in-Block
 returns-in-Block c =
-    block_answer c.enter_block.result c.args.frame.now c.enter_block.new.frame c.args.globals.now.items (statement_tree c.args.statement.now)
-    c.in-Block.widths.items c.deref-in-Block.result.now (body_tree c.in-Block.body.items) (body_tree c.deref-in-Block-2.result.now)
-    (waits_of c.args.stack.now.items) _ (ap statement_tree c.in-Block.is ∙ block_tree c.in-Block.widths c.in-Block.body)
+    block_answer c.enter_block.result c.args.frame.now c.args.memory.now c.enter_block.new.memory (statement_tree c.args.statement.now)
+    c.in-Block.locals.items c.deref-in-Block.result.now (body_tree c.in-Block.body.items) (body_tree c.deref-in-Block-2.result.now)
+    (waits_of c.args.stack.now.items) _ (ap statement_tree c.in-Block.is ∙ block_tree c.in-Block.locals c.in-Block.body)
     c.deref-in-Block.ensures.value (ap body_tree c.deref-in-Block-2.ensures.value)
-    c.enter_block.ensures.next c.enter_block.ensures.waits c.enter_block.ensures.temps c.enter_block.ensures.blocks
+    c.enter_block.ensures.next c.enter_block.ensures.waits c.enter_block.ensures.blocks c.enter_block.ensures.entered c.enter_block.ensures.globals

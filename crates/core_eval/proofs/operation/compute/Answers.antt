@@ -15,7 +15,7 @@ returns c =
     let f' = c.give.new.frame in
     given_answer c.give.result f f' c.args.to.0 (memory.Word (two (binary_tree c.args.operation) c.in-Word.x c.in-Word-temp.y))
     (Execute (core.Do (core.Apply (binary_tree c.args.operation) c.args.to.0 c.args.left.0 c.args.right.0))) c.give.ensures.next
-    (search rules) c.give.ensures.blocks
-    (λ ws globals gives. apply_moves (known_of f globals) f'.temps.items ws c.args.left.0 c.temp.result c.temp.ensures
+    (search rules) c.give.ensures.base
+    (λ ws m gives. apply_moves (known_of f m) f'.temps.items ws c.args.left.0 c.temp.result c.temp.ensures
     (binary_tree c.args.operation) c.args.to.0 c.args.right.0
     c.in-Word.x c.in-Word-temp.y c.temp-2.result c.temp-2.ensures c.in-Word.is c.in-Word-temp.is gives)

@@ -5,20 +5,21 @@ use Rattle.core_eval.specs.Values.{content_of}
 use Rattle.core_eval.specs.Pendings.{Execute}
 use Rattle.core_eval.specs.Standing.{known_of}
 use Rattle.core_eval.proofs.MemoryMoves.{get_moves, get_wrong}
-use Rattle.core_eval.proofs.Answered.{given_answer}
+use Rattle.core_eval.proofs.Answered.{given_here}
 use Rattle.core_eval.proofs.operation.get.Goals as goal
 
 pub returns-in-Some : goal.returns-in-Some
 returns-in-Some c =
     let f = c.args.frame.now in
     let f' = c.give.new.frame in
-    given_answer c.give.result f f' c.args.to.0 (content_of c.in-Some.value)
-    (Execute (core.Do (core.Get c.args.to.0 c.args.from.out c.args.from.index (bytes_of c.args.width))))
-    c.give.ensures.next c.give.ensures.gives c.give.ensures.blocks
-    (λ ws globals gives. get_moves (known_of f globals) ws f'.temps.items c.args.to.0 c.args.from.out c.args.from.index c.args.width c.in-Some.value
+    let m = c.args.memory.now in
+    given_here c.give.result f f' c.args.to.0 (content_of c.in-Some.value)
+    (Execute (core.Do (core.Get c.args.to.0 c.args.from.out c.args.from.index (bytes_of c.args.width)))) m
+    c.give.ensures.next c.give.ensures.gives c.give.ensures.base
+    (λ ws gives. get_moves (known_of f m) ws f'.temps.items c.args.to.0 c.args.from.out c.args.from.index c.args.width c.in-Some.value
     (sym c.local.ensures ∙ c.in-Some.is) gives)
 
 pub returns-in-None : goal.returns-in-None
 returns-in-None c =
-    λ ws globals. get_wrong (known_of c.args.frame.now globals) ws c.args.to.0 c.args.from.out c.args.from.index c.args.width
+    λ ws. get_wrong (known_of c.args.frame.now c.args.memory.now) ws c.args.to.0 c.args.from.out c.args.from.index c.args.width
     (sym c.local.ensures ∙ c.in-None.is)

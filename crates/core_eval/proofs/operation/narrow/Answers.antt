@@ -10,6 +10,6 @@ returns-in-Word c =
     let f = c.args.frame.now in
     let f' = c.give.new.frame in
     given_answer c.give.result f f' c.args.to.0 _
-    (Execute (core.Do (core.Narrow c.args.to.0 c.args.from.0))) c.give.ensures.next c.give.ensures.gives c.give.ensures.blocks
-    (λ ws globals gives. narrow_moves (known_of f globals) f'.temps.items ws c.args.from.0 c.temp.result c.temp.ensures c.args.to.0 c.in-Word.word c.in-Word.is
+    (Execute (core.Do (core.Narrow c.args.to.0 c.args.from.0))) c.give.ensures.next c.give.ensures.gives c.give.ensures.base
+    (λ ws m gives. narrow_moves (known_of f m) f'.temps.items ws c.args.from.0 c.temp.result c.temp.ensures c.args.to.0 c.in-Word.word c.in-Word.is
     gives)

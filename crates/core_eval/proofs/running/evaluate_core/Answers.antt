@@ -5,8 +5,8 @@ use Rattle.core_meaning.specs.Steps as steps
 use Rattle.cyc_core.specs.declared.program.Function.{Function}
 use Rattle.cyc_core.specs.Trees.{program_tree, function_tree, optional_tree, body_tree}
 use Rattle.core_eval.specs.Values.{content_of}
+use Rattle.core_eval.specs.Blocks.{activation_of}
 use Rattle.core_eval.specs.declared.pending.Due.{Due}
-use Rattle.core_eval.specs.declared.value.Object.{Object}
 use Rattle.core_eval.specs.declared.ending.EvalEnding.TheVariants as ending
 use Rattle.core_eval.specs.Pendings.{Follow, Leave, Go, GetcharDue, PutcharDue, TurnDue, CallDue, next_of, waits_of}
 use Rattle.core_eval.specs.Standing.{Gives, IsCall, first_object, first_known, known_of}
@@ -31,10 +31,18 @@ units-init g c =
       stage = stage_as _ (begun (program_tree p) c.args.fuel (next_of c.start-due.result) (first_known p.globals.items)
           (g.R.Read.remaining c.args.reader.now) (g.W.Write.contents c.args.writer.now) c.start-due.ensures) _ _ _ _ refl
           (ap waits_of c.new-stack.ensures.items)
-          (ap (λ ts. record { temps = ts; blocks = map (λ objects. objects.items) c.new-frame.result.blocks.items; globals = c.in-Ok.globals.items })
-          c.new-frame.ensures.temps
-          ∙ ap (λ bs. record { temps = []; blocks = map (λ objects. objects.items) bs; globals = c.in-Ok.globals.items }) c.new-frame.ensures.blocks
-          ∙ ap (λ gs. record { temps = []; blocks = []; globals = gs }) (c.in-Ok.ensures ∙ ap (map first_object) c.deref.ensures.value))
+          (ap (λ ts. record (known_of c.new-frame.result c.new-memory.result) { temps = ts }) c.new-frame.ensures.temps
+          ∙ ap (λ b. record (known_of c.new-frame.result c.new-memory.result) { temps = []; base = b }) c.new-frame.ensures.base
+          ∙ ap (λ bs. record {
+            temps = [];
+            base = 0;
+            blocks = map activation_of bs;
+            entered = c.new-memory.result.entered;
+            globals = c.new-memory.result.globals.items;
+          }) c.new-memory.ensures.blocks
+          ∙ ap (λ n. record { temps = []; base = 0; blocks = []; entered = n; globals = c.new-memory.result.globals.items }) c.new-memory.ensures.entered
+          ∙ ap (λ gs. record { temps = []; base = 0; blocks = []; entered = 0; globals = gs.items }) c.new-memory.ensures.globals
+          ∙ ap (λ gs. record { temps = []; base = 0; blocks = []; entered = 0; globals = gs }) (c.in-Ok.ensures ∙ ap (map first_object) c.deref.ensures.value))
           c.new-gathered.ensures;
     }
 
@@ -111,7 +119,7 @@ units-preserved g c =
             reads = w.in-Ok-fetch.ensures.reads ∙ i.reads;
             writes = w.in-Ok-fetch.ensures.writes ∙ i.writes;
             stage = stage_as _ got _ _ _ _ (if_ok w.give.result (λ due. next_of due ≡ Go (Leave steps.Falls)) next e w.give.ensures.next) refl
-                (given_known c.advance.new.frame w.give.new.frame c.advance.new.globals.items (on_ok w.give.result next e w.give.ensures.blocks)) refl;
+                (given_known c.advance.new.frame w.give.new.frame c.advance.new.memory (on_ok w.give.result next e w.give.ensures.base)) refl;
           })
       | in-Putchar+else-is_err w ↦
           let e = sym w.paid-is ∙ c.in-Ok-paid.is in
@@ -124,8 +132,8 @@ units-preserved g c =
             reads = i.reads;
             writes = counted_ok w.put.result _ _ w.put.ensures.counted ok ∙ i.writes;
             stage = stage_as _ moved _ _ _ _ (if_ok w.give-paid.result (λ due. next_of due ≡ Go (Leave steps.Falls)) next e w.give-paid.ensures.next) refl
-                (given_known c.advance.new.frame w.give-paid.new.frame c.advance.new.globals.items
-                (on_ok w.give-paid.result next e w.give-paid.ensures.blocks)) refl;
+                (given_known c.advance.new.frame w.give-paid.new.frame c.advance.new.memory
+                (on_ok w.give-paid.result next e w.give-paid.ensures.base)) refl;
           })
       | in-Turn w ↦
           let e = sym w.paid-is ∙ c.in-Ok-paid.is in
@@ -141,17 +149,17 @@ units-preserved g c =
           })
       | in-Call w ↦
           let e = sym w.paid-is ∙ c.in-Ok-paid.is in
-          let globals = c.advance.new.globals.items in
+          let m = c.advance.new.memory in
           let called = map content_of w.in-Call.arguments.items in
           let y = stage_as _ x (CallDue (optional_tree w.in-Call.to) w.in-Call.function called) _ _ _ (sym (ap next_of w.in-Call.is)) refl refl refl in
           let entered = if_ok w.enter_call-paid.result
-          (λ due. (gs : List Object) → IsCall (map function_tree w.deref-functions.result.now) (optional_tree w.in-Call.to)
-          w.in-Call.function called (waits_of c.advance.new.stack.items) (known_of c.advance.new.frame gs) (next_of due)
-          (waits_of w.enter_call-paid.new.stack.items) (known_of w.enter_call-paid.new.frame gs)) next e w.enter_call-paid.ensures in
+          (λ due. IsCall (map function_tree w.deref-functions.result.now) (optional_tree w.in-Call.to)
+          w.in-Call.function called (waits_of c.advance.new.stack.items) (known_of c.advance.new.frame m) (next_of due)
+          (waits_of w.enter_call-paid.new.stack.items) (known_of w.enter_call-paid.new.frame m)) next e w.enter_call-paid.ensures in
           let call = subst (λ (fs : List Function). IsCall (map function_tree fs) (optional_tree w.in-Call.to) w.in-Call.function called
-          (waits_of c.advance.new.stack.items) (known_of c.advance.new.frame globals) (next_of next)
-          (waits_of w.enter_call-paid.new.stack.items) (known_of w.enter_call-paid.new.frame globals))
-          w.deref-functions.ensures.value (entered globals) in
+          (waits_of c.advance.new.stack.items) (known_of c.advance.new.frame m) (next_of next)
+          (waits_of w.enter_call-paid.new.stack.items) (known_of w.enter_call-paid.new.frame m))
+          w.deref-functions.ensures.value entered in
           rw (w.reader-is, w.writer-is, w.gathered-is, w.is_over-is, w.stack-is, w.frame-is) (record {
             reads = i.reads;
             writes = i.writes;

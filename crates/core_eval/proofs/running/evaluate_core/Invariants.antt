@@ -9,7 +9,7 @@ abbrev pub invariant-units : goal.invariant-units
 invariant-units g l = record {
   reads : g.R.Input.fault_count l.reader ≡ g.R.Input.fault_count l.fn.reader;
   writes : g.W.Output.fault_count l.writer ≡ g.W.Output.fault_count l.fn.writer;
-  stage : Stage (program_tree l.fn.program) l.fn.fuel l.left l.is_over (next_of l.due) (waits_of l.stack.items) (known_of l.frame l.globals.items)
+  stage : Stage (program_tree l.fn.program) l.fn.fuel l.left l.is_over (next_of l.due) (waits_of l.stack.items) (known_of l.frame l.memory)
       (g.R.Read.remaining l.fn.reader)
       (g.R.Read.remaining l.reader) (g.W.Write.contents l.fn.writer) (g.W.Write.contents l.writer) l.gathered;
 }

@@ -13,52 +13,52 @@ pub returns-in-None : goal.returns-in-None
 returns-in-None c =
     let e : c.args.flow ≡ flow.Returns None = search rules in
     let to : c.args.to ≡ None = search rules in
-    λ f ws globals. left_as (exit_of (flow.Returns None)) (exit_of c.args.flow) (Caller (optional_tree None) f (saved_of c.args.saved) ∷ ws)
-    (Caller (optional_tree c.args.to) f (saved_of c.args.saved) ∷ ws) (known_of c.args.frame.now globals) _ ws _ (ap exit_of e)
+    λ f ws memory. left_as (exit_of (flow.Returns None)) (exit_of c.args.flow) (Caller (optional_tree None) f (saved_of c.args.saved) ∷ ws)
+    (Caller (optional_tree c.args.to) f (saved_of c.args.saved) ∷ ws) (known_of c.args.frame.now memory) _ ws _ (ap exit_of e)
     (ap (λ t. Caller (optional_tree t) f (saved_of c.args.saved) ∷ ws) to)
-    (none_returned (known_of c.args.frame.now globals) ws f (saved_of c.args.saved))
+    (none_returned (known_of c.args.frame.now memory) ws f (saved_of c.args.saved))
 
 pub returns-in-Some : goal.returns-in-Some
 returns-in-Some c =
     let e : c.args.flow ≡ flow.Returns None = search rules in
     let to : c.args.to ≡ (Some c.in-Some.field-0) = search rules in
-    λ f ws globals. left_as (exit_of (flow.Returns None)) (exit_of c.args.flow) (Caller (optional_tree (Some c.in-Some.field-0)) f (saved_of c.args.saved) ∷ ws)
-    (Caller (optional_tree c.args.to) f (saved_of c.args.saved) ∷ ws) (known_of c.args.frame.now globals) _ ws _ (ap exit_of e)
+    λ f ws memory. left_as (exit_of (flow.Returns None)) (exit_of c.args.flow) (Caller (optional_tree (Some c.in-Some.field-0)) f (saved_of c.args.saved) ∷ ws)
+    (Caller (optional_tree c.args.to) f (saved_of c.args.saved) ∷ ws) (known_of c.args.frame.now memory) _ ws _ (ap exit_of e)
     (ap (λ t. Caller (optional_tree t) f (saved_of c.args.saved) ∷ ws) to)
-    (result_missing (known_of c.args.frame.now globals) ws f c.in-Some.field-0.0 (saved_of c.args.saved))
+    (result_missing (known_of c.args.frame.now memory) ws f c.in-Some.field-0.0 (saved_of c.args.saved))
 
 pub returns-in-None-to : goal.returns-in-None-to
 returns-in-None-to c =
     let e : c.args.flow ≡ flow.Returns (Some c.in-Returns-Some.value) = search rules in
     let to : c.args.to ≡ None = search rules in
-    λ f ws globals. left_as (exit_of (flow.Returns (Some c.in-Returns-Some.value))) (exit_of c.args.flow)
+    λ f ws memory. left_as (exit_of (flow.Returns (Some c.in-Returns-Some.value))) (exit_of c.args.flow)
     (Caller (optional_tree None) f (saved_of c.args.saved) ∷ ws)
-    (Caller (optional_tree c.args.to) f (saved_of c.args.saved) ∷ ws) (known_of c.args.frame.now globals) _ ws _ (ap exit_of e)
+    (Caller (optional_tree c.args.to) f (saved_of c.args.saved) ∷ ws) (known_of c.args.frame.now memory) _ ws _ (ap exit_of e)
     (ap (λ t. Caller (optional_tree t) f (saved_of c.args.saved) ∷ ws) to)
-    (result_untaken (known_of c.args.frame.now globals) ws f (content_of c.in-Returns-Some.value) (saved_of c.args.saved))
+    (result_untaken (known_of c.args.frame.now memory) ws f (content_of c.in-Returns-Some.value) (saved_of c.args.saved))
 
 pub returns-in-Falls : goal.returns-in-Falls
 returns-in-Falls c =
-    λ f ws globals. left_as steps.Falls (exit_of c.args.flow) (Caller (optional_tree c.args.to) f (saved_of c.args.saved) ∷ ws)
-    (Caller (optional_tree c.args.to) f (saved_of c.args.saved) ∷ ws) (known_of c.args.frame.now globals) Wrong ws (known_of c.args.saved globals)
-    (ap exit_of c.in-Falls.is) refl (caller_wrong (known_of c.args.frame.now globals) ws (optional_tree c.args.to) f (saved_of c.args.saved) steps.Falls tt)
+    λ f ws memory. left_as steps.Falls (exit_of c.args.flow) (Caller (optional_tree c.args.to) f (saved_of c.args.saved) ∷ ws)
+    (Caller (optional_tree c.args.to) f (saved_of c.args.saved) ∷ ws) (known_of c.args.frame.now memory) Wrong ws (known_of c.args.saved memory)
+    (ap exit_of c.in-Falls.is) refl (caller_wrong (known_of c.args.frame.now memory) ws (optional_tree c.args.to) f (saved_of c.args.saved) steps.Falls tt)
 
 pub returns-in-Breaks : goal.returns-in-Breaks
 returns-in-Breaks c =
-    λ f ws globals. left_as steps.Breaks (exit_of c.args.flow) (Caller (optional_tree c.args.to) f (saved_of c.args.saved) ∷ ws)
-    (Caller (optional_tree c.args.to) f (saved_of c.args.saved) ∷ ws) (known_of c.args.frame.now globals) Wrong ws (known_of c.args.saved globals)
-    (ap exit_of c.in-Breaks.is) refl (caller_wrong (known_of c.args.frame.now globals) ws (optional_tree c.args.to) f (saved_of c.args.saved) steps.Breaks tt)
+    λ f ws memory. left_as steps.Breaks (exit_of c.args.flow) (Caller (optional_tree c.args.to) f (saved_of c.args.saved) ∷ ws)
+    (Caller (optional_tree c.args.to) f (saved_of c.args.saved) ∷ ws) (known_of c.args.frame.now memory) Wrong ws (known_of c.args.saved memory)
+    (ap exit_of c.in-Breaks.is) refl (caller_wrong (known_of c.args.frame.now memory) ws (optional_tree c.args.to) f (saved_of c.args.saved) steps.Breaks tt)
 
 pub returns-in-Continues : goal.returns-in-Continues
 returns-in-Continues c =
-    λ f ws globals. left_as steps.Continues (exit_of c.args.flow) (Caller (optional_tree c.args.to) f (saved_of c.args.saved) ∷ ws)
-    (Caller (optional_tree c.args.to) f (saved_of c.args.saved) ∷ ws) (known_of c.args.frame.now globals) Wrong ws (known_of c.args.saved globals)
+    λ f ws memory. left_as steps.Continues (exit_of c.args.flow) (Caller (optional_tree c.args.to) f (saved_of c.args.saved) ∷ ws)
+    (Caller (optional_tree c.args.to) f (saved_of c.args.saved) ∷ ws) (known_of c.args.frame.now memory) Wrong ws (known_of c.args.saved memory)
     (ap exit_of c.in-Continues.is) refl
-    (caller_wrong (known_of c.args.frame.now globals) ws (optional_tree c.args.to) f (saved_of c.args.saved) steps.Continues tt)
+    (caller_wrong (known_of c.args.frame.now memory) ws (optional_tree c.args.to) f (saved_of c.args.saved) steps.Continues tt)
 
 pub returns-in_ok-set_temp-in-Some-to : goal.returns-in_ok-set_temp-in-Some-to
 returns-in_ok-set_temp-in-Some-to c =
     let e : c.args.flow ≡ flow.Returns (Some c.in-Returns-Some.value) = search rules in
-    λ f ws globals. result_taken (exit_of c.args.flow)
-    (optional_tree c.args.to) f c.in-Some-to.to.0 c.in-Returns-Some.value c.args.saved c.args.frame.now c.set_temp.new.self ws globals
-    (ap exit_of e) (ap optional_tree c.in-Some-to.is) c.in_ok-set_temp-in-Some-to.ensures.temps c.in_ok-set_temp-in-Some-to.ensures.blocks
+    λ f ws memory. result_taken (exit_of c.args.flow)
+    (optional_tree c.args.to) f c.in-Some-to.to.0 c.in-Returns-Some.value c.args.saved c.args.frame.now c.set_temp.new.self ws memory
+    (ap exit_of e) (ap optional_tree c.in-Some-to.is) c.in_ok-set_temp-in-Some-to.ensures.temps c.in_ok-set_temp-in-Some-to.ensures.base

@@ -3,45 +3,47 @@ use Rattle.cyc_core.specs.Trees.{optional_tree}
 use Rattle.core_eval.specs.declared.pending.Pending.TheVariants as pending
 use Rattle.core_eval.specs.Pendings.{Block, exit_of, next_of, wait_of, waits_of}
 use Rattle.core_eval.specs.Standing.{known_of}
-use Rattle.core_eval.proofs.Taken.{left_as, left_ok, for_caller, for_known, main_left}
+use Rattle.core_eval.proofs.Taken.{left_as, left_ok, for_caller, known_here, main_left}
 use Rattle.core_eval.proofs.take.take_flow.Goals as goal
 
 pub returns-in_default : goal.returns-in_default
 returns-in_default c =
-    λ globals. main_left (exit_of c.args.flow) (waits_of c.args.stack.now.items) (waits_of c.next.new.stack.items) (known_of c.args.frame.now globals)
+    main_left (exit_of c.args.flow) (waits_of c.args.stack.now.items) (waits_of c.next.new.stack.items) (known_of c.args.frame.now c.args.memory.now)
     (next_of c.status.result)
-    c.in_default.ensures.none c.in_default.ensures.still (c.status.ensures (known_of c.args.frame.now globals))
+    c.in_default.ensures.none c.in_default.ensures.still (c.status.ensures (known_of c.args.frame.now c.args.memory.now))
 
 pub returns-in-Test-default : goal.returns-in-Test-default
 returns-in-Test-default c =
     let ws = waits_of c.next.new.stack.items in
-    λ globals. left_as (exit_of c.args.flow) (exit_of c.args.flow)
+    left_as (exit_of c.args.flow) (exit_of c.args.flow)
     (wait_of (pending.Test c.in-Test-default.test c.in-Test-default.flag c.in-Test-default.body) ∷ ws)
-    (waits_of c.args.stack.now.items) (known_of c.args.frame.now globals) _ ws _ refl (c.in-Some.ensures.some ∙ ap (λ p. wait_of p ∷ ws) c.in-Test-default.is-0)
-    (c.take_test.ensures ws globals)
+    (waits_of c.args.stack.now.items) (known_of c.args.frame.now c.args.memory.now) _ ws _ refl
+    (c.in-Some.ensures.some ∙ ap (λ p. wait_of p ∷ ws) c.in-Test-default.is-0)
+    (c.take_test.ensures ws c.args.memory.now)
 
 pub returns-in-Body-default : goal.returns-in-Body-default
 returns-in-Body-default c =
     let ws = waits_of c.next.new.stack.items in
+    let known = known_of c.args.frame.now c.args.memory.now in
     left_ok c.take_body.result (exit_of c.args.flow) (wait_of (pending.Body c.in-Body-default.test c.in-Body-default.flag c.in-Body-default.body) ∷ ws)
-    (waits_of c.args.stack.now.items) (known_of c.args.frame.now) _ (known_of c.args.frame.now)
+    (waits_of c.args.stack.now.items) known _ known
     (c.in-Some.ensures.some ∙ ap (λ p. wait_of p ∷ ws) c.in-Body-default.is-0)
-    (for_known c.take_body.result _ _ _ (known_of c.args.frame.now) c.take_body.ensures)
+    (known_here c.take_body.result _ _ _ known c.take_body.ensures)
 
 pub returns-in-Block-default : goal.returns-in-Block-default
 returns-in-Block-default c =
     let ws = waits_of c.next.new.stack.items in
-    λ globals. left_as (exit_of c.args.flow) (exit_of c.args.flow) (Block ∷ ws)
-    (waits_of c.args.stack.now.items) (known_of c.args.frame.now globals) _ ws _ refl
+    left_as (exit_of c.args.flow) (exit_of c.args.flow) (Block ∷ ws)
+    (waits_of c.args.stack.now.items) (known_of c.args.frame.now c.args.memory.now) _ ws _ refl
     (c.in-Some.ensures.some ∙ ap (λ p. wait_of p ∷ ws) c.in-Block-default.is-0)
-    (c.take_block.ensures ws globals)
+    (c.take_block.ensures ws c.args.frame.now)
 
 pub returns-in-Caller-default : goal.returns-in-Caller-default
 returns-in-Caller-default c =
     let ws = waits_of c.next.new.stack.items in
     left_ok c.take_caller.result (exit_of c.args.flow)
     (wait_of (pending.Caller c.in-Caller-default.result c.in-Caller-default.field-1-0 c.in-Caller-default.saved) ∷ ws)
-    (waits_of c.args.stack.now.items) (known_of c.args.frame.now) ws (known_of c.take_caller.new.frame)
+    (waits_of c.args.stack.now.items) (known_of c.args.frame.now c.args.memory.now) ws (known_of c.take_caller.new.frame c.args.memory.now)
     (c.in-Some.ensures.some ∙ ap (λ p. wait_of p ∷ ws) c.in-Caller-default.is-0)
     (for_caller c.take_caller.result (exit_of c.args.flow) (optional_tree c.in-Caller-default.result) c.in-Caller-default.field-1-0 c.in-Caller-default.saved
-    (known_of c.args.frame.now) ws (known_of c.take_caller.new.frame) c.take_caller.ensures)
+    (known_of c.args.frame.now) ws (known_of c.take_caller.new.frame) c.args.memory.now c.take_caller.ensures)

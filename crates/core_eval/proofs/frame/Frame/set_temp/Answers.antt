@@ -10,7 +10,7 @@ grow-preserved c =
     let grown : c.push.new.self.items ≡ c.grow.self.temps.items ++ value.Blank ∷ [] = search rules in
     record {
       temps = λ k. ap (λ l. temp_of l k) grown ∙ temp_grown c.grow.self.temps.items k ∙ c.grow.invariant.temps k;
-      blocks = c.grow.invariant.blocks;
+      base = c.grow.invariant.base;
     }
 
 pub returns-clause-temps : goal.returns-clause-temps

@@ -5,7 +5,7 @@ use Rattle.core_eval.proofs.frame.Frame.set_temp.Given as goal
 abbrev pub invariant-grow : goal.invariant-grow
 invariant-grow l = record {
   temps : (k : ℕ) → temp_of l.self.temps.items k ≡ temp_of l.fn.self.temps.items k;
-  blocks : l.self.blocks ≡ l.fn.self.blocks;
+  base : l.self.base ≡ l.fn.self.base;
 }
 
 abbrev pub decreases-grow : goal.decreases-grow

@@ -1,0 +1,218 @@
+// What is stored: the globals, and the locals of all blocks that aren't left yet.
+
+ghost use Rattle.std.specs.Prelude.{◌≡◌, ◌∷◌, ◌+◌, [], Some, None, false, if◌then◌else◌, drop, map, OnOk};
+ghost use Rattle.core_eval.specs.Values.{value_of};
+ghost use Rattle.core_eval.specs.Blocks.{
+  Descends,
+  activation_of,
+  local_address,
+  local_object,
+  object_through,
+  object_to,
+  own_position,
+  position_of,
+  put_local,
+  put_through,
+  same_values,
+};
+
+use crate::value::{Object, Value, is_null, is_same_pointer, object_in, put_in, value_of};
+use cyc_core::{Variable, Width};
+use std::alloc::{AllocError, Global};
+use std::collections::VecDeque;
+
+/// The locals of a block that isn't left yet.
+#[derive(Drop)]
+pub struct Block {
+    /// How many blocks were entered before it.
+    pub number: u64,
+    /// Its locals.
+    pub objects: Vec<Object>,
+}
+
+/// What is stored.
+#[derive(Drop)]
+pub struct Memory {
+    /// The blocks that aren't left yet, of all functions that are active, the innermost first.
+    pub blocks: VecDeque<Block>,
+    /// How many blocks were entered so far.
+    pub entered: u64,
+    /// The globals.
+    pub globals: Vec<Object>,
+}
+
+impl Memory {
+    /// With these globals, and no block.
+    pub fn new(alloc: Global, globals: Vec<Object>) -> Self
+        ensures blocks { result.blocks.items ≡ [] }
+        ensures entered { result.entered ≡ 0 }
+        ensures globals { result.globals ≡ globals }
+    {
+        Memory {
+            blocks: VecDeque::new(alloc),
+            entered: 0,
+            globals,
+        }
+    }
+
+    /// A block with these locals is entered. Fails only where no host memory is left, or 2^64 - 1 blocks were entered.
+    pub fn enter_block(&mut self, objects: Vec<Object>) -> Result<(), AllocError>
+        ensures blocks { OnOk result (map activation_of self.new.blocks.items
+            ≡ record { number = self.old.entered; objects = objects.items } ∷ map activation_of self.old.blocks.items) }
+        ensures entered { OnOk result (self.new.entered ≡ self.old.entered + 1) }
+        ensures globals { OnOk result (self.new.globals ≡ self.old.globals) }
+    {
+        let Some(entered) = self.entered.checked_add(1) else {
+            return Err(AllocError);
+        };
+        self.blocks.push_front(Block {
+            number: self.entered,
+            objects,
+        })?;
+        self.entered = entered;
+        Ok(())
+    }
+
+    /// The innermost block is left, if there is one.
+    pub fn leave_block(&mut self)
+        ensures blocks { map activation_of self.new.blocks.items ≡ drop 1 (map activation_of self.old.blocks.items) }
+        ensures entered { self.new.entered ≡ self.old.entered }
+        ensures globals { self.new.globals ≡ self.old.globals }
+    {
+        self.blocks.pop_front();
+    }
+
+    /// Where the block so many out stands among the blocks, for a function outside of which there are so many.
+    fn own_position(&self, base: usize, out: u32) -> Option<usize>
+        ensures { result ≡ own_position base (map activation_of self.now.blocks.items) out }
+    {
+        match self.blocks.len().checked_sub(base) {
+            Some(own) if (out as usize) < own => Some(out as usize),
+            _ => None,
+        }
+    }
+
+    /// Where the block that was entered after so many stands among the blocks, if it isn't left yet.
+    fn position_of(&self, number: u64) -> Option<usize>
+        ensures { Descends self.now.entered (map activation_of self.now.blocks.items)
+            → result ≡ position_of (map activation_of self.now.blocks.items) number }
+    {
+        let position = self.blocks.partition_point(|block| number < block.number);
+        match self.blocks.get(position) {
+            Some(block) if block.number == number => Some(position),
+            _ => None,
+        }
+    }
+
+    /// A local of the block that stands there among the blocks.
+    fn object_at(&self, position: usize, index: u32) -> Option<Object>
+        ensures { result ≡ object_through (map activation_of self.now.blocks.items) (Some position) index }
+    {
+        match self.blocks.get(position) {
+            Some(block) => object_in(&block.objects, index),
+            None => None,
+        }
+    }
+
+    /// What a local holds, for a function outside of which there are so many blocks, if there is one that is so wide.
+    pub fn local(&self, base: usize, variable: Variable, width: Width) -> Option<Value>
+        ensures { result ≡ value_of width (local_object base (map activation_of self.now.blocks.items) variable.out variable.index) }
+    {
+        match self.own_position(base, variable.out) {
+            Some(position) => value_of(self.object_at(position, variable.index), width),
+            None => None,
+        }
+    }
+
+    /// A pointer to a local, for a function outside of which there are so many blocks, if there is its block.
+    pub fn address(&self, base: usize, variable: Variable) -> Option<Value>
+        ensures { result ≡ local_address base (map activation_of self.now.blocks.items) variable.out variable.index }
+    {
+        match self.own_position(base, variable.out) {
+            Some(position) => match self.blocks.get(position) {
+                Some(block) => Some(Value::Local(block.number, variable.index)),
+                None => None,
+            },
+            None => None,
+        }
+    }
+
+    /// What a value points to, if it is a pointer to what there is.
+    pub fn object_to(&self, place: Value) -> Option<Object>
+        ensures { Descends self.now.entered (map activation_of self.now.blocks.items)
+            → result ≡ object_to (map activation_of self.now.blocks.items) self.now.globals.items place }
+    {
+        match place {
+            Value::Global(object) => object_in(&self.globals, object),
+            Value::Local(block, index) => match self.position_of(block) {
+                Some(position) => self.object_at(position, index),
+                None => None,
+            },
+            Value::Blank | Value::Word(_) | Value::Null => None,
+        }
+    }
+
+    /// Whether two values are the same pointer, if both are pointers, each NULL or to what there is.
+    pub fn same_place(&self, first: Value, second: Value) -> Option<bool>
+        ensures { Descends self.now.entered (map activation_of self.now.blocks.items)
+            → result ≡ same_values (map activation_of self.now.blocks.items) self.now.globals.items first second }
+    {
+        match first {
+            Value::Null => return is_null(second),
+            Value::Blank | Value::Word(_) => return None,
+            Value::Global(_) | Value::Local(..) => {}
+        }
+        if let Value::Null = second {
+            return Some(false);
+        }
+        match (self.object_to(first), self.object_to(second)) {
+            (Some(_), Some(_)) => Some(is_same_pointer(first, second)),
+            _ => None,
+        }
+    }
+
+    /// Stores a value to a local of the block that stands there among the blocks, if there is one that is so wide, and answers whether there is.
+    fn set_at(&mut self, position: usize, index: u32, width: Width, value: Value) -> bool
+        ensures blocks { put_through (map activation_of self.old.blocks.items) (Some position) index width value
+            ≡ (if result then Some (map activation_of self.new.blocks.items) else None) }
+        ensures kept { result ≡ false → self.new.blocks.items ≡ self.old.blocks.items }
+        ensures entered { self.new.entered ≡ self.old.entered }
+        ensures globals { self.new.globals ≡ self.old.globals }
+    {
+        match self.blocks.get_mut(position) {
+            Some(block) => put_in(&mut block.objects, index, width, value),
+            None => false,
+        }
+    }
+
+    /// Stores a value to a local, for a function outside of which there are so many blocks, if there is one that is so wide, and
+    /// answers whether there is.
+    pub fn set_local(&mut self, base: usize, variable: Variable, width: Width, value: Value) -> bool
+        ensures blocks { put_local base (map activation_of self.old.blocks.items) variable.out variable.index width value
+            ≡ (if result then Some (map activation_of self.new.blocks.items) else None) }
+        ensures kept { result ≡ false → self.new.blocks.items ≡ self.old.blocks.items }
+        ensures entered { self.new.entered ≡ self.old.entered }
+        ensures globals { self.new.globals ≡ self.old.globals }
+    {
+        match self.own_position(base, variable.out) {
+            Some(position) => self.set_at(position, variable.index, width, value),
+            None => false,
+        }
+    }
+
+    /// Stores a value to a local of the block that was entered after so many, if it isn't left yet and there is one that is so wide,
+    /// and answers whether there is.
+    pub fn set_in_block(&mut self, number: u64, index: u32, width: Width, value: Value) -> bool
+        ensures blocks { Descends self.old.entered (map activation_of self.old.blocks.items)
+            → put_through (map activation_of self.old.blocks.items) (position_of (map activation_of self.old.blocks.items) number) index width value
+            ≡ (if result then Some (map activation_of self.new.blocks.items) else None) }
+        ensures kept { result ≡ false → self.new.blocks.items ≡ self.old.blocks.items }
+        ensures entered { self.new.entered ≡ self.old.entered }
+        ensures globals { self.new.globals ≡ self.old.globals }
+    {
+        match self.position_of(number) {
+            Some(position) => self.set_at(position, index, width, value),
+            None => false,
+        }
+    }
+}

@@ -6,4 +6,6 @@
 #[cfg(test)]
 mod evaluations;
 #[cfg(test)]
+mod pointers;
+#[cfg(test)]
 mod programs;

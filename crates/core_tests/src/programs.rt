@@ -22,11 +22,13 @@ pub fn program(alloc: Global, functions: Vec<Function>) -> Program {
     }
 }
 
-fn constant(to: u32, word: u32) -> Statement {
+/// A word for a temporary.
+pub fn constant(to: u32, word: u32) -> Statement {
     Statement::Do(Operation::Constant(Temporary(to), word))
 }
 
-fn give(from: u32) -> Statement {
+/// A return of what a temporary holds.
+pub fn give(from: u32) -> Statement {
     Statement::Return(Some(Temporary(from)))
 }
 

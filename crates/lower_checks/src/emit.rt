@@ -7,7 +7,7 @@ ghost use Rattle.source_lowering.specs.Lowered.{all_of};
 ghost use Rattle.lower_checks.specs.Refusals.{NeverRefused};
 
 use crate::fault::LowerFault;
-use cyc_core::{Operation, Statement, Temporary, Width};
+use cyc_core::{Cell, Operation, Statement, Temporary};
 
 /// Appends a statement.
 pub fn emit(body: &mut Vec<Statement>, statement: Statement) -> Result<(), LowerFault>
@@ -95,27 +95,27 @@ pub fn emit_while(
 // a block, as the tree of its parts
 fn push_block(
     body: &mut Vec<Statement>,
-    widths: Vec<Width>,
+    cells: Vec<Cell>,
     inside: Vec<Statement>,
 ) -> Result<(), LowerFault>
     ensures code { OnOk result
         (map statement_tree body.new.items ≡
-        map statement_tree body.old.items ++ core.Block (map local_tree widths.items) (statements_of (map statement_tree inside.items)) ∷ []) }
+        map statement_tree body.old.items ++ core.Block (map local_tree cells.items) (statements_of (map statement_tree inside.items)) ∷ []) }
     ensures taken { NeverRefused result }
 {
-    emit(body, Statement::Block(widths, inside))
+    emit(body, Statement::Block(cells, inside))
 }
 
-/// Appends a block with locals of these widths.
+/// Appends a block with locals made for these.
 pub fn emit_block(
     body: &mut Vec<Statement>,
-    widths: Vec<Width>,
+    cells: Vec<Cell>,
     inside: Vec<Statement>,
 ) -> Result<(), LowerFault>
     ensures code { OnOk result
         (map statement_tree body.new.items ≡
-        map statement_tree body.old.items ++ core.Block (map local_tree widths.items) (all_of (map statement_tree inside.items)) ∷ []) }
+        map statement_tree body.old.items ++ core.Block (map local_tree cells.items) (all_of (map statement_tree inside.items)) ∷ []) }
     ensures taken { NeverRefused result }
 {
-    push_block(body, widths, inside)
+    push_block(body, cells, inside)
 }

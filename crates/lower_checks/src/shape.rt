@@ -13,7 +13,7 @@ ghost use Rattle.accepted_sources.specs.IntegerForms.{TakesResult};
 ghost use Rattle.lower_checks.specs.Refusals.{IsLocal, AreLocals, NeverRefused};
 
 use crate::fault::LowerFault;
-use cyc_core::{Temporary, Width};
+use cyc_core::{Cell, Temporary, Width};
 use cyc_tree::{Base, TypeName};
 use std::alloc::Global;
 
@@ -58,15 +58,15 @@ impl Shape {
         }
     }
 
-    /// How wide a local of the shape is. Refuses `void`.
-    pub fn local_width(self) -> Result<Width, LowerFault>
-        ensures width { (w : World) → IfOk result (λ width. local_tree width ≡ local_of w (shape_tree self)) }
+    /// What a local of the shape is made for. Refuses `void`.
+    pub fn local_cell(self) -> Result<Cell, LowerFault>
+        ensures cell { (w : World) → IfOk result (λ cell. local_tree cell ≡ local_of w (shape_tree self)) }
         ensures taken { IsLocal (shape_tree self) → NeverRefused result }
     {
         match self {
             Shape::Void => Err(LowerFault::NotTaken),
-            Shape::Char => Ok(Width::Byte),
-            _ => Ok(Width::Word),
+            Shape::Char => Ok(Cell::Byte),
+            _ => Ok(Cell::Word),
         }
     }
 
@@ -93,17 +93,17 @@ pub fn add_shape(shapes: &mut Vec<Shape>, shape: Shape) -> Result<(), LowerFault
     }
 }
 
-/// How wide locals of these shapes are. Refuses `void`.
-pub fn widths_of(alloc: Global, shapes: &[Shape]) -> Result<Vec<Width>, LowerFault>
-    ensures widths { (w : World) → IfOk result (λ widths. map local_tree widths.items ≡ locals_of w (map shape_tree shapes.now)) }
+/// What locals of these shapes are made for. Refuses `void`.
+pub fn cells_of(alloc: Global, shapes: &[Shape]) -> Result<Vec<Cell>, LowerFault>
+    ensures cells { (w : World) → IfOk result (λ cells. map local_tree cells.items ≡ locals_of w (map shape_tree shapes.now)) }
     ensures taken { AreLocals (map shape_tree shapes.now) → NeverRefused result }
 {
-    let mut widths = Vec::new(alloc);
+    let mut cells = Vec::new(alloc);
     'each: for shape in shapes {
-        let width = shape.local_width()?;
-        if let Err(_) = widths.push(width) {
+        let cell = shape.local_cell()?;
+        if let Err(_) = cells.push(cell) {
             return Err(LowerFault::Memory);
         }
     }
-    Ok(widths)
+    Ok(cells)
 }

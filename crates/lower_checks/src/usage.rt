@@ -40,6 +40,8 @@ fn of_operation(operation: Operation) -> u64
 {
     match operation {
         Operation::Constant(t, _)
+        | Operation::NullPointer(t)
+        | Operation::LocalAddress(t, _)
         | Operation::DataAddress(t, _)
         | Operation::Get(t, _, _)
         | Operation::Put(_, _, t)
@@ -47,8 +49,11 @@ fn of_operation(operation: Operation) -> u64
         Operation::Narrow(t, x)
         | Operation::Load(t, x, _)
         | Operation::Store(t, _, x)
+        | Operation::IsNull(t, x)
         | Operation::Putchar(t, x) => u64::max(up_to(t), up_to(x)),
-        Operation::Apply(_, t, x, y) => u64::max(up_to(t), u64::max(up_to(x), up_to(y))),
+        Operation::Apply(_, t, x, y) | Operation::SamePlace(t, x, y) => {
+            u64::max(up_to(t), u64::max(up_to(x), up_to(y)))
+        }
         Operation::Move(_, _) => 0,
     }
 }
@@ -67,7 +72,7 @@ fn of_statement(statement: &Statement) -> u64
             u64::max(up_to(*t), u64::max(temporaries(test), temporaries(body)))
         }
         Statement::Block(_, body) => temporaries(body),
-        Statement::Break | Statement::Continue => 0,
+        Statement::Break | Statement::Continue | Statement::Raise(_) => 0,
         Statement::Call(result, _, arguments) => {
             u64::max(up_to_optional(*result), last(arguments))
         }
@@ -97,7 +102,11 @@ fn passed_in(statement: &Statement) -> usize
         Statement::While(test, _, body) => usize::max(passed(test), passed(body)),
         Statement::Block(_, body) => passed(body),
         Statement::Call(_, _, arguments) => arguments.len(),
-        Statement::Do(_) | Statement::Break | Statement::Continue | Statement::Return(_) => 0,
+        Statement::Do(_)
+        | Statement::Break
+        | Statement::Continue
+        | Statement::Return(_)
+        | Statement::Raise(_) => 0,
     }
 }
 

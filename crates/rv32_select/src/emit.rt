@@ -3,7 +3,7 @@
 ghost use Rattle.std.specs.Prelude.{◌≡◌, ◌+◌, ◌*◌, ◌<◌, ◌^◌, [], ◌∷◌, ◌++◌, length, vec_len, IfOk, OnOk};
 ghost use Rattle.core_frames.specs.declared.line.Line.TheVariants.{Plain};
 ghost use Rattle.core_frames.specs.Frames.{upper_of, lower_of, is_short, word_code, load_code, save_code, environment_code};
-ghost use Rattle.core_frames.specs.Selected.{constant_code, far_code, read_line, read_code, write_line, write_code};
+ghost use Rattle.core_frames.specs.Selected.{constant_code, address_code, far_code, read_line, read_code, write_line, write_code};
 ghost use Rattle.cyc_core.specs.Trees.{bytes_of};
 
 use core_frames::Line;
@@ -74,6 +74,19 @@ pub fn put_constant(lines: &mut Vec<Line>, word: u64) -> Result<(), AllocError>
         put(lines, Instr::Addi(RESULT, Register::ZERO, lower(word)))
     } else {
         put_word(lines, RESULT, word)
+    }
+}
+
+/// Appends what puts the address so many bytes from the stack pointer on into the register of results.
+pub fn put_address(lines: &mut Vec<Line>, distance: u64) -> Result<(), AllocError>
+    ensures { OnOk result (lines.new.items ≡ lines.old.items ++ address_code distance) }
+{
+    let pointer = Register::STACK_POINTER;
+    if is_short(distance) {
+        put(lines, Instr::Addi(RESULT, pointer, lower(distance)))
+    } else {
+        put_word(lines, RESULT, distance)?;
+        put(lines, Instr::Add(RESULT, RESULT, pointer))
     }
 }
 

@@ -4,7 +4,7 @@ ghost use Rattle.std.specs.Prelude.{◌≡◌, ◌+◌, ◌<◌, ◌^◌, ◌≤
 ghost use Rattle.core_frames.specs.Selected.{slots_of, rounded, offsets_from, end_from, greater, highest, highest_of, datum_locals};
 ghost use Rattle.cyc_core.specs.Trees.{bytes_of, local_tree, datum_tree, statement_tree, body_tree, function_tree};
 
-use cyc_core::{Datum, Function, Statement, Width};
+use cyc_core::{Cell, Datum, Function, Statement, Width};
 use std::alloc::{AllocError, Global};
 
 /// The bytes of a width.
@@ -35,26 +35,26 @@ fn rounded(offset: u64) -> Result<u64, AllocError>
 }
 
 /// Where locals end that lie one behind the other from an offset on, each at a multiple of 4.
-pub fn end_from(low: u64, widths: &[Width]) -> Result<u64, AllocError>
-    ensures { IfOk result (λ n. n ≡ end_from low (map local_tree widths.now)) }
+pub fn end_from(low: u64, cells: &[Cell]) -> Result<u64, AllocError>
+    ensures { IfOk result (λ n. n ≡ end_from low (map local_tree cells.now)) }
 {
     let mut at = low;
-    'each: for width in widths {
-        at = sum(rounded(at)?, bytes(*width))?;
+    'each: for cell in cells {
+        at = sum(rounded(at)?, bytes(cell.width()))?;
     }
     Ok(at)
 }
 
 /// Where each of these locals begins.
-pub fn offsets_from(alloc: Global, low: u64, widths: &[Width]) -> Result<Vec<u64>, AllocError>
-    ensures { IfOk result (λ offsets. offsets.items ≡ offsets_from low (map local_tree widths.now)) }
+pub fn offsets_from(alloc: Global, low: u64, cells: &[Cell]) -> Result<Vec<u64>, AllocError>
+    ensures { IfOk result (λ offsets. offsets.items ≡ offsets_from low (map local_tree cells.now)) }
 {
     let mut offsets = Vec::new(alloc);
     let mut at = low;
-    'each: for width in widths {
+    'each: for cell in cells {
         let offset = rounded(at)?;
         offsets.push(offset)?;
-        at = sum(offset, bytes(*width))?;
+        at = sum(offset, bytes(cell.width()))?;
     }
     Ok(offsets)
 }
@@ -68,7 +68,7 @@ pub fn statics(alloc: Global, globals: &[Datum]) -> Result<Vec<u64>, AllocError>
     'each: for global in globals {
         let offset = rounded(at)?;
         offsets.push(offset)?;
-        at = sum(offset, bytes(global.width()))?;
+        at = sum(offset, bytes(global.cell().width()))?;
     }
     Ok(offsets)
 }
@@ -96,7 +96,7 @@ fn highest(low: u64, statement: &Statement) -> Result<u64, AllocError>
             let second = highest_of(low, body)?;
             Ok(greater(first, second))
         }
-        Statement::Block(widths, body) => highest_of(end_from(low, widths)?, body),
+        Statement::Block(cells, body) => highest_of(end_from(low, cells)?, body),
         _ => Ok(low),
     }
 }

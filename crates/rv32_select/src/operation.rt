@@ -4,11 +4,12 @@ ghost use Rattle.std.specs.Prelude.{◌≡◌, ◌+◌, true, ◌++◌, OnOk, If
 ghost use Rattle.core_frames.specs.Frames.{load_code, save_code, slot_of};
 ghost use Rattle.core_frames.specs.Selected.{binary_code, operation_code, from_temp, to_temp, nth};
 ghost use Rattle.cyc_core.specs.Trees.{binary_tree, operation_tree};
-ghost use Rattle.rv32_select.specs.Places.{surroundings, takes_two, is_on_words, is_on_memory};
+ghost use Rattle.rv32_select.specs.Places.{surroundings, takes_two, is_on_words, is_on_pointers, is_on_memory};
 ghost use Rattle.rv32_machine.specs.State.{data_base};
 
 use crate::emit::{
-    OPERAND, RESULT, put, put_constant, put_environment, put_load, put_read, put_save, put_write,
+    OPERAND, RESULT, put, put_address, put_constant, put_environment, put_load, put_read, put_save,
+    put_write,
 };
 use crate::layout::sum;
 use crate::place::Place;
@@ -130,6 +131,36 @@ fn put_word_operation(
     }
 }
 
+/// Appends the instructions of an operation on pointers.
+fn put_pointer_operation(
+    lines: &mut Vec<Line>,
+    place: &Place,
+    operation: Operation,
+) -> Result<(), AllocError>
+    requires { is_on_pointers operation ≡ true }
+    ensures { OnOk result (lines.new.items ≡ lines.old.items ++ operation_code (surroundings place.now) (operation_tree operation)) }
+{
+    match operation {
+        Operation::NullPointer(to) => put_to(lines, place, Register::ZERO, to),
+        Operation::LocalAddress(to, variable) => {
+            put_address(lines, place.offset(variable))?;
+            put_to(lines, place, RESULT, to)
+        }
+        Operation::IsNull(to, pointer) => {
+            put_from(lines, place, RESULT, pointer)?;
+            put(lines, Instr::Sltiu(RESULT, RESULT, Signed12::new(1)))?;
+            put_to(lines, place, RESULT, to)
+        }
+        Operation::SamePlace(to, first, second) => {
+            put_from(lines, place, RESULT, first)?;
+            put_from(lines, place, OPERAND, second)?;
+            put_applied(lines, Binary::Equal)?;
+            put_to(lines, place, RESULT, to)
+        }
+        _ => Ok(()),
+    }
+}
+
 /// Appends the instructions of an operation on memory.
 fn put_memory_operation(
     lines: &mut Vec<Line>,
@@ -198,6 +229,10 @@ pub fn put_operation(
         | Operation::Move(..)
         | Operation::Narrow(..)
         | Operation::Apply(..) => { put_word_operation(lines, place, operation) }
+        Operation::NullPointer(..)
+        | Operation::LocalAddress(..)
+        | Operation::IsNull(..)
+        | Operation::SamePlace(..) => { put_pointer_operation(lines, place, operation) }
         _ => put_memory_operation(lines, place, operation),
     }
 }

@@ -8,7 +8,7 @@ ghost use Rattle.core_meaning.specs.Core.{Local};
 ghost use Rattle.rv32_select.specs.Places.{surroundings};
 
 use crate::layout::{end_from, offsets_from, slots};
-use cyc_core::{Function, Temporary, Variable, Width};
+use cyc_core::{Cell, Function, Temporary, Variable};
 use std::alloc::{AllocError, Global};
 
 /// Where code stands.
@@ -74,13 +74,13 @@ impl Place {
         nth(&self.statics, object)
     }
 
-    /// Enters a block with locals of these widths. Answers where its locals begin.
-    pub fn enter(&mut self, widths: &[Width]) -> Result<u64, AllocError>
-        ensures { IfOk result (λ low. low ≡ self.old.low × (surroundings self.new ≡ within_block (map local_tree widths.now) (surroundings self.old))) }
+    /// Enters a block with these locals. Answers where its locals begin.
+    pub fn enter(&mut self, cells: &[Cell]) -> Result<u64, AllocError>
+        ensures { IfOk result (λ low. low ≡ self.old.low × (surroundings self.new ≡ within_block (map local_tree cells.now) (surroundings self.old))) }
     {
         let low = self.low;
-        let offsets = offsets_from(self.alloc, low, widths)?;
-        let end = end_from(low, widths)?;
+        let offsets = offsets_from(self.alloc, low, cells)?;
+        let end = end_from(low, cells)?;
         self.blocks.insert(0, offsets)?;
         self.low = end;
         Ok(low)

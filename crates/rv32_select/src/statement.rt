@@ -1,19 +1,21 @@
 // Instructions for statements.
 
-ghost use Rattle.std.specs.Prelude.{◌≡◌, ◌+◌, ◌<◌, ◌≤◌, ◌++◌, IfOk, OnOk, map, vec_len};
+ghost use Rattle.std.specs.Prelude.{◌≡◌, ◌+◌, ◌<◌, ◌≤◌, ◌++◌, IfOk, OnOk, map, pos, vec_len};
 ghost use Rattle.core_meaning.specs.Core as core;
 ghost use Rattle.cyc_core.specs.Trees.{statement_tree, body_tree, temporary_tree, optional_tree, local_tree};
-ghost use Rattle.core_frames.specs.Frames.{pass_code, result_code, call_code, values_code, leave_code, return_code};
+ghost use Rattle.core_frames.specs.Frames.{pass_code, result_code, call_code, values_code, leave_code, return_code, kind_number, raise_code};
 ghost use Rattle.core_frames.specs.Selected.{labels_in, labels_of, choice_code, statement_code, statements_code};
 ghost use Rattle.rv32_select.specs.Places.{surroundings};
 
-use crate::emit::{ADDRESS, RESULT, put, put_lines, put_load, put_save, put_word};
+use crate::emit::{ADDRESS, RESULT, put, put_environment, put_lines, put_load, put_save, put_word};
 use crate::layout::sum;
 use crate::operation::{put_from, put_operation, put_to};
 use crate::place::Place;
 use core_frames::Line;
-use cyc_core::{Statement, Temporary, Width};
+use cyc_core::{Cell, Statement, Temporary};
+use cyc_words::Kind;
 use rv32_isa::{Instr, Register, Signed12};
+use rv32_machine::RAISE;
 use std::alloc::{AllocError, Global};
 
 /// How a statement can be left.
@@ -114,6 +116,27 @@ fn put_return(
     put_leave(lines, bytes)
 }
 
+/// The number of an exception's kind.
+fn kind_number(kind: Kind) -> Signed12
+    ensures { result ≡ pos (kind_number kind) }
+{
+    match kind {
+        Kind::NullException => Signed12::new(1),
+        Kind::ArrayBounds => Signed12::new(2),
+    }
+}
+
+/// Appends what ends the program with an exception: its kind's number is the argument of the call.
+fn put_raise(lines: &mut Vec<Line>, kind: Kind) -> Result<(), AllocError>
+    ensures { OnOk result (lines.new.items ≡ lines.old.items ++ raise_code kind) }
+{
+    put(
+        lines,
+        Instr::Addi(Register::ARGUMENT_0, Register::ZERO, kind_number(kind)),
+    )?;
+    put_environment(lines, RAISE)
+}
+
 /// Appends the instructions of a statement, whose labels are numbered from `next` on. Answers the next free label.
 #[cycle(statement)]
 fn put_statement(
@@ -135,8 +158,8 @@ fn put_statement(
         Statement::While(test, flag, body) => {
             return put_while(lines, place, next, ways, test, *flag, body);
         }
-        Statement::Block(widths, body) => {
-            return put_block(lines, place, next, ways, widths, body);
+        Statement::Block(cells, body) => {
+            return put_block(lines, place, next, ways, cells, body);
         }
         Statement::Break => put_lines(lines, &[Line::Jump(ways.out)])?,
         Statement::Continue => put_lines(lines, &[Line::Jump(ways.again)])?,
@@ -144,6 +167,7 @@ fn put_statement(
             put_call(lines, place, *result, *function, arguments)?;
         }
         Statement::Return(value) => put_return(lines, place, ways.bytes, *value)?,
+        Statement::Raise(kind) => put_raise(lines, *kind)?,
     }
     Ok(next)
 }
@@ -221,21 +245,21 @@ fn put_while(
     Ok(free)
 }
 
-/// Appends the instructions of a block with locals of these widths. Answers the next free label.
+/// Appends the instructions of a block with these locals. Answers the next free label.
 #[cycle(statement)]
 fn put_block(
     lines: &mut Vec<Line>,
     place: &mut Place,
     next: usize,
     ways: Ways,
-    widths: &[Width],
+    cells: &[Cell],
     body: &[Statement],
 ) -> Result<usize, AllocError>
-    ensures code { OnOk result (lines.new.items ≡ lines.old.items ++ statement_code ways.bytes (surroundings place.old) next ways.out ways.again (core.Block (map local_tree widths.now) (body_tree body.now))) }
-    ensures free { IfOk result (λ n. n ≡ next + labels_in (core.Block (map local_tree widths.now) (body_tree body.now))) }
+    ensures code { OnOk result (lines.new.items ≡ lines.old.items ++ statement_code ways.bytes (surroundings place.old) next ways.out ways.again (core.Block (map local_tree cells.now) (body_tree body.now))) }
+    ensures free { IfOk result (λ n. n ≡ next + labels_in (core.Block (map local_tree cells.now) (body_tree body.now))) }
     ensures same { OnOk result (surroundings place.new ≡ surroundings place.old) }
 {
-    let low = place.enter(widths)?;
+    let low = place.enter(cells)?;
     let free = put_statements(lines, place, next, ways, body)?;
     place.leave(low);
     Ok(free)

@@ -3,27 +3,29 @@ use Rattle.std.specs.Prelude.{length}
 use Rattle.std.proofs.Common.{◌≡◌, ℕ, suc, ◌+◌, ◌-◌, ◌<◌, ◌^◌, inl, inr, List, [], ◌∷◌, ◌++◌}
 use Rattle.std.proofs.Common.{get_or, drop, map, refl, sym, ap, subst, ◌∙◌, arith, append_assoc, length-append}
 use Rattle.std.proofs.lemmas.List.{drop_more}
-use Rattle.core_meaning.specs.Memory.{Word}
+use Rattle.core_meaning.specs.Memory.{Word, Null}
 use Rattle.core_meaning.specs.Core as core
 use Rattle.cyc_core.specs.declared.program.Datum.{Datum}
 use Rattle.cyc_core.specs.declared.program.Datum.TheVariants as datum
-use Rattle.cyc_core.specs.Trees.{bytes_of, datum_width, datum_tree}
+use Rattle.cyc_core.specs.Trees.{bytes_of, cell_width, datum_cell, datum_tree}
 use Rattle.core_frames.specs.Selected.{rounded}
 use Rattle.core_frames.specs.Statics.{zeros, datum_bytes, data_bytes, IsPlainDatum, ArePlainData}
 use Rattle.core_frames.proofs.DataBytes.{zeros_length}
 
 -- where a global ends that begins at the next multiple of 4
 abbrev pub end_of : ℕ → Datum → ℕ
-end_of low d = rounded low + bytes_of (datum_width d)
+end_of low d = rounded low + bytes_of (cell_width (datum_cell d))
 
-datum_length : (d : Datum) → length (datum_bytes (datum_tree d)) ≡ bytes_of (datum_width d)
+datum_length : (d : Datum) → length (datum_bytes (datum_tree d)) ≡ bytes_of (cell_width (datum_cell d))
 datum_length (datum.Byte b) = refl
 datum_length (datum.Word w) = refl
+datum_length datum.Null = refl
 
 data_behind : (low : ℕ) (d : Datum) (ds : List core.Datum)
     → data_bytes low (datum_tree d ∷ ds) ≡ zeros (rounded low - low) ++ (datum_bytes (datum_tree d) ++ data_bytes (end_of low d) ds)
 data_behind low (datum.Byte b) ds = refl
 data_behind low (datum.Word w) ds = refl
+data_behind low datum.Null ds = refl
 
 -- as many as those of the others, behind its end
 data_more : (low : ℕ) (d : Datum) (ds : List core.Datum)
@@ -79,6 +81,9 @@ byte_is_plain b small = record { width = 1; wide = inl refl; first = Word 0; lay
 
 pub word_is_plain : (w : ℕ) → w < 2 ^ 32 → IsPlainDatum (datum_tree (datum.Word w))
 word_is_plain w small = record { width = 4; wide = inr refl; first = Word 0; layout = refl; plain = λ cell. small }
+
+pub null_is_plain : IsPlainDatum (datum_tree datum.Null)
+null_is_plain = record { width = 4; wide = inr refl; first = Null; layout = refl; plain = λ cell. tt }
 
 -- what follows a list of globals that fit, with one more
 pub more_plain : (globals : List Datum) (i : ℕ) → i < length globals → IsPlainDatum (datum_tree (get_or globals i (datum.Byte 0)))

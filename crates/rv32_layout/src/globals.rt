@@ -2,7 +2,7 @@
 
 ghost use Rattle.std.specs.Prelude.{◌≡◌, ◌-◌, ◌<◌, ◌≤◌, ◌↔◌, ◌++◌, Err, IfOk, OnOk, IsTrue, length, map, vec_len};
 ghost use Rattle.cyc_image.specs.Format.{data_limit};
-ghost use Rattle.cyc_core.specs.Trees.{bytes_of, datum_width, datum_tree, program_tree};
+ghost use Rattle.cyc_core.specs.Trees.{bytes_of, cell_width, datum_cell, datum_tree, program_tree};
 ghost use Rattle.core_frames.specs.Selected.{rounded};
 ghost use Rattle.core_frames.specs.Statics.{zeros, datum_bytes, data_bytes, IsPlainDatum, ArePlainData};
 
@@ -14,11 +14,12 @@ use std::alloc::{AllocError, Global};
 
 /// How many bytes a global takes.
 fn size(global: Datum) -> usize
-    ensures { result ≡ bytes_of (datum_width global) }
+    ensures { result ≡ bytes_of (cell_width (datum_cell global)) }
 {
     match global {
         Datum::Byte(_) => 1,
         Datum::Word(_) => 4,
+        Datum::Null => 4,
     }
 }
 
@@ -54,8 +55,8 @@ fn put_zeros(bytes: &mut Vec<u8>, count: usize) -> Result<(), AllocError>
     Ok(())
 }
 
-/// Appends what a global holds at the start, a number that fits.
-#[tactic(auto, using(crate::proofs::Statics::byte_is_plain, crate::proofs::Statics::word_is_plain))]
+/// Appends what a global holds at the start, a number that fits or the zeros of NULL.
+#[tactic(auto, using(crate::proofs::Statics::byte_is_plain, crate::proofs::Statics::word_is_plain, crate::proofs::Statics::null_is_plain))]
 fn put_datum(bytes: &mut Vec<u8>, global: Datum) -> Result<(), AllocError>
     ensures bytes { OnOk result (bytes.new.items ≡ bytes.old.items ++ datum_bytes (datum_tree global)) }
     ensures plain { OnOk result (IsPlainDatum (datum_tree global)) }
@@ -63,6 +64,7 @@ fn put_datum(bytes: &mut Vec<u8>, global: Datum) -> Result<(), AllocError>
     match global {
         Datum::Byte(byte) => bytes.push(byte)?,
         Datum::Word(word) => bytes.extend_from_slice(&word_bytes(word))?,
+        Datum::Null => put_zeros(bytes, 4)?,
     }
     Ok(())
 }

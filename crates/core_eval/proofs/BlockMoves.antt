@@ -1,7 +1,33 @@
 -- A block is entered, and left.
 use Rattle.std.specs.Prelude.{if◌then◌else◌, nat_eq, ◌&&◌, option_map}
 use Rattle.std.proofs.lemmas.Bool.Decides.{nat_tests}
-use Rattle.std.proofs.Common.{◌≡◌, ℕ, suc, ◌+◌, Bool, true, false, Option, Some, None, List, [], ◌∷◌, ◌++◌, length, map, drop, refl, ap, ◌∙◌, sym, subst, append_assoc, append-nil, arith}
+use Rattle.std.proofs.Common.{
+  ◌≡◌,
+  ℕ,
+  suc,
+  ◌+◌,
+  Bool,
+  true,
+  false,
+  Option,
+  Some,
+  None,
+  List,
+  [],
+  ◌∷◌,
+  ◌++◌,
+  length,
+  map,
+  drop,
+  refl,
+  ap,
+  ◌∙◌,
+  sym,
+  subst,
+  append_assoc,
+  append-nil,
+  arith,
+}
 use Rattle.core_meaning.specs.Memory.{Region, Frame, Born, Live, Dead, Memory, is_live, same_region, with_standing, with_object, blanks}
 use Rattle.core_meaning.specs.Core as core
 use Rattle.core_meaning.specs.Core.{Local, Statements}

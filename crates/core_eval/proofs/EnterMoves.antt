@@ -57,7 +57,10 @@ module _ (known : Known) (ws : List Wait) where
   pub more_follow : (s : core.Statement) (ss : Statements) → IsMove (Follow (MoreStatements s ss)) ws known (Go (Execute s)) (Then ss ∷ ws) known
   more_follow s ss =
       same_state (Follow (MoreStatements s ss)) ws (Go (Execute s)) (Then ss ∷ ws) known
-      (λ main marks c h. (record { temps = h.temps; fresh = h.fresh; globals = h.globals; nested = h.nested; entered = h.entered; live = h.live }, refl)) (omega arith)
+      (λ main marks c h. (
+        record { temps = h.temps; fresh = h.fresh; globals = h.globals; nested = h.nested; entered = h.entered; live = h.live },
+        refl,
+      )) (omega arith)
 
   pub break_leaves : IsMove (Execute core.Break) ws known (Go (Leave steps.Breaks)) ws known
   break_leaves = same_state _ ws _ ws known (λ main marks c h. (h, refl)) (omega arith)
@@ -69,7 +72,10 @@ module _ (known : Known) (ws : List Wait) where
       → IsMove (Execute (core.While test flag body)) ws known (Go (Follow test)) (Test test flag body ∷ ws) known
   loop_enters test flag body =
       same_state (Execute (core.While test flag body)) ws (Go (Follow test)) (Test test flag body ∷ ws) known
-      (λ main marks c h. (record { temps = h.temps; fresh = h.fresh; globals = h.globals; nested = h.nested; entered = h.entered; live = h.live }, refl)) (omega arith)
+      (λ main marks c h. (
+        record { temps = h.temps; fresh = h.fresh; globals = h.globals; nested = h.nested; entered = h.entered; live = h.live },
+        refl,
+      )) (omega arith)
 
   pub return_leaves : IsMove (Execute (core.Return [])) ws known (Go (Leave (steps.Returns []))) ws known
   return_leaves = same_state _ ws _ ws known (λ main marks c h. (h, refl)) (omega arith)

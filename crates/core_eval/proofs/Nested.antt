@@ -1,6 +1,31 @@
 -- Blocks in blocks, and callers behind them, in a changed memory.
 use Rattle.std.specs.Prelude.{slice_get, slice_set, nat_eq, nat_lt, option_map, if◌then◌else◌}
-use Rattle.std.proofs.Common.{◌≡◌, ◌≢◌, ℕ, zero, suc, ◌+◌, ◌<◌, ◌≤◌, Bool, true, false, Option, Some, None, List, [], ◌∷◌, length, refl, ap, ◌∙◌, sym, subst, arith}
+use Rattle.std.proofs.Common.{
+  ◌≡◌,
+  ◌≢◌,
+  ℕ,
+  zero,
+  suc,
+  ◌+◌,
+  ◌<◌,
+  ◌≤◌,
+  Bool,
+  true,
+  false,
+  Option,
+  Some,
+  None,
+  List,
+  [],
+  ◌∷◌,
+  length,
+  refl,
+  ap,
+  ◌∙◌,
+  sym,
+  subst,
+  arith,
+}
 use Rattle.std.proofs.lemmas.Bool.Decides.{nat_tests}
 use Rattle.core_meaning.specs.Memory.{Frame, Memory}
 use Rattle.core_eval.specs.declared.value.Object.{Object}
@@ -175,7 +200,11 @@ module _ (m m' : Memory) (k : ℕ) (objects' : List Object) (shows' : Shows m' (
         here,
         below,
         subst (λ (n : ℕ). Shows m' (Frame n) objects') (sym here) shows',
-        nested_still m m' mark.number mark.number mark.outside.blocks base blocks ws marks (omega arith) (λ q os h s. others q os (omega (arith, h, here)) s) rest,
+        nested_still m m' mark.number mark.number mark.outside.blocks base blocks ws marks (omega arith) (λ q os h s. others q os (omega (
+          arith,
+          h,
+          here,
+        )) s) rest,
       )
   nested_put bound numbers base (a ∷ blocks) (Block ∷ ws) (mark ∷ marks) (suc p) b at is (same, number, below, shows, rest) =
       let (less, there) = nested_shows m mark.number mark.outside.blocks base blocks ws marks p b rest at in (

@@ -145,7 +145,8 @@ module _ (known : Known) (ws : List Wait) (marks : List Mark) (c : Config) (h : 
     temps = h.temps;
     fresh = record { empty = h.fresh.empty; missing = h.fresh.missing };
     globals = shows_put h.globals g o old at;
-    nested = nested_still c.memory (stored c.memory (Born 0) g o) c.memory.activations c.memory.activations c.blocks known.base known.blocks ws marks (omega arith)
+    nested = nested_still c.memory (stored c.memory (Born 0) g o) c.memory.activations c.memory.activations c.blocks known.base known.blocks ws marks
+        (omega arith)
         (λ k os below s. shows_part s (Born 0) refl g (part_of o)) h.nested;
     entered = h.entered;
     live = h.live;

@@ -1,5 +1,25 @@
 -- The locals of blocks in blocks, and what pointers lead to.
-use Rattle.std.specs.Prelude.{ℕ, suc, ◌+◌, ◌<◌, Bool, false, Option, Some, None, List, [], ◌∷◌, length, slice_get, slice_set, nat_eq, nat_lt, option_map, if◌then◌else◌}
+use Rattle.std.specs.Prelude.{
+  ℕ,
+  suc,
+  ◌+◌,
+  ◌<◌,
+  Bool,
+  false,
+  Option,
+  Some,
+  None,
+  List,
+  [],
+  ◌∷◌,
+  length,
+  slice_get,
+  slice_set,
+  nat_eq,
+  nat_lt,
+  option_map,
+  if◌then◌else◌,
+}
 use Rattle.cyc_core.specs.declared.operation.Width.{Width}
 use Rattle.core_eval.specs.declared.value.Value.{Value}
 use Rattle.core_eval.specs.declared.value.Value.TheVariants as value

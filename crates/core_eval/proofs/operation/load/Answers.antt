@@ -16,7 +16,8 @@ returns-in-Some c =
     given_here c.give.result f f' c.args.to.0 (content_of c.in-Some.value)
     (Execute (core.Do (core.Load c.args.to.0 c.args.place.0 (at_once c.args.width)))) m
     c.give.ensures.next c.give.ensures.gives c.give.ensures.base
-    (λ ws gives. load_moves (known_of f m) ws c.args.place.0 c.temp-pointer.result c.temp-pointer.ensures f'.temps.items c.args.to.0 c.args.width c.in-Some.value
+    (λ ws gives. load_moves (known_of f m) ws c.args.place.0 c.temp-pointer.result c.temp-pointer.ensures f'.temps.items c.args.to.0 c.args.width
+    c.in-Some.value
     (λ d. sym (ap (value_of c.args.width) (c.object_to.ensures d)) ∙ sym c.value_of.ensures ∙ c.in-Some.is) gives)
 
 pub returns-in-None : goal.returns-in-None

@@ -85,7 +85,8 @@ returns-in-SamePlace c =
     let f = c.args.frame.now in
     let f' = c.test_same.new.frame in
     let m = c.args.memory.now in
-    for_operation c.test_same.result c.args.operation (operation.SamePlace c.in-SamePlace.to c.in-SamePlace.left c.in-SamePlace.right) (known_of f m) (known_of f' m)
+    for_operation c.test_same.result c.args.operation (operation.SamePlace c.in-SamePlace.to c.in-SamePlace.left c.in-SamePlace.right) (known_of f m)
+    (known_of f' m)
     c.in-SamePlace.is c.test_same.ensures
 
 pub returns-in-IsNull : goal.returns-in-IsNull

@@ -15,13 +15,15 @@ returns-in-Some c =
     given_here c.give.result f f' c.args.to.0 (memory.Word c.truth.result)
     (Execute (core.Do (core.SamePlace c.args.to.0 c.args.left.0 c.args.right.0))) m c.give.ensures.next
     c.give.ensures.gives c.give.ensures.base
-    (λ ws gives. same_moves (known_of f m) ws c.args.left.0 c.args.right.0 c.temp-first.result c.temp-second.result c.temp-first.ensures c.temp-second.ensures f'.temps.items
+    (λ ws gives. same_moves (known_of f m) ws c.args.left.0 c.args.right.0 c.temp-first.result c.temp-second.result c.temp-first.ensures
+    c.temp-second.ensures f'.temps.items
     c.args.to.0 c.in-Some.is_same
     (λ d. sym (c.same_place.ensures d) ∙ c.in-Some.is)
     (subst (λ (n : ℕ). Gives c.args.to.0 (memory.Word n) f.temps.items f'.temps.items) c.truth.ensures gives))
 
 pub returns-in-None : goal.returns-in-None
 returns-in-None c =
-    λ ws. same_wrong (known_of c.args.frame.now c.args.memory.now) ws c.args.left.0 c.args.right.0 c.temp-first.result c.temp-second.result c.temp-first.ensures c.temp-second.ensures
+    λ ws. same_wrong (known_of c.args.frame.now c.args.memory.now) ws c.args.left.0 c.args.right.0 c.temp-first.result c.temp-second.result
+    c.temp-first.ensures c.temp-second.ensures
     c.args.to.0
     (λ d. sym (c.same_place.ensures d) ∙ c.in-None.is)

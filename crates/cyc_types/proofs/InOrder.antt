@@ -5,11 +5,14 @@ use Rattle.std.proofs.lemmas.List.{append_assoc, append-nil, length-map, map_pus
 use Rattle.std.proofs.lemmas.Slice.Eq.{bytes_eq-Decides}
 use Rattle.std.specs.List.{list_all}
 use Rattle.std.specs.Prelude.{Err, None, Ok, OnErr, OnOk, Option, Result, Some, bytes_eq, is_none, is_some, nat_eq, option_map, unwrap_or, ◌&&◌}
+use Rattle.source_meaning.specs.Sizes.{Extent}
 use Rattle.source_typing.proofs.Converting.{bool_is}
 use Rattle.source_typing.specs.Regions.{Region}
 use Rattle.source_typing.specs.Tables.{OfTag, Part, as_tag, begins, copies, each_part, find, has_beginning, if_known, is_copyable, parts_in, parts_of_tag, tag_in}
 use Rattle.source_typing.specs.Types.{Char, Fat, Handle, Int, Key, Null, StaticType, Struct, Thin, Union, Unique, Unsigned, Void, same_bool}
-use Rattle.cyc_types.specs.Known.{Entry, are_known, entries_of, flag_if, found, has_declared, is_declared, is_known, named_by, quick_begins, quick_copies}
+use Rattle.cyc_types.specs.InOrder.{are_known, is_known}
+use Rattle.cyc_types.specs.Known.{Entry, entries_of, flag_if, found, has_declared, is_declared, named_by, quick_begins, quick_copies}
+use Rattle.cyc_types.specs.Measures.{quick_tag, same_measure, stored}
 use Rattle.cyc_types.specs.Tags.{member_of, members_of, tag_of}
 use Rattle.cyc_types.specs.declared.tag.Member.{Member}
 use Rattle.cyc_types.specs.declared.tag.Known.{Known}
@@ -17,7 +20,7 @@ use Rattle.source_typing.specs.Tables as rules
 
 -- ---- spellings
 
-same_bytes : (x y : List ℕ) → bytes_eq x y ≡ bytes_eq y x
+pub same_bytes : (x y : List ℕ) → bytes_eq x y ≡ bytes_eq y x
 same_bytes [] [] = refl
 same_bytes [] (y ∷ ys) = refl
 same_bytes (x ∷ xs) [] = refl
@@ -45,12 +48,12 @@ no_parts es x h = ap parts_of_tag (tag_found es x ∙ ap (option_map (λ k. tag_
 
 -- ---- where a tag stands
 
-record Split (es : List Entry) (x : List ℕ) (k : Known) : Type 0 where
-  before : List Entry
-  after : List Entry
-  at : Bor (List ℕ)
-  is : es ≡ before ++ (at, k) ∷ after
-  spelling : at.now ≡ x
+pub record Split (es : List Entry) (x : List ℕ) (k : Known) : Type 0 where
+  pub before : List Entry
+  pub after : List Entry
+  pub at : Bor (List ℕ)
+  pub is : es ≡ before ++ (at, k) ∷ after
+  pub spelling : at.now ≡ x
 
 split_step : (e : Entry) (es : List Entry) (x : List ℕ) (k : Known) (b : Bool) → bytes_eq x e.0.now ≡ b
     → cond b (Some e.1) (found es x) ≡ Some k → (found es x ≡ Some k → Split es x k) → Split (e ∷ es) x k
@@ -60,11 +63,11 @@ split_step e es x k false b h ih =
     let s = ih h in
     record { before = e ∷ s.before; after = s.after; at = s.at; is = ap (λ l. e ∷ l) s.is; spelling = s.spelling }
 
-split : (es : List Entry) (x : List ℕ) (k : Known) → found es x ≡ Some k → Split es x k
+pub split : (es : List Entry) (x : List ℕ) (k : Known) → found es x ≡ Some k → Split es x k
 split [] x k h = absurd (true≢false (ap is_none h))
 split (e ∷ es) x k h = split_step e es x k (bytes_eq x e.0.now) refl h (split es x k)
 
-known_at : (acc before after : List Entry) (e : Entry) → are_known acc (before ++ e ∷ after) ≡ true → is_known (acc ++ before) e.0.now e.1 ≡ true
+pub known_at : (acc before after : List Entry) (e : Entry) → are_known acc (before ++ e ∷ after) ≡ true → is_known (acc ++ before) e.0.now e.1 ≡ true
 known_at acc [] after e h =
     subst (λ l. is_known l e.0.now e.1 ≡ true) (sym (append-nil acc)) ((and_parts (is_known acc e.0.now e.1) (are_known (acc ++ e ∷ []) after) h).0)
 known_at acc (b ∷ bs) after e h =
@@ -76,11 +79,32 @@ here_step : (b : Bool) (first k : Known) (others rest : Option Known) → is_non
 here_step true first k others rest h ih = absurd (true≢false (sym h))
 here_step false first k others rest h ih = ih h
 
-found_here : (before after : List Entry) (at : Bor (List ℕ)) (k : Known) → is_none (found before at.now) ≡ true
+pub found_here : (before after : List Entry) (at : Bor (List ℕ)) (k : Known) → is_none (found before at.now) ≡ true
     → found (before ++ (at, k) ∷ after) at.now ≡ Some k
 found_here [] after at k h = ap (λ b. cond b (Some k) (found after at.now)) ((bytes_eq-Decides at.now at.now).1 refl)
 found_here (b ∷ bs) after at k h =
     here_step (bytes_eq at.now b.0.now) b.1 k (found bs at.now) (found (bs ++ (at, k) ∷ after) at.now) h (found_here bs after at k)
+
+-- what is known of a tag, one by one
+pub record Facts (before : List Entry) (x : List ℕ) (k : Known) : Type 0 where
+  pub new : is_none (found before x) ≡ true
+  pub declared : each_part (is_declared before) (members_of k.tag.members.items) ≡ true
+  pub copied : same_bool k.copyable (each_part (quick_copies before) (members_of k.tag.members.items)) ≡ true
+  pub begun : same_bool k.begins (each_part (quick_begins before) (members_of k.tag.members.items)) ≡ true
+  pub counted : same_measure (stored k) (quick_tag before k.tag) ≡ true
+
+pub facts : (before : List Entry) (x : List ℕ) (k : Known) → is_known before x k ≡ true → Facts before x k
+facts before x k h =
+    let ms = members_of k.tag.members.items in
+    let first = is_none (found before x) in
+    let second = each_part (is_declared before) ms in
+    let third = same_bool k.copyable (each_part (quick_copies before) ms) in
+    let fourth = same_bool k.begins (each_part (quick_begins before) ms) in
+    let four = and_parts (first && second && third && fourth) (same_measure (stored k) (quick_tag before k.tag)) h in
+    let three = and_parts (first && second && third) fourth four.0 in
+    let two = and_parts (first && second) third three.0 in
+    let one = and_parts first second two.0 in
+    record { new = one.0; declared = one.1; copied = two.1; begun = three.1; counted = four.1 }
 
 -- ---- what is known of a tag is what the rules find in it
 
@@ -148,15 +172,11 @@ module _ (deep : ℕ → rules.Tables → StaticType → Bool) (quick : List Ent
   to_depth (suc n) all before after at k known is fewer rs =
       let members = members_of k.tag.members.items in
       let own : is_known before at.now k ≡ true = known_at [] before after (at, k) (subst (λ l. are_known [] l ≡ true) is known) in
-      let but_begins = (and_parts _ (same_bool k.begins (each_part (quick_begins before) members)) own).0 in
-      let new_declared = (and_parts (is_none (found before at.now) && each_part (is_declared before) members)
-      (same_bool k.copyable (each_part (quick_copies before) members)) but_begins).0 in
-      let new = (and_parts (is_none (found before at.now)) (each_part (is_declared before) members) new_declared).0 in
-      let declared = (and_parts (is_none (found before at.now)) (each_part (is_declared before) members) new_declared).1 in
-      let here : found all at.now ≡ Some k = ap (λ l. found l at.now) is ∙ found_here before after at k new in
+      let of = facts before at.now k own in
+      let here : found all at.now ≡ Some k = ap (λ l. found l at.now) is ∙ found_here before after at k of.new in
       looks.into n (entries_of all) at.now rs
       ∙ ap (each_part (deep n (entries_of all))) (parts_known all at.now k here)
-      ∙ each_same (deep n (entries_of all)) (quick before) (is_declared before) members declared
+      ∙ each_same (deep n (entries_of all)) (quick before) (is_declared before) members of.declared
       (member_same n (to_depth n) all before after (at, k) known is fewer)
       ∙ sym (looks.known before at.now k own)
 
@@ -210,9 +230,7 @@ copies_looks = record {
   nowhere = λ g tag rs. refl;
   else = copies_looks_else;
   by_flag = λ es tag rs. refl;
-  known = λ before x k h. bool_is k.copyable (each_part (quick_copies before) (members_of k.tag.members.items))
-      ((and_parts (is_none (found before x) && each_part (is_declared before) (members_of k.tag.members.items)) _
-      ((and_parts _ (same_bool k.begins (each_part (quick_begins before) (members_of k.tag.members.items))) h).0)).1);
+  known = λ before x k h. bool_is k.copyable (each_part (quick_copies before) (members_of k.tag.members.items)) (facts before x k h).copied;
 }
 
 begins_looks_else : (n : ℕ) (g : rules.Tables) (es : List Entry) (t : StaticType) → is_struct t ≡ false → begins n g t ≡ quick_begins es t
@@ -235,7 +253,7 @@ begins_looks = record {
   nowhere = λ g tag rs. refl;
   else = begins_looks_else;
   by_flag = λ es tag rs. refl;
-  known = λ before x k h. bool_is k.begins (each_part (quick_begins before) (members_of k.tag.members.items)) ((and_parts _ _ h).1);
+  known = λ before x k h. bool_is k.begins (each_part (quick_begins before) (members_of k.tag.members.items)) (facts before x k h).begun;
 }
 
 pub copies_known : (all : List Entry) → are_known [] all ≡ true → (t : StaticType) → is_copyable (entries_of all) t ≡ quick_copies all t
@@ -294,6 +312,10 @@ same_bool_self : (b : Bool) → same_bool b b ≡ true
 same_bool_self true = refl
 same_bool_self false = refl
 
+same_measure_self : (o : Option Extent) → same_measure o o ≡ true
+same_measure_self None = refl
+same_measure_self (Some e) = let a : nat_eq e.size e.size ≡ true = grind arith in let b : nat_eq e.align e.align ≡ true = grind arith in rw (a, b) refl
+
 pub none_found : (es : List Entry) (x : List ℕ) → tag_in (entries_of es) x ≡ None → found es x ≡ None
 none_found es x h = by (found es x) (sym (tag_found es x) ∙ h)
   where
@@ -305,17 +327,18 @@ none_found es x h = by (found es x) (sym (tag_found es x) ∙ h)
 pub known_more : (es : List Entry) (at : Bor (List ℕ)) (k : Known) → are_known [] es ≡ true → tag_in (entries_of es) at.now ≡ None
     → each_part (has_declared (entries_of es)) (members_of k.tag.members.items) ≡ true
     → k.copyable ≡ each_part (quick_copies es) (members_of k.tag.members.items)
-    → k.begins ≡ each_part (quick_begins es) (members_of k.tag.members.items) → are_known [] (es ++ (at, k) ∷ []) ≡ true
-known_more es at k known new declared copyable begins =
+    → k.begins ≡ each_part (quick_begins es) (members_of k.tag.members.items) → stored k ≡ quick_tag es k.tag → are_known [] (es ++ (at, k) ∷ []) ≡ true
+known_more es at k known new declared copyable begins extent =
     let ms = members_of k.tag.members.items in
     let first : is_none (found es at.now) ≡ true = ap is_none (none_found es at.now new) in
     let second : each_part (is_declared es) ms ≡ true = sym (each_as (has_declared (entries_of es)) (is_declared es) ms (declared_same es)) ∙ declared in
     let third : same_bool k.copyable (each_part (quick_copies es) ms) ≡ true = ap (same_bool k.copyable) (sym copyable) ∙ same_bool_self k.copyable in
     let fourth : same_bool k.begins (each_part (quick_begins es) ms) ≡ true = ap (same_bool k.begins) (sym begins) ∙ same_bool_self k.begins in
-    all_known_more [] es (at, k) known (all_true _ _ _ _ first second third fourth)
+    let fifth : same_measure (stored k) (quick_tag es k.tag) ≡ true = ap (same_measure (stored k)) (sym extent) ∙ same_measure_self (stored k) in
+    all_known_more [] es (at, k) known (all_true _ _ _ _ _ first second third fourth fifth)
   where
-    all_true : (a b c d : Bool) → a ≡ true → b ≡ true → c ≡ true → d ≡ true → (a && b && c && d) ≡ true
-    all_true a b c d ha hb hc hd = rw (ha, hb, hc, hd) refl
+    all_true : (a b c d e : Bool) → a ≡ true → b ≡ true → c ≡ true → d ≡ true → e ≡ true → (a && b && c && d && e) ≡ true
+    all_true a b c d e ha hb hc hd he = rw (ha, hb, hc, hd, he) refl
 
 pub known_either : {A E : Type 0} (r : Result A E) (old new : List Entry) (e : Entry) → OnOk r (new ≡ old ++ e ∷ []) → OnErr r (new ≡ old)
     → are_known [] old ≡ true → are_known [] (old ++ e ∷ []) ≡ true → are_known [] new ≡ true

@@ -1,6 +1,9 @@
 mod Converting
+mod InLayouts
 mod InOrder
 mod KindsUnder
 mod Lengths
+mod Measured
+mod MemberSteps
 mod Outermost
 mod Pointers

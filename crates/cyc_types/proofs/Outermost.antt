@@ -3,6 +3,7 @@ use Rattle.std.proofs.Common.{◌≡◌, Bool, true, List, [], ◌∷◌, length
 use Rattle.std.specs.Prelude.{None, Option, Some, slice_get}
 use Rattle.source_typing.specs.Types.{StaticType}
 use Rattle.cyc_types.specs.Known.{Entry, is_declared, quick_begins, quick_copies}
+use Rattle.cyc_types.specs.Measures.{layer_extent, quick_measure, scalar_bytes}
 use Rattle.cyc_types.specs.Layers.{last_or, layer_begins, layer_copies, outermost, pointed, pointer_to}
 use Rattle.cyc_types.specs.declared.layer.Layer.{Layer}
 use Rattle.cyc_types.specs.declared.layer.Layer.TheVariants as code
@@ -15,16 +16,16 @@ pub last_is : (ls : List Layer) → slice_get ls (length ls - 1) ≡ outermost l
 last_is [] = refl
 last_is (l ∷ ls) = let e : length (l ∷ ls) - 1 ≡ length ls = omega arith in ap (slice_get (l ∷ ls)) e ∙ last_found l ls
 
-pub by_outermost : (holds : StaticType → Bool) (of : Layer → Bool) → ((l : Layer) (t : StaticType) → holds (pointer_to l t) ≡ of l)
+pub by_outermost : {A : Type 0} (holds : StaticType → A) (of : Layer → A) → ((l : Layer) (t : StaticType) → holds (pointer_to l t) ≡ of l)
     → (l : Layer) (ls : List Layer) (t : StaticType) → holds (pointed (pointer_to l t) ls) ≡ of (last_or l ls)
 by_outermost holds of h l [] t = h l t
 by_outermost holds of h l (k ∷ ks) t = by_outermost holds of h k ks (pointer_to l t)
 
-outer_or : Option Layer → (Layer → Bool) → Bool → Bool
+outer_or : {A : Type 0} → Option Layer → (Layer → A) → A → A
 outer_or None of base = base
 outer_or (Some l) of base = of l
 
-with_outer : (holds : StaticType → Bool) (of : Layer → Bool) → ((l : Layer) (t : StaticType) → holds (pointer_to l t) ≡ of l)
+with_outer : {A : Type 0} (holds : StaticType → A) (of : Layer → A) → ((l : Layer) (t : StaticType) → holds (pointer_to l t) ≡ of l)
     → (ls : List Layer) (t : StaticType) (o : Option Layer) → outermost ls ≡ o → holds (pointed t ls) ≡ outer_or o of (holds t)
 unfolding outer_or
 with_outer holds of h [] t o e = rw (sym e) refl
@@ -55,6 +56,33 @@ plain_begins es ls t e = with_outer (quick_begins es) layer_begins (of_begins es
 pub pointer_begins : (es : List Entry) (ls : List Layer) (t : StaticType) (l : Layer) → outermost ls ≡ Some l → quick_begins es (pointed t ls) ≡ layer_begins l
 unfolding outer_or
 pointer_begins es ls t l e = with_outer (quick_begins es) layer_begins (of_begins es) ls t (Some l) e
+
+of_measure : (es : List Entry) (l : Layer) (t : StaticType) → quick_measure es (pointer_to l t) ≡ Some (layer_extent l)
+of_measure es (code.Thin n r) t = refl
+of_measure es (code.Fat r) t = refl
+of_measure es (code.Unique n) t = refl
+
+pub plain_measure : (es : List Entry) (ls : List Layer) (t : StaticType) → outermost ls ≡ None → quick_measure es (pointed t ls) ≡ quick_measure es t
+unfolding outer_or
+plain_measure es ls t e = with_outer (quick_measure es) (λ l. Some (layer_extent l)) (of_measure es) ls t None e
+
+pub pointer_measure : (es : List Entry) (ls : List Layer) (t : StaticType) (l : Layer) → outermost ls ≡ Some l
+    → quick_measure es (pointed t ls) ≡ Some (layer_extent l)
+unfolding outer_or
+pointer_measure es ls t l e = with_outer (quick_measure es) (λ l. Some (layer_extent l)) (of_measure es) ls t (Some l) e
+
+of_scalar : (l : Layer) (t : StaticType) → scalar_bytes (Some (pointer_to l t)) ≡ (layer_extent l).size
+of_scalar (code.Thin n r) t = refl
+of_scalar (code.Fat r) t = refl
+of_scalar (code.Unique n) t = refl
+
+pub plain_scalar : (ls : List Layer) (t : StaticType) → outermost ls ≡ None → scalar_bytes (Some (pointed t ls)) ≡ scalar_bytes (Some t)
+unfolding outer_or
+plain_scalar ls t e = with_outer (λ t. scalar_bytes (Some t)) (λ l. (layer_extent l).size) of_scalar ls t None e
+
+pub pointer_scalar : (ls : List Layer) (t : StaticType) (l : Layer) → outermost ls ≡ Some l → scalar_bytes (Some (pointed t ls)) ≡ (layer_extent l).size
+unfolding outer_or
+pointer_scalar ls t l e = with_outer (λ t. scalar_bytes (Some t)) (λ l. (layer_extent l).size) of_scalar ls t (Some l) e
 
 always : Layer → Bool
 always l = true

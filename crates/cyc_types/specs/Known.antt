@@ -1,10 +1,9 @@
 -- What is known of structs and unions once they are declared, each after those that its members are.
 use Rattle.std.specs.Borrow.{Bor}
 use Rattle.std.specs.Map.{lookup}
-use Rattle.std.specs.Prelude.{Bool, List, None, Option, Some, bytes_eq, false, is_none, is_some, map, option_map, true, ℕ, ◌&&◌, [], ◌∷◌, ◌++◌}
-use Rattle.source_typing.specs.Tables.{each_part}
-use Rattle.source_typing.specs.Types.{Char, Fat, Int, Key, StaticType, Struct, Thin, Union, Unique, Unsigned, same_bool}
-use Rattle.cyc_types.specs.Tags.{members_of, named_tag, tag_of}
+use Rattle.std.specs.Prelude.{Bool, List, None, Option, Some, bytes_eq, false, is_some, map, option_map, true, ℕ}
+use Rattle.source_typing.specs.Types.{Char, Fat, Int, Key, StaticType, Struct, Thin, Union, Unique, Unsigned}
+use Rattle.cyc_types.specs.Tags.{named_tag, tag_of}
 use Rattle.cyc_types.specs.declared.tag.Known.{Known}
 use Rattle.cyc_types.specs.declared.tag.Tag.{Tag}
 use Rattle.source_typing.specs.Tables as rules
@@ -62,15 +61,3 @@ abbrev pub has_declared : rules.Tables → StaticType → Bool
 has_declared g (Struct tag rs) = is_some (rules.tag_in g tag)
 has_declared g (Union tag rs) = is_some (rules.tag_in g tag)
 has_declared g t = true
-
--- a new name, members that are declared before it, and what is known of it
-abbrev pub is_known : List Entry → List ℕ → Known → Bool
-is_known before x k =
-    is_none (found before x)
-    && each_part (is_declared before) (members_of k.tag.members.items)
-    && same_bool k.copyable (each_part (quick_copies before) (members_of k.tag.members.items))
-    && same_bool k.begins (each_part (quick_begins before) (members_of k.tag.members.items))
-
-abbrev pub are_known : List Entry → List Entry → Bool
-are_known before [] = true
-are_known before (e ∷ es) = is_known before e.0.now e.1 && are_known (before ++ e ∷ []) es

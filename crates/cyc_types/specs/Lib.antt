@@ -1,8 +1,10 @@
 pub mod Bases
 pub mod Conversions
+pub mod InOrder
 pub mod Known
 pub mod Layers
 pub mod Likeness
+pub mod Measures
 pub mod Regions
 pub mod Tables
 pub mod Tags

@@ -2,7 +2,9 @@
 
 ghost use Rattle.std.specs.Prelude.{◌≡◌};
 ghost use Rattle.cyc_types.specs.Layers.{layers_alike, layer_copies, layer_begins};
+ghost use Rattle.cyc_types.specs.Measures.{extent_of, layer_extent};
 
+use crate::extent::Extent;
 use crate::likeness::Likeness;
 use crate::region::RegionId;
 
@@ -57,6 +59,16 @@ impl Layer {
         match self {
             Layer::Thin(may_be_null, _) | Layer::Unique(may_be_null) => may_be_null,
             Layer::Fat(_) => true,
+        }
+    }
+
+    /// How many bytes it has.
+    pub fn extent(self) -> Extent
+        ensures { extent_of result ≡ layer_extent self }
+    {
+        match self {
+            Layer::Thin(_, _) | Layer::Unique(_) => Extent::word(),
+            Layer::Fat(_) => Extent::fat(),
         }
     }
 }

@@ -1,7 +1,7 @@
 // The structs and unions of a program.
 
 ghost use Rattle.std.specs.Prelude.{◌≡◌, ℕ, true, [], List};
-ghost use Rattle.cyc_types.specs.Known.{are_known};
+ghost use Rattle.cyc_types.specs.InOrder.{are_known};
 
 use crate::base::BaseType;
 use crate::ctype::CType;
@@ -48,7 +48,7 @@ impl<'p> Tables<'p> {
     }
 
     /// What is known of a struct or union of a name.
-    fn known(&self, name: &[u8]) -> Option<&Known<'p>>
+    pub(crate) fn known(&self, name: &[u8]) -> Option<&Known<'p>>
         ensures { option_copied result ≡ found self.now.tags.entries name.now }
     {
         self.tags.get(name)
@@ -208,12 +208,14 @@ impl<'p> Tables<'p> {
     {
         let copyable = self.all_copied(&tag.members);
         let begins = self.all_begin(&tag.members);
+        let extent = self.tag_extent(&tag);
         self.tags.insert(
             name,
             Known {
                 tag,
                 copyable,
                 begins,
+                extent,
             },
         )?;
         Ok(())

@@ -1,6 +1,7 @@
 // Structs and unions.
 
 use crate::ctype::CType;
+use crate::extent::Extent;
 
 /// A member of a struct or union. Its type isn't known where it is at fault.
 #[derive(Debug, Drop)]
@@ -30,4 +31,6 @@ pub struct Known<'p> {
     pub copyable: bool,
     /// Whether all members have a beginning.
     pub begins: bool,
+    /// Its bytes. None: too many.
+    pub extent: Option<Extent>,
 }

@@ -27,6 +27,7 @@ use Rattle.std.proofs.Common.{
 }
 use Rattle.std.specs.Prelude.{◌&&◌, if◌then◌else◌}
 use Rattle.std.proofs.lemmas.Bool.{eqb-true, eq-eqb, and_parts}
+use Rattle.source_meaning.specs.Placing.{Placed}
 use Rattle.source_meaning.specs.Shapes.{
   Shape,
   IntShape,
@@ -49,7 +50,7 @@ use Rattle.source_meaning.proofs.Cases.{region_is}
 use Rattle.core_meaning.specs.Memory as core
 use Rattle.core_meaning.specs.Memory.{Content, Part, with_part, with_standing}
 use Rattle.core_meaning.specs.Steps.{Config}
-use Rattle.source_lowering.specs.Layouts.{Placed, placed_of, Piece, pieces_of}
+use Rattle.source_lowering.specs.Layouts.{placed_of, Piece, pieces_of}
 use Rattle.source_lowering.proofs.Relations.{
   region_at,
   at,

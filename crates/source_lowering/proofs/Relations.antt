@@ -4,6 +4,7 @@ use Rattle.std.specs.Prelude.{slice_get}
 use Rattle.cyc_words.specs.Events.{SourceEnding}
 pub use Rattle.source_lowering.specs.Agreeing.{SameEvent, BothVisible, BothCalled, BothReturned, SameEvents, SameOutcome, AreBytes}
 use Rattle.step_trees.specs.Trees.{run}
+use Rattle.source_meaning.specs.Placing.{Placed}
 use Rattle.source_meaning.specs.Shapes.{
   Shape,
   IntShape,
@@ -47,7 +48,7 @@ use Rattle.core_meaning.specs.Core.{Program, Statement, Statements}
 use Rattle.core_meaning.specs.Steps as core_steps
 use Rattle.core_meaning.specs.Steps.{Config, Exit}
 use Rattle.core_meaning.specs.Meaning as meaning
-use Rattle.source_lowering.specs.Layouts.{Placed, placed_of, Piece, pieces_of}
+use Rattle.source_lowering.specs.Layouts.{placed_of, Piece, pieces_of}
 use Rattle.source_lowering.specs.Lowered.{Named, put}
 
 -- ---- spots are equal, number for number

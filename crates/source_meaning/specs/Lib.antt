@@ -1,5 +1,6 @@
 pub mod Shapes
 pub mod Sizes
+pub mod Placing
 pub mod Memory
 pub mod Steps
 pub mod Operators

@@ -6,6 +6,8 @@
 #[cfg(test)]
 mod conversions;
 #[cfg(test)]
+mod extents;
+#[cfg(test)]
 mod kinds;
 #[cfg(test)]
 mod likeness;

@@ -5,6 +5,7 @@ use Rattle.source_typing.specs.Types.{StaticType}
 use Rattle.cyc_types.specs.Known.{Entry, is_declared, quick_begins, quick_copies}
 use Rattle.cyc_types.specs.Measures.{layer_extent, quick_measure, scalar_bytes}
 use Rattle.cyc_types.specs.Layers.{last_or, layer_begins, layer_copies, outermost, pointed, pointer_to}
+use Rattle.cyc_types.specs.Scalars.{layer_kind, only_kind}
 use Rattle.cyc_types.specs.declared.layer.Layer.{Layer}
 use Rattle.cyc_types.specs.declared.layer.Layer.TheVariants as code
 
@@ -83,6 +84,19 @@ plain_scalar ls t e = with_outer (λ t. scalar_bytes (Some t)) (λ l. (layer_ext
 pub pointer_scalar : (ls : List Layer) (t : StaticType) (l : Layer) → outermost ls ≡ Some l → scalar_bytes (Some (pointed t ls)) ≡ (layer_extent l).size
 unfolding outer_or
 pointer_scalar ls t l e = with_outer (λ t. scalar_bytes (Some t)) (λ l. (layer_extent l).size) of_scalar ls t (Some l) e
+
+of_kind : (l : Layer) (t : StaticType) → only_kind (pointer_to l t) ≡ Some (layer_kind l)
+of_kind (code.Thin n r) t = refl
+of_kind (code.Fat r) t = refl
+of_kind (code.Unique n) t = refl
+
+pub plain_kind : (ls : List Layer) (t : StaticType) → outermost ls ≡ None → only_kind (pointed t ls) ≡ only_kind t
+unfolding outer_or
+plain_kind ls t e = with_outer only_kind (λ l. Some (layer_kind l)) of_kind ls t None e
+
+pub pointer_kind : (ls : List Layer) (t : StaticType) (l : Layer) → outermost ls ≡ Some l → only_kind (pointed t ls) ≡ Some (layer_kind l)
+unfolding outer_or
+pointer_kind ls t l e = with_outer only_kind (λ l. Some (layer_kind l)) of_kind ls t (Some l) e
 
 always : Layer → Bool
 always l = true

@@ -6,6 +6,7 @@ pub mod Layers
 pub mod Likeness
 pub mod Measures
 pub mod Regions
+pub mod Scalars
 pub mod Tables
 pub mod Tags
 pub mod Types

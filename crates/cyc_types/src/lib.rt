@@ -16,6 +16,7 @@ mod likeness;
 mod making;
 mod measuring;
 mod region;
+mod scalar;
 mod tables;
 mod tag;
 
@@ -28,5 +29,6 @@ pub use fault::TableFault;
 pub use layer::Layer;
 pub use likeness::Likeness;
 pub use region::RegionId;
+pub use scalar::Scalar;
 pub use tables::Tables;
 pub use tag::{Member, Tag};

@@ -1,7 +1,7 @@
 // Kinds of types.
 
 use crate::made_types::{THIN, pointer, structure, union_in};
-use cyc_types::{BaseType, CType, Layer, RegionId};
+use cyc_types::{BaseType, CType, Layer, RegionId, Scalar};
 use std::test::Fail;
 
 // integer, NULL, union, key, void, testable, scalar, makeable, element
@@ -96,4 +96,17 @@ fn pointers_are_copied_and_begin(rt: HostRuntime) {
         assert_eq!(rt; layer.is_copyable(), copied);
         assert_eq!(rt; layer.has_beginning(), begins);
     }
+}
+
+#[test]
+fn values_of_one_cell_are_scalars(rt: HostRuntime) -> Result<(), Fail> {
+    let char = CType::plain(rt.alloc(), BaseType::Char);
+    let alone = pointer(rt.alloc(), BaseType::Int, Layer::Unique(false))?;
+    let shared = CType::plain(rt.alloc(), union_in(rt.alloc(), b"either", RegionId::Heap)?);
+    let pair = CType::plain(rt.alloc(), structure(rt.alloc(), b"pair"));
+    assert!(rt; matches!(char.scalar(), Some(Scalar::Char)));
+    assert!(rt; matches!(alone.scalar(), Some(Scalar::Unique(false))));
+    assert!(rt; matches!(shared.scalar(), Some(Scalar::Union(_))));
+    assert!(rt; pair.scalar().is_none());
+    Ok(())
 }

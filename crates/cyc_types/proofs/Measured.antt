@@ -1,5 +1,5 @@
 -- Bytes are counted member by member, up to the most that a type may have.
-use Rattle.std.proofs.Common.{◌≡◌, ℕ, ◌≤◌, ◌+◌, ◌*◌, ◌/◌, Bool, true, false, List, [], ◌∷◌, refl, sym, ap, ◌∙◌, arith, suc, zero, max, nat_le}
+use Rattle.std.proofs.Common.{◌≡◌, ℕ, ◌≤◌, ◌+◌, ◌*◌, ◌/◌, Bool, true, false, List, [], ◌∷◌, refl, sym, ap, ◌∙◌, arith, suc, zero, max}
 use Rattle.std.proofs.Math.Nat.{lt-div-mul-add, zero-lt-suc}
 use Rattle.std.specs.Prelude.{None, Option, Some, ◌<◌, if◌then◌else◌}
 use Rattle.source_meaning.specs.Shapes.{Shape}

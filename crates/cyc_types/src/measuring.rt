@@ -6,7 +6,6 @@ ghost use Rattle.source_typing.specs.Extents.{part_shapes};
 ghost use Rattle.cyc_types.specs.Bases.{base_type};
 ghost use Rattle.cyc_types.specs.Measures.{
   extent_in,
-  extent_of,
   limited,
   measured,
   part_extent,

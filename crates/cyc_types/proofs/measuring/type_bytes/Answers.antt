@@ -1,5 +1,4 @@
 use Rattle.std.proofs.Common.{sym, ap, ◌∙◌}
-use Rattle.source_meaning.specs.Sizes.{Extent}
 use Rattle.cyc_types.specs.Bases.{base_type}
 use Rattle.cyc_types.proofs.Outermost.{plain_scalar, pointer_scalar}
 use Rattle.cyc_types.proofs.measuring.type_bytes.Goals as goal

@@ -1,18 +1,32 @@
 -- What contracts see of the shapes and names that the code has.
-use Rattle.source_meaning.specs.Shapes.{Shape, IntShape, UnsignedShape, CharShape, VoidShape}
+use Rattle.std.specs.Prelude.{map}
+use Rattle.cyc_tree.specs.View.{base_tree, pointer_tree}
+use Rattle.source_meaning.specs.Shapes.{Shape, Owner, Shared, Alone, IntShape, UnsignedShape, CharShape, VoidShape, ThinShape, base_shape, pointed, settled}
 use Rattle.source_meaning.specs.Steps.{Entity, Variable}
 use Rattle.source_meaning.specs.Programs.{heap_spot}
 use Rattle.source_lowering.specs.Lowered as lowered
 use Rattle.lower_checks.specs.declared.shape.Shape as code_shape
 use Rattle.lower_checks.specs.declared.shape.Shape.TheVariants as shape
+use Rattle.lower_checks.specs.declared.shape.Owner as code_owner
+use Rattle.lower_checks.specs.declared.shape.Owner.TheVariants as owner_is
+use Rattle.lower_checks.specs.declared.shape.Target as code_target
 use Rattle.lower_checks.specs.declared.names.Named as code_named
 use Rattle.lower_checks.specs.declared.table.Found as code_found
+
+abbrev pub owner_tree : code_owner.Owner → Owner
+owner_tree owner_is.Shared = Shared
+owner_tree owner_is.Alone = Alone
+
+-- what a pointer leads to, as it is written
+abbrev pub written_target : code_target.Target → Shape
+written_target t = pointed (map pointer_tree t.pointers.now) (base_shape (base_tree t.base.now))
 
 abbrev pub shape_tree : code_shape.Shape → Shape
 shape_tree shape.Int = IntShape
 shape_tree shape.Unsigned = UnsignedShape
 shape_tree shape.Char = CharShape
 shape_tree shape.Void = VoidShape
+shape_tree (shape.Thin may_be_null owner to) = ThinShape may_be_null (owner_tree owner) (settled (written_target to))
 
 abbrev pub named_tree : code_named.Named → lowered.Named
 named_tree n = record { name = n.name.now; shape = shape_tree n.shape; out = n.out; index = n.index }

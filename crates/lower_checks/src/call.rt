@@ -20,9 +20,12 @@ use cyc_tree::{Expression, Member};
 use std::alloc::Global;
 
 /// The shapes of parameters, in order.
-pub fn part_shapes(alloc: Global, parameters: &[Member]) -> Result<Vec<Shape>, LowerFault>
-    ensures shapes { IfOk result (λ shapes. map shape_tree shapes.items ≡ part_shapes (map part_of (map member_tree parameters.now))) }
-    ensures taken { AreIntegers (map member_tree parameters.now) → NeverRefused result }
+pub fn part_shapes<'p>(
+    alloc: Global,
+    parameters: &'p [Member],
+) -> Result<Vec<Shape<'p>>, LowerFault>
+    ensures shapes { IfOk result (λ shapes. map shape_tree shapes.items ≡ part_shapes (map part_of (map member_tree parameters.entry.now))) }
+    ensures taken { AreIntegers (map member_tree parameters.entry.now) → NeverRefused result }
 {
     let mut shapes = Vec::new(alloc);
     'each: for parameter in parameters {
@@ -35,11 +38,11 @@ pub fn part_shapes(alloc: Global, parameters: &[Member]) -> Result<Vec<Shape>, L
 }
 
 /// The shapes of what a function of a name takes; none where there is no such function.
-pub fn call_parameters(
+pub fn call_parameters<'p>(
     alloc: Global,
-    program: &Table<'_>,
+    program: &Table<'p>,
     name: &[u8],
-) -> Result<Vec<Shape>, LowerFault>
+) -> Result<Vec<Shape<'p>>, LowerFault>
     ensures shapes { IfOk result (λ shapes. map shape_tree shapes.items ≡ call_parameters (world_of program.now) name.now) }
     ensures taken { TakesProgram program.now → NeverRefused result }
 {

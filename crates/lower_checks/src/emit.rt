@@ -106,7 +106,7 @@ fn push_block(
     emit(body, Statement::Block(cells, inside))
 }
 
-/// Appends a block with locals made for these.
+/// Appends a block with these locals.
 pub fn emit_block(
     body: &mut Vec<Statement>,
     cells: Vec<Cell>,

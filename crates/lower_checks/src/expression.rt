@@ -27,14 +27,14 @@ use std::alloc::Global;
 
 /// Appends what leaves an expression's value in a temporary, and gives the shape of its type. Refuses what isn't of integers.
 #[cycle(expression)]
-pub fn lower_expression(
+pub fn lower_expression<'p>(
     alloc: Global,
-    program: &Table<'_>,
-    locals: &Locals<'_>,
+    program: &Table<'p>,
+    locals: &Locals<'p>,
     expression: &Expression,
     body: &mut Vec<Statement>,
     to: Temporary,
-) -> Result<Shape, LowerFault>
+) -> Result<Shape<'p>, LowerFault>
     ensures code { OnOk result
         (map statement_tree body.new.items ≡
         map statement_tree body.old.items ++ expression_code (world_of program.now) (names_of locals.now) (expression_tree expression.now) to.0) }
@@ -87,15 +87,15 @@ pub fn lower_expression(
 
 /// Appends what leaves a value in a temporary, converted to the shape of a place, and writes it there; gives the place's shape.
 #[cycle(expression)]
-fn lower_assign(
+fn lower_assign<'p>(
     alloc: Global,
-    program: &Table<'_>,
-    locals: &Locals<'_>,
+    program: &Table<'p>,
+    locals: &Locals<'p>,
     value: &Expression,
     place: &Expression,
     body: &mut Vec<Statement>,
     to: Temporary,
-) -> Result<Shape, LowerFault>
+) -> Result<Shape<'p>, LowerFault>
     ensures code { let w = world_of program.now in
         let names = names_of locals.now in
         let e = expression_tree value.now in
@@ -110,22 +110,22 @@ fn lower_assign(
 {
     let from = lower_expression(alloc, program, locals, value, body, to)?;
     let shape = place_shape(program, locals, place)?;
-    lower_conversion(body, shape, from, to)?;
+    lower_conversion(alloc, body, shape, from, to)?;
     lower_put(program, locals, body, place, to)?;
     Ok(shape)
 }
 
 /// Appends a call of the function of a name, after its arguments; gives the shape of its result.
 #[cycle(expression)]
-fn lower_called(
+fn lower_called<'p>(
     alloc: Global,
-    program: &Table<'_>,
-    locals: &Locals<'_>,
+    program: &Table<'p>,
+    locals: &Locals<'p>,
     arguments: &[Expression],
     body: &mut Vec<Statement>,
     name: &[u8],
     to: Temporary,
-) -> Result<Shape, LowerFault>
+) -> Result<Shape<'p>, LowerFault>
     ensures code { let w = world_of program.now in
         OnOk result
         (map statement_tree body.new.items ≡
@@ -143,15 +143,15 @@ fn lower_called(
 
 /// Appends what applies a prefix operator to its operand, and leaves the result in a temporary; gives the result's shape.
 #[cycle(expression)]
-fn lower_prefixed(
+fn lower_prefixed<'p>(
     alloc: Global,
-    program: &Table<'_>,
-    locals: &Locals<'_>,
+    program: &Table<'p>,
+    locals: &Locals<'p>,
     operand: &Expression,
     body: &mut Vec<Statement>,
     operator: Prefix,
     to: Temporary,
-) -> Result<Shape, LowerFault>
+) -> Result<Shape<'p>, LowerFault>
     ensures code { let w = world_of program.now in
         let names = names_of locals.now in
         let e = expression_tree operand.now in
@@ -188,22 +188,22 @@ fn lower_prefixed(
 
 /// Appends what applies the operators of a chain to the value in a temporary, which has this shape; gives the result's shape.
 #[cycle(expression)]
-fn lower_links(
+fn lower_links<'p>(
     alloc: Global,
-    program: &Table<'_>,
-    locals: &Locals<'_>,
+    program: &Table<'p>,
+    locals: &Locals<'p>,
     links: &[Link],
     body: &mut Vec<Statement>,
-    first: Shape,
+    first: Shape<'p>,
     to: Temporary,
-) -> Result<Shape, LowerFault>
+) -> Result<Shape<'p>, LowerFault>
     ensures code { OnOk result
         (map statement_tree body.new.items ≡
         map statement_tree body.old.items ++
-        links_code (world_of program.now) (names_of locals.now) (links_of (map link_tree links.now)) (shape_tree first) to.0) }
+        links_code (world_of program.now) (names_of locals.now) (links_of (map link_tree links.now)) (shape_tree first.entry) to.0) }
     ensures shape { IfOk result
         (λ shape.
-        shape_tree shape ≡ linked_shape (world_of program.now) (names_of locals.now) (links_of (map link_tree links.now)) (shape_tree first)) }
+        shape_tree shape ≡ linked_shape (world_of program.now) (names_of locals.now) (links_of (map link_tree links.now)) (shape_tree first.entry)) }
     ensures taken { TakesProgram program.now → TakesLinks (links_of (map link_tree links.now)) → NeverRefused result }
 {
     let right = Temporary(after(to.0)?);
@@ -218,10 +218,10 @@ fn lower_links(
 
 /// Appends what evaluates the operands of `&&` after the first, each where those before it were not 0.
 #[cycle(expression)]
-fn lower_all(
+fn lower_all<'p>(
     alloc: Global,
-    program: &Table<'_>,
-    locals: &Locals<'_>,
+    program: &Table<'p>,
+    locals: &Locals<'p>,
     operands: &[Expression],
     body: &mut Vec<Statement>,
     to: Temporary,
@@ -243,10 +243,10 @@ fn lower_all(
 
 /// Appends what evaluates the operands of `||` after the first, each where those before it were 0.
 #[cycle(expression)]
-fn lower_any(
+fn lower_any<'p>(
     alloc: Global,
-    program: &Table<'_>,
-    locals: &Locals<'_>,
+    program: &Table<'p>,
+    locals: &Locals<'p>,
     operands: &[Expression],
     body: &mut Vec<Statement>,
     to: Temporary,
@@ -269,13 +269,13 @@ fn lower_any(
 /// Appends what leaves the arguments of a call in the temporaries from this one on, each converted to its parameter's shape.
 #[cycle(expression)]
 #[tactic(auto, using(crate::proofs::Arguments::no_arguments))]
-fn lower_arguments(
+fn lower_arguments<'p>(
     alloc: Global,
-    program: &Table<'_>,
-    locals: &Locals<'_>,
+    program: &Table<'p>,
+    locals: &Locals<'p>,
     arguments: &[Expression],
     body: &mut Vec<Statement>,
-    shapes: &[Shape],
+    shapes: &[Shape<'p>],
     first: Temporary,
 ) -> Result<(), LowerFault>
     ensures code { OnOk result
@@ -292,7 +292,7 @@ fn lower_arguments(
             return Ok(());
         };
         let from = lower_expression(alloc, program, locals, argument, body, to)?;
-        lower_conversion(body, *shape, from, to)?;
+        lower_conversion(alloc, body, *shape, from, to)?;
         left = others;
         to = Temporary(after(to.0)?);
     }

@@ -50,8 +50,8 @@ fn lower_parameters<'p>(
 }
 
 /// Appends the end of a function without `return`, which gives 0 where a result is due.
-fn lower_end(body: &mut Vec<Statement>, shape: Shape) -> Result<(), LowerFault>
-    ensures code { OnOk result (map statement_tree body.new.items ≡ map statement_tree body.old.items ++ end_code (shape_tree shape)) }
+fn lower_end(body: &mut Vec<Statement>, shape: Shape<'_>) -> Result<(), LowerFault>
+    ensures code { OnOk result (map statement_tree body.new.items ≡ map statement_tree body.old.items ++ end_code (shape_tree shape.entry)) }
     ensures taken { NeverRefused result }
 {
     match shape {
@@ -64,13 +64,13 @@ fn lower_end(body: &mut Vec<Statement>, shape: Shape) -> Result<(), LowerFault>
 }
 
 /// What a function does.
-fn lower_body(
+fn lower_body<'p>(
     alloc: Global,
-    program: &Table<'_>,
-    function: &Source,
+    program: &Table<'p>,
+    function: &'p Source,
 ) -> Result<Vec<Statement>, LowerFault>
-    ensures code { IfOk result (λ body. body_tree body.items ≡ body_code (world_of program.now) (routine_of (source_tree function.now))) }
-    ensures taken { TakesProgram program.now → TakesFunction (source_tree function.now) → NeverRefused result }
+    ensures code { IfOk result (λ body. body_tree body.items ≡ body_code (world_of program.now) (routine_of (source_tree function.entry.now))) }
+    ensures taken { TakesProgram program.now → TakesFunction (source_tree function.entry.now) → NeverRefused result }
 {
     let shape = Shape::of(&function.result)?;
     let mut shapes = part_shapes(alloc, &function.parameters)?;
@@ -104,13 +104,13 @@ fn count(temporaries: u64) -> Result<u32, LowerFault>
 }
 
 /// A function, with as many temporaries as it has parameters or its code uses.
-pub fn lower_function(
+pub fn lower_function<'p>(
     alloc: Global,
-    program: &Table<'_>,
-    function: &Source,
+    program: &Table<'p>,
+    function: &'p Source,
 ) -> Result<Function, LowerFault>
-    ensures code { IfOk result (λ lowered. function_tree lowered ≡ function_code (world_of program.now) (routine_of (source_tree function.now))) }
-    ensures taken { TakesProgram program.now → TakesFunction (source_tree function.now) → NeverRefused result }
+    ensures code { IfOk result (λ lowered. function_tree lowered ≡ function_code (world_of program.now) (routine_of (source_tree function.entry.now))) }
+    ensures taken { TakesProgram program.now → TakesFunction (source_tree function.entry.now) → NeverRefused result }
 {
     let body = lower_body(alloc, program, function)?;
     let parameters = number(function.parameters.len())?;

@@ -64,8 +64,13 @@ impl<'p> Locals<'p> {
     }
 
     /// Declares a local of the innermost block, which has this number in it.
-    pub fn declare(&mut self, name: &'p Name, shape: Shape, index: u32) -> Result<(), LowerFault>
-        ensures declared { OnOk result (self.new ≡ Some (declared (name_tree name.entry.now).text shape index) ∷ self.old) }
+    pub fn declare(
+        &mut self,
+        name: &'p Name,
+        shape: Shape<'p>,
+        index: u32,
+    ) -> Result<(), LowerFault>
+        ensures declared { OnOk result (self.new ≡ Some (declared (name_tree name.entry.now).text shape.entry index) ∷ self.old) }
         ensures taken { NeverRefused result }
     {
         let local = Local {

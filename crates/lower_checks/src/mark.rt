@@ -6,7 +6,7 @@ use crate::shape::Shape;
 #[derive(Clone, Copy)]
 pub struct Local<'p> {
     pub name: &'p [u8],
-    pub shape: Shape,
+    pub shape: Shape<'p>,
     pub index: u32,
     pub depth: u32,
 }

@@ -10,7 +10,7 @@ use crate::shape::Shape;
 #[derive(Clone, Copy)]
 pub struct Named<'p> {
     pub name: &'p [u8],
-    pub shape: Shape,
+    pub shape: Shape<'p>,
     pub out: u32,
     pub index: u32,
 }

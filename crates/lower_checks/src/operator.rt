@@ -11,9 +11,9 @@ use cyc_core::{Binary, Operation, Temporary};
 use cyc_tree::Operator;
 
 /// The shape of two operands.
-pub fn common_shape(left: Shape, right: Shape) -> Shape
-    ensures shape { shape_tree result ≡ common_shape (shape_tree left) (shape_tree right) }
-    ensures kind { type_of (shape_tree result) ≡ common (type_of (shape_tree left)) (type_of (shape_tree right)) }
+pub fn common_shape<'p>(left: Shape<'p>, right: Shape<'p>) -> Shape<'p>
+    ensures shape { shape_tree result ≡ common_shape (shape_tree left.entry) (shape_tree right.entry) }
+    ensures kind { type_of (shape_tree result) ≡ common (type_of (shape_tree left.entry)) (type_of (shape_tree right.entry)) }
 {
     match (left, right) {
         (Shape::Unsigned, _) | (_, Shape::Unsigned) => Shape::Unsigned,
@@ -22,8 +22,8 @@ pub fn common_shape(left: Shape, right: Shape) -> Shape
 }
 
 /// The shape of one operand: a `char` counts as an `int`.
-fn promoted(shape: Shape) -> Shape
-    ensures { shape_tree result ≡ promoted_shape (shape_tree shape) }
+fn promoted<'p>(shape: Shape<'p>) -> Shape<'p>
+    ensures { shape_tree result ≡ promoted_shape (shape_tree shape.entry) }
 {
     match shape {
         Shape::Unsigned => Shape::Unsigned,
@@ -32,8 +32,8 @@ fn promoted(shape: Shape) -> Shape
 }
 
 /// The shape of what an operator gives.
-pub fn operator_shape(operator: Operator, left: Shape, right: Shape) -> Shape
-    ensures { shape_tree result ≡ operator_shape operator (shape_tree left) (shape_tree right) }
+pub fn operator_shape<'p>(operator: Operator, left: Shape<'p>, right: Shape<'p>) -> Shape<'p>
+    ensures { shape_tree result ≡ operator_shape operator (shape_tree left.entry) (shape_tree right.entry) }
 {
     match operator {
         Operator::Equal
@@ -48,8 +48,8 @@ pub fn operator_shape(operator: Operator, left: Shape, right: Shape) -> Shape
 }
 
 /// The operation on signed numbers, or that on unsigned ones.
-fn by_shape(shape: Shape, on_signed: Binary, on_unsigned: Binary) -> Binary
-    ensures { binary_tree result ≡ by_type (type_of (shape_tree shape)) (binary_tree on_signed) (binary_tree on_unsigned) }
+fn by_shape(shape: Shape<'_>, on_signed: Binary, on_unsigned: Binary) -> Binary
+    ensures { binary_tree result ≡ by_type (type_of (shape_tree shape.entry)) (binary_tree on_signed) (binary_tree on_unsigned) }
 {
     match shape {
         Shape::Unsigned => on_unsigned,
@@ -58,15 +58,15 @@ fn by_shape(shape: Shape, on_signed: Binary, on_unsigned: Binary) -> Binary
 }
 
 /// The operation of an operator, on operands of these shapes in two temporaries.
-pub fn applied(
+pub fn applied<'p>(
     operator: Operator,
-    left: Shape,
-    right: Shape,
+    left: Shape<'p>,
+    right: Shape<'p>,
     to: Temporary,
     x: Temporary,
     y: Temporary,
 ) -> Operation
-    ensures { operation_tree result ≡ applied_to operator (type_of (shape_tree left)) (type_of (shape_tree right)) to.0 x.0 y.0 }
+    ensures { operation_tree result ≡ applied_to operator (type_of (shape_tree left.entry)) (type_of (shape_tree right.entry)) to.0 x.0 y.0 }
 {
     let both = common_shape(left, right);
     let less = by_shape(both, Binary::Less, Binary::LessUnsigned);

@@ -61,7 +61,7 @@ fn lower_global(global: &Declared) -> Result<Datum, LowerFault>
     let word = initial_word(&global.initial)?;
     match shape {
         Shape::Char => Ok(Datum::Byte((word % 256) as u8)),
-        Shape::Void => Err(LowerFault::NotTaken),
+        Shape::Void | Shape::Thin(_, _, _) => Err(LowerFault::NotTaken),
         _ => Ok(Datum::Word(word)),
     }
 }

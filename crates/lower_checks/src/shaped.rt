@@ -17,7 +17,7 @@ use crate::table::Table;
 use cyc_tree::Expression;
 
 /// The shape of a number: one without a suffix up to 2,147,483,647 is an int.
-pub fn number_shape(value: u32, suffix: bool) -> Shape
+pub fn number_shape<'p>(value: u32, suffix: bool) -> Shape<'p>
     ensures { shape_tree result ≡ integer_shape (number_type value suffix) }
 {
     if suffix || value >= 2_147_483_648 {
@@ -28,11 +28,11 @@ pub fn number_shape(value: u32, suffix: bool) -> Shape
 }
 
 /// The shape of a variable; `void` where there is none of that name.
-pub fn named_shape(
-    program: &Table<'_>,
-    locals: &Locals<'_>,
+pub fn named_shape<'p>(
+    program: &Table<'p>,
+    locals: &Locals<'p>,
     name: &[u8],
-) -> Result<Shape, LowerFault>
+) -> Result<Shape<'p>, LowerFault>
     ensures shape { IfOk result (λ shape. shape_tree shape ≡ named_shape (world_of program.now) (names_of locals.now) name.now) }
     ensures taken { TakesProgram program.now → NeverRefused result }
 {
@@ -46,7 +46,7 @@ pub fn named_shape(
 }
 
 /// The shape of a call; `void` where there is no function of that name.
-pub fn call_shape(program: &Table<'_>, name: &[u8]) -> Result<Shape, LowerFault>
+pub fn call_shape<'p>(program: &Table<'p>, name: &[u8]) -> Result<Shape<'p>, LowerFault>
     ensures shape { IfOk result (λ shape. shape_tree shape ≡ call_shape (world_of program.now) name.now) }
     ensures taken { TakesProgram program.now → NeverRefused result }
 {
@@ -60,11 +60,11 @@ pub fn call_shape(program: &Table<'_>, name: &[u8]) -> Result<Shape, LowerFault>
 }
 
 /// The shape of a place: of a variable, in parentheses too. Refuses all other places.
-pub fn place_shape(
-    program: &Table<'_>,
-    locals: &Locals<'_>,
+pub fn place_shape<'p>(
+    program: &Table<'p>,
+    locals: &Locals<'p>,
     place: &Expression,
-) -> Result<Shape, LowerFault>
+) -> Result<Shape<'p>, LowerFault>
     ensures shape { IfOk result (λ shape. shape_tree shape ≡ static_shape (world_of program.now) (names_of locals.now) (expression_tree place.now)) }
     ensures taken { TakesProgram program.now → TakesPlace (expression_tree place.now) → NeverRefused result }
 {

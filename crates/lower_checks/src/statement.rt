@@ -28,9 +28,9 @@ use std::alloc::Global;
 const VALUE: Temporary = Temporary(0);
 
 /// The shape of a local as it is declared. Refuses a region, a key and an alias.
-fn declared_shape(declaration: &Declaration) -> Result<Shape, LowerFault>
-    ensures shape { IfOk result (λ shape. shape_tree shape ≡ local_shape (declaration_tree declaration.now)) }
-    ensures taken { TakesDeclaration (declaration_tree declaration.now) → NeverRefused result }
+fn declared_shape<'p>(declaration: &'p Declaration) -> Result<Shape<'p>, LowerFault>
+    ensures shape { IfOk result (λ shape. shape_tree shape ≡ local_shape (declaration_tree declaration.entry.now)) }
+    ensures taken { TakesDeclaration (declaration_tree declaration.entry.now) → NeverRefused result }
 {
     match declaration {
         Declaration::Local(of, _, _) => Shape::of(of),
@@ -66,7 +66,7 @@ fn lower_declaration(
         Initializer::Array(_) => Err(LowerFault::NotTaken),
         Initializer::Value(value) => {
             let from = lower_expression(alloc, program, locals, value, body, VALUE)?;
-            lower_conversion(body, shape, from, VALUE)?;
+            lower_conversion(alloc, body, shape, from, VALUE)?;
             emit_operation(body, Operation::Put(local, shape.width(), VALUE))
         }
     }
@@ -76,7 +76,7 @@ fn lower_declaration(
 fn lower_return(
     alloc: Global,
     program: &Table<'_>,
-    shape: Shape,
+    shape: Shape<'_>,
     locals: &Locals<'_>,
     value: &Expression,
     body: &mut Vec<Statement>,
@@ -88,11 +88,11 @@ fn lower_return(
         (map statement_tree body.new.items ≡
         map statement_tree body.old.items ++
         (expression_code w names e 0 ++
-        (conversion_code (shape_tree shape) (static_shape w names e) 0 ++ core.Return (results_in (shape_tree shape) 0) ∷ []))) }
+        (conversion_code (shape_tree shape.entry) (static_shape w names e) 0 ++ core.Return (results_in (shape_tree shape.entry) 0) ∷ []))) }
     ensures taken { TakesProgram program.now → Takes (expression_tree value.now) → NeverRefused result }
 {
     let from = lower_expression(alloc, program, locals, value, body, VALUE)?;
-    lower_conversion(body, shape, from, VALUE)?;
+    lower_conversion(alloc, body, shape, from, VALUE)?;
     emit(body, Statement::Return(shape.result_in(VALUE)))
 }
 
@@ -100,8 +100,8 @@ fn lower_return(
 #[cycle(statement)]
 fn lower_statement<'p>(
     alloc: Global,
-    program: &Table<'_>,
-    shape: Shape,
+    program: &Table<'p>,
+    shape: Shape<'_>,
     locals: &mut Locals<'p>,
     statement: &'p Source,
     body: &mut Vec<Statement>,
@@ -109,9 +109,9 @@ fn lower_statement<'p>(
     ensures code { OnOk result
         (map statement_tree body.new.items ≡
         map statement_tree body.old.items ++
-        statement_code (world_of program.now) (shape_tree shape) (names_of locals.old) (source_tree statement.entry.now)) }
+        statement_code (world_of program.now) (shape_tree shape.entry) (names_of locals.old) (source_tree statement.entry.now)) }
     ensures kept { OnOk result (locals.new ≡ locals.old) }
-    ensures taken { TakesProgram program.now → TakesStatement (shape_tree shape) (source_tree statement.entry.now) → NeverRefused result }
+    ensures taken { TakesProgram program.now → TakesStatement (shape_tree shape.entry) (source_tree statement.entry.now) → NeverRefused result }
 {
     match statement {
         Source::Empty(_) => Ok(()),
@@ -166,17 +166,17 @@ fn lower_statement<'p>(
 #[cycle(statement)]
 fn lower_part<'p>(
     alloc: Global,
-    program: &Table<'_>,
-    shape: Shape,
+    program: &Table<'p>,
+    shape: Shape<'_>,
     locals: &mut Locals<'p>,
     statement: &'p Source,
 ) -> Result<Vec<Statement>, LowerFault>
     ensures code { IfOk result
         (λ body.
         map statement_tree body.items ≡
-        statement_code (world_of program.now) (shape_tree shape) (names_of locals.old) (source_tree statement.entry.now)) }
+        statement_code (world_of program.now) (shape_tree shape.entry) (names_of locals.old) (source_tree statement.entry.now)) }
     ensures kept { OnOk result (locals.new ≡ locals.old) }
-    ensures taken { TakesProgram program.now → TakesStatement (shape_tree shape) (source_tree statement.entry.now) → NeverRefused result }
+    ensures taken { TakesProgram program.now → TakesStatement (shape_tree shape.entry) (source_tree statement.entry.now) → NeverRefused result }
 {
     let mut body = Vec::new(alloc);
     lower_statement(alloc, program, shape, locals, statement, &mut body)?;
@@ -187,23 +187,23 @@ fn lower_part<'p>(
 #[cycle(statement)]
 pub fn lower_items<'p>(
     alloc: Global,
-    program: &Table<'_>,
-    shape: Shape,
+    program: &Table<'p>,
+    shape: Shape<'_>,
     locals: &mut Locals<'p>,
     items: &'p [BlockItem],
-    shapes: &mut Vec<Shape>,
+    shapes: &mut Vec<Shape<'p>>,
     body: &mut Vec<Statement>,
 ) -> Result<(), LowerFault>
     ensures code { OnOk result
         (map statement_tree body.new.items ≡
         map statement_tree body.old.items ++
-        items_code (world_of program.now) (shape_tree shape) (names_of locals.old) (length shapes.old.items)
+        items_code (world_of program.now) (shape_tree shape.entry) (names_of locals.old) (length shapes.old.items)
         (items_of (map item_tree items.entry.now))) }
     ensures shapes { OnOk result
         (map shape_tree shapes.new.items ≡
         map shape_tree shapes.old.items ++ block_shapes (items_of (map item_tree items.entry.now))) }
     ensures left { OnOk result (left locals.new ≡ left locals.old) }
-    ensures taken { TakesProgram program.now → TakesItems (shape_tree shape) (items_of (map item_tree items.entry.now)) → NeverRefused result }
+    ensures taken { TakesProgram program.now → TakesItems (shape_tree shape.entry) (items_of (map item_tree items.entry.now)) → NeverRefused result }
 {
     'each: for item in items {
         match item {

@@ -24,8 +24,8 @@ use std::marker::Model;
 
 /// A global: its shape, and its number among the globals.
 #[derive(Clone, Copy)]
-pub struct Found {
-    pub shape: Shape,
+pub struct Found<'p> {
+    pub shape: Shape<'p>,
     pub object: u32,
 }
 
@@ -41,7 +41,7 @@ pub struct Callee<'p> {
 pub struct Table<'p> {
     items: &'p [Item],
     functions: Firsts<'p, Callee<'p>>,
-    globals: Firsts<'p, Found>,
+    globals: Firsts<'p, Found<'p>>,
 }
 
 impl<'p> Model for Table<'p> {
@@ -79,11 +79,11 @@ fn first_functions<'p>(
     Ok(functions)
 }
 
-/// A global of this number. Refuses an array, and what isn't of integers.
-fn global_entry(global: &Declared, object: u32) -> Result<Found, LowerFault>
-    ensures entry { let g = global_tree global.now in
+/// A global of this number. Refuses an array, and what is no integer and no thin pointer.
+fn global_entry<'p>(global: &'p Declared, object: u32) -> Result<Found<'p>, LowerFault>
+    ensures entry { let g = global_tree global.entry.now in
         IfOk result (λ found. found_entity found ≡ Variable (global_shape g.initial (settled (written g.of))) (heap_spot object)) }
-    ensures taken { IsIntegerType (global_tree global.now).of → TakesInitial (global_tree global.now).initial → NeverRefused result }
+    ensures taken { IsIntegerType (global_tree global.entry.now).of → TakesInitial (global_tree global.entry.now).initial → NeverRefused result }
 {
     if let Initial::Array(_) = &global.initial {
         return Err(LowerFault::NotTaken);
@@ -94,9 +94,9 @@ fn global_entry(global: &Declared, object: u32) -> Result<Found, LowerFault>
     })
 }
 
-/// Adds a global of this number, which is the first of its name where there is none. Refuses an array, and what isn't of integers.
+/// Adds a global of this number, which is the first of its name where there is none. Refuses an array, and what is no integer and no thin pointer.
 fn add_global<'p>(
-    globals: &mut Firsts<'p, Found>,
+    globals: &mut Firsts<'p, Found<'p>>,
     global: &'p Declared,
     object: u32,
 ) -> Result<(), LowerFault>
@@ -110,8 +110,8 @@ fn add_global<'p>(
     Ok(())
 }
 
-/// The first global of each name. Refuses arrays, and what isn't of integers.
-fn first_globals<'p>(alloc: Global, items: &'p [Item]) -> Result<Firsts<'p, Found>, LowerFault>
+/// The first global of each name. Refuses arrays, and what is no integer and no thin pointer.
+fn first_globals<'p>(alloc: Global, items: &'p [Item]) -> Result<Firsts<'p, Found<'p>>, LowerFault>
     ensures first { IfOk result (λ globals. (name : List ℕ) → global_in globals name ≡ bound_to (globals_from (program_tree items.entry.now) 0) name) }
     ensures taken { TakesProgram (program_tree items.entry.now) → NeverRefused result }
 {
@@ -127,7 +127,7 @@ fn first_globals<'p>(alloc: Global, items: &'p [Item]) -> Result<Firsts<'p, Foun
 }
 
 impl<'p> Table<'p> {
-    /// The tables of a program. Refuses globals that are no integers.
+    /// The tables of a program. Refuses globals that are no integers and no thin pointers.
     pub fn new(alloc: Global, items: &'p [Item]) -> Result<Self, LowerFault>
         ensures program { IfOk result (λ table. table ≡ program_tree items.entry.now) }
         ensures taken { TakesProgram (program_tree items.entry.now) → NeverRefused result }
@@ -158,7 +158,7 @@ impl<'p> Table<'p> {
     }
 
     /// The first global of a name.
-    pub fn global_named(&self, name: &[u8]) -> Option<Found>
+    pub fn global_named(&self, name: &[u8]) -> Option<Found<'p>>
         ensures named { option_map found_entity result ≡ bound_to (globals_from self.now 0) name.now }
     {
         self.globals.of(name)

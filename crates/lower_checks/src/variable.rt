@@ -32,13 +32,13 @@ fn place_of(local: Named<'_>) -> Variable
 }
 
 /// Appends what reads a variable into a temporary, a local by one operation; gives its shape, which is `void` where there is none of that name.
-pub fn lower_get(
-    program: &Table<'_>,
-    locals: &Locals<'_>,
+pub fn lower_get<'p>(
+    program: &Table<'p>,
+    locals: &Locals<'p>,
     body: &mut Vec<Statement>,
     name: &[u8],
     to: Temporary,
-) -> Result<Shape, LowerFault>
+) -> Result<Shape<'p>, LowerFault>
     ensures code { OnOk result
         (map statement_tree body.new.items ≡
         map statement_tree body.old.items ++ get_code (world_of program.now) (names_of locals.now) name.now to.0) }

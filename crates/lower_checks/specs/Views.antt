@@ -10,6 +10,7 @@ use Rattle.lower_checks.specs.declared.shape.Shape.TheVariants as shape
 use Rattle.lower_checks.specs.declared.shape.Owner as code_owner
 use Rattle.lower_checks.specs.declared.shape.Owner.TheVariants as owner_is
 use Rattle.lower_checks.specs.declared.shape.Target as code_target
+use Rattle.lower_checks.specs.declared.shape.Target.TheVariants as target
 use Rattle.lower_checks.specs.declared.names.Named as code_named
 use Rattle.lower_checks.specs.declared.table.Found as code_found
 
@@ -18,15 +19,16 @@ owner_tree owner_is.Shared = Shared
 owner_tree owner_is.Alone = Alone
 
 -- what a pointer leads to, as it is written
-abbrev pub written_target : code_target.Target → Shape
-written_target t = pointed (map pointer_tree t.pointers.now) (base_shape (base_tree t.base.now))
+abbrev pub target_tree : code_target.Target → Shape
+target_tree target.Nothing = VoidShape
+target_tree (target.Written pointers base) = pointed (map pointer_tree pointers.now) (base_shape (base_tree base.now))
 
 abbrev pub shape_tree : code_shape.Shape → Shape
 shape_tree shape.Int = IntShape
 shape_tree shape.Unsigned = UnsignedShape
 shape_tree shape.Char = CharShape
 shape_tree shape.Void = VoidShape
-shape_tree (shape.Thin may_be_null owner to) = ThinShape may_be_null (owner_tree owner) (settled (written_target to))
+shape_tree (shape.Thin may_be_null owner to) = ThinShape may_be_null (owner_tree owner) (settled (target_tree to))
 
 abbrev pub named_tree : code_named.Named → lowered.Named
 named_tree n = record { name = n.name.now; shape = shape_tree n.shape; out = n.out; index = n.index }

@@ -19,7 +19,9 @@ use crate::operator::operator_shape;
 use crate::shape::Shape;
 use crate::shaped::{call_shape, number_shape, place_shape};
 use crate::table::Table;
-use crate::values::{lower_conversion, lower_not, lower_operator, lower_truth, lower_word};
+use crate::values::{
+    lower_check, lower_conversion, lower_not, lower_operator, lower_truth, lower_word,
+};
 use crate::variable::{lower_get, lower_put};
 use cyc_core::{Operation, Statement, Temporary};
 use cyc_tree::{Expression, Link, Operator, Prefix};
@@ -49,6 +51,10 @@ pub fn lower_expression<'p>(
         Expression::Character(_, byte) => {
             emit_operation(body, Operation::Constant(to, u32::from(*byte)))?;
             Ok(Shape::Char)
+        }
+        Expression::Null(_) => {
+            emit_operation(body, Operation::NullPointer(to))?;
+            Ok(Shape::null())
         }
         Expression::Variable(name) => lower_get(program, locals, body, &name.text, to),
         Expression::Grouped(_, inner) => {
@@ -182,7 +188,14 @@ fn lower_prefixed<'p>(
             lower_not(body, shape, to)?;
             Ok(Shape::Int)
         }
-        Prefix::Dereference | Prefix::AddressOf => Err(LowerFault::NotTaken),
+        Prefix::Dereference => {
+            let pointer = lower_expression(alloc, program, locals, operand, body, to)?;
+            lower_check(alloc, body, pointer, to)?;
+            let shape = pointer.pointee()?;
+            emit_operation(body, Operation::Load(to, to, shape.width()))?;
+            Ok(shape)
+        }
+        Prefix::AddressOf => Err(LowerFault::NotTaken),
     }
 }
 

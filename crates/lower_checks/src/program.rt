@@ -9,6 +9,7 @@ ghost use Rattle.source_meaning.specs.Steps.{World};
 ghost use Rattle.source_meaning.specs.Programs.{world_of, functions_of};
 ghost use Rattle.source_lowering.specs.Programs.{function_code, constant_content, initial_content, datum_of, data_of, program_code};
 ghost use Rattle.accepted_sources.specs.IntegerForms.{IsIntegerType, TakesConstant, TakesInitial, TakesProgram};
+ghost use Rattle.lower_checks.specs.Views.{shape_tree};
 ghost use Rattle.lower_checks.specs.Refusals.{NeverRefused};
 
 use crate::fault::LowerFault;
@@ -50,7 +51,21 @@ fn initial_word(initial: &Initial) -> Result<u32, LowerFault>
     }
 }
 
-/// A global, with what it begins with. Refuses what isn't an integer.
+/// A global of a pointer's shape, which begins as NULL. Refuses all other shapes and constants.
+fn pointer_datum(shape: Shape<'_>, initial: &Initial) -> Result<Datum, LowerFault>
+    ensures { (w : World) →
+        let s = shape_tree shape.entry in
+        IfOk result (λ datum. datum_tree datum ≡ datum_of w s (initial_content (initial_tree initial.now) s)) }
+{
+    match (shape, initial) {
+        (Shape::Thin(_, _, _), Initial::None | Initial::Constant(Constant::Null(_))) => {
+            Ok(Datum::Null)
+        }
+        _ => Err(LowerFault::NotTaken),
+    }
+}
+
+/// A global, with what it begins with. Refuses what is no integer and no thin pointer.
 fn lower_global(global: &Declared) -> Result<Datum, LowerFault>
     ensures datum { (w : World) →
         let s = settled (written (global_tree global.now).of) in
@@ -58,6 +73,9 @@ fn lower_global(global: &Declared) -> Result<Datum, LowerFault>
     ensures taken { IsIntegerType (global_tree global.now).of → TakesInitial (global_tree global.now).initial → NeverRefused result }
 {
     let shape = Shape::of(&global.of)?;
+    if let Shape::Thin(_, _, _) = shape {
+        return pointer_datum(shape, &global.initial);
+    }
     let word = initial_word(&global.initial)?;
     match shape {
         Shape::Char => Ok(Datum::Byte((word % 256) as u8)),
@@ -66,7 +84,7 @@ fn lower_global(global: &Declared) -> Result<Datum, LowerFault>
     }
 }
 
-/// The globals, in their order. Refuses a struct, a union and what isn't an integer.
+/// The globals, in their order. Refuses a struct, a union and what is no integer and no thin pointer.
 fn lower_globals(alloc: Global, program: &Source) -> Result<Vec<Datum>, LowerFault>
     ensures globals { IfOk result (λ globals. map datum_tree globals.items ≡ data_of (world_of program.now) program.now) }
     ensures taken { TakesProgram program.now → NeverRefused result }

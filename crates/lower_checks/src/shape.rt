@@ -1,14 +1,15 @@
 // Shapes, and what depends on them alone.
 
-ghost use Rattle.std.specs.Prelude.{◌≡◌, ◌∷◌, ◌++◌, [], suc, length, IfOk, OnOk, map, option_map};
+ghost use Rattle.std.specs.Prelude.{◌≡◌, ◌∷◌, ◌++◌, [], suc, true, length, IfOk, OnOk, map, option_map};
 ghost use Rattle.cyc_tree.specs.View.{base_tree, pointer_tree, region_tree, type_tree};
-ghost use Rattle.source_meaning.specs.Shapes.{base_shape, owner_of, settled, shared_owner, signed_shape, written};
+ghost use Rattle.source_meaning.specs.Shapes.{ThinShape, VoidShape, Shared, base_shape, owner_of, pointee, settled, shared_owner, signed_shape, written};
 ghost use Rattle.source_meaning.specs.Steps.{World};
 ghost use Rattle.source_lowering.specs.Layouts.{local_of};
 ghost use Rattle.source_lowering.specs.Lowered.{width_of, results_in};
 ghost use Rattle.source_lowering.specs.Programs.{locals_of};
 ghost use Rattle.cyc_core.specs.Trees.{bytes_of, local_tree, optional_tree};
-ghost use Rattle.lower_checks.specs.Views.{owner_tree, shape_tree, written_target};
+ghost use Rattle.lower_checks.specs.declared.shape.Target.TheVariants.{Written};
+ghost use Rattle.lower_checks.specs.Views.{owner_tree, shape_tree, target_tree};
 ghost use Rattle.accepted_sources.specs.IntegerForms.{TakesResult};
 ghost use Rattle.source_lowering.specs.Taken.{IsIntegerBase, IsVoidBase};
 ghost use Rattle.lower_checks.specs.Refusals.{IsLocal, AreLocals, NeverRefused};
@@ -27,11 +28,13 @@ pub enum Owner {
     Alone,
 }
 
-/// What a pointer leads to, as it is written: a base, and the pointers to it, from the base outwards.
+/// What a pointer leads to.
 #[derive(Clone, Copy)]
-pub struct Target<'p> {
-    pub pointers: &'p [Pointer],
-    pub base: &'p Base,
+pub enum Target<'p> {
+    /// Nothing: so `NULL` has it.
+    Nothing,
+    /// A type as it is written: the pointers, from the base outwards, and the base.
+    Written(&'p [Pointer], &'p Base),
 }
 
 /// What a type means at run time: an integer of one of three types, nothing, or a thin pointer.
@@ -77,7 +80,7 @@ fn base_shape<'p>(base: &Base) -> Result<Shape<'p>, LowerFault>
 /// The shape of a pointer to a target. Refuses a fat one.
 fn pointer_shape<'p>(pointer: &Pointer, to: Target<'p>) -> Result<Shape<'p>, LowerFault>
     ensures { let p = pointer_tree pointer.now in
-        IfOk result (λ shape. shape_tree shape ≡ settled (signed_shape p.sign (owner_of p.region) (written_target to.entry))) }
+        IfOk result (λ shape. shape_tree shape ≡ settled (signed_shape p.sign (owner_of p.region) (target_tree to.entry))) }
 {
     let owner = owner_in(&pointer.region);
     match pointer.sign {
@@ -87,17 +90,55 @@ fn pointer_shape<'p>(pointer: &Pointer, to: Target<'p>) -> Result<Shape<'p>, Low
     }
 }
 
+/// The shape of a base with pointers to it. Refuses all others than `int`, `unsigned`, `char`, `void` and thin pointers.
+fn written_shape<'p>(pointers: &'p [Pointer], base: &'p Base) -> Result<Shape<'p>, LowerFault>
+    ensures shape { IfOk result (λ shape. shape_tree shape ≡ settled (target_tree (Written pointers.entry base.entry))) }
+    ensures integers { map pointer_tree pointers.entry.now ≡ [] → IsIntegerBase (base_tree base.entry.now) → NeverRefused result }
+    ensures void { map pointer_tree pointers.entry.now ≡ [] → IsVoidBase (base_tree base.entry.now) → NeverRefused result }
+{
+    if let [others @ .., outer] = pointers {
+        return pointer_shape(outer, Target::Written(others, base));
+    }
+    base_shape(base)
+}
+
+impl<'p> Target<'p> {
+    /// The shape of what a pointer leads to. Refuses all others than `int`, `unsigned`, `char`, `void` and thin pointers.
+    fn shape(self) -> Result<Shape<'p>, LowerFault>
+        ensures { IfOk result (λ shape. shape_tree shape ≡ settled (target_tree self.entry)) }
+    {
+        match self {
+            Target::Nothing => Ok(Shape::Void),
+            Target::Written(pointers, base) => written_shape(pointers, base),
+        }
+    }
+}
+
 impl<'p> Shape<'p> {
     /// The shape of a type as it is written. Refuses all others than `int`, `unsigned`, `char`, `void` and thin pointers.
     pub fn of(of: &'p TypeName) -> Result<Shape<'p>, LowerFault>
         ensures shape { IfOk result (λ shape. shape_tree shape ≡ settled (written (type_tree of.entry.now))) }
         ensures taken { TakesResult (type_tree of.entry.now) → NeverRefused result }
     {
-        if let [pointers @ .., outer] = of.pointers.as_slice() {
-            let base = &of.base;
-            return pointer_shape(outer, Target { pointers, base });
+        written_shape(&of.pointers, &of.base)
+    }
+
+    /// The shape of `NULL`.
+    pub fn null() -> Shape<'p>
+        ensures { shape_tree result ≡ ThinShape true Shared VoidShape }
+    {
+        Shape::Thin(true, Owner::Shared, Target::Nothing)
+    }
+
+    /// The shape of what a pointer leads to; `void` where it isn't a pointer. Refuses all others than `int`, `unsigned`, `char`,
+    /// `void` and thin pointers.
+    pub fn pointee(self) -> Result<Shape<'p>, LowerFault>
+        ensures { IfOk result (λ shape. shape_tree shape ≡ pointee (shape_tree self.entry)) }
+    {
+        match self {
+            Shape::Thin(_, _, to) => to.shape(),
+            _ => Ok(Shape::Void),
         }
-        base_shape(&of.base)
     }
 
     /// How wide a value of the shape is.

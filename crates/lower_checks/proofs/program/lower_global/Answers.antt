@@ -1,0 +1,13 @@
+use Rattle.std.proofs.Common.{◌≡◌, subst, IfOk}
+use Rattle.cyc_tree.specs.View.{initial_tree}
+use Rattle.cyc_core.specs.Trees.{datum_tree}
+use Rattle.source_meaning.specs.Shapes.{Shape}
+use Rattle.source_lowering.specs.Programs.{datum_of, initial_content}
+use Rattle.lower_checks.proofs.program.lower_global.Goals as goal
+
+pub returns-in-Thin-clause-datum : goal.returns-in-Thin-clause-datum
+returns-in-Thin-clause-datum c =
+    λ w.
+    let initial = initial_tree c.args.global.now.initial in
+    subst (λ (s : Shape). IfOk c.pointer_datum.result (λ datum. datum_tree datum ≡ datum_of w s (initial_content initial s))) c.in_ok-shape.ensures.shape
+    (c.pointer_datum.ensures w)

@@ -27,7 +27,7 @@ use cyc_core::{Operation, Statement, Temporary};
 use cyc_tree::{Expression, Link, Operator, Prefix};
 use std::alloc::Global;
 
-/// Appends what leaves an expression's value in a temporary, and gives the shape of its type. Refuses what isn't of integers.
+/// Appends what leaves an expression's value in a temporary, and gives the shape of its type. Refuses addresses, stores through pointers, and what is neither of integers nor of thin pointers.
 #[cycle(expression)]
 pub fn lower_expression<'p>(
     alloc: Global,

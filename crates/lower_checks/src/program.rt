@@ -122,7 +122,7 @@ fn lower_functions(alloc: Global, program: &Table<'_>) -> Result<Vec<Function>, 
     Ok(functions)
 }
 
-/// The Core of a program's tree. Refuses a tree that has something else than functions, globals and locals of integers.
+/// The Core of a program's tree. Refuses a tree that has something else than functions, globals and locals of integers and of thin pointers, and addresses and stores through pointers.
 fn lower_tree(alloc: Global, program: &Source) -> Result<Program, LowerFault>
     ensures code { IfOk result (λ core. program_tree core ≡ program_code program.now) }
     ensures taken { TakesProgram program.now → NeverRefused result }

@@ -96,7 +96,7 @@ fn lower_return(
     emit(body, Statement::Return(shape.result_in(VALUE)))
 }
 
-/// Appends what a statement does, in a function with a result of this shape. Refuses what isn't of integers.
+/// Appends what a statement does, in a function with a result of this shape. Refuses what is neither of integers nor of thin pointers.
 #[cycle(statement)]
 fn lower_statement<'p>(
     alloc: Global,

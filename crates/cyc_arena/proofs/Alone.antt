@@ -1,5 +1,33 @@
 -- A unique block is freed: its slot is vacant again.
-use Rattle.std.proofs.Common.{◌≡◌, ℕ, ◌+◌, ◌-◌, ◌*◌, ◌/◌, ◌%◌, ◌<◌, ◌≤◌, Bool, true, false, List, length, Option, Some, None, Ok, nat_eq, nat_lt, refl, sym, ap, subst, ◌∙◌, arith, length-set}
+use Rattle.std.proofs.Common.{
+  ◌≡◌,
+  ℕ,
+  ◌+◌,
+  ◌-◌,
+  ◌*◌,
+  ◌/◌,
+  ◌%◌,
+  ◌<◌,
+  ◌≤◌,
+  Bool,
+  true,
+  false,
+  List,
+  length,
+  Option,
+  Some,
+  None,
+  Ok,
+  nat_eq,
+  nat_lt,
+  refl,
+  sym,
+  ap,
+  subst,
+  ◌∙◌,
+  arith,
+  length-set,
+}
 use Rattle.std.specs.Prelude.{slice_index, slice_set, ◌&&◌, if◌then◌else◌}
 use Rattle.std.proofs.lemmas.Bool.Decides.{nat_tests}
 use Rattle.arena_laws.specs.declared.owner.Owner.{Owner}
@@ -10,10 +38,11 @@ use Rattle.arena_laws.specs.Holdings.{arena_base}
 use Rattle.arena_laws.specs.Lawful.{frees_alone, is_alone, unique_free, without_alone}
 use Rattle.arena_laws.specs.Laws.{Does}
 use Rattle.cyc_arena.specs.Plain.{Plain, IsSound, IsInPage, count_of, address_of, owner_in, owner_at, page_at, place_at, counts_of, holdings_of}
-use Rattle.cyc_arena.proofs.Words.{index_same, index_other, index_set, count_set}
+use Rattle.region_runtime.proofs.Words.{index_at, index_else, index_set}
+use Rattle.cyc_arena.proofs.Words.{count_set}
 use Rattle.cyc_arena.proofs.Owners.{owner_below, owner_here}
-use Rattle.cyc_arena.proofs.Seen.{slot_in_page}
-use Rattle.cyc_arena.proofs.Slots.{LiesIn, lies_in, only_slot, slot_ends, hit, miss, slot_in}
+use Rattle.unique_blocks.proofs.Places.{slot_ends, slot_within}
+use Rattle.cyc_arena.proofs.Slots.{LiesIn, lies_in, only_slot, hit, miss, slot_in}
 
 -- ---- a unique block's address, read backwards
 
@@ -102,7 +131,7 @@ module _ (s : Plain) (from c : ℕ) (sound : IsSound s) (alone : owner_at s.owne
       λ i. record k { slots = λ d. each d i }
 
   slot_low : (from - arena_base) % 4096 / c < 128
-  slot_low = let l = slot_in_page c (place_at from) class (omega arith) in let f = class.few in omega (arith, l, f)
+  slot_low = let l = slot_within c (place_at from) class (omega arith) in let f = class.few in omega (arith, l, f)
 
   page_is : place / 128 ≡ page_at from
   page_is = let l = slot_low in omega (arith, l)
@@ -170,15 +199,15 @@ module _ (s : Plain) (from c : ℕ) (sound : IsSound s) (alone : owner_at s.owne
       let vacant : nat_eq (2 * c + 2) (2 * c + 1) ≡ false = grind (arith, nat_tests) in
       let was = hit s place c sound in_page s.slots (2 * c + 1) q here.live.slot b d g
       ∙ ap (λ t. if t then Some (Alone (arena_base + 4096 * (place / 128) + place % 128 * c) c) else None) live in
-      hit s place c sound in_page after.slots (2 * c + 2) q (index_same s.slots place (2 * c + 2) place place_in (grind (arith, nat_tests))) b d g
+      hit s place c sound in_page after.slots (2 * c + 2) q (index_at s.slots place (2 * c + 2) place place_in (grind (arith, nat_tests))) b d g
       ∙ ap (λ t. if t then Some (Alone (arena_base + 4096 * (place / 128) + place % 128 * c) c) else None) vacant
       ∙ ap (λ t. if t then None else Some (Alone (arena_base + 4096 * (place / 128) + place % 128 * c) c)) (sym same)
       ∙ ap (λ o. if is_alone from o then None else o) (sym was)
   freed_by false true false q b d g =
-      kept q (only true false q d g refl (owner_at s.owner s.used s.slots q) refl) (miss s place c sound in_page after.slots (λ k n. index_other s.slots place
+      kept q (only true false q d g refl (owner_at s.owner s.used s.slots q) refl) (miss s place c sound in_page after.slots (λ k n. index_else s.slots place
       (2 * c + 2) k n) true false q b d g refl)
   freed_by false false f q b d g =
-      kept q (only false f q d g refl (owner_at s.owner s.used s.slots q) refl) (miss s place c sound in_page after.slots (λ k n. index_other s.slots place
+      kept q (only false f q d g refl (owner_at s.owner s.used s.slots q) refl) (miss s place c sound in_page after.slots (λ k n. index_else s.slots place
       (2 * c + 2) k n) false f q b d g refl)
 
   freed_holds : holdings_of after ≡ without_alone from c (holdings_of s)
@@ -222,11 +251,11 @@ module _ (s : Plain) (from c : ℕ) (sound : IsSound s) (alone : owner_at s.owne
     where
       vacant_by : (b : Bool) (k d : ℕ) → nat_eq k place ≡ b → slice_index after.slots k ≡ 2 * d + 2 → IsInPage s.owner k d
       vacant_by true k d e l =
-          let i = index_same s.slots place (2 * c + 2) k place_in e in
+          let i = index_at s.slots place (2 * c + 2) k place_in e in
           let same : place ≡ k = grind (arith, nat_tests) in
           let number : c ≡ d = omega (arith, i, l) in
           subst (λ n. IsInPage s.owner n d) same (subst (λ n. IsInPage s.owner place n) number in_page)
-      vacant_by false k d e l = sound.vacant k d (sym (index_other s.slots place (2 * c + 2) k e) ∙ l)
+      vacant_by false k d e l = sound.vacant k d (sym (index_else s.slots place (2 * c + 2) k e) ∙ l)
 
   -- the numbers of the slot, for the code
   pub record IsSlotOf : Type 0 where

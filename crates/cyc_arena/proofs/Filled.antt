@@ -1,5 +1,33 @@
 -- A free page is cut into vacant slots.
-use Rattle.std.proofs.Common.{◌≡◌, ℕ, zero, suc, ◌+◌, ◌-◌, ◌*◌, ◌/◌, ◌%◌, ◌<◌, ◌≤◌, Bool, true, false, List, length, Some, None, nat_eq, nat_lt, refl, sym, ap, subst, ◌∙◌, arith, length-set}
+use Rattle.std.proofs.Common.{
+  ◌≡◌,
+  ℕ,
+  zero,
+  suc,
+  ◌+◌,
+  ◌-◌,
+  ◌*◌,
+  ◌/◌,
+  ◌%◌,
+  ◌<◌,
+  ◌≤◌,
+  Bool,
+  true,
+  false,
+  List,
+  length,
+  Some,
+  None,
+  nat_eq,
+  nat_lt,
+  refl,
+  sym,
+  ap,
+  subst,
+  ◌∙◌,
+  arith,
+  length-set,
+}
 use Rattle.std.specs.Prelude.{slice_index, slice_set, if◌then◌else◌}
 use Rattle.std.proofs.lemmas.Bool.Decides.{nat_tests}
 use Rattle.std.proofs.lemmas.Grind.{common_steps}
@@ -8,9 +36,10 @@ use Rattle.arena_laws.specs.Classes.{IsClass}
 use Rattle.arena_laws.specs.Counts.{put, slot_needs_page}
 use Rattle.arena_laws.specs.Holdings.{arena_base}
 use Rattle.cyc_arena.specs.Plain.{Plain, IsSound, IsInPage, Finds, count_of, filled, address_of, owner_in, owner_at, page_at, place_at, counts_of, holdings_of}
-use Rattle.cyc_arena.proofs.Words.{index_same, index_other, index_set, count_set, none_found}
+use Rattle.region_runtime.proofs.Words.{index_at, index_else, index_set}
+use Rattle.cyc_arena.proofs.Words.{count_set, none_found}
 use Rattle.cyc_arena.proofs.Owners.{owner_nobody, owner_class, owner_below, owner_here, owner_there}
-use Rattle.cyc_arena.proofs.Seen.{slot_in_page}
+use Rattle.unique_blocks.proofs.Places.{slot_within}
 use Rattle.cyc_arena.proofs.Slots.{owner_slots}
 
 -- ---- a list that is filled
@@ -21,11 +50,11 @@ filled_long (suc n) from x xs = length-set (filled n from x xs) (from + n) x ∙
 
 pub filled_before : (n from x : ℕ) (xs : List ℕ) (q : ℕ) → q < from → slice_index (filled n from x xs) q ≡ slice_index xs q
 filled_before zero from x xs q l = refl
-filled_before (suc n) from x xs q l = index_other (filled n from x xs) (from + n) x q (grind (arith, nat_tests)) ∙ filled_before n from x xs q l
+filled_before (suc n) from x xs q l = index_else (filled n from x xs) (from + n) x q (grind (arith, nat_tests)) ∙ filled_before n from x xs q l
 
 pub filled_after : (n from x : ℕ) (xs : List ℕ) (q : ℕ) → from + n ≤ q → slice_index (filled n from x xs) q ≡ slice_index xs q
 filled_after zero from x xs q l = refl
-filled_after (suc n) from x xs q l = index_other (filled n from x xs) (from + n) x q (grind (arith, nat_tests)) ∙ filled_after n from x xs q (omega (arith, l))
+filled_after (suc n) from x xs q l = index_else (filled n from x xs) (from + n) x q (grind (arith, nat_tests)) ∙ filled_after n from x xs q (omega (arith, l))
 
 pub filled_in : (n from x : ℕ) (xs : List ℕ) (q : ℕ) → from + n ≤ length xs → from ≤ q → q < from + n → slice_index (filled n from x xs) q ≡ x
 filled_in zero from x xs q b l m = absurd (omega (arith, l, m))
@@ -33,8 +62,8 @@ filled_in (suc n) from x xs q b l m = by_last (nat_eq q (from + n)) refl (λ k. 
   where
     by_last : (t : Bool) → nat_eq q (from + n) ≡ t → (q < from + n → slice_index (filled n from x xs) q ≡ x) →
         slice_index (slice_set (filled n from x xs) (from + n) x) q ≡ x
-    by_last true e f = index_same (filled n from x xs) (from + n) x q (let f = filled_long n from x xs in omega (arith, f, b)) e
-    by_last false e f = index_other (filled n from x xs) (from + n) x q e ∙ f (grind (arith, nat_tests))
+    by_last true e f = index_at (filled n from x xs) (from + n) x q (let f = filled_long n from x xs in omega (arith, f, b)) e
+    by_last false e f = index_else (filled n from x xs) (from + n) x q e ∙ f (grind (arith, nat_tests))
 
 -- the count of a word grows where zeros are filled by it
 pub filled_count : (n from x k : ℕ) (xs : List ℕ) → from + n ≤ length xs → ((j : ℕ) → j < n → slice_index xs (from + j) ≡ 0) → 0 < k →
@@ -96,10 +125,10 @@ module _ (s : Plain) (p c : ℕ) (sound : IsSound s) (class : IsClass c) (found 
       owner_at cut.owner s.used cut.slots q ≡ owner_at s.owner s.used s.slots q
   owner_by true e q b d = owner_below cut.owner s.used cut.slots q b ∙ sym (owner_below s.owner s.used s.slots q b)
   owner_by false true q b e =
-      let l = slot_in_page c (place_at q) class (omega arith) in
+      let l = slot_within c (place_at q) class (omega arith) in
       let w = filled_in n (128 * p) (2 * c + 2) s.slots (128 * p + place_at q / c) room (omega arith) (omega (arith, l)) in
       let t : nat_eq (slice_index cut.slots (128 * p + place_at q / c)) (2 * c + 1) ≡ false = grind (arith, nat_tests) in
-      owner_there cut.owner s.used cut.slots q p (2 * c + 2) (slice_index s.used p) b e (index_same s.owner p (2 * c + 2) p found.0 (grind
+      owner_there cut.owner s.used cut.slots q p (2 * c + 2) (slice_index s.used p) b e (index_at s.owner p (2 * c + 2) p found.0 (grind
       (arith, nat_tests))) refl
       ∙ owner_class c (slice_index s.used p) p (place_at q) cut.slots
       ∙ ap (λ t. if t then Some (Alone (address_of p (place_at q / c * c)) c) else None) t
@@ -107,14 +136,14 @@ module _ (s : Plain) (p c : ℕ) (sound : IsSound s) (class : IsClass c) (found 
   owner_by false false q b e =
       owner_here cut.owner s.used cut.slots q b
       ∙ owner_slots (slice_index cut.owner (page_at q)) (slice_index s.used (page_at q)) (page_at q) (place_at q) s.slots cut.slots
-      (λ k w. elsewhere (128 * page_at q + place_at q / k) (far k (sym (index_other s.owner p (2 * c + 2) (page_at q) e) ∙ w)))
-      ∙ ap (λ w. owner_in w (slice_index s.used (page_at q)) (page_at q) (place_at q) s.slots) (index_other s.owner p (2 * c + 2) (page_at q) e)
+      (λ k w. elsewhere (128 * page_at q + place_at q / k) (far k (sym (index_else s.owner p (2 * c + 2) (page_at q) e) ∙ w)))
+      ∙ ap (λ w. owner_in w (slice_index s.used (page_at q)) (page_at q) (place_at q) s.slots) (index_else s.owner p (2 * c + 2) (page_at q) e)
       ∙ sym (owner_here s.owner s.used s.slots q b)
     where
       far : (k : ℕ) → slice_index s.owner (page_at q) ≡ 2 * k + 2 → nat_eq ((128 * page_at q + place_at q / k) / 128) p ≡ false
       far k w =
           let cl = sound.classes (page_at q) k w in let few = cl.few in
-          let l = slot_in_page k (place_at q) cl (omega arith) in
+          let l = slot_within k (place_at q) cl (omega arith) in
           let same : (128 * page_at q + place_at q / k) / 128 ≡ page_at q = omega (arith, l, few) in
           ap (λ m. nat_eq m p) same ∙ e
 
@@ -155,7 +184,7 @@ module _ (s : Plain) (p c : ℕ) (sound : IsSound s) (class : IsClass c) (found 
       arith,
       nat_tests,
       common_steps,
-      index_other s.owner p (2 * c + 2)
+      index_else s.owner p (2 * c + 2)
           (u / 128),
     );
     place = i.place;
@@ -206,8 +235,8 @@ module _ (s : Plain) (p c : ℕ) (sound : IsSound s) (class : IsClass c) (found 
     where
       classes_by : (b : Bool) (q d : ℕ) → nat_eq q p ≡ b → slice_index cut.owner q ≡ 2 * d + 2 → IsClass d
       classes_by true q d e l =
-          let i = index_same s.owner p (2 * c + 2) q found.0 e in let same : c ≡ d = omega (arith, i, l) in subst IsClass same class
-      classes_by false q d e l = sound.classes q d (sym (index_other s.owner p (2 * c + 2) q e) ∙ l)
+          let i = index_at s.owner p (2 * c + 2) q found.0 e in let same : c ≡ d = omega (arith, i, l) in subst IsClass same class
+      classes_by false q d e l = sound.classes q d (sym (index_else s.owner p (2 * c + 2) q e) ∙ l)
 
       in_cut : (u : ℕ) → nat_eq (u / 128) p ≡ true → nat_lt u (128 * p + n) ≡ true → slice_index cut.slots u ≡ 2 * c + 2
       in_cut u e m = filled_in n (128 * p) (2 * c + 2) s.slots u room (grind (arith, nat_tests)) (grind (arith, nat_tests))
@@ -226,7 +255,7 @@ module _ (s : Plain) (p c : ℕ) (sound : IsSound s) (class : IsClass c) (found 
       vacant_by : (b m : Bool) (u d : ℕ) → nat_eq (u / 128) p ≡ b → nat_lt u (128 * p + n) ≡ m → slice_index cut.slots u ≡ 2 * d + 2 → IsInPage cut.owner u d
       vacant_by true true u d e m l =
           let i = in_cut u e m in let same : c ≡ d = omega (arith, i, l) in
-          subst (λ d. IsInPage cut.owner u d) same (record { page = index_same s.owner p (2 * c + 2) (u / 128) found.0 e; place = grind (arith, nat_tests) })
+          subst (λ d. IsInPage cut.owner u d) same (record { page = index_at s.owner p (2 * c + 2) (u / 128) found.0 e; place = grind (arith, nat_tests) })
       vacant_by true false u d e m l = absurd (let i = past_cut u e m in omega (arith, i, l))
       vacant_by false m u d e k l = in_page u d (sound.vacant u d (sym (elsewhere u e) ∙ l))
 

@@ -7,6 +7,7 @@ pub mod Released
 pub mod Bytes
 pub mod Keys
 pub mod Placed
+pub mod BlockCalls
 pub mod Seen
 pub mod Slots
 pub mod Filled

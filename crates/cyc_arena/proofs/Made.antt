@@ -1,5 +1,33 @@
 -- A region or a key is made: the table's first free page becomes its own.
-use Rattle.std.proofs.Common.{◌≡◌, ℕ, zero, suc, ◌+◌, ◌-◌, ◌*◌, ◌/◌, ◌<◌, ◌≤◌, Bool, true, false, length, Some, None, Ok, nat_eq, nat_lt, refl, sym, ap, subst, ◌∙◌, arith, eq-eqb, length-set}
+use Rattle.std.proofs.Common.{
+  ◌≡◌,
+  ℕ,
+  zero,
+  suc,
+  ◌+◌,
+  ◌-◌,
+  ◌*◌,
+  ◌/◌,
+  ◌<◌,
+  ◌≤◌,
+  Bool,
+  true,
+  false,
+  length,
+  Some,
+  None,
+  Ok,
+  nat_eq,
+  nat_lt,
+  refl,
+  sym,
+  ap,
+  subst,
+  ◌∙◌,
+  arith,
+  eq-eqb,
+  length-set,
+}
 use Rattle.std.specs.Prelude.{slice_index, slice_set, if◌then◌else◌}
 use Rattle.std.proofs.lemmas.Bool.Decides.{nat_tests}
 use Rattle.std.proofs.lemmas.Grind.{common_steps}
@@ -10,7 +38,8 @@ use Rattle.arena_laws.specs.Holdings.{is_none, arena_base}
 use Rattle.arena_laws.specs.Lawful.{Grants, makes, refuses, with_number, is_new_number}
 use Rattle.arena_laws.specs.Laws.{Does, made}
 use Rattle.cyc_arena.specs.Plain.{Plain, IsSound, IsInPage, Finds, count_of, owner_at, page_at, place_at, standing_at, left_of, counts_of, holdings_of}
-use Rattle.cyc_arena.proofs.Words.{index_same, index_other, index_set, standing_set, count_none, count_set, none_found, some_found}
+use Rattle.region_runtime.proofs.Words.{index_at, index_else, index_set}
+use Rattle.cyc_arena.proofs.Words.{standing_set, count_none, count_set, none_found, some_found}
 use Rattle.cyc_arena.proofs.Owners.{owner_nobody, owner_region, owner_below, owner_there, owner_elsewhere}
 
 module _ (s : Plain) (p : ℕ) (standing : Standing) (sound : IsSound s) (found : Finds 0 s.owner (Some p)) where
@@ -42,10 +71,10 @@ module _ (s : Plain) (p : ℕ) (standing : Standing) (sound : IsSound s) (found 
         arith,
         nat_tests,
         common_steps,
-        index_same s.owner p (2 *
+        index_at s.owner p (2 *
             (p + 1) + 1) p found.0,
       ))
-      (grind (arith, nat_tests, common_steps, index_same s.used p 0 p page_in))
+      (grind (arith, nat_tests, common_steps, index_at s.used p 0 p page_in))
       ∙ owner_region (p + 1) 0 p (place_at q) s.slots
       ∙ (grind (arith, nat_tests))
       ∙ sym (owner_nobody (slice_index s.used p) p (place_at q) s.slots)
@@ -57,18 +86,18 @@ module _ (s : Plain) (p : ℕ) (standing : Standing) (sound : IsSound s) (found 
 
   left_by : (b : Bool) (h : ℕ) → nat_eq h (p + 1) ≡ b → left_of after.used (slice_index after.last h) ≡ (if b then 4096 else left_of s.used
       (slice_index s.last h))
-  left_by true h e = left_at (slice_index after.last h) (grind (arith, nat_tests, common_steps, index_same s.last (p + 1) (p + 1) h number_in))
+  left_by true h e = left_at (slice_index after.last h) (grind (arith, nat_tests, common_steps, index_at s.last (p + 1) (p + 1) h number_in))
     where
       left_at : (r : ℕ) → r ≡ p + 1 → left_of after.used r ≡ 4096
       left_at zero e = absurd (omega (arith, e))
-      left_at (suc k) e = let i = index_same s.used p 0 k page_in in grind (arith, nat_tests)
+      left_at (suc k) e = let i = index_at s.used p 0 k page_in in grind (arith, nat_tests)
   left_by false h e =
-      ap (left_of after.used) (index_other s.last (p + 1) (p + 1) h e) ∙ left_other (slice_index s.last h) (let n = sound.ended h p in let z = found.1 in
+      ap (left_of after.used) (index_else s.last (p + 1) (p + 1) h e) ∙ left_other (slice_index s.last h) (let n = sound.ended h p in let z = found.1 in
       grind (arith, nat_tests))
     where
       left_other : (r : ℕ) → nat_eq r (p + 1) ≡ false → left_of after.used r ≡ left_of s.used r
       left_other zero e = refl
-      left_other (suc k) e = ap (λ n. 4096 - n) (index_other s.used p 0 k (grind (arith, nat_tests)))
+      left_other (suc k) e = ap (λ n. 4096 - n) (index_else s.used p 0 k (grind (arith, nat_tests)))
 
   counted : counts_of after.owner after.used after.last s.slots ≡ with_region (p + 1) (counts_of s.owner s.used s.last s.slots)
   unfolding counts_of
@@ -95,7 +124,7 @@ module _ (s : Plain) (p : ℕ) (standing : Standing) (sound : IsSound s) (found 
       arith,
       nat_tests,
       common_steps,
-      index_other s.owner p (2 * (p + 1) + 1)
+      index_else s.owner p (2 * (p + 1) + 1)
           (u / 128),
     );
     place = i.place;
@@ -130,11 +159,11 @@ module _ (s : Plain) (p : ℕ) (standing : Standing) (sound : IsSound s) (found 
     where
       known_by : (b : Bool) (h : ℕ) → 0 < h → nat_eq h (p + 1) ≡ b → is_none (standing_at after.standing h) ≡ nat_eq (slice_index after.last h) 0
       known_by true h l e =
-          let i = index_same s.last (p + 1) (p + 1) h number_in e in
+          let i = index_at s.last (p + 1) (p + 1) h number_in e in
           ap is_none (standing_set s.standing (p + 1) (Some standing) h standing_in ∙ ap (λ t. if t then Some standing else standing_at s.standing h) e)
           ∙ grind (arith, nat_tests)
       known_by false h l e =
-          let i = index_other s.last (p + 1) (p + 1) h e in
+          let i = index_else s.last (p + 1) (p + 1) h e in
           ap is_none (standing_set s.standing (p + 1) (Some standing) h standing_in ∙ ap (λ t. if t then Some standing else standing_at s.standing h) e)
           ∙ sound.known h l ∙ ap (λ n. nat_eq n 0) (sym i)
 

@@ -1,13 +1,11 @@
 -- Whose an address is, after a write to the tables.
-use Rattle.std.proofs.Common.{◌≡◌, ℕ, zero, suc, ◌+◌, ◌-◌, ◌*◌, ◌/◌, ◌%◌, ◌<◌, ◌≤◌, true, false, List, Option, Some, None, nat_eq, nat_lt, refl, sym, ap, subst, ◌∙◌, arith}
-use Rattle.std.specs.Prelude.{slice_index, slice_set, ◌&&◌, if◌then◌else◌}
+use Rattle.std.proofs.Common.{◌≡◌, ℕ, ◌+◌, ◌-◌, ◌*◌, ◌/◌, ◌%◌, true, false, List, Some, None, nat_eq, nat_lt, refl, sym, ap, ◌∙◌, arith}
+use Rattle.std.specs.Prelude.{slice_index, slice_set, if◌then◌else◌}
 use Rattle.std.proofs.lemmas.Bool.Decides.{nat_tests}
-use Rattle.arena_laws.specs.declared.owner.Owner.{Owner}
 use Rattle.arena_laws.specs.declared.owner.Owner.TheVariants.{Region, Alone}
-use Rattle.arena_laws.specs.Holdings.{Holdings, arena_base, is_none}
-use Rattle.arena_laws.specs.Lawful.{is_clear, is_lawful_room}
+use Rattle.arena_laws.specs.Holdings.{arena_base}
 use Rattle.cyc_arena.specs.Plain.{address_of, owner_in, owner_at, page_at, place_at}
-use Rattle.cyc_arena.proofs.Words.{index_other}
+use Rattle.region_runtime.proofs.Words.{index_else}
 
 -- ---- a page by its word
 
@@ -67,15 +65,6 @@ owner_same owner used slots owner2 used2 q b w v =
 pub owner_elsewhere : (owner used slots : List ℕ) (p word u q : ℕ) → nat_lt q arena_base ≡ false → nat_eq (page_at q) p ≡ false →
     owner_at (slice_set owner p word) (slice_set used p u) slots q ≡ owner_at owner used slots q
 owner_elsewhere owner used slots p word u q b e =
-    owner_same owner used slots (slice_set owner p word) (slice_set used p u) q b (index_other owner p word (page_at q) e) (index_other used p u (page_at q) e)
+    owner_same owner used slots (slice_set owner p word) (slice_set used p u) q b (index_else owner p word (page_at q) e) (index_else used p u (page_at q) e)
 
 -- ---- rooms
-
-pub is_clear_room : (owner : ℕ → Option Owner) (at n : ℕ) → ((j : ℕ) → j < n → owner (at + j) ≡ None) → is_clear owner at n ≡ true
-is_clear_room owner at zero f = refl
-is_clear_room owner at (suc n) f =
-    subst (λ o. (is_none o && is_clear owner at n) ≡ true) (sym (f n (omega arith))) (is_clear_room owner at n (λ j l. f j (omega (arith, l))))
-
-pub is_lawful : (s : Holdings) (at room : ℕ) → at % 8 ≡ 0 → arena_base ≤ at → at + room ≤ arena_base + s.pages * 4096 →
-    ((j : ℕ) → j < room → s.owner (at + j) ≡ None) → is_lawful_room s at room ≡ true
-is_lawful s at room e b l f = let c = is_clear_room s.owner at room f in grind (arith, nat_tests)

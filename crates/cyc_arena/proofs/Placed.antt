@@ -1,5 +1,35 @@
 -- A block is placed in a region's last page, or at the front of a page that is taken for it.
-use Rattle.std.proofs.Common.{◌≡◌, ℕ, zero, suc, ◌+◌, ◌-◌, ◌*◌, ◌/◌, ◌%◌, ◌<◌, ◌≤◌, Bool, true, false, length, Option, Some, None, Ok, nat_eq, nat_lt, refl, sym, ap, subst, ◌∙◌, arith, length-set, get_or}
+use Rattle.std.proofs.Common.{
+  ◌≡◌,
+  ℕ,
+  zero,
+  suc,
+  ◌+◌,
+  ◌-◌,
+  ◌*◌,
+  ◌/◌,
+  ◌%◌,
+  ◌<◌,
+  ◌≤◌,
+  Bool,
+  true,
+  false,
+  length,
+  Option,
+  Some,
+  None,
+  Ok,
+  nat_eq,
+  nat_lt,
+  refl,
+  sym,
+  ap,
+  subst,
+  ◌∙◌,
+  arith,
+  length-set,
+  get_or,
+}
 use Rattle.std.proofs.lemmas.List.{get_or_read}
 use Rattle.std.specs.Prelude.{slice_index, slice_set, ◌&&◌, ◌||◌, if◌then◌else◌}
 use Rattle.std.proofs.lemmas.Bool.Decides.{nat_tests}
@@ -7,31 +37,16 @@ use Rattle.std.proofs.lemmas.Grind.{common_steps}
 use Rattle.arena_laws.specs.declared.standing.Standing.{Standing}
 use Rattle.arena_laws.specs.Counts.{put, room_of, with_block, block_needs_page, is_full, is_too_long}
 use Rattle.arena_laws.specs.declared.owner.Owner.TheVariants.{Region}
-use Rattle.arena_laws.specs.Holdings.{Holdings, is_none, arena_base}
+use Rattle.arena_laws.specs.Holdings.{is_none, arena_base}
 use Rattle.arena_laws.specs.Lawful.{Grants, owns, is_in_room, is_lawful_room, with_region_block, takes_blocks}
 use Rattle.arena_laws.specs.Laws.{Does, is_block_refused, region_alloc}
 use Rattle.cyc_arena.specs.Plain.{Plain, IsSound, IsInPage, Finds, count_of, owner_at, page_at, place_at, standing_at, left_of, counts_of, holdings_of}
-use Rattle.cyc_arena.proofs.Words.{index_same, index_other, index_set, is_place, count_set, some_found}
+use Rattle.region_runtime.proofs.Owners.{is_lawful}
+use Rattle.region_runtime.proofs.Placed.{granted}
+use Rattle.region_runtime.proofs.Words.{index_at, index_else, index_set}
+use Rattle.cyc_arena.proofs.Words.{is_place, count_set, some_found}
 use Rattle.cyc_arena.proofs.Made.{all_taken}
-use Rattle.cyc_arena.proofs.Owners.{owner_nobody, owner_region, owner_below, owner_there, owner_same, owner_elsewhere, is_lawful}
-
--- a room that is granted is granted by the law
-pub granted : (s : Holdings) (h bytes at : ℕ) → takes_blocks h (s.standing h) ≡ true → is_too_long bytes ≡ false →
-    (block_needs_page h (room_of bytes) s.counts && is_full s.counts) ≡ false → is_lawful_room s at (room_of bytes) ≡ true →
-    (after : Holdings) → after ≡ with_region_block h at (room_of bytes) s → Does (Ok at) after (region_alloc h bytes (Grants at) s)
-granted s h bytes at t l f r after e = rw (t, l, f, r) (record { says = refl; holds = e })
-
--- a room is a multiple of 8, from 8 to 4,096 bytes
-pub record IsRoom (room : ℕ) : Type 0 where
-  pub eights : room % 8 ≡ 0
-  pub most : room ≤ 4096
-  pub some : 8 ≤ room
-
-pub is_room : (bytes room : ℕ) → bytes ≤ 4096 → room ≡ room_of bytes → IsRoom room
-is_room bytes room l e = record { eights = grind (arith, nat_tests); most = grind (arith, nat_tests); some = grind (arith, nat_tests) }
-
-pub is_short : (bytes : ℕ) → bytes ≤ 4096 → is_too_long bytes ≡ false
-is_short bytes l = grind (arith, nat_tests)
+use Rattle.cyc_arena.proofs.Owners.{owner_nobody, owner_region, owner_below, owner_there, owner_same, owner_elsewhere}
 
 module _ (s : Plain) (h room : ℕ) (sound : IsSound s) (takes : takes_blocks h (standing_at s.standing h) ≡ true) (eights : room % 8 ≡ 0)
     (most : room ≤ 4096) where
@@ -100,13 +115,13 @@ module _ (s : Plain) (h room : ℕ) (sound : IsSound s) (takes : takes_blocks h 
         let tests : (if nat_lt (place_at q) (u + room) then Some (Region h) else None)
         ≡ (if is_in_room (arena_base + 4096 * p + u) room q then Some (Region h) else (if nat_lt (place_at q) u then Some (Region h) else None)) = grind
         (arith, nat_tests) in
-        owner_there s.owner after_last.used s.slots q p (2 * h + 1) (u + room) b e own (index_same s.used p (u + room) p used_in (grind (arith, nat_tests)))
+        owner_there s.owner after_last.used s.slots q p (2 * h + 1) (u + room) b e own (index_at s.used p (u + room) p used_in (grind (arith, nat_tests)))
         ∙ owner_region h (u + room) p (place_at q) s.slots ∙ tests
         ∙ ap (λ o. if is_in_room (arena_base + 4096 * p + u) room q then Some (Region h) else o)
         (sym (owner_there s.owner s.used s.slots q p (2 * h + 1) u b e own used ∙ owner_region h u p (place_at q) s.slots))
     in_last_by false false q b e =
         let out : is_in_room (arena_base + 4096 * p + u) room q ≡ false = grind (arith, nat_tests) in
-        owner_same s.owner s.used s.slots s.owner after_last.used q b refl (index_other s.used p (u + room) (page_at q) e)
+        owner_same s.owner s.used s.slots s.owner after_last.used q b refl (index_else s.used p (u + room) (page_at q) e)
         ∙ ap (λ t. if t then Some (Region h) else owner_at s.owner s.used s.slots q) (sym out)
 
     clear_last : (j : ℕ) → j < room → owner_at s.owner s.used s.slots (arena_base + 4096 * p + u + j) ≡ None
@@ -137,12 +152,12 @@ module _ (s : Plain) (h room : ℕ) (sound : IsSound s) (takes : takes_blocks h 
     left_by true k e =
         let same : k ≡ h = grind (arith, nat_tests) in
         ap (λ n. left_of after_last.used (slice_index s.last n)) same ∙ ap (left_of after_last.used) last_one
-        ∙ ap (λ n. 4096 - n) (index_same s.used p (u + room) p used_in (grind (arith, nat_tests))) ∙ (let l = left_here in omega (arith, l))
+        ∙ ap (λ n. 4096 - n) (index_at s.used p (u + room) p used_in (grind (arith, nat_tests))) ∙ (let l = left_here in omega (arith, l))
     left_by false k e = other (slice_index s.last k) (let n = sound.ended k p in let o = own in grind (arith, nat_tests))
       where
         other : (r : ℕ) → nat_eq r (p + 1) ≡ false → left_of after_last.used r ≡ left_of s.used r
         other zero d = refl
-        other (suc r) d = ap (λ n. 4096 - n) (index_other s.used p (u + room) r (grind (arith, nat_tests)))
+        other (suc r) d = ap (λ n. 4096 - n) (index_else s.used p (u + room) r (grind (arith, nat_tests)))
 
     counted_last : counts_of s.owner after_last.used s.last s.slots ≡ with_block h room (counts_of s.owner s.used s.last s.slots)
     unfolding counts_of
@@ -213,8 +228,8 @@ module _ (s : Plain) (h room : ℕ) (sound : IsSound s) (takes : takes_blocks h 
       in_new_by false true q b e =
           let tests : (if nat_lt (place_at q) room then Some (Region h) else None) ≡ (if is_in_room (arena_base + 4096 * p) room q then Some
           (Region h) else None) = grind (arith, nat_tests) in
-          owner_there after_new.owner after_new.used s.slots q p (2 * h + 1) room b e (index_same s.owner p (2 * h + 1) p found.0 (grind (arith, nat_tests)))
-          (index_same s.used p room p new_used_in (grind (arith, nat_tests)))
+          owner_there after_new.owner after_new.used s.slots q p (2 * h + 1) room b e (index_at s.owner p (2 * h + 1) p found.0 (grind (arith, nat_tests)))
+          (index_at s.used p room p new_used_in (grind (arith, nat_tests)))
           ∙ owner_region h room p (place_at q) s.slots ∙ tests
           ∙ ap (λ o. if is_in_room (arena_base + 4096 * p) room q then Some (Region h) else o)
           (sym (owner_there s.owner s.used s.slots q p 0 (slice_index s.used p) b e found.1 refl ∙ owner_nobody (slice_index s.used p) p (place_at q) s.slots))
@@ -237,15 +252,15 @@ module _ (s : Plain) (h room : ℕ) (sound : IsSound s) (takes : takes_blocks h 
           (slice_index s.last k))
       new_left_by true k e =
           let suc_p : p + 1 ≡ suc p = omega arith in
-          ap (left_of after_new.used) (index_same s.last h (p + 1) k has_place e ∙ suc_p)
-          ∙ ap (λ n. 4096 - n) (index_same s.used p room p new_used_in (grind (arith, nat_tests)))
+          ap (left_of after_new.used) (index_at s.last h (p + 1) k has_place e ∙ suc_p)
+          ∙ ap (λ n. 4096 - n) (index_at s.used p room p new_used_in (grind (arith, nat_tests)))
       new_left_by false k e =
-          ap (left_of after_new.used) (index_other s.last h (p + 1) k e) ∙ other (slice_index s.last k) (let n = sound.ended k p in let z = found.1 in
+          ap (left_of after_new.used) (index_else s.last h (p + 1) k e) ∙ other (slice_index s.last k) (let n = sound.ended k p in let z = found.1 in
           grind (arith, nat_tests))
         where
           other : (r : ℕ) → nat_eq r (p + 1) ≡ false → left_of after_new.used r ≡ left_of s.used r
           other zero d = refl
-          other (suc r) d = ap (λ n. 4096 - n) (index_other s.used p room r (grind (arith, nat_tests)))
+          other (suc r) d = ap (λ n. 4096 - n) (index_else s.used p room r (grind (arith, nat_tests)))
 
       classes_kept : (c : ℕ) → count_of (2 * c + 2) after_new.owner ≡ count_of (2 * c + 2) s.owner
       classes_kept c = let n = count_set (2 * c + 2) s.owner p (2 * h + 1) found.0 in let e = found.1 in grind (arith, nat_tests)
@@ -283,7 +298,7 @@ module _ (s : Plain) (h room : ℕ) (sound : IsSound s) (takes : takes_blocks h 
           arith,
           nat_tests,
           common_steps,
-          index_other s.owner p (2 * h + 1)
+          index_else s.owner p (2 * h + 1)
               (u / 128),
         );
         place = i.place;
@@ -293,9 +308,9 @@ module _ (s : Plain) (h room : ℕ) (sound : IsSound s) (takes : takes_blocks h 
       known_by true k l e =
           let same : k ≡ h = grind (arith, nat_tests) in
           let n = by_number h takes (omega (arith, l, same)) in
-          let i = index_same s.last h (p + 1) k has_place e in
+          let i = index_at s.last h (p + 1) k has_place e in
           ap (λ m. is_none (standing_at s.standing m)) same ∙ n ∙ grind (arith, nat_tests)
-      known_by false k l e = sound.known k l ∙ ap (λ n. nat_eq n 0) (sym (index_other s.last h (p + 1) k e))
+      known_by false k l e = sound.known k l ∙ ap (λ n. nat_eq n 0) (sym (index_else s.last h (p + 1) k e))
 
       pub new_sound : IsSound after_new
       new_sound = record {
@@ -350,61 +365,3 @@ module _ (s : Plain) (h room : ℕ) (sound : IsSound s) (takes : takes_blocks h 
         or_true : (b : Bool) → (b || true) ≡ true
         or_true true = refl
         or_true false = refl
-
--- ---- what the call does, from what it read
-
--- a block was cut from the last page
-pub record IsCutFrom (s after : Plain) (h bytes r at : ℕ) : Type 0 where
-  pub page : r - 1 < length s.used
-  pub low : at < 4294967296
-  pub sound : IsSound after
-  pub does : Does (Ok at) (holdings_of after) (region_alloc h bytes (Grants at) (holdings_of s))
-  pub free : false ≡ is_block_refused h bytes (holdings_of s)
-
--- a page was taken for a block
-pub record IsTakenFor (s after : Plain) (h bytes at : ℕ) : Type 0 where
-  pub sound : IsSound after
-  pub does : Does (Ok at) (holdings_of after) (region_alloc h bytes (Grants at) (holdings_of s))
-  pub free : false ≡ is_block_refused h bytes (holdings_of s)
-
-module _ (s : Plain) (h bytes room r left : ℕ) (sound : IsSound s) (takes : takes_blocks h (standing_at s.standing h) ≡ true) (short : bytes ≤ 4096)
-    (rounded : room ≡ room_of bytes)
-    (read : r ≡ get_or s.last h r) where
-  room_is : IsRoom room
-  room_is = is_room bytes room short rounded
-
-  read_is : slice_index s.last h ≡ r
-  read_is = last_read s h room sound takes room_is.eights room_is.most r read
-
-  pub last_place : r ≤ length s.used
-  last_place = last_in s h room sound takes room_is.eights room_is.most r read_is
-
-  pub cut : left ≡ left_of s.used r → room ≤ left →
-      IsCutFrom s (record s { used = slice_set s.used (r - 1) (4096 - left + room) }) h bytes r (arena_base + 4096 * (r - 1) + (4096 - left))
-  cut d l =
-      let has = last_has s h room sound takes room_is.eights room_is.most room_is.some r left read_is d l in
-      let page = page_in s h room sound takes room_is.eights room_is.most (r - 1) (4096 - left) has.last has.used has.fits in
-      let n = sound.used_long in let f = sound.few in let a = room_is.some in let b = has.fits in
-      record {
-        page = omega (arith, page, n);
-        low = omega (arith, page, f, a, b);
-        sound = last_sound s h room sound takes room_is.eights room_is.most (r - 1) (4096 - left) has.last has.used has.fits;
-        does = last_does s h room sound takes room_is.eights room_is.most (r - 1) (4096 - left) has.last has.used has.fits bytes rounded (is_short bytes short);
-        free = sym (last_not_refused s h room sound takes room_is.eights room_is.most (r - 1) (4096 - left) has.last has.used has.fits bytes rounded
-            (is_short bytes short));
-      }
-
-  needs : left ≡ left_of s.used r → left < room → left_of s.used (slice_index s.last h) < room
-  needs d l = subst (λ k. left_of s.used k < room) (sym read_is) (subst (λ n. n < room) d l)
-
-  pub taken : (p : ℕ) → left ≡ left_of s.used r → left < room → Finds 0 s.owner (Some p) →
-      IsTakenFor s (record s { owner = slice_set s.owner p (2 * h + 1); used = slice_set s.used p room; last = slice_set s.last h (p + 1) }) h bytes
-      (arena_base + 4096 * p)
-  taken p d l f = record {
-    sound = new_sound s h room sound takes room_is.eights room_is.most (needs d l) p f;
-    does = new_does s h room sound takes room_is.eights room_is.most (needs d l) p f bytes rounded (is_short bytes short);
-    free = sym (new_not_refused s h room sound takes room_is.eights room_is.most (needs d l) p f bytes rounded (is_short bytes short));
-  }
-
-  pub refused : left ≡ left_of s.used r → left < room → Finds 0 s.owner None → true ≡ is_block_refused h bytes (holdings_of s)
-  refused d l f = sym (none_refused s h room sound takes room_is.eights room_is.most (needs d l) f bytes rounded)

@@ -1,5 +1,36 @@
 -- A live number is given up: all its pages are free again, and its blocks are live no more.
-use Rattle.std.proofs.Common.{◌≡◌, ℕ, zero, suc, ◌+◌, ◌-◌, ◌*◌, ◌/◌, ◌%◌, ◌<◌, ◌≤◌, Bool, true, false, List, [], ◌∷◌, length, Option, Some, None, nat_eq, nat_lt, refl, sym, ap, subst, ◌∙◌, arith, length-set}
+use Rattle.std.proofs.Common.{
+  ◌≡◌,
+  ℕ,
+  zero,
+  suc,
+  ◌+◌,
+  ◌-◌,
+  ◌*◌,
+  ◌/◌,
+  ◌%◌,
+  ◌<◌,
+  ◌≤◌,
+  Bool,
+  true,
+  false,
+  List,
+  [],
+  ◌∷◌,
+  length,
+  Option,
+  Some,
+  None,
+  nat_eq,
+  nat_lt,
+  refl,
+  sym,
+  ap,
+  subst,
+  ◌∙◌,
+  arith,
+  length-set,
+}
 use Rattle.std.specs.Prelude.{slice_index, slice_set, if◌then◌else◌}
 use Rattle.std.proofs.lemmas.Bool.Decides.{nat_tests}
 use Rattle.arena_laws.specs.declared.standing.Standing.{Standing}
@@ -7,8 +38,24 @@ use Rattle.arena_laws.specs.Counts.{without_region}
 use Rattle.arena_laws.specs.declared.owner.Owner.TheVariants.{Region, Alone}
 use Rattle.arena_laws.specs.Holdings.{is_none, is_some, arena_base}
 use Rattle.arena_laws.specs.Lawful.{is_of, without_blocks, without_number}
-use Rattle.cyc_arena.specs.Plain.{Plain, IsSound, IsInPage, IsCleared, count_of, address_of, owner_in, owner_at, page_at, place_at, standing_at, left_of, counts_of, holdings_of}
-use Rattle.cyc_arena.proofs.Words.{index_same, index_other, index_set, is_place, standing_set}
+use Rattle.cyc_arena.specs.Plain.{
+  Plain,
+  IsSound,
+  IsInPage,
+  IsCleared,
+  count_of,
+  address_of,
+  owner_in,
+  owner_at,
+  page_at,
+  place_at,
+  standing_at,
+  left_of,
+  counts_of,
+  holdings_of,
+}
+use Rattle.region_runtime.proofs.Words.{index_at, index_else, index_set}
+use Rattle.cyc_arena.proofs.Words.{is_place, standing_set}
 use Rattle.cyc_arena.proofs.Owners.{owner_below, owner_here, owner_region, owner_nobody}
 
 -- ---- counts of a list whose places with one word are cleared
@@ -109,8 +156,8 @@ module _ (s : Plain) (h : ℕ) (zs : List ℕ) (sound : IsSound s) (there : is_s
   standing_in = let n = sound.standing_long in let m = sound.last_long in let l = number_in in omega (arith, n, m, l)
 
   left_by : (b : Bool) (k : ℕ) → nat_eq k h ≡ b → left_of s.used (slice_index after.last k) ≡ (if b then 0 else left_of s.used (slice_index s.last k))
-  left_by true k e = ap (left_of s.used) (index_same s.last h 0 k number_in e)
-  left_by false k e = ap (left_of s.used) (index_other s.last h 0 k e)
+  left_by true k e = ap (left_of s.used) (index_at s.last h 0 k number_in e)
+  left_by false k e = ap (left_of s.used) (index_else s.last h 0 k e)
 
   same_number : (k : ℕ) → nat_eq (2 * k + 1) (2 * h + 1) ≡ nat_eq k h
   same_number k = grind (arith, nat_tests)
@@ -146,10 +193,10 @@ module _ (s : Plain) (h : ℕ) (zs : List ℕ) (sound : IsSound s) (there : is_s
 
   known_by : (b : Bool) (k : ℕ) → 0 < k → nat_eq k h ≡ b → is_none (standing_at after.standing k) ≡ nat_eq (slice_index after.last k) 0
   known_by true k l e =
-      let i = index_same s.last h 0 k number_in e in
+      let i = index_at s.last h 0 k number_in e in
       ap is_none (standing_set s.standing h None k standing_in ∙ ap (λ t. if t then None else standing_at s.standing k) e) ∙ grind (arith, nat_tests)
   known_by false k l e =
-      let i = index_other s.last h 0 k e in
+      let i = index_else s.last h 0 k e in
       ap is_none (standing_set s.standing h None k standing_in ∙ ap (λ t. if t then None else standing_at s.standing k) e)
       ∙ sound.known k l ∙ ap (λ n. nat_eq n 0) (sym i)
 

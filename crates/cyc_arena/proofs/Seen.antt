@@ -1,13 +1,13 @@
 -- Whose an address is, as it is read from the tables.
 use Rattle.std.proofs.Common.{◌≡◌, ℕ, ◌+◌, ◌-◌, ◌*◌, ◌/◌, ◌%◌, ◌<◌, ◌≤◌, true, false, length, Some, None, nat_eq, nat_lt, refl, sym, ap, ◌∙◌, arith, get_or}
 use Rattle.std.specs.Prelude.{slice_index, if◌then◌else◌}
-use Rattle.std.proofs.Math.Nat.{div-lt_iff_lt-mul}
 use Rattle.std.proofs.lemmas.List.{get_or_read}
 use Rattle.std.proofs.lemmas.Bool.Decides.{nat_tests}
 use Rattle.std.proofs.lemmas.Grind.{common_steps}
 use Rattle.arena_laws.specs.declared.owner.Owner.TheVariants.{Region, Alone}
 use Rattle.arena_laws.specs.Holdings.{arena_base}
 use Rattle.arena_laws.specs.Classes.{IsClass}
+use Rattle.unique_blocks.proofs.Places.{slot_within}
 use Rattle.cyc_arena.specs.Plain.{Plain, IsSound, address_of, owner_in, owner_at, page_at, place_at}
 use Rattle.cyc_arena.proofs.Owners.{owner_nobody, owner_region, owner_class, owner_below, owner_there}
 
@@ -19,11 +19,6 @@ seen_above s q sound b l =
     let out : slice_index s.owner (page_at q) ≡ 0 = grind (arith, nat_tests, common_steps) in
     sym (owner_there s.owner s.used s.slots q (page_at q) 0 (slice_index s.used (page_at q)) (grind (arith, nat_tests)) (grind (arith, nat_tests)) out refl
     ∙ owner_nobody (slice_index s.used (page_at q)) (page_at q) (place_at q) s.slots)
-
--- a place of a page of a class lies in one of its slots
-pub slot_in_page : (c o : ℕ) → IsClass c → o < 4096 → o / c < 4096 / c
-slot_in_page c o class l = (div-lt_iff_lt-mul {k = c} {x = o} {y = 4096 / c} (let n = class.some in omega (arith, n))).1 (let w = class.whole in
-    omega (arith, w, l))
 
 module _ (s : Plain) (q word : ℕ) (sound : IsSound s) (base : arena_base ≤ q) (page : page_at q < length s.owner) (read : word ≡ get_or s.owner
     (page_at q) word) where
@@ -68,7 +63,7 @@ module _ (s : Plain) (q word : ℕ) (sound : IsSound s) (base : arena_base ≤ q
 
   pub seen_place : (word ≡ 0 → ⊥) → (word % 2 ≡ 1 → ⊥) → 128 * page_at q + place_at q / (word / 2 - 1) < length s.slots
   seen_place z e =
-      let class = seen_class z e in let l = slot_in_page (word / 2 - 1) (place_at q) class (omega arith) in let f = class.few in let n = sound.slots_long in
+      let class = seen_class z e in let l = slot_within (word / 2 - 1) (place_at q) class (omega arith) in let f = class.few in let n = sound.slots_long in
       omega (arith, l, f, n, page)
 
   seen_slot : (word ≡ 0 → ⊥) → (word % 2 ≡ 1 → ⊥) → owner_at s.owner s.used s.slots q

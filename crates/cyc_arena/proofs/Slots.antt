@@ -1,7 +1,32 @@
 -- A slot of a page is taken or given back.
-use Rattle.std.proofs.Common.{◌≡◌, ℕ, ◌+◌, ◌-◌, ◌*◌, ◌/◌, ◌%◌, ◌<◌, ◌≤◌, Bool, true, false, List, length, Some, None, nat_eq, nat_lt, refl, sym, ap, subst, ◌∙◌, arith, length-set}
+use Rattle.std.proofs.Common.{
+  ◌≡◌,
+  ℕ,
+  ◌+◌,
+  ◌-◌,
+  ◌*◌,
+  ◌/◌,
+  ◌%◌,
+  ◌<◌,
+  ◌≤◌,
+  Bool,
+  true,
+  false,
+  List,
+  length,
+  Some,
+  None,
+  nat_eq,
+  nat_lt,
+  refl,
+  sym,
+  ap,
+  subst,
+  ◌∙◌,
+  arith,
+  length-set,
+}
 use Rattle.std.specs.Prelude.{slice_index, slice_set, ◌&&◌, if◌then◌else◌}
-use Rattle.std.proofs.Math.Nat.{mul-le-mul_right}
 use Rattle.std.proofs.lemmas.Nat.{div-mul-add, div-add-mod'}
 use Rattle.std.proofs.lemmas.Bool.Decides.{nat_tests}
 use Rattle.arena_laws.specs.declared.owner.Owner.TheVariants.{Alone}
@@ -9,10 +34,12 @@ use Rattle.arena_laws.specs.Classes.{IsClass}
 use Rattle.arena_laws.specs.Counts.{put, with_slot, slot_needs_page}
 use Rattle.arena_laws.specs.Holdings.{arena_base}
 use Rattle.arena_laws.specs.Lawful.{owns, is_in_room, is_lawful_room, with_alone}
+use Rattle.unique_blocks.proofs.Places.{slot_ends, slot_within}
 use Rattle.cyc_arena.specs.Plain.{Plain, IsSound, IsInPage, count_of, address_of, owner_in, owner_at, page_at, place_at, counts_of, holdings_of}
-use Rattle.cyc_arena.proofs.Words.{index_same, index_other, index_set, is_place, count_set, some_found}
-use Rattle.cyc_arena.proofs.Owners.{owner_class, owner_below, owner_here, owner_there, is_lawful}
-use Rattle.cyc_arena.proofs.Seen.{slot_in_page}
+use Rattle.region_runtime.proofs.Owners.{is_lawful}
+use Rattle.region_runtime.proofs.Words.{index_at, index_else, index_set}
+use Rattle.cyc_arena.proofs.Words.{is_place, count_set, some_found}
+use Rattle.cyc_arena.proofs.Owners.{owner_class, owner_below, owner_here, owner_there}
 
 -- ---- places of a page in slots of c bytes
 
@@ -30,11 +57,6 @@ only_slot c k o l i =
     let f = i.from in let t = i.to in
     let e : k * c + (o - k * c) ≡ o = omega (arith, f) in
     subst (λ n. n / c ≡ k) e (div-mul-add k c (o - k * c) (omega (arith, f, t)))
-
--- a slot ends inside its page
-pub slot_ends : (c k : ℕ) → IsClass c → k < 4096 / c → k * c + c ≤ 4096
-slot_ends c k class l =
-    let w = class.whole in let m = mul-le-mul_right {m = k + 1} {n = 4096 / c} c (omega (arith, l)) in omega (arith, w, m)
 
 -- ---- an address's owner where the slots differ
 
@@ -134,14 +156,14 @@ module _ (s : Plain) (u c : ℕ) (sound : IsSound s) (in_page : IsInPage s.owner
           subst (λ m. nat_eq (128 * page_at q + place_at q / m) u ≡ false) (sym number) (grind (arith, nat_tests))
       other false f d g n k w =
           let cl = sound.classes (page_at q) k w in let few = cl.few in
-          let l = slot_in_page k (place_at q) cl (omega arith) in
+          let l = slot_within k (place_at q) cl (omega arith) in
           grind (arith, nat_tests)
 
   lengths_kept : (x : ℕ) → length (slice_set s.slots u x) ≡ 128 * length s.owner
   lengths_kept x = length-set s.slots u x ∙ sound.slots_long
 
   others : (x k : ℕ) → nat_eq k u ≡ false → slice_index (slice_set s.slots u x) k ≡ slice_index s.slots k
-  others x k e = index_other s.slots u x k e
+  others x k e = index_else s.slots u x k e
 
   -- ---- a vacant slot is taken
   module _ (vacant : slice_index s.slots u ≡ 2 * c + 2) where
@@ -155,7 +177,7 @@ module _ (s : Plain) (u c : ℕ) (sound : IsSound s) (in_page : IsInPage s.owner
         owner_below s.owner s.used after_taken.slots q b ∙ sym (owner_below s.owner s.used s.slots q b)
         ∙ ap (λ t. if t then Some (Alone at c) else owner_at s.owner s.used s.slots q) (sym out)
     taken_by false true true q b d g =
-        hit after_taken.slots (2 * c + 1) q (index_same s.slots u (2 * c + 1) u slot_in (grind (arith, nat_tests))) b d g
+        hit after_taken.slots (2 * c + 1) q (index_at s.slots u (2 * c + 1) u slot_in (grind (arith, nat_tests))) b d g
         ∙ (let t : nat_eq (2 * c + 1) (2 * c + 1) ≡ true = grind (arith, nat_tests) in ap (λ t. if t then Some (Alone at c) else None) t)
         ∙ ap (λ t. if t then Some (Alone at c) else owner_at s.owner s.used s.slots q) (sym (hit_room q b d g))
     taken_by false true false q b d g =
@@ -235,8 +257,8 @@ module _ (s : Plain) (u c : ℕ) (sound : IsSound s) (in_page : IsInPage s.owner
       where
         live_by : (b : Bool) (k d : ℕ) → nat_eq k u ≡ b → slice_index after_taken.slots k ≡ 2 * d + 1 → IsInPage s.owner k d
         live_by true k d e l =
-            let i = index_same s.slots u (2 * c + 1) k slot_in e in
+            let i = index_at s.slots u (2 * c + 1) k slot_in e in
             let same : u ≡ k = grind (arith, nat_tests) in
             let number : c ≡ d = omega (arith, i, l) in
             subst (λ n. IsInPage s.owner n d) same (subst (λ n. IsInPage s.owner u n) number in_page)
-        live_by false k d e l = sound.live k d (sym (index_other s.slots u (2 * c + 1) k e) ∙ l)
+        live_by false k d e l = sound.live k d (sym (index_else s.slots u (2 * c + 1) k e) ∙ l)

@@ -1,5 +1,30 @@
 -- A unique block is granted: a vacant slot of its class, or the first of a page that is cut for it.
-use Rattle.std.proofs.Common.{◌≡◌, ℕ, zero, ◌+◌, ◌-◌, ◌*◌, ◌/◌, ◌%◌, ◌≤◌, Bool, true, false, List, length, Some, None, Ok, refl, sym, ap, subst, ◌∙◌, arith, length-set}
+use Rattle.std.proofs.Common.{
+  ◌≡◌,
+  ℕ,
+  zero,
+  ◌+◌,
+  ◌-◌,
+  ◌*◌,
+  ◌/◌,
+  ◌%◌,
+  ◌≤◌,
+  Bool,
+  true,
+  false,
+  List,
+  length,
+  Some,
+  None,
+  Ok,
+  refl,
+  sym,
+  ap,
+  subst,
+  ◌∙◌,
+  arith,
+  length-set,
+}
 use Rattle.std.specs.Prelude.{slice_set, ◌&&◌, ◌||◌}
 use Rattle.arena_laws.proofs.Classes.{class_is}
 use Rattle.arena_laws.specs.Classes.{IsClass}
@@ -10,7 +35,7 @@ use Rattle.arena_laws.specs.Laws.{Does, unique_alloc}
 use Rattle.cyc_arena.specs.Plain.{Plain, IsSound, IsInPage, Finds, filled, owner_at, counts_of, holdings_of}
 use Rattle.cyc_arena.proofs.Words.{some_found}
 use Rattle.cyc_arena.proofs.Made.{all_taken}
-use Rattle.cyc_arena.proofs.Placed.{is_short}
+use Rattle.region_runtime.proofs.Placed.{is_short}
 use Rattle.cyc_arena.proofs.Slots.{taken_holds, taken_sound, taken_lawful, spare}
 use Rattle.cyc_arena.proofs.Filled.{cut, cut_sound, cut_owner, cut_counts, first_vacant, needs}
 

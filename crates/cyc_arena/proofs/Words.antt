@@ -7,16 +7,6 @@ use Rattle.arena_laws.specs.declared.standing.Standing.{Standing}
 use Rattle.arena_laws.specs.Counts.{put}
 use Rattle.cyc_arena.specs.Plain.{count_of, standing_at, Finds}
 
--- the place that was written has the word, the others are as they were
-pub index_set : (xs : List ℕ) (p x q : ℕ) → p < length xs → slice_index (slice_set xs p x) q ≡ (if nat_eq q p then x else slice_index xs q)
-index_set xs p x q h = grind (arith, nat_tests, common_steps)
-
-pub index_same : (xs : List ℕ) (p x q : ℕ) → p < length xs → nat_eq q p ≡ true → slice_index (slice_set xs p x) q ≡ x
-index_same xs p x q h e = grind (arith, nat_tests, common_steps)
-
-pub index_other : (xs : List ℕ) (p x q : ℕ) → nat_eq q p ≡ false → slice_index (slice_set xs p x) q ≡ slice_index xs q
-index_other xs p x q e = grind (arith, nat_tests, common_steps)
-
 -- a word stands somewhere, so it is a place of the list
 pub is_place : (xs : List ℕ) (q : ℕ) → 0 < slice_index xs q → q < length xs
 is_place xs q h = grind (arith, nat_tests, common_steps)

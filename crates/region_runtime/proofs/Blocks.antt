@@ -18,7 +18,29 @@ use Rattle.region_runtime.proofs.Owners.{owner_nobody, is_lawful}
 use Rattle.region_runtime.proofs.Held.{page_less}
 use Rattle.region_runtime.proofs.Tags.{word_other, tag_same, taken_same, not_taken, small_unmarked, words_same}
 use Rattle.region_runtime.proofs.Granted.{less_holds, page_untaken, page_words}
-use Rattle.region_runtime.proofs.Placed.{granted, IsRoom, is_room, is_short, cut_ordered, no_page_needed, cut_holds, cut_lawful, cut_tags, cut_taken, cut_words, placed, few, nobody, unmarked, heap_live, heaped_holds, heap_now, heap_others, region_live, newest_holds}
+use Rattle.region_runtime.proofs.Placed.{
+  granted,
+  IsRoom,
+  is_room,
+  is_short,
+  cut_ordered,
+  no_page_needed,
+  cut_holds,
+  cut_lawful,
+  cut_tags,
+  cut_taken,
+  cut_words,
+  placed,
+  few,
+  nobody,
+  unmarked,
+  heap_live,
+  heaped_holds,
+  heap_now,
+  heap_others,
+  region_live,
+  newest_holds,
+}
 
 -- the words of a page in hand and of a region's first page are written
 module _ (word next : ℕ → ℕ → ℕ) (p k : ℕ) (before : nat_eq (owner_of word p) taken_mark ≡ false) (now : nat_eq (owner_of next p) taken_mark ≡ false)

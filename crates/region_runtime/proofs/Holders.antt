@@ -1,5 +1,29 @@
 -- Who holds each page, after each step.
-use Rattle.std.proofs.Common.{◌≡◌, ℕ, ◌+◌, ◌-◌, ◌<◌, ◌≤◌, Bool, true, false, Option, Some, None, List, [], ◌∷◌, nat_eq, nat_lt, refl, sym, ap, subst, ◌∙◌, arith}
+use Rattle.std.proofs.Common.{
+  ◌≡◌,
+  ℕ,
+  ◌+◌,
+  ◌-◌,
+  ◌<◌,
+  ◌≤◌,
+  Bool,
+  true,
+  false,
+  Option,
+  Some,
+  None,
+  List,
+  [],
+  ◌∷◌,
+  nat_eq,
+  nat_lt,
+  refl,
+  sym,
+  ap,
+  subst,
+  ◌∙◌,
+  arith,
+}
 use Rattle.std.specs.Prelude.{if◌then◌else◌, ◌&&◌}
 use Rattle.std.proofs.lemmas.Bool.Decides.{nat_tests}
 use Rattle.arena_laws.specs.Counts.{put}
@@ -8,7 +32,18 @@ use Rattle.region_runtime.specs.Headers.{heap_mark, taken_mark, is_live_number, 
 use Rattle.region_runtime.specs.Sound.{AreChains, no_page}
 use Rattle.region_runtime.proofs.Words.{live_some, live_none}
 use Rattle.region_runtime.proofs.Chains.{times_none, times_more}
-use Rattle.region_runtime.proofs.Places.{page_in_hand, uses_marked, live_same, live_small, hand_unused, hand_not_own, hand_off, grown_live, times_grown, started_live}
+use Rattle.region_runtime.proofs.Places.{
+  page_in_hand,
+  uses_marked,
+  live_same,
+  live_small,
+  hand_unused,
+  hand_not_own,
+  hand_off,
+  grown_live,
+  times_grown,
+  started_live,
+}
 use Rattle.region_runtime.proofs.Freeing.{live_other, dead_now, other_page}
 
 pub holder_heap : (owner : ℕ → ℕ) (chain : ℕ → List ℕ) (p : ℕ) → owner p ≡ heap_mark → holder_by owner chain p ≡ Some 0

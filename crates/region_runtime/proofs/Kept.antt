@@ -7,7 +7,21 @@ use Rattle.arena_laws.specs.Counts.{put}
 use Rattle.arena_laws.specs.Holdings.{arena_base}
 use Rattle.region_runtime.specs.Chains.{follow, times, last_or}
 use Rattle.region_runtime.specs.Headers.{link_of, owner_of, used_of, newest_of, count_of, heap_mark, taken_mark, is_live_number, pages_of, holder_of, marked}
-use Rattle.region_runtime.specs.Pool.{Shape, free_in, last_of, taken_by, left_of, owner_at, counts_of, standing_by, holdings_of, tag_by, is_taken_by, word_by, page_at}
+use Rattle.region_runtime.specs.Pool.{
+  Shape,
+  free_in,
+  last_of,
+  taken_by,
+  left_of,
+  owner_at,
+  counts_of,
+  standing_by,
+  holdings_of,
+  tag_by,
+  is_taken_by,
+  word_by,
+  page_at,
+}
 use Rattle.region_runtime.specs.Sound.{AreChains, IsOrdered, freed_of, no_page}
 use Rattle.region_runtime.specs.Steps.{next_page, with_taken, without_page}
 use Rattle.region_runtime.proofs.Words.{last_of_heap, last_of_region, last_of_other}

@@ -1,5 +1,31 @@
 -- What each step makes of a pool's chains.
-use Rattle.std.proofs.Common.{◌≡◌, ℕ, zero, suc, ◌+◌, ◌-◌, ◌%◌, ◌<◌, ◌≤◌, Bool, true, false, [], ◌∷◌, ◌++◌, length, nat_eq, nat_lt, refl, sym, ap, subst, ◌∙◌, arith, length-append}
+use Rattle.std.proofs.Common.{
+  ◌≡◌,
+  ℕ,
+  zero,
+  suc,
+  ◌+◌,
+  ◌-◌,
+  ◌%◌,
+  ◌<◌,
+  ◌≤◌,
+  Bool,
+  true,
+  false,
+  [],
+  ◌∷◌,
+  ◌++◌,
+  length,
+  nat_eq,
+  nat_lt,
+  refl,
+  sym,
+  ap,
+  subst,
+  ◌∙◌,
+  arith,
+  length-append,
+}
 use Rattle.std.specs.Prelude.{if◌then◌else◌}
 use Rattle.std.proofs.lemmas.Bool.Decides.{nat_tests}
 use Rattle.arena_laws.specs.Counts.{put}
@@ -11,7 +37,23 @@ use Rattle.region_runtime.specs.Steps.{next_page, with_first, with_freed, with_h
 use Rattle.region_runtime.proofs.Words.{live_some, live_own}
 use Rattle.region_runtime.proofs.Chains.{times_append, follow_zero, follow_more, follow_kept, follow_length, follow_spliced, length_least}
 use Rattle.region_runtime.proofs.Freeing.{all_freed}
-use Rattle.region_runtime.proofs.Places.{page_in_hand, freed_in_hand, unused_in_hand, hand_used, hand_not_free, hand_unused, hand_off, hand_not_first, hand_marked, hand_grown, hand_started, first_there, live_small, uses_there, uses_marked}
+use Rattle.region_runtime.proofs.Places.{
+  page_in_hand,
+  freed_in_hand,
+  unused_in_hand,
+  hand_used,
+  hand_not_free,
+  hand_unused,
+  hand_off,
+  hand_not_first,
+  hand_marked,
+  hand_grown,
+  hand_started,
+  first_there,
+  live_small,
+  uses_there,
+  uses_marked,
+}
 
 pub pages_are : (word : ℕ → ℕ → ℕ) (h : ℕ) → pages_of word h ≡ follow (link_of word) (count_of word h) (newest_of word h)
 unfolding pages_of

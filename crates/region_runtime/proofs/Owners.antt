@@ -117,7 +117,7 @@ owner_without h holder held used e q = by_place (nat_lt q arena_base) refl
 
 -- ---- rooms
 
-clear_room : (owner : ℕ → Option Owner) (at n : ℕ) → ((j : ℕ) → j < n → owner (at + j) ≡ None) → is_clear owner at n ≡ true
+pub clear_room : (owner : ℕ → Option Owner) (at n : ℕ) → ((j : ℕ) → j < n → owner (at + j) ≡ None) → is_clear owner at n ≡ true
 clear_room owner at zero f = refl
 clear_room owner at (suc n) f =
     let here : is_none (owner (at + n)) ≡ true = ap is_none (f n (omega arith)) in rw here (clear_room owner at n (λ j l. f j (omega (arith, l))))

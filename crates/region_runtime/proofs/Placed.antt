@@ -1,5 +1,31 @@
 -- A block is cut from a last page, or from the front of a page that is taken for it.
-use Rattle.std.proofs.Common.{◌≡◌, ℕ, zero, suc, ◌+◌, ◌-◌, ◌*◌, ◌%◌, ◌<◌, ◌≤◌, Bool, true, false, Option, Some, None, Ok, Err, nat_eq, refl, sym, ap, subst, ◌∙◌, arith}
+use Rattle.std.proofs.Common.{
+  ◌≡◌,
+  ℕ,
+  zero,
+  suc,
+  ◌+◌,
+  ◌-◌,
+  ◌*◌,
+  ◌%◌,
+  ◌<◌,
+  ◌≤◌,
+  Bool,
+  true,
+  false,
+  Option,
+  Some,
+  None,
+  Ok,
+  Err,
+  nat_eq,
+  refl,
+  sym,
+  ap,
+  subst,
+  ◌∙◌,
+  arith,
+}
 use Rattle.std.specs.Prelude.{if◌then◌else◌, ◌&&◌}
 use Rattle.std.proofs.lemmas.Bool.Decides.{nat_tests}
 use Rattle.arena_laws.specs.declared.refusal.StoreRefusal.TheVariants.{Full, BadHandle}
@@ -18,7 +44,18 @@ use Rattle.region_runtime.proofs.Places.{page_in_hand, live_small, live_same, gr
 use Rattle.region_runtime.proofs.Ordered.{pages_are, hand_within, hand_few, hand_small, grown_pages, grown_others}
 use Rattle.region_runtime.proofs.Holders.{holder_heap, holder_taken, hand_nobody, hand_unmarked, marked_others, grown_holder}
 use Rattle.region_runtime.proofs.Owners.{owner_empty, owner_cut, clear_cut, is_lawful}
-use Rattle.region_runtime.proofs.Held.{marked_put, marked_kept, taken_heap, taken_region, taken_other, last_held, last_within, last_differs, left_other, left_here}
+use Rattle.region_runtime.proofs.Held.{
+  marked_put,
+  marked_kept,
+  taken_heap,
+  taken_region,
+  taken_other,
+  last_held,
+  last_within,
+  last_differs,
+  left_other,
+  left_here,
+}
 use Rattle.region_runtime.proofs.Tags.{word_other, tag_same, taken_same, taken_owner, words_same}
 
 -- a room that is granted is granted by the law

@@ -5,7 +5,21 @@ use Rattle.std.proofs.lemmas.Bool.Decides.{nat_tests}
 use Rattle.arena_laws.specs.Counts.{put}
 use Rattle.arena_laws.specs.Holdings.{is_some}
 use Rattle.region_runtime.specs.Headers.{word_in, owner_of, tag_in, taken_mark, is_live_number, pages_of}
-use Rattle.region_runtime.specs.Pool.{Pooled, Shape, shape_of, byte_at, held, holdings_of, is_free_field, is_taken, is_taken_by, tag_by, tag_of, word_by, word_of}
+use Rattle.region_runtime.specs.Pool.{
+  Pooled,
+  Shape,
+  shape_of,
+  byte_at,
+  held,
+  holdings_of,
+  is_free_field,
+  is_taken,
+  is_taken_by,
+  tag_by,
+  tag_of,
+  word_by,
+  word_of,
+}
 use Rattle.region_runtime.specs.Sound.{IsOrdered, IsSound, freed_of, no_page}
 use Rattle.region_runtime.specs.Steps.{with_word}
 use Rattle.region_runtime.specs.Calls.{tags_set, word_seen, words_set}

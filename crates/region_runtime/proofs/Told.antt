@@ -6,7 +6,24 @@ use Rattle.arena_laws.specs.Holdings.{arena_base}
 use Rattle.arena_laws.specs.Lawful.{Grants, takes_blocks}
 use Rattle.arena_laws.specs.Laws.{Does, is_block_refused, region_alloc}
 use Rattle.region_runtime.specs.Headers.{owner_of, used_of, count_of, is_live_number}
-use Rattle.region_runtime.specs.Pool.{Pooled, Shape, shape_of, byte_at, free_in, held, holdings_of, is_taken, is_taken_by, last_of, left_of, standing_by, tag_by, tag_of, word_by, word_of}
+use Rattle.region_runtime.specs.Pool.{
+  Pooled,
+  Shape,
+  shape_of,
+  byte_at,
+  free_in,
+  held,
+  holdings_of,
+  is_taken,
+  is_taken_by,
+  last_of,
+  left_of,
+  standing_by,
+  tag_by,
+  tag_of,
+  word_by,
+  word_of,
+}
 use Rattle.region_runtime.specs.Sound.{IsOrdered, IsSound, no_page}
 use Rattle.region_runtime.specs.Steps.{next_page, with_heap_page, with_newest, with_page, with_word, without_page}
 use Rattle.region_runtime.proofs.Serves.{serves_live}

@@ -1,5 +1,32 @@
 -- A header word that is read or written.
-use Rattle.std.proofs.Common.{◌≡◌, ℕ, zero, suc, ◌+◌, ◌-◌, ◌*◌, ◌/◌, ◌<◌, ◌≤◌, Bool, true, false, List, [], ◌∷◌, length, nat_eq, nat_lt, refl, sym, ap, subst, ◌∙◌, arith, length-set}
+use Rattle.std.proofs.Common.{
+  ◌≡◌,
+  ℕ,
+  zero,
+  suc,
+  ◌+◌,
+  ◌-◌,
+  ◌*◌,
+  ◌/◌,
+  ◌<◌,
+  ◌≤◌,
+  Bool,
+  true,
+  false,
+  List,
+  [],
+  ◌∷◌,
+  length,
+  nat_eq,
+  nat_lt,
+  refl,
+  sym,
+  ap,
+  subst,
+  ◌∙◌,
+  arith,
+  length-set,
+}
 use Rattle.std.specs.Prelude.{slice_index, slice_set, ◌&&◌, if◌then◌else◌}
 use Rattle.std.proofs.lemmas.Bool.Decides.{nat_tests}
 use Rattle.std.proofs.lemmas.Grind.{common_steps}
@@ -15,8 +42,15 @@ pub word_beyond : (ws : List ℕ) (p f : ℕ) → length ws / 16 ≤ p → word_
 unfolding word_in
 word_beyond ws p f l = grind (arith, nat_tests)
 
-index_set : (xs : List ℕ) (p x q : ℕ) → p < length xs → slice_index (slice_set xs p x) q ≡ (if nat_eq q p then x else slice_index xs q)
+-- the place that was written has the word, the others are as they were
+pub index_set : (xs : List ℕ) (p x q : ℕ) → p < length xs → slice_index (slice_set xs p x) q ≡ (if nat_eq q p then x else slice_index xs q)
 index_set xs p x q h = grind (arith, nat_tests, common_steps)
+
+pub index_at : (xs : List ℕ) (p x q : ℕ) → p < length xs → nat_eq q p ≡ true → slice_index (slice_set xs p x) q ≡ x
+index_at xs p x q l e = grind (arith, nat_tests, common_steps)
+
+pub index_else : (xs : List ℕ) (p x q : ℕ) → nat_eq q p ≡ false → slice_index (slice_set xs p x) q ≡ slice_index xs q
+index_else xs p x q e = grind (arith, nat_tests, common_steps)
 
 same_place : (q g p f : ℕ) → g < 16 → f < 16 → nat_eq (16 * q + g) (16 * p + f) ≡ nat_eq g f && nat_eq q p
 same_place q g p f l m = grind (arith, nat_tests)

@@ -1,5 +1,30 @@
 -- What a pool's words and bytes stand for.
-use Rattle.std.specs.Prelude.{◌≡◌, Option, Some, None, ℕ, zero, suc, ◌+◌, ◌-◌, ◌/◌, ◌%◌, ◌≤◌, Bool, true, ◌&&◌, List, [], ◌∷◌, length, slice_index, nat_eq, nat_le, nat_lt, if◌then◌else◌}
+use Rattle.std.specs.Prelude.{
+  ◌≡◌,
+  Option,
+  Some,
+  None,
+  ℕ,
+  zero,
+  suc,
+  ◌+◌,
+  ◌-◌,
+  ◌/◌,
+  ◌%◌,
+  ◌≤◌,
+  Bool,
+  true,
+  ◌&&◌,
+  List,
+  [],
+  ◌∷◌,
+  length,
+  slice_index,
+  nat_eq,
+  nat_le,
+  nat_lt,
+  if◌then◌else◌,
+}
 use Rattle.arena_laws.specs.declared.standing.Standing.{Standing}
 use Rattle.arena_laws.specs.declared.standing.Standing.TheVariants.{Lexical}
 use Rattle.arena_laws.specs.declared.owner.Owner.{Owner}

@@ -1,5 +1,29 @@
 -- A page is cut for a class with no vacant slot.
-use Rattle.std.proofs.Common.{◌≡◌, ℕ, suc, ◌+◌, ◌/◌, ◌<◌, ◌≤◌, Bool, true, false, List, [], ◌∷◌, length, nat_eq, nat_lt, refl, sym, ap, subst, ◌∙◌, arith, length-set}
+use Rattle.std.proofs.Common.{
+  ◌≡◌,
+  ℕ,
+  suc,
+  ◌+◌,
+  ◌/◌,
+  ◌<◌,
+  ◌≤◌,
+  Bool,
+  true,
+  false,
+  List,
+  [],
+  ◌∷◌,
+  length,
+  nat_eq,
+  nat_lt,
+  refl,
+  sym,
+  ap,
+  subst,
+  ◌∙◌,
+  arith,
+  length-set,
+}
 use Rattle.std.specs.Prelude.{slice_index, slice_set, if◌then◌else◌}
 use Rattle.std.proofs.lemmas.Bool.Decides.{nat_tests}
 use Rattle.arena_laws.specs.Counts.{class_of}
@@ -7,7 +31,18 @@ use Rattle.region_runtime.specs.Chains.{times}
 use Rattle.unique_blocks.specs.Slots.{Slots, AreSlots, Leads, has_vacancy, one_if, place_of, tally, with_cut}
 use Rattle.unique_blocks.proofs.Tally.{tally_least, tally_none}
 use Rattle.unique_blocks.proofs.Classes.{place_own}
-use Rattle.unique_blocks.proofs.Vacant.{index_at, index_else, leads_kept, none_lead, times_here, times_else, times_none, class_some, slots_some, vacant_else, vacant_here}
+use Rattle.region_runtime.proofs.Words.{index_at, index_else}
+use Rattle.unique_blocks.proofs.Vacant.{
+  leads_kept,
+  none_lead,
+  times_here,
+  times_else,
+  times_none,
+  class_some,
+  slots_some,
+  vacant_else,
+  vacant_here,
+}
 
 module _ (pages : ℕ) (heads : List ℕ) (s : Slots) (sound : AreSlots pages heads s) where
   -- no more slots are live than a page has

@@ -7,7 +7,8 @@ use Rattle.region_runtime.specs.Chains.{times}
 use Rattle.unique_blocks.specs.Slots.{Slots, AreSlots, Leads, has_vacancy, is_of_class, one_if, place_of, tally, with_next, with_slot_given}
 use Rattle.unique_blocks.proofs.Tally.{tally_change, tally_some}
 use Rattle.unique_blocks.proofs.Classes.{place_own}
-use Rattle.unique_blocks.proofs.Vacant.{index_at, index_else, leads_kept, times_here, times_else, vacant_else, vacant_here}
+use Rattle.region_runtime.proofs.Words.{index_at, index_else}
+use Rattle.unique_blocks.proofs.Vacant.{leads_kept, times_here, times_else, vacant_else, vacant_here}
 use Rattle.unique_blocks.proofs.Chained.{live_most, place_in}
 use Rattle.unique_blocks.proofs.Taken.{bit_kept}
 

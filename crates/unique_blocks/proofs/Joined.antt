@@ -1,5 +1,31 @@
 -- The pool's calls do as the laws say with unique blocks beside.
-use Rattle.std.proofs.Common.{◌≡◌, ℕ, zero, suc, ◌+◌, ◌-◌, ◌*◌, ◌%◌, Bool, true, false, Option, Some, None, Result, Ok, Err, nat_eq, nat_lt, refl, sym, ap, subst, ◌∙◌, arith}
+use Rattle.std.proofs.Common.{
+  ◌≡◌,
+  ℕ,
+  zero,
+  suc,
+  ◌+◌,
+  ◌-◌,
+  ◌*◌,
+  ◌%◌,
+  Bool,
+  true,
+  false,
+  Option,
+  Some,
+  None,
+  Result,
+  Ok,
+  Err,
+  nat_eq,
+  nat_lt,
+  refl,
+  sym,
+  ap,
+  subst,
+  ◌∙◌,
+  arith,
+}
 use Rattle.std.specs.Prelude.{◌&&◌, nat_le, if◌then◌else◌}
 use Rattle.std.proofs.lemmas.Bool.Decides.{nat_tests}
 use Rattle.arena_laws.specs.declared.owner.Owner.{Owner}
@@ -10,7 +36,28 @@ use Rattle.arena_laws.specs.declared.standing.Standing.{Standing}
 use Rattle.arena_laws.specs.declared.standing.Standing.TheVariants.{Lexical, Opened, Closed}
 use Rattle.arena_laws.specs.Counts.{put, room_of, block_needs_page, is_full, is_too_long}
 use Rattle.arena_laws.specs.Holdings.{Holdings, arena_base, is_none}
-use Rattle.arena_laws.specs.Lawful.{Answer, Grants, Refuses, Lacks, Done, refuses, makes, frees_region, takes_blocks, gives_block, is_clear, is_in_room, is_lawful_room, is_new_number, is_of, owns, with_number, with_region_block, without_blocks, without_number}
+use Rattle.arena_laws.specs.Lawful.{
+  Answer,
+  Grants,
+  Refuses,
+  Lacks,
+  Done,
+  refuses,
+  makes,
+  frees_region,
+  takes_blocks,
+  gives_block,
+  is_clear,
+  is_in_room,
+  is_lawful_room,
+  is_new_number,
+  is_of,
+  owns,
+  with_number,
+  with_region_block,
+  without_blocks,
+  without_number,
+}
 use Rattle.arena_laws.specs.Lawful as lawful
 use Rattle.arena_laws.specs.Laws.{Does, answer_of, is_block_refused, refused_by, region_alloc, region_new}
 use Rattle.arena_laws.proofs.Rooms.{block_placed}

@@ -8,7 +8,8 @@ use Rattle.unique_blocks.specs.Slots.{Slots, AreSlots, Leads, has_vacancy, is_of
 use Rattle.unique_blocks.specs.Calls.{IsFirstVacant}
 use Rattle.unique_blocks.proofs.Tally.{tally_change, tally_full}
 use Rattle.unique_blocks.proofs.Classes.{place_own}
-use Rattle.unique_blocks.proofs.Vacant.{IsFirst, first_leads, index_at, index_else, times_here, times_else, class_some, vacant_else, vacant_here}
+use Rattle.region_runtime.proofs.Words.{index_at, index_else}
+use Rattle.unique_blocks.proofs.Vacant.{IsFirst, first_leads, times_here, times_else, class_some, vacant_else, vacant_here}
 use Rattle.unique_blocks.proofs.Chained.{place_in}
 
 -- what a vacancy says of a page

@@ -10,7 +10,8 @@ use Rattle.region_runtime.specs.Calls.{IsGot, IsNotGot}
 use Rattle.unique_blocks.specs.Slots.{AreSlots, address_of, bit_of, place_of, slots_by, with_cut, with_next, with_slot_given, with_slot_taken}
 use Rattle.unique_blocks.specs.Blocks.{IsSound, joined}
 use Rattle.unique_blocks.specs.Calls.{IsBeside, IsFirstVacant, IsKept, IsOpened, IsSlotGiven, IsSlotTaken, IsUnopened, slots_of}
-use Rattle.unique_blocks.proofs.Vacant.{class_some, index_at}
+use Rattle.region_runtime.proofs.Words.{index_at}
+use Rattle.unique_blocks.proofs.Vacant.{class_some}
 use Rattle.unique_blocks.proofs.Counted.{needs, spare}
 use Rattle.unique_blocks.proofs.Steps.{class_page, class_taken, opened_holds, opened_sound}
 use Rattle.unique_blocks.proofs.Taken.{full_sound, left_sound, live_small, of_class, page_in, slot_in}

@@ -1,19 +1,12 @@
 -- Chains of pages with a vacant slot.
-use Rattle.std.proofs.Common.{◌≡◌, ℕ, zero, suc, ◌-◌, ◌*◌, ◌/◌, ◌<◌, ◌≤◌, Bool, true, false, List, [], ◌∷◌, length, nat_eq, nat_lt, refl, sym, ap, subst, ◌∙◌, arith}
-use Rattle.std.specs.Prelude.{slice_index, slice_set, ◌&&◌, if◌then◌else◌}
+use Rattle.std.proofs.Common.{◌≡◌, ℕ, zero, suc, ◌-◌, ◌*◌, ◌/◌, ◌<◌, ◌≤◌, Bool, true, false, List, [], ◌∷◌, nat_eq, nat_lt, refl, sym, ap, subst, ◌∙◌, arith}
+use Rattle.std.specs.Prelude.{◌&&◌, if◌then◌else◌}
 use Rattle.std.proofs.lemmas.Bool.Decides.{nat_tests}
-use Rattle.std.proofs.lemmas.Grind.{common_steps}
 use Rattle.arena_laws.specs.Counts.{put, class_of}
 use Rattle.arena_laws.specs.Classes.{IsClass}
 use Rattle.arena_laws.proofs.Classes.{class_is}
 use Rattle.region_runtime.specs.Chains.{times}
 use Rattle.unique_blocks.specs.Slots.{Slots, Leads, has_vacancy}
-
-pub index_at : (xs : List ℕ) (p x q : ℕ) → p < length xs → nat_eq q p ≡ true → slice_index (slice_set xs p x) q ≡ x
-index_at xs p x q l e = grind (arith, nat_tests, common_steps)
-
-pub index_else : (xs : List ℕ) (p x q : ℕ) → nat_eq q p ≡ false → slice_index (slice_set xs p x) q ≡ slice_index xs q
-index_else xs p x q e = grind (arith, nat_tests, common_steps)
 
 -- a link of a page that isn't on the chain
 pub leads_kept : (next : ℕ → ℕ) (p x from : ℕ) (ps : List ℕ) → times p ps ≡ 0 → Leads next from ps → Leads (put p x next) from ps

@@ -4,7 +4,16 @@ use Rattle.std.specs.Prelude.{◌&&◌, if◌then◌else◌}
 use Rattle.std.specs.Int.{bit_at, bit_not, w32, trailing_ones}
 use Rattle.std.specs.Int.Bits.{bit_and, bit_or}
 use Rattle.std.specs.Int.Count.{trailing_of_zero}
-use Rattle.std.proofs.lemmas.Nat.Bits.{bit_at-zero, shr_and_one, bit_at_set_same, bit_at_set_other, bit_at_clear_same, bit_at_clear_other, bit_at-trailing_ones, bit_at_ones}
+use Rattle.std.proofs.lemmas.Nat.Bits.{
+  bit_at-zero,
+  shr_and_one,
+  bit_at_set_same,
+  bit_at_set_other,
+  bit_at_clear_same,
+  bit_at_clear_other,
+  bit_at-trailing_ones,
+  bit_at_ones,
+}
 use Rattle.std.proofs.lemmas.Bool.Decides.{nat_tests}
 use Rattle.region_runtime.specs.Headers.{put_word}
 use Rattle.region_runtime.specs.Pool.{Pooled, is_free_field, is_taken, word_by, word_of}

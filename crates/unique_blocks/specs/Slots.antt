@@ -1,5 +1,33 @@
 -- Pages that are cut into slots of one length, and what their words say. `word p f` is the word of page p at field f.
-use Rattle.std.specs.Prelude.{◌≡◌, Option, Some, None, ℕ, zero, suc, ◌+◌, ◌-◌, ◌*◌, ◌/◌, ◌%◌, ◌<◌, ◌≤◌, Bool, true, false, ◌&&◌, List, [], ◌∷◌, length, slice_index, nat_eq, nat_le, nat_lt, if◌then◌else◌}
+use Rattle.std.specs.Prelude.{
+  ◌≡◌,
+  Option,
+  Some,
+  None,
+  ℕ,
+  zero,
+  suc,
+  ◌+◌,
+  ◌-◌,
+  ◌*◌,
+  ◌/◌,
+  ◌%◌,
+  ◌<◌,
+  ◌≤◌,
+  Bool,
+  true,
+  false,
+  ◌&&◌,
+  List,
+  [],
+  ◌∷◌,
+  length,
+  slice_index,
+  nat_eq,
+  nat_le,
+  nat_lt,
+  if◌then◌else◌,
+}
 use Rattle.std.specs.Int.{bit_at}
 use Rattle.arena_laws.specs.declared.owner.Owner.{Owner}
 use Rattle.arena_laws.specs.declared.owner.Owner.TheVariants.{Alone}

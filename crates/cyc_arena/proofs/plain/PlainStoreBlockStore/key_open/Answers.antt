@@ -6,4 +6,5 @@ use Rattle.cyc_arena.proofs.plain.PlainStoreBlockStore.key_open.Goals as goal
 
 pub returns-in-Some-Closed-clause-does : goal.returns-in-Some-Closed-clause-does
 returns-in-Some-Closed-clause-does c =
-    does_along (key_open c.args.key) _ _ _ _ c.self.view_is (opened_does (the_view c.self.inside) c.args.key (rw c.in-Some-Closed.field-0-is at c.in-Some-Closed.ensures))
+    does_along (key_open c.args.key) _ _ _ _ c.self.view_is
+    (opened_does (the_view c.self.inside) c.args.key (rw c.in-Some-Closed.field-0-is at c.in-Some-Closed.ensures))

@@ -55,7 +55,8 @@ cut-requires-clause-page c =
     let s = last_some (pool_of c.self.inside.book) c.args.self.now (pool_of c.self.inside.book) c.self.view_is c.self.invariant refl refl h c.args.bytes
     (ap (λ t. takes_blocks c.args.handle.0 (standing_by (owner_of t.word) c.args.handle.0)) (sym c.begin.ensures.shape) ∙ sym c.serves.ensures.value
     ∙ c.if-not-serves.false)
-    c.room_for-room.result c.if-bytes-gt-PAGE.false (c.room_for-room.ensures.room c.if-bytes-gt-PAGE.false) c.last-last.result c.left.result last_is left_is c.if-room-left.true in
+    c.room_for-room.result c.if-bytes-gt-PAGE.false (c.room_for-room.ensures.room c.if-bytes-gt-PAGE.false)
+    c.last-last.result c.left.result last_is left_is c.if-room-left.true in
     let l = last_in (pool_of c.self.inside.book) c.self.invariant h in
     subst (λ r. c.last-last.result - 1 < length r.words / 16) (sym raws) (omega (arith, s, l, last_is))
 
@@ -71,7 +72,8 @@ cut-requires-clause-within c =
     let f = last_fits (pool_of c.self.inside.book) c.args.self.now (pool_of c.self.inside.book) c.self.view_is c.self.invariant refl refl h c.args.bytes
     (ap (λ t. takes_blocks c.args.handle.0 (standing_by (owner_of t.word) c.args.handle.0)) (sym c.begin.ensures.shape) ∙ sym c.serves.ensures.value
     ∙ c.if-not-serves.false)
-    c.room_for-room.result c.if-bytes-gt-PAGE.false (c.room_for-room.ensures.room c.if-bytes-gt-PAGE.false) c.last-last.result c.left.result last_is left_is c.if-room-left.true in
+    c.room_for-room.result c.if-bytes-gt-PAGE.false (c.room_for-room.ensures.room c.if-bytes-gt-PAGE.false)
+    c.last-last.result c.left.result last_is left_is c.if-room-left.true in
     subst (λ k. used_of k.word (c.last-last.result - 1) + c.room_for-room.result ≤ 4096) (sym shapes) f
 
 pub invariant_of-self-then-room-left : goal.invariant_of-self-then-room-left

@@ -16,7 +16,8 @@ returns-then-at-lt-BASE-clause-apart c = apart _
 pub returns-then-at-pages-clause-bytes : goal.returns-then-at-pages-clause-bytes
 returns-then-at-pages-clause-bytes c =
     store_out (pool_of c.self.inside.book) _ (record (pool_of c.self.inside.book) { touched = 0 }) c.self.view_is c.args.at c.args.byte
-    (above_out (pool_of c.self.inside.book) c.args.at c.if-at-lt-BASE.false (let e = c.pages.ensures.count in let l = c.if-at-pages.true in omega (arith, e, l)))
+    (above_out (pool_of c.self.inside.book) c.args.at c.if-at-lt-BASE.false
+    (let e = c.pages.ensures.count in let l = c.if-at-pages.true in omega (arith, e, l)))
     (bytes_along (pool_of c.self.inside.book) (pool_of c.self.inside.book) (record (pool_of c.self.inside.book) { touched = 0 }) refl refl)
 
 pub returns-then-at-pages-clause-apart : goal.returns-then-at-pages-clause-apart

@@ -2,7 +2,10 @@ use Rattle.std.proofs.Common.{subst}
 use Rattle.unique_blocks.specs.Calls.{IsSlotTaken}
 use Rattle.unique_blocks.proofs.Freed.{alloc_opened, alloc_spare}
 use Rattle.unique_blocks.proofs.blocks.UniqueBlocks.unique_alloc.Goals as goal
-use Rattle.unique_blocks.proofs.blocks.UniqueBlocks.unique_alloc.Goals.{else-self-place-eq0-via-then-self-place-eq0+else-not-open, else-self-place-eq0-via-else-self-place-eq0}
+use Rattle.unique_blocks.proofs.blocks.UniqueBlocks.unique_alloc.Goals.{
+  else-self-place-eq0-via-then-self-place-eq0+else-not-open,
+  else-self-place-eq0-via-else-self-place-eq0,
+}
 
 pub returns-clause-does : goal.returns-clause-does
 returns-clause-does c =

@@ -4,7 +4,9 @@ use Rattle.rv32_machine.proofs.Asking.{concluded, never_full, shown_full}
 use Rattle.rv32_machine.proofs.machine.Machine.key_close.Goals as goal
 
 pub returns-clause-step : goal.returns-clause-step
-returns-clause-step g c = rw (← c.self.view_is) (concluded (KeyClose c.args.key) _ _ _ _ _ _ c.key_close-done.ensures.does c.key_close-done.ensures.bytes c.finished.ensures)
+returns-clause-step g c = rw (← c.self.view_is)
+    (concluded (KeyClose c.args.key) _ _ _ _ _ _ c.key_close-done.ensures.does c.key_close-done.ensures.bytes c.finished.ensures)
 
 pub returns-clause-full : goal.returns-clause-full
-returns-clause-full g c = shown_full false _ _ _ _ _ c.finished.ensures (never_full (KeyClose c.args.key) _ (g.S.BlockStore.holdings c.self.inside.store) _ refl c.key_close-done.ensures.does)
+returns-clause-full g c = shown_full false _ _ _ _ _ c.finished.ensures
+    (never_full (KeyClose c.args.key) _ (g.S.BlockStore.holdings c.self.inside.store) _ refl c.key_close-done.ensures.does)

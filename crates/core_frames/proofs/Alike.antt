@@ -1,8 +1,7 @@
--- Regions, spots and maps: what is the same, and what stays where maps are extended.
-use Rattle.std.specs.Prelude.{nat_eq, if◌then◌else◌}
+-- Maps: what stays where they are extended.
+use Rattle.std.specs.Prelude.{if◌then◌else◌}
 use Rattle.std.proofs.Common.{◌≡◌, ℕ, ◌⊎◌, inl, inr, Bool, true, false, Option, Some, None, refl, ap}
-use Rattle.std.proofs.lemmas.Bool.{eqb-true, eq-eqb, and_parts}
-use Rattle.core_meaning.specs.Memory.{Region, Frame, Own, Born, Spot, Content, Blank, Word, Null, Pointer, Birth, same_region, same_spot}
+use Rattle.core_meaning.specs.Memory.{Content, Blank, Word, Null, Pointer, Birth}
 use Rattle.core_frames.specs.Lies.{Maps, Extends, Shows}
 
 pub if_split : {A : Type 0} (b : Bool) (x y z : A) → (if b then x else y) ≡ z → ((b ≡ true) × (x ≡ z)) ⊎ ((b ≡ false) × (y ≡ z))
@@ -18,31 +17,6 @@ some_same x y e = ap (or_else x) e
 
 pub none_some : {A : Type 0} (x : A) → None ≡ Some x → ⊥
 none_some x e = cc e
-
-pub region_same : (r s : Region) → same_region r s ≡ true → r ≡ s
-region_same (Frame j) (Frame k) e = ap Frame (eqb-true j k e)
-region_same (Own j) (Own k) e = ap Own (eqb-true j k e)
-region_same (Born j) (Born k) e = ap Born (eqb-true j k e)
-region_same (Frame j) (Own k) e = absurd (cc e)
-region_same (Frame j) (Born k) e = absurd (cc e)
-region_same (Own j) (Frame k) e = absurd (cc e)
-region_same (Own j) (Born k) e = absurd (cc e)
-region_same (Born j) (Frame k) e = absurd (cc e)
-region_same (Born j) (Own k) e = absurd (cc e)
-
-pub region_self : (r : Region) → same_region r r ≡ true
-region_self (Frame j) = eq-eqb j j refl
-region_self (Own j) = eq-eqb j j refl
-region_self (Born j) = eq-eqb j j refl
-
-pub spot_same : (s t : Spot) → same_spot s t ≡ true → s ≡ t
-spot_same s t e =
-    let p = and_parts (same_region s.region t.region) _ e in
-    let q = and_parts (nat_eq s.object t.object) (nat_eq s.cell t.cell) p.1 in
-    let a = region_same s.region t.region p.0 in
-    let b = eqb-true s.object t.object q.0 in
-    let c = eqb-true s.cell t.cell q.1 in
-    λ i. record { region = a i; object = b i; cell = c i }
 
 -- ---- maps
 

@@ -40,9 +40,9 @@ use Rattle.core_frames.proofs.Relations.{World, IsInOrder, Has, Waiting, At}
 use Rattle.core_frames.proofs.Moving.{Comes, comes_then, comes_as}
 use Rattle.core_frames.proofs.Access.{length_of_both}
 use Rattle.core_frames.proofs.Passing.{has_first, has_second}
-use Rattle.core_frames.proofs.Alike.{spot_same}
+use Rattle.core_meaning.proofs.Spots.{spot_same}
 use Rattle.core_frames.proofs.Storing.{live_lasts}
-use Rattle.core_frames.proofs.Values.{is_zero, same_truth, truth_below}
+use Rattle.core_frames.proofs.Values.{is_zero, same_truth}
 use Rattle.core_frames.proofs.Registers.{AtWith, InRegister, in_turn, puts}
 use Rattle.core_frames.proofs.Operations.{having, loading, saving, loads_both, then_saves, Loaded, Here, With}
 

@@ -58,7 +58,7 @@ use Rattle.core_frames.proofs.Operations.{having, saving, then_saves, constant_i
 use Rattle.core_frames.proofs.Zero.{null_pointer}
 use Rattle.core_frames.proofs.Parts.{load, store, get, put, object_address}
 use Rattle.core_frames.proofs.Streams.{putchar_goes, getchar_goes}
-use Rattle.core_frames.proofs.Values.{truth_below}
+use Rattle.core_meaning.proofs.Results.{truth_below}
 use Rattle.core_frames.proofs.Comparing.{IsAtPart, GivesTruth, compare_places, two_nulls, null_and_pointer, pointer_and_null, two_pointers}
 
 -- ---- what an operation needs

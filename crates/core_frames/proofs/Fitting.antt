@@ -16,7 +16,8 @@ use Rattle.arena_laws.specs.Blocks.{Block}
 use Rattle.core_frames.proofs.Bytes.{same_word, other_word, other_byte, byte_is_small}
 use Rattle.core_frames.proofs.Steps.{IsAllowed}
 use Rattle.rv32_machine.proofs.Bytes.{within_true}
-pub use Rattle.core_frames.proofs.Alike.{if_split, some_same, none_some, region_same, region_self, spot_same, shows_on, extends_self, extends_on}
+pub use Rattle.core_meaning.proofs.Spots.{region_same, region_self, spot_same}
+pub use Rattle.core_frames.proofs.Alike.{if_split, some_same, none_some, shows_on, extends_self, extends_on}
 
 -- ---- writes
 

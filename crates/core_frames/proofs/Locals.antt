@@ -47,14 +47,14 @@ offset_below low (l ∷ ls) (suc o) y e = offset_below (rounded low + bytes_of l
 
 -- ---- how high all blocks reach
 
-greater_left : (a b : ℕ) → a ≤ greater a b
+pub greater_left : (a b : ℕ) → a ≤ greater a b
 greater_left a b = by (nat_le a b) refl
   where
     by : (c : Bool) → nat_le a b ≡ c → a ≤ (if c then b else a)
     by true e = leb-true a b e
     by false e = omega arith
 
-greater_right : (a b : ℕ) → b ≤ greater a b
+pub greater_right : (a b : ℕ) → b ≤ greater a b
 greater_right a b = by (nat_le a b) refl
   where
     by : (c : Bool) → nat_le a b ≡ c → b ≤ (if c then b else a)

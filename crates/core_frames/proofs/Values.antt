@@ -1,33 +1,7 @@
 -- What the instructions of an operation on two words do, and that its result is a word.
 use Rattle.arena_laws.specs.Lawful.{Answer}
 use Rattle.core_frames.specs.Machines.{state_of}
-use Rattle.std.proofs.Common.{
-  ◌≡◌,
-  ℕ,
-  ℤ,
-  pos,
-  negsuc,
-  ◌+◌,
-  ◌^◌,
-  ◌<◌,
-  ◌%◌,
-  List,
-  Bool,
-  true,
-  false,
-  not,
-  nat_eq,
-  nat_lt,
-  nat_le,
-  if◌then◌else◌,
-  bit_xor,
-  refl,
-  sym,
-  ap,
-  subst,
-  ◌∙◌,
-  arith,
-}
+use Rattle.std.proofs.Common.{◌≡◌, ℕ, pos, ◌+◌, ◌^◌, ◌<◌, ◌%◌, List, Bool, true, false, not, nat_eq, nat_lt, nat_le, bit_xor, refl, sym, ap, subst, ◌∙◌, arith}
 use Rattle.std.proofs.Math.Nat.{div-le_self, mod-le}
 use Rattle.std.proofs.lemmas.Nat.{and_le_l, or_of_32, xor_of_32}
 use Rattle.std.proofs.lemmas.Bool.Decides.{nat_tests}
@@ -51,6 +25,7 @@ use Rattle.core_frames.proofs.Steps.{state_at}
 use Rattle.core_frames.proofs.Registers.{AtWith, InRegister, puts}
 use Rattle.core_meaning.specs.Core as core
 use Rattle.core_meaning.specs.Words as meaning
+use Rattle.core_meaning.proofs.Results.{word_below, truth_below, either_below}
 
 -- ---- the values
 
@@ -71,18 +46,6 @@ is_some a b l m = grind (arith, nat_tests)
 
 not_less : (a b : ℕ) → not (nat_lt b a) ≡ nat_le a b
 not_less a b = grind (arith, nat_tests)
-
-word_below : (z : ℤ) → word z < 2 ^ 32
-word_below (pos n) = omega arith
-word_below (negsuc n) = omega arith
-
-pub truth_below : (b : Bool) → meaning.truth b < 2 ^ 32
-truth_below true = omega arith
-truth_below false = omega arith
-
-either_below : (b : Bool) (v w : ℕ) → v < 2 ^ 32 → w < 2 ^ 32 → (if b then v else w) < 2 ^ 32
-either_below true v w l m = l
-either_below false v w l m = m
 
 pub two_below : (o : Binary) (a b : ℕ) → a < 2 ^ 32 → b < 2 ^ 32 → two o a b < 2 ^ 32
 two_below core.Add a b l m = omega arith

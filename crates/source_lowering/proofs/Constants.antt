@@ -36,7 +36,8 @@ use Rattle.source_lowering.specs.Lowered.{width_of}
 use Rattle.source_lowering.specs.Programs.{word_in, constant_word, constant_content, initial_content}
 use Rattle.source_lowering.specs.Taken.{IsIntegerShape, IsNullable, TakesConstant, TakesInitial, TakesProgram}
 use Rattle.source_lowering.proofs.Relations.{at, Leads, Shown, Agree, Later, AreLed, Same}
-use Rattle.source_lowering.proofs.Keeping.{spot_same, later_self, all_led_later, m_written}
+use Rattle.core_meaning.proofs.Spots.{spot_same}
+use Rattle.source_lowering.proofs.Keeping.{later_self, all_led_later, m_written}
 use Rattle.source_lowering.proofs.Operators.{modulo_small}
 use Rattle.source_lowering.proofs.Integers.{IsWordShape, limit, word_shown}
 use Rattle.source_lowering.proofs.Cells.{plain_of, write_same}

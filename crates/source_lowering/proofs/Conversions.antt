@@ -1,5 +1,30 @@
 -- A value in a temporary is converted to another shape.
-use Rattle.std.proofs.Common.{◌≡◌, Bool, true, false, Option, Some, None, ℕ, ◌%◌, ◌^◌, ◌<◌, inl, inr, ⊎_elim, List, [], ◌∷◌, ◌++◌, refl, sym, ap, ◌∙◌, subst, arith}
+use Rattle.std.proofs.Common.{
+  ◌≡◌,
+  Bool,
+  true,
+  false,
+  Option,
+  Some,
+  None,
+  ℕ,
+  ◌%◌,
+  ◌^◌,
+  ◌<◌,
+  inl,
+  inr,
+  ⊎_elim,
+  List,
+  [],
+  ◌∷◌,
+  ◌++◌,
+  refl,
+  sym,
+  ap,
+  ◌∙◌,
+  subst,
+  arith,
+}
 use Rattle.std.specs.Prelude.{◌&&◌}
 use Rattle.std.proofs.lemmas.Bool.{and_parts, false≢true}
 use Rattle.cyc_words.specs.declared.faults.Kind.TheVariants.{NullException}
@@ -36,7 +61,24 @@ use Rattle.core_meaning.specs.Steps.{Config, with_temp}
 use Rattle.core_meaning.specs.Meaning as meaning
 use Rattle.core_meaning.specs.Operations.{does}
 use Rattle.source_lowering.specs.Lowered.{put, conversion_code}
-use Rattle.source_lowering.proofs.Relations.{at, Leads, Shown, ANull, APointer, Place, Fits, SameAt, Next, AreKept, LaterAt, AValue, ANothing, Given, GoesOn, GivesAs}
+use Rattle.source_lowering.proofs.Relations.{
+  at,
+  Leads,
+  Shown,
+  ANull,
+  APointer,
+  Place,
+  Fits,
+  SameAt,
+  Next,
+  AreKept,
+  LaterAt,
+  AValue,
+  ANothing,
+  Given,
+  GoesOn,
+  GivesAs,
+}
 use Rattle.source_lowering.proofs.Runs.{stuck_same, stops_same, put_all}
 use Rattle.source_lowering.proofs.Integers.{IsTaken, IsWord, limit, shown_word, word_given, small_word, null_is, pointer_is}
 use Rattle.source_lowering.proofs.SameShapes.{shapes_same}
@@ -324,7 +366,8 @@ conversion_same p n d (ThinShape a o to) IntShape f g =
     stuck_converts p n d (ThinShape a o to) IntShape (conversion_code (ThinShape a o to) IntShape d) g (λ t word s m k e. stuck_same p.world p.program n k)
     (λ s m k e. stuck_same p.world p.program n k)
 conversion_same p n d (ThinShape a o to) UnsignedShape f g =
-    stuck_converts p n d (ThinShape a o to) UnsignedShape (conversion_code (ThinShape a o to) UnsignedShape d) g (λ t word s m k e. stuck_same p.world p.program n k)
+    stuck_converts p n d (ThinShape a o to) UnsignedShape (conversion_code (ThinShape a o to) UnsignedShape d) g
+    (λ t word s m k e. stuck_same p.world p.program n k)
     (λ s m k e. stuck_same p.world p.program n k)
 conversion_same p n d (ThinShape a o to) CharShape f g =
     stuck_converts p n d (ThinShape a o to) CharShape (conversion_code (ThinShape a o to) CharShape d) g (λ t word s m k e. stuck_same p.world p.program n k)

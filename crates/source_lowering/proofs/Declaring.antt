@@ -70,7 +70,8 @@ use Rattle.source_lowering.proofs.Relations.{
   Next,
   AValue,
 }
-use Rattle.source_lowering.proofs.Keeping.{core_itself, later_on, later_less, shown_later, all_led_later, fits_later, m_written}
+use Rattle.core_meaning.proofs.Spots.{spot_self}
+use Rattle.source_lowering.proofs.Keeping.{later_on, later_less, shown_later, all_led_later, fits_later, m_written}
 use Rattle.source_lowering.proofs.Runs.{stuck_same}
 use Rattle.source_lowering.proofs.Integers.{IsWordShape, word_shown}
 use Rattle.source_lowering.proofs.Cells.{IsPlain, plain_of, IsWritten, write_same}
@@ -145,7 +146,8 @@ no_value v e = cc e
 -- a local with a value that is in a temporary
 pub local_with_same : (p : Place) (n d : ℕ) (scope : Scope) (name : List ℕ) (shape : Shape) (shapes : List Shape) (vs : List Scalar)
     (then_act : Scope → Act Flow) (next : Flow → source.Memory → steps.Step) (m : source.Memory) (c : Config) (rest : Statements) (after : Next)
-    → scope.world ≡ p.world → scope.frame ≡ p.frame → IsWordShape shape → p.pending ≡ shape ∷ shapes → Fits p m c → AValue p.world m c.memory shape vs (c.temps d)
+    → scope.world ≡ p.world → scope.frame ≡ p.frame → IsWordShape shape → p.pending ≡ shape ∷ shapes → Fits p m c
+    → AValue p.world m c.memory shape vs (c.temps d)
     → GoesOnIn p (with_local p name shape shapes) n m c (λ m'. then_act (with_binding scope name (Variable shape (local_spot p.frame p.made))) next m')
     (meaning.statements rest after)
     → SameAt p n (local_with scope name shape vs then_act next m) (meaning.statements (MoreStatements (Do (Put 0 p.made (width_of shape) d)) rest) after c)
@@ -337,7 +339,7 @@ declared_same p n scope name shape shapes then_act next m c rest after world fra
           held = (
             (
               part_with (width_of shape) first.content,
-              (rw (core_itself (at spot)) refl, refl),
+              (rw (spot_self (at spot)) refl, refl),
             ),
             tt,
           );
@@ -349,7 +351,8 @@ declared_same p n scope name shape shapes then_act next m c rest after world fra
     stored : is_live m (source.Frame p.frame) ≡ true → SameAt p n (then_act (with_binding scope name (Variable shape spot)) next m2) code
     stored live =
         subst (λ z. SameAt p n (then_act (with_binding scope name (Variable shape spot)) next m2) z)
-        (sym (first.does (meaning.statements (MoreStatements (Do (Put 0 p.made (width_of shape) 0)) rest) after) c ∙ put_here c0 0 p.made (width_of shape) p.frame p.outer part.content (meaning.statements rest after) fits.blocks
+        (sym (first.does (meaning.statements (MoreStatements (Do (Put 0 p.made (width_of shape) 0)) rest) after) c
+        ∙ put_here c0 0 p.made (width_of shape) p.frame p.outer part.content (meaning.statements rest after) fits.blocks
         (sym (fits.agree.live (source.Frame p.frame)) ∙ live) part.is ∙
         ap (λ z. meaning.statements rest after (with_memory (with_part c.memory (at spot) 0 (part_with (width_of shape) z)) c0))
         (ap (fitting (width_of shape)) (put_temp 0 first.content c) ∙ first.fits)))

@@ -14,7 +14,26 @@ use Rattle.source_meaning.specs.Places.{Sense, place_sense}
 use Rattle.source_meaning.specs.Calls.{constant, applied, tested, inverted, truth, prefixed}
 use Rattle.source_meaning.specs.Expressions.{sense, senses, linked}
 use Rattle.core_meaning.specs.Core.{Program, Statement, Do, Constant}
-use Rattle.source_lowering.specs.Lowered.{count_of, Named, prefix_shape, static_shape, linked_shape, operator_code, check_code, load_code, prefix_code, pointed_code, place_code, call_parameters, put_code, expression_code, links_code, all_code, any_code, arguments_code}
+use Rattle.source_lowering.specs.Lowered.{
+  count_of,
+  Named,
+  prefix_shape,
+  static_shape,
+  linked_shape,
+  operator_code,
+  check_code,
+  load_code,
+  prefix_code,
+  pointed_code,
+  place_code,
+  call_parameters,
+  put_code,
+  expression_code,
+  links_code,
+  all_code,
+  any_code,
+  arguments_code,
+}
 use Rattle.source_lowering.specs.Taken.{TakesPlace, Takes, TakesAll, TakesLinks}
 use Rattle.source_lowering.proofs.Relations.{Place, AreLocals}
 use Rattle.source_lowering.proofs.Integers.{IsTaken}
@@ -200,16 +219,19 @@ mutual
   expression_same (Expression.Grouped at inner) scope k h known n calls d = expression_same inner scope k h known n calls d
   expression_same (Expression.Suffixed primary _) scope k h known n calls d = absurd h
   expression_same (Expression.Prefixed at prefix.Negate operand) scope k h known n calls d =
-      negate_agrees (place_in scope k) n d (sense operand scope) (static_shape scope.world k.names operand) (expression_code scope.world k.names operand (d + 1))
+      negate_agrees (place_in scope k) n d (sense operand scope) (static_shape scope.world k.names operand)
+      (expression_code scope.world k.names operand (d + 1))
       (expression_code scope.world k.names operand d) (place_code scope.world k.names operand d) (expression_same operand scope k h known n calls (d + 1))
   expression_same (Expression.Prefixed at prefix.Complement operand) scope k h known n calls d =
-      complement_agrees (place_in scope k) n d (sense operand scope) (static_shape scope.world k.names operand) (expression_code scope.world k.names operand (d + 1))
+      complement_agrees (place_in scope k) n d (sense operand scope) (static_shape scope.world k.names operand)
+      (expression_code scope.world k.names operand (d + 1))
       (expression_code scope.world k.names operand d) (place_code scope.world k.names operand d) (expression_same operand scope k h known n calls (d + 1))
   expression_same (Expression.Prefixed at prefix.Not operand) scope k h known n calls d =
       not_agrees (place_in scope k) n d (sense operand scope) (static_shape scope.world k.names operand) (expression_code scope.world k.names operand (d + 1))
       (expression_code scope.world k.names operand d) (place_code scope.world k.names operand d) (expression_same operand scope k h known n calls (d + 1))
   expression_same (Expression.Prefixed at prefix.Dereference operand) scope k h known n calls d =
-      contents_agrees (place_in scope k) n d (sense operand scope) (static_shape scope.world k.names operand) (expression_code scope.world k.names operand (d + 1))
+      contents_agrees (place_in scope k) n d (sense operand scope) (static_shape scope.world k.names operand)
+      (expression_code scope.world k.names operand (d + 1))
       (expression_code scope.world k.names operand d) (place_code scope.world k.names operand d) (expression_same operand scope k h known n calls d)
   expression_same (Expression.Prefixed at prefix.AddressOf operand) scope k h known n calls d =
       let to = place_same operand scope k h known n calls d in

@@ -140,7 +140,8 @@ declaration_same n (tree.Local of name (Initializer.Value e)) scope k result sha
     let type = type_settled of h.0 in
     let one = expression_same e scope k h.1 known n calls 0 in
     subst (λ z. RunsAs (place_in scope k) n scope.frame result (initialised scope name.text z (sense e scope) then_act)
-    (declaration_code scope.world k.names (tree.Local of name (Initializer.Value e)) k.made ++ others)) (sym (type.by (sense e scope).shape (subst (λ z. IsTaken z) (sym one.shape_is) one.taken)))
+    (declaration_code scope.world k.names (tree.Local of name (Initializer.Value e)) k.made ++ others))
+    (sym (type.by (sense e scope).shape (subst (λ z. IsTaken z) (sym one.shape_is) one.taken)))
     (value_same n scope k result name.text (settled (written of)) shapes (sense e scope) (static_shape scope.world k.names e)
     (expression_code scope.world k.names e 0) then_act others type.is_word pending one more)
 declaration_same n (tree.Region at region handle) scope k result shapes then_act others h known calls pending more = absurd h

@@ -28,7 +28,8 @@ use Rattle.source_lowering.specs.Layouts.{placed_of, layout_of}
 use Rattle.source_lowering.specs.Programs.{locals_of}
 use Rattle.source_lowering.proofs.Relations.{region_at, at, AreMade, ArePending, PartsHold, Agree, Later}
 use Rattle.source_lowering.proofs.Integers.{IsTaken}
-use Rattle.source_lowering.proofs.Keeping.{region_same, region_self, region_as, shown_later}
+use Rattle.core_meaning.proofs.Spots.{region_same, region_self}
+use Rattle.source_lowering.proofs.Keeping.{region_as, shown_later}
 
 -- ---- objects are made in one region alone
 

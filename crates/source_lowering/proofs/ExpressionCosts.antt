@@ -298,7 +298,8 @@ mutual
       let l = a.less in let k = b.less in
       record {
         operations = 1 + (a.operations + 3) + b.operations;
-        costs = both_cost t p 0 (1 + (a.operations + 3)) 0 b.operations (If d (all_of (expression_code w names e d ++ word_code (static_shape w names e) d)) NoStatements ∷ []) _
+        costs = both_cost t p 0 (1 + (a.operations + 3)) 0 b.operations
+            (If d (all_of (expression_code w names e d ++ word_code (static_shape w names e) d)) NoStatements ∷ []) _
             (these_costs t p d (a.operations + 3) (expression_code w names e d ++ word_code (static_shape w names e) d) (omega (arith, f))
             (both_cost t p 0 a.operations 0 3 _ _ a.costs (tested_word t p d (static_shape w names e) (let n = nodes_positive e in omega (arith, f, n)))))
             b.costs;
@@ -314,7 +315,8 @@ mutual
       let l = a.less in let k = b.less in
       record {
         operations = 1 + (a.operations + 3) + b.operations;
-        costs = both_cost t p 0 (1 + (a.operations + 3)) 0 b.operations (If d NoStatements (all_of (expression_code w names e d ++ word_code (static_shape w names e) d)) ∷ []) _
+        costs = both_cost t p 0 (1 + (a.operations + 3)) 0 b.operations
+            (If d NoStatements (all_of (expression_code w names e d ++ word_code (static_shape w names e) d)) ∷ []) _
             (those_costs t p d (a.operations + 3) (expression_code w names e d ++ word_code (static_shape w names e) d) (omega (arith, f))
             (both_cost t p 0 a.operations 0 3 _ _ a.costs (tested_word t p d (static_shape w names e) (let n = nodes_positive e in omega (arith, f, n)))))
             b.costs;

@@ -26,7 +26,7 @@ use Rattle.std.proofs.Common.{
   arith,
 }
 use Rattle.std.specs.Prelude.{◌&&◌, if◌then◌else◌}
-use Rattle.std.proofs.lemmas.Bool.{eqb-true, eq-eqb, and_parts}
+use Rattle.std.proofs.lemmas.Bool.{eqb-true, and_parts}
 use Rattle.source_meaning.specs.Placing.{Placed}
 use Rattle.source_meaning.specs.Shapes.{
   Shape,
@@ -46,10 +46,11 @@ use Rattle.source_meaning.specs.Memory as source
 use Rattle.source_meaning.specs.Memory.{Scalar, Spot, Holds, Cell, same_region, same_spot, with_cell, with_state, state_is_live, Live, Dead}
 use Rattle.source_meaning.specs.Steps.{World, Entity, Variable, Fixed, Binding}
 use Rattle.source_meaning.specs.Conversions.{size_of}
-use Rattle.source_meaning.proofs.Cases.{region_is}
+use Rattle.source_meaning.proofs.Cases.{spot_is}
 use Rattle.core_meaning.specs.Memory as core
 use Rattle.core_meaning.specs.Memory.{Content, Part, with_part, with_standing}
 use Rattle.core_meaning.specs.Steps.{Config}
+use Rattle.core_meaning.proofs.Spots.{spot_same, spot_self}
 use Rattle.source_lowering.specs.Layouts.{placed_of, Piece, pieces_of}
 use Rattle.source_lowering.proofs.Relations.{
   region_at,
@@ -74,33 +75,6 @@ use Rattle.source_lowering.proofs.Relations.{
   AreLed,
 }
 
--- ---- regions and spots of Core
-
-pub region_same : (r s : core.Region) → core.same_region r s ≡ true → r ≡ s
-region_same (core.Frame j) (core.Frame k) e = ap (λ n. core.Frame n) (eqb-true j k e)
-region_same (core.Own j) (core.Own k) e = ap (λ n. core.Own n) (eqb-true j k e)
-region_same (core.Born j) (core.Born k) e = ap (λ n. core.Born n) (eqb-true j k e)
-region_same (core.Frame j) (core.Own k) e = absurd (cc e)
-region_same (core.Frame j) (core.Born k) e = absurd (cc e)
-region_same (core.Own j) (core.Frame k) e = absurd (cc e)
-region_same (core.Own j) (core.Born k) e = absurd (cc e)
-region_same (core.Born j) (core.Frame k) e = absurd (cc e)
-region_same (core.Born j) (core.Own k) e = absurd (cc e)
-
-pub region_self : (r : core.Region) → core.same_region r r ≡ true
-region_self (core.Frame j) = eq-eqb j j refl
-region_self (core.Own j) = eq-eqb j j refl
-region_self (core.Born j) = eq-eqb j j refl
-
-pub spot_same : (s t : core.Spot) → core.same_spot s t ≡ true → s ≡ t
-spot_same s t e =
-    let p = and_parts (core.same_region s.region t.region) _ e in
-    let q = and_parts (nat_eq s.object t.object) (nat_eq s.cell t.cell) p.1 in
-    let a = region_same s.region t.region p.0 in
-    let b = eqb-true s.object t.object q.0 in
-    let c = eqb-true s.cell t.cell q.1 in
-    λ i. record { region = a i; object = b i; cell = c i }
-
 -- ---- spots
 
 pub region_as : (q r : source.Region) → core.same_region (region_at q) (region_at r) ≡ same_region q r
@@ -111,18 +85,6 @@ region_as (source.Born j) (source.Born k) = refl
 
 pub spot_as : (s t : Spot) → core.same_spot (at s) (at t) ≡ same_spot s t
 spot_as s t = ap (λ b. b && (nat_eq s.object t.object && nat_eq s.cell t.cell)) (region_as s.region t.region)
-
-pub spot_is : (s t : Spot) → same_spot s t ≡ true → s ≡ t
-spot_is s t e =
-    let p = and_parts (same_region s.region t.region) _ e in
-    let q = and_parts (nat_eq s.object t.object) (nat_eq s.cell t.cell) p.1 in
-    let a = region_is s.region t.region p.0 in
-    let b = eqb-true s.object t.object q.0 in
-    let c = eqb-true s.cell t.cell q.1 in
-    λ i. record { region = a i; object = b i; cell = c i }
-
-pub core_itself : (t : core.Spot) → core.same_spot t t ≡ true
-core_itself t = rw (region_self t.region, eq-eqb t.object t.object refl, eq-eqb t.cell t.cell refl) refl
 
 -- ---- cells
 
@@ -344,7 +306,7 @@ agree_written w m c s shape old v part x a is there shown =
     here later = record {
       contents = x ∷ [];
       shown = shown_later 0 w m (m_written m s shape v) c (c_written c s part x) shape v (x ∷ []) later shown;
-      held = ((record part { content = x }, (rw (core_itself (at s)) refl, refl)), tt);
+      held = ((record part { content = x }, (rw (spot_self (at s)) refl, refl)), tt);
     }
 
     by : (b : Bool) (t : Spot) (other : Shape) (u : Scalar) → Later 0 m c (m_written m s shape v) (c_written c s part x) → same_spot t s ≡ b

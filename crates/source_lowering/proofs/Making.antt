@@ -35,7 +35,8 @@ use Rattle.source_meaning.proofs.Cases.{region_itself, region_is}
 use Rattle.core_meaning.specs.Memory as core
 use Rattle.core_meaning.specs.Memory.{Content, Part, with_part}
 use Rattle.source_lowering.proofs.Relations.{region_at, at, HasShape, PartIs, IsShown, Agree, Later}
-use Rattle.source_lowering.proofs.Keeping.{held_other, region_as, spot_same, shown_later}
+use Rattle.core_meaning.proofs.Spots.{spot_same}
+use Rattle.source_lowering.proofs.Keeping.{held_other, region_as, shown_later}
 
 -- the object of one cell
 abbrev pub one_cell : Shape → source.Content → Object

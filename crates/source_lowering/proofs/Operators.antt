@@ -1,33 +1,6 @@
 -- What an operator gives of two integers, in the source and in Core.
-use Rattle.std.proofs.Common.{
-  ◌≡◌,
-  ℕ,
-  ◌+◌,
-  ◌-◌,
-  ◌*◌,
-  ◌/◌,
-  ◌%◌,
-  ◌^◌,
-  ◌<◌,
-  ◌≤◌,
-  Bool,
-  true,
-  false,
-  not,
-  nat_eq,
-  nat_lt,
-  nat_le,
-  ℤ,
-  pos,
-  negsuc,
-  refl,
-  sym,
-  ap,
-  ◌∙◌,
-  subst,
-  arith,
-}
-use Rattle.std.specs.Prelude.{if◌then◌else◌, bit_and, bit_or, bit_xor}
+use Rattle.std.proofs.Common.{◌≡◌, ℕ, ◌+◌, ◌-◌, ◌*◌, ◌/◌, ◌%◌, ◌^◌, ◌<◌, ◌≤◌, Bool, true, false, not, nat_eq, nat_lt, nat_le, refl, sym, ap, ◌∙◌, subst, arith}
+use Rattle.std.specs.Prelude.{bit_and, bit_or, bit_xor}
 use Rattle.std.proofs.lemmas.Nat.{and_le_l, or_of_32, xor_of_32}
 use Rattle.std.proofs.Math.Nat.{div-le_self, mod-le}
 use Rattle.cyc_tree.specs.declared.expression.Operator.{Operator}
@@ -54,6 +27,7 @@ use Rattle.core_meaning.specs.Core.{Binary, Operation, Apply}
 use Rattle.core_meaning.specs.Words.{truth, two}
 use Rattle.core_meaning.specs.Steps.{Config, Step, with_temp}
 use Rattle.core_meaning.specs.Operations.{does}
+use Rattle.core_meaning.proofs.Results.{word_below, truth_below, either_below}
 use Rattle.source_lowering.specs.Lowered.{applied_to}
 use Rattle.source_lowering.proofs.Integers.{limit}
 
@@ -62,23 +36,11 @@ use Rattle.source_lowering.proofs.Integers.{limit}
 pub modulo_small : (x : ℕ) → x % 2 ^ 32 < 2 ^ 32
 modulo_small x = omega arith
 
-word_small : (z : ℤ) → word z < 2 ^ 32
-word_small (pos n) = modulo_small n
-word_small (negsuc n) = omega arith
-
-if_small : (b : Bool) (x y : ℕ) → x < 2 ^ 32 → y < 2 ^ 32 → (if b then x else y) < 2 ^ 32
-if_small true x y f g = f
-if_small false x y f g = g
-
 below_both : (x y : ℕ) → x ≤ y → y < 2 ^ 32 → x < 2 ^ 32
 below_both x y f g = omega (arith, f, g)
 
 all_ones : 2 ^ 32 - 1 < 2 ^ 32
 all_ones = omega arith
-
-pub truth_small : (b : Bool) → truth b < 2 ^ 32
-truth_small true = omega arith
-truth_small false = omega arith
 
 -- ---- the two operands' types
 
@@ -195,7 +157,7 @@ wide t x w h = subst (λ z. x < z) (sym w.is) h
 compared : (o : Operator) (s : IntegerType) (x : ℕ) (t : IntegerType) (y d a b : ℕ) (r : Bool) → integers o s x t y ≡ truth_value r
     → operator_shape o (integer_shape s) (integer_shape t) ≡ integer_shape AsInt → Does (applied_to o s t d a b) d a b x y (truth r)
     → IsOperated o s x t y d a b
-compared o s x t y d a b r gives shape h = record { type = AsInt; word = truth r; gives = gives ∙ truth_is r; shape = shape; small = truth_small r; does = h }
+compared o s x t y d a b r gives shape h = record { type = AsInt; word = truth r; gives = gives ∙ truth_is r; shape = shape; small = truth_below r; does = h }
 
 -- a number of both operands' type
 counted : (o : Operator) (s : IntegerType) (x : ℕ) (t : IntegerType) (y d a b r : ℕ) → integers o s x t y ≡ Integer (common s t) r
@@ -252,7 +214,7 @@ operated operator.ShiftLeft s x t y d a b f g = shifted operator.ShiftLeft s x t
     (apply_two core.ShiftLeft d a b x y)
 operated operator.ShiftRight s x t y d a b f g =
     shifted operator.ShiftRight s x t y d a b (by_type s (shifted_right_signed x y) (shifted_right x y)) refl refl
-    (by_small s (shifted_right_signed x y) (shifted_right x y) (word_small _) (below_both (x / 2 ^ (y % 32)) x (div-le_self x (2 ^ (y % 32))) f))
+    (by_small s (shifted_right_signed x y) (shifted_right x y) (word_below _) (below_both (x / 2 ^ (y % 32)) x (div-le_self x (2 ^ (y % 32))) f))
     (does_same (applied_to operator.ShiftRight s t d a b) d a b x y _ _ (shift_is s x y) (apply_two (by_type s core.ShiftRight core.ShiftRightUnsigned) d a b
     x y))
 operated operator.Add s x t y d a b f g = counted operator.Add s x t y d a b (sum_of x y) refl refl (modulo_small (x + y)) (apply_two core.Add d a b x y)
@@ -262,13 +224,13 @@ operated operator.Multiply s x t y d a b f g = counted operator.Multiply s x t y
     (apply_two core.Multiply d a b x y)
 operated operator.Divide s x t y d a b f g =
     counted operator.Divide s x t y d a b (by_type (common s t) (quotient x y) (unsigned_quotient x y)) refl refl
-    (by_small (common s t) (quotient x y) (unsigned_quotient x y) (if_small (nat_eq y 0) _ _ all_ones (word_small _))
-    (if_small (nat_eq y 0) _ _ all_ones (below_both (x / y) x (div-le_self x y) f)))
+    (by_small (common s t) (quotient x y) (unsigned_quotient x y) (either_below (nat_eq y 0) _ _ all_ones (word_below _))
+    (either_below (nat_eq y 0) _ _ all_ones (below_both (x / y) x (div-le_self x y) f)))
     (does_same (applied_to operator.Divide s t d a b) d a b x y _ _ (divide_is (common s t) x y) (apply_two (by_type (common s t) core.Divide
     core.DivideUnsigned) d a b x y))
 operated operator.Remainder s x t y d a b f g =
     counted operator.Remainder s x t y d a b (by_type (common s t) (remainder x y) (unsigned_remainder x y)) refl refl
-    (by_small (common s t) (remainder x y) (unsigned_remainder x y) (if_small (nat_eq y 0) _ _ f (word_small _))
-    (if_small (nat_eq y 0) _ _ f (below_both (x % y) x (mod-le x y) f)))
+    (by_small (common s t) (remainder x y) (unsigned_remainder x y) (either_below (nat_eq y 0) _ _ f (word_below _))
+    (either_below (nat_eq y 0) _ _ f (below_both (x % y) x (mod-le x y) f)))
     (does_same (applied_to operator.Remainder s t d a b) d a b x y _ _ (remainder_is (common s t) x y) (apply_two
     (by_type (common s t) core.Remainder core.RemainderUnsigned) d a b x y))

@@ -109,7 +109,8 @@ address_of e = Expression.Prefixed 0 AddressOf e
 
 -- int *g = NULL; char *same(char *p) { return p; }
 -- void set(int @p, char *c) { *p = *p + 1; if (c) *same(c) = 66; }
--- int main() { int x = 4; int *p = &x; int **r = &p; char k = 65; set(*r, NULL); set(p, &k); if ((p == *r) && !g) putchar(k); g = &x; if (g == p) x = *g + *p; return x; }
+-- int main() { int x = 4; int *p = &x; int **r = &p; char k = 65; set(*r, NULL); set(p, &k);
+-- if ((p == *r) && !g) putchar(k); g = &x; if (g == p) x = *g + *p; return x; }
 abbrev pointer_forms : Program
 pointer_forms =
     tree.GlobalItem (record { of = (typed tree.Int nullable); name = (named "g"); initial = (Initial.Given (Constant.Null 0)) }) ∷

@@ -25,7 +25,8 @@ use Rattle.source_lowering.specs.Lowered.{put, all_of, truth_code, turned_code, 
 use Rattle.source_lowering.proofs.Relations.{at, Place, Fits, SameAt, Next, AreKept, LaterAt, Given, GoesOn, GivesAs}
 use Rattle.source_lowering.proofs.Keeping.{later_on}
 use Rattle.source_lowering.proofs.Runs.{put_all}
-use Rattle.source_lowering.proofs.Operators.{truth_small, truth_is}
+use Rattle.core_meaning.proofs.Results.{truth_below}
+use Rattle.source_lowering.proofs.Operators.{truth_is}
 use Rattle.source_lowering.proofs.Integers.{IsTaken, word_given, one_same, thin_same}
 use Rattle.source_lowering.proofs.Values.{put_temp, other_temp, kept_temp, temp_fits, put_value, put_three}
 
@@ -37,7 +38,7 @@ pub put_truth : (p : Place) (n d : ℕ) (m0 : source.Memory) (c0 : Config) (m : 
 put_truth p n d m0 c0 m c b s k fits later kept goes =
     put_value p n d m0 c0 m c IntShape (truth_value b ∷ []) (Word (words.truth b)) s k fits later kept
     (subst (λ z. Given p.world m c.memory IntShape (z ∷ []) (Word (words.truth b))) (sym (truth_is b)) (word_given p.world m c.memory AsInt (words.truth b)
-    (Word (words.truth b)) (truth_small b) refl)) goes
+    (Word (words.truth b)) (truth_below b) refl)) goes
 
 two_words : (op : core.Binary) (c : Config) (t x y a b : ℕ) (next : Config → core_steps.Step) → c.temps x ≡ Word a → c.temps y ≡ Word b
     → does (Apply op t x y) next c ≡ next (with_temp t (Word (words.two op a b)) c)
@@ -75,7 +76,8 @@ word_decides word x e = record { branches = λ these those. ap (λ z. meaning.br
     turned false these those = refl
 
 -- what comes after a condition: the source has a truth, by which Core branches
-pub record Decided (p : Place) (n d : ℕ) (m0 : source.Memory) (c0 : Config) (s : Bool → source.Memory → steps.Step) (k : Config → core_steps.Step) : Type 0 where
+pub record Decided (p : Place) (n d : ℕ) (m0 : source.Memory) (c0 : Config)
+    (s : Bool → source.Memory → steps.Step) (k : Config → core_steps.Step) : Type 0 where
   pub go : (m : source.Memory) (c : Config) (b : Bool) → Fits p m c → LaterAt p m0 c0 m c → AreKept d c0 c → Decides b (c.temps d) → SameAt p n (s b m) (k c)
 
 pub truth_decided : (p : Place) (n d : ℕ) (e : Sense) (shape : Shape) (code : List Statement) (m : source.Memory) (c : Config)
@@ -164,8 +166,10 @@ truth_tested p n d e shape code m c s rest next taken gives fits tests =
           subst (λ z. SameAt p n (need (is_true v) s m1) (meaning.statements (put (word_code z d) rest) next c1)) (sym o.shape_is)
           (thin_same p.world p.program n shape m1 c1.memory v (c1.temps d) (λ u. need (is_true u) s)
           (does (IsNull d d) (meaning.statements (put (turned_code d) rest) next) c1) o
-          (λ x b. pointer_tested p n d 1 m c m1 c1 s rest next fits1 later1 kept1 (null_is_one c1 d d (meaning.statements (put (turned_code d) rest) next) x) tests)
-          (λ t byte x full leads. pointer_tested p n d 0 m c m1 c1 s rest next fits1 later1 kept1 (spot_is_zero c1 d d byte (at t) (meaning.statements (put (turned_code d) rest) next) x) tests)));
+          (λ x b. pointer_tested p n d 1 m c m1 c1 s rest next fits1 later1 kept1
+          (null_is_one c1 d d (meaning.statements (put (turned_code d) rest) next) x) tests)
+          (λ t byte x full leads. pointer_tested p n d 0 m c m1 c1 s rest next fits1 later1 kept1
+          (spot_is_zero c1 d d byte (at t) (meaning.statements (put (turned_code d) rest) next) x) tests)));
     }))
 
 -- ---- &&
@@ -214,7 +218,8 @@ all_more p n d e es shape code others taken gives more = record {
         let after : Next = λ exit. meaning.falls_to exit (meaning.statements (put others (put (truth_code d) rest)) next) next in
         subst (λ z. SameAt p n (choose (not (nat_eq word 0)) (all_true (e ∷ es)) (give false) (λ t. s (truth_value t ∷ [])) m) z)
         (sym (branch_by c d word false (meaning.statements (all_of (code ++ word_code shape d)) after c) (meaning.statements NoStatements after c) temp test))
-        (subst (λ z. SameAt p n (choose (not z) (all_true (e ∷ es)) (give false) (λ t. s (truth_value t ∷ [])) m) (meaning.statements (all_of (code ++ word_code shape d)) after c))
+        (subst (λ z. SameAt p n (choose (not z) (all_true (e ∷ es)) (give false) (λ t. s (truth_value t ∷ [])) m)
+        (meaning.statements (all_of (code ++ word_code shape d)) after c))
         (sym test)
         (truth_tested p n d e shape code m c (λ t. choose t (all_true es) (give false) (λ u. s (truth_value u ∷ []))) NoStatements after taken gives fits
         (record {
@@ -228,7 +233,8 @@ pub all_gives : (p : Place) (n d : ℕ) (e : Sense) (es : List Sense) (shape : S
     ((first ++ word_code shape d) ++ (others ++ truth_code d))
 all_gives p n d e es shape first others taken gives more = record {
   same = λ m c s rest next fits goes.
-      subst (λ z. SameAt p n ((tested (all_true (e ∷ es))).look s m) (meaning.statements z next c)) (sym (put_three (first ++ word_code shape d) others (truth_code d) rest))
+      subst (λ z. SameAt p n ((tested (all_true (e ∷ es))).look s m) (meaning.statements z next c))
+      (sym (put_three (first ++ word_code shape d) others (truth_code d) rest))
       (truth_tested p n d e shape first m c (λ t. choose t (all_true es) (give false) (λ u. s (truth_value u ∷ []))) (put others (put (truth_code d) rest))
       next taken gives fits (record {
         go = λ m2 c2 w2 fits2 later2 kept2 temp2. more.same m c m2 c2 w2 s rest next fits2 later2 kept2 temp2 goes;
@@ -280,7 +286,8 @@ any_more p n d e es shape code others taken gives more = record {
         let after : Next = λ exit. meaning.falls_to exit (meaning.statements (put others (put (truth_code d) rest)) next) next in
         subst (λ z. SameAt p n (choose (not (nat_eq word 0)) (give true) (any_true (e ∷ es)) (λ t. s (truth_value t ∷ [])) m) z)
         (sym (branch_by c d word true (meaning.statements NoStatements after c) (meaning.statements (all_of (code ++ word_code shape d)) after c) temp test))
-        (subst (λ z. SameAt p n (choose (not z) (give true) (any_true (e ∷ es)) (λ t. s (truth_value t ∷ [])) m) (meaning.statements (all_of (code ++ word_code shape d)) after c))
+        (subst (λ z. SameAt p n (choose (not z) (give true) (any_true (e ∷ es)) (λ t. s (truth_value t ∷ [])) m)
+        (meaning.statements (all_of (code ++ word_code shape d)) after c))
         (sym test)
         (truth_tested p n d e shape code m c (λ t. choose t (give true) (any_true es) (λ u. s (truth_value u ∷ []))) NoStatements after taken gives fits
         (record {
@@ -294,7 +301,8 @@ pub any_gives : (p : Place) (n d : ℕ) (e : Sense) (es : List Sense) (shape : S
     ((first ++ word_code shape d) ++ (others ++ truth_code d))
 any_gives p n d e es shape first others taken gives more = record {
   same = λ m c s rest next fits goes.
-      subst (λ z. SameAt p n ((tested (any_true (e ∷ es))).look s m) (meaning.statements z next c)) (sym (put_three (first ++ word_code shape d) others (truth_code d) rest))
+      subst (λ z. SameAt p n ((tested (any_true (e ∷ es))).look s m) (meaning.statements z next c))
+      (sym (put_three (first ++ word_code shape d) others (truth_code d) rest))
       (truth_tested p n d e shape first m c (λ t. choose t (give true) (any_true es) (λ u. s (truth_value u ∷ []))) (put others (put (truth_code d) rest))
       next taken gives fits (record {
         go = λ m2 c2 w2 fits2 later2 kept2 temp2. more.same m c m2 c2 w2 s rest next fits2 later2 kept2 temp2 goes;
@@ -308,7 +316,8 @@ turned_truth true s m = refl
 turned_truth false s m = refl
 
 -- `!e` is put where its value goes
-not_put : (p : Place) (n d : ℕ) (b : Bool) (m0 : source.Memory) (c0 : Config) (m : source.Memory) (c here : Config) (s : List Scalar → source.Memory → steps.Step)
+not_put : (p : Place) (n d : ℕ) (b : Bool) (m0 : source.Memory) (c0 : Config) (m : source.Memory)
+    (c here : Config) (s : List Scalar → source.Memory → steps.Step)
     (step : core_steps.Step) (k : Config → core_steps.Step) → step ≡ k (with_temp d (Word (words.truth b)) here) → Fits p m here → LaterAt p m0 c0 m here
     → AreKept d c0 here → GoesOn p n d m0 c0 IntShape s k
     → SameAt p n (choose (not b) (give false) (give true) (λ u. s (truth_value u ∷ [])) m) step

@@ -33,7 +33,8 @@ abbrev pub AreBytes : List ℕ → Type 0
 AreBytes [] = Unit {0}
 AreBytes (b ∷ bs) = (b < 256) × AreBytes bs
 
--- On each input of bytes and with each amount of fuel a program that is taken is Stuck, or its Core shows the same events, calls and returns too, and ends alike.
+-- On each input of bytes and with each amount of fuel a program that is taken is Stuck, or its Core shows the same events, calls and returns too, and ends
+-- alike.
 abbrev pub ProgramsAreTheSame : Type 0
 ProgramsAreTheSame =
     (p : Program) → IsLowerable p → (input : List ℕ) → AreBytes input → (n : ℕ)

@@ -1,7 +1,7 @@
 -- What each change of a memory does to what is seen of it: all that a proof about memory has to know.
 use Rattle.std.proofs.Common.{◌≡◌, ℕ, true, false, Some, None, refl, ap, arith}
 use Rattle.std.specs.Prelude.{nat_eq, ◌&&◌, if◌then◌else◌}
-use Rattle.std.proofs.lemmas.Bool.{eqb-true, eq-eqb, false≢true}
+use Rattle.std.proofs.lemmas.Bool.{and_parts, eqb-true, eq-eqb, false≢true}
 use Rattle.source_meaning.specs.Memory.{Region, Frame, Born, Spot, Cell, Object, State, Memory, same_region, same_spot, is_live, cell_at, with_state, with_cell, next_spot, with_object, beyond}
 
 -- ---- the same region, the same spot
@@ -18,6 +18,15 @@ region_is (Born j) (Frame k) h = absurd (false≢true h)
 
 pub spot_itself : (s : Spot) → same_spot s s ≡ true
 spot_itself s = rw (region_itself s.region, eq-eqb s.object s.object refl, eq-eqb s.cell s.cell refl) refl
+
+pub spot_is : (s t : Spot) → same_spot s t ≡ true → s ≡ t
+spot_is s t e =
+    let p = and_parts (same_region s.region t.region) _ e in
+    let q = and_parts (nat_eq s.object t.object) (nat_eq s.cell t.cell) p.1 in
+    let a = region_is s.region t.region p.0 in
+    let b = eqb-true s.object t.object q.0 in
+    let c = eqb-true s.cell t.cell q.1 in
+    λ i. record { region = a i; object = b i; cell = c i }
 
 -- ---- a cell is written
 

@@ -2,10 +2,11 @@
 use Rattle.std.proofs.Common.{◌≡◌, ℕ, Bool, true, ◌⊎◌, inl, inr, refl, sym, ◌∙◌, ap, subst}
 use Rattle.std.specs.Prelude.{if◌then◌else◌}
 use Rattle.std.proofs.Math.Decide.{dec_lt}
+use Rattle.std.proofs.lemmas.Bool.{cases_Bool}
 use Rattle.source_meaning.specs.Memory.{Region, Frame, Born, Spot, State, Live, Dead, Memory, same_region, with_state}
 use Rattle.source_meaning.proofs.Cases.{region_is, region_itself}
 use Rattle.source_safety.specs.Flat.{Tables}
-use Rattle.source_safety.proofs.Facts.{tells, at_region, not_region}
+use Rattle.source_safety.proofs.Facts.{at_region, not_region}
 use Rattle.source_safety.proofs.Invariant.{heap, Owner, Nobody, Flying, Returned, Pinned, InCell, Freed, Ghost, Steady, StateOk, Counted, Known, Inv}
 use Rattle.source_safety.proofs.Values.{Carries}
 use Rattle.source_safety.proofs.Moves.{cell_kept, Alone}
@@ -52,7 +53,7 @@ pub record Births (w : Ghost) (m : Memory) (a b : ℕ) (r : Region) (st : State)
   pub up_sole : (q : Region) → (o ≡ Nobody → ⊥) → u q ≡ true → (q ≡ r → ⊥) → q ≡ heap
 
 all_at : {A B C : Type 0} (f : Region → A) (g : Region → B) (h : Region → C) (r : Region) (a : A) (b : B) (c : C) (q : Region) (P : A → B → C → Type 0) → (q ≡ r → P a b c) → ((q ≡ r → ⊥) → P (f q) (g q) (h q)) → P (if same_region q r then a else f q) (if same_region q r then b else g q) (if same_region q r then c else h q)
-all_at f g h r a b c q P y n = elim (tells (same_region q r)) [
+all_at f g h r a b c q P y n = elim (cases_Bool (same_region q r)) [
   | inl e ↦ subst (λ (x : Bool). P (if x then a else f q) (if x then b else g q) (if x then c else h q)) (sym e) (y (region_is q r e))
   | inr e ↦ subst (λ (x : Bool). P (if x then a else f q) (if x then b else g q) (if x then c else h q)) (sym e) (n (not_region q r e))
 ]
@@ -80,7 +81,7 @@ inv_birth d w m a b r st u o f i n = record {
   unowned = λ q k. at_region w.owner r o q (λ x. x ≡ Nobody) (λ e. absurd (k (subst (λ (x : Region). Counted a b x) (sym e) n.here))) (λ e. i.unowned q (λ x. k (n.more q x)));
   empty = λ q k. i.empty q (λ x. k (n.more q x));
   born_upper = λ q p. at_region (λ x. w.above q p) r (u q) p (λ x. x ≡ true → Counted a b q)
-      (λ e v. elim (tells (same_region q r)) [
+      (λ e v. elim (cases_Bool (same_region q r)) [
         | inl g ↦ subst (λ (x : Region). Counted a b x) (sym (region_is q r g)) n.here
         | inr g ↦ n.more q (known_live d w m q i (n.up_live q v (not_region q r g)))
       ])
@@ -89,7 +90,7 @@ inv_birth d w m a b r st u o f i n = record {
       (λ e v. subst (λ (x : Region). Counted a b x) (sym e) n.here) (λ e v. n.more p (i.born_lower q p v));
   along = λ x y z. at_region (λ g. w.above y z) r (u y) z (λ v. (if same_region y r then u x else w.above x y) ≡ true → v ≡ true → (if same_region z r then u x else w.above x z) ≡ true)
       (λ e v t. subst (λ (g : Bool). (if g then u x else w.above x z) ≡ true) (sym (ap (λ (c : Region). same_region c r) e ∙ region_itself r))
-      (elim (tells (same_region y r)) [
+      (elim (cases_Bool (same_region y r)) [
         | inl g ↦ of_new y x (region_is y r g) v
         | inr g ↦ n.up_along x y (of_old y x (not_region y r g) v) t (not_region y r g)
       ]))

@@ -11,7 +11,20 @@ use Rattle.source_meaning.specs.Shapes.{IntShape, part_shapes, has_tag}
 use Rattle.source_meaning.specs.Memory.{Region, IntegerType, AsInt, AsUnsigned, AsChar}
 use Rattle.source_meaning.specs.Steps.{Scope, ◌>>=◌, invoke}
 use Rattle.source_meaning.specs.Places.{Sense, value_sense}
-use Rattle.source_meaning.specs.Calls.{number_type, all_true, any_true, truth, inverted, converted_all, call_sense, called, function_of, read_byte, write_byte, struct_made}
+use Rattle.source_meaning.specs.Calls.{
+  number_type,
+  all_true,
+  any_true,
+  truth,
+  inverted,
+  converted_all,
+  call_sense,
+  called,
+  function_of,
+  read_byte,
+  write_byte,
+  struct_made,
+}
 use Rattle.source_meaning.specs.Calls as calls
 use Rattle.source_meaning.specs.Expressions.{is_unique_region, sense, senses, linked}
 use Rattle.source_typing.specs.Verdicts.{Verdict, Of, both, after, other_kind, if_fits}
@@ -41,7 +54,25 @@ use Rattle.source_safety.proofs.Calling.{AllPass, gives_byte, gives_written}
 use Rattle.source_safety.proofs.Words.{plain_simple, plain_renamed}
 use Rattle.source_safety.proofs.Fixed.{fixed_below, plain_below}
 use Rattle.source_safety.proofs.Entries.{Function, Builtin, MeansPlain, Invokes, gives_called}
-use Rattle.source_safety.proofs.Forms.{not_more, Valued, value_of, fitted, Denotes, denotes_value, denotes_constant, denotes_null, denotes_variable, denotes_grouped, denotes_applied, denotes_contents, denotes_address, denotes_signed, denotes_tested, denotes_tells, denotes_assigned, AllDenote, values_below, all_pass}
+use Rattle.source_safety.proofs.WordRules.{not_more, Valued, value_of, fitted}
+use Rattle.source_safety.proofs.Forms.{
+  Denotes,
+  denotes_value,
+  denotes_constant,
+  denotes_null,
+  denotes_variable,
+  denotes_grouped,
+  denotes_applied,
+  denotes_contents,
+  denotes_address,
+  denotes_signed,
+  denotes_tested,
+  denotes_tells,
+  denotes_assigned,
+  AllDenote,
+  values_below,
+  all_pass,
+}
 
 -- ---- which forms there are
 

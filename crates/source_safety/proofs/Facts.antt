@@ -1,31 +1,13 @@
 -- Functions of regions and spots that are changed at one place.
-use Rattle.std.proofs.Common.{◌≡◌, ℕ, Bool, true, false, ◌⊎◌, inl, inr, refl, sym, ◌∙◌, ap}
+use Rattle.std.proofs.Common.{◌≡◌, Bool, true, false, refl, sym, ◌∙◌, ap}
 use Rattle.std.specs.Prelude.{if◌then◌else◌}
-use Rattle.std.proofs.lemmas.Bool.{and_parts, eqb-true, false≢true}
+use Rattle.std.proofs.lemmas.Bool.{false≢true}
 use Rattle.source_meaning.specs.Memory.{Region, Spot, same_region, same_spot}
-use Rattle.source_meaning.proofs.Cases.{region_is, region_itself, spot_itself}
+use Rattle.source_meaning.proofs.Cases.{region_is, region_itself, spot_itself, spot_is}
 
 pub if_cases : {A : Type 0} (b : Bool) (x y : A) (P : A → Type 0) → (b ≡ true → P x) → (b ≡ false → P y) → P (if b then x else y)
 if_cases true x y P h k = h refl
 if_cases false x y P h k = k refl
-
-pub tells : (b : Bool) → (b ≡ true) ⊎ (b ≡ false)
-tells true = inl refl
-tells false = inr refl
-
-abbrev spot_of : Region → ℕ → ℕ → Spot
-spot_of r o c = record { region = r; object = o; cell = c }
-
-joined : (r r' : Region) (o o' c c' : ℕ) → r ≡ r' → o ≡ o' → c ≡ c' → spot_of r o c ≡ spot_of r' o' c'
-joined r r' o o' c c' p q e = cc
-
-pub spot_is : (t s : Spot) → same_spot t s ≡ true → t ≡ s
-spot_is t s h =
-    let a = region_is t.region s.region (and_parts _ _ h).0 in
-    let others = (and_parts _ _ h).1 in
-    let b = eqb-true t.object s.object (and_parts _ _ others).0 in
-    let c = eqb-true t.cell s.cell (and_parts _ _ others).1 in
-    joined t.region s.region t.object s.object t.cell s.cell a b c
 
 pub not_region : (q r : Region) → same_region q r ≡ false → q ≡ r → ⊥
 not_region q r e d = false≢true (sym e ∙ ap (λ x. same_region x r) d ∙ region_itself r)

@@ -1,7 +1,6 @@
 -- What each form of an expression denotes, from what its parts do.
-use Rattle.std.proofs.Common.{◌≡◌, ℕ, suc, Bool, true, false, Option, Some, None, List, [], ◌∷◌, refl, sym, ◌∙◌, ap, subst, arith}
-use Rattle.std.specs.Prelude.{map, ◌%◌, ◌^◌, ◌&&◌, ◌||◌, nat_eq, length}
-use Rattle.std.proofs.lemmas.Bool.{eqb-true}
+use Rattle.std.proofs.Common.{◌≡◌, ℕ, Bool, true, false, Option, Some, None, List, [], ◌∷◌, refl, sym, ◌∙◌, ap, subst, arith}
+use Rattle.std.specs.Prelude.{map, ◌%◌, ◌^◌, length}
 use Rattle.cyc_tree.specs.declared.expression.Operator.{Operator}
 use Rattle.source_meaning.specs.Shapes.{Shared, Shape, IntShape, VoidShape, ThinShape, pointee}
 use Rattle.source_meaning.specs.Memory as memory
@@ -14,14 +13,34 @@ use Rattle.source_meaning.specs.Places.{Sense, value_sense, entity_of, entity_se
 use Rattle.source_meaning.specs.Calls.{constant, applied, tested, truth}
 use Rattle.source_typing.specs.Verdicts.{Of, after, if_fits, other_kind}
 use Rattle.source_typing.specs.Converts.{IsInteger, Converts}
-use Rattle.source_typing.specs.Operators.{on_integers, applied_to, compared_thin, compared, if_equality, integers_joined, is_equality}
+use Rattle.source_typing.specs.Operators.{on_integers, applied_to, is_equality}
 use Rattle.source_typing.specs.Operators as rules
 use Rattle.source_typing.specs.Places as places
 use Rattle.source_typing.specs.Places.{assigned_type, variable}
-use Rattle.source_typing.specs.Scope.{Env, Value, Seat, Nowhere, In, InBlock, value, meant, is_place, is_live}
+use Rattle.source_typing.specs.Scope.{Env, Value, Seat, Nowhere, In, InBlock, value, meant, is_place}
 use Rattle.source_typing.specs.Tables.{Entry, OfValue, OfTag, OfFunction, OfBuiltin, OfOther, Stored, Arrayed, Counter, Unknown, argument}
-use Rattle.source_typing.specs.Types.{StaticType, Int, Unsigned, Char, Void, Null, Thin, Fat, Unique, Handle, Key, Struct, Union, is_integer, is_pointer, is_null, is_same, is_testable, integer_type, renamed, shape_of}
-use Rattle.source_typing.proofs.Inversion.{of_is, unless_is}
+use Rattle.source_typing.specs.Types.{
+  StaticType,
+  Int,
+  Unsigned,
+  Char,
+  Void,
+  Null,
+  Thin,
+  Fat,
+  Unique,
+  Handle,
+  Key,
+  Struct,
+  Union,
+  is_integer,
+  is_pointer,
+  is_testable,
+  integer_type,
+  renamed,
+  shape_of,
+}
+use Rattle.source_typing.proofs.Inversion.{of_is}
 use Rattle.source_typing.proofs.OperatorsFit.{Operates, OnIntegers, OnFat, WithNull, NullWith, OnThin, applied_to_is}
 use Rattle.source_typing.proofs.PlacesFit.{assigned_is}
 use Rattle.source_typing.proofs.CallsFit.{AllConvert}
@@ -34,150 +53,25 @@ use Rattle.source_safety.proofs.Names.{NameOf}
 use Rattle.source_safety.proofs.Scenes.{Bound, Binds}
 use Rattle.source_safety.proofs.Sound.{shape_renamed, cells_type, Gives, Shows, Sound, sound_value, gives_at_once}
 use Rattle.source_safety.proofs.Places.{sound_placed}
+use Rattle.source_safety.proofs.WordRules.{testable_word, Valued, value_of, applied_seat, fitted, assigned_word, Pointed, contents_is}
 use Rattle.source_safety.proofs.Integers.{integer_typed, integer_is, on_integers_is, operator_shaped}
 use Rattle.source_safety.proofs.Words.{IsWordType, IsSimple, word_simple, integer_word, integer_below, word_renamed, word_copied}
-use Rattle.source_safety.proofs.Pointers.{IsValue, Compares, compares_thins, compares_with_null, compares_null_with, gives_compared, equality_shape, finds_contents, gives_address}
+use Rattle.source_safety.proofs.Pointers.{
+  IsValue,
+  Compares,
+  compares_thins,
+  compares_with_null,
+  compares_null_with,
+  gives_compared,
+  equality_shape,
+  finds_contents,
+  gives_address,
+}
 use Rattle.source_safety.proofs.Operands.{gives_applied, Tells, tells_truth, gives_tested}
 use Rattle.source_safety.proofs.Storing.{runs_converted, sound_variable, gives_assigned}
 use Rattle.source_safety.proofs.Calling.{AllPass}
 use Rattle.source_safety.proofs.Fixed.{ValuesBelow}
 use Rattle.source_safety.proofs.Entries.{AreWords, MeansPlain, strictly}
-
--- ---- what the rules say of words
-
-pub testable_word : (t : StaticType) → IsSimple t → is_testable t ≡ true → IsWordType t
-testable_word Int p e = tt
-testable_word Unsigned p e = tt
-testable_word Char p e = tt
-testable_word Void p e = absurd cc
-testable_word Null p e = absurd cc
-testable_word (Thin n r t) p e = p
-testable_word (Fat r t) p e = absurd p
-testable_word (Unique n t) p e = absurd p
-testable_word (Handle r) p e = absurd p
-testable_word (Key r) p e = absurd p
-testable_word (Struct tag rs) p e = absurd p
-testable_word (Union tag rs) p e = absurd p
-
--- a value that is no place, and its type
-pub record Valued (v : Value) (t : StaticType) : Type 0 where
-  pub type : v.type ≡ t
-  pub seat : v.seat ≡ Nowhere
-
-pub value_of : (at : ℕ) (t : StaticType) (v : Value) → value at t ≡ Of v → Valued v t
-value_of at t v e =
-    let z : record { at = at; type = t; seat = Nowhere } ≡ v = of_is (record { at = at; type = t; seat = Nowhere }) v e in
-    record { type = ap (λ (y : Value). y.type) (sym z); seat = ap (λ (y : Value). y.seat) (sym z) }
-
--- what an operator gives is no place
-null_seat : (c : Bool) (at : ℕ) (v : Value) → after (if_fits c at Int) (value at) ≡ Of v → v.seat ≡ Nowhere
-null_seat true at v e = (value_of at Int v e).seat
-null_seat false at v e = absurd cc
-
-thin_seat : (g : Env) (at : ℕ) (c : Bool) (r q : NameOf) (v : Value) → compared_thin g at c r q ≡ Of v → v.seat ≡ Nowhere
-thin_seat g at true r q v e = (value_of at Int v (unless_is _ (value at Int) v e).1).seat
-thin_seat g at false r q v e = absurd cc
-
-compared_seat : (g : Env) (at : ℕ) (a b : StaticType) (v : Value) → IsSimple a → IsSimple b → compared g at a b ≡ Of v → v.seat ≡ Nowhere
-compared_seat g at Int b v p q e = null_seat ((is_pointer Int && is_null b) || (is_null Int && is_pointer b)) at v e
-compared_seat g at Unsigned b v p q e = null_seat ((is_pointer Unsigned && is_null b) || (is_null Unsigned && is_pointer b)) at v e
-compared_seat g at Char b v p q e = null_seat ((is_pointer Char && is_null b) || (is_null Char && is_pointer b)) at v e
-compared_seat g at Void b v p q e = null_seat ((is_pointer Void && is_null b) || (is_null Void && is_pointer b)) at v e
-compared_seat g at Null b v p q e = null_seat ((is_pointer Null && is_null b) || (is_null Null && is_pointer b)) at v e
-compared_seat g at (Thin n r t) Int v p q e = null_seat false at v e
-compared_seat g at (Thin n r t) Unsigned v p q e = null_seat false at v e
-compared_seat g at (Thin n r t) Char v p q e = null_seat false at v e
-compared_seat g at (Thin n r t) Void v p q e = null_seat false at v e
-compared_seat g at (Thin n r t) Null v p q e = null_seat true at v e
-compared_seat g at (Thin n r t) (Thin m s u) v p q e = thin_seat g at (is_same t u) r s v e
-compared_seat g at (Thin n r t) (Fat s u) v p q e = absurd q
-compared_seat g at (Thin n r t) (Unique m u) v p q e = absurd q
-compared_seat g at (Thin n r t) (Handle s) v p q e = absurd q
-compared_seat g at (Thin n r t) (Key s) v p q e = absurd q
-compared_seat g at (Thin n r t) (Struct tag rs) v p q e = absurd q
-compared_seat g at (Thin n r t) (Union tag rs) v p q e = absurd q
-compared_seat g at (Fat r t) b v p q e = absurd p
-compared_seat g at (Unique n t) b v p q e = absurd p
-compared_seat g at (Handle r) b v p q e = absurd p
-compared_seat g at (Key r) b v p q e = absurd p
-compared_seat g at (Struct tag rs) b v p q e = absurd p
-compared_seat g at (Union tag rs) b v p q e = absurd p
-
-equality_seat : (c : Bool) (g : Env) (at : ℕ) (a b : StaticType) (v : Value) → IsSimple a → IsSimple b → if_equality c g at a b ≡ Of v → v.seat ≡ Nowhere
-equality_seat true g at a b v p q e = compared_seat g at a b v p q e
-equality_seat false g at a b v p q e = absurd cc
-
-joined_seat : (c : Bool) (g : Env) (o : Operator) (at : ℕ) (a b : StaticType) (v : Value) → IsSimple a → IsSimple b → integers_joined c g o at a b ≡ Of v
-    → v.seat ≡ Nowhere
-joined_seat true g o at a b v p q e = (value_of at (on_integers o a b) v e).seat
-joined_seat false g o at a b v p q e = equality_seat (is_equality o) g at a b v p q e
-
-applied_seat : (g : Env) (o : Operator) (at : ℕ) (a b : StaticType) (v : Value) → IsSimple a → IsSimple b → applied_to g o at a b ≡ Of v → v.seat ≡ Nowhere
-applied_seat g o at Int b v p q e = joined_seat (is_integer Int && is_integer b) g o at Int b v p q e
-applied_seat g o at Unsigned b v p q e = joined_seat (is_integer Unsigned && is_integer b) g o at Unsigned b v p q e
-applied_seat g o at Char b v p q e = joined_seat (is_integer Char && is_integer b) g o at Char b v p q e
-applied_seat g o at Void b v p q e = joined_seat (is_integer Void && is_integer b) g o at Void b v p q e
-applied_seat g o at Null b v p q e = joined_seat (is_integer Null && is_integer b) g o at Null b v p q e
-applied_seat g o at (Thin n r t) b v p q e = joined_seat (is_integer (Thin n r t) && is_integer b) g o at (Thin n r t) b v p q e
-applied_seat g o at (Fat r t) b v p q e = absurd p
-applied_seat g o at (Unique n t) b v p q e = absurd p
-applied_seat g o at (Handle r) b v p q e = absurd p
-applied_seat g o at (Key r) b v p q e = absurd p
-applied_seat g o at (Struct tag rs) b v p q e = absurd p
-applied_seat g o at (Union tag rs) b v p q e = absurd p
-
--- what is tested, and `-e` and `~e`
-pub fitted : (b : Bool) (at place : ℕ) (t : StaticType) (v : Value) → after (if_fits b at t) (value place) ≡ Of v → (b ≡ true) × Valued v t
-fitted true at place t v e = (refl, value_of place t v e)
-fitted false at place t v e = absurd cc
-
-assigned_word : (g : Env) (t : StaticType) → IsWordType t → assigned_type g t ≡ t
-assigned_word g Int e = refl
-assigned_word g Unsigned e = refl
-assigned_word g Char e = refl
-assigned_word g Void e = absurd e
-assigned_word g Null e = absurd e
-assigned_word g (Thin n r t) e = refl
-assigned_word g (Fat r t) e = absurd e
-assigned_word g (Unique n t) e = absurd e
-assigned_word g (Handle r) e = absurd e
-assigned_word g (Key r) e = absurd e
-assigned_word g (Struct tag rs) e = absurd e
-assigned_word g (Union tag rs) e = absurd e
-
--- what `*e` takes: a pointer into a live region
-record Pointed (g : Env) (at : ℕ) (t : StaticType) (v : Value) : Type 0 where
-  may_be_null : Bool
-  region : NameOf
-  to : StaticType
-  is : t ≡ Thin may_be_null region to
-  live : is_live g region ≡ true
-  value_is : record { at = at; type = to; seat = In region } ≡ v
-
-in_live_is : (c : Bool) (at : ℕ) (t : StaticType) (r : NameOf) (v : Value) → places.in_live c at t r ≡ Of v → (c ≡ true) × (record { at = at; type = t; seat = In r } ≡ v)
-in_live_is true at t r v e = (refl, of_is (record { at = at; type = t; seat = In r }) v e)
-in_live_is false at t r v e = absurd cc
-
-contents_is : (g : Env) (at : ℕ) (t : StaticType) (v : Value) → IsSimple t → places.contents_of g at t ≡ Of v → Pointed g at t v
-contents_is g at Int v p e = absurd cc
-contents_is g at Unsigned v p e = absurd cc
-contents_is g at Char v p e = absurd cc
-contents_is g at Void v p e = absurd cc
-contents_is g at Null v p e = absurd cc
-contents_is g at (Thin n r t) v p e =
-    let z : (is_live g r ≡ true) × (record { at = at; type = t; seat = In r } ≡ v) = in_live_is (is_live g r) at t r v e in
-    record { may_be_null = n; region = r; to = t; is = refl; live = z.0; value_is = z.1 }
-contents_is g at (Fat r t) v p e = absurd p
-contents_is g at (Unique n t) v p e = absurd p
-contents_is g at (Handle r) v p e = absurd p
-contents_is g at (Key r) v p e = absurd p
-contents_is g at (Struct tag rs) v p e = absurd p
-contents_is g at (Union tag rs) v p e = absurd p
-
--- ---- counts
-
-pub not_more : (k : ℕ) → nat_eq 0 (suc k) ≡ true → ⊥
-not_more k e = let q : 0 ≡ suc k = eqb-true 0 (suc k) e in omega (arith, q)
 
 -- ---- forms
 

@@ -2,6 +2,7 @@
 use Rattle.std.proofs.Common.{◌≡◌, ℕ, ◌+◌, Bool, true, Some, List, [], refl, sym, ◌∙◌, ap, subst, arith}
 use Rattle.std.specs.Prelude.{if◌then◌else◌}
 use Rattle.std.proofs.lemmas.Bool.{eq-eqb}
+use Rattle.std.proofs.lemmas.Option.{same_Some}
 use Rattle.source_meaning.specs.Memory.{Region, Frame, Memory}
 use Rattle.source_meaning.specs.Steps.{World, Scope}
 use Rattle.source_meaning.specs.Places.{bound_to}
@@ -13,7 +14,6 @@ use Rattle.source_typing.specs.Types.{StaticType, renamed}
 use Rattle.source_safety.specs.Flat.{Tables, flat}
 pub use Rattle.source_safety.specs.Programs.{FunctionJudged}
 use Rattle.source_safety.proofs.Invariant.{RunType, heap, Ghost, Laid, Inv}
-use Rattle.source_safety.proofs.Same.{some_is}
 use Rattle.source_safety.proofs.Values.{laid_kept}
 use Rattle.source_safety.proofs.Scopes.{block_ghost, block_memory, frame_births}
 use Rattle.source_safety.proofs.Arguments.{Agrees}
@@ -82,7 +82,7 @@ module _ (d : Tables) (world : World) (tables : typing.Tables) (sources : Source
       };
       plain = λ y e z. sources.plain y e (sym (means y) ∙ z);
       functions = λ y c z. ap (λ (t : typing.Tables). find t y) judged.tables_are ∙ (sym (means y) ∙ z);
-      result = λ t e. result_is t (let q : Some F.gives ≡ Some t = sym judged.result ∙ e in some_is F.gives t q);
+      result = λ t e. result_is t (let q : Some F.gives ≡ Some t = sym judged.result ∙ e in same_Some F.gives t q);
       strict = judged.strict;
       inside = judged.enclosing;
       frame = naming_itself h judged.outside.regions.count (Frame a);

@@ -23,6 +23,7 @@ pub mod Storing
 pub mod Calling
 pub mod Fixed
 pub mod Entries
+pub mod WordRules
 pub mod Forms
 pub mod Expressions
 pub mod Surroundings

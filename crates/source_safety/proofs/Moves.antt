@@ -1,10 +1,11 @@
 -- What each move in memory keeps.
 use Rattle.std.proofs.Common.{◌≡◌, ℕ, Bool, true, ◌⊎◌, inl, inr, Option, Some, refl, sym, ◌∙◌, ap, subst}
 use Rattle.std.specs.Prelude.{nat_eq, ◌&&◌, if◌then◌else◌}
+use Rattle.std.proofs.lemmas.Bool.{cases_Bool}
 use Rattle.source_meaning.specs.Memory.{Region, Born, Spot, Cell, State, Live, Dead, Memory, same_region, same_spot, with_state}
 use Rattle.source_meaning.proofs.Cases.{region_is}
 use Rattle.source_safety.specs.Flat.{Tables}
-use Rattle.source_safety.proofs.Facts.{if_cases, tells, at_region, not_region}
+use Rattle.source_safety.proofs.Facts.{if_cases, at_region, not_region}
 use Rattle.source_safety.proofs.Invariant.{heap, Owner, Nobody, Flying, Returned, Pinned, InCell, Freed, Kept, Ghost, CellOk, Steady, ByScope, StateOk, Inv}
 use Rattle.source_safety.proofs.Values.{Carries, content_kept}
 
@@ -176,7 +177,7 @@ pub record Turns (w : Ghost) (m : Memory) (r : Region) (o : Owner) (st : State) 
   pub away : (s : Spot) → w.owner r ≡ InCell s → ⊥
 
 both_at : {A B : Type 0} (f : Region → A) (g : Region → B) (r : Region) (a : A) (b : B) (q : Region) (P : A → B → Type 0) → (q ≡ r → P a b) → ((q ≡ r → ⊥) → P (f q) (g q)) → P (if same_region q r then a else f q) (if same_region q r then b else g q)
-both_at f g r a b q P h k = elim (tells (same_region q r)) [
+both_at f g r a b q P h k = elim (cases_Bool (same_region q r)) [
   | inl e ↦ subst (λ (x : Bool). P (if x then a else f q) (if x then b else g q)) (sym e) (h (region_is q r e))
   | inr e ↦ subst (λ (x : Bool). P (if x then a else f q) (if x then b else g q)) (sym e) (k (not_region q r e))
 ]

@@ -1,7 +1,7 @@
 -- The region names in scope stand for regions of the memory.
 use Rattle.std.proofs.Common.{◌≡◌, ℕ, zero, suc, ◌+◌, ◌<◌, Bool, true, false, ◌⊎◌, inl, inr, List, [], ◌∷◌, refl, sym, ◌∙◌, ap, subst, arith}
 use Rattle.std.specs.Prelude.{if◌then◌else◌, ◌||◌, ◌&&◌, length}
-use Rattle.std.proofs.lemmas.Bool.{false≢true, eqb-true, eq-eqb}
+use Rattle.std.proofs.lemmas.Bool.{cases_Bool, false≢true, eqb-true, eq-eqb}
 use Rattle.source_meaning.specs.Memory.{Region, Live, Memory, same_region}
 use Rattle.source_typing.specs.Regions as names
 use Rattle.source_typing.specs.Regions.{TheHeap, Level, same_id, is_heap, is_among, any_of, by_bounds, reaches, Regions, with_scope, entry_regions}
@@ -10,7 +10,7 @@ use Rattle.source_typing.proofs.OperatorsFit.{or_is}
 use Rattle.source_meaning.proofs.Cases.{region_is, region_itself}
 use Rattle.source_safety.specs.Flat.{Tables}
 pub use Rattle.source_safety.specs.Named.{Below, AllBelow, BoundsBelow}
-use Rattle.source_safety.proofs.Facts.{if_cases, tells, at_region, not_region}
+use Rattle.source_safety.proofs.Facts.{if_cases, at_region, not_region}
 use Rattle.source_safety.proofs.Invariant.{heap, Owner, Nobody, Pinned, Ghost, Steady, ByScope, ByLoan, StateOk, Counted, Known, Inv, Grows}
 use Rattle.source_safety.proofs.Births.{bearing, with_birth, Births}
 use Rattle.source_safety.proofs.Scopes.{above_scope, lasts}
@@ -50,7 +50,7 @@ outlasts_live : (d : Tables) (r : Region) (k : ℕ) (w : Ghost) (m : Memory) →
 outlasts_live d r k w m i h = i.closed h.lower r h.live h.above
 
 outlasts_steady : (d : Tables) (r : Region) (k : ℕ) (w : Ghost) (m : Memory) → Inv d w m → Outlasts r k w m → Steady (w.owner r)
-outlasts_steady d r k w m i h = elim (tells (same_region r h.lower)) [
+outlasts_steady d r k w m i h = elim (cases_Bool (same_region r h.lower)) [
   | inl e ↦ subst (λ (q : Region). Steady (w.owner q)) (sym (region_is r h.lower e)) (stands_steady k (w.owner h.lower) h.stands)
   | inr e ↦ i.rests h.lower r h.live h.above (not_region r h.lower e)
 ]
@@ -125,19 +125,19 @@ names_scope d g f k w m x y r i n h = record {
   heap_is = h.heap_is;
   known = λ a l. named_cases f g.count r a (λ q. Counted x y q) (λ e. n.here) (λ e. n.more _ (h.known a (below_more g.count a l e)));
   bounded = λ a. if_cases (same_id a (Level g.count)) true (g.live a) (λ z. z ≡ true → Below (g.count + 1) a) (λ e l. new_below g.count a e) (λ e l. below_up g.count a (h.bounded a l));
-  live = λ a. elim (tells (same_id a (Level g.count))) [
+  live = λ a. elim (cases_Bool (same_id a (Level g.count))) [
     | inl e ↦ (λ l. new_live a e)
     | inr e ↦ (λ l. old_live a e (h.live a (was a e l)))
   ];
-  stands = λ a. elim (tells (same_id a (Level g.count))) [
+  stands = λ a. elim (cases_Bool (same_id a (Level g.count))) [
     | inl e ↦ (λ l. new_stands a e)
     | inr e ↦ (λ l. old_stands a e (h.stands a (was a e l)))
   ];
-  lasting = λ a. elim (tells (same_id a (Level g.count))) [
+  lasting = λ a. elim (cases_Bool (same_id a (Level g.count))) [
     | inl e ↦ (λ l. (new_below g.count a e, new_lasts a e))
     | inr e ↦ (λ l. let z : Below g.count a × Outlasts (f a) k w m = h.lasting a (old_lasts a e l) in (below_up g.count a z.0, old_outlasts a e z.1))
   ];
-  order = λ a b. elim (tells (same_id b (Level g.count))) [
+  order = λ a b. elim (cases_Bool (same_id b (Level g.count))) [
     | inl e ↦ (λ v. subst (λ (q : Bool). w1.above (naming f g.count r a) (if q then r else f b) ≡ true) (sym e)
         (new_upper a (subst (λ (q : Bool). by_end q a b ≡ true) e v)))
     | inr e ↦ (λ v. subst (λ (q : Bool). w1.above (naming f g.count r a) (if q then r else f b) ≡ true) (sym e)
@@ -195,7 +195,7 @@ names_scope d g f k w m x y r i n h = record {
     })
 
     new_upper : (a : NameOf) → (if same_id a (Level g.count) then true else g.lasts a) ≡ true → w1.above (naming f g.count r a) r ≡ true
-    new_upper a = elim (tells (same_id a (Level g.count))) [
+    new_upper a = elim (cases_Bool (same_id a (Level g.count))) [
       | inl e ↦ (λ v. subst (λ (q : Bool). w1.above (if q then r else f a) r ≡ true) (sym e) (upper r n.up_itself))
       | inr e ↦ (λ v. let z : Outlasts (f a) k w m = (h.lasting a (old_lasts a e v)).1 in
           subst (λ (q : Bool). w1.above (if q then r else f a) r ≡ true) (sym e)
@@ -203,7 +203,7 @@ names_scope d g f k w m x y r i n h = record {
     ]
 
     old_upper : (a b : NameOf) → (if same_id a (Level g.count) then false else g.order a b) ≡ true → w1.above (naming f g.count r a) (f b) ≡ true
-    old_upper a b = elim (tells (same_id a (Level g.count))) [
+    old_upper a b = elim (cases_Bool (same_id a (Level g.count))) [
       | inl e ↦ (λ v. absurd (false≢true (subst (λ (q : Bool). (if q then false else g.order a b) ≡ true) e v)))
       | inr e ↦ (λ v. (let o : w.above (f a) (f b) ≡ true = h.order a b (subst (λ (q : Bool). (if q then false else g.order a b) ≡ true) e v) in
           subst (λ (q : Bool). w1.above (if q then r else f a) (f b) ≡ true) (sym e)

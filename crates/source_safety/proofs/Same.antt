@@ -1,6 +1,7 @@
 -- A function is known by its name and signature: what is judged of it as it was found once holds however it is found.
 use Rattle.std.proofs.Common.{◌≡◌, ℕ, true, ◌⊎◌, Some, List, [], ◌∷◌, refl, sym, ◌∙◌, ap, subst}
 use Rattle.std.specs.Prelude.{map}
+use Rattle.std.proofs.lemmas.Option.{same_Some}
 use Rattle.source_meaning.specs.Steps.{Routine, World}
 use Rattle.source_meaning.specs.Programs.{is_main}
 use Rattle.source_typing.specs.Scope.{block_entered}
@@ -13,9 +14,6 @@ use Rattle.source_safety.specs.Judged.{ItemsJudged}
 use Rattle.source_safety.specs.Named.{TypeBelow, TypesBelow}
 use Rattle.source_safety.specs.Programs.{with_all, FunctionJudged}
 
-pub some_is : {A : Type 0} (a c : A) → Some a ≡ Some c → a ≡ c
-some_is a c e = cc
-
 types_are : (ts us : List StaticType) → map (λ t. Some t) ts ≡ map (λ t. Some t) us → ts ≡ us
 types_are [] [] e = refl
 types_are [] (u ∷ us) e = absurd cc
@@ -26,9 +24,9 @@ types_are (t ∷ ts) (u ∷ us) e =
 pub judged_same : (world : World) (tables : typing.Tables) (x : List ℕ) (s : Signature) (F H : Function world x s) → FunctionJudged world tables x s F
     → FunctionJudged world tables x s H
 judged_same world tables x s F H j =
-    let routine : F.routine ≡ H.routine = some_is F.routine H.routine (sym F.found ∙ H.found) in
+    let routine : F.routine ≡ H.routine = same_Some F.routine H.routine (sym F.found ∙ H.found) in
     let types : F.types ≡ H.types = types_are F.types H.types (sym F.parameters ∙ H.parameters) in
-    let gives : F.gives ≡ H.gives = some_is F.gives H.gives (sym F.result ∙ H.result) in
+    let gives : F.gives ≡ H.gives = same_Some F.gives H.gives (sym F.result ∙ H.result) in
     record {
       outside = j.outside;
       tables_are = j.tables_are;

@@ -3,6 +3,7 @@ use Rattle.std.proofs.Common.{◌≡◌, ℕ, Bool, true, false, inl, inr, Optio
 use Rattle.std.specs.Prelude.{bytes_eq, codes, if◌then◌else◌}
 use Rattle.std.proofs.lemmas.Slice.Eq.{bytes_eq-Decides}
 use Rattle.std.proofs.lemmas.Bool.{false≢true}
+use Rattle.std.proofs.lemmas.Option.{same_Some}
 use Rattle.cyc_tree.specs.Tree as tree
 use Rattle.cyc_tree.specs.Tree.{Expression, Statement, NoItems, Execute, Program}
 use Rattle.source_meaning.specs.Steps.{World}
@@ -16,7 +17,7 @@ use Rattle.source_typing.specs.Tables.{Entry, OfValue, OfFunction, OfBuiltin, St
 use Rattle.source_typing.specs.Types.{StaticType, Int}
 use Rattle.source_safety.specs.Entries.{Function, Builtin, PlainEntry}
 use Rattle.source_safety.specs.Programs.{FunctionJudged, ProgramJudged}
-use Rattle.source_safety.proofs.Same.{some_is, judged_same}
+use Rattle.source_safety.proofs.Same.{judged_same}
 
 abbrev nothing : Program
 nothing = tree.FunctionItem (record {
@@ -96,13 +97,13 @@ by_names read written main =
 entry_plain : (x : List ℕ) (e : Entry) (a c m : Bool) → bytes_eq (codes "getchar") x ≡ a → bytes_eq (codes "putchar") x ≡ c → bytes_eq (codes "main") x ≡ m
     → by_names a c m ≡ Some e → PlainEntry its_world x e
 entry_plain x e true c m p q r h =
-    subst (λ (y : Entry). PlainEntry its_world x y) (some_is (OfBuiltin 0) e h)
+    subst (λ (y : Entry). PlainEntry its_world x y) (same_Some (OfBuiltin 0) e h)
     (subst (λ (y : List ℕ). Builtin y 0) ((bytes_eq-Decides (codes "getchar") x).0 p) (inl (refl, refl)))
 entry_plain x e false true m p q r h =
-    subst (λ (y : Entry). PlainEntry its_world x y) (some_is (OfBuiltin 1) e h)
+    subst (λ (y : Entry). PlainEntry its_world x y) (same_Some (OfBuiltin 1) e h)
     (subst (λ (y : List ℕ). Builtin y 1) ((bytes_eq-Decides (codes "putchar") x).0 q) (inr (refl, refl, refl)))
 entry_plain x e false false true p q r h =
-    subst (λ (y : Entry). PlainEntry its_world x y) (some_is (OfFunction main_signature) e h)
+    subst (λ (y : Entry). PlainEntry its_world x y) (same_Some (OfFunction main_signature) e h)
     (subst (λ (y : List ℕ). Function its_world y main_signature) ((bytes_eq-Decides (codes "main") x).0 r) main_function)
 entry_plain x e false false false p q r h = absurd cc
 
@@ -112,7 +113,7 @@ function_judged x s true c m r h = absurd cc
 function_judged x s false true m r h = absurd cc
 function_judged x s false false false r h = absurd cc
 function_judged x s false false true r h =
-    let same : main_signature ≡ s = signature_is main_signature s (some_is (OfFunction main_signature) (OfFunction s) h) in
+    let same : main_signature ≡ s = signature_is main_signature s (same_Some (OfFunction main_signature) (OfFunction s) h) in
     subst (λ (y : List ℕ). (F : Function its_world y s) → FunctionJudged its_world its_tables y s F) ((bytes_eq-Decides (codes "main") x).0 r)
     (subst (λ (u : Signature). (F : Function its_world (codes "main") u) → FunctionJudged its_world its_tables (codes "main") u F) same
     (λ F. judged_same its_world its_tables (codes "main") main_signature main_function F main_judged))

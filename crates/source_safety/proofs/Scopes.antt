@@ -2,7 +2,7 @@
 use Rattle.std.proofs.Common.{◌≡◌, ℕ, ◌+◌, ◌<◌, Bool, true, false, inl, inr, refl, sym, ◌∙◌, ap, subst, arith}
 use Rattle.std.specs.Cmp.Derive.{both_true}
 use Rattle.std.specs.Prelude.{◌&&◌, if◌then◌else◌}
-use Rattle.std.proofs.lemmas.Bool.{and_parts, false≢true}
+use Rattle.std.proofs.lemmas.Bool.{cases_Bool, and_parts, false≢true}
 use Rattle.cyc_words.specs.Events.{RegionNew, RegionFree}
 use Rattle.source_meaning.specs.Memory.{Region, Frame, Born, State, Live, Closed, Dead, Memory, same_region, with_state, is_live, state_is_live}
 use Rattle.source_meaning.specs.Steps.{Step, Flow, Act, give, ◌>>=◌, ◌>>◌, show}
@@ -10,7 +10,7 @@ use Rattle.source_meaning.specs.Making.{set_state}
 use Rattle.source_meaning.specs.Regions.{in_region, in_block, region_born, region_freed}
 use Rattle.source_meaning.proofs.Cases.{region_is, region_itself}
 use Rattle.source_safety.specs.Flat.{Tables}
-use Rattle.source_safety.proofs.Facts.{if_cases, tells, same_here, not_region}
+use Rattle.source_safety.proofs.Facts.{if_cases, same_here, not_region}
 use Rattle.source_safety.proofs.Invariant.{heap, Owner, Nobody, Flying, Returned, Pinned, InCell, Freed, Ghost, Steady, ByScope, ByLoan, Counted, Known, Inv, Grows}
 use Rattle.source_safety.proofs.Births.{bearing, with_birth, Births, inv_birth, inv_death, known_live}
 use Rattle.source_safety.proofs.Growth.{grows_scope, scope_alone}
@@ -68,7 +68,7 @@ scope_births d w m a b r i new here more only = record {
   up_heap = lasts w m r heap i.heap_lives (subst Steady (sym i.heap_is_free) ByScope);
   up_live = λ q e n. live_by _ (and_parts _ _ (old q e n)).0;
   up_steady = λ q e n. steady_by _ (and_parts _ _ (old q e n)).1;
-  up_along = λ p q v e n. elim (tells (same_region p q)) [
+  up_along = λ p q v e n. elim (cases_Bool (same_region p q)) [
     | inl z ↦ (let same : p ≡ q = region_is p q z in subst (λ (x : Region). above_scope w m r x ≡ true) (sym same) e)
     | inr z ↦ (let l : m.state q ≡ Live = live_by _ (and_parts _ _ (old q e n)).0 in lasts w m r p (i.closed q p l v) (i.rests q p l v (not_region p q z)))
   ];

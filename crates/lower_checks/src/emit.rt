@@ -20,6 +20,18 @@ pub fn emit(body: &mut Vec<Statement>, statement: Statement) -> Result<(), Lower
     }
 }
 
+/// Appends statements.
+pub fn append(body: &mut Vec<Statement>, more: Vec<Statement>) -> Result<(), LowerFault>
+    ensures code { OnOk result (map statement_tree body.new.items ≡ map statement_tree body.old.items ++ map statement_tree more.items) }
+    ensures taken { NeverRefused result }
+{
+    let mut rest = more;
+    match body.append(&mut rest) {
+        Ok(()) => Ok(()),
+        Err(_) => Err(LowerFault::Memory),
+    }
+}
+
 /// Appends an operation.
 pub fn emit_operation(body: &mut Vec<Statement>, operation: Operation) -> Result<(), LowerFault>
     ensures code { OnOk result (map statement_tree body.new.items ≡ map statement_tree body.old.items ++ core.Do (operation_tree operation) ∷ []) }

@@ -4,25 +4,25 @@ ghost use Rattle.std.specs.Prelude.{◌≡◌, ◌+◌, ◌++◌, IfOk, OnOk, ma
 ghost use Rattle.cyc_tree.specs.View.{expression_tree, expressions_of, link_tree, links_of};
 ghost use Rattle.cyc_core.specs.Trees.{statement_tree};
 ghost use Rattle.source_meaning.specs.Programs.{world_of};
-ghost use Rattle.source_lowering.specs.Lowered.{static_shape, linked_shape, prefix_shape, call_shape, call_parameters, put_code, place_code, conversion_code, prefix_code, count_of, call_code, expression_code, links_code, all_code, any_code, arguments_code};
+ghost use Rattle.source_lowering.specs.Lowered.{static_shape, linked_shape, prefix_shape, call_shape, call_parameters, put_code, place_code, prefix_code, count_of, call_code, expression_code, links_code, all_code, any_code, arguments_code};
 ghost use Rattle.lower_checks.specs.Views.{shape_tree};
 ghost use Rattle.lower_checks.specs.Visible.{names_of};
 ghost use Rattle.accepted_sources.specs.IntegerForms.{TakesPrefix, TakesPlace, Takes, TakesAll, TakesLinks, TakesProgram};
 ghost use Rattle.lower_checks.specs.Refusals.{NeverRefused};
 
 use crate::call::{call_parameters, lower_call};
-use crate::emit::{emit_if, emit_operation};
+use crate::emit::{append, emit_if, emit_operation};
 use crate::fault::LowerFault;
 use crate::locals::Locals;
 use crate::names::after;
 use crate::operator::operator_shape;
 use crate::shape::Shape;
-use crate::shaped::{call_shape, number_shape, place_shape};
+use crate::shaped::{call_shape, number_shape};
 use crate::table::Table;
 use crate::values::{
     lower_check, lower_conversion, lower_not, lower_operator, lower_truth, lower_word,
 };
-use crate::variable::{lower_get, lower_put};
+use crate::variable::{lower_get, lower_named};
 use cyc_core::{Operation, Statement, Temporary};
 use cyc_tree::{Expression, Link, Operator, Prefix};
 use std::alloc::Global;
@@ -82,7 +82,12 @@ pub fn lower_expression<'p>(
             Ok(Shape::Int)
         }
         Expression::Assign(place, value) => {
-            lower_assign(alloc, program, locals, value, place, body, to)
+            let from = lower_expression(alloc, program, locals, value, body, to)?;
+            let mut store = Vec::new(alloc);
+            let shape = lower_put(alloc, program, locals, place, &mut store, to)?;
+            lower_conversion(alloc, body, shape, from, to)?;
+            append(body, store)?;
+            Ok(shape)
         }
         Expression::Call(name, arguments) => {
             lower_called(alloc, program, locals, arguments, body, &name.text, to)
@@ -91,34 +96,36 @@ pub fn lower_expression<'p>(
     }
 }
 
-/// Appends what leaves a value in a temporary, converted to the shape of a place, and writes it there; gives the place's shape.
+/// Appends what writes the value of a temporary to a place: a variable, or what a pointer leads to, in parentheses too; gives
+/// the place's shape. Refuses all other places.
 #[cycle(expression)]
-fn lower_assign<'p>(
+fn lower_put<'p>(
     alloc: Global,
     program: &Table<'p>,
     locals: &Locals<'p>,
-    value: &Expression,
     place: &Expression,
     body: &mut Vec<Statement>,
-    to: Temporary,
+    from: Temporary,
 ) -> Result<Shape<'p>, LowerFault>
-    ensures code { let w = world_of program.now in
-        let names = names_of locals.now in
-        let e = expression_tree value.now in
-        let p = expression_tree place.now in
-        OnOk result
+    ensures code { OnOk result
         (map statement_tree body.new.items ≡
-        map statement_tree body.old.items ++
-        (expression_code w names e to.0 ++
-        (conversion_code (static_shape w names p) (static_shape w names e) to.0 ++ put_code w names p to.0))) }
+        map statement_tree body.old.items ++ put_code (world_of program.now) (names_of locals.now) (expression_tree place.now) from.0) }
     ensures shape { IfOk result (λ shape. shape_tree shape ≡ static_shape (world_of program.now) (names_of locals.now) (expression_tree place.now)) }
-    ensures taken { TakesProgram program.now → TakesPlace (expression_tree place.now) → Takes (expression_tree value.now) → NeverRefused result }
+    ensures taken { TakesProgram program.now → TakesPlace (expression_tree place.now) → NeverRefused result }
 {
-    let from = lower_expression(alloc, program, locals, value, body, to)?;
-    let shape = place_shape(program, locals, place)?;
-    lower_conversion(alloc, body, shape, from, to)?;
-    lower_put(program, locals, body, place, to)?;
-    Ok(shape)
+    match place {
+        Expression::Variable(name) => lower_named(program, locals, body, &name.text, from),
+        Expression::Grouped(_, inner) => { lower_put(alloc, program, locals, inner, body, from) }
+        Expression::Prefixed(_, Prefix::Dereference, operand) => {
+            let at = Temporary(after(from.0)?);
+            let pointer = lower_expression(alloc, program, locals, operand, body, at)?;
+            lower_check(alloc, body, pointer, at)?;
+            let shape = pointer.pointee()?;
+            emit_operation(body, Operation::Store(at, shape.width(), from))?;
+            Ok(shape)
+        }
+        _ => Err(LowerFault::NotTaken),
+    }
 }
 
 /// Appends a call of the function of a name, after its arguments; gives the shape of its result.

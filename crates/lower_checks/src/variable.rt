@@ -1,14 +1,13 @@
 // Variables are read and written.
 
 ghost use Rattle.std.specs.Prelude.{◌≡◌, ◌++◌, IfOk, OnOk, map};
-ghost use Rattle.cyc_tree.specs.View.{expression_tree};
 ghost use Rattle.cyc_core.specs.Trees.{statement_tree};
 ghost use Rattle.source_meaning.specs.Programs.{world_of};
-ghost use Rattle.source_lowering.specs.Lowered.{get_code, put_code, put_by, local_named, named_shape};
+ghost use Rattle.source_lowering.specs.Lowered.{get_code, put_by, local_named, named_shape};
 ghost use Rattle.source_meaning.specs.Places.{bound_to};
 ghost use Rattle.lower_checks.specs.Views.{shape_tree};
 ghost use Rattle.lower_checks.specs.Visible.{names_of};
-ghost use Rattle.accepted_sources.specs.IntegerForms.{TakesPlace, TakesProgram};
+ghost use Rattle.accepted_sources.specs.IntegerForms.{TakesProgram};
 ghost use Rattle.lower_checks.specs.Refusals.{NeverRefused};
 
 use crate::emit::emit_operation;
@@ -18,7 +17,6 @@ use crate::names::{Named, after};
 use crate::shape::Shape;
 use crate::table::Table;
 use cyc_core::{Operation, Statement, Temporary, Variable};
-use cyc_tree::Expression;
 
 /// The place of a local among those of the blocks.
 fn place_of(local: Named<'_>) -> Variable
@@ -60,50 +58,33 @@ pub fn lower_get<'p>(
     Ok(global.shape)
 }
 
-/// Appends what writes the word of a temporary to the variable of a name.
-fn lower_named(
-    program: &Table<'_>,
-    locals: &Locals<'_>,
+/// Appends what writes the word of a temporary to the variable of a name; gives its shape, which is `void` where there is none of that name.
+pub fn lower_named<'p>(
+    program: &Table<'p>,
+    locals: &Locals<'p>,
     body: &mut Vec<Statement>,
     name: &[u8],
     from: Temporary,
-) -> Result<(), LowerFault>
+) -> Result<Shape<'p>, LowerFault>
     ensures code { OnOk result
         (map statement_tree body.new.items ≡
         map statement_tree body.old.items ++
         put_by (local_named (names_of locals.now) name.now) (bound_to (world_of program.now).globals name.now) from.0) }
+    ensures shape { IfOk result (λ shape. shape_tree shape ≡ named_shape (world_of program.now) (names_of locals.now) name.now) }
     ensures taken { TakesProgram program.now → NeverRefused result }
 {
     if let Some(local) = locals.named(name) {
-        return emit_operation(
+        emit_operation(
             body,
             Operation::Put(place_of(local), local.shape.width(), from),
-        );
+        )?;
+        return Ok(local.shape);
     }
     let Some(global) = program.global_named(name) else {
-        return Ok(());
+        return Ok(Shape::Void);
     };
     let address = Temporary(after(from.0)?);
     emit_operation(body, Operation::DataAddress(address, global.object))?;
-    emit_operation(body, Operation::Store(address, global.shape.width(), from))
-}
-
-/// Appends what writes the word of a temporary to a variable, in parentheses too. Refuses all other places.
-pub fn lower_put(
-    program: &Table<'_>,
-    locals: &Locals<'_>,
-    body: &mut Vec<Statement>,
-    place: &Expression,
-    from: Temporary,
-) -> Result<(), LowerFault>
-    ensures code { OnOk result
-        (map statement_tree body.new.items ≡
-        map statement_tree body.old.items ++ put_code (world_of program.now) (names_of locals.now) (expression_tree place.now) from.0) }
-    ensures taken { TakesProgram program.now → TakesPlace (expression_tree place.now) → NeverRefused result }
-{
-    match place {
-        Expression::Variable(name) => lower_named(program, locals, body, &name.text, from),
-        Expression::Grouped(_, inner) => lower_put(program, locals, body, inner, from),
-        _ => Err(LowerFault::NotTaken),
-    }
+    emit_operation(body, Operation::Store(address, global.shape.width(), from))?;
+    Ok(global.shape)
 }

@@ -2,7 +2,7 @@ mod Arguments
 mod Bodies
 mod Linking
 mod Lists
+mod Lowerable
 mod Pointers
 mod Tables
 mod Taken
-mod OfIntegers

@@ -7,7 +7,6 @@ use Rattle.source_meaning.specs.Places.{or_else}
 use Rattle.source_meaning.specs.Calls.{function_of}
 use Rattle.source_meaning.specs.Programs.{functions_of, routine_of}
 use Rattle.source_lowering.specs.Lowered.{number_of}
-use Rattle.accepted_sources.specs.IntegerForms.{TakesFunction, TakesProgram}
 use Rattle.cyc_tree.specs.View.{function_tree}
 use Rattle.lower_checks.specs.Tables.{Numbered, callee_tree, first_function}
 use Rattle.lower_checks.specs.Views.{found_entity}
@@ -69,21 +68,6 @@ first_number (tree.FunctionItem f ∷ items) k name =
 first_number (tree.GlobalItem g ∷ items) k name = first_number items k name
 first_number (tree.StructItem s ∷ items) k name = first_number items k name
 first_number (tree.UnionItem u ∷ items) k name = first_number items k name
-
-taken_if : (own : Bool) (f : tree.Function) (k : ℕ) (rest : Option Numbered) → TakesFunction f → IfSome rest (λ m. TakesFunction m.function)
-    → IfSome (if own then Some (record { function = f; number = k }) else rest) (λ m. TakesFunction m.function)
-taken_if true f k rest own h = own
-taken_if false f k rest own h = h
-
--- it is taken where the program is
-pub first_taken : (items : List tree.Item) (k : ℕ) (name : List ℕ) → TakesProgram items
-    → IfSome (first_function items k name) (λ n. TakesFunction n.function)
-first_taken [] k name h = tt
-first_taken (tree.FunctionItem f ∷ items) k name h =
-    taken_if (bytes_eq f.name.text name) f k (first_function items (suc k) name) h.0 (first_taken items (suc k) name h.1)
-first_taken (tree.GlobalItem g ∷ items) k name h = first_taken items k name h.1
-first_taken (tree.StructItem s ∷ items) k name h = first_taken items k name h.1
-first_taken (tree.UnionItem u ∷ items) k name h = first_taken items k name h.1
 
 -- one more of a name, where the name has none
 pub first_added : {V : Type 0} (own : Bool) (value : V) (old : Option V) → (own ≡ true → old ≡ None)

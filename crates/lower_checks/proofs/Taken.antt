@@ -1,9 +1,11 @@
 -- What is taken can be a local.
-use Rattle.std.proofs.Common.{sym, subst, List, [], ◌∷◌, ◌++◌, map}
+use Rattle.std.proofs.Common.{List, [], ◌∷◌, ◌++◌, map}
+use Rattle.cyc_tree.specs.declared.name.Sign.{Sign}
+use Rattle.cyc_tree.specs.declared.name.Sign.TheVariants.{Nullable, NotNull, Fat}
 use Rattle.cyc_tree.specs.Tree as tree
-use Rattle.cyc_tree.specs.Tree.{Base, TypeName, Declaration, BlockItems, NoItems, Declare, Execute, Member}
-use Rattle.source_meaning.specs.Shapes.{Shape, base_shape, pointed, written, settled, part_of, part_shapes}
-use Rattle.accepted_sources.specs.IntegerForms.{IsIntegerBase, IsIntegerType, TakesDeclaration, TakesItems, AreIntegers}
+use Rattle.cyc_tree.specs.Tree.{Base, Pointer, TypeName, Declaration, BlockItems, NoItems, Declare, Execute, Member}
+use Rattle.source_meaning.specs.Shapes.{Shape, Owner, base_shape, signed_shape, owner_of, pointed, written, settled, part_of, part_shapes}
+use Rattle.source_lowering.specs.Taken.{IsIntegerBase, IsThinSign, AreThin, IsWordType, TakesDeclaration, TakesItems, AreWords}
 use Rattle.source_lowering.specs.Programs.{local_shape, block_shapes}
 use Rattle.lower_checks.specs.Refusals.{IsLocal, AreLocals}
 
@@ -19,9 +21,19 @@ base_local (tree.Union tag arguments) h = absurd h
 base_local (tree.Handle region) h = absurd h
 base_local (tree.Key region) h = absurd h
 
--- a local can be an integer
-pub type_local : (t : TypeName) → IsIntegerType t → IsLocal (settled (written t))
-type_local t h = subst (λ ps. IsLocal (settled (pointed ps (base_shape t.base)))) (sym h.pointers) (base_local t.base h.base)
+signed_local : (g : Sign) (owner : Owner) (to : Shape) → IsThinSign g → IsLocal (settled (signed_shape g owner to))
+signed_local Nullable owner to h = tt
+signed_local NotNull owner to h = tt
+signed_local Fat owner to h = absurd h
+
+pointed_local : (ps : List Pointer) (s : Shape) → AreThin ps → IsLocal (settled s) → IsLocal (settled (pointed ps s))
+pointed_local [] s h local = local
+pointed_local (p ∷ ps) s h local =
+    pointed_local ps (signed_shape p.sign (owner_of p.region) s) h.1 (signed_local p.sign (owner_of p.region) s h.0.0)
+
+-- a local can be an integer or a thin pointer
+pub type_local : (t : TypeName) → IsWordType t → IsLocal (settled (written t))
+type_local t h = pointed_local t.pointers (base_shape t.base) h.pointers (base_local t.base h.base)
 
 -- ---- locals
 
@@ -39,7 +51,7 @@ block_locals result (Declare d others) h = (declared_local d h.0, block_locals r
 block_locals result (Execute s others) h = block_locals result others h.1
 
 -- the parameters of a function
-pub parameter_locals : (ms : List Member) → AreIntegers ms → AreLocals (part_shapes (map part_of ms))
+pub parameter_locals : (ms : List Member) → AreWords ms → AreLocals (part_shapes (map part_of ms))
 parameter_locals [] h = tt
 parameter_locals (m ∷ ms) h = (type_local m.of h.0, parameter_locals ms h.1)
 

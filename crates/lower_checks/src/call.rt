@@ -7,7 +7,6 @@ ghost use Rattle.source_meaning.specs.Shapes.{part_of, part_shapes};
 ghost use Rattle.source_meaning.specs.Programs.{world_of};
 ghost use Rattle.source_lowering.specs.Lowered.{call_parameters, from_on, count_of, call_code};
 ghost use Rattle.lower_checks.specs.Views.{shape_tree};
-ghost use Rattle.accepted_sources.specs.IntegerForms.{AreIntegers, TakesProgram};
 ghost use Rattle.lower_checks.specs.Refusals.{NeverRefused};
 
 use crate::emit::{emit, emit_operation};
@@ -25,12 +24,11 @@ pub fn part_shapes<'p>(
     parameters: &'p [Member],
 ) -> Result<Vec<Shape<'p>>, LowerFault>
     ensures shapes { IfOk result (λ shapes. map shape_tree shapes.items ≡ part_shapes (map part_of (map member_tree parameters.entry.now))) }
-    ensures taken { AreIntegers (map member_tree parameters.entry.now) → NeverRefused result }
+    ensures taken { NeverRefused result }
 {
     let mut shapes = Vec::new(alloc);
     'each: for parameter in parameters {
-        let shape = Shape::of(&parameter.of)?;
-        if let Err(_) = shapes.push(shape) {
+        if let Err(_) = shapes.push(Shape::of(&parameter.of)) {
             return Err(LowerFault::Memory);
         }
     }
@@ -44,7 +42,7 @@ pub fn call_parameters<'p>(
     name: &[u8],
 ) -> Result<Vec<Shape<'p>>, LowerFault>
     ensures shapes { IfOk result (λ shapes. map shape_tree shapes.items ≡ call_parameters (world_of program.now) name.now) }
-    ensures taken { TakesProgram program.now → NeverRefused result }
+    ensures taken { NeverRefused result }
 {
     let mut shapes = Vec::new(alloc);
     if name == b"getchar".as_slice() {
@@ -95,7 +93,7 @@ pub fn lower_call(
         (map statement_tree body.new.items ≡
         map statement_tree body.old.items ++
         call_code (world_of program.now) name.now (count_of (expressions_of (map expression_tree arguments.now))) to.0) }
-    ensures taken { TakesProgram program.now → NeverRefused result }
+    ensures taken { NeverRefused result }
 {
     if name == b"getchar".as_slice() {
         return emit_operation(body, Operation::Getchar(to));
@@ -106,7 +104,7 @@ pub fn lower_call(
     let Some(callee) = program.function_named(name) else {
         return Ok(());
     };
-    let result = Shape::of(&callee.function.result)?.result_in(to);
+    let result = Shape::of(&callee.function.result).result_in(to);
     let passed = passed_from(alloc, arguments, to)?;
     emit(body, Statement::Call(result, callee.number, passed))
 }

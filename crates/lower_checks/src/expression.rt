@@ -3,11 +3,12 @@
 ghost use Rattle.std.specs.Prelude.{◌≡◌, ◌+◌, ◌++◌, IfOk, OnOk, map};
 ghost use Rattle.cyc_tree.specs.View.{expression_tree, expressions_of, link_tree, links_of};
 ghost use Rattle.cyc_core.specs.Trees.{statement_tree};
+ghost use Rattle.source_meaning.specs.Shapes.{pointee};
 ghost use Rattle.source_meaning.specs.Programs.{world_of};
-ghost use Rattle.source_lowering.specs.Lowered.{static_shape, linked_shape, prefix_shape, call_shape, call_parameters, put_code, place_code, prefix_code, count_of, call_code, expression_code, links_code, all_code, any_code, arguments_code};
-ghost use Rattle.lower_checks.specs.Views.{shape_tree};
+ghost use Rattle.source_lowering.specs.Lowered.{static_shape, linked_shape, prefix_shape, call_shape, call_parameters, put_code, place_code, check_code, prefix_code, count_of, call_code, expression_code, links_code, all_code, any_code, arguments_code};
+ghost use Rattle.lower_checks.specs.Views.{shape_tree, target_shape};
 ghost use Rattle.lower_checks.specs.Visible.{names_of};
-ghost use Rattle.accepted_sources.specs.IntegerForms.{TakesPrefix, TakesPlace, Takes, TakesAll, TakesLinks, TakesProgram};
+ghost use Rattle.source_lowering.specs.Taken.{TakesPrefix, TakesPlace, Takes, TakesAll, TakesLinks};
 ghost use Rattle.lower_checks.specs.Refusals.{NeverRefused};
 
 use crate::call::{call_parameters, lower_call};
@@ -16,18 +17,18 @@ use crate::fault::LowerFault;
 use crate::locals::Locals;
 use crate::names::after;
 use crate::operator::operator_shape;
-use crate::shape::Shape;
+use crate::shape::{Shape, Target};
 use crate::shaped::{call_shape, number_shape};
 use crate::table::Table;
 use crate::values::{
     lower_check, lower_conversion, lower_not, lower_operator, lower_truth, lower_word,
 };
-use crate::variable::{lower_get, lower_named};
+use crate::variable::{lower_address, lower_get, lower_named};
 use cyc_core::{Operation, Statement, Temporary};
 use cyc_tree::{Expression, Link, Operator, Prefix};
 use std::alloc::Global;
 
-/// Appends what leaves an expression's value in a temporary, and gives the shape of its type. Refuses addresses, stores through pointers, and what is neither of integers nor of thin pointers.
+/// Appends what leaves an expression's value in a temporary, and gives the shape of its type. Refuses what is neither of integers nor of thin pointers.
 #[cycle(expression)]
 pub fn lower_expression<'p>(
     alloc: Global,
@@ -41,7 +42,7 @@ pub fn lower_expression<'p>(
         (map statement_tree body.new.items ≡
         map statement_tree body.old.items ++ expression_code (world_of program.now) (names_of locals.now) (expression_tree expression.now) to.0) }
     ensures shape { IfOk result (λ shape. shape_tree shape ≡ static_shape (world_of program.now) (names_of locals.now) (expression_tree expression.now)) }
-    ensures taken { TakesProgram program.now → Takes (expression_tree expression.now) → NeverRefused result }
+    ensures taken { Takes (expression_tree expression.now) → NeverRefused result }
 {
     match expression {
         Expression::Number(_, value, suffix) => {
@@ -111,18 +112,69 @@ fn lower_put<'p>(
         (map statement_tree body.new.items ≡
         map statement_tree body.old.items ++ put_code (world_of program.now) (names_of locals.now) (expression_tree place.now) from.0) }
     ensures shape { IfOk result (λ shape. shape_tree shape ≡ static_shape (world_of program.now) (names_of locals.now) (expression_tree place.now)) }
-    ensures taken { TakesProgram program.now → TakesPlace (expression_tree place.now) → NeverRefused result }
+    ensures taken { TakesPlace (expression_tree place.now) → NeverRefused result }
 {
     match place {
         Expression::Variable(name) => lower_named(program, locals, body, &name.text, from),
         Expression::Grouped(_, inner) => { lower_put(alloc, program, locals, inner, body, from) }
         Expression::Prefixed(_, Prefix::Dereference, operand) => {
             let at = Temporary(after(from.0)?);
-            let pointer = lower_expression(alloc, program, locals, operand, body, at)?;
-            lower_check(alloc, body, pointer, at)?;
-            let shape = pointer.pointee()?;
+            let of = lower_pointer(alloc, program, locals, operand, body, at)?;
+            let shape = of.shape();
             emit_operation(body, Operation::Store(at, shape.width(), from))?;
             Ok(shape)
+        }
+        _ => Err(LowerFault::NotTaken),
+    }
+}
+
+/// Appends what leaves a pointer in a temporary, and raises where it is NULL; gives the type of what it leads to.
+#[cycle(expression)]
+fn lower_pointer<'p>(
+    alloc: Global,
+    program: &Table<'p>,
+    locals: &Locals<'p>,
+    pointer: &Expression,
+    body: &mut Vec<Statement>,
+    to: Temporary,
+) -> Result<Target<'p>, LowerFault>
+    ensures code { let w = world_of program.now in
+        let names = names_of locals.now in
+        let e = expression_tree pointer.now in
+        OnOk result
+        (map statement_tree body.new.items ≡
+        map statement_tree body.old.items ++ (expression_code w names e to.0 ++ check_code (static_shape w names e) to.0)) }
+    ensures shape { let e = expression_tree pointer.now in
+        IfOk result (λ of. target_shape of ≡ pointee (static_shape (world_of program.now) (names_of locals.now) e)) }
+    ensures taken { Takes (expression_tree pointer.now) → NeverRefused result }
+{
+    let shape = lower_expression(alloc, program, locals, pointer, body, to)?;
+    lower_check(alloc, body, shape, to)?;
+    Ok(shape.pointee())
+}
+
+/// Appends what leaves a pointer to a place in a temporary: to a variable, or what a pointer leads to, in parentheses too; gives
+/// the place's type. Refuses all other places.
+#[cycle(expression)]
+fn lower_place<'p>(
+    alloc: Global,
+    program: &Table<'p>,
+    locals: &Locals<'p>,
+    place: &Expression,
+    body: &mut Vec<Statement>,
+    to: Temporary,
+) -> Result<Target<'p>, LowerFault>
+    ensures code { OnOk result
+        (map statement_tree body.new.items ≡
+        map statement_tree body.old.items ++ place_code (world_of program.now) (names_of locals.now) (expression_tree place.now) to.0) }
+    ensures shape { IfOk result (λ of. target_shape of ≡ static_shape (world_of program.now) (names_of locals.now) (expression_tree place.now)) }
+    ensures taken { TakesPlace (expression_tree place.now) → NeverRefused result }
+{
+    match place {
+        Expression::Variable(name) => lower_address(program, locals, body, &name.text, to),
+        Expression::Grouped(_, inner) => lower_place(alloc, program, locals, inner, body, to),
+        Expression::Prefixed(_, Prefix::Dereference, operand) => {
+            lower_pointer(alloc, program, locals, operand, body, to)
         }
         _ => Err(LowerFault::NotTaken),
     }
@@ -146,12 +198,12 @@ fn lower_called<'p>(
         (arguments_code w (names_of locals.now) (call_parameters w name.now) (expressions_of (map expression_tree arguments.now)) to.0 ++
         call_code w name.now (count_of (expressions_of (map expression_tree arguments.now))) to.0)) }
     ensures shape { IfOk result (λ shape. shape_tree shape ≡ call_shape (world_of program.now) name.now) }
-    ensures taken { TakesProgram program.now → TakesAll (expressions_of (map expression_tree arguments.now)) → NeverRefused result }
+    ensures taken { TakesAll (expressions_of (map expression_tree arguments.now)) → NeverRefused result }
 {
     let shapes = call_parameters(alloc, program, name)?;
     lower_arguments(alloc, program, locals, arguments, body, &shapes, to)?;
     lower_call(alloc, program, body, name, arguments, to)?;
-    call_shape(program, name)
+    Ok(call_shape(program, name))
 }
 
 /// Appends what applies a prefix operator to its operand, and leaves the result in a temporary; gives the result's shape.
@@ -174,7 +226,7 @@ fn lower_prefixed<'p>(
         prefix_code operator (static_shape w names e) to.0 (expression_code w names e (to.0 + 1)) (expression_code w names e to.0) (place_code w names e to.0)) }
     ensures shape { let e = expression_tree operand.now in
         IfOk result (λ shape. shape_tree shape ≡ prefix_shape operator (static_shape (world_of program.now) (names_of locals.now) e)) }
-    ensures taken { TakesProgram program.now → TakesPrefix operator → Takes (expression_tree operand.now) → NeverRefused result }
+    ensures taken { let e = expression_tree operand.now in TakesPrefix operator (Takes e) (TakesPlace e) → NeverRefused result }
 {
     let right = Temporary(after(to.0)?);
     match operator {
@@ -196,13 +248,15 @@ fn lower_prefixed<'p>(
             Ok(Shape::Int)
         }
         Prefix::Dereference => {
-            let pointer = lower_expression(alloc, program, locals, operand, body, to)?;
-            lower_check(alloc, body, pointer, to)?;
-            let shape = pointer.pointee()?;
+            let of = lower_pointer(alloc, program, locals, operand, body, to)?;
+            let shape = of.shape();
             emit_operation(body, Operation::Load(to, to, shape.width()))?;
             Ok(shape)
         }
-        Prefix::AddressOf => Err(LowerFault::NotTaken),
+        Prefix::AddressOf => {
+            let of = lower_place(alloc, program, locals, operand, body, to)?;
+            Ok(of.address())
+        }
     }
 }
 
@@ -224,7 +278,7 @@ fn lower_links<'p>(
     ensures shape { IfOk result
         (λ shape.
         shape_tree shape ≡ linked_shape (world_of program.now) (names_of locals.now) (links_of (map link_tree links.now)) (shape_tree first.entry)) }
-    ensures taken { TakesProgram program.now → TakesLinks (links_of (map link_tree links.now)) → NeverRefused result }
+    ensures taken { TakesLinks (links_of (map link_tree links.now)) → NeverRefused result }
 {
     let right = Temporary(after(to.0)?);
     let mut left = first;
@@ -250,7 +304,7 @@ fn lower_all<'p>(
         (map statement_tree body.new.items ≡
         map statement_tree body.old.items ++
         all_code (world_of program.now) (names_of locals.now) (expressions_of (map expression_tree operands.now)) to.0) }
-    ensures taken { TakesProgram program.now → TakesAll (expressions_of (map expression_tree operands.now)) → NeverRefused result }
+    ensures taken { TakesAll (expressions_of (map expression_tree operands.now)) → NeverRefused result }
 {
     'each: for operand in operands {
         let mut these = Vec::new(alloc);
@@ -275,7 +329,7 @@ fn lower_any<'p>(
         (map statement_tree body.new.items ≡
         map statement_tree body.old.items ++
         any_code (world_of program.now) (names_of locals.now) (expressions_of (map expression_tree operands.now)) to.0) }
-    ensures taken { TakesProgram program.now → TakesAll (expressions_of (map expression_tree operands.now)) → NeverRefused result }
+    ensures taken { TakesAll (expressions_of (map expression_tree operands.now)) → NeverRefused result }
 {
     'each: for operand in operands {
         let mut those = Vec::new(alloc);
@@ -303,7 +357,7 @@ fn lower_arguments<'p>(
         map statement_tree body.old.items ++
         arguments_code (world_of program.now) (names_of locals.now) (map shape_tree shapes.now)
         (expressions_of (map expression_tree arguments.now)) first.0) }
-    ensures taken { TakesProgram program.now → TakesAll (expressions_of (map expression_tree arguments.now)) → NeverRefused result }
+    ensures taken { TakesAll (expressions_of (map expression_tree arguments.now)) → NeverRefused result }
 {
     let mut left = shapes;
     let mut to = first;

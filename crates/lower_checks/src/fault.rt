@@ -8,8 +8,7 @@ use std::alloc::AllocError;
 /// Why a program has no Core.
 #[derive(Clone, Copy, PartialEq, Eq, Debug)]
 pub enum LowerFault {
-    /// It has something else than functions, globals and locals of integers and of thin pointers, or an address, or a store
-    /// through a pointer.
+    /// It has something else than functions, globals and locals of integers and of thin pointers.
     NotTaken,
     /// No host memory is left, or a number of something is over the greatest u32.
     Memory,

@@ -8,7 +8,7 @@ ghost use Rattle.source_meaning.specs.Programs.{world_of, routine_of};
 ghost use Rattle.source_lowering.specs.Programs.{parameter_names, parameters_code, end_code, body_code, function_code};
 ghost use Rattle.lower_checks.specs.Views.{shape_tree};
 ghost use Rattle.lower_checks.specs.Visible.{names_of};
-ghost use Rattle.accepted_sources.specs.IntegerForms.{AreIntegers, TakesFunction, TakesProgram};
+ghost use Rattle.source_lowering.specs.Taken.{TakesFunction};
 ghost use Rattle.lower_checks.specs.Refusals.{NeverRefused};
 
 use crate::call::part_shapes;
@@ -16,7 +16,7 @@ use crate::emit::{emit, emit_block, emit_operation};
 use crate::fault::LowerFault;
 use crate::locals::Locals;
 use crate::names::{after, number};
-use crate::shape::{Shape, cells_of};
+use crate::shape::{Shape, Target, cells_of};
 use crate::statement::lower_items;
 use crate::table::Table;
 use crate::usage::{passed, temporaries};
@@ -36,14 +36,15 @@ fn lower_parameters<'p>(
     ensures code { OnOk result
         (map statement_tree body.new.items ≡
         map statement_tree body.old.items ++ parameters_code (map part_of (map member_tree parameters.entry.now)) 0) }
-    ensures taken { AreIntegers (map member_tree parameters.entry.now) → NeverRefused result }
+    ensures taken { NeverRefused result }
 {
     let mut index = 0;
     'each: for parameter in parameters {
-        let shape = Shape::of(&parameter.of)?;
+        let of = Target::of(&parameter.of);
         let local = Variable { out: 0, index };
-        emit_operation(body, Operation::Put(local, shape.width(), Temporary(index)))?;
-        locals.declare(&parameter.name, shape, index)?;
+        let width = of.shape().width();
+        emit_operation(body, Operation::Put(local, width, Temporary(index)))?;
+        locals.declare(&parameter.name, of, index)?;
         index = after(index)?;
     }
     Ok(())
@@ -70,9 +71,9 @@ fn lower_body<'p>(
     function: &'p Source,
 ) -> Result<Vec<Statement>, LowerFault>
     ensures code { IfOk result (λ body. body_tree body.items ≡ body_code (world_of program.now) (routine_of (source_tree function.entry.now))) }
-    ensures taken { TakesProgram program.now → TakesFunction (source_tree function.entry.now) → NeverRefused result }
+    ensures taken { TakesFunction (source_tree function.entry.now) → NeverRefused result }
 {
-    let shape = Shape::of(&function.result)?;
+    let shape = Shape::of(&function.result);
     let mut shapes = part_shapes(alloc, &function.parameters)?;
     let mut locals = Locals::new(alloc);
     let mut inside = Vec::new(alloc);
@@ -110,7 +111,7 @@ pub fn lower_function<'p>(
     function: &'p Source,
 ) -> Result<Function, LowerFault>
     ensures code { IfOk result (λ lowered. function_tree lowered ≡ function_code (world_of program.now) (routine_of (source_tree function.entry.now))) }
-    ensures taken { TakesProgram program.now → TakesFunction (source_tree function.entry.now) → NeverRefused result }
+    ensures taken { TakesFunction (source_tree function.entry.now) → NeverRefused result }
 {
     let body = lower_body(alloc, program, function)?;
     let parameters = number(function.parameters.len())?;

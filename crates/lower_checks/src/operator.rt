@@ -1,7 +1,7 @@
-// Operators on integers.
+// Operators on values that are no thin pointers.
 
 ghost use Rattle.std.specs.Prelude.{◌≡◌};
-ghost use Rattle.source_meaning.specs.Operators.{common, by_type, promoted_shape, common_shape, operator_shape};
+ghost use Rattle.source_meaning.specs.Operators.{promoted, common, by_type, promoted_shape, common_shape, operator_shape};
 ghost use Rattle.source_lowering.specs.Lowered.{type_of, applied_to};
 ghost use Rattle.cyc_core.specs.Trees.{binary_tree, operation_tree};
 ghost use Rattle.lower_checks.specs.Views.{shape_tree};
@@ -10,24 +10,35 @@ use crate::shape::Shape;
 use cyc_core::{Binary, Operation, Temporary};
 use cyc_tree::Operator;
 
-/// The shape of two operands.
-pub fn common_shape<'p>(left: Shape<'p>, right: Shape<'p>) -> Shape<'p>
-    ensures shape { shape_tree result ≡ common_shape (shape_tree left.entry) (shape_tree right.entry) }
-    ensures kind { type_of (shape_tree result) ≡ common (type_of (shape_tree left.entry)) (type_of (shape_tree right.entry)) }
-{
-    match (left, right) {
-        (Shape::Unsigned, _) | (_, Shape::Unsigned) => Shape::Unsigned,
-        _ => Shape::Int,
-    }
-}
-
 /// The shape of one operand: a `char` counts as an `int`.
 fn promoted<'p>(shape: Shape<'p>) -> Shape<'p>
-    ensures { shape_tree result ≡ promoted_shape (shape_tree shape.entry) }
+    ensures shape { shape_tree result ≡ promoted_shape (shape_tree shape.entry) }
+    ensures kind { type_of (shape_tree result) ≡ promoted (type_of (shape_tree shape.entry)) }
 {
     match shape {
         Shape::Unsigned => Shape::Unsigned,
         _ => Shape::Int,
+    }
+}
+
+/// The shape of two operands that are integers.
+fn common_integer<'p>(left: Shape<'p>, right: Shape<'p>) -> Shape<'p>
+    ensures { type_of (shape_tree result) ≡ common (type_of (shape_tree left.entry)) (type_of (shape_tree right.entry)) }
+{
+    match left {
+        Shape::Unsigned => Shape::Unsigned,
+        _ => promoted(right),
+    }
+}
+
+/// The shape of two operands: a fat pointer stays one.
+fn common_shape<'p>(left: Shape<'p>, right: Shape<'p>) -> Shape<'p>
+    ensures { shape_tree result ≡ common_shape (shape_tree left.entry) (shape_tree right.entry) }
+{
+    match left {
+        Shape::Fat(_) => left,
+        Shape::Unsigned => Shape::Unsigned,
+        _ => promoted(right),
     }
 }
 
@@ -68,7 +79,7 @@ pub fn applied<'p>(
 ) -> Operation
     ensures { operation_tree result ≡ applied_to operator (type_of (shape_tree left.entry)) (type_of (shape_tree right.entry)) to.0 x.0 y.0 }
 {
-    let both = common_shape(left, right);
+    let both = common_integer(left, right);
     let less = by_shape(both, Binary::Less, Binary::LessUnsigned);
     let at_most = by_shape(both, Binary::LessEqual, Binary::LessEqualUnsigned);
     match operator {

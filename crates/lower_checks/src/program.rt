@@ -8,9 +8,9 @@ ghost use Rattle.source_meaning.specs.Shapes.{IntShape, UnsignedShape, CharShape
 ghost use Rattle.source_meaning.specs.Steps.{World};
 ghost use Rattle.source_meaning.specs.Programs.{world_of, functions_of};
 ghost use Rattle.source_lowering.specs.Programs.{function_code, constant_content, initial_content, datum_of, data_of, program_code};
-ghost use Rattle.accepted_sources.specs.IntegerForms.{IsIntegerType, TakesConstant, TakesInitial, TakesProgram};
+ghost use Rattle.source_lowering.specs.Taken.{IsWordType, TakesConstant, TakesInitial, TakesProgram};
 ghost use Rattle.lower_checks.specs.Views.{shape_tree};
-ghost use Rattle.lower_checks.specs.Refusals.{NeverRefused};
+ghost use Rattle.lower_checks.specs.Refusals.{IsLocal, NeverRefused};
 
 use crate::fault::LowerFault;
 use crate::function::lower_function;
@@ -27,7 +27,9 @@ fn constant_word(constant: &Constant) -> Result<u32, LowerFault>
     ensures int { IfOk result (λ word. constant_content (constant_tree constant.now) IntShape ≡ Word word) }
     ensures unsigned { IfOk result (λ word. constant_content (constant_tree constant.now) UnsignedShape ≡ Word word) }
     ensures char { IfOk result (λ word. constant_content (constant_tree constant.now) CharShape ≡ Word (word % 256)) }
-    ensures taken { TakesConstant (constant_tree constant.now) → NeverRefused result }
+    ensures taken_int { TakesConstant IntShape (constant_tree constant.now) → NeverRefused result }
+    ensures taken_unsigned { TakesConstant UnsignedShape (constant_tree constant.now) → NeverRefused result }
+    ensures taken_char { TakesConstant CharShape (constant_tree constant.now) → NeverRefused result }
 {
     match constant {
         Constant::Number(_, value, _) => Ok(*value),
@@ -42,7 +44,9 @@ fn initial_word(initial: &Initial) -> Result<u32, LowerFault>
     ensures int { IfOk result (λ word. initial_content (initial_tree initial.now) IntShape ≡ Word word) }
     ensures unsigned { IfOk result (λ word. initial_content (initial_tree initial.now) UnsignedShape ≡ Word word) }
     ensures char { IfOk result (λ word. initial_content (initial_tree initial.now) CharShape ≡ Word (word % 256)) }
-    ensures taken { TakesInitial (initial_tree initial.now) → NeverRefused result }
+    ensures taken_int { TakesInitial IntShape (initial_tree initial.now) → NeverRefused result }
+    ensures taken_unsigned { TakesInitial UnsignedShape (initial_tree initial.now) → NeverRefused result }
+    ensures taken_char { TakesInitial CharShape (initial_tree initial.now) → NeverRefused result }
 {
     match initial {
         Initial::None => Ok(0),
@@ -51,37 +55,33 @@ fn initial_word(initial: &Initial) -> Result<u32, LowerFault>
     }
 }
 
-/// A global of a pointer's shape, which begins as NULL. Refuses all other shapes and constants.
-fn pointer_datum(shape: Shape<'_>, initial: &Initial) -> Result<Datum, LowerFault>
-    ensures { (w : World) →
+/// A global of a shape, with what it begins with. Refuses what is no integer and no thin pointer.
+fn first_datum(shape: Shape<'_>, initial: &Initial) -> Result<Datum, LowerFault>
+    ensures datum { (w : World) →
         let s = shape_tree shape.entry in
         IfOk result (λ datum. datum_tree datum ≡ datum_of w s (initial_content (initial_tree initial.now) s)) }
+    ensures taken { IsLocal (shape_tree shape.entry) → TakesInitial (shape_tree shape.entry) (initial_tree initial.now) → NeverRefused result }
 {
-    match (shape, initial) {
-        (Shape::Thin(_, _, _), Initial::None | Initial::Constant(Constant::Null(_))) => {
-            Ok(Datum::Null)
-        }
+    match shape {
+        Shape::Thin(_, _, _) => match initial {
+            Initial::None | Initial::Constant(Constant::Null(_)) => Ok(Datum::Null),
+            _ => Err(LowerFault::NotTaken),
+        },
+        Shape::Char => Ok(Datum::Byte((initial_word(initial)? % 256) as u8)),
+        Shape::Int | Shape::Unsigned => Ok(Datum::Word(initial_word(initial)?)),
         _ => Err(LowerFault::NotTaken),
     }
 }
 
 /// A global, with what it begins with. Refuses what is no integer and no thin pointer.
+#[tactic(auto, using(crate::proofs::Taken::type_local))]
 fn lower_global(global: &Declared) -> Result<Datum, LowerFault>
     ensures datum { (w : World) →
         let s = settled (written (global_tree global.now).of) in
         IfOk result (λ datum. datum_tree datum ≡ datum_of w s (initial_content (global_tree global.now).initial s)) }
-    ensures taken { IsIntegerType (global_tree global.now).of → TakesInitial (global_tree global.now).initial → NeverRefused result }
+    ensures taken { let g = global_tree global.now in IsWordType g.of → TakesInitial (settled (written g.of)) g.initial → NeverRefused result }
 {
-    let shape = Shape::of(&global.of)?;
-    if let Shape::Thin(_, _, _) = shape {
-        return pointer_datum(shape, &global.initial);
-    }
-    let word = initial_word(&global.initial)?;
-    match shape {
-        Shape::Char => Ok(Datum::Byte((word % 256) as u8)),
-        Shape::Void | Shape::Thin(_, _, _) => Err(LowerFault::NotTaken),
-        _ => Ok(Datum::Word(word)),
-    }
+    first_datum(Shape::of(&global.of), &global.initial)
 }
 
 /// The globals, in their order. Refuses a struct, a union and what is no integer and no thin pointer.
@@ -122,7 +122,7 @@ fn lower_functions(alloc: Global, program: &Table<'_>) -> Result<Vec<Function>, 
     Ok(functions)
 }
 
-/// The Core of a program's tree. Refuses a tree that has something else than functions, globals and locals of integers and of thin pointers, and addresses and stores through pointers.
+/// The Core of a program's tree. Refuses a tree that has something else than functions, globals and locals of integers and of thin pointers.
 fn lower_tree(alloc: Global, program: &Source) -> Result<Program, LowerFault>
     ensures code { IfOk result (λ core. program_tree core ≡ program_code program.now) }
     ensures taken { TakesProgram program.now → NeverRefused result }

@@ -1,6 +1,6 @@
 // Shapes, and what depends on them alone.
 
-ghost use Rattle.std.specs.Prelude.{◌≡◌, ◌∷◌, ◌++◌, [], suc, true, length, IfOk, OnOk, map, option_map};
+ghost use Rattle.std.specs.Prelude.{◌≡◌, ◌∷◌, ◌++◌, [], suc, true, false, length, IfOk, OnOk, map, option_map};
 ghost use Rattle.cyc_tree.specs.View.{base_tree, pointer_tree, region_tree, type_tree};
 ghost use Rattle.source_meaning.specs.Shapes.{ThinShape, VoidShape, Shared, base_shape, owner_of, pointee, settled, shared_owner, signed_shape, written};
 ghost use Rattle.source_meaning.specs.Steps.{World};
@@ -9,9 +9,7 @@ ghost use Rattle.source_lowering.specs.Lowered.{width_of, results_in};
 ghost use Rattle.source_lowering.specs.Programs.{locals_of};
 ghost use Rattle.cyc_core.specs.Trees.{bytes_of, local_tree, optional_tree};
 ghost use Rattle.lower_checks.specs.declared.shape.Target.TheVariants.{Written};
-ghost use Rattle.lower_checks.specs.Views.{owner_tree, shape_tree, target_tree};
-ghost use Rattle.accepted_sources.specs.IntegerForms.{TakesResult};
-ghost use Rattle.source_lowering.specs.Taken.{IsIntegerBase, IsVoidBase};
+ghost use Rattle.lower_checks.specs.Views.{owner_tree, shape_tree, target_shape, target_tree};
 ghost use Rattle.lower_checks.specs.Refusals.{IsLocal, AreLocals, NeverRefused};
 
 use crate::fault::LowerFault;
@@ -37,7 +35,7 @@ pub enum Target<'p> {
     Written(&'p [Pointer], &'p Base),
 }
 
-/// What a type means at run time: an integer of one of three types, nothing, or a thin pointer.
+/// What a type means at run time. A struct and a union go by their tags.
 #[derive(Clone, Copy)]
 pub enum Shape<'p> {
     /// `int`
@@ -50,6 +48,16 @@ pub enum Shape<'p> {
     Void,
     /// A pointer to one object: whether it may be NULL, whether it is unique, and what it leads to.
     Thin(bool, Owner, Target<'p>),
+    /// A pointer that carries bounds, by what it leads to.
+    Fat(Target<'p>),
+    /// A region's handle.
+    Handle,
+    /// A dynamic region's key.
+    Key,
+    /// A struct of this tag.
+    Struct(&'p [u8]),
+    /// A union of this tag.
+    Union(&'p [u8]),
 }
 
 /// Whether a pointer with this region is unique: only one into the unique region is.
@@ -62,39 +70,37 @@ fn owner_in(region: &Option<RegionName>) -> Owner
     }
 }
 
-/// The shape of a base without pointers. Refuses all others than `int`, `unsigned`, `char` and `void`.
-fn base_shape<'p>(base: &Base) -> Result<Shape<'p>, LowerFault>
-    ensures shape { IfOk result (λ shape. shape_tree shape ≡ settled (base_shape (base_tree base.now))) }
-    ensures integers { IsIntegerBase (base_tree base.now) → NeverRefused result }
-    ensures void { IsVoidBase (base_tree base.now) → NeverRefused result }
+/// The shape of a base without pointers.
+fn base_shape<'p>(base: &'p Base) -> Shape<'p>
+    ensures { shape_tree result ≡ settled (base_shape (base_tree base.entry.now)) }
 {
     match base {
-        Base::Int => Ok(Shape::Int),
-        Base::Unsigned => Ok(Shape::Unsigned),
-        Base::Char => Ok(Shape::Char),
-        Base::Void => Ok(Shape::Void),
-        _ => Err(LowerFault::NotTaken),
+        Base::Int => Shape::Int,
+        Base::Unsigned => Shape::Unsigned,
+        Base::Char => Shape::Char,
+        Base::Void => Shape::Void,
+        Base::Struct(tag, _) => Shape::Struct(&tag.text),
+        Base::Union(tag, _) => Shape::Union(&tag.text),
+        Base::Handle(_) => Shape::Handle,
+        Base::Key(_) => Shape::Key,
     }
 }
 
-/// The shape of a pointer to a target. Refuses a fat one.
-fn pointer_shape<'p>(pointer: &Pointer, to: Target<'p>) -> Result<Shape<'p>, LowerFault>
-    ensures { let p = pointer_tree pointer.now in
-        IfOk result (λ shape. shape_tree shape ≡ settled (signed_shape p.sign (owner_of p.region) (target_tree to.entry))) }
+/// The shape of a pointer to a target.
+fn pointer_shape<'p>(pointer: &Pointer, to: Target<'p>) -> Shape<'p>
+    ensures { let p = pointer_tree pointer.now in shape_tree result ≡ settled (signed_shape p.sign (owner_of p.region) (target_tree to.entry)) }
 {
     let owner = owner_in(&pointer.region);
     match pointer.sign {
-        Sign::Nullable => Ok(Shape::Thin(true, owner, to)),
-        Sign::NotNull => Ok(Shape::Thin(false, owner, to)),
-        Sign::Fat => Err(LowerFault::NotTaken),
+        Sign::Nullable => Shape::Thin(true, owner, to),
+        Sign::NotNull => Shape::Thin(false, owner, to),
+        Sign::Fat => Shape::Fat(to),
     }
 }
 
-/// The shape of a base with pointers to it. Refuses all others than `int`, `unsigned`, `char`, `void` and thin pointers.
-fn written_shape<'p>(pointers: &'p [Pointer], base: &'p Base) -> Result<Shape<'p>, LowerFault>
-    ensures shape { IfOk result (λ shape. shape_tree shape ≡ settled (target_tree (Written pointers.entry base.entry))) }
-    ensures integers { map pointer_tree pointers.entry.now ≡ [] → IsIntegerBase (base_tree base.entry.now) → NeverRefused result }
-    ensures void { map pointer_tree pointers.entry.now ≡ [] → IsVoidBase (base_tree base.entry.now) → NeverRefused result }
+/// The shape of a base with pointers to it.
+fn written_shape<'p>(pointers: &'p [Pointer], base: &'p Base) -> Shape<'p>
+    ensures { shape_tree result ≡ target_shape (Written pointers.entry base.entry) }
 {
     if let [others @ .., outer] = pointers {
         return pointer_shape(outer, Target::Written(others, base));
@@ -103,24 +109,37 @@ fn written_shape<'p>(pointers: &'p [Pointer], base: &'p Base) -> Result<Shape<'p
 }
 
 impl<'p> Target<'p> {
-    /// The shape of what a pointer leads to. Refuses all others than `int`, `unsigned`, `char`, `void` and thin pointers.
-    fn shape(self) -> Result<Shape<'p>, LowerFault>
-        ensures { IfOk result (λ shape. shape_tree shape ≡ settled (target_tree self.entry)) }
+    /// A type as it is written.
+    pub fn of(of: &'p TypeName) -> Target<'p>
+        ensures { target_tree result ≡ written (type_tree of.entry.now) }
+    {
+        Target::Written(&of.pointers, &of.base)
+    }
+
+    /// The shape of what a pointer leads to.
+    pub fn shape(self) -> Shape<'p>
+        ensures { shape_tree result ≡ target_shape self.entry }
     {
         match self {
-            Target::Nothing => Ok(Shape::Void),
+            Target::Nothing => Shape::Void,
             Target::Written(pointers, base) => written_shape(pointers, base),
         }
+    }
+
+    /// The shape of a pointer to an object of the type, as `&` gives it: shared, and never NULL.
+    pub fn address(self) -> Shape<'p>
+        ensures { shape_tree result ≡ ThinShape false Shared (target_shape self.entry) }
+    {
+        Shape::Thin(false, Owner::Shared, self)
     }
 }
 
 impl<'p> Shape<'p> {
-    /// The shape of a type as it is written. Refuses all others than `int`, `unsigned`, `char`, `void` and thin pointers.
-    pub fn of(of: &'p TypeName) -> Result<Shape<'p>, LowerFault>
-        ensures shape { IfOk result (λ shape. shape_tree shape ≡ settled (written (type_tree of.entry.now))) }
-        ensures taken { TakesResult (type_tree of.entry.now) → NeverRefused result }
+    /// The shape of a type as it is written.
+    pub fn of(of: &'p TypeName) -> Shape<'p>
+        ensures { shape_tree result ≡ settled (written (type_tree of.entry.now)) }
     {
-        written_shape(&of.pointers, &of.base)
+        Target::of(of).shape()
     }
 
     /// The shape of `NULL`.
@@ -130,14 +149,13 @@ impl<'p> Shape<'p> {
         Shape::Thin(true, Owner::Shared, Target::Nothing)
     }
 
-    /// The shape of what a pointer leads to; `void` where it isn't a pointer. Refuses all others than `int`, `unsigned`, `char`,
-    /// `void` and thin pointers.
-    pub fn pointee(self) -> Result<Shape<'p>, LowerFault>
-        ensures { IfOk result (λ shape. shape_tree shape ≡ pointee (shape_tree self.entry)) }
+    /// What a pointer of the shape leads to; nothing where it isn't a pointer.
+    pub fn pointee(self) -> Target<'p>
+        ensures { target_shape result ≡ pointee (shape_tree self.entry) }
     {
         match self {
-            Shape::Thin(_, _, to) => to.shape(),
-            _ => Ok(Shape::Void),
+            Shape::Thin(_, _, to) | Shape::Fat(to) => to,
+            _ => Target::Nothing,
         }
     }
 
@@ -151,16 +169,16 @@ impl<'p> Shape<'p> {
         }
     }
 
-    /// What a local of the shape is made for. Refuses `void`.
+    /// What a local of the shape is made for. Refuses what is no integer and no thin pointer.
     pub fn local_cell(self) -> Result<Cell, LowerFault>
         ensures cell { (w : World) → IfOk result (λ cell. local_tree cell ≡ local_of w (shape_tree self.entry)) }
         ensures taken { IsLocal (shape_tree self.entry) → NeverRefused result }
     {
         match self {
-            Shape::Void => Err(LowerFault::NotTaken),
             Shape::Char => Ok(Cell::Byte),
             Shape::Int | Shape::Unsigned => Ok(Cell::Word),
             Shape::Thin(_, _, _) => Ok(Cell::Pointer),
+            _ => Err(LowerFault::NotTaken),
         }
     }
 
@@ -187,7 +205,7 @@ pub fn add_shape<'p>(shapes: &mut Vec<Shape<'p>>, shape: Shape<'p>) -> Result<()
     }
 }
 
-/// What locals of these shapes are made for. Refuses `void`.
+/// What locals of these shapes are made for. Refuses what is no integer and no thin pointer.
 pub fn cells_of(alloc: Global, shapes: &[Shape<'_>]) -> Result<Vec<Cell>, LowerFault>
     ensures cells { (w : World) → IfOk result (λ cells. map local_tree cells.items ≡ locals_of w (map shape_tree shapes.now)) }
     ensures taken { AreLocals (map shape_tree shapes.now) → NeverRefused result }

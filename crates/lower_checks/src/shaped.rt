@@ -1,14 +1,11 @@
 // The shapes of numbers and calls, which are known without a run.
 
-ghost use Rattle.std.specs.Prelude.{◌≡◌, IfOk};
+ghost use Rattle.std.specs.Prelude.{◌≡◌};
 ghost use Rattle.source_meaning.specs.Calls.{number_type};
 ghost use Rattle.source_meaning.specs.Programs.{world_of, integer_shape};
 ghost use Rattle.source_lowering.specs.Lowered.{call_shape};
 ghost use Rattle.lower_checks.specs.Views.{shape_tree};
-ghost use Rattle.accepted_sources.specs.IntegerForms.{TakesProgram};
-ghost use Rattle.lower_checks.specs.Refusals.{NeverRefused};
 
-use crate::fault::LowerFault;
 use crate::shape::Shape;
 use crate::table::Table;
 
@@ -24,15 +21,14 @@ pub fn number_shape<'p>(value: u32, suffix: bool) -> Shape<'p>
 }
 
 /// The shape of a call; `void` where there is no function of that name.
-pub fn call_shape<'p>(program: &Table<'p>, name: &[u8]) -> Result<Shape<'p>, LowerFault>
-    ensures shape { IfOk result (λ shape. shape_tree shape ≡ call_shape (world_of program.now) name.now) }
-    ensures taken { TakesProgram program.now → NeverRefused result }
+pub fn call_shape<'p>(program: &Table<'p>, name: &[u8]) -> Shape<'p>
+    ensures { shape_tree result ≡ call_shape (world_of program.now) name.now }
 {
     if name == b"getchar".as_slice() || name == b"putchar".as_slice() {
-        return Ok(Shape::Int);
+        return Shape::Int;
     }
     match program.function_named(name) {
         Some(callee) => Shape::of(&callee.function.result),
-        None => Ok(Shape::Void),
+        None => Shape::Void,
     }
 }

@@ -7,9 +7,9 @@ ghost use Rattle.source_meaning.specs.Programs.{world_of};
 ghost use Rattle.core_meaning.specs.Core as core;
 ghost use Rattle.source_lowering.specs.Lowered.{static_shape, conversion_code, results_in, expression_code};
 ghost use Rattle.source_lowering.specs.Programs.{local_shape, block_shapes, declaration_code, statement_code, items_code};
-ghost use Rattle.lower_checks.specs.Views.{shape_tree};
+ghost use Rattle.lower_checks.specs.Views.{shape_tree, target_shape};
 ghost use Rattle.lower_checks.specs.Visible.{left, names_of};
-ghost use Rattle.accepted_sources.specs.IntegerForms.{Takes, TakesDeclaration, TakesStatement, TakesItems, TakesProgram};
+ghost use Rattle.source_lowering.specs.Taken.{Takes, TakesDeclaration, TakesStatement, TakesItems};
 ghost use Rattle.lower_checks.specs.Refusals.{NeverRefused};
 
 use crate::emit::{emit, emit_block, emit_if, emit_operation, emit_while};
@@ -17,7 +17,7 @@ use crate::expression::lower_expression;
 use crate::fault::LowerFault;
 use crate::locals::Locals;
 use crate::names::number;
-use crate::shape::{Shape, add_shape, cells_of};
+use crate::shape::{Shape, Target, add_shape, cells_of};
 use crate::table::Table;
 use crate::values::{first_value, lower_conversion};
 use cyc_core::{Operation, Statement, Temporary, Variable};
@@ -27,13 +27,13 @@ use std::alloc::Global;
 /// The first temporary, which has the value of a statement's expression.
 const VALUE: Temporary = Temporary(0);
 
-/// The shape of a local as it is declared. Refuses a region, a key and an alias.
-fn declared_shape<'p>(declaration: &'p Declaration) -> Result<Shape<'p>, LowerFault>
-    ensures shape { IfOk result (λ shape. shape_tree shape ≡ local_shape (declaration_tree declaration.entry.now)) }
+/// The type of a local as it is declared. Refuses a region, a key and an alias.
+fn declared_type<'p>(declaration: &'p Declaration) -> Result<Target<'p>, LowerFault>
+    ensures shape { IfOk result (λ of. target_shape of ≡ local_shape (declaration_tree declaration.entry.now)) }
     ensures taken { TakesDeclaration (declaration_tree declaration.entry.now) → NeverRefused result }
 {
     match declaration {
-        Declaration::Local(of, _, _) => Shape::of(of),
+        Declaration::Local(of, _, _) => Ok(Target::of(of)),
         _ => Err(LowerFault::NotTaken),
     }
 }
@@ -51,12 +51,12 @@ fn lower_declaration(
         (map statement_tree body.new.items ≡
         map statement_tree body.old.items ++
         declaration_code (world_of program.now) (names_of locals.now) (declaration_tree declaration.now) index) }
-    ensures taken { TakesProgram program.now → TakesDeclaration (declaration_tree declaration.now) → NeverRefused result }
+    ensures taken { TakesDeclaration (declaration_tree declaration.now) → NeverRefused result }
 {
     let Declaration::Local(of, _, initializer) = declaration else {
         return Err(LowerFault::NotTaken);
     };
-    let shape = Shape::of(of)?;
+    let shape = Shape::of(of);
     let local = Variable { out: 0, index };
     match initializer {
         Initializer::None => {
@@ -89,7 +89,7 @@ fn lower_return(
         map statement_tree body.old.items ++
         (expression_code w names e 0 ++
         (conversion_code (shape_tree shape.entry) (static_shape w names e) 0 ++ core.Return (results_in (shape_tree shape.entry) 0) ∷ []))) }
-    ensures taken { TakesProgram program.now → Takes (expression_tree value.now) → NeverRefused result }
+    ensures taken { Takes (expression_tree value.now) → NeverRefused result }
 {
     let from = lower_expression(alloc, program, locals, value, body, VALUE)?;
     lower_conversion(alloc, body, shape, from, VALUE)?;
@@ -111,7 +111,7 @@ fn lower_statement<'p>(
         map statement_tree body.old.items ++
         statement_code (world_of program.now) (shape_tree shape.entry) (names_of locals.old) (source_tree statement.entry.now)) }
     ensures kept { OnOk result (locals.new ≡ locals.old) }
-    ensures taken { TakesProgram program.now → TakesStatement (shape_tree shape.entry) (source_tree statement.entry.now) → NeverRefused result }
+    ensures taken { TakesStatement (shape_tree shape.entry) (source_tree statement.entry.now) → NeverRefused result }
 {
     match statement {
         Source::Empty(_) => Ok(()),
@@ -176,7 +176,7 @@ fn lower_part<'p>(
         map statement_tree body.items ≡
         statement_code (world_of program.now) (shape_tree shape.entry) (names_of locals.old) (source_tree statement.entry.now)) }
     ensures kept { OnOk result (locals.new ≡ locals.old) }
-    ensures taken { TakesProgram program.now → TakesStatement (shape_tree shape.entry) (source_tree statement.entry.now) → NeverRefused result }
+    ensures taken { TakesStatement (shape_tree shape.entry) (source_tree statement.entry.now) → NeverRefused result }
 {
     let mut body = Vec::new(alloc);
     lower_statement(alloc, program, shape, locals, statement, &mut body)?;
@@ -203,15 +203,15 @@ pub fn lower_items<'p>(
         (map shape_tree shapes.new.items ≡
         map shape_tree shapes.old.items ++ block_shapes (items_of (map item_tree items.entry.now))) }
     ensures left { OnOk result (left locals.new ≡ left locals.old) }
-    ensures taken { TakesProgram program.now → TakesItems (shape_tree shape.entry) (items_of (map item_tree items.entry.now)) → NeverRefused result }
+    ensures taken { TakesItems (shape_tree shape.entry) (items_of (map item_tree items.entry.now)) → NeverRefused result }
 {
     'each: for item in items {
         match item {
             BlockItem::Declare(declaration) => {
                 let index = number(shapes.len())?;
                 lower_declaration(alloc, program, locals, declaration, body, index)?;
-                let of = declared_shape(declaration)?;
-                add_shape(shapes, of)?;
+                let of = declared_type(declaration)?;
+                add_shape(shapes, of.shape())?;
                 locals.declare(declaration.local(), of, index)?;
             }
             BlockItem::Execute(statement) => {

@@ -11,21 +11,21 @@ ghost use Rattle.source_meaning.specs.Programs.{functions_of, routine_of, global
 ghost use Rattle.source_lowering.specs.Lowered.{number_of};
 ghost use Rattle.lower_checks.specs.Views.{found_entity};
 ghost use Rattle.lower_checks.specs.Tables.{first_function, function_in, global_in};
-ghost use Rattle.accepted_sources.specs.IntegerForms.{IsIntegerType, TakesFunction, TakesInitial, TakesProgram};
+ghost use Rattle.source_lowering.specs.Taken.{TakesInitial, TakesProgram};
 ghost use Rattle.lower_checks.specs.Refusals.{NeverRefused};
 
 use crate::fault::LowerFault;
 use crate::first::Firsts;
 use crate::names::after;
-use crate::shape::Shape;
+use crate::shape::Target;
 use cyc_tree::{Function, Global as Declared, Initial, Item};
 use std::alloc::Global;
 use std::marker::Model;
 
-/// A global: its shape, and its number among the globals.
+/// A global: its type, and its number among the globals.
 #[derive(Clone, Copy)]
 pub struct Found<'p> {
-    pub shape: Shape<'p>,
+    pub of: Target<'p>,
     pub object: u32,
 }
 
@@ -79,22 +79,22 @@ fn first_functions<'p>(
     Ok(functions)
 }
 
-/// A global of this number. Refuses an array, and what is no integer and no thin pointer.
+/// A global of this number. Refuses an array.
 fn global_entry<'p>(global: &'p Declared, object: u32) -> Result<Found<'p>, LowerFault>
     ensures entry { let g = global_tree global.entry.now in
         IfOk result (λ found. found_entity found ≡ Variable (global_shape g.initial (settled (written g.of))) (heap_spot object)) }
-    ensures taken { IsIntegerType (global_tree global.entry.now).of → TakesInitial (global_tree global.entry.now).initial → NeverRefused result }
+    ensures taken { let g = global_tree global.entry.now in TakesInitial (settled (written g.of)) g.initial → NeverRefused result }
 {
     if let Initial::Array(_) = &global.initial {
         return Err(LowerFault::NotTaken);
     }
     Ok(Found {
-        shape: Shape::of(&global.of)?,
+        of: Target::of(&global.of),
         object,
     })
 }
 
-/// Adds a global of this number, which is the first of its name where there is none. Refuses an array, and what is no integer and no thin pointer.
+/// Adds a global of this number, which is the first of its name where there is none. Refuses an array.
 fn add_global<'p>(
     globals: &mut Firsts<'p, Found<'p>>,
     global: &'p Declared,
@@ -103,14 +103,14 @@ fn add_global<'p>(
     ensures added { OnOk result ((items : List tree.Item) (name : List ℕ) →
         or_else (global_in globals.new name) (bound_to (globals_from items (suc object)) name) ≡
         or_else (global_in globals.old name) (bound_to (globals_from (tree.GlobalItem (global_tree global.entry.now) ∷ items) object) name)) }
-    ensures taken { IsIntegerType (global_tree global.entry.now).of → TakesInitial (global_tree global.entry.now).initial → NeverRefused result }
+    ensures taken { let g = global_tree global.entry.now in TakesInitial (settled (written g.of)) g.initial → NeverRefused result }
 {
     let entity = global_entry(global, object)?;
     globals.add(&global.name.text, entity)?;
     Ok(())
 }
 
-/// The first global of each name. Refuses arrays, and what is no integer and no thin pointer.
+/// The first global of each name. Refuses arrays.
 fn first_globals<'p>(alloc: Global, items: &'p [Item]) -> Result<Firsts<'p, Found<'p>>, LowerFault>
     ensures first { IfOk result (λ globals. (name : List ℕ) → global_in globals name ≡ bound_to (globals_from (program_tree items.entry.now) 0) name) }
     ensures taken { TakesProgram (program_tree items.entry.now) → NeverRefused result }
@@ -127,7 +127,7 @@ fn first_globals<'p>(alloc: Global, items: &'p [Item]) -> Result<Firsts<'p, Foun
 }
 
 impl<'p> Table<'p> {
-    /// The tables of a program. Refuses globals that are no integers and no thin pointers.
+    /// The tables of a program. Refuses a global array.
     pub fn new(alloc: Global, items: &'p [Item]) -> Result<Self, LowerFault>
         ensures program { IfOk result (λ table. table ≡ program_tree items.entry.now) }
         ensures taken { TakesProgram (program_tree items.entry.now) → NeverRefused result }
@@ -152,7 +152,6 @@ impl<'p> Table<'p> {
     pub fn function_named(&self, name: &[u8]) -> Option<Callee<'p>>
         ensures named { option_map (λ c. routine_of (function_tree c.function.now)) result ≡ function_of (functions_of self.now) name.now }
         ensures number { IfSome result (λ c. c.number ≡ number_of (functions_of self.now) name.now) }
-        ensures taken { TakesProgram self.now → IfSome result (λ c. TakesFunction (function_tree c.function.now)) }
     {
         self.functions.of(name)
     }

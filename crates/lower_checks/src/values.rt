@@ -48,11 +48,11 @@ pub fn lower_word(
     ensures taken { NeverRefused result }
 {
     match shape {
-        Shape::Int | Shape::Unsigned | Shape::Char | Shape::Void => Ok(()),
         Shape::Thin(_, _, _) => {
             emit_operation(body, Operation::IsNull(to, to))?;
             lower_turned(body, to)
         }
+        _ => Ok(()),
     }
 }
 
@@ -68,11 +68,11 @@ pub fn lower_not(
 {
     let right = Temporary(after(to.0)?);
     match shape {
-        Shape::Int | Shape::Unsigned | Shape::Char | Shape::Void => {
+        Shape::Thin(_, _, _) => emit_operation(body, Operation::IsNull(to, right)),
+        _ => {
             emit_operation(body, Operation::Constant(to, 0))?;
             emit_operation(body, Operation::Apply(Binary::Equal, to, right, to))
         }
-        Shape::Thin(_, _, _) => emit_operation(body, Operation::IsNull(to, right)),
     }
 }
 
@@ -111,10 +111,8 @@ pub fn lower_operator<'p>(
 {
     let operand = Temporary(after(to.0)?);
     match left {
-        Shape::Int | Shape::Unsigned | Shape::Char | Shape::Void => {
-            emit_operation(body, applied(operator, left, right, to, to, operand))
-        }
         Shape::Thin(_, _, _) => lower_pointers(body, operator, to),
+        _ => emit_operation(body, applied(operator, left, right, to, to, operand)),
     }
 }
 
@@ -167,7 +165,7 @@ pub fn lower_conversion(
         (Shape::Char, Shape::Char) => Ok(()),
         (Shape::Char, _) => emit_operation(body, Operation::Narrow(value, value)),
         (Shape::Thin(false, _, _), from) => lower_check(alloc, body, from, value),
-        (Shape::Int | Shape::Unsigned | Shape::Void | Shape::Thin(true, _, _), _) => Ok(()),
+        _ => Ok(()),
     }
 }
 
@@ -176,9 +174,7 @@ pub fn first_value(shape: Shape<'_>) -> Operation
     ensures { operation_tree result ≡ first_code (shape_tree shape.entry) }
 {
     match shape {
-        Shape::Int | Shape::Unsigned | Shape::Char | Shape::Void => {
-            Operation::Constant(Temporary(0), 0)
-        }
         Shape::Thin(_, _, _) => Operation::NullPointer(Temporary(0)),
+        _ => Operation::Constant(Temporary(0), 0),
     }
 }

@@ -5,7 +5,7 @@ use Rattle.source_meaning.specs.Programs.{world_of}
 use Rattle.source_lowering.specs.Lowered.{linked_shape, links_code, all_code, any_code, arguments_code}
 use Rattle.lower_checks.specs.Views.{shape_tree}
 use Rattle.lower_checks.specs.Visible.{names_of}
-use Rattle.accepted_sources.specs.IntegerForms.{TakesAll, TakesLinks}
+use Rattle.source_lowering.specs.Taken.{TakesAll, TakesLinks}
 use Rattle.lower_checks.proofs.expression.+expression.Given as goal
 
 -- what is appended, and the code of the links that are left, is the code of all

@@ -18,7 +18,7 @@ pub returns-clause-code : goal.returns-clause-code
 returns-clause-code c =
     let w = world_of c.args.program.now in
     let f = routine_of (source_tree c.args.function.now) in
-    let result = shape_tree c.in_ok-shape.shape in
+    let result = shape_tree c.of-shape.result in
     let count = length c.in_ok-shapes.shapes.items in
     let taken = map shape_tree c.in_ok-shapes.shapes.items in
     let shapes = map shape_tree c.lower_items.new.shapes.items in
@@ -29,7 +29,7 @@ returns-clause-code c =
     let none = map statement_tree c.new-body.result.items in
     let blocked = map statement_tree c.emit_block.new.body.items in
     let body = map statement_tree c.lower_end.new.body.items in
-    let result_is : result ≡ f.result = c.in_ok-shape.ensures.shape in
+    let result_is : result ≡ f.result = c.of-shape.ensures in
     let taken_is : taken ≡ part_shapes f.parameters =
     c.in_ok-shapes.ensures.shapes ∙ ap (λ ms. part_shapes (map part_of (map member_tree ms))) c.deref.ensures.value in
     let names_are : names ≡ parameter_names f.parameters 0 [] =
@@ -58,7 +58,7 @@ returns-clause-code c =
 -- the locals of a function that is taken are of integers
 pub returns-in_err-cells_of-clause-taken : goal.returns-in_err-cells_of-clause-taken
 returns-in_err-cells_of-clause-taken c =
-    λ known h.
+    λ h.
     let f = source_tree c.args.function.now in
     let taken = map shape_tree c.in_ok-shapes.shapes.items in
     let shapes = map shape_tree c.lower_items.new.shapes.items in

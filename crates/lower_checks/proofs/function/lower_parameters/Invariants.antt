@@ -3,7 +3,6 @@ use Rattle.cyc_tree.specs.View.{member_tree}
 use Rattle.cyc_core.specs.Trees.{statement_tree}
 use Rattle.source_meaning.specs.Shapes.{part_of}
 use Rattle.source_lowering.specs.Programs.{parameter_names, parameters_code}
-use Rattle.accepted_sources.specs.IntegerForms.{AreIntegers}
 use Rattle.lower_checks.specs.Visible.{names_of}
 use Rattle.lower_checks.proofs.function.lower_parameters.Given as goal
 
@@ -14,5 +13,4 @@ invariant-each l = record {
       parameter_names (map part_of (map member_tree l.parameters)) 0 (names_of l.initial.locals);
   code : map statement_tree l.body.items ++ parameters_code (map part_of (map member_tree (drop l.parameter-index l.parameters))) l.index ≡
       map statement_tree l.initial.body.items ++ parameters_code (map part_of (map member_tree l.parameters)) 0;
-  taken : AreIntegers (map member_tree l.parameters) → AreIntegers (map member_tree (drop l.parameter-index l.parameters));
 }

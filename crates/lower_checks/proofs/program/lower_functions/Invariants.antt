@@ -3,7 +3,7 @@ use Rattle.cyc_tree.specs.View.{program_tree}
 use Rattle.cyc_core.specs.Trees.{function_tree}
 use Rattle.source_meaning.specs.Programs.{world_of, functions_of}
 use Rattle.source_lowering.specs.Programs.{function_code}
-use Rattle.accepted_sources.specs.IntegerForms.{TakesProgram}
+use Rattle.source_lowering.specs.Taken.{TakesProgram}
 use Rattle.lower_checks.proofs.program.lower_functions.Given as goal
 
 abbrev pub invariant-each : goal.invariant-each

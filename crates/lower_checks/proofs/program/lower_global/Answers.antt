@@ -5,9 +5,9 @@ use Rattle.source_meaning.specs.Shapes.{Shape}
 use Rattle.source_lowering.specs.Programs.{datum_of, initial_content}
 use Rattle.lower_checks.proofs.program.lower_global.Goals as goal
 
-pub returns-in-Thin-clause-datum : goal.returns-in-Thin-clause-datum
-returns-in-Thin-clause-datum c =
+pub returns-clause-datum : goal.returns-clause-datum
+returns-clause-datum c =
     λ w.
     let initial = initial_tree c.args.global.now.initial in
-    subst (λ (s : Shape). IfOk c.pointer_datum.result (λ datum. datum_tree datum ≡ datum_of w s (initial_content initial s))) c.in_ok-shape.ensures.shape
-    (c.pointer_datum.ensures w)
+    subst (λ (s : Shape). IfOk c.first_datum.result (λ datum. datum_tree datum ≡ datum_of w s (initial_content initial s))) c.of.ensures
+    (c.first_datum.ensures.datum w)

@@ -3,7 +3,7 @@ use Rattle.cyc_tree.specs.View.{program_tree}
 use Rattle.cyc_core.specs.Trees.{datum_tree}
 use Rattle.source_meaning.specs.Programs.{world_of}
 use Rattle.source_lowering.specs.Programs.{data_of}
-use Rattle.accepted_sources.specs.IntegerForms.{TakesProgram}
+use Rattle.source_lowering.specs.Taken.{TakesProgram}
 use Rattle.lower_checks.proofs.program.lower_globals.Given as goal
 
 abbrev pub invariant-each : goal.invariant-each

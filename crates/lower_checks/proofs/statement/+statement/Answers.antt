@@ -7,7 +7,7 @@ use Rattle.cyc_core.specs.Trees.{statement_tree}
 use Rattle.source_meaning.specs.Programs.{world_of}
 use Rattle.source_lowering.specs.Lowered.{expression_code}
 use Rattle.source_lowering.specs.Programs.{block_shapes, statement_code}
-use Rattle.accepted_sources.specs.IntegerForms.{TakesStatement, TakesItems}
+use Rattle.source_lowering.specs.Taken.{TakesStatement, TakesItems}
 use Rattle.lower_checks.specs.Refusals.{AreLocals}
 use Rattle.lower_checks.specs.Views.{shape_tree}
 use Rattle.lower_checks.specs.Visible.{Declared, names_of}
@@ -18,7 +18,7 @@ use Rattle.lower_checks.proofs.statement.+statement.Goals as goal
 -- the locals of a block that is taken are of integers
 pub lower_statement-returns-in_err-cells_of-in-Block-clause-taken : goal.lower_statement-returns-in_err-cells_of-in-Block-clause-taken
 lower_statement-returns-in_err-cells_of-in-Block-clause-taken t c =
-    λ known h.
+    λ h.
     let result = shape_tree c.args.shape in
     let items = items_of (map item_tree c.in-Block.items.items) in
     let is : source_tree c.args.statement.now ≡ Statement.Block c.in-Block.field-0 items =

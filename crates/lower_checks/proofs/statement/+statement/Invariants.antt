@@ -3,7 +3,7 @@ use Rattle.cyc_tree.specs.View.{item_tree, items_of}
 use Rattle.cyc_core.specs.Trees.{statement_tree}
 use Rattle.source_meaning.specs.Programs.{world_of}
 use Rattle.source_lowering.specs.Programs.{block_shapes, items_code}
-use Rattle.accepted_sources.specs.IntegerForms.{TakesItems}
+use Rattle.source_lowering.specs.Taken.{TakesItems}
 use Rattle.lower_checks.specs.Views.{shape_tree}
 use Rattle.lower_checks.specs.Visible.{left, names_of}
 use Rattle.lower_checks.proofs.statement.+statement.Given as goal

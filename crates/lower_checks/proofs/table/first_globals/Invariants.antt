@@ -2,7 +2,7 @@ use Rattle.std.proofs.Common.{◌≡◌, ℕ, List, drop}
 use Rattle.cyc_tree.specs.View.{program_tree}
 use Rattle.source_meaning.specs.Places.{bound_to, or_else}
 use Rattle.source_meaning.specs.Programs.{globals_from}
-use Rattle.accepted_sources.specs.IntegerForms.{TakesProgram}
+use Rattle.source_lowering.specs.Taken.{TakesProgram}
 use Rattle.lower_checks.specs.Tables.{global_in}
 use Rattle.lower_checks.proofs.table.first_globals.Given as goal
 

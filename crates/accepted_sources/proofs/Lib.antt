@@ -13,11 +13,14 @@ pub mod Strings
 pub mod Lowerable
 pub mod Programs
 pub mod StillStates
-pub mod IntegerNames
+pub mod CopiedTypes
+pub mod CopiedNames
+pub mod CopiedExpressions
+pub mod CopiedScopes
 pub mod IdleExpressions
 pub mod StillStatements
-pub mod IntegerHeads
-pub mod IntegerFlow
+pub mod CopiedHeads
+pub mod StillPrograms
 pub mod NoFlow
 pub mod RefusedTags
 pub mod TakenSizes

@@ -5,7 +5,7 @@ use Rattle.source_typing.specs.Answers.{effect_fault, first_fault}
 use Rattle.source_typing.specs.Faults.{Fault, earliest}
 use Rattle.source_typing.specs.Programs.{typing_faults}
 use Rattle.source_typing.specs.Taken.{constant_forms, integers, only_taken}
-use Rattle.accepted_sources.proofs.IntegerFlow.{integers_have_no_flow_faults}
+use Rattle.accepted_sources.proofs.StillPrograms.{integers_have_no_flow_faults}
 
 pub first_is_of_effects : (p : Program) → effect_fault integers p ≡ first_fault integers p
 first_is_of_effects p =

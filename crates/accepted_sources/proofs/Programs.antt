@@ -31,7 +31,7 @@ use Rattle.source_typing.specs.Taken.{constant_forms, function_taken, integers, 
 use Rattle.source_typing.proofs.Inversion.{none_of_both}
 use Rattle.source_typing.proofs.TakenItems.{program_is_taken}
 use Rattle.source_typing.proofs.TakenOperands.{taken_has_operands}
-use Rattle.accepted_sources.specs.Accepted.{AllAccepted, IsGlobal, IsInOrder}
+use Rattle.accepted_sources.specs.Accepted.{AllAccepted, IsGlobal}
 use Rattle.accepted_sources.specs.Laws.{AcceptedIsInOrder, AcceptedIsLowerable, AcceptedIsOfIntegers}
 use Rattle.accepted_sources.specs.Plain.{AllSound}
 use Rattle.accepted_sources.proofs.Functions.{IsClean, function_accepted, function_clean, function_takes}

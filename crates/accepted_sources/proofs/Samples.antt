@@ -11,7 +11,7 @@ use Rattle.source_typing.specs.Faults.{copy_rule, fault, type_rule}
 use Rattle.source_typing.specs.Left.{flow_faults}
 use Rattle.source_typing.specs.Taken.{integers, only_taken}
 use Rattle.accepted_sources.specs.Accepted.{IsInOrder}
-use Rattle.accepted_sources.proofs.IntegerFlow.{integers_have_no_flow_faults}
+use Rattle.accepted_sources.proofs.StillPrograms.{integers_have_no_flow_faults}
 use Rattle.accepted_sources.proofs.Programs.{accepted_is_in_order, accepted_is_lowerable}
 
 -- char g = 321; void put(char c) { putchar(c); }

@@ -1,5 +1,5 @@
 -- What the data of a program have where each form that isn't taken stands as a fault: 8 bytes for each global that isn't at fault, and nothing else.
-use Rattle.std.proofs.Common.{◌≡◌, ℕ, suc, Bool, true, List, [], ◌∷◌, refl, ap, ap₂}
+use Rattle.std.proofs.Common.{◌≡◌, ℕ, suc, Bool, false, true, List, [], ◌∷◌, refl, ap, ap₂}
 use Rattle.std.specs.Prelude.{map, not, ◌++◌, ◌&&◌}
 use Rattle.cyc_tree.specs.Tree as tree
 use Rattle.cyc_tree.specs.Tree.{Initial, Item, Program, TypeName}
@@ -11,9 +11,9 @@ use Rattle.source_typing.specs.Programs.{if_first, is_seen, name_of, size_faults
 use Rattle.source_typing.specs.Scope.{Env, at_item}
 use Rattle.source_typing.specs.Tables.{Tables}
 use Rattle.source_typing.specs.Taken.{global_if, initial_taken, integers, item_taken, only_taken, takes_initial, takes_type}
-use Rattle.accepted_sources.proofs.Declarations.{by_base, by_nothing}
+use Rattle.accepted_sources.proofs.Declarations.{by_base, by_nothing, type_plain}
 use Rattle.accepted_sources.proofs.Globals.{global_of}
-use Rattle.accepted_sources.proofs.IntegerHeads.{IsTakenGlobal, GlobalFault, TakenGlobal, taken_global}
+use Rattle.accepted_sources.proofs.CopiedHeads.{IsTakenGlobal, GlobalFault, TakenGlobal, taken_global}
 use Rattle.source_typing.proofs.NoStrings.{item_silent}
 
 -- ---- a global
@@ -50,9 +50,9 @@ plain_bytes g t x i (GivesNothing h) e = by_nothing (λ z. TakesEight g (global_
     nothing (Initial.Given c) e = refl
     nothing (Initial.Elements n) e = absurd cc
 
-pub global_bytes : (g : Env) (x : tree.Global) → IsTakenGlobal x → rounded_up (global_size g x) 8 ≡ if_clean (global_faults g x) 8
+pub global_bytes : (g : Env) (x : tree.Global) → IsTakenGlobal false x → rounded_up (global_size g x) 8 ≡ if_clean (global_faults g x) 8
 global_bytes g x GlobalFault = refl
-global_bytes g x (TakenGlobal {t = t} {x = name} {i = i} k e) = plain_bytes g t name i k e
+global_bytes g x (TakenGlobal {t = t} {x = name} {i = i} k e) = plain_bytes g t name i (type_plain t k) e
 
 -- ---- all items
 
@@ -67,7 +67,7 @@ item_is_global g (tree.UnionItem u) = refl
 item_is_global g (tree.FunctionItem f) = ap (λ ls. map static_string ls) (item_silent (tree.FunctionItem f))
 item_is_global g (tree.GlobalItem x) =
     let y : tree.Global = global_if (takes_type integers x.of && takes_initial integers x.initial) x (initial_taken integers x.of x.initial) in
-    ap₂ (λ n ls. (y.of.at, n) ∷ map static_string ls) (global_bytes g y (taken_global x)) (item_silent (tree.GlobalItem x))
+    ap₂ (λ n ls. (y.of.at, n) ∷ map static_string ls) (global_bytes g y (taken_global false x)) (item_silent (tree.GlobalItem x))
 
 -- the globals, each the first item of its name
 abbrev pub globals_from : Bool → Tables → ℕ → List (List ℕ) → List Item → List Static

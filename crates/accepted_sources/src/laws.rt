@@ -1,6 +1,6 @@
 // What holds of all programs of integers in which the rules find no fault.
 
-ghost use Rattle.accepted_sources.specs.Laws.{AcceptedIsInOrder, AcceptedIsLowerable, AcceptedIsOfIntegers, IntegersHaveNoFlowFaults};
+ghost use Rattle.accepted_sources.specs.Laws.{AcceptedIsInOrder, AcceptedIsLowerable, AcceptedIsOfIntegers, IntegersHaveNoFlowFaults, PointersHaveNoFlowFaults};
 
 /// A law, with nothing to run: a program in which the rules on functions and globals of integers find
 /// no fault has the forms of integers alone.
@@ -23,4 +23,10 @@ pub fn accepted_is_in_order()
 /// where each form but those on integers stands as one that is at fault.
 pub fn integers_have_no_flow_faults()
     ensures { IntegersHaveNoFlowFaults }
+{}
+
+/// A law, with nothing to run: the same holds where thin pointers to integers are taken too, which
+/// are copied as integers are.
+pub fn pointers_have_no_flow_faults()
+    ensures { PointersHaveNoFlowFaults }
 {}

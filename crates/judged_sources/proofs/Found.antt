@@ -1,0 +1,227 @@
+-- What the rules' tables have under a name is what the program declares under it first.
+use Rattle.std.proofs.Common.{◌≡◌, ℕ, suc, Bool, true, false, Option, Some, None, List, [], ◌∷◌, refl, sym, ap, ◌∙◌}
+use Rattle.std.specs.Prelude.{bytes_eq, if◌then◌else◌}
+use Rattle.cyc_tree.specs.Operands.{HasOperands}
+use Rattle.cyc_tree.specs.Tree as tree
+use Rattle.cyc_tree.specs.Tree.{Initial, Item}
+use Rattle.source_lowering.specs.Taken.{TakesProgram}
+use Rattle.source_meaning.specs.Calls.{function_of}
+use Rattle.source_meaning.specs.Places.{bound_to}
+use Rattle.source_meaning.specs.Programs.{functions_of, global_shape, globals_from, heap_spot, routine_of, structs_from}
+use Rattle.source_meaning.specs.Shapes.{Layout, Shape, settled, written}
+use Rattle.source_meaning.specs.Steps.{Entity, Variable}
+use Rattle.source_safety.specs.Programs.{GlobalsJudged}
+use Rattle.source_typing.specs.Functions.{Head, function_faults, head_of}
+use Rattle.source_typing.specs.Globals.{count_of, global_entry, global_faults}
+use Rattle.source_typing.specs.Programs.{Judged, entries_with, items_from}
+use Rattle.source_typing.specs.Regions.{Region, TheHeap}
+use Rattle.source_typing.specs.Scope.{at_item}
+use Rattle.source_typing.specs.Tables.{OfBuiltin, OfFunction, OfValue, Signature, Stored, Tables, find}
+use Rattle.source_typing.specs.Taken.{function_taken, only_taken, thin_pointers}
+use Rattle.source_typing.specs.Types.{StaticType, shape_of}
+use Rattle.source_typing.proofs.Inversion.{none_of_both}
+use Rattle.judged_sources.specs.Good.{AllGood, BodiesJudged}
+use Rattle.judged_sources.proofs.Globals.{GlobalGood, global_judged, global_takes}
+use Rattle.judged_sources.proofs.GoodFunctions.{FunctionGood, function_good, function_takes}
+use Rattle.judged_sources.proofs.GoodTables.{AreHeaded, HeadKnown, known_same}
+
+-- ---- what is known of each item
+
+-- a function with its head
+pub record FunctionKnown (g : Tables) (i : ℕ) (f : tree.Function) : Type 0 where
+  pub head : HeadKnown g f
+  pub good : FunctionGood g i f
+
+abbrev pub ItemKnown : Tables → ℕ → Item → Type 0
+ItemKnown g i (tree.GlobalItem x) = GlobalGood x
+ItemKnown g i (tree.FunctionItem f) = FunctionKnown g i f
+ItemKnown g i _ = ⊥
+
+abbrev pub AllKnown : Tables → ℕ → List Item → Type 0
+AllKnown g i [] = Unit {0}
+AllKnown g i (item ∷ items) = ItemKnown g i item × AllKnown g (suc i) items
+
+module _ (bodies : BodiesJudged) where
+  pub all_known : (g : Tables) (i : ℕ) (is : List Item) → AllGood 0 g → AreHeaded g is → only_taken thin_pointers is ≡ is → HasOperands is
+      → items_from false g i is ≡ []
+      → AllKnown g i is
+  all_known g i [] s k t o p = tt
+  all_known g i (tree.StructItem x ∷ is) s k t o p = absurd k.0
+  all_known g i (tree.UnionItem x ∷ is) s k t o p = absurd k.0
+  all_known g i (tree.GlobalItem x ∷ is) s k t o p =
+      let b : only_taken thin_pointers is ≡ is = cc in
+      let d = none_of_both (global_faults (at_item false g i) x) (items_from false g (suc i) is) p in (k.0, all_known g (suc i) is s k.1 b o.1 d.1)
+  all_known g i (tree.FunctionItem f ∷ is) s k t o p =
+      let c : function_taken thin_pointers f ≡ f = cc in
+      let b : only_taken thin_pointers is ≡ is = cc in
+      let d = none_of_both (function_faults false g i f) (items_from false g (suc i) is) p in
+      (record { head = k.0; good = function_good bodies g i f s c o.0 d.0 }, all_known g (suc i) is s k.1 b o.1 d.1)
+
+-- ---- what lowering takes, structs, and globals in their order
+
+pub all_take : (g : Tables) (i : ℕ) (is : List Item) → AllKnown g i is → TakesProgram is
+all_take g i [] k = tt
+all_take g i (tree.StructItem x ∷ is) k = absurd k.0
+all_take g i (tree.UnionItem x ∷ is) k = absurd k.0
+all_take g i (tree.GlobalItem x ∷ is) k = (global_takes x k.0, all_take g (suc i) is k.1)
+all_take g i (tree.FunctionItem f ∷ is) k = (function_takes g i f k.0.good, all_take g (suc i) is k.1)
+
+pub no_structs : (g : Tables) (i : ℕ) (is : List Item) (found : List Layout) → AllKnown g i is → structs_from is found ≡ found
+no_structs g i [] found k = refl
+no_structs g i (tree.StructItem x ∷ is) found k = absurd k.0
+no_structs g i (tree.UnionItem x ∷ is) found k = absurd k.0
+no_structs g i (tree.GlobalItem x ∷ is) found k = no_structs g (suc i) is found k.1
+no_structs g i (tree.FunctionItem f ∷ is) found k = no_structs g (suc i) is found k.1
+
+pub globals_judged : (g : Tables) (i : ℕ) (is : List Item) → AllKnown g i is → GlobalsJudged is
+globals_judged g i [] k = tt
+globals_judged g i (tree.StructItem x ∷ is) k = absurd k.0
+globals_judged g i (tree.UnionItem x ∷ is) k = absurd k.0
+globals_judged g i (tree.GlobalItem x ∷ is) k = (global_judged x k.0, globals_judged g (suc i) is k.1)
+globals_judged g i (tree.FunctionItem f ∷ is) k = globals_judged g (suc i) is k.1
+
+-- ---- a function of a name
+
+-- The tables' function of a name is the program's first one of that name, with what is known of it where it stands.
+pub record FunctionFound (g : Tables) (is : List Item) (x : List ℕ) (s : Signature) : Type 0 where
+  pub number : ℕ
+  pub function : tree.Function
+  pub found : function_of (functions_of is) x ≡ Some (routine_of function)
+  pub named : bytes_eq function.name.text x ≡ true
+  pub signature : (head_of false g function).signature ≡ s
+  pub good : FunctionGood g number function
+
+-- items before don't have the name
+function_behind : (g : Tables) (f : tree.Function) (is : List Item) (x : List ℕ) (s : Signature) → bytes_eq f.name.text x ≡ false
+    → FunctionFound g is x s → FunctionFound g (tree.FunctionItem f ∷ is) x s
+function_behind g f is x s e h = record {
+  number = h.number;
+  function = h.function;
+  found = ap (λ (b : Bool). if b then Some (routine_of f) else function_of (functions_of is) x) e ∙ h.found;
+  named = h.named;
+  signature = h.signature;
+  good = h.good;
+}
+
+-- `g` are the program's tables, by which each function is known, and `h` those by which its heads were read
+pub find_function : (g h : Tables) (i : ℕ) (js : List Judged) (is : List Item) (x : List ℕ) (s : Signature) → AllKnown g i is
+    → find (entries_with false h i js is) x ≡ Some (OfFunction s) → FunctionFound g is x s
+find_function g h i [] is x s k e = absurd cc
+find_function g h i (j ∷ js) [] x s k e = absurd cc
+find_function g h i (j ∷ js) (tree.StructItem y ∷ is) x s k e = absurd k.0
+find_function g h i (j ∷ js) (tree.UnionItem y ∷ is) x s k e = absurd k.0
+find_function g h i (j ∷ js) (tree.GlobalItem y ∷ is) x s k e =
+    let rest : FunctionFound g is x s = by (bytes_eq y.name.text x) (λ p. find_function g h (suc i) js is x s k.1 p) e in
+    record { number = rest.number; function = rest.function; found = rest.found; named = rest.named; signature = rest.signature; good = rest.good }
+  where
+    by : (b : Bool) → (find (entries_with false h (suc i) js is) x ≡ Some (OfFunction s) → FunctionFound g is x s)
+        → (if b then Some (global_entry (at_item false h i) y) else find (entries_with false h (suc i) js is) x) ≡ Some (OfFunction s)
+        → FunctionFound g is x s
+    by true others p = absurd cc
+    by false others p = others p
+find_function g h i (j ∷ js) (tree.FunctionItem f ∷ is) x s k e = by (bytes_eq f.name.text x) refl (λ p. find_function g h (suc i) js is x s k.1 p) e
+  where
+    signature_is : OfFunction (head_of false h f).signature ≡ OfFunction s → (head_of false h f).signature ≡ s
+    signature_is p = cc
+
+    by : (b : Bool) → bytes_eq f.name.text x ≡ b
+        → (find (entries_with false h (suc i) js is) x ≡ Some (OfFunction s) → FunctionFound g is x s)
+        → (if b then Some (OfFunction (head_of false h f).signature) else find (entries_with false h (suc i) js is) x) ≡ Some (OfFunction s)
+        → FunctionFound g (tree.FunctionItem f ∷ is) x s
+    by true q others p = record {
+      number = i;
+      function = f;
+      found = ap (λ (b : Bool). if b then Some (routine_of f) else function_of (functions_of is) x) q;
+      named = q;
+      signature = ap (λ (z : Head). z.signature) (known_same g h f k.0.head) ∙ signature_is cc;
+      good = k.0.good;
+    }
+    by false q others p = function_behind g f is x s q (others p)
+
+-- ---- a global of a name
+
+-- The tables' variable of a name is the program's first global of that name; it lies in the heap, and its type names no region but the heap.
+pub record VariableFound (is : List Item) (first : ℕ) (x : List ℕ) (t : StaticType) (r : Region) : Type 0 where
+  pub number : ℕ
+  pub is_bound : bound_to (globals_from is first) x ≡ Some (Variable (shape_of t) (heap_spot number))
+  pub region : r ≡ TheHeap
+
+-- a global is no array
+shape_here : (x : tree.Global) (k : GlobalGood x) → global_shape x.initial (settled (written x.of)) ≡ shape_of k.type
+shape_here x k = by x.initial k.uncounted ∙ k.good.shape
+  where
+    by : (i : Initial) → count_of i ≡ None → global_shape i (settled (written x.of)) ≡ settled (written x.of)
+    by Initial.Unset h = refl
+    by (Initial.Elements n) h = absurd cc
+    by (Initial.Given c) h = refl
+
+pub find_variable : (g h : Tables) (i first : ℕ) (js : List Judged) (is : List Item) (x : List ℕ) (t : StaticType) (r : Region) → AllKnown g i is
+    → find (entries_with false h i js is) x ≡ Some (OfValue (Stored t r)) → VariableFound is first x t r
+find_variable g h i first [] is x t r k e = absurd cc
+find_variable g h i first (j ∷ js) [] x t r k e = absurd cc
+find_variable g h i first (j ∷ js) (tree.StructItem y ∷ is) x t r k e = absurd k.0
+find_variable g h i first (j ∷ js) (tree.UnionItem y ∷ is) x t r k e = absurd k.0
+find_variable g h i first (j ∷ js) (tree.FunctionItem f ∷ is) x t r k e =
+    let rest : VariableFound is first x t r = by (bytes_eq f.name.text x) (λ p. find_variable g h (suc i) first js is x t r k.1 p) e in
+    record { number = rest.number; is_bound = rest.is_bound; region = rest.region }
+  where
+    by : (b : Bool) → (find (entries_with false h (suc i) js is) x ≡ Some (OfValue (Stored t r)) → VariableFound is first x t r)
+        → (if b then Some (OfFunction (head_of false h f).signature) else find (entries_with false h (suc i) js is) x) ≡ Some (OfValue (Stored t r))
+        → VariableFound is first x t r
+    by true others p = absurd cc
+    by false others p = others p
+find_variable g h i first (j ∷ js) (tree.GlobalItem y ∷ is) x t r k e =
+    by (bytes_eq y.name.text x) refl (λ p. find_variable g h (suc i) (suc first) js is x t r k.1 p) e
+  where
+    -- what the name is bound to
+    either : Bool → Option Entity
+    either b = (if b then Some (Variable (global_shape y.initial (settled (written y.of))) (heap_spot first)) else bound_to (globals_from is (suc first)) x)
+
+    bound : {b : Bool} → bytes_eq y.name.text x ≡ b → either (bytes_eq y.name.text x) ≡ either b
+    bound q = ap either q
+
+    same_type : OfValue (Stored k.0.type TheHeap) ≡ OfValue (Stored t r) → k.0.type ≡ t
+    same_type p = cc
+
+    same_region : OfValue (Stored k.0.type TheHeap) ≡ OfValue (Stored t r) → r ≡ TheHeap
+    same_region p = cc
+
+    entry : Some (global_entry (at_item false h i) y) ≡ Some (OfValue (Stored t r)) → OfValue (Stored k.0.type TheHeap) ≡ OfValue (Stored t r)
+    entry p = let q : global_entry (at_item false h i) y ≡ OfValue (Stored t r) = cc in sym (k.0.entry h i) ∙ q
+
+    by : (b : Bool) → bytes_eq y.name.text x ≡ b
+        → (find (entries_with false h (suc i) js is) x ≡ Some (OfValue (Stored t r)) → VariableFound is (suc first) x t r)
+        → (if b then Some (global_entry (at_item false h i) y) else find (entries_with false h (suc i) js is) x) ≡ Some (OfValue (Stored t r))
+        → VariableFound (tree.GlobalItem y ∷ is) first x t r
+    by true q others p = record {
+      number = first;
+      is_bound = bound q
+          ∙ ap (λ (s : Shape). Some (Variable s (heap_spot first))) (shape_here y k.0 ∙ ap (λ (u : StaticType). shape_of u) (same_type (entry p)));
+      region = same_region (entry p);
+    }
+    by false q others p =
+        let rest : VariableFound is (suc first) x t r = others p in
+        record { number = rest.number; is_bound = bound q ∙ rest.is_bound; region = rest.region }
+
+-- ---- the two functions that every program has are none of its items
+
+pub no_builtin : (g h : Tables) (i n : ℕ) (js : List Judged) (is : List Item) (x : List ℕ) → AllKnown g i is
+    → find (entries_with false h i js is) x ≡ Some (OfBuiltin n) → ⊥
+no_builtin g h i n [] is x k e = cc
+no_builtin g h i n (j ∷ js) [] x k e = cc
+no_builtin g h i n (j ∷ js) (tree.StructItem y ∷ is) x k e = k.0
+no_builtin g h i n (j ∷ js) (tree.UnionItem y ∷ is) x k e = k.0
+no_builtin g h i n (j ∷ js) (tree.GlobalItem y ∷ is) x k e =
+    by (bytes_eq y.name.text x) (λ p. no_builtin g h (suc i) n js is x k.1 p) e
+  where
+    by : (b : Bool) → (find (entries_with false h (suc i) js is) x ≡ Some (OfBuiltin n) → ⊥)
+        → (if b then Some (global_entry (at_item false h i) y) else find (entries_with false h (suc i) js is) x) ≡ Some (OfBuiltin n) → ⊥
+    by true others p = cc
+    by false others p = others p
+no_builtin g h i n (j ∷ js) (tree.FunctionItem f ∷ is) x k e =
+    by (bytes_eq f.name.text x) (λ p. no_builtin g h (suc i) n js is x k.1 p) e
+  where
+    by : (b : Bool) → (find (entries_with false h (suc i) js is) x ≡ Some (OfBuiltin n) → ⊥)
+        → (if b then Some (OfFunction (head_of false h f).signature) else find (entries_with false h (suc i) js is) x) ≡ Some (OfBuiltin n) → ⊥
+    by true others p = cc
+    by false others p = others p

@@ -1,0 +1,223 @@
+-- Each expression of integers and thin pointers is at fault or in order, where all is known of each name in scope.
+use Rattle.std.proofs.Common.{ℕ, Bool, true, false, List, refl}
+use Rattle.std.specs.Prelude.{◌&&◌}
+use Rattle.cyc_tree.specs.declared.expression.Operator.{Operator}
+use Rattle.cyc_tree.specs.Tree.{Arrow, Dot, Expression, Expressions, Index, Links, MoreExpressions, MoreLinks, Name, NoExpressions, NoLinks, NoSuffixes}
+use Rattle.source_lowering.specs.Taken.{Takes, TakesAll, TakesLinks}
+use Rattle.source_meaning.specs.Calls.{number_type}
+use Rattle.source_meaning.specs.Expressions.{is_unique_region}
+use Rattle.source_typing.specs.Calls.{called, target}
+use Rattle.source_typing.specs.Expressions.{judge, judge_all, judge_links, judge_tests, number_typed}
+use Rattle.source_typing.specs.Fixing.{more}
+use Rattle.source_typing.specs.Operators.{applied, prefixed, tested_both}
+use Rattle.source_typing.specs.Places.{assigned, grouped, variable}
+use Rattle.source_typing.specs.Scope.{Env, Nowhere, Value, in_scope, meant, value}
+use Rattle.source_typing.specs.Taken.{
+  all_taken,
+  if_taken,
+  links_taken,
+  made_taken,
+  taken,
+  takes_handle,
+  takes_made,
+  takes_prefix,
+  thin_pointers,
+}
+use Rattle.source_typing.specs.Types.{Char, Null}
+use Rattle.source_typing.specs.Verdicts.{Verdict, both}
+use Rattle.source_safety.proofs.Fixed.{ValuesBelow}
+use Rattle.source_safety.proofs.Integers.{type_integer}
+use Rattle.judged_sources.specs.Good.{ExpressionsJudged, IsGood, IsGoodValue, IsValueType, Surely}
+use Rattle.judged_sources.proofs.GoodNames.{
+  IsGoodPlace,
+  IsGoodResult,
+  IsGoodTarget,
+  called_judged,
+  found_good,
+  target_judged,
+  variable_judged,
+}
+use Rattle.judged_sources.proofs.GoodOperators.{applied_judged, both_tested_judged, integer_judged}
+use Rattle.judged_sources.proofs.GoodPlaces.{assigned_judged, placed, prefixed_judged, valued}
+use Rattle.judged_sources.proofs.Sure.{surely_after, surely_also, surely_both}
+
+-- an expression of the forms that are taken
+abbrev kept : Expression → Expression
+kept e = taken thin_pointers e
+
+module _ (g : Env) (good : IsGood g) where
+  -- an expression is at fault, or it is in order
+  abbrev Judged : Expression → Type 0
+  Judged e = Surely (λ v. IsGoodValue g e v) (judge g e)
+
+  -- ---- forms that are not taken
+
+  if_kept : (b : Bool) (at : ℕ) (e : Expression) → Judged e → Judged (if_taken b at e)
+  if_kept true at e h = h
+  if_kept false at e h = tt
+
+  made_refused : (b c : Bool) (at : ℕ) (e : Expression) → Judged (if_taken (takes_handle thin_pointers b && c) at e)
+  made_refused true c at e = tt
+  made_refused false c at e = tt
+
+  -- ---- operands that are joined from the left
+
+  -- what they give, where this holds of them
+  abbrev Joined : Type 0 → Value → Type 0
+  Joined T v = T × IsGoodResult g.regions.count v
+
+  -- and what another operand may be joined to
+  abbrev Begun : Type 0 → Value → Type 0
+  Begun T v = T × IsValueType v.type
+
+  begun : (e : Expression) → Judged e → Surely (λ w. Begun (Takes e) w) (judge g e)
+  begun e h = surely_also (λ w. IsGoodValue g e w) (λ w. Begun (Takes e) w) (judge g e) h (λ w k. (k.takes, k.type))
+
+  still_begun : (T : Type 0) (v : Verdict Value) → Surely (λ w. Joined T w) v → Surely (λ w. Begun T w) v
+  still_begun T v h = surely_also (λ w. Joined T w) (λ w. Begun T w) v h (λ w k. (k.0, k.1.type))
+
+  tested_more : (T : Type 0) (v : Verdict Value) (y : Expression) → Surely (λ w. Begun T w) v → Judged y
+      → Surely (λ w. Joined (T × Takes y) w) (both v (judge g y) tested_both)
+  tested_more T v y h l =
+      surely_both (λ w. Begun T w) (λ w. IsGoodValue g y w) (λ w. Joined (T × Takes y) w) v (judge g y) tested_both h l
+      (λ a b c d. surely_also (λ w. IsGoodResult g.regions.count w) (λ w. Joined (T × Takes y) w) (tested_both a b)
+      (both_tested_judged g.regions.count a b) (λ w r. ((c.0, d.takes), r)))
+
+  applied_more : (o : Operator) (T : Type 0) (v : Verdict Value) (y : Expression) → Surely (λ w. Begun T w) v → Judged y
+      → Surely (λ w. Joined (T × Takes y) w) (both v (judge g y) (applied g o))
+  applied_more o T v y h l =
+      surely_both (λ w. Begun T w) (λ w. IsGoodValue g y w) (λ w. Joined (T × Takes y) w) v (judge g y) (applied g o) h l
+      (λ a b c d. surely_also (λ w. IsGoodResult g.regions.count w) (λ w. Joined (T × Takes y) w) (applied g o a b)
+      (applied_judged g.regions.count g o a.at a.type b.type c.1 d.type) (λ w r. ((c.0, d.takes), r)))
+
+  -- ---- names and calls
+
+  variable_good : (x : Name) → Judged (Expression.Variable x)
+  variable_good x =
+      surely_also (λ v. IsGoodPlace g.regions.count v) (λ v. IsGoodValue g (Expression.Variable x) v) (variable x.at (meant g x.text))
+      (variable_judged g.regions.count x.at (meant g x.text) (found_good g.regions.count (in_scope g) x.text good.names))
+      (λ v h. placed g (Expression.Variable x) v tt tt h)
+
+  -- arguments that lowering takes, whose types speak of regions in scope
+  abbrev Arguments : Expressions → List Value → Type 0
+  Arguments es vs = TakesAll es × ValuesBelow g.regions.count vs
+
+  call_good : (x : Name) (es : Expressions) → Surely (λ (vs : List Value). Arguments es vs) (judge_all g es) → Judged (Expression.Call x es)
+  call_good x es h =
+      surely_both (λ u. IsGoodTarget u) (λ (vs : List Value). Arguments es vs) (λ v. IsGoodValue g (Expression.Call x es) v)
+      (target x.at (meant g x.text)) (judge_all g es) (called g x.at)
+      (target_judged g.regions.count x.at (meant g x.text) (found_good g.regions.count (in_scope g) x.text good.names)) h
+      (λ u vs c d. surely_also (λ v. IsGoodResult g.regions.count v) (λ v. IsGoodValue g (Expression.Call x es) v) (called g x.at u vs)
+      (called_judged g x.at u vs good.enclosing c d.1) (λ v r. valued g (Expression.Call x es) v d.0 r))
+
+  -- ---- several operands
+
+  -- each operand is at fault, or it is in order
+  abbrev AllJudged : Expressions → Type 0
+  AllJudged NoExpressions = Unit {0}
+  AllJudged (MoreExpressions e es) = Judged e × AllJudged es
+
+  abbrev LinksJudged : Links → Type 0
+  LinksJudged NoLinks = Unit {0}
+  LinksJudged (MoreLinks o e es) = Judged e × LinksJudged es
+
+  arguments_good : (es : Expressions) → AllJudged es → Surely (λ (vs : List Value). Arguments es vs) (judge_all g es)
+  arguments_good NoExpressions h = (tt, tt)
+  arguments_good (MoreExpressions e es) h =
+      surely_both (λ v. IsGoodValue g e v) (λ (vs : List Value). Arguments es vs) (λ (vs : List Value). Arguments (MoreExpressions e es) vs) (judge g e)
+      (judge_all g es) more h.0 (arguments_good es h.1) (λ v vs c d. ((c.takes, d.0), (c.below, d.1)))
+
+  -- the operands behind the first two
+  tests_good : (es : Expressions) (T : Type 0) (v : Verdict Value) → AllJudged es → Surely (λ w. Joined T w) v
+      → Surely (λ w. Joined (T × TakesAll es) w) (judge_tests g v es)
+  tests_good NoExpressions T v h c = surely_also (λ w. Joined T w) (λ w. Joined (T × Unit {0}) w) v c (λ w d. ((d.0, tt), d.1))
+  tests_good (MoreExpressions e es) T v h c =
+      let w : Verdict Value = both v (judge g e) tested_both in
+      surely_also (λ z. Joined ((T × Takes e) × TakesAll es) z) (λ z. Joined (T × TakesAll (MoreExpressions e es)) z) (judge_tests g w es)
+      (tests_good es (T × Takes e) w h.1 (tested_more T v e (still_begun T v c) h.0)) (λ z d. ((d.0.0.0, (d.0.0.1, d.0.1)), d.1))
+
+  links_good : (es : Links) (T : Type 0) (v : Verdict Value) → LinksJudged es → Surely (λ w. Joined T w) v
+      → Surely (λ w. Joined (T × TakesLinks es) w) (judge_links g v es)
+  links_good NoLinks T v h c = surely_also (λ w. Joined T w) (λ w. Joined (T × Unit {0}) w) v c (λ w d. ((d.0, tt), d.1))
+  links_good (MoreLinks o e es) T v h c =
+      let w : Verdict Value = both v (judge g e) (applied g o) in
+      surely_also (λ z. Joined ((T × Takes e) × TakesLinks es) z) (λ z. Joined (T × TakesLinks (MoreLinks o e es)) z) (judge_links g w es)
+      (links_good es (T × Takes e) w h.1 (applied_more o T v e (still_begun T v c) h.0)) (λ z d. ((d.0.0.0, (d.0.0.1, d.0.1)), d.1))
+
+  -- two operands and others, of operators and of tests
+  chain_good : (e : Expression) (o : Operator) (y : Expression) (es : Links) → Judged e → LinksJudged (MoreLinks o y es)
+      → Judged (Expression.Chain e (MoreLinks o y es))
+  chain_good e o y es h k =
+      let v : Verdict Value = both (judge g e) (judge g y) (applied g o) in
+      surely_also (λ w. Joined ((Takes e × Takes y) × TakesLinks es) w) (λ w. IsGoodValue g (Expression.Chain e (MoreLinks o y es)) w) (judge_links g v es)
+      (links_good es (Takes e × Takes y) v k.1 (applied_more o (Takes e) (judge g e) y (begun e h) k.0))
+      (λ w c. valued g (Expression.Chain e (MoreLinks o y es)) w (c.0.0.0, (c.0.0.1, c.0.1)) c.1)
+
+  tests_joined : (x e y : Expression) (es : Expressions) → (Takes e × TakesAll (MoreExpressions y es) → Takes x) → Judged e
+      → AllJudged (MoreExpressions y es) → Surely (λ w. IsGoodValue g x w) (judge_tests g (judge g e) (MoreExpressions y es))
+  tests_joined x e y es t h k =
+      let v : Verdict Value = both (judge g e) (judge g y) tested_both in
+      surely_also (λ w. Joined ((Takes e × Takes y) × TakesAll es) w) (λ w. IsGoodValue g x w) (judge_tests g v es)
+      (tests_good es (Takes e × Takes y) v k.1 (tested_more (Takes e) (judge g e) y (begun e h) k.0)) (λ w c. valued g x w (t (c.0.0.0, (c.0.0.1, c.0.1))) c.1)
+
+  -- ---- expressions
+
+  mutual
+    pub expression_judged : (e : Expression) → Judged (kept e)
+    expression_judged (Expression.Number at n suffix) =
+        surely_also (λ v. IsGoodResult g.regions.count v) (λ v. IsGoodValue g (Expression.Number at n suffix) v) (value at (number_typed n suffix))
+        (integer_judged g.regions.count at (number_typed n suffix) (type_integer (number_type n suffix)))
+        (λ v r. valued g (Expression.Number at n suffix) v tt r)
+    expression_judged (Expression.Character at byte) =
+        valued g (Expression.Character at byte) (record { at = at; type = Char; seat = Nowhere }) tt (record { type = tt; below = tt; nowhere = refl })
+    expression_judged (Expression.Text at bytes) = tt
+    expression_judged (Expression.Null at) =
+        valued g (Expression.Null at) (record { at = at; type = Null; seat = Nowhere }) tt (record { type = tt; below = tt; nowhere = refl })
+    expression_judged (Expression.HeapRegion at) = tt
+    expression_judged (Expression.UniqueRegion at) = tt
+    expression_judged (Expression.Variable x) = variable_good x
+    expression_judged (Expression.Call x es) = call_good x (all_taken thin_pointers es) (arguments_good (all_taken thin_pointers es) (each_judged es))
+    expression_judged (Expression.MakeUnion tag f e) = tt
+    expression_judged (Expression.NumElts at e) = tt
+    expression_judged (Expression.Grouped at e) =
+        surely_after (λ v. IsGoodValue g (kept e) v) (λ v. IsGoodValue g (Expression.Grouped at (kept e)) v) (judge g (kept e)) (grouped at)
+        (expression_judged e)
+        (λ a h. record { type = h.type; below = h.below; seat = h.seat; word = h.word; takes = h.takes; place = h.place })
+    expression_judged (Expression.Suffixed e NoSuffixes) = tt
+    expression_judged (Expression.Suffixed e (Index index others)) = tt
+    expression_judged (Expression.Suffixed e (Dot f others)) = tt
+    expression_judged (Expression.Suffixed e (Arrow f others)) = tt
+    expression_judged (Expression.Prefixed at o e) =
+        if_kept (takes_prefix thin_pointers o) at (Expression.Prefixed at o (kept e))
+        (surely_after (λ v. IsGoodValue g (kept e) v) (λ v. IsGoodValue g (Expression.Prefixed at o (kept e)) v) (judge g (kept e)) (prefixed g at o)
+        (expression_judged e) (λ a h. prefixed_judged g (kept e) at o a h))
+    expression_judged (Expression.New at new) = tt
+    expression_judged (Expression.NewIn at handle new) =
+        made_refused (is_unique_region handle) (takes_made thin_pointers new) at (Expression.NewIn at (kept handle) (made_taken thin_pointers new))
+    expression_judged (Expression.Chain e NoLinks) = tt
+    expression_judged (Expression.Chain e (MoreLinks o y es)) =
+        chain_good (kept e) o (kept y) (links_taken thin_pointers es) (expression_judged e) (each_linked (MoreLinks o y es))
+    expression_judged (Expression.AllOf e NoExpressions) = tt
+    expression_judged (Expression.AllOf e (MoreExpressions y es)) =
+        tests_joined (kept (Expression.AllOf e (MoreExpressions y es))) (kept e) (kept y) (all_taken thin_pointers es) (λ t. t) (expression_judged e)
+        (each_judged (MoreExpressions y es))
+    expression_judged (Expression.AnyOf e NoExpressions) = tt
+    expression_judged (Expression.AnyOf e (MoreExpressions y es)) =
+        tests_joined (kept (Expression.AnyOf e (MoreExpressions y es))) (kept e) (kept y) (all_taken thin_pointers es) (λ t. t) (expression_judged e)
+        (each_judged (MoreExpressions y es))
+    expression_judged (Expression.Assign a b) =
+        surely_both (λ w. IsGoodValue g (kept a) w) (λ w. IsGoodValue g (kept b) w) (λ w. IsGoodValue g (Expression.Assign (kept a) (kept b)) w)
+        (judge g (kept a)) (judge g (kept b)) (assigned g) (expression_judged a) (expression_judged b)
+        (λ u v c d. assigned_judged g (kept a) (kept b) u v c d.takes)
+
+    each_judged : (es : Expressions) → AllJudged (all_taken thin_pointers es)
+    each_judged NoExpressions = tt
+    each_judged (MoreExpressions e es) = (expression_judged e, each_judged es)
+
+    each_linked : (es : Links) → LinksJudged (links_taken thin_pointers es)
+    each_linked NoLinks = tt
+    each_linked (MoreLinks o e es) = (expression_judged e, each_linked es)
+
+-- Each expression is judged: at fault, or in order.
+pub expressions_judged : ExpressionsJudged
+expressions_judged e g h = expression_judged g h e

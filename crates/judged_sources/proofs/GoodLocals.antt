@@ -1,0 +1,208 @@
+-- The type of a local that is taken, where it has no fault: a word's, whose region names are in scope, with the shape that is written. A missing region is
+-- that of its initializer, or the heap.
+use Rattle.std.proofs.Common.{◌≡◌, ℕ, Bool, true, false, Option, Some, None, refl, sym, subst, ap, ◌∙◌}
+use Rattle.std.specs.Prelude.{◌&&◌, ◌||◌}
+use Rattle.cyc_tree.specs.Tree.{TypeName}
+use Rattle.source_lowering.specs.Taken as lowering
+use Rattle.source_lowering.specs.Taken.{HasFirst}
+use Rattle.source_lowering.proofs.Integers.{IsTaken}
+use Rattle.source_lowering.proofs.WrittenTypes.{type_settled}
+use Rattle.source_meaning.specs.Shapes as shapes
+use Rattle.source_meaning.specs.Shapes.{ThinShape}
+use Rattle.source_safety.specs.Entries.{Begins, IsWordType}
+use Rattle.source_safety.specs.Named.{TypeBelow}
+use Rattle.source_typing.specs.Declarations.{can_be, fitting, fitting_local, if_sized, local_type, misses_region, set_type, taken_from, type_in_scope}
+use Rattle.source_typing.specs.Declarations.{unset_type}
+use Rattle.source_typing.specs.Extents.{fits_bytes, variable_size}
+use Rattle.source_typing.specs.Missing.{as_type, filled_from, or_found, outer_region, pointee_of, settled, thin_with}
+use Rattle.source_typing.specs.Regions.{Region}
+use Rattle.source_typing.specs.Scope.{Env, Value, in_scope}
+use Rattle.source_typing.specs.Tables.{Tables, has_beginning}
+use Rattle.source_typing.specs.Taken.{takes_type, thin_pointers}
+use Rattle.source_typing.specs.Types.{Char, Fat, Int, Null, PartialType, StaticType, Thin, Unique, Unsigned, Void, shape_of}
+use Rattle.source_typing.specs.Verdicts.{Of, after, if_fits}
+use Rattle.source_typing.specs.Written.{Found, Is, IsUnique, Missing}
+use Rattle.source_typing.proofs.Converting.{and_is}
+use Rattle.judged_sources.specs.Good.{IsGood, IsValueType, Surely}
+use Rattle.judged_sources.proofs.Sure.{surely_after, surely_also}
+use Rattle.judged_sources.proofs.GoodOperators.{word_value}
+use Rattle.judged_sources.proofs.GoodTypes.{FoundBelow, IsPartialWord, IsWritten, RegionBelow, WritesNothing, WritesWord, WrittenWord, in_scope_good}
+
+-- ---- missing regions
+
+-- a type that they are taken from, where there is one
+abbrev pub SourceBelow : ℕ → Option StaticType → Type 0
+SourceBelow n None = Unit {0}
+SourceBelow n (Some t) = IsValueType t × TypeBelow n t
+
+outer_below : (n : ℕ) (s : Option StaticType) → SourceBelow n s → FoundBelow n (outer_region s)
+outer_below n (Some (Thin b r t)) h = h.1.0
+outer_below n (Some (Fat r t)) h = absurd h.0
+outer_below n (Some (Unique b t)) h = absurd h.0
+outer_below n _ h = tt
+
+pointee_below : (n : ℕ) (s : Option StaticType) → SourceBelow n s → SourceBelow n (pointee_of s)
+pointee_below n (Some (Thin b r t)) h = (word_value t h.0, h.1.1)
+pointee_below n (Some (Fat r t)) h = absurd h.0
+pointee_below n (Some (Unique b t)) h = absurd h.0
+pointee_below n _ h = tt
+
+or_below : (n : ℕ) (r : Option Region) (f : Found) → RegionBelow n r → FoundBelow n f → FoundBelow n (or_found r f)
+or_below n (Some r) f h k = h
+or_below n None f h k = k
+
+-- a word with all its regions, of the shape that it had without
+pub record IsFilled (n : ℕ) (p : PartialType) (t : StaticType) : Type 0 where
+  pub word : IsWordType t
+  pub below : TypeBelow n t
+  pub shape : shape_of t ≡ shape_of p
+
+abbrev FilledIfSome : ℕ → PartialType → Option StaticType → Type 0
+FilledIfSome n p None = ⊥
+FilledIfSome n p (Some t) = IsFilled n p t
+
+thin_filled : (n : ℕ) (b : Bool) (r : Option Region) (f : Found) (p : PartialType) (o : Option StaticType) → FoundBelow n f → FilledIfSome n p o
+    → FilledIfSome n (Thin b r p) (thin_with b f o)
+thin_filled n b r f p None h k = absurd k
+thin_filled n b r (Is q) p (Some t) h k = record { word = k.word; below = (h, k.below); shape = ap (λ s. ThinShape b shapes.Shared s) k.shape }
+thin_filled n b r IsUnique p (Some t) h k = absurd h
+thin_filled n b r Missing p (Some t) h k = record { word = k.word; below = (tt, k.below); shape = ap (λ s. ThinShape b shapes.Shared s) k.shape }
+
+filled_word : (n : ℕ) (p : PartialType) (s : Option StaticType) → IsPartialWord n p → SourceBelow n s → FilledIfSome n p (filled_from p s)
+filled_word n Int s h k = record { word = tt; below = tt; shape = refl }
+filled_word n Unsigned s h k = record { word = tt; below = tt; shape = refl }
+filled_word n Char s h k = record { word = tt; below = tt; shape = refl }
+filled_word n (Thin b r t) s h k =
+    thin_filled n b r (or_found r (outer_region s)) t (filled_from t (pointee_of s)) (or_below n r (outer_region s) h.0 (outer_below n s k))
+    (filled_word n t (pointee_of s) h.1 (pointee_below n s k))
+filled_word n _ s h k = absurd h
+
+-- a word, whose missing regions are found
+pub word_settled : (n at : ℕ) (p : PartialType) (s : Option StaticType) → IsPartialWord n p → SourceBelow n s
+    → Surely (λ t. IsFilled n p t) (settled at p s)
+word_settled n at p s h k = by (filled_from p s) (filled_word n p s h k)
+  where
+    by : (o : Option StaticType) → FilledIfSome n p o → Surely (λ t. IsFilled n p t) (as_type at o)
+    by None h = absurd h
+    by (Some t) h = h
+
+-- ---- types of variables
+
+-- what fits is the type itself
+pub record IsFitting (g : Env) (count : Option ℕ) (fits : Bool) (t u : StaticType) : Type 0 where
+  pub same : u ≡ t
+  pub fits_it : fits ≡ true
+  pub can : can_be g count t ≡ true
+
+pub fitting_is : (g : Env) (at : ℕ) (count : Option ℕ) (fits : Bool) (t : StaticType) → Surely (λ u. IsFitting g count fits t u) (fitting g at count fits t)
+fitting_is g at count fits t = by (fits && can_be g count t) refl (fits_bytes (variable_size g.tables count t))
+  where
+    by : (b : Bool) → fits && can_be g count t ≡ b → (c : Bool) → Surely (λ u. IsFitting g count fits t u) (after (if_fits b at t) (if_sized c at))
+    by true e true = let a = and_is fits (can_be g count t) e in record { same = refl; fits_it = a.0; can = a.1 }
+    by true e false = tt
+    by false e c = tt
+
+-- the type of a local without fault; with an initializer, or with a beginning
+pub record IsLocalType (g : Env) (of : TypeName) (set : Bool) (t : StaticType) : Type 0 where
+  pub word : IsWordType t
+  pub below : TypeBelow g.regions.count t
+  pub taken : lowering.IsWordType of
+  pub shape : shapes.settled (shapes.written of) ≡ shape_of t
+  pub begins : set || has_beginning g.tables t ≡ true
+
+word_local : (g : Env) (of : TypeName) (at : ℕ) (set : Bool) (s : Option StaticType) (p : PartialType) → WrittenWord g.regions.count of p
+    → SourceBelow g.regions.count s
+    → Surely (λ t. IsLocalType g of set t) (local_type g at None set s p)
+word_local g of at set s p w k =
+    surely_after (λ t. IsFilled g.regions.count p t) (λ t. IsLocalType g of set t) (settled at p s) (fitting_local g at None set)
+    (word_settled g.regions.count at p s w.word k)
+    (λ t f. surely_also (λ u. IsFitting g None (set || has_beginning g.tables t) t u) (λ u. IsLocalType g of set u) (fitting_local g at None set t)
+    (fitting_is g at None (set || has_beginning g.tables t) t)
+    (λ u h. subst (λ z. IsLocalType g of set z) (sym h.same) (record {
+      word = f.word;
+      below = f.below;
+      taken = w.taken;
+      shape = w.shape ∙ sym f.shape;
+      begins = h.fits_it;
+    })))
+
+-- `void` is no variable's type
+nothing_local : (g : Env) (of : TypeName) (at : ℕ) (set : Bool) (s : Option StaticType) → Surely (λ t. IsLocalType g of set t) (local_type g at None set s Void)
+nothing_local g of at set s =
+    surely_also (λ u. IsFitting g None (set || has_beginning g.tables Void) Void u) (λ u. IsLocalType g of set u) (fitting_local g at None set Void)
+    (fitting_is g at None (set || has_beginning g.tables Void) Void) (λ u h. absurd (no h.can))
+  where
+    no : can_be g None Void ≡ true → ⊥
+    no e = cc
+
+local_good : (g : Env) (of : TypeName) (at : ℕ) (set : Bool) (s : Option StaticType) (p : PartialType) → IsWritten g.regions.count of p
+    → SourceBelow g.regions.count s
+    → Surely (λ t. IsLocalType g of set t) (local_type g at None set s p)
+local_good g of at set s p (WritesWord w) k = word_local g of at set s p w k
+local_good g of at set s p (WritesNothing v e) k =
+    subst (λ z. Surely (λ t. IsLocalType g of set t) (local_type g at None set s z)) (sym e) (nothing_local g of at set s)
+
+-- ---- types of locals
+
+pub unset_good : (g : Env) (t : TypeName) → IsGood g → takes_type thin_pointers t ≡ true → Surely (λ u. IsLocalType g t false u) (unset_type g t None)
+unset_good g t h e =
+    surely_after (λ p. IsWritten g.regions.count t p) (λ u. IsLocalType g t false u) (type_in_scope g t) (local_type g t.at None false None)
+    (in_scope_good g.regions.count (in_scope g) g.names t h.regions e) (λ p w. local_good g t t.at false None p w tt)
+
+from_good : (g : Env) (of : TypeName) (at : ℕ) (b : Bool) (v : Value) (p : PartialType) → SourceBelow g.regions.count (Some v.type)
+    → IsWritten g.regions.count of p
+    → Surely (λ u. IsLocalType g of true u) (taken_from g at b (Of v) p)
+from_good g of at true v p k w = local_good g of at true (Some v.type) p w k
+from_good g of at false v p k w = local_good g of at true None p w tt
+
+pub set_good : (g : Env) (t : TypeName) (v : Value) → IsGood g → IsValueType v.type → TypeBelow g.regions.count v.type → takes_type thin_pointers t ≡ true
+    → Surely (λ u. IsLocalType g t true u) (set_type g t (Of v))
+set_good g t v h k b e =
+    surely_after (λ p. IsWritten g.regions.count t p) (λ u. IsLocalType g t true u) (type_in_scope g t) (taken_from g t.at (misses_region g t) (Of v))
+    (in_scope_good g.regions.count (in_scope g) g.names t h.regions e) (λ p w. from_good g t t.at (misses_region g t) v p (k, b) w)
+
+-- ---- beginnings
+
+pub begins_word : (g : Tables) (t : StaticType) → IsWordType t → has_beginning g t ≡ true → Begins t
+begins_word g Int w e = tt
+begins_word g Unsigned w e = tt
+begins_word g Char w e = tt
+begins_word g (Thin b r t) w e = e
+begins_word g _ w e = absurd w
+
+pub local_begins : (g : Env) (of : TypeName) (t : StaticType) → IsLocalType g of false t → Begins t
+local_begins g of t h = begins_word g.tables t h.word h.begins
+
+pub begins_first : (t : StaticType) → Begins t → HasFirst (shape_of t)
+begins_first Int e = tt
+begins_first Unsigned e = tt
+begins_first Char e = tt
+begins_first (Thin b r t) e = subst (λ z. HasFirst (ThinShape z shapes.Shared (shape_of t))) (sym e) tt
+begins_first _ e = absurd e
+
+-- what begins has a first value in the lowering too
+pub local_first : (g : Env) (of : TypeName) (t : StaticType) → IsLocalType g of false t → HasFirst (shapes.settled (shapes.written of))
+local_first g of t h = subst (λ z. HasFirst z) (sym h.shape) (begins_first t (local_begins g of t h))
+
+-- ---- shapes
+
+word_shape : (t : StaticType) → IsWordType t → IsTaken (shape_of t)
+word_shape Int h = tt
+word_shape Unsigned h = tt
+word_shape Char h = tt
+word_shape (Thin b r t) h = (refl, word_shape t h)
+word_shape _ h = absurd h
+
+value_shape : (t : StaticType) → IsValueType t → IsTaken (shape_of t)
+value_shape Null h = (refl, tt)
+value_shape Void h = tt
+value_shape Int h = tt
+value_shape Unsigned h = tt
+value_shape Char h = tt
+value_shape (Thin b r t) h = (refl, word_shape t h)
+value_shape _ h = absurd h
+
+-- an initializer leaves the shape that is written
+pub local_shape : (g : Env) (of : TypeName) (t u : StaticType) → IsLocalType g of true t → IsValueType u
+    → shapes.settled_by (shapes.written of) (shape_of u) ≡ shape_of t
+local_shape g of t u h k = (type_settled of h.taken).by (shape_of u) (value_shape u k) ∙ h.shape

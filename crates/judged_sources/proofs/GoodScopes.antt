@@ -1,0 +1,61 @@
+-- A scope in which all is known of each name stays one: where a block or a loop begins, and after a local of a word.
+use Rattle.std.proofs.Common.{◌≡◌, ℕ, Bool, true, false, List, [], ◌∷◌, arith, refl}
+use Rattle.std.specs.Prelude.{◌+◌, if◌then◌else◌, not}
+use Rattle.cyc_tree.specs.Tree as tree
+use Rattle.source_safety.specs.Entries.{IsWordType}
+use Rattle.source_safety.specs.Judged.{extended}
+use Rattle.source_safety.specs.Named.{TypeBelow}
+use Rattle.source_safety.proofs.Names.{below_up}
+use Rattle.source_safety.proofs.Surroundings.{type_up}
+use Rattle.source_typing.specs.Faults.{name_rule, test}
+use Rattle.source_typing.specs.Scope.{Env, block_entered, in_scope, is_second, second, with_local}
+use Rattle.source_typing.specs.Statements.{in_a_loop}
+use Rattle.source_typing.specs.Tables.{Arrayed, Counter, Entry, OfBuiltin, OfFunction, OfOther, OfTag, OfValue, Stored, Tables, Unknown}
+use Rattle.source_typing.specs.Types.{StaticType}
+use Rattle.source_typing.specs.Written.{RegionNamed}
+use Rattle.judged_sources.specs.Good.{AllGood, IsGood, IsGoodEntry, NamesBelow}
+
+-- ---- one more region name
+
+pub entry_up : (n : ℕ) (e : Entry) → IsGoodEntry n e → IsGoodEntry (n + 1) e
+entry_up n (OfValue (Stored t r)) h = (h.0, type_up n t h.1, below_up n r h.2)
+entry_up n (OfValue (Arrayed t r)) h = absurd h
+entry_up n (OfValue Counter) h = absurd h
+entry_up n (OfValue Unknown) h = absurd h
+entry_up n (OfTag t) h = absurd h
+entry_up n (OfFunction s) h = h
+entry_up n (OfBuiltin k) h = h
+entry_up n OfOther h = absurd h
+
+pub entries_up : (n : ℕ) (ns : Tables) → AllGood n ns → AllGood (n + 1) ns
+entries_up n [] h = tt
+entries_up n (x ∷ xs) h = (entry_up n x.entry h.0, entries_up n xs h.1)
+
+pub regions_up : (n : ℕ) (ns : List RegionNamed) → NamesBelow n ns → NamesBelow (n + 1) ns
+regions_up n [] h = tt
+regions_up n (x ∷ xs) h = (below_up n x.id h.0, regions_up n xs h.1)
+
+-- ---- scopes
+
+-- the block's own region is the name that is next
+pub good_block : (g : Env) → IsGood g → IsGood (block_entered g)
+good_block g h = record {
+  names = entries_up g.regions.count (in_scope g) h.names;
+  regions = regions_up g.regions.count g.names h.regions;
+  frame = omega arith;
+  enclosing = h.enclosing;
+}
+
+pub good_loop : (g : Env) → IsGood g → IsGood (in_a_loop g)
+good_loop g h = record { names = h.names; regions = h.regions; frame = h.frame; enclosing = h.enclosing }
+
+pub good_local : (x : tree.Name) (t : StaticType) (g : Env) → IsWordType t → TypeBelow g.regions.count t → IsGood g → IsGood (extended g x t)
+good_local x t g w b h = record { names = ((w, b, h.frame), h.names); regions = h.regions; frame = h.frame; enclosing = h.enclosing }
+
+-- a name that isn't declared twice is one more local
+pub one_more : (x : tree.Name) (t : StaticType) (g : Env) → second g x ≡ [] → with_local x (Stored t g.frame) g ≡ extended g x t
+one_more x t g e = by (is_second g.locals g.block x.text) e
+  where
+    by : (b : Bool) → test (not b) name_rule x.at ≡ [] → (if b then g else extended g x t) ≡ extended g x t
+    by true p = absurd cc
+    by false p = refl

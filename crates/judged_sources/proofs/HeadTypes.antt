@@ -1,0 +1,207 @@
+-- The types of a function's parameters and of its result, where they are taken: words whose regions are the heap, a region variable that was there before,
+-- or a fresh one.
+use Rattle.std.proofs.Common.{◌≡◌, ℕ, suc, ◌<◌, ◌≤◌, Bool, true, false, Option, Some, None, List, [], ◌∷◌, refl, sym, subst, ◌∙◌, arith}
+use Rattle.std.specs.Prelude.{bytes_eq, if◌then◌else◌, map, ◌||◌}
+use Rattle.cyc_tree.specs.Tree as tree
+use Rattle.cyc_tree.specs.Tree.{Pointer, TypeName}
+use Rattle.source_lowering.specs.Taken as lowering
+use Rattle.source_lowering.specs.Taken.{AreThin, IsSharedRegion, IsVoidBase, IsVoidType}
+use Rattle.source_meaning.specs.Shapes as shapes
+use Rattle.source_meaning.specs.Shapes.{Shared, ThinShape, VoidShape}
+use Rattle.source_safety.specs.Entries.{IsPlain, IsWordType}
+use Rattle.source_safety.specs.Named.{Below, TypeBelow}
+use Rattle.source_safety.proofs.Entries.{word_plain}
+use Rattle.source_typing.specs.Functions.{AllSpotted, Spotted, Variables, fits_parameter, if_parameter, if_result, parameter_type, result_type, take_named}
+use Rattle.source_typing.specs.Functions.{take_spot, take_spots}
+use Rattle.source_typing.specs.Regions.{Level, Region, TheHeap}
+use Rattle.source_typing.specs.Tables.{Tables}
+use Rattle.source_typing.specs.Tags.{settled_alone}
+use Rattle.source_typing.specs.Taken.{takes_base, takes_pointers, takes_type, thin_pointers}
+use Rattle.source_typing.specs.Types.{Char, Int, PartialType, StaticType, Thin, Unsigned, Void, is_void, shape_of}
+use Rattle.source_typing.specs.Verdicts.{after, if_fits}
+use Rattle.source_typing.specs.Written.{Found, Is, IsUnique, Missing, RegionNamed, find_region, spot, spots_of, written, written_with}
+use Rattle.source_typing.proofs.Converting.{and_is}
+use Rattle.judged_sources.specs.Good.{NamesBelow, Surely}
+use Rattle.judged_sources.proofs.GoodTypes.{AreFound, FoundBelow, IsWritten, RegionBelow, WritesNothing, WritesWord, in_scope_good}
+use Rattle.judged_sources.proofs.GoodTypes.{thin_pointers_are, written_good}
+use Rattle.judged_sources.proofs.GoodLocals.{IsFilled, word_settled}
+use Rattle.judged_sources.proofs.Sure.{surely_after, surely_also}
+
+-- ---- more region names
+
+pub below_more : (n m : ℕ) (r : Region) → n ≤ m → Below n r → Below m r
+below_more n m TheHeap l h = tt
+below_more n m (Level k) l h = omega arith
+
+pub word_more : (n m : ℕ) (t : StaticType) → n ≤ m → IsWordType t → TypeBelow n t → TypeBelow m t
+word_more n m Int l w h = tt
+word_more n m Unsigned l w h = tt
+word_more n m Char l w h = tt
+word_more n m (Thin b r t) l w h = (below_more n m r l h.0, word_more n m t l w h.1)
+word_more n m _ l w h = absurd w
+
+found_more : (n m : ℕ) (f : Found) → n ≤ m → FoundBelow n f → FoundBelow m f
+found_more n m (Is r) l h = below_more n m r l h
+found_more n m IsUnique l h = h
+found_more n m Missing l h = tt
+
+-- ---- the regions of a parameter's type
+
+-- the region of a name in scope
+find_below : (n : ℕ) (names : List RegionNamed) (x : List ℕ) → NamesBelow n names → RegionBelow n (find_region names x)
+find_below n [] x h = tt
+find_below n (m ∷ ms) x h = by (bytes_eq m.name x) (find_below n ms x h.1)
+  where
+    by : (b : Bool) → RegionBelow n (find_region ms x) → RegionBelow n (if b then Some m.id else find_region ms x)
+    by true others = h.0
+    by false others = others
+
+names_more : (n m : ℕ) (names : List RegionNamed) → n ≤ m → NamesBelow n names → NamesBelow m names
+names_more n m [] l h = tt
+names_more n m (x ∷ xs) l h = (below_more n m x.id l h.0, names_more n m xs l h.1)
+
+-- one region, and the region variables after it
+record SpotGood (vs : Variables) (s : Spotted) : Type 0 where
+  found : FoundBelow s.after_it.count s.found
+  names : NamesBelow s.after_it.count s.after_it.names
+  more : vs.count ≤ s.after_it.count
+
+spot_good : (vs : Variables) (r : Option tree.RegionName) → IsSharedRegion r → NamesBelow vs.count vs.names → SpotGood vs (take_spot vs r true)
+spot_good vs None s h =
+    let less : vs.count ≤ suc vs.count = omega arith in
+    record { found = omega arith; names = names_more vs.count (suc vs.count) vs.names less h; more = less }
+spot_good vs (Some (tree.Heap at)) s h = record { found = tt; names = h; more = omega arith }
+spot_good vs (Some (tree.Unique at)) s h = absurd s
+spot_good vs (Some (tree.Named x)) s h = by (find_region vs.names x.text) (find_below vs.count vs.names x.text h)
+  where
+    by : (o : Option Region) → RegionBelow vs.count o → SpotGood vs (take_named vs x o)
+    by (Some r) b = record { found = b; names = h; more = omega arith }
+    by None b =
+        let less : vs.count ≤ suc vs.count = omega arith in
+        let last : vs.count < suc vs.count = omega arith in
+        record { found = last; names = (last, names_more vs.count (suc vs.count) vs.names less h); more = less }
+
+-- those of all pointers of a type
+pub record SpotsGood (vs : Variables) (ps : List Pointer) (s : AllSpotted) : Type 0 where
+  pub found : AreFound s.after_all.count ps s.found
+  pub names : NamesBelow s.after_all.count s.after_all.names
+  pub more : vs.count ≤ s.after_all.count
+
+spots_good : (vs : Variables) (ps : List Pointer) → AreThin ps → NamesBelow vs.count vs.names
+    → SpotsGood vs ps (take_spots vs (map (λ (p : Pointer). spot true p.region) ps))
+spots_good vs [] k h = record { found = tt; names = h; more = omega arith }
+spots_good vs (p ∷ ps) k h =
+    let one : Spotted = take_spot vs p.region true in
+    let first : SpotGood vs one = spot_good vs p.region k.0.1 h in
+    let others : SpotsGood one.after_it ps (take_spots one.after_it (map (λ (q : Pointer). spot true q.region) ps)) =
+    spots_good one.after_it ps k.1 first.names in
+    let last : ℕ = (take_spots one.after_it (map (λ (q : Pointer). spot true q.region) ps)).after_all.count in
+    let a : vs.count ≤ one.after_it.count = first.more in
+    let b : one.after_it.count ≤ last = others.more in
+    record { found = (found_more one.after_it.count last one.found b first.found, others.found); names = others.names; more = omega (arith, a, b) }
+
+-- and of a type that is taken
+pub type_spots_good : (g : Tables) (vs : Variables) (t : TypeName) → takes_type thin_pointers t ≡ true → NamesBelow vs.count vs.names
+    → SpotsGood vs t.pointers (take_spots vs (spots_of g t))
+type_spots_good g vs t e h =
+    let a = and_is (takes_base thin_pointers t.base) (takes_pointers thin_pointers t.pointers) e in by t.base a.0 (thin_pointers_are t.pointers a.1)
+  where
+    by : (b : tree.Base) → takes_base thin_pointers b ≡ true → AreThin t.pointers
+        → SpotsGood vs t.pointers (take_spots vs (spots_of g (record { at = t.at; base = b; pointers = t.pointers })))
+    by tree.Int q k = spots_good vs t.pointers k h
+    by tree.Unsigned q k = spots_good vs t.pointers k h
+    by tree.Char q k = spots_good vs t.pointers k h
+    by tree.Void q k = spots_good vs t.pointers k h
+    by (tree.Struct tag rs) q k = absurd cc
+    by (tree.Union tag rs) q k = absurd cc
+    by (tree.Handle r) q k = absurd cc
+    by (tree.Key r) q k = absurd cc
+
+-- ---- a type that takes no missing regions from another one
+
+-- the type of a variable or of a result, with what is written
+pub record WordGood (n : ℕ) (t : TypeName) (u : StaticType) : Type 0 where
+  pub word : IsWordType u
+  pub below : TypeBelow n u
+  pub taken : lowering.IsWordType t
+  pub shape : shapes.settled (shapes.written t) ≡ shape_of u
+
+pub data PlainGood (n : ℕ) (t : TypeName) (u : StaticType) : Type 0 where
+  GivesWord : WordGood n t u → PlainGood n t u
+  GivesNothing : IsVoidType t → u ≡ Void → PlainGood n t u
+
+pub alone_good : (n at : ℕ) (t : TypeName) (p : PartialType) → IsWritten n t p → Surely (λ u. PlainGood n t u) (settled_alone at p)
+alone_good n at t p (WritesNothing v e) = subst (λ z. Surely (λ u. PlainGood n t u) (settled_alone at z)) (sym e) (GivesNothing v refl)
+alone_good n at t p (WritesWord w) =
+    surely_also (λ u. IsFilled n p u) (λ u. PlainGood n t u) (settled_alone at p) (word_settled n at p None w.word tt) (λ u f. GivesWord (record {
+      word = f.word;
+      below = f.below;
+      taken = w.taken;
+      shape = w.shape ∙ sym f.shape;
+    }))
+
+-- ---- parameters
+
+-- a word is a scalar, and no union
+pub word_fits : (u : StaticType) → IsWordType u → fits_parameter u ≡ true
+word_fits Int w = refl
+word_fits Unsigned w = refl
+word_fits Char w = refl
+word_fits (Thin b r t) w = refl
+word_fits _ w = absurd w
+
+parameter_fits : (n at : ℕ) (t : TypeName) (u : StaticType) → PlainGood n t u → Surely (λ z. WordGood n t z) (if_parameter at u)
+parameter_fits n at t u (GivesNothing v e) = subst (λ z. Surely (λ y. WordGood n t y) (if_parameter at z)) (sym e) tt
+parameter_fits n at t u (GivesWord w) = subst (λ b. Surely (λ z. WordGood n t z) (if_fits b at u)) (sym (word_fits u w.word)) w
+
+pub parameter_good : (g : Tables) (vs : Variables) (t : TypeName) → takes_type thin_pointers t ≡ true → NamesBelow vs.count vs.names
+    → Surely (λ u. WordGood (take_spots vs (spots_of g t)).after_all.count t u) (parameter_type g t (take_spots vs (spots_of g t)))
+parameter_good g vs t e h =
+    let s : AllSpotted = take_spots vs (spots_of g t) in
+    let n : ℕ = s.after_all.count in
+    surely_after (λ u. PlainGood n t u) (λ u. WordGood n t u) (after (written_with g t (s.found, s.faults)) (settled_alone t.at)) (if_parameter t.at)
+    (surely_after (λ p. IsWritten n t p) (λ u. PlainGood n t u) (written_with g t (s.found, s.faults)) (settled_alone t.at)
+    (written_good n g t s.found s.faults e (type_spots_good g vs t e h).found) (λ p w. alone_good n t.at t p w))
+    (λ u w. parameter_fits n t.at t u w)
+
+-- ---- results
+
+result_fits : (n at : ℕ) (t : TypeName) (u : StaticType) → PlainGood n t u → Surely (λ z. PlainGood n t z) (if_result at u)
+result_fits n at t u (GivesNothing v e) = subst (λ z. Surely (λ y. PlainGood n t y) (if_result at z)) (sym e) (GivesNothing v refl)
+result_fits n at t u (GivesWord w) = by (is_void u || fits_parameter u)
+  where
+    by : (b : Bool) → Surely (λ z. PlainGood n t z) (if_fits b at u)
+    by true = GivesWord w
+    by false = tt
+
+pub result_good : (n : ℕ) (g : Tables) (names : List RegionNamed) (t : TypeName) → takes_type thin_pointers t ≡ true → NamesBelow n names
+    → Surely (λ u. PlainGood n t u) (result_type g names t)
+result_good n g names t e h =
+    surely_after (λ u. PlainGood n t u) (λ u. PlainGood n t u) (after (written g names t) (settled_alone t.at)) (if_result t.at)
+    (surely_after (λ p. IsWritten n t p) (λ u. PlainGood n t u) (written g names t) (settled_alone t.at) (in_scope_good n g names t h e)
+    (λ p w. alone_good n t.at t p w))
+    (λ u w. result_fits n t.at t u w)
+
+-- what is known of a result, a word or nothing
+pub record ResultGood (n : ℕ) (t : TypeName) (u : StaticType) : Type 0 where
+  pub plain : IsPlain u
+  pub below : TypeBelow n u
+  pub taken : lowering.TakesResult t
+  pub shape : shapes.settled (shapes.written t) ≡ shape_of u
+
+pub void_shape : (t : TypeName) → IsVoidType t → shapes.settled (shapes.written t) ≡ VoidShape
+void_shape t h = subst (λ ps. shapes.settled (shapes.pointed ps (shapes.base_shape t.base)) ≡ VoidShape) (sym h.pointers) (by t.base h.base)
+  where
+    by : (b : tree.Base) → IsVoidBase b → shapes.settled (shapes.base_shape b) ≡ VoidShape
+    by tree.Void i = refl
+    by _ i = absurd i
+
+pub result_facts : (n : ℕ) (t : TypeName) (u : StaticType) → PlainGood n t u → ResultGood n t u
+result_facts n t u (GivesWord w) =
+    record { plain = word_plain u w.word; below = w.below; taken = lowering.GivesWord w.taken; shape = w.shape }
+result_facts n t u (GivesNothing v e) = subst (λ z. ResultGood n t z) (sym e) (record {
+  plain = tt;
+  below = tt;
+  taken = lowering.GivesNothing v;
+  shape = void_shape t v;
+})

@@ -1,0 +1,315 @@
+-- The head of a function without fault: it takes words and gives a word or nothing, its types, effect and bounds speak of its region variables and the heap
+-- alone, and it is read alike by any tables.
+use Rattle.std.proofs.Common.{◌≡◌, ℕ, zero, suc, ◌<◌, ◌≤◌, Bool, true, false, Option, Some, None, List, [], ◌∷◌, refl, sym, subst, ap, ap₂, ◌∙◌, arith}
+use Rattle.std.specs.Prelude.{◌||◌, ◌++◌, if◌then◌else◌, map, not}
+use Rattle.cyc_tree.specs.Tree as tree
+use Rattle.cyc_tree.specs.Tree.{TypeName}
+use Rattle.source_lowering.specs.Taken as lowering
+use Rattle.source_meaning.specs.Shapes.{part_of, part_shapes}
+use Rattle.source_meaning.specs.Shapes as shapes
+use Rattle.source_safety.specs.Entries.{AreWords}
+use Rattle.source_safety.specs.Named.{AllBelow, BoundsBelow, TypesBelow}
+use Rattle.source_typing.specs.Faults.{Fault, is_clean, type_rule}
+use Rattle.source_typing.specs.Functions.{AllSpotted, Parameters, Reading, Variables, all_faults, all_of, and_parameter, bounds_of, effect_of, head_after}
+use Rattle.source_typing.specs.Functions.{head_judged, head_of, if_parameter, if_result, is_main, key_regions, levels_but, main_faults, main_form}
+use Rattle.source_typing.specs.Functions.{parameter_type, read_parameters, result_type, take_spots, variables}
+use Rattle.source_typing.specs.Regions.{Level, Region, is_among}
+use Rattle.source_typing.specs.Tables.{Tables}
+use Rattle.source_typing.specs.Tags.{repeated, settled_alone}
+use Rattle.source_typing.specs.Taken.{bounds_form, effect_form, effect_if, function_taken, member_taken, members_taken, refused_type}
+use Rattle.source_typing.specs.Taken.{takes_base, takes_pointers, takes_type, thin_pointers, type_taken}
+use Rattle.source_typing.specs.Types.{Int, PartialType, StaticType, shape_of}
+use Rattle.source_typing.specs.Verdicts.{Of, Verdict, after, faults_of, known}
+use Rattle.source_typing.specs.Written.{Found, RegionNamed, Spot, all_found, spots_of, written, written_with}
+use Rattle.source_typing.proofs.Converting.{and_is}
+use Rattle.source_typing.proofs.Inversion.{none_of_both, of_is, own_is, test_is}
+use Rattle.judged_sources.specs.Good.{IsGoodSignature, NamesBelow}
+use Rattle.judged_sources.proofs.HeadTypes.{PlainGood, ResultGood, SpotsGood, WordGood, parameter_good, result_facts, result_good}
+use Rattle.judged_sources.proofs.HeadTypes.{type_spots_good, word_more}
+use Rattle.judged_sources.proofs.Sure.{surely_is}
+
+-- ---- what isn't taken is at fault
+
+abbrev pub AreTaken : List tree.Member → Type 0
+AreTaken [] = Unit {0}
+AreTaken (m ∷ ms) = (takes_type thin_pointers m.of ≡ true) × AreTaken ms
+
+-- a head whose types are taken, with no region names in its effect, and no bounds
+pub record HeadTaken (f : tree.Function) : Type 0 where
+  pub parameters : AreTaken f.parameters
+  pub result : takes_type thin_pointers f.result ≡ true
+  pub effect : effect_if false f.effect ≡ f.effect
+  pub bounds : [] ≡ f.bounds
+
+parameter_taken : (b : Bool) (g : Tables) (vs : Variables) (t : TypeName) → (if b then t else refused_type t.at) ≡ t
+    → faults_of (parameter_type g t (take_spots vs (spots_of g t))) ≡ []
+    → b ≡ true
+parameter_taken true g vs t e p = refl
+parameter_taken false g vs t e p = absurd (by (subst (λ z. faults_of (parameter_type g z (take_spots vs (spots_of g z))) ≡ []) (sym e) p))
+  where
+    by : faults_of (parameter_type g (refused_type t.at) (take_spots vs (spots_of g (refused_type t.at)))) ≡ [] → ⊥
+    by h = cc
+
+parameters_taken : (g : Tables) (vs : Variables) (ms : List tree.Member) → members_taken thin_pointers ms ++ [] ≡ ms
+    → all_faults (read_parameters g vs ms).types ≡ []
+    → AreTaken ms
+parameters_taken g vs [] e p = tt
+parameters_taken g vs (m ∷ ms) e p =
+    let f : member_taken thin_pointers m ≡ m = cc in
+    let i : type_taken thin_pointers m.of ≡ m.of = ap (λ (z : tree.Member). z.of) f in
+    let j : members_taken thin_pointers ms ++ [] ≡ ms = cc in
+    let ws : Variables = (take_spots vs (spots_of g m.of)).after_all in
+    let z : (faults_of (parameter_type g m.of (take_spots vs (spots_of g m.of))) ≡ []) × (all_faults (read_parameters g ws ms).types ≡ []) =
+    none_of_both (faults_of (parameter_type g m.of (take_spots vs (spots_of g m.of)))) (all_faults (read_parameters g ws ms).types) p in
+    (parameter_taken (takes_type thin_pointers m.of) g vs m.of i z.0, parameters_taken g ws ms j z.1)
+
+result_taken : (b : Bool) (g : Tables) (names : List RegionNamed) (t : TypeName) → (if b then t else refused_type t.at) ≡ t
+    → faults_of (result_type g names t) ≡ []
+    → b ≡ true
+result_taken true g names t e p = refl
+result_taken false g names t e p = absurd (by (subst (λ z. faults_of (result_type g names z) ≡ []) (sym e) p))
+  where
+    by : faults_of (result_type g names (refused_type t.at)) ≡ [] → ⊥
+    by h = cc
+
+-- what stands where an effect and bounds would
+no_effect : (e : Option (List tree.RegionName)) → effect_if false e ≡ e → effect_form false e ≡ []
+no_effect None p = refl
+no_effect (Some []) p = refl
+no_effect (Some (r ∷ rs)) p = absurd cc
+
+no_forms : (f : tree.Function) → effect_if false f.effect ≡ f.effect → [] ≡ f.bounds → effect_form false f.effect ++ bounds_form false f.bounds ≡ []
+no_forms f a b =
+    subst (λ es. es ++ bounds_form false f.bounds ≡ []) (sym (no_effect f.effect a)) (subst (λ bs. bounds_form false bs ≡ []) b refl)
+
+-- ---- the faults of a head
+
+record HeadClean (g : Tables) (f : tree.Function) (ps : Parameters) (r : Verdict StaticType) : Type 0 where
+  main : main_faults f r ≡ []
+  parameters : all_faults ps.types ≡ []
+  once : repeated [] f.parameters ≡ []
+  result : faults_of r ≡ []
+
+head_clean : (g : Tables) (f : tree.Function) → (head_of false g f).faults ≡ []
+    → HeadClean g f (read_parameters g (variables [] 0) f.parameters)
+    (result_type g (read_parameters g (variables [] 0) f.parameters).variables_after.names f.result)
+head_clean g f p =
+    let ps : Parameters = read_parameters g (variables [] 0) f.parameters in
+    let r : Verdict StaticType = result_type g ps.variables_after.names f.result in
+    let es : List Fault = all_faults (effect_of false ps.variables_after (key_regions ps.types) f.effect) in
+    let bs : List Fault = all_faults (bounds_of ps.variables_after.names f.bounds) in
+    let o : (main_faults f r ≡ []) × ((((all_faults ps.types ++ repeated [] f.parameters) ++ faults_of r) ++ es) ++ bs ≡ []) =
+    own_is (main_faults f r) ((((all_faults ps.types ++ repeated [] f.parameters) ++ faults_of r) ++ es) ++ bs) p in
+    let q1 : ((all_faults ps.types ++ repeated [] f.parameters) ++ faults_of r) ++ es ≡ [] =
+    (none_of_both (((all_faults ps.types ++ repeated [] f.parameters) ++ faults_of r) ++ es) bs o.1).0 in
+    let q2 : (all_faults ps.types ++ repeated [] f.parameters) ++ faults_of r ≡ [] =
+    (none_of_both ((all_faults ps.types ++ repeated [] f.parameters) ++ faults_of r) es q1).0 in
+    let q3 : (all_faults ps.types ++ repeated [] f.parameters ≡ []) × (faults_of r ≡ []) =
+    none_of_both (all_faults ps.types ++ repeated [] f.parameters) (faults_of r) q2 in
+    let q4 : (all_faults ps.types ≡ []) × (repeated [] f.parameters ≡ []) = none_of_both (all_faults ps.types) (repeated [] f.parameters) q3.0 in
+    record { main = o.0; parameters = q4.0; once = q4.1; result = q3.1 }
+
+pub head_taken : (g : Tables) (f : tree.Function) → function_taken thin_pointers f ≡ f → (head_of false g f).faults ≡ [] → HeadTaken f
+head_taken g f t p =
+    let ps : Parameters = read_parameters g (variables [] 0) f.parameters in
+    let r : Verdict StaticType = result_type g ps.variables_after.names f.result in
+    let c : HeadClean g f ps r = head_clean g f p in
+    let a : type_taken thin_pointers f.result ≡ f.result = ap (λ (z : tree.Function). z.result) t in
+    let e : effect_if false f.effect ≡ f.effect = ap (λ (z : tree.Function). z.effect) t in
+    let b : [] ≡ f.bounds = ap (λ (z : tree.Function). z.bounds) t in
+    let m : members_taken thin_pointers f.parameters ++ [] ≡ f.parameters =
+    subst (λ zs. members_taken thin_pointers f.parameters ++ zs ≡ f.parameters) (no_forms f e b) (ap (λ (z : tree.Function). z.parameters) t) in
+    record {
+      parameters = parameters_taken g (variables [] 0) f.parameters m c.parameters;
+      result = result_taken (takes_type thin_pointers f.result) g ps.variables_after.names f.result a c.result;
+      effect = e;
+      bounds = b;
+    }
+
+-- ---- parameters
+
+pub record ParametersGood (vs : Variables) (ms : List tree.Member) (ps : Parameters) : Type 0 where
+  pub types : List StaticType
+  pub known : map known ps.types ≡ map (λ t. Some t) types
+  pub words : AreWords types
+  pub below : TypesBelow ps.variables_after.count types
+  pub taken : lowering.AreWords ms
+  pub shapes : part_shapes (map part_of ms) ≡ map shape_of types
+  pub names : NamesBelow ps.variables_after.count ps.variables_after.names
+  pub more : vs.count ≤ ps.variables_after.count
+
+parameters_good : (g : Tables) (vs : Variables) (ms : List tree.Member) → AreTaken ms → NamesBelow vs.count vs.names
+    → all_faults (read_parameters g vs ms).types ≡ []
+    → ParametersGood vs ms (read_parameters g vs ms)
+parameters_good g vs [] t h p =
+    record { types = []; known = refl; words = tt; below = tt; taken = tt; shapes = refl; names = h; more = omega arith }
+parameters_good g vs (m ∷ ms) t h p =
+    let s : AllSpotted = take_spots vs (spots_of g m.of) in
+    let v : Verdict StaticType = parameter_type g m.of s in
+    let z : (faults_of v ≡ []) × (all_faults (read_parameters g s.after_all ms).types ≡ []) =
+    none_of_both (faults_of v) (all_faults (read_parameters g s.after_all ms).types) p in
+    let k : SpotsGood vs m.of.pointers s = type_spots_good g vs m.of t.0 h in
+    let first : (u : StaticType) × (v ≡ Of u) × WordGood s.after_all.count m.of u =
+    surely_is (λ u. WordGood s.after_all.count m.of u) v (parameter_good g vs m.of t.0 h) z.0 in
+    let rest : ParametersGood s.after_all ms (read_parameters g s.after_all ms) = parameters_good g s.after_all ms t.1 k.names z.1 in
+    let n : ℕ = (read_parameters g s.after_all ms).variables_after.count in
+    let a : vs.count ≤ s.after_all.count = k.more in
+    let b : s.after_all.count ≤ n = rest.more in
+    record {
+      types = first.0 ∷ rest.types;
+      known = ap₂ (λ (o : Option StaticType) (os : List (Option StaticType)). o ∷ os) (ap (λ (w : Verdict StaticType). known w) first.1) rest.known;
+      words = (first.2.word, rest.words);
+      below = (word_more s.after_all.count n first.0 b first.2.word first.2.below, rest.below);
+      taken = (first.2.taken, rest.taken);
+      shapes = ap₂ (λ (x : shapes.Shape) (xs : List shapes.Shape). x ∷ xs) first.2.shape rest.shapes;
+      names = rest.names;
+      more = omega (arith, a, b);
+    }
+
+-- ---- effects and `main`
+
+levels_below : (ks : List Region) (n m : ℕ) → n ≤ m → AllBelow m (levels_but ks n)
+levels_below ks zero m l = tt
+levels_below ks (suc n) m l =
+    let less : n ≤ m = omega arith in
+    let last : n < m = omega arith in
+    by (is_among ks (Level n)) last (levels_below ks n m less)
+  where
+    by : (b : Bool) → n < m → AllBelow m (levels_but ks n) → AllBelow m (if b then levels_but ks n else Level n ∷ levels_but ks n)
+    by true last others = others
+    by false last others = (last, others)
+
+all_judged : (rs : List Region) → all_of (map (λ (r : Region). Of r) rs) ≡ rs
+all_judged [] = refl
+all_judged (r ∷ rs) = ap (λ (qs : List Region). r ∷ qs) (all_judged rs)
+
+effect_below : (vs : Variables) (ks : List Region) (e : Option (List tree.RegionName)) → effect_if false e ≡ e
+    → AllBelow vs.count (all_of (effect_of false vs ks e))
+effect_below vs ks None p =
+    subst (λ (rs : List Region). AllBelow vs.count rs) (sym (all_judged (levels_but ks vs.count))) (levels_below ks vs.count vs.count (omega arith))
+effect_below vs ks (Some []) p = tt
+effect_below vs ks (Some (r ∷ rs)) p = absurd cc
+
+bounds_below : (n : ℕ) (names : List RegionNamed) (bs : List tree.Bound) → [] ≡ bs → BoundsBelow n (all_of (bounds_of names bs))
+bounds_below n names bs e = subst (λ (z : List tree.Bound). BoundsBelow n (all_of (bounds_of names z))) e tt
+
+main_formed : (v : Verdict StaticType) (ms : List tree.Member) → main_form v ms ≡ true → (v ≡ Of Int) × (ms ≡ [])
+main_formed (Of Int) [] e = (refl, refl)
+main_formed _ ms e = absurd cc
+
+main_is : (b : Bool) (v : Verdict StaticType) (ms : List tree.Member) → not b || main_form v ms ≡ true → b ≡ true → (v ≡ Of Int) × (ms ≡ [])
+main_is true v ms e p = main_formed v ms e
+main_is false v ms e p = absurd cc
+
+-- ---- all of it
+
+pub record HeadGood (g : Tables) (f : tree.Function) : Type 0 where
+  pub signature : IsGoodSignature (head_of false g f).signature
+  pub parameters : lowering.AreWords f.parameters
+  pub shapes : part_shapes (map part_of f.parameters) ≡ map shape_of signature.types
+  pub result : ResultGood (head_of false g f).signature.regions f.result signature.gives
+  pub main_takes : is_main f ≡ true → f.parameters ≡ []
+  pub main_gives : is_main f ≡ true → signature.gives ≡ Int
+  pub once : repeated [] f.parameters ≡ []
+  pub effect : AllBelow (head_of false g f).signature.regions (head_of false g f).signature.effect
+  pub bounds : BoundsBelow (head_of false g f).signature.regions (head_of false g f).signature.bounds
+  pub names : NamesBelow (head_of false g f).signature.regions (head_of false g f).names
+
+pub head_good : (g : Tables) (f : tree.Function) → function_taken thin_pointers f ≡ f → (head_of false g f).faults ≡ [] → HeadGood g f
+head_good g f t p =
+    let ps : Parameters = read_parameters g (variables [] 0) f.parameters in
+    let n : ℕ = ps.variables_after.count in
+    let r : Verdict StaticType = result_type g ps.variables_after.names f.result in
+    let c : HeadClean g f ps r = head_clean g f p in
+    let k : HeadTaken f = head_taken g f t p in
+    let q : ParametersGood (variables [] 0) f.parameters ps = parameters_good g (variables [] 0) f.parameters k.parameters tt c.parameters in
+    let u : (t : StaticType) × (r ≡ Of t) × PlainGood n f.result t =
+    surely_is (λ u. PlainGood n f.result u) r (result_good n g ps.variables_after.names f.result k.result q.names) c.result in
+    let known_result : ResultGood n f.result u.0 = result_facts n f.result u.0 u.2 in
+    let main : is_main f ≡ true → (r ≡ Of Int) × (f.parameters ≡ []) =
+    main_is (is_main f) r f.parameters (test_is (not (is_main f) || main_form r f.parameters) type_rule f.name.at c.main) in
+    record {
+      signature = record {
+        sound = ap (λ fs. is_clean fs) p;
+        types = q.types;
+        parameters = q.known;
+        words = q.words;
+        types_below = q.below;
+        gives = u.0;
+        result = ap (λ (v : Verdict StaticType). known v) u.1;
+        plain = known_result.plain;
+        gives_below = known_result.below;
+      };
+      parameters = q.taken;
+      shapes = q.shapes;
+      result = known_result;
+      main_takes = λ e. (main e).1;
+      main_gives = λ e. of_is u.0 Int (sym u.1 ∙ (main e).0);
+      once = c.once;
+      effect = effect_below ps.variables_after (key_regions ps.types) f.effect k.effect;
+      bounds = bounds_below n ps.variables_after.names f.bounds k.bounds;
+      names = q.names;
+    }
+
+-- ---- other tables
+
+-- the tables don't matter to a type without structs and unions
+pub spots_same : (g h : Tables) (t : TypeName) → takes_type thin_pointers t ≡ true → spots_of g t ≡ spots_of h t
+spots_same g h t e = by t.base (and_is (takes_base thin_pointers t.base) (takes_pointers thin_pointers t.pointers) e).0
+  where
+    by : (b : tree.Base) → takes_base thin_pointers b ≡ true
+        → spots_of g (record { at = t.at; base = b; pointers = t.pointers }) ≡ spots_of h (record { at = t.at; base = b; pointers = t.pointers })
+    by tree.Int q = refl
+    by tree.Unsigned q = refl
+    by tree.Char q = refl
+    by tree.Void q = refl
+    by (tree.Struct tag rs) q = absurd cc
+    by (tree.Union tag rs) q = absurd cc
+    by (tree.Handle r) q = absurd cc
+    by (tree.Key r) q = absurd cc
+
+built_same : (g h : Tables) (t : TypeName) (fs : List Found × List Fault) → takes_type thin_pointers t ≡ true → written_with g t fs ≡ written_with h t fs
+built_same g h t (fs, bad) e = by t.base (and_is (takes_base thin_pointers t.base) (takes_pointers thin_pointers t.pointers) e).0
+  where
+    by : (b : tree.Base) → takes_base thin_pointers b ≡ true
+        → written_with g (record { at = t.at; base = b; pointers = t.pointers }) (fs, bad)
+        ≡ written_with h (record { at = t.at; base = b; pointers = t.pointers }) (fs, bad)
+    by tree.Int q = refl
+    by tree.Unsigned q = refl
+    by tree.Char q = refl
+    by tree.Void q = refl
+    by (tree.Struct tag rs) q = absurd cc
+    by (tree.Union tag rs) q = absurd cc
+    by (tree.Handle r) q = absurd cc
+    by (tree.Key r) q = absurd cc
+
+pub written_same : (g h : Tables) (names : List RegionNamed) (t : TypeName) → takes_type thin_pointers t ≡ true → written g names t ≡ written h names t
+written_same g h names t e =
+    ap (λ (ss : List Spot). written_with g t (all_found names ss)) (spots_same g h t e) ∙ built_same g h t (all_found names (spots_of h t)) e
+
+parameters_same : (g h : Tables) (vs : Variables) (ms : List tree.Member) → AreTaken ms → read_parameters g vs ms ≡ read_parameters h vs ms
+parameters_same g h vs [] t = refl
+parameters_same g h vs (m ∷ ms) t =
+    let s : AllSpotted = take_spots vs (spots_of h m.of) in
+    ap (λ (ss : List Spot). and_parameter (parameter_type g m.of (take_spots vs ss)) (read_parameters g (take_spots vs ss).after_all ms))
+    (spots_same g h m.of t.0)
+    ∙ ap (λ (v : Verdict PartialType). and_parameter (after (after v (settled_alone m.of.at)) (if_parameter m.of.at)) (read_parameters g s.after_all ms))
+    (built_same g h m.of (s.found, s.faults) t.0)
+    ∙ ap (λ (ps : Parameters). and_parameter (parameter_type h m.of s) ps) (parameters_same g h s.after_all ms t.1)
+
+-- a head as it is read, with the type of its result
+abbrev reading : Bool → tree.Function → Parameters → Verdict StaticType → Reading
+reading l f ps r = record {
+  variables = ps.variables_after;
+  parameters = ps.types;
+  result = r;
+  effect = effect_of l ps.variables_after (key_regions ps.types) f.effect;
+  bounds = bounds_of ps.variables_after.names f.bounds;
+}
+
+pub head_same : (l : Bool) (g h : Tables) (f : tree.Function) → HeadTaken f → head_of l g f ≡ head_of l h f
+head_same l g h f k =
+    let ps : Parameters = read_parameters h (variables [] 0) f.parameters in
+    ap (λ (z : Parameters). head_after l g f z) (parameters_same g h (variables [] 0) f.parameters k.parameters)
+    ∙ ap (λ (v : Verdict PartialType). head_judged f (reading l f ps (after (after v (settled_alone f.result.at)) (if_result f.result.at))))
+    (written_same g h ps.variables_after.names f.result k.result)

@@ -1,0 +1,21 @@
+-- The four laws, by what is proved of expressions and of bodies.
+use Rattle.judged_sources.specs.Good.{BodiesJudged}
+use Rattle.judged_sources.specs.Laws.{AcceptedAreJudged, AcceptedAreLowerable, AcceptedAreNeverStuck, AcceptedHaveMain}
+use Rattle.judged_sources.proofs.GoodBodies.{bodies_judged}
+use Rattle.judged_sources.proofs.GoodExpressions.{expressions_judged}
+use Rattle.judged_sources.proofs.Programs as programs
+
+bodies : BodiesJudged
+bodies = bodies_judged expressions_judged
+
+pub judged : AcceptedAreJudged
+judged = programs.accepted_are_judged bodies
+
+pub lowerable : AcceptedAreLowerable
+lowerable = programs.accepted_are_lowerable bodies
+
+pub never_stuck : AcceptedAreNeverStuck
+never_stuck = programs.accepted_are_never_stuck bodies
+
+pub have_main : AcceptedHaveMain
+have_main = programs.accepted_have_main bodies

@@ -1,0 +1,227 @@
+-- A program of integers and thin pointers in which the rules find no fault is in order by the rules' own tables: so lowering takes it, it is never stuck, and
+-- it has its `main`.
+use Rattle.std.specs.Prelude.{bytes_eq, codes, if◌then◌else◌, length, map}
+use Rattle.std.proofs.Common.{◌≡◌, ℕ, ◌<◌, Bool, true, false, inl, inr, Option, Some, List, [], ◌∷◌, refl, sym, subst, ap, ◌∙◌}
+use Rattle.std.proofs.lemmas.List.{length-map}
+use Rattle.std.proofs.lemmas.Slice.Eq.{bytes_eq-Decides}
+use Rattle.cyc_tree.specs.Tree as tree
+use Rattle.cyc_tree.specs.Tree.{Program}
+use Rattle.source_lowering.specs.Programs.{function_code, program_code}
+use Rattle.source_lowering.specs.Taken.{TakesProgram}
+use Rattle.source_meaning.specs.Programs.{routine_of, world_of}
+use Rattle.source_meaning.specs.Shapes.{part_of, part_shapes}
+use Rattle.source_meaning.specs.Steps.{World}
+use Rattle.source_safety.specs.Entries.{Builtin, Function, PlainEntry}
+use Rattle.source_safety.specs.Programs.{FunctionJudged, GlobalFound, MainFound, ProgramJudged}
+use Rattle.source_typing.specs.Answers.{program_faults}
+use Rattle.source_typing.specs.Functions.{head_of}
+use Rattle.source_typing.specs.Programs.{builtins, entries, entries_with, judged_tags, tables_of}
+use Rattle.source_typing.specs.Regions.{Region}
+use Rattle.source_typing.specs.Tables.{
+  Arrayed,
+  Counter,
+  Entry,
+  OfBuiltin,
+  OfFunction,
+  OfOther,
+  OfTag,
+  OfValue,
+  Signature,
+  Stored,
+  Tables,
+  Unknown,
+  find,
+}
+use Rattle.source_typing.specs.Taken.{thin_pointers}
+use Rattle.source_typing.specs.Types.{StaticType, shape_of}
+use Rattle.source_typing.proofs.TakenOperands.{taken_has_operands}
+use Rattle.source_safety.proofs.Never.{never_stuck}
+use Rattle.source_safety.proofs.Same.{judged_same}
+use Rattle.judged_sources.specs.Good.{AllGood, BodiesJudged, IsGoodEntry}
+use Rattle.judged_sources.specs.Laws.{AcceptedAreJudged, AcceptedAreLowerable, AcceptedAreNeverStuck, AcceptedHaveMain}
+use Rattle.judged_sources.proofs.Found.{AllKnown, FunctionFound, VariableFound, all_known, all_take, find_function, find_variable, globals_judged, no_builtin}
+use Rattle.judged_sources.proofs.Found.{no_structs}
+use Rattle.judged_sources.proofs.GoodNames.{MeansGood, found_good}
+use Rattle.judged_sources.proofs.GoodFunctions.{FunctionNamed, function_is, function_judged}
+use Rattle.judged_sources.proofs.GoodTables.{IsClean, is_clean_program, program_headed, tables_good}
+use Rattle.judged_sources.proofs.LoweredStrings.{program_silent}
+use Rattle.judged_sources.proofs.Main.{MainHere, find_main, judged_length, number_below}
+
+-- ---- names
+
+-- two texts are compared alike from both sides
+swapped : (xs ys : List ℕ) (b : Bool) → bytes_eq xs ys ≡ b → bytes_eq ys xs ≡ b
+swapped xs ys true e = (bytes_eq-Decides ys xs).1 (sym ((bytes_eq-Decides xs ys).0 e))
+swapped xs ys false e = by (bytes_eq ys xs) refl
+  where
+    by : (c : Bool) → bytes_eq ys xs ≡ c → c ≡ false
+    by false p = refl
+    by true p = let q : bytes_eq xs ys ≡ true = (bytes_eq-Decides xs ys).1 (sym ((bytes_eq-Decides ys xs).0 p)) in sym q ∙ e
+
+entry_good : (n : ℕ) (g : Tables) (x : List ℕ) (e : Entry) → AllGood n g → find g x ≡ Some e → IsGoodEntry n e
+entry_good n g x e h p = subst (λ (z : Option Entry). MeansGood n z) p (found_good n g x h)
+
+-- where a name is found among the items, it is none of the two functions that every program has
+record IsOwn (es : Tables) (x : List ℕ) (e : Entry) : Type 0 where
+  own : find es x ≡ Some e
+  not_read : bytes_eq x (codes "getchar") ≡ false
+  not_written : bytes_eq x (codes "putchar") ≡ false
+
+-- the entry of a name, by which of those two functions it is
+abbrev entry_by : Tables → List ℕ → Bool → Bool → Option Entry
+entry_by es x a c = (if a then Some (OfBuiltin 0) else (if c then Some (OfBuiltin 1) else find es x))
+
+-- ---- a program in order, by its own tables
+
+module _ (bodies : BodiesJudged) (p : Program) (e : program_faults thin_pointers p ≡ []) where
+  abbrev tables : Tables
+  tables = tables_of false p
+
+  abbrev heads : Tables
+  heads = builtins (entries (judged_tags p))
+
+  abbrev items : Tables
+  items = entries_with false heads 0 (judged_tags p) p
+
+  abbrev world : World
+  world = world_of p
+
+  clean : IsClean p
+  clean = is_clean_program p e
+
+  good : AllGood 0 tables
+  good = tables_good p (program_headed p clean)
+
+  known : AllKnown tables 0 p
+  known = all_known bodies tables 0 p good (program_headed p clean) clean.taken (taken_has_operands thin_pointers p clean.taken) clean.items
+
+  structs : world.structs ≡ []
+  structs = no_structs tables 0 p [] known
+
+  -- ---- names
+
+  function_own : (x : List ℕ) (s : Signature) → find tables x ≡ Some (OfFunction s) → IsOwn items x (OfFunction s)
+  function_own x s h = by (bytes_eq (codes "getchar") x) (bytes_eq (codes "putchar") x) refl refl h
+    where
+      by : (a c : Bool) → bytes_eq (codes "getchar") x ≡ a → bytes_eq (codes "putchar") x ≡ c → entry_by items x a c ≡ Some (OfFunction s)
+          → IsOwn items x (OfFunction s)
+      by true c q r k = absurd cc
+      by false true q r k = absurd cc
+      by false false q r k = record { own = k; not_read = swapped (codes "getchar") x false q; not_written = swapped (codes "putchar") x false r }
+
+  function_found : (x : List ℕ) (s : Signature) → find tables x ≡ Some (OfFunction s) → FunctionFound tables p x s
+  function_found x s h = find_function tables heads 0 (judged_tags p) p x s known (function_own x s h).own
+
+  function_named : (x : List ℕ) (s : Signature) (h : find tables x ≡ Some (OfFunction s)) → FunctionNamed world tables x s (function_found x s h).function
+  function_named x s h =
+      let own : IsOwn items x (OfFunction s) = function_own x s h in
+      let found : FunctionFound tables p x s = function_found x s h in
+      record { no_structs = structs; found = found.found; not_read = own.not_read; not_written = own.not_written; signature = found.signature }
+
+  abbrev its_function : (x : List ℕ) (s : Signature) → find tables x ≡ Some (OfFunction s) → Function world x s
+  its_function x s h =
+      function_is world tables (function_found x s h).number x s (function_found x s h).function (function_named x s h) (function_found x s h).good
+
+  functions : (x : List ℕ) (s : Signature) (F : Function world x s) → find tables x ≡ Some (OfFunction s) → FunctionJudged world tables x s F
+  functions x s F h =
+      judged_same world tables x s (its_function x s h) F (function_judged world tables (function_found x s h).number x s (function_found x s h).function
+      (function_named x s h) (function_found x s h).good)
+
+  variables : (x : List ℕ) (t : StaticType) (r : Region) → find tables x ≡ Some (OfValue (Stored t r)) → GlobalFound world x t r
+  variables x t r h = by (bytes_eq (codes "getchar") x) (bytes_eq (codes "putchar") x) h
+    where
+      by : (a c : Bool) → entry_by items x a c ≡ Some (OfValue (Stored t r)) → GlobalFound world x t r
+      by true c k = absurd cc
+      by false true k = absurd cc
+      by false false k =
+          let found : VariableFound p 0 x t r = find_variable tables heads 0 0 (judged_tags p) p x t r known k in
+          record { number = found.number; is = found.is_bound; region = found.region; below = (entry_good 0 tables x (OfValue (Stored t r)) good h).1 }
+
+  builtin_is : (x : List ℕ) (n : ℕ) → find tables x ≡ Some (OfBuiltin n) → Builtin x n
+  builtin_is x n h = by (bytes_eq (codes "getchar") x) (bytes_eq (codes "putchar") x) refl refl h
+    where
+      number : (m : ℕ) → Some (OfBuiltin m) ≡ Some (OfBuiltin n) → n ≡ m
+      number m k = cc
+
+      by : (a c : Bool) → bytes_eq (codes "getchar") x ≡ a → bytes_eq (codes "putchar") x ≡ c → entry_by items x a c ≡ Some (OfBuiltin n) → Builtin x n
+      by true c q r k = inl (swapped (codes "getchar") x true q, number 0 k)
+      by false true q r k = inr (swapped (codes "getchar") x false q, swapped (codes "putchar") x true r, number 1 k)
+      by false false q r k = absurd (no_builtin tables heads 0 n (judged_tags p) p x known k)
+
+  plain : (x : List ℕ) (y : Entry) → find tables x ≡ Some y → PlainEntry world x y
+  plain x y h = by y h (entry_good 0 tables x y good h)
+    where
+      by : (y : Entry) → find tables x ≡ Some y → IsGoodEntry 0 y → PlainEntry world x y
+      by (OfValue (Stored t r)) h s = s.0
+      by (OfValue (Arrayed t r)) h s = absurd s
+      by (OfValue Counter) h s = absurd s
+      by (OfValue Unknown) h s = absurd s
+      by (OfTag t) h s = absurd s
+      by (OfFunction s) h k = its_function x s h
+      by (OfBuiltin n) h s = builtin_is x n h
+      by OfOther h s = absurd s
+
+  -- ---- `main`
+
+  main_here : MainHere heads 0 (judged_tags p) p
+  main_here = find_main tables heads 0 (judged_tags p) p (judged_length p) known clean.main
+
+  abbrev main_signature : Signature
+  main_signature = (head_of false heads main_here.function).signature
+
+  main_found_there : find tables (codes "main") ≡ Some (OfFunction main_signature)
+  main_found_there = main_here.found
+
+  abbrev main_function : FunctionFound tables p (codes "main") main_signature
+  main_function = function_found (codes "main") main_signature main_found_there
+
+  -- what takes nothing has no types of parameters
+  no_types : (ts : List StaticType) → [] ≡ map (λ (t : StaticType). shape_of t) ts → ts ≡ []
+  no_types [] q = refl
+  no_types (t ∷ ts) q = absurd cc
+
+  main_judged : MainFound world tables
+  main_judged =
+      let found : FunctionFound tables p (codes "main") main_signature = main_function in
+      record {
+        signature = main_signature;
+        function = its_function (codes "main") main_signature main_found_there;
+        found = main_found_there;
+        types = no_types found.good.head.signature.types
+            (ap (λ (ms : List tree.Member). part_shapes (map part_of ms)) (sym (found.good.head.main_takes found.named)) ∙ found.good.head.shapes);
+        gives = found.good.head.main_gives found.named;
+      }
+
+  judged : ProgramJudged p tables
+  judged = record {
+    no_structs = structs;
+    plain = plain;
+    globals = globals_judged tables 0 p known;
+    variables = variables;
+    functions = functions;
+    main = main_judged;
+  }
+
+  main_below : (program_code p).main < length (program_code p).functions
+  main_below =
+      let found : FunctionFound tables p (codes "main") main_signature = main_function in
+      let less = number_below world.functions (codes "main") (routine_of found.function) found.found in
+      subst (λ (n : ℕ). (program_code p).main < n) (sym (length-map world.functions (function_code world))) less
+
+  takes : TakesProgram p
+  takes = all_take tables 0 p known
+
+-- ---- the laws
+
+module _ (bodies : BodiesJudged) where
+  pub accepted_are_judged : AcceptedAreJudged
+  accepted_are_judged p e = judged bodies p e
+
+  pub accepted_are_lowerable : AcceptedAreLowerable
+  accepted_are_lowerable p e = record { items = takes bodies p e; strings = program_silent p (takes bodies p e) }
+
+  pub accepted_are_never_stuck : AcceptedAreNeverStuck
+  accepted_are_never_stuck p e = never_stuck p (tables_of false p) (judged bodies p e)
+
+  pub accepted_have_main : AcceptedHaveMain
+  accepted_have_main p e = main_below bodies p e

@@ -1,0 +1,99 @@
+-- What is known of the names in scope where a phrase of integers and thin pointers is judged, and what is then known of the phrase.
+use Rattle.std.specs.Prelude.{◌≡◌, ℕ, true, Some, List, [], ◌∷◌, map}
+use Rattle.cyc_tree.specs.Operands.{ItemsHaveOperands}
+use Rattle.cyc_tree.specs.Tree.{BlockItems, Expression}
+use Rattle.source_lowering.specs.Taken.{Takes, TakesItems, TakesPlace}
+use Rattle.source_safety.specs.Entries.{AreWords, IsPlain, IsWordType}
+use Rattle.source_safety.specs.Judged.{ItemsJudged}
+use Rattle.source_safety.specs.Named.{Below, TypeBelow, TypesBelow}
+use Rattle.source_typing.specs.Expressions.{judge}
+use Rattle.source_typing.specs.Regions.{TheHeap}
+use Rattle.source_typing.specs.Scope.{Env, In, InBlock, InRegion, Nowhere, Seat, Value, in_scope, is_place}
+use Rattle.source_typing.specs.Statements.{items_faults}
+use Rattle.source_typing.specs.Tables.{Entry, OfBuiltin, OfFunction, OfValue, Signature, Stored, Tables}
+use Rattle.source_typing.specs.Taken.{items_taken, taken, thin_pointers}
+use Rattle.source_typing.specs.Types.{Null, StaticType, Void, shape_of}
+use Rattle.source_typing.specs.Verdicts.{Faulty, Of, Unjudged, Verdict}
+use Rattle.source_typing.specs.Written.{RegionNamed}
+
+-- ---- names
+
+-- A function whose head has no fault: it takes words and gives a word or nothing, and its types speak of its region variables and the heap alone.
+pub record IsGoodSignature (s : Signature) : Type 0 where
+  pub sound : s.sound ≡ true
+  pub types : List StaticType
+  pub parameters : s.parameters ≡ map (λ t. Some t) types
+  pub words : AreWords types
+  pub types_below : TypesBelow s.regions types
+  pub gives : StaticType
+  pub result : s.result ≡ Some gives
+  pub plain : IsPlain gives
+  pub gives_below : TypeBelow s.regions gives
+
+-- a variable of a word, whose type and place speak of region names in scope alone; or a function
+abbrev pub IsGoodEntry : ℕ → Entry → Type 0
+IsGoodEntry count (OfValue (Stored t r)) = IsWordType t × TypeBelow count t × Below count r
+IsGoodEntry count (OfFunction s) = IsGoodSignature s
+IsGoodEntry count (OfBuiltin n) = Unit {0}
+IsGoodEntry count _ = ⊥
+
+abbrev pub AllGood : ℕ → Tables → Type 0
+AllGood count [] = Unit {0}
+AllGood count (n ∷ ns) = IsGoodEntry count n.entry × AllGood count ns
+
+-- each region name stands for a region that is in scope
+abbrev pub NamesBelow : ℕ → List RegionNamed → Type 0
+NamesBelow count [] = Unit {0}
+NamesBelow count (n ∷ ns) = Below count n.id × NamesBelow count ns
+
+-- all is known of each name in scope
+pub record IsGood (g : Env) : Type 0 where
+  pub names : AllGood g.regions.count (in_scope g)
+  pub regions : NamesBelow g.regions.count g.names
+  pub frame : Below g.regions.count g.frame
+  pub enclosing : g.enclosing ≡ InRegion TheHeap
+
+-- ---- expressions
+
+-- a phrase is at fault, or it is in order, and this holds of it
+abbrev pub Surely : {A : Type 0} → (A → Type 0) → Verdict A → Type 0
+Surely P (Of a) = P a
+Surely P (Faulty f fs) = Unit {0}
+Surely P Unjudged = ⊥
+
+-- what an expression may be: a word, `NULL`, or nothing
+abbrev pub IsValueType : StaticType → Type 0
+IsValueType Null = Unit {0}
+IsValueType Void = Unit {0}
+IsValueType t = IsWordType t
+
+-- a place lies in a region that is in scope, and not in a block of its own
+abbrev pub SeatBelow : ℕ → Seat → Type 0
+SeatBelow count Nowhere = Unit {0}
+SeatBelow count (In r) = Below count r
+SeatBelow count InBlock = ⊥
+
+-- what is known of an expression without fault; lowering takes it, and takes it as a place where it is one
+pub record IsGoodValue (g : Env) (e : Expression) (v : Value) : Type 0 where
+  pub type : IsValueType v.type
+  pub below : TypeBelow g.regions.count v.type
+  pub seat : SeatBelow g.regions.count v.seat
+  pub word : is_place v.seat ≡ true → IsWordType v.type
+  pub takes : Takes e
+  pub place : is_place v.seat ≡ true → TakesPlace e
+
+-- each expression of these forms is at fault, or it is in order
+abbrev pub ExpressionsJudged : Type 0
+ExpressionsJudged = (e : Expression) (g : Env) → IsGood g
+    → (let given = taken thin_pointers e in Surely (λ v. IsGoodValue g given v) (judge g given))
+
+-- ---- the body of a function that gives a type
+
+pub record BodyJudged (g : Env) (gives : StaticType) (items : BlockItems) : Type 0 where
+  pub judged : ItemsJudged g items
+  pub takes : TakesItems (shape_of gives) items
+
+-- a body of these forms in which the rules find no fault is in order
+abbrev pub BodiesJudged : Type 0
+BodiesJudged = (items : BlockItems) (g : Env) (gives : StaticType) → IsGood g → g.result ≡ Some gives → IsPlain gives
+    → items_taken thin_pointers items ≡ items → ItemsHaveOperands items → items_faults g true items ≡ [] → BodyJudged g gives items

@@ -1,0 +1,24 @@
+// What holds of all programs of integers and thin pointers in which the rules find no fault.
+
+ghost use Rattle.judged_sources.specs.Laws.{AcceptedAreJudged, AcceptedAreLowerable, AcceptedAreNeverStuck, AcceptedHaveMain};
+
+/// A law, with nothing to run: a program in which the rules find no fault, where integers and thin pointers are taken, is in
+/// order by the rules' own tables of its names.
+pub fn accepted_are_judged()
+    ensures { AcceptedAreJudged }
+{}
+
+/// A law, with nothing to run: lowering takes each such program.
+pub fn accepted_are_lowerable()
+    ensures { AcceptedAreLowerable }
+{}
+
+/// A law, with nothing to run: no such program is ever stuck, on any input and with any fuel.
+pub fn accepted_are_never_stuck()
+    ensures { AcceptedAreNeverStuck }
+{}
+
+/// A law, with nothing to run: the Core that such a program is lowered to has the function that it begins with.
+pub fn accepted_have_main()
+    ensures { AcceptedHaveMain }
+{}

@@ -195,4 +195,11 @@ pub const REFUSED_FUNCTIONS: &str = "\
 1:33: Type <- int f(int x) { if (x) return 1; }$int main() { }
 1:11: Type <- int f() { g() = 1; return 1; }$int g() { return 1; }$int main() { }
 1:18: Type <- int f() { return &f; }$int main() { }
+1:10: Type <- unsigned main() { }
+1:6: Type <- char main() { }
+1:1: Type <- int *main() { }
+1:1: Type <- int *p;$int main(int x) { }
+2:5: Name <- int f() { return 1; }$int f() { return 2; }$int main() { }
+2:6: Name <- int f() { return 1; }$void f() { }$int main() { }
+1:23: Type <- int main() { int f; { f(); } } int f() { return 1; }
 1:10: Type <- int f(; {`r}) { }$int main() { }";

@@ -3,7 +3,7 @@
 use crate::command_cases::{
     AND_OR, NESTED_LOOPS, OPERATORS, REFUSED, REFUSED_FUNCTIONS, STATEMENTS, VALUES,
 };
-use crate::function_cases::{CALLS, CHARS, GLOBALS, UNSIGNED};
+use crate::function_cases::{CALLS, CHARS, CONVERSION_EDGES, GLOBALS, OPERATOR_EDGES, UNSIGNED};
 use command_line::command_of;
 use cycc_answer::answer;
 use cycc_driver::{Counted, load};
@@ -108,6 +108,14 @@ fn functions_run_as_by_their_meaning(rt: HostRuntime) -> Result<(), Fail> {
     Ok(())
 }
 
+#[test]
+fn operators_and_conversions_meet_their_edges(rt: HostRuntime) -> Result<(), Fail> {
+    for table in [OPERATOR_EDGES, CONVERSION_EDGES] {
+        expect_runs(&rt, table)?;
+    }
+    Ok(())
+}
+
 /// Two functions without end: a call each time a byte is written.
 const ENDLESS: &[u8] = b"int f() { putchar(97); return f(); } int main() { return f(); }";
 
@@ -144,6 +152,8 @@ fn refusals_have_their_places(rt: HostRuntime) -> Result<(), Fail> {
 /// Commands with their inputs. A line has what is answered, the words behind `cycc`, the input, and the source.
 const COMMANDS: &str = "\
 0 | - | accepted$ <- check IN <- - <- int main() { putchar(72); return 0; }
+0 | - | accepted$ <- check IN <- - <- int main(; {}) { }
+0 | - | accepted$ <- check IN <- - <- int main(void) { }
 0 | - | - | 1024 pages <- compile IN OUT <- - <- int main() { putchar(72); return 0; }
 0 | - | - | 1 pages <- compile IN OUT --pages 1 <- - <- int main() { }
 0 | - | - | 4096 pages <- compile IN OUT --pages 4096 <- - <- int main() { }

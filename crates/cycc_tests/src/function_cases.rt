@@ -25,6 +25,7 @@ pub const CALLS: &str = "\
 1 | ended 3$ | 012 <- int id(int n) { return n; } int main() { int i = 0; while (id(i) < 3 && id(1)) { putchar('0' + id(i)); i = i + 1; } return id(i); }
 1 | ended -5$ | - <- int many(int a, int b, int c, int d, int e, int f, int g, int h, int i, int j) { return a - b + c - d + e - f + g - h + i - j; } int main() { return many(1, 2, 3, 4, 5, 6, 7, 8, 9, 10); }
 1 | ended 4$ | - <- int up(int n) { if (n > 3) return n; { int n = 9; n = n + 1; } return up(n + 1); } int main() { return up(0); }
+1 | ended 6765$ | - <- unsigned f(unsigned n) { if (n < 2) return n; return f(n - 1) + f(n - 2); } int main() { return f(20); }
 1 | ended 3$ | - <- int f(void) { return 3; } int main(void) { return f(); }";
 
 /// Programs that `run` and `eval` take to the same end: globals, each with its constant, and what calls leave in them.
@@ -108,3 +109,52 @@ pub const CHARS: &str = "\
 0 | ended 0$ | - <- char next(char c) { return c + 1; } int main() { return next(next(254)); }
 0 | ended 0$ | - <- int main() { char c = 200; while (c) c = c + 1; return c; }
 0 | ended 0$ | AA <- int main() { putchar(321); putchar(-191); return 0; }";
+
+/// Programs that `run` and `eval` take to the same end: operators on `unsigned`, and on it beside another integer, at their edges. Division by zero and shifts by
+/// more than 31, which C leaves open, were worked out by hand.
+pub const OPERATOR_EDGES: &str = "\
+1 | ended 1$ | - <- int main() { return 7u / 0u == 4294967295u; }
+1 | ended 7$ | - <- int main() { return 7u % 0u; }
+1 | ended 1$ | - <- int main() { unsigned a = 7u; int b; return a / b == 4294967295u; }
+1 | ended 1$ | - <- int main() { int a = -7; unsigned b; return a % b == 4294967289u; }
+1 | ended 1$ | - <- int main() { unsigned a = 4294967295u; return a * a; }
+0 | ended 0$ | - <- int main() { unsigned a = 4294967295u; return a + 1; }
+0 | ended 0$ | - <- int main() { int a = -1; return a + 1u; }
+1 | ended 1$ | - <- int main() { unsigned a = 0u; return (a - 1) / 2 == 2147483647; }
+1 | ended 1$ | - <- int main() { unsigned a = 4294967295u; int b = -1; return a / b; }
+1 | ended 1$ | - <- int main() { unsigned a = 4294967295u; int b = -2; return a % b; }
+1 | ended 1$ | - <- int main() { unsigned a = 2147483648u; int b = -1; return (a / b) * 2 + (a % b == a); }
+1 | ended 1$ | - <- int main() { int a = -2147483647 - 1; unsigned b = 4294967295u; return (a / b) * 2 + (a % b == 2147483648u); }
+1 | ended 2$ | - <- int main() { unsigned a = 4294967295u; int b = -1; return (a == b) * 2 + (a != b); }
+1 | ended 12$ | - <- int main() { unsigned a = 2147483648u; int b = 2147483647; return (a > b) * 8 + (a >= b) * 4 + (a < b) * 2 + (a <= b); }
+1 | ended 5$ | - <- int main() { unsigned a = 4294967295u; int b = -1; return (a > b) * 8 + (a >= b) * 4 + (a < b) * 2 + (a <= b); }
+1 | ended 3$ | - <- int main() { unsigned a = 0u; int b = -1; return (a > b) * 8 + (a >= b) * 4 + (a < b) * 2 + (a <= b); }
+1 | ended 1$ | - <- int main() { unsigned a = 1u; int b = -1; return a << b == 2147483648u; }
+1 | ended -1$ | - <- int main() { int a = -1; unsigned b = 32u; return a >> b; }
+1 | ended -1$ | - <- int main() { int a = -2147483647 - 1; unsigned b = 31u; return a >> b; }
+1 | ended 1$ | - <- int main() { unsigned a = 2147483648u; int b = 63; return a >> b; }
+1 | ended -1$ | - <- int main() { return (1 << 31u) >> 31; }
+1 | ended 1$ | - <- int main() { return 1u << 31 >> 31; }
+1 | ended 3$ | - <- int main() { unsigned a = 4042322160u; int b = 252645135; return (a & b) * 4 + ((a | b) == 4294967295u) * 2 + ((a ^ b) == -1); }
+1 | ended 3$ | - <- int main() { unsigned a = 0u; unsigned b = 4294967295u; return (a && b) * 4 + (a || b) * 2 + (b && b); }
+1 | ended 3$ | - <- int main() { unsigned a = 4294967295u; if (a) return 3; return 4; }
+1 | ended 6$ | - <- int main() { unsigned a = 2147483648u; return (-a == a) * 4 + (~a == 2147483647) * 2 + !a; }
+1 | ended 65025$ | - <- int main() { char c = 255; char d = 255; return c * d; }
+1 | ended 4$ | - <- int main() { char c = 255; unsigned u = 4294967295u; return (c < u) * 4 + (c == u) * 2 + (c > u); }
+1 | ended 1793$ | - <- int main() { char c = 7; char d; return c % d * 256 + (c / d == -1); }";
+
+/// Programs that `run` and `eval` take to the same end: each conversion between two types at its edges.
+pub const CONVERSION_EDGES: &str = "\
+1 | ended -2147483648$ | - <- int main() { int x = 2147483648u; return x; }
+1 | ended 2147483647$ | - <- int main() { int x = 2147483647u; return x; }
+1 | ended 1$ | - <- int main() { unsigned x = -2147483647 - 1; return x == 2147483648u; }
+1 | ended 1$ | - <- int main() { unsigned x = 2147483647; return x + 1u == 2147483648u; }
+1 | ended 255$ | - <- int main() { char c = 255; unsigned u = c; return u; }
+1 | ended 1$ | - <- unsigned u(char c) { return c; } int main() { return u(-1) == 255u; }
+1 | ended -2147483648$ | - <- int i(unsigned u) { return u; } int main() { return i(2147483648u); }
+1 | ended 255$ | - <- int main() { unsigned u = 4294967295u; char c = u; return c; }
+0 | ended 0$ | - <- int main() { unsigned u = 4294967040u; char c = u; return c; }
+0 | ended 0$ | - <- int main() { int x = -2147483647 - 1; char c = x; return c; }
+1 | ended 255$ | - <- int main() { int x = 2147483647; char c = x; return c; }
+1 | ended 255$ | - <- char low(unsigned n) { return n; } int main() { return low(4294967295u); }
+0 | ended 0$ | - <- char low(unsigned n) { return n; } int main() { return low(256u); }";

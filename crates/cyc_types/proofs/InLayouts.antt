@@ -22,10 +22,10 @@ use Rattle.source_typing.specs.Tables as rules
 
 -- ---- one more tag
 
-abbrev members : Entry → List Part
+abbrev pub members : Entry → List Part
 members e = members_of e.1.tag.members.items
 
-abbrev layout_of : Entry → Layout
+abbrev pub layout_of : Entry → Layout
 layout_of e = record { tag = e.0.now; parts = part_shapes (members e) }
 
 one_of : (wanted u : Bool) (name : List ℕ) (t : rules.Tag) (ls : List Layout)
@@ -36,7 +36,7 @@ one_of true false name t ls = refl
 one_of false true name t ls = refl
 one_of false false name t ls = refl
 
-one_more : (wanted : Bool) (e : Entry) (ls : List Layout)
+pub one_more : (wanted : Bool) (e : Entry) (ls : List Layout)
     → layouts_onto wanted ls (named_by e ∷ []) ≡ cond (same_bool wanted e.1.tag.is_union) (layout_of e ∷ ls) ls
 one_more wanted e ls = one_of wanted e.1.tag.is_union e.0.now (tag_of e.0.now e.1.tag) ls
 
@@ -47,7 +47,7 @@ cond_same f true x y z h = refl
 cond_same f false x y z h = h
 
 -- it is as if it weren't there
-passed : {A : Type 0} (what : Option Known → A) (acc : List Entry) (e : Entry) (tag : List ℕ) → what None ≡ what (Some e.1)
+pub passed : {A : Type 0} (what : Option Known → A) (acc : List Entry) (e : Entry) (tag : List ℕ) → what None ≡ what (Some e.1)
     → what (found acc tag) ≡ what (found (acc ++ e ∷ []) tag)
 passed what [] e tag h = by (bytes_eq tag e.0.now)
   where
@@ -62,7 +62,7 @@ elsewhere [] e tag h = sym (ap (λ b. cond b (Some e.1) None) h)
 elsewhere (a ∷ others) e tag h = ap (cond (bytes_eq tag a.0.now) (Some a.1)) (elsewhere others e tag h)
 
 -- it stands before the others
-added : {A : Type 0} (what : Option Known → A) (acc : List Entry) (e : Entry) (tag : List ℕ) (here there : A) (b : Bool) → bytes_eq e.0.now tag ≡ b
+pub added : {A : Type 0} (what : Option Known → A) (acc : List Entry) (e : Entry) (tag : List ℕ) (here there : A) (b : Bool) → bytes_eq e.0.now tag ≡ b
     → is_none (found acc e.0.now) ≡ true → here ≡ what (Some e.1) → there ≡ what (found acc tag)
     → cond b here there ≡ what (found (acc ++ e ∷ []) tag)
 added what acc e tag here there true h new own others =
@@ -81,7 +81,7 @@ kept (a ∷ others) after tag k h = by (bytes_eq tag a.0.now) h (kept others aft
 
 -- ---- unions
 
-abbrev union_parts : Option Known → List shapes.Part
+abbrev pub union_parts : Option Known → List shapes.Part
 union_parts None = []
 union_parts (Some k) = cond k.tag.is_union (part_shapes (members_of k.tag.members.items)) []
 
@@ -95,7 +95,7 @@ next_union acc e ls true h new so_far tag =
     (sym (ap (λ b. cond b (part_shapes (members e)) []) h)) (so_far tag)
 next_union acc e ls false h new so_far tag = so_far tag ∙ passed union_parts acc e tag (sym (ap (λ b. cond b (part_shapes (members e)) []) h))
 
-unions_onto : (acc es : List Entry) (ls : List Layout) → are_known acc es ≡ true → HasUnions ls acc
+pub unions_onto : (acc es : List Entry) (ls : List Layout) → are_known acc es ≡ true → HasUnions ls acc
     → HasUnions (layouts_onto true ls (entries_of es)) (acc ++ es)
 unions_onto acc [] ls known so_far = subst (HasUnions ls) (sym (append-nil acc)) so_far
 unions_onto acc (e ∷ es) ls known so_far =
@@ -123,7 +123,7 @@ pub member_small : (o : Option StaticType) → scalar_bytes o ≤ 12
 member_small None = omega arith
 member_small (Some t) = scalar_small t
 
-largest_small : (ps : List Part) (most : ℕ) → most ≤ 12 → largest (extent_by no_extent no_extent) most (part_shapes ps) ≤ 12
+pub largest_small : (ps : List Part) (most : ℕ) → most ≤ 12 → largest (extent_by no_extent no_extent) most (part_shapes ps) ≤ 12
 largest_small [] most h = h
 largest_small (p ∷ ps) most h =
     let own = member_small p.type in
@@ -141,17 +141,17 @@ same_as (Some a) (Some b) h =
 
 -- ---- structs
 
-abbrev AllUnions : List Layout → List Entry → Type 0
+abbrev pub AllUnions : List Layout → List Entry → Type 0
 AllUnions unions all = (tag : List ℕ) → limited (union_extent unions tag) ≡ union_if stored (found all tag)
 
 -- where it is declared
-abbrev DeclaredUnions : List Layout → List Entry → Type 0
+abbrev pub DeclaredUnions : List Layout → List Entry → Type 0
 DeclaredUnions unions acc = (tag : List ℕ) → is_some (found acc tag) ≡ true → limited (union_extent unions tag) ≡ union_if stored (found acc tag)
 
-abbrev HasStructs : List Layout → List Layout → List Entry → Type 0
+abbrev pub HasStructs : List Layout → List Layout → List Entry → Type 0
 HasStructs unions ls acc = (tag : List ℕ) → limited (struct_extent unions ls tag) ≡ struct_if stored (found acc tag)
 
-declared_unions : (unions : List Layout) (acc after : List Entry) → AllUnions unions (acc ++ after) → DeclaredUnions unions acc
+pub declared_unions : (unions : List Layout) (acc after : List Entry) → AllUnions unions (acc ++ after) → DeclaredUnions unions acc
 declared_unions unions acc after of tag h = by (found acc tag) refl h
   where
     by : (k : Option Known) → found acc tag ≡ k → is_some k ≡ true → limited (union_extent unions tag) ≡ union_if stored k
@@ -178,7 +178,7 @@ module _ (unions ls : List Layout) (acc : List Entry) (structs : HasStructs unio
   type_measure (Handle r) h = refl
   type_measure (Key r) h = refl
 
-  part_measure : (o : Option StaticType) → if_known (is_declared acc) o ≡ true
+  pub part_measure : (o : Option StaticType) → if_known (is_declared acc) o ≡ true
       → limited (extent_by (struct_extent unions ls) (union_extent unions) (known_shape o)) ≡ part_extent (quick_measure acc) o
   part_measure None h = refl
   part_measure (Some t) h = type_measure t h
@@ -190,12 +190,12 @@ module _ (unions ls : List Layout) (acc : List Entry) (structs : HasStructs unio
       let both = and_parts (if_known (is_declared acc) p.type) (each_part (is_declared acc) ps) h in
       (part_measure p.type both.0, each_measure ps both.1)
 
-  struct_bytes : (ps : List Part) (tag : List ℕ) → each_part (is_declared acc) ps ≡ true
+  pub struct_bytes : (ps : List Part) (tag : List ℕ) → each_part (is_declared acc) ps ≡ true
       → limited (laid_out (extent_by (struct_extent unions ls) (union_extent unions)) (no_extent tag) (part_shapes ps)) ≡ struct_measure acc ps
   struct_bytes ps tag h =
       laid_as (extent_by (struct_extent unions ls) (union_extent unions)) (quick_measure acc) ps (bytes_and 0 1) true refl (each_measure ps h)
 
-  next_struct : (e : Entry) (u : Bool) → e.1.tag.is_union ≡ u → is_known acc e.0.now e.1 ≡ true
+  pub next_struct : (e : Entry) (u : Bool) → e.1.tag.is_union ≡ u → is_known acc e.0.now e.1 ≡ true
       → HasStructs unions (cond (same_bool false u) (layout_of e ∷ ls) ls) (acc ++ e ∷ [])
   next_struct e true h known tag = structs tag ∙ passed (struct_if stored) acc e tag (sym (ap (λ b. cond b (Some (bytes_and 0 1)) (stored e.1)) h))
   next_struct e false h known tag =
@@ -209,7 +209,7 @@ module _ (unions ls : List Layout) (acc : List Entry) (structs : HasStructs unio
       limited_either (bytes_eq e.0.now tag) laid (struct_extent unions ls tag)
       ∙ added (struct_if stored) acc e tag (limited laid) (limited (struct_extent unions ls tag)) (bytes_eq e.0.now tag) refl of.new own (structs tag)
 
-structs_onto : (unions : List Layout) (acc es : List Entry) (ls : List Layout) → AllUnions unions (acc ++ es) → are_known acc es ≡ true
+pub structs_onto : (unions : List Layout) (acc es : List Entry) (ls : List Layout) → AllUnions unions (acc ++ es) → are_known acc es ≡ true
     → HasStructs unions ls acc → HasStructs unions (layouts_onto false ls (entries_of es)) (acc ++ es)
 structs_onto unions acc [] ls of known so_far = subst (HasStructs unions ls) (sym (append-nil acc)) so_far
 structs_onto unions acc (e ∷ es) ls of known so_far =
@@ -230,7 +230,7 @@ union_fits most h =
 abbrev of_parts : List shapes.Part → Option Extent
 of_parts ps = limited (bytes_with (largest (extent_by no_extent no_extent) 0 ps))
 
-all_unions : (all : List Entry) → are_known [] all ≡ true → AllUnions (layouts_of true (entries_of all)) all
+pub all_unions : (all : List Entry) → are_known [] all ≡ true → AllUnions (layouts_of true (entries_of all)) all
 all_unions all known tag =
     ap of_parts (unions_onto [] all [] known (λ tag. refl) tag)
     ∙ by (found all tag) refl

@@ -1,9 +1,11 @@
 mod Converting
 mod InLayouts
+mod InCells
 mod InOrder
 mod KindsUnder
 mod Lengths
 mod Measured
 mod MemberSteps
 mod Outermost
+mod PlacedCells
 mod Pointers

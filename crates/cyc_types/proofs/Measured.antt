@@ -14,7 +14,7 @@ rounded_above x zero = omega arith
 rounded_above x (suc a) = let more : x + a < (x + a) / suc a * suc a + suc a = lt-div-mul-add (zero-lt-suc a) in omega (arith, more)
 
 -- too many bytes stay too many
-laid_above : (extent : Shape → Extent) (s : Extent) (ps : List Part) → s.size ≤ (laid_out extent s (part_shapes ps)).size
+pub laid_above : (extent : Shape → Extent) (s : Extent) (ps : List Part) → s.size ≤ (laid_out extent s (part_shapes ps)).size
 laid_above extent s [] = rounded_above s.size s.align
 laid_above extent s (p ∷ ps) =
     let e = extent (known_shape p.type) in
@@ -22,13 +22,13 @@ laid_above extent s (p ∷ ps) =
     laid_above extent (bytes_and (rounded_up s.size e.align + e.size) (max s.align e.align)) ps in
     omega (arith, rounded_above s.size e.align, further)
 
-if_over : (e : Extent) → fits_bytes e.size ≡ false → limited e ≡ None
+pub if_over : (e : Extent) → fits_bytes e.size ≡ false → limited e ≡ None
 if_over e h = ap (λ b. if b then Some e else None) h
 
-if_fits : (e : Extent) → fits_bytes e.size ≡ true → limited e ≡ Some e
+pub if_fits : (e : Extent) → fits_bytes e.size ≡ true → limited e ≡ Some e
 if_fits e h = ap (λ b. if b then Some e else None) h
 
-over_more : (n m : ℕ) → n ≤ m → fits_bytes n ≡ false → fits_bytes m ≡ false
+pub over_more : (n m : ℕ) → n ≤ m → fits_bytes n ≡ false → fits_bytes m ≡ false
 over_more n m le h = grind (arith, le, h)
 
 placed : (s e : Extent) (b : Bool) → fits_bytes e.size ≡ b

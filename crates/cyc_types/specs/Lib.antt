@@ -1,10 +1,12 @@
 pub mod Bases
+pub mod Cells
 pub mod Conversions
 pub mod InOrder
 pub mod Known
 pub mod Layers
 pub mod Likeness
 pub mod Measures
+pub mod Placings
 pub mod Regions
 pub mod Scalars
 pub mod Tables

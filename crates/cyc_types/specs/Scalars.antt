@@ -20,6 +20,7 @@ pub data Kind : Type 0 where
   HandleKind : Kind
   KeyKind : Kind
   UnionKind : (tag : List ℕ) → Kind
+  deriving IsSet as Kind-set
 
 abbrev pub thin_kind : Bool → Owner → Kind
 thin_kind n Alone = UniqueKind n

@@ -126,6 +126,13 @@ impl Extent {
         }
     }
 
+    /// Where bytes begin that follow at their alignment.
+    pub(crate) fn start_of(self, next: Extent) -> u32
+        ensures { result ≡ rounded_up (extent_of self).size (extent_of next).align }
+    {
+        self.size_for(next.align)
+    }
+
     /// The bytes of both, the second ones at their alignment. None: too many.
     pub(crate) fn then(self, next: Extent) -> Option<Extent>
         ensures { measured result ≡ placed_after (extent_of self) (Some (extent_of next)) }

@@ -5,6 +5,7 @@
 #![tactic(auto)]
 
 mod base;
+mod cell;
 mod conversion;
 mod copies;
 mod ctype;
@@ -12,6 +13,7 @@ mod extent;
 mod fault;
 mod kinds;
 mod layer;
+mod laying;
 mod likeness;
 mod making;
 mod measuring;
@@ -21,12 +23,14 @@ mod tables;
 mod tag;
 
 pub use base::{BaseType, RegionArguments};
+pub use cell::{Cell, Layout};
 pub use conversion::Broken;
 pub use copies::is_copyable;
 pub use ctype::{CType, Layers};
 pub use extent::{Alignment, Extent};
-pub use fault::TableFault;
+pub use fault::{SizeFault, TableFault};
 pub use layer::Layer;
+pub use laying::layout;
 pub use likeness::Likeness;
 pub use region::RegionId;
 pub use scalar::Scalar;

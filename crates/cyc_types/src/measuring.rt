@@ -137,7 +137,7 @@ impl<'p> Tables<'p> {
     }
 
     /// The bytes of a member; one of no known type has none.
-    fn member_extent(&self, member: &Member) -> Option<Extent>
+    pub(crate) fn member_extent(&self, member: &Member) -> Option<Extent>
         ensures { measured result ≡ part_extent (quick_measure self.now.tags.entries) (member_of member.now).type }
     {
         match &member.of {

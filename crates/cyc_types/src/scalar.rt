@@ -28,7 +28,7 @@ pub enum Scalar<'p> {
 }
 
 /// Which scalar a pointer is.
-fn of_layer<'p>(layer: Layer) -> Scalar<'p>
+pub(crate) fn of_layer<'p>(layer: Layer) -> Scalar<'p>
     ensures { kind_of result ≡ layer_kind layer }
 {
     match layer {
@@ -39,7 +39,7 @@ fn of_layer<'p>(layer: Layer) -> Scalar<'p>
 }
 
 /// Which scalar a base is.
-fn of_base<'p>(base: &BaseType<'p>) -> Option<Scalar<'p>>
+pub(crate) fn of_base<'p>(base: &BaseType<'p>) -> Option<Scalar<'p>>
     ensures { option_map kind_of result ≡ only_kind (base_type base.now) }
 {
     match base {

@@ -1,5 +1,6 @@
 // Structs and unions.
 
+use crate::cell::Cell;
 use crate::ctype::CType;
 use crate::extent::Extent;
 
@@ -33,4 +34,6 @@ pub struct Known<'p> {
     pub begins: bool,
     /// Its bytes. None: too many.
     pub extent: Option<Extent>,
+    /// A struct's cells, where its bytes aren't too many. A union has none of its own.
+    pub cells: Vec<Cell<'p>>,
 }

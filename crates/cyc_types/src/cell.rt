@@ -1,0 +1,63 @@
+// Cells of a type, one by one.
+
+ghost use Rattle.std.specs.Prelude.{◌≡◌, ◌++◌, ◌∷◌, [], IfOk, OnOk, map};
+ghost use Rattle.cyc_types.specs.Cells.{cell_of, cells_of, moved_by, scalar_at};
+ghost use Rattle.cyc_types.specs.Scalars.{kind_of};
+
+use crate::extent::Extent;
+use crate::scalar::Scalar;
+use std::alloc::AllocError;
+
+/// One cell of a type: where it lies, and what it holds.
+#[derive(Clone, Copy, Debug)]
+pub struct Cell<'p> {
+    /// So many bytes from the type's first.
+    pub offset: u32,
+    pub scalar: Scalar<'p>,
+}
+
+/// The cells of a type in order, its size and its alignment.
+#[derive(Debug, Drop)]
+pub struct Layout<'p> {
+    pub cells: Vec<Cell<'p>>,
+    pub extent: Extent,
+}
+
+/// A cell so many bytes further. Fails where that is over the greatest u32, which no type's bytes reach.
+fn moved<'p>(cell: Cell<'p>, by: u32) -> Result<Cell<'p>, AllocError>
+    ensures { IfOk result (λ further. cell_of further ≡ moved_by by (cell_of cell.entry)) }
+{
+    match by.checked_add(cell.offset) {
+        Some(offset) => Ok(Cell {
+            offset,
+            scalar: cell.scalar,
+        }),
+        None => Err(AllocError),
+    }
+}
+
+/// Appends a scalar's cell, so many bytes from the first.
+pub(crate) fn push_scalar<'p>(
+    cells: &mut Vec<Cell<'p>>,
+    offset: u32,
+    scalar: Scalar<'p>,
+) -> Result<(), AllocError>
+    ensures { OnOk result (cells_of cells.new.items ≡ cells_of cells.old.items ++ scalar_at offset (kind_of scalar.entry) ∷ []) }
+{
+    cells.push(Cell { offset, scalar })?;
+    Ok(())
+}
+
+/// Appends cells, each so many bytes further.
+pub(crate) fn push_moved<'p>(
+    cells: &mut Vec<Cell<'p>>,
+    by: u32,
+    more: &[Cell<'p>],
+) -> Result<(), AllocError>
+    ensures { OnOk result (cells_of cells.new.items ≡ cells_of cells.old.items ++ map (moved_by by) (cells_of more.now)) }
+{
+    'each: for cell in more {
+        cells.push(moved(*cell, by)?)?;
+    }
+    Ok(())
+}

@@ -129,7 +129,7 @@ largest_small (p ∷ ps) most h =
     let own = member_small p.type in
     largest_small ps (max most (scalar_bytes p.type)) (omega (arith, h, own))
 
-same_as : (a b : Option Extent) → same_measure a b ≡ true → a ≡ b
+pub same_as : (a b : Option Extent) → same_measure a b ≡ true → a ≡ b
 same_as None None h = refl
 same_as None (Some b) h = absurd (true≢false (sym h))
 same_as (Some a) None h = absurd (true≢false (sym h))

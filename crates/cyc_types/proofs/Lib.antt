@@ -6,6 +6,7 @@ mod KindsUnder
 mod Lengths
 mod Measured
 mod MemberSteps
+mod NearCells
 mod Outermost
 mod PlacedCells
 mod Pointers

@@ -9,7 +9,7 @@ use Rattle.source_typing.specs.Tables.{Part}
 use Rattle.source_typing.specs.Types.{StaticType}
 use Rattle.cyc_types.specs.Measures.{bytes_and, limited, part_extent, placed_after, quick_laid}
 
-rounded_above : (x a : ℕ) → x ≤ rounded_up x a
+pub rounded_above : (x a : ℕ) → x ≤ rounded_up x a
 rounded_above x zero = omega arith
 rounded_above x (suc a) = let more : x + a < (x + a) / suc a * suc a + suc a = lt-div-mul-add (zero-lt-suc a) in omega (arith, more)
 

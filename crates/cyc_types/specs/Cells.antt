@@ -1,8 +1,9 @@
 -- Where the cells of types lie, by what is known of structs once they are declared.
-use Rattle.std.specs.Prelude.{List, None, Option, Some, false, map, true, ℕ, ◌+◌, if◌then◌else◌, [], ◌∷◌, ◌++◌}
+use Rattle.std.specs.Prelude.{List, None, Option, Some, false, map, true, ℕ, ◌+◌, ◌≤◌, if◌then◌else◌, [], ◌∷◌, ◌++◌}
+use Rattle.std.specs.List.{All}
 use Rattle.source_meaning.specs.Placing.{Placed, placed_by, struct_placed}
 use Rattle.source_meaning.specs.Sizes.{Extent, rounded_up}
-use Rattle.source_typing.specs.Extents.{layouts_of}
+use Rattle.source_typing.specs.Extents.{layouts_of, most_bytes}
 use Rattle.source_typing.specs.Tables.{Part}
 use Rattle.source_typing.specs.Types.{StaticType, Struct, shape_of}
 use Rattle.cyc_types.specs.Known.{Entry, found}
@@ -38,6 +39,10 @@ cell_of c = scalar_at c.offset (kind_of c.scalar)
 
 abbrev pub cells_of : List Cell → List KindAt
 cells_of cs = map cell_of cs
+
+-- none begins behind the most bytes of a type
+abbrev pub AreNear : List Cell → Type 0
+AreNear cs = All (λ (c : Cell). c.offset ≤ most_bytes) cs
 
 -- ---- what is stored
 

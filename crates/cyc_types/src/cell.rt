@@ -1,7 +1,7 @@
 // Cells of a type, one by one.
 
-ghost use Rattle.std.specs.Prelude.{◌≡◌, ◌++◌, ◌∷◌, [], IfOk, OnOk, map};
-ghost use Rattle.cyc_types.specs.Cells.{cell_of, cells_of, moved_by, scalar_at};
+ghost use Rattle.std.specs.Prelude.{◌≡◌, ◌≤◌, ◌++◌, ◌∷◌, [], OnOk, map};
+ghost use Rattle.cyc_types.specs.Cells.{AreNear, cell_of, cells_of, moved_by, scalar_at};
 ghost use Rattle.cyc_types.specs.Scalars.{kind_of};
 
 use crate::extent::Extent;
@@ -23,16 +23,15 @@ pub struct Layout<'p> {
     pub extent: Extent,
 }
 
-/// A cell so many bytes further. Fails where that is over the greatest u32, which no type's bytes reach.
-fn moved<'p>(cell: Cell<'p>, by: u32) -> Result<Cell<'p>, AllocError>
-    ensures { IfOk result (λ further. cell_of further ≡ moved_by by (cell_of cell.entry)) }
+/// A cell so many bytes further.
+fn moved<'p>(cell: Cell<'p>, by: u32) -> Cell<'p>
+    requires own { cell.offset ≤ 4096 }
+    requires start { by ≤ 4096 }
+    ensures { cell_of result ≡ moved_by by (cell_of cell.entry) }
 {
-    match by.checked_add(cell.offset) {
-        Some(offset) => Ok(Cell {
-            offset,
-            scalar: cell.scalar,
-        }),
-        None => Err(AllocError),
+    Cell {
+        offset: by + cell.offset,
+        scalar: cell.scalar,
     }
 }
 
@@ -54,10 +53,12 @@ pub(crate) fn push_moved<'p>(
     by: u32,
     more: &[Cell<'p>],
 ) -> Result<(), AllocError>
+    requires near { AreNear more.now }
+    requires start { by ≤ 4096 }
     ensures { OnOk result (cells_of cells.new.items ≡ cells_of cells.old.items ++ map (moved_by by) (cells_of more.now)) }
 {
     'each: for cell in more {
-        cells.push(moved(*cell, by)?)?;
+        cells.push(moved(*cell, by))?;
     }
     Ok(())
 }

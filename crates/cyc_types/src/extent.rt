@@ -128,7 +128,8 @@ impl Extent {
 
     /// Where bytes begin that follow at their alignment.
     pub(crate) fn start_of(self, next: Extent) -> u32
-        ensures { result ≡ rounded_up (extent_of self).size (extent_of next).align }
+        ensures start { result ≡ rounded_up (extent_of self).size (extent_of next).align }
+        ensures most { result ≤ 4096 }
     {
         self.size_for(next.align)
     }

@@ -1,6 +1,6 @@
 // Where the cells of types lie.
 
-ghost use Rattle.std.specs.Prelude.{◌≡◌, ◌++◌, ◌<◌, ◌↔◌, Err, IfOk, OnOk, map};
+ghost use Rattle.std.specs.Prelude.{◌≡◌, ◌++◌, ◌<◌, ◌≤◌, ◌↔◌, Err, IfOk, OnOk, map};
 ghost use Rattle.source_typing.specs.Extents.{most_bytes};
 ghost use Rattle.cyc_types.specs.Bases.{base_type};
 ghost use Rattle.cyc_types.specs.Cells.{cells_if, cells_in, cells_of, moved_by, part_cells, quick_cells, struct_cells, tag_cells};
@@ -23,6 +23,7 @@ use std::alloc::{AllocError, Global};
 impl<'p> Tables<'p> {
     /// Appends the cells of a struct by its tag; there are none of what isn't declared.
     fn push_struct(&self, cells: &mut Vec<Cell<'p>>, at: u32, tag: &[u8]) -> Result<(), AllocError>
+        requires { at ≤ 4096 }
         ensures { OnOk result (cells_of cells.new.items ≡ cells_of cells.old.items ++ map (moved_by at) (cells_if (found self.now.tags.entries tag.now))) }
     {
         match self.known(tag) {
@@ -39,6 +40,7 @@ impl<'p> Tables<'p> {
         at: u32,
         base: &BaseType<'p>,
     ) -> Result<(), AllocError>
+        requires { at ≤ 4096 }
         ensures { OnOk result
             (cells_of cells.new.items ≡ cells_of cells.old.items ++ map (moved_by at) (quick_cells self.now.tags.entries (base_type base.now))) }
     {
@@ -59,6 +61,7 @@ impl<'p> Tables<'p> {
         at: u32,
         of: &CType<'p>,
     ) -> Result<(), AllocError>
+        requires { at ≤ 4096 }
         ensures { OnOk result
             (cells_of cells.new.items ≡ cells_of cells.old.items ++ map (moved_by at) (quick_cells self.now.tags.entries (static_type of.now))) }
     {
@@ -76,6 +79,7 @@ impl<'p> Tables<'p> {
         at: u32,
         member: &Member<'p>,
     ) -> Result<(), AllocError>
+        requires { at ≤ 4096 }
         ensures { OnOk result (cells_of cells.new.items
             ≡ cells_of cells.old.items ++ map (moved_by at) (part_cells (quick_cells self.now.tags.entries) (member_of member.now).type)) }
     {

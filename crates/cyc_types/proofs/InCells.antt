@@ -1,11 +1,11 @@
 -- The cells that are known of structs in order are those of the rules.
-use Rattle.std.proofs.Common.{◌≡◌, ◌≤◌, true≢false, ℕ, Bool, true, false, List, [], ◌∷◌, ◌++◌, refl, sym, ap, subst, ◌∙◌, arith, cond}
+use Rattle.std.proofs.Common.{◌≡◌, true≢false, ℕ, Bool, true, false, List, [], ◌∷◌, ◌++◌, refl, sym, ap, subst, ◌∙◌, arith, cond}
 use Rattle.std.proofs.lemmas.Bool.{and_parts}
 use Rattle.std.proofs.lemmas.List.{append_assoc, append-nil}
 use Rattle.std.specs.Prelude.{Err, None, Ok, OnErr, OnOk, Option, Result, Some, bytes_eq, if◌then◌else◌, is_some, map}
 use Rattle.source_meaning.specs.Placing.{Placed, all_placed, placed_by, struct_placed}
 use Rattle.source_meaning.specs.Shapes.{Layout, Shape}
-use Rattle.source_meaning.specs.Sizes.{Extent, extent_by, laid_out, largest, no_extent, rounded_up, struct_extent, union_extent}
+use Rattle.source_meaning.specs.Sizes.{Extent, extent_by, laid_out, largest, no_extent, struct_extent, union_extent}
 use Rattle.source_typing.specs.Extents.{fits_bytes, known_shape, layouts_of, layouts_onto, part_shapes}
 use Rattle.source_typing.specs.Tables.{Part, each_part, if_known}
 use Rattle.source_typing.specs.Types.{Char, Fat, Handle, Int, Key, Null, StaticType, Struct, Thin, Union, Unique, Unsigned, Void, same_bool, shape_of}
@@ -16,7 +16,7 @@ use Rattle.cyc_types.specs.Measures.{bytes_with, extent_in, limited, quick_measu
 use Rattle.cyc_types.specs.Tags.{members_of}
 use Rattle.cyc_types.specs.declared.tag.Known.{Known}
 use Rattle.cyc_types.proofs.InLayouts.{AllUnions, DeclaredUnions, HasStructs, added, all_unions, declared_unions, largest_small, layout_of}
-use Rattle.cyc_types.proofs.InLayouts.{members, next_struct, one_more, part_measure, passed, struct_bytes, union_parts, unions_onto}
+use Rattle.cyc_types.proofs.InLayouts.{members, next_struct, one_more, part_measure, passed, struct_bytes, union_fits, union_parts, unions_onto}
 use Rattle.cyc_types.proofs.InOrder.{facts}
 use Rattle.cyc_types.proofs.Measured.{if_fits, if_over}
 use Rattle.cyc_types.proofs.PlacedCells.{EachPlaced, fitting, placed_as}
@@ -25,9 +25,6 @@ use Rattle.cyc_types.proofs.PlacedCells.{EachPlaced, fitting, placed_as}
 
 abbrev FitUnions : List Layout → Type 0
 FitUnions unions = (tag : List ℕ) → fits_bytes (union_extent unions tag).size ≡ true
-
-union_fits : (most : ℕ) → most ≤ 12 → fits_bytes (bytes_with most).size ≡ true
-union_fits most h = grind (arith, h)
 
 unions_fit : (all : List Entry) → are_known [] all ≡ true → FitUnions (layouts_of true (entries_of all))
 unions_fit all known tag =

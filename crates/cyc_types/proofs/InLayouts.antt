@@ -1,11 +1,11 @@
 -- The bytes that are known of structs and unions in order are those of the rules.
-use Rattle.std.proofs.Common.{◌≡◌, ℕ, ◌≤◌, ◌+◌, Bool, true, false, List, [], ◌∷◌, ◌++◌, refl, sym, ap, subst, ◌∙◌, arith, cond, max, true≢false}
+use Rattle.std.proofs.Common.{◌≡◌, ℕ, ◌≤◌, Bool, true, false, List, [], ◌∷◌, ◌++◌, refl, sym, ap, subst, ◌∙◌, arith, cond, max, true≢false}
 use Rattle.std.proofs.lemmas.Bool.{and_parts}
 use Rattle.std.proofs.lemmas.List.{append_assoc, append-nil}
 use Rattle.std.proofs.lemmas.Slice.Eq.{bytes_eq-Decides}
-use Rattle.std.specs.Prelude.{None, Option, Some, bytes_eq, is_none, is_some, nat_eq, if◌then◌else◌}
+use Rattle.std.specs.Prelude.{None, Option, Some, bytes_eq, is_none, is_some, nat_eq}
 use Rattle.source_meaning.specs.Shapes.{Layout, parts_of}
-use Rattle.source_meaning.specs.Sizes.{Extent, extent_by, laid_out, largest, no_extent, rounded_up, struct_extent, union_extent}
+use Rattle.source_meaning.specs.Sizes.{Extent, extent_by, laid_out, largest, no_extent, struct_extent, union_extent}
 use Rattle.source_typing.specs.Extents.{fits_bytes, known_shape, layouts_of, layouts_onto, part_shapes}
 use Rattle.source_typing.specs.Tables.{OfTag, Part, each_part, if_known}
 use Rattle.source_typing.specs.Types.{Char, Fat, Handle, Int, Key, Null, StaticType, Struct, Thin, Union, Unique, Unsigned, Void, same_bool, shape_of}
@@ -16,7 +16,7 @@ use Rattle.cyc_types.specs.Measures.{stored, struct_if, struct_measure, union_by
 use Rattle.cyc_types.specs.Tags.{members_of, tag_of}
 use Rattle.cyc_types.specs.declared.tag.Known.{Known}
 use Rattle.cyc_types.proofs.InOrder.{facts, found_here, known_at, same_bytes, split}
-use Rattle.cyc_types.proofs.Measured.{EachExtent, laid_as}
+use Rattle.cyc_types.proofs.Measured.{EachExtent, if_fits, laid_as}
 use Rattle.source_meaning.specs.Shapes as shapes
 use Rattle.source_typing.specs.Tables as rules
 
@@ -222,10 +222,8 @@ structs_onto unions acc (e ∷ es) ls of known so_far =
 
 -- ---- all
 
-union_fits : (most : ℕ) → most ≤ 12 → limited (bytes_with most) ≡ Some (bytes_with most)
-union_fits most h =
-    let fits : fits_bytes (rounded_up (4 + most) 4) ≡ true = grind (arith, h) in
-    ap (λ b. if b then Some (bytes_with most) else None) fits
+pub union_fits : (most : ℕ) → most ≤ 12 → fits_bytes (bytes_with most).size ≡ true
+union_fits most h = grind (arith, h)
 
 abbrev of_parts : List shapes.Part → Option Extent
 of_parts ps = limited (bytes_with (largest (extent_by no_extent no_extent) 0 ps))
@@ -239,7 +237,8 @@ all_unions all known tag =
         → of_parts (cond u (part_shapes (members_of k.tag.members.items)) []) ≡ cond u (stored k) (Some (bytes_and 4 4))
     within k before x own true h =
         let ps = members_of k.tag.members.items in
-        union_fits (largest (extent_by no_extent no_extent) 0 (part_shapes ps)) (largest_small ps 0 (omega arith))
+        let most = largest (extent_by no_extent no_extent) 0 (part_shapes ps) in
+        if_fits (bytes_with most) (union_fits most (largest_small ps 0 (omega arith)))
         ∙ sym (same_as (stored k) (quick_tag before k.tag) (facts before x k own).counted
         ∙ ap (λ b. cond b (Some (union_bytes ps)) (struct_measure before ps)) h)
     within k before x own false h = refl

@@ -1,6 +1,6 @@
 mod Converting
-mod InLayouts
 mod InCells
+mod InLayouts
 mod InOrder
 mod KindsUnder
 mod Lengths

@@ -44,15 +44,15 @@ abbrev pub EachExtent : (Shape → Extent) → (StaticType → Option Extent) �
 EachExtent extent of [] = Unit {0}
 EachExtent extent of (p ∷ ps) = (limited (extent (known_shape p.type)) ≡ part_extent of p.type) × EachExtent extent of ps
 
+pub nothing_laid : (of : StaticType → Option Extent) (ps : List Part) → quick_laid of None ps ≡ None
+nothing_laid of [] = refl
+nothing_laid of (p ∷ ps) = refl
+
 pub laid_as : (extent : Shape → Extent) (of : StaticType → Option Extent) (ps : List Part) (s : Extent) (b : Bool) → fits_bytes s.size ≡ b
     → EachExtent extent of ps → limited (laid_out extent s (part_shapes ps)) ≡ quick_laid of (limited s) ps
 laid_as extent of ps s false h each =
     if_over (laid_out extent s (part_shapes ps)) (over_more s.size (laid_out extent s (part_shapes ps)).size (laid_above extent s ps) h)
-    ∙ sym (ap (λ o. quick_laid of o ps) (if_over s h) ∙ nothing ps)
-  where
-    nothing : (ps : List Part) → quick_laid of None ps ≡ None
-    nothing [] = refl
-    nothing (p ∷ ps) = refl
+    ∙ sym (ap (λ o. quick_laid of o ps) (if_over s h) ∙ nothing_laid of ps)
 laid_as extent of [] s true h each = sym (ap (λ o. quick_laid of o []) (if_fits s h))
 laid_as extent of (p ∷ ps) s true h each =
     let e = extent (known_shape p.type) in

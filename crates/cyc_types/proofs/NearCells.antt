@@ -16,15 +16,14 @@ use Rattle.cyc_types.specs.InOrder.{are_known, are_placed, is_known}
 use Rattle.cyc_types.specs.Known.{Entry, found}
 use Rattle.cyc_types.specs.Measures.{bytes_and, limited, measured, part_extent, placed_after, quick_laid, quick_measure, quick_tag, stored, struct_if}
 use Rattle.cyc_types.specs.Measures.{struct_measure, union_bytes, union_if}
-use Rattle.cyc_types.specs.Tags.{members_of}
 use Rattle.cyc_types.specs.declared.cell.Cell.{Cell}
 use Rattle.cyc_types.specs.declared.tag.Known.{Known}
 use Rattle.cyc_types.proofs.InLayouts.{members, same_as}
 use Rattle.cyc_types.proofs.InOrder.{facts}
-use Rattle.cyc_types.proofs.Measured.{if_fits, if_over, rounded_above}
+use Rattle.cyc_types.proofs.Measured.{if_fits, if_over, nothing_laid, rounded_above}
 use Rattle.cyc_types.specs.declared.extent.Extent as code
 
--- the bytes of what has not too many
+-- how many bytes there are; None: too many, and of these the most that a type has
 abbrev bytes_of : Option Extent → ℕ
 bytes_of None = most_bytes
 bytes_of (Some e) = e.size
@@ -48,9 +47,8 @@ limited_is x e h = by (fits_bytes x.size) h
     by true h = ap (λ o. unwrap_or o x) h
     by false h = absurd (true≢false (ap is_none h))
 
-nothing_laid : (of : StaticType → Option Extent) (ps : List Part) (e : Extent) → quick_laid of None ps ≡ Some e → true ≡ false
-nothing_laid of [] e h = ap is_none h
-nothing_laid of (p ∷ ps) e h = ap is_none h
+too_many : (of : StaticType → Option Extent) (ps : List Part) (e : Extent) → quick_laid of None ps ≡ Some e → true ≡ false
+too_many of ps e h = ap is_none (sym (nothing_laid of ps) ∙ h)
 
 -- one more member, where all aren't too many bytes
 record Next (of : StaticType → Option Extent) (ps : List Part) (s e : Extent) (o : Option Extent) : Type 0 where
@@ -60,7 +58,7 @@ record Next (of : StaticType → Option Extent) (ps : List Part) (s e : Extent) 
   laid : quick_laid of (Some (after s extent)) ps ≡ Some e
 
 next : (of : StaticType → Option Extent) (ps : List Part) (s e : Extent) (o : Option Extent) → quick_laid of (placed_after s o) ps ≡ Some e → Next of ps s e o
-next of ps s e None h = absurd (true≢false (nothing_laid of ps e h))
+next of ps s e None h = absurd (true≢false (too_many of ps e h))
 next of ps s e (Some x) h = by (fits_bytes (after s x).size) refl
   where
     by : (b : Bool) → fits_bytes (after s x).size ≡ b → Next of ps s e (Some x)
@@ -70,7 +68,7 @@ next of ps s e (Some x) h = by (fits_bytes (after s x).size) refl
       further = if_fits (after s x) f;
       laid = ap (λ o. quick_laid of o ps) (sym (if_fits (after s x) f)) ∙ h;
     }
-    by false f = absurd (true≢false (nothing_laid of ps e (ap (λ o. quick_laid of o ps) (sym (if_over (after s x) f)) ∙ h)))
+    by false f = absurd (true≢false (too_many of ps e (ap (λ o. quick_laid of o ps) (sym (if_over (after s x) f)) ∙ h)))
 
 -- the whole has no fewer bytes than what stands before
 laid_more : (of : StaticType → Option Extent) (ps : List Part) (s e : Extent) → quick_laid of (Some s) ps ≡ Some e → s.size ≤ e.size

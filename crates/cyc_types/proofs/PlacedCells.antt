@@ -1,7 +1,7 @@
 -- Cells are placed member by member, as far as the bytes aren't too many.
-use Rattle.std.proofs.Common.{◌≡◌, ℕ, ◌≤◌, ◌+◌, Bool, true, false, List, [], ◌∷◌, ◌++◌, refl, sym, ap, ◌∙◌, arith, map, max, true≢false}
+use Rattle.std.proofs.Common.{◌≡◌, ℕ, ◌≤◌, ◌+◌, true, List, [], ◌∷◌, ◌++◌, refl, sym, ap, ◌∙◌, arith, map, max}
 use Rattle.std.proofs.lemmas.List.{map-append}
-use Rattle.std.specs.Prelude.{None, Option, Some, if◌then◌else◌}
+use Rattle.std.specs.Prelude.{Option, Some, if◌then◌else◌}
 use Rattle.source_meaning.specs.Placing.{Placed, all_placed, moved}
 use Rattle.source_meaning.specs.Shapes.{Shape}
 use Rattle.source_meaning.specs.Sizes.{Extent, laid_out, rounded_up}
@@ -10,7 +10,7 @@ use Rattle.source_typing.specs.Tables.{Part}
 use Rattle.source_typing.specs.Types.{StaticType}
 use Rattle.cyc_types.specs.Cells.{KindAt, cells_after, kind_placed, moved_by, part_cells, placed_onto}
 use Rattle.cyc_types.specs.Measures.{bytes_and, limited, part_extent, placed_after}
-use Rattle.cyc_types.proofs.Measured.{if_fits, laid_above, over_more}
+use Rattle.cyc_types.proofs.Measured.{if_fits, laid_above}
 
 map_moved : (at : ℕ) (ps : List Placed) → map (moved_by at) (map kind_placed ps) ≡ map kind_placed (map (moved at) ps)
 map_moved at [] = refl

@@ -1,7 +1,8 @@
 //! Types of the whole language, with the structs and unions of a program.
 //!
 //! A type is a base under layers of pointers. What is said of it, whether two types are the same, what converts, what is
-//! copied and what has a beginning, are the definitions of `source_typing`, on which it stands.
+//! copied, what has a beginning, how many bytes it has and where its cells lie, are the definitions of `source_typing` and
+//! `source_meaning`, on which it stands.
 #![tactic(auto)]
 
 mod base;

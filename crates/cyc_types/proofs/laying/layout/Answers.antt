@@ -1,4 +1,4 @@
-use Rattle.std.proofs.Common.{sym, ◌∙◌}
+use Rattle.std.proofs.Common.{◌∙◌}
 use Rattle.cyc_types.specs.Measures.{extent_of}
 use Rattle.cyc_types.specs.Types.{static_type}
 use Rattle.cyc_types.proofs.InCells.{cells_fit}

@@ -1,5 +1,4 @@
-use Rattle.std.proofs.Common.{◌∙◌, ap, subst, sym}
-use Rattle.std.specs.Prelude.{Some}
+use Rattle.std.proofs.Common.{subst, sym}
 use Rattle.cyc_types.specs.Cells.{AreNear}
 use Rattle.cyc_types.proofs.NearCells.{cells_near}
 use Rattle.cyc_types.proofs.tables.Tables.push_struct.Goals as goal

@@ -13,11 +13,11 @@ fn bytes(tables: &Tables, of: &CType) -> Option<(u32, u32)> {
     }
 }
 
-fn member<'p>(name: &'p [u8], of: CType<'p>) -> Member<'p> {
+pub fn member<'p>(name: &'p [u8], of: CType<'p>) -> Member<'p> {
     Member { name, of: Some(of) }
 }
 
-fn tag_of(is_union: bool, members: Vec<Member<'_>>) -> Tag<'_> {
+pub fn tag_of(is_union: bool, members: Vec<Member<'_>>) -> Tag<'_> {
     Tag {
         is_union,
         order: 0,
@@ -28,7 +28,7 @@ fn tag_of(is_union: bool, members: Vec<Member<'_>>) -> Tag<'_> {
 }
 
 // a struct of two members of one type
-fn twice<'p>(alloc: Global, name: &'p [u8]) -> Result<Tag<'p>, AllocError> {
+pub fn twice<'p>(alloc: Global, name: &'p [u8]) -> Result<Tag<'p>, AllocError> {
     let members = vec![in alloc;
         member(b"first", CType::plain(alloc, structure(alloc, name))),
         member(b"second", CType::plain(alloc, structure(alloc, name))),
@@ -37,7 +37,7 @@ fn twice<'p>(alloc: Global, name: &'p [u8]) -> Result<Tag<'p>, AllocError> {
 }
 
 // `struct mixed { char a; int b; char c; }`
-fn mixed(alloc: Global) -> Result<Tag<'static>, AllocError> {
+pub fn mixed(alloc: Global) -> Result<Tag<'static>, AllocError> {
     let members = vec![in alloc;
         member(b"a", CType::plain(alloc, BaseType::Char)),
         member(b"b", CType::plain(alloc, BaseType::Int)),
@@ -88,7 +88,7 @@ fn structs_and_unions_have_their_bytes(rt: HostRuntime) -> Result<(), Fail> {
 }
 
 // Each has two of the one before it: the tenth has 4,096 bytes.
-const NAMES: [&'static [u8]; 12] = [
+pub const NAMES: [&'static [u8]; 12] = [
     b"d0", b"d1", b"d2", b"d3", b"d4", b"d5", b"d6", b"d7", b"d8", b"d9", b"d10", b"d11",
 ];
 

@@ -10,6 +10,8 @@ mod extents;
 #[cfg(test)]
 mod kinds;
 #[cfg(test)]
+mod layouts;
+#[cfg(test)]
 mod likeness;
 #[cfg(test)]
 mod made_types;

@@ -12,14 +12,14 @@ use Rattle.cyc_types.specs.declared.layer.Layer.{Layer}
 use Rattle.cyc_types.specs.declared.layer.Layer.TheVariants as code
 
 -- what is so, or isn't, of every pointer's type
-abbrev OfPointers : Bool → (StaticType → Bool) → Type 0
+abbrev pub OfPointers : Bool → (StaticType → Bool) → Type 0
 OfPointers so holds = (l : Layer) (t : StaticType) → holds (pointer_to l t) ≡ so
 
 under : (so : Bool) (holds : StaticType → Bool) → OfPointers so holds → (ls : List Layer) (l : Layer) (t : StaticType) → holds (pointed (pointer_to l t) ls) ≡ so
 under so holds h [] l t = h l t
 under so holds h (k ∷ ks) l t = under so holds h ks k (pointer_to l t)
 
-no_pointer : (holds : StaticType → Bool) → OfPointers false holds → (b : StaticType) (ls : List Layer) → holds (pointed b ls) ≡ (is_plain ls && holds b)
+pub no_pointer : (holds : StaticType → Bool) → OfPointers false holds → (b : StaticType) (ls : List Layer) → holds (pointed b ls) ≡ (is_plain ls && holds b)
 no_pointer holds h b [] = refl
 no_pointer holds h b (l ∷ ls) = under false holds h ls l b
 

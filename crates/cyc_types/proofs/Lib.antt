@@ -1,12 +1,12 @@
-mod Converting
+pub mod Converting
 mod InCells
 mod InLayouts
 mod InOrder
-mod KindsUnder
+pub mod KindsUnder
 mod Lengths
 mod Measured
 mod MemberSteps
 mod NearCells
-mod Outermost
+pub mod Outermost
 mod PlacedCells
 mod Pointers

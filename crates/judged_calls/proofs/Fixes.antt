@@ -1,0 +1,206 @@
+-- What region variables are fixed to, one fit after another.
+use Rattle.std.specs.Prelude.{is_some, min, nat_eq, option_map, replicate, slice_get, ◌&&◌, ◌+◌, ◌++◌, if◌then◌else◌}
+use Rattle.std.proofs.Common.{◌≡◌, ◌<◌, ◌≤◌, ℕ, zero, suc, Bool, true, false, Option, Some, None}
+use Rattle.std.proofs.Common.{List, [], ◌∷◌, refl, sym, ◌∙◌, ap, arith, drop, get_or, length, set, true≢false}
+use Rattle.std.proofs.lemmas.List.{drop_more}
+use Rattle.cyc_types.specs.Regions.{region_of}
+use Rattle.source_typing.specs.Faults.{Fault, fault, region_rule}
+use Rattle.source_typing.specs.Fixing.{Fit, first_fit, fit, fixed_from, fixed_known, fixed_one, is_found, more}
+use Rattle.source_typing.specs.Regions.{Level, Region, TheHeap, same_id}
+use Rattle.source_typing.specs.Scope.{InRegion}
+use Rattle.source_typing.specs.Verdicts.{Of, Verdict, both, known, unless_faulty}
+use Rattle.source_typing.specs.Written.{Found}
+use Rattle.judged_calls.specs.Fixings.{
+  Fixing,
+  all_stand_for,
+  first_fixing,
+  fixed_with,
+  fixing,
+  fixing_faults,
+  fixing_of,
+  fixings_of,
+  found_of,
+  noted,
+  of_fit,
+  or_else,
+  regions_by,
+  stands_for,
+  which_are_known,
+}
+use Rattle.judged_calls.specs.declared.fixing.Fixed.{Fixed}
+use Rattle.judged_calls.specs.declared.fixing.Fixed.TheVariants as region
+use Rattle.judged_calls.specs.declared.fixing.Fixing as code
+
+-- ---- some fits, and then others
+
+or_else_joined : (a b c : Option Fixing) → or_else (or_else a b) c ≡ or_else a (or_else b c)
+or_else_joined None b c = refl
+or_else_joined (Some x) b c = refl
+
+or_none : (a : Option Fixing) → or_else a None ≡ a
+or_none None = refl
+or_none (Some x) = refl
+
+pub first_both : (fs gs : List Fit) (k : ℕ) → first_fixing (fs ++ gs) k ≡ or_else (first_fixing fs k) (first_fixing gs k)
+first_both [] gs k = refl
+first_both (f ∷ fs) gs k = by (first_both fs gs k) (same_id f.of (Level k) && is_found f.is)
+  where
+    by : first_fixing (fs ++ gs) k ≡ or_else (first_fixing fs k) (first_fixing gs k)
+        → (b : Bool) → option_map of_fit (if b then Some f else first_fit (fs ++ gs) k)
+        ≡ or_else (option_map of_fit (if b then Some f else first_fit fs k)) (first_fixing gs k)
+    by h true = refl
+    by h false = h
+
+pub with_both : (fs gs : List Fit) (k : ℕ) (os : List (Option Fixing)) → fixed_with gs k (fixed_with fs k os) ≡ fixed_with (fs ++ gs) k os
+with_both fs gs k [] = refl
+with_both fs gs k (o ∷ os) =
+    ap (λ x. x ∷ fixed_with gs (suc k) (fixed_with fs (suc k) os))
+    (or_else_joined o (first_fixing fs k) (first_fixing gs k) ∙ ap (or_else o) (sym (first_both fs gs k)))
+    ∙ ap (λ xs. or_else o (first_fixing (fs ++ gs) k) ∷ xs) (with_both fs gs (suc k) os)
+
+-- fits that fix the same
+pub record Alike (fs gs : List Fit) : Type 0 where
+  pub fixes : (k : ℕ) → first_fixing fs k ≡ first_fixing gs k
+
+pub with_alike : (fs gs : List Fit) (k : ℕ) (os : List (Option Fixing)) → Alike fs gs → fixed_with fs k os ≡ fixed_with gs k os
+with_alike fs gs k [] h = refl
+with_alike fs gs k (o ∷ os) h =
+    ap (λ x. or_else o x ∷ fixed_with fs (suc k) os) (h.fixes k) ∙ ap (λ xs. or_else o (first_fixing gs k) ∷ xs) (with_alike fs gs (suc k) os h)
+
+pub with_nothing : (k : ℕ) (os : List (Option Fixing)) → fixed_with [] k os ≡ os
+with_nothing k [] = refl
+with_nothing k (o ∷ os) = ap (λ x. x ∷ fixed_with [] (suc k) os) (or_none o) ∙ ap (λ xs. o ∷ xs) (with_nothing (suc k) os)
+
+-- ---- one fit
+
+pub heap_fixes_none : (at k : ℕ) (f : Found) (os : List (Option Fixing)) → os ≡ fixed_with (fit at TheHeap f ∷ []) k os
+heap_fixes_none at k f [] = refl
+heap_fixes_none at k f (o ∷ os) = ap (λ x. x ∷ os) (sym (or_none o)) ∙ ap (λ xs. or_else o None ∷ xs) (heap_fixes_none at (suc k) f os)
+
+-- no variable from a later one on
+earlier_fixes_none : (at j k : ℕ) (f : Found) (os : List (Option Fixing)) (i : ℕ) → k ≡ j + suc i → fixed_with (fit at (Level j) f ∷ []) k os ≡ os
+earlier_fixes_none at j k f [] i e = refl
+earlier_fixes_none at j k f (o ∷ os) i e =
+    let apart : nat_eq j k ≡ false = grind (arith, e) in
+    ap (λ b. or_else o (option_map of_fit (if b && is_found f then Some (fit at (Level j) f) else None)) ∷ fixed_with (fit at (Level j) f ∷ []) (suc k) os)
+    apart
+    ∙ ap (λ x. x ∷ fixed_with (fit at (Level j) f ∷ []) (suc k) os) (or_none o)
+    ∙ ap (λ xs. o ∷ xs) (earlier_fixes_none at j (suc k) f os (suc i) (omega (arith, e)))
+
+pub level_fixes : (at j k i : ℕ) (f : Found) (os : List (Option Fixing)) → is_found f ≡ true → j ≡ k + i
+    → noted os i (fixing f at) ≡ fixed_with (fit at (Level j) f ∷ []) k os
+level_fixes at j k i f [] h e = refl
+level_fixes at j k zero f (None ∷ os) h e =
+    let same : nat_eq j k ≡ true = grind (arith, e) in
+    sym (ap (λ b. option_map of_fit (if b && is_found f then Some (fit at (Level j) f) else None) ∷ fixed_with (fit at (Level j) f ∷ []) (suc k) os) same
+    ∙ ap (λ b. option_map of_fit (if b then Some (fit at (Level j) f) else None) ∷ fixed_with (fit at (Level j) f ∷ []) (suc k) os) h
+    ∙ ap (λ xs. Some (fixing f at) ∷ xs) (earlier_fixes_none at j (suc k) f os zero (omega (arith, e))))
+level_fixes at j k zero f (Some g ∷ os) h e = ap (λ xs. Some g ∷ xs) (sym (earlier_fixes_none at j (suc k) f os zero (omega (arith, e))))
+level_fixes at j k (suc i) f (None ∷ os) h e =
+    let apart : nat_eq j k ≡ false = grind (arith, e) in
+    ap (λ xs. None ∷ xs) (level_fixes at j (suc k) i f os h (omega (arith, e)))
+    ∙ ap (λ b. option_map of_fit (if b && is_found f then Some (fit at (Level j) f) else None) ∷ fixed_with (fit at (Level j) f ∷ []) (suc k) os) (sym apart)
+level_fixes at j k (suc i) f (Some g ∷ os) h e = ap (λ xs. Some g ∷ xs) (level_fixes at j (suc k) i f os h (omega (arith, e)))
+
+pub all_are_found : (f : Fixed) → is_found (found_of f) ≡ true
+all_are_found (region.Is r) = refl
+all_are_found region.Unique = refl
+
+-- ---- what the variables stand for
+
+module _ (at : ℕ) (fs : List Fit) where
+  one_is : (o : Option Fit) → fixed_one (InRegion TheHeap) at o ≡ stands_for (option_map of_fit o)
+  one_is None = refl
+  one_is (Some f) = refl
+
+  pub fixed_is : (k n : ℕ) → fixed_from (InRegion TheHeap) at fs k n ≡ all_stand_for (fixed_with fs k (replicate n None))
+  fixed_is k zero = refl
+  fixed_is k (suc n) =
+      ap (λ v. both v (fixed_from (InRegion TheHeap) at fs (suc k) n) more) (one_is (first_fit fs k))
+      ∙ ap (λ v. both (stands_for (first_fixing fs k)) v more) (fixed_is (suc k) n)
+
+  pub known_is : (k n : ℕ) → fixed_known (InRegion TheHeap) at fs k n ≡ which_are_known (fixed_with fs k (replicate n None))
+  known_is k zero = refl
+  known_is k (suc n) =
+      ap (λ v. known v ∷ fixed_known (InRegion TheHeap) at fs (suc k) n) (one_is (first_fit fs k))
+      ∙ ap (λ os. known (stands_for (first_fixing fs k)) ∷ os) (known_is (suc k) n)
+
+then_more : (r : Region) (gs : List Fault) (rs : List Region)
+    → both (Of r) (unless_faulty gs (Of rs)) more ≡ unless_faulty gs (Of (r ∷ rs))
+then_more r [] rs = refl
+then_more r (g ∷ gs) rs = refl
+
+faulty_more : (f : Fault) (gs : List Fault) (rs : List Region) (V : Verdict (List Region)) (r : Region)
+    → both (unless_faulty (f ∷ []) (Of r)) (unless_faulty gs (Of rs)) more ≡ unless_faulty (f ∷ gs) V
+faulty_more f [] rs V r = refl
+faulty_more f (g ∷ gs) rs V r = refl
+
+pub all_stand : (fs : List (Option code.Fixing))
+    → all_stand_for (fixings_of fs) ≡ unless_faulty (fixing_faults (fixings_of fs)) (Of (regions_by (fixings_of fs)))
+all_stand [] = refl
+all_stand (None ∷ fs) =
+    ap (λ v. both (Of TheHeap) v more) (all_stand fs) ∙ then_more TheHeap (fixing_faults (fixings_of fs)) (regions_by (fixings_of fs))
+all_stand (Some f ∷ fs) = by (all_stand fs) f.is
+  where
+    by : all_stand_for (fixings_of fs) ≡ unless_faulty (fixing_faults (fixings_of fs)) (Of (regions_by (fixings_of fs)))
+        → (is : Fixed) → both (stands_for (Some (fixing (found_of is) f.at))) (all_stand_for (fixings_of fs)) more
+        ≡ unless_faulty (fixing_faults (Some (fixing (found_of is) f.at) ∷ fixings_of fs)) (Of (regions_by (Some (fixing (found_of is) f.at) ∷ fixings_of fs)))
+    by h (region.Is r) =
+        ap (λ v. both (Of (region_of r)) v more) h ∙ then_more (region_of r) (fixing_faults (fixings_of fs)) (regions_by (fixings_of fs))
+    by h region.Unique =
+        ap (λ v. both (stands_for (Some (fixing (found_of region.Unique) f.at))) v more) h
+        ∙ faulty_more (fault region_rule f.at) (fixing_faults (fixings_of fs)) (regions_by (fixings_of fs))
+        (Of (TheHeap ∷ regions_by (fixings_of fs))) TheHeap
+
+pub next_fixed : (one rest : List Fit) (before after : List (Option Fixing)) (all : List (Option Fixing)) → after ≡ fixed_with one 0 before
+    → fixed_with (one ++ rest) 0 before ≡ all → fixed_with rest 0 after ≡ all
+next_fixed one rest before after all e h = ap (fixed_with rest 0) e ∙ with_both one rest 0 before ∙ h
+
+-- fits of two lists, one of each at a time
+module _ {X Y : Type 0} (F : List X → List Y → List Fit) (one : X → Y → List Fit) (first : (ys : List Y) → F [] ys ≡ []) (second : (xs : List X) → F xs [] ≡ [])
+    (step : (x : X) (xs : List X) (y : Y) (ys : List Y) → F (x ∷ xs) (y ∷ ys) ≡ one x y ++ F xs ys) where
+  past : (i : ℕ) (xs : List X) (ys : List Y) → min (length xs) (length ys) ≤ i → F (drop i xs) (drop i ys) ≡ []
+  past zero [] ys h = first ys
+  past zero (x ∷ xs) [] h = second (x ∷ xs)
+  past zero (x ∷ xs) (y ∷ ys) h = absurd (omega (arith, h))
+  past (suc i) [] ys h = first (drop (suc i) ys)
+  past (suc i) (x ∷ xs) [] h = second (drop i xs)
+  past (suc i) (x ∷ xs) (y ∷ ys) h = past i xs ys (omega (arith, h))
+
+  pub all_fixed : (i : ℕ) (xs : List X) (ys : List Y) (os all : List (Option Fixing)) → min (length xs) (length ys) ≤ i
+      → fixed_with (F (drop i xs) (drop i ys)) 0 os ≡ all → os ≡ all
+  all_fixed i xs ys os all h e = sym (with_nothing 0 os) ∙ ap (λ fs. fixed_with fs 0 os) (sym (past i xs ys h)) ∙ e
+
+  pub next_fixes : (i : ℕ) (xs : List X) (ys : List Y) (x d : X) (y e : Y) (before after all : List (Option Fixing)) → i < min (length xs) (length ys)
+      → x ≡ get_or xs i d → y ≡ get_or ys i e → after ≡ fixed_with (one x y) 0 before
+      → fixed_with (F (drop i xs) (drop i ys)) 0 before ≡ all → fixed_with (F (drop (i + 1) xs) (drop (i + 1) ys)) 0 after ≡ all
+  next_fixes i xs ys x d y e before after all h p q was inv =
+      next_fixed (one x y) (F (drop (i + 1) xs) (drop (i + 1) ys)) before after all was
+      (ap (λ fs. fixed_with fs 0 before) (sym
+      (ap (λ l. F l (drop i ys)) (drop_more xs i d (omega (arith, h)) ∙ ap (λ z. z ∷ drop (i + 1) xs) (sym p))
+      ∙ ap (λ l. F (x ∷ drop (i + 1) xs) l) (drop_more ys i e (omega (arith, h)) ∙ ap (λ z. z ∷ drop (i + 1) ys) (sym q))
+      ∙ step x (drop (i + 1) xs) y (drop (i + 1) ys))) ∙ inv)
+
+-- ---- a table in code
+
+pub one_noted : (fs : List (Option code.Fixing)) (i : ℕ) (f : code.Fixing) (o : Option code.Fixing) → i < length fs → o ≡ get_or fs i o → is_some o ≡ false
+    → fixings_of (set fs i (Some f)) ≡ noted (fixings_of fs) i (fixing_of f)
+one_noted [] i f o l r e = refl
+one_noted (None ∷ fs) zero f o l r e = refl
+one_noted (Some g ∷ fs) zero f o l r e = absurd (true≢false (sym (ap is_some r) ∙ e))
+one_noted (None ∷ fs) (suc i) f o l r e = ap (λ xs. None ∷ xs) (one_noted fs i f o (omega (arith, l)) r e)
+one_noted (Some g ∷ fs) (suc i) f o l r e = ap (λ xs. Some (fixing_of g) ∷ xs) (one_noted fs i f o (omega (arith, l)) r e)
+
+pub stays_noted : (fs : List (Option code.Fixing)) (i : ℕ) (f : code.Fixing) (o : Option code.Fixing) → i < length fs → o ≡ get_or fs i o → is_some o ≡ true
+    → fixings_of fs ≡ noted (fixings_of fs) i (fixing_of f)
+stays_noted [] i f o l r e = refl
+stays_noted (None ∷ fs) zero f o l r e = absurd (true≢false (sym e ∙ ap is_some r))
+stays_noted (Some g ∷ fs) zero f o l r e = refl
+stays_noted (None ∷ fs) (suc i) f o l r e = ap (λ xs. None ∷ xs) (stays_noted fs i f o (omega (arith, l)) r e)
+stays_noted (Some g ∷ fs) (suc i) f o l r e = ap (λ xs. Some (fixing_of g) ∷ xs) (stays_noted fs i f o (omega (arith, l)) r e)
+
+pub past_noted : (fs : List (Option code.Fixing)) (i : ℕ) (f : code.Fixing) → length fs ≤ i → fixings_of fs ≡ noted (fixings_of fs) i (fixing_of f)
+past_noted [] i f l = refl
+past_noted (o ∷ fs) zero f l = absurd (omega (arith, l))
+past_noted (None ∷ fs) (suc i) f l = ap (λ xs. None ∷ xs) (past_noted fs i f (omega (arith, l)))
+past_noted (Some g ∷ fs) (suc i) f l = ap (λ xs. Some (fixing_of g) ∷ xs) (past_noted fs i f (omega (arith, l)))

@@ -1,0 +1,4 @@
+pub mod Fixings
+pub mod Fitted
+pub mod Held
+pub mod Targets

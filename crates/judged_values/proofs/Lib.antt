@@ -1,0 +1,4 @@
+mod Applying
+mod Assigning
+mod Following
+mod KindsOfTypes

@@ -1,0 +1,4 @@
+pub mod Operating
+pub mod Pointers
+pub mod TypeKinds
+pub mod Values

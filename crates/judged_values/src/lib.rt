@@ -1,0 +1,22 @@
+//! What expressions are, by what their operands are: operators, places, conversions and assignments.
+//!
+//! What is said of them are the rules of `source_typing`, each as it stands there.
+#![tactic(auto)]
+
+mod assignment;
+mod comparison;
+mod conversion;
+mod kind;
+mod literal;
+mod name;
+mod operator;
+mod prefix;
+mod value;
+
+pub use assignment::assigned;
+pub use conversion::converted;
+pub use literal::{character, null, number};
+pub use name::variable;
+pub use operator::{applied, condition, tested_both};
+pub use prefix::prefixed;
+pub use value::{Seat, Value, grouped};

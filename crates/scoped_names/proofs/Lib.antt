@@ -1,0 +1,3 @@
+pub mod Keeping
+mod Linking
+mod Ruled

@@ -1,0 +1,36 @@
+-- When what is in scope in code is what is in scope by the rules.
+use Rattle.std.specs.Prelude.{List, None, Option, Some, ℕ, ◌≡◌}
+use Rattle.source_typing.specs.Regions.{TheHeap}
+use Rattle.source_typing.specs.Scope.{Env, InRegion, meant}
+use Rattle.scoped_types.specs.Scopes.{AreThose}
+use Rattle.scoped_names.specs.Globals.{global_meaning}
+use Rattle.scoped_names.specs.Locals.{find_what}
+use Rattle.scoped_names.specs.Means.{Means}
+use Rattle.scoped_names.specs.declared.locals.What.{What}
+use Rattle.scoped_names.specs.declared.locals.What.TheVariants as local
+use Rattle.scoped_names.specs.declared.meaning.Meaning.{Meaning}
+use Rattle.scoped_names.specs.declared.meaning.Meaning.TheVariants as code
+use Rattle.scoped_names.specs.declared.scope.Scope.{Scope}
+
+-- ---- names
+
+abbrev pub of_local : What → Meaning
+of_local (local.Variable t r) = code.Variable t r
+of_local local.NotKnown = code.NotKnown
+
+-- a local hides a function and a global of its name
+abbrev pub local_or : Option What → Option Meaning → Option Meaning
+local_or None m = m
+local_or (Some w) m = Some (of_local w)
+
+abbrev pub means_in : Scope → List ℕ → Option Meaning
+means_in s x = local_or (find_what s.locals x) (global_meaning s.globals.now x)
+
+-- ---- all of it
+
+-- Each name means what it means by the rules, the regions are the same, and no `rnew` is around.
+pub record Knows (s : Scope) (g : Env) : Type 0 where
+  pub names : (x : List ℕ) → Means (meant g x) (means_in s x)
+  pub regions : AreThose s.regions g.regions
+  pub lenient : s.lenient ≡ g.lenient
+  pub enclosing : g.enclosing ≡ InRegion TheHeap

@@ -1,0 +1,6 @@
+pub mod Changes
+pub mod Globals
+pub mod Knows
+pub mod Linked
+pub mod Locals
+pub mod Means

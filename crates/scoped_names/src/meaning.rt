@@ -1,0 +1,29 @@
+// What a name means.
+
+use cyc_types::{CType, RegionId};
+
+/// A function whose head has no fault: what it takes and gives, by its region variables, which are the first levels.
+#[derive(Debug, Drop)]
+pub struct Signature<'p> {
+    /// How many region variables it has.
+    pub regions: u32,
+    pub parameters: Vec<CType<'p>>,
+    pub result: CType<'p>,
+    /// The regions that have to be live where it is called.
+    pub effect: Vec<RegionId>,
+    /// Pairs of regions of which the first one outlives the other.
+    pub bounds: Vec<(RegionId, RegionId)>,
+}
+
+/// What a name means that no local hides.
+#[derive(Debug, Drop)]
+pub enum Meaning<'p> {
+    /// A variable of a type, in a region.
+    Variable(CType<'p>, RegionId),
+    /// A function of the program.
+    Function(Signature<'p>),
+    /// A function that every program has, with so many parameters.
+    Builtin(u32),
+    /// A name whose declaration is at fault.
+    NotKnown,
+}

@@ -1,0 +1,98 @@
+// What is in scope where an expression is judged.
+
+ghost use Rattle.std.specs.Prelude.{◌≡◌, IfOk, option_map};
+ghost use Rattle.cyc_types.specs.Regions.{region_of};
+ghost use Rattle.source_typing.specs.Scope.{Env, is_live, meant, outlives};
+ghost use Rattle.scoped_names.specs.Globals.{global_meaning};
+ghost use Rattle.scoped_names.specs.Knows.{Knows, means_in, of_local};
+ghost use Rattle.scoped_names.specs.Means.{Means, meaning_of};
+
+use crate::globals::Globals;
+use crate::locals::{Locals, What};
+use crate::meaning::{Meaning, Signature};
+use cyc_types::{CType, RegionId};
+use scoped_types::RegionScope;
+use std::alloc::AllocError;
+
+/// What a name means where it is used.
+#[derive(Clone, Copy, Debug)]
+pub enum Named<'a, 'p> {
+    /// A variable of a type, in a region.
+    Variable(&'a CType<'p>, RegionId),
+    /// A function of the program.
+    Function(&'a Signature<'p>),
+    /// A function that every program has, with so many parameters.
+    Builtin(u32),
+    /// A name whose declaration is at fault.
+    NotKnown,
+}
+
+/// What is in scope where an expression is judged: names, regions, and whether the rules on live regions and effects are left
+/// out.
+#[derive(Drop)]
+pub struct Scope<'g, 'p> {
+    pub globals: &'g Globals<'p>,
+    pub locals: Locals<'p>,
+    pub regions: RegionScope,
+    pub lenient: bool,
+}
+
+/// What a local is, as what its name means.
+fn named_local<'a, 'p>(what: &'a What<'p>) -> Named<'a, 'p>
+    ensures { meaning_of result ≡ of_local what.now }
+{
+    match what {
+        What::Variable(stored, region) => Named::Variable(stored, *region),
+        What::NotKnown => Named::NotKnown,
+    }
+}
+
+/// What a global or a function is, as what its name means.
+fn named_global<'a, 'p>(meaning: &'a Meaning<'p>) -> Named<'a, 'p>
+    ensures { meaning_of result ≡ meaning.now }
+{
+    match meaning {
+        Meaning::Variable(stored, region) => Named::Variable(stored, *region),
+        Meaning::Function(signature) => Named::Function(signature),
+        Meaning::Builtin(count) => Named::Builtin(*count),
+        Meaning::NotKnown => Named::NotKnown,
+    }
+}
+
+impl<'g, 'p> Scope<'g, 'p> {
+    /// What a name means, where it means something.
+    #[tactic(auto, using(crate::proofs::Ruled::named_by_rules))]
+    pub fn meaning(&self, name: &[u8]) -> Option<Named<'_, 'p>>
+        ensures is { option_map meaning_of result ≡ means_in self.now name.now }
+        ensures by_the_rules { (g : Env) → Knows self.now g → Means (meant g name.now) (option_map meaning_of result) }
+    {
+        match self.locals.find(name) {
+            Some(what) => Some(named_local(what)),
+            None => self.global_meaning(name),
+        }
+    }
+
+    /// What a name means that no local hides.
+    fn global_meaning(&self, name: &[u8]) -> Option<Named<'_, 'p>>
+        ensures { option_map meaning_of result ≡ global_meaning self.now.globals.now name.now }
+    {
+        match self.globals.meaning(name) {
+            Some(meaning) => Some(named_global(meaning)),
+            None => None,
+        }
+    }
+
+    /// Whether a region is live, or counts as live.
+    pub fn is_live(&self, region: RegionId) -> bool
+        ensures { (g : Env) → Knows self.now g → result ≡ is_live g (region_of region) }
+    {
+        self.lenient || self.regions.is_live(region)
+    }
+
+    /// Whether a region outlives another one. Fails only where no host memory is left.
+    pub fn outlives(&self, one: RegionId, other: RegionId) -> Result<bool, AllocError>
+        ensures { (g : Env) → Knows self.now g → IfOk result (λ b. b ≡ outlives g (region_of one) (region_of other)) }
+    {
+        self.regions.outlives(one, other)
+    }
+}

@@ -1,0 +1,5 @@
+pub mod Entering
+pub mod Extending
+pub mod Naming
+pub mod Rounds
+pub mod Ruled

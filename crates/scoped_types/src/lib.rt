@@ -1,0 +1,15 @@
+//! The region names that are in scope at a point, which are live, and which outlives which.
+//!
+//! What is said of them are the definitions of `source_typing`, on which it stands: a scope here answers what the rules' one
+//! answers, name by name.
+#![tactic(auto)]
+
+mod begun;
+mod bounds;
+mod entry;
+mod names;
+mod scope;
+
+pub use begun::Begun;
+pub use names::RegionNames;
+pub use scope::{RegionMark, RegionScope};

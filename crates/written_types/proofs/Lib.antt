@@ -1,0 +1,2 @@
+pub mod MissingRegions
+pub mod Pointers

@@ -1,0 +1,25 @@
+use Rattle.std.proofs.Common.{ap, sym, ◌∙◌}
+use Rattle.std.specs.Prelude.{None, Option, Some, option_map}
+use Rattle.source_typing.specs.Types.{StaticType}
+use Rattle.cyc_types.specs.Bases.{base_type}
+use Rattle.cyc_types.specs.Layers.{pointed}
+use Rattle.cyc_types.specs.Types.{static_type}
+use Rattle.written_types.specs.Settling.{all_from}
+use Rattle.written_types.proofs.MissingRegions.{settles}
+use Rattle.written_types.proofs.settling.settled.Goals as goal
+
+pub returns-in-Some : goal.returns-in-Some
+returns-in-Some c =
+    let b = c.args.written.base in
+    let s : Option StaticType = option_map (λ s. static_type s.now) c.args.source in
+    settles b c.args.written.layers.items c.args.at s (Some (pointed (base_type b) c.in-Some.layers.items))
+    (sym (ap (option_map (λ ls. pointed (base_type b) ls.items)) c.in-Some.is) ∙ c.in_ok-layers.ensures (base_type b)
+    ∙ ap (λ ls. all_from ls s (Some (base_type b))) c.as_slice.ensures)
+
+pub returns : goal.returns
+returns c =
+    let b = c.args.written.base in
+    let s : Option StaticType = option_map (λ s. static_type s.now) c.args.source in
+    settles b c.args.written.layers.items c.args.at s None
+    (sym (ap (option_map (λ ls. pointed (base_type b) ls.items)) c.in-None.is) ∙ c.in_ok-layers.ensures (base_type b)
+    ∙ ap (λ ls. all_from ls s (Some (base_type b))) c.as_slice.ensures)

@@ -1,0 +1,3 @@
+pub mod Settling
+pub mod Reading
+pub mod Written

@@ -1,0 +1,17 @@
+//! Types as a text writes them, and what they are once their missing regions are found.
+//!
+//! What is said of them are the definitions of `source_typing`, on which it stands, where integers and thin pointers are taken:
+//! a function here answers the verdict that the rules have.
+#![tactic(auto)]
+
+mod heading;
+mod layer;
+mod reading;
+mod settling;
+mod variables;
+
+pub use heading::result_type;
+pub use layer::WrittenLayer;
+pub use reading::{misses_region, written};
+pub use settling::{WrittenLayers, WrittenType, settled};
+pub use variables::{RegionVariables, VariableFault};

@@ -1,5 +1,5 @@
 -- The code of a program that has its `main` is too large only where it takes more bytes than the limit: its first jump goes to a label with code behind it.
-use Rattle.std.specs.Prelude.{length}
+use Rattle.std.specs.Prelude.{length, ◌↔◌}
 use Rattle.std.proofs.Common.{◌≡◌, ℕ, zero, suc, ◌+◌, ◌<◌, Bool, true, false, nat_eq, if◌then◌else◌, inl, inr, List, [], ◌∷◌, ◌++◌, sym, subst, arith}
 use Rattle.std.proofs.lemmas.Bool.Decides.{nat_tests}
 use Rattle.cyc_image.specs.Format.{code_limit}
@@ -85,3 +85,9 @@ too_long p there (inr far) =
     let less = (main_has p there).less in
     let place : place_of (program_code p) p.main ≡ code_limit = subst (λ label. place_of (program_code p) label ≡ code_limit) (sym same) far.far in
     omega (arith, less, place)
+
+-- what is so exactly where lines are too large is so of a program exactly where they are too long
+pub only_too_long : (P : Type 0) (lines : List Line) → (P ↔ AreTooLarge lines) → (p : Program) → lines ≡ program_code p → p.main < length p.functions
+    → (P ↔ (code_limit < code_length lines))
+only_too_long P lines e p same there =
+    (λ x. subst (λ ls. code_limit < code_length ls) (sym same) (too_long p there (subst (λ ls. AreTooLarge ls) same (e.0 x))), λ over. e.1 (inl over))

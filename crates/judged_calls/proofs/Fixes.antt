@@ -1,8 +1,7 @@
 -- What region variables are fixed to, one fit after another.
-use Rattle.std.specs.Prelude.{is_some, min, nat_eq, option_map, replicate, slice_get, ◌&&◌, ◌+◌, ◌++◌, if◌then◌else◌}
+use Rattle.std.specs.Prelude.{is_some, min, nat_eq, option_map, replicate, ◌&&◌, ◌+◌, ◌++◌, if◌then◌else◌}
 use Rattle.std.proofs.Common.{◌≡◌, ◌<◌, ◌≤◌, ℕ, zero, suc, Bool, true, false, Option, Some, None}
 use Rattle.std.proofs.Common.{List, [], ◌∷◌, refl, sym, ◌∙◌, ap, arith, drop, get_or, length, set, true≢false}
-use Rattle.std.proofs.lemmas.List.{drop_more}
 use Rattle.cyc_types.specs.Regions.{region_of}
 use Rattle.source_typing.specs.Faults.{Fault, fault, region_rule}
 use Rattle.source_typing.specs.Fixing.{Fit, first_fit, fit, fixed_from, fixed_known, fixed_one, is_found, more}
@@ -30,6 +29,7 @@ use Rattle.judged_calls.specs.Fixings.{
 use Rattle.judged_calls.specs.declared.fixing.Fixed.{Fixed}
 use Rattle.judged_calls.specs.declared.fixing.Fixed.TheVariants as region
 use Rattle.judged_calls.specs.declared.fixing.Fixing as code
+use Rattle.judged_calls.proofs.Paired.{next_given, past}
 
 -- ---- some fits, and then others
 
@@ -159,27 +159,16 @@ next_fixed one rest before after all e h = ap (fixed_with rest 0) e ∙ with_bot
 -- fits of two lists, one of each at a time
 module _ {X Y : Type 0} (F : List X → List Y → List Fit) (one : X → Y → List Fit) (first : (ys : List Y) → F [] ys ≡ []) (second : (xs : List X) → F xs [] ≡ [])
     (step : (x : X) (xs : List X) (y : Y) (ys : List Y) → F (x ∷ xs) (y ∷ ys) ≡ one x y ++ F xs ys) where
-  past : (i : ℕ) (xs : List X) (ys : List Y) → min (length xs) (length ys) ≤ i → F (drop i xs) (drop i ys) ≡ []
-  past zero [] ys h = first ys
-  past zero (x ∷ xs) [] h = second (x ∷ xs)
-  past zero (x ∷ xs) (y ∷ ys) h = absurd (omega (arith, h))
-  past (suc i) [] ys h = first (drop (suc i) ys)
-  past (suc i) (x ∷ xs) [] h = second (drop i xs)
-  past (suc i) (x ∷ xs) (y ∷ ys) h = past i xs ys (omega (arith, h))
-
   pub all_fixed : (i : ℕ) (xs : List X) (ys : List Y) (os all : List (Option Fixing)) → min (length xs) (length ys) ≤ i
       → fixed_with (F (drop i xs) (drop i ys)) 0 os ≡ all → os ≡ all
-  all_fixed i xs ys os all h e = sym (with_nothing 0 os) ∙ ap (λ fs. fixed_with fs 0 os) (sym (past i xs ys h)) ∙ e
+  all_fixed i xs ys os all h e = sym (with_nothing 0 os) ∙ ap (λ fs. fixed_with fs 0 os) (sym (past F one first second step i xs ys h)) ∙ e
 
   pub next_fixes : (i : ℕ) (xs : List X) (ys : List Y) (x d : X) (y e : Y) (before after all : List (Option Fixing)) → i < min (length xs) (length ys)
       → x ≡ get_or xs i d → y ≡ get_or ys i e → after ≡ fixed_with (one x y) 0 before
       → fixed_with (F (drop i xs) (drop i ys)) 0 before ≡ all → fixed_with (F (drop (i + 1) xs) (drop (i + 1) ys)) 0 after ≡ all
   next_fixes i xs ys x d y e before after all h p q was inv =
       next_fixed (one x y) (F (drop (i + 1) xs) (drop (i + 1) ys)) before after all was
-      (ap (λ fs. fixed_with fs 0 before) (sym
-      (ap (λ l. F l (drop i ys)) (drop_more xs i d (omega (arith, h)) ∙ ap (λ z. z ∷ drop (i + 1) xs) (sym p))
-      ∙ ap (λ l. F (x ∷ drop (i + 1) xs) l) (drop_more ys i e (omega (arith, h)) ∙ ap (λ z. z ∷ drop (i + 1) ys) (sym q))
-      ∙ step x (drop (i + 1) xs) y (drop (i + 1) ys))) ∙ inv)
+      (ap (λ fs. fixed_with fs 0 before) (sym (next_given F one first second step i xs ys x d y e h p q)) ∙ inv)
 
 -- ---- a table in code
 

@@ -1,6 +1,6 @@
 -- The regions of two types at the same places, by their pointers in code.
-use Rattle.std.specs.Prelude.{bytes_eq, nat_eq, option_map, ◌++◌, ◌-◌, ◌&&◌, if◌then◌else◌, min}
-use Rattle.std.proofs.Common.{◌≡◌, ◌≤◌, ℕ, zero, suc, Bool, true, false, Option, Some, None}
+use Rattle.std.specs.Prelude.{nat_eq, option_map, ◌++◌, ◌-◌, ◌&&◌, if◌then◌else◌, min}
+use Rattle.std.proofs.Common.{◌≡◌, ℕ, Bool, true, false, Option, Some, None}
 use Rattle.std.proofs.Common.{List, [], ◌∷◌, refl, sym, ◌∙◌, ap, arith, take, drop, length, true≢false}
 use Rattle.std.proofs.lemmas.List.{append_assoc, append-nil, length-drop, length-take, take-append-drop, take_rest}
 use Rattle.std.proofs.lemmas.Bool.Decides.{nat_tests}
@@ -14,7 +14,7 @@ use Rattle.cyc_types.specs.declared.ctype.CType.{CType}
 use Rattle.cyc_types.specs.declared.region.RegionId.{RegionId}
 use Rattle.cyc_types.specs.declared.layer.Layer.{Layer}
 use Rattle.cyc_types.specs.declared.layer.Layer.TheVariants as pointer
-use Rattle.source_typing.specs.Fixing.{Fit, first_fit, fit, fit_all, fits_of, is_found}
+use Rattle.source_typing.specs.Fixing.{Fit, fit, fit_all, fits_of}
 use Rattle.source_typing.specs.Missing.{outer_region, pointee_of}
 use Rattle.source_typing.specs.Regions.{Level, Region, same_id}
 use Rattle.source_typing.specs.Types.{Char, Fat, Handle, Int, Key, Null, StaticType, Struct, Thin, Union, Unique, Unsigned, Void}

@@ -7,7 +7,7 @@ use Rattle.cyc_types.specs.Regions.{region_of, regions_of}
 use Rattle.cyc_types.specs.declared.layer.Layer.{Layer}
 use Rattle.cyc_types.specs.declared.region.RegionId.{RegionId}
 use Rattle.source_typing.specs.Regions.{Level, Region, TheHeap}
-use Rattle.source_typing.specs.Tables.{argument, or_heap}
+use Rattle.source_typing.specs.Tables.{argument}
 use Rattle.source_typing.specs.Types.{StaticType, renamed}
 
 pub argument_some : (rs : List RegionId) (k : ℕ) (r : RegionId) → slice_get rs k ≡ Some r → region_of r ≡ argument (regions_of rs) (Level k)

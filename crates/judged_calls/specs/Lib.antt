@@ -1,3 +1,4 @@
+pub mod Converted
 pub mod Fixings
 pub mod Fitted
 pub mod Held

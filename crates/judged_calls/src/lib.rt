@@ -1,11 +1,14 @@
-//! Calls: what is called, what its region variables stand for, and the conversions of its arguments.
+//! Calls: what is called, what its region variables stand for, the conversions of its arguments, and what the callee asks for.
 //!
 //! What is said of a call is what the rules of `source_typing` say of it.
 #![tactic(auto)]
 
+mod arguments;
+mod call;
 mod fixing;
 mod known;
 mod renaming;
 mod target;
 
+pub use call::called;
 pub use target::{Target, called_target};

@@ -1,7 +1,7 @@
 use Rattle.std.proofs.Common.{List, [], ◌∷◌, arith, refl}
 use Rattle.cyc_types.specs.Regions.{region_of, regions_of}
 use Rattle.cyc_types.specs.declared.region.RegionId.{RegionId}
-use Rattle.source_typing.specs.Fixing.{Fit, fit, fit_all}
+use Rattle.source_typing.specs.Fixing.{fit, fit_all}
 use Rattle.source_typing.specs.Written.{Is}
 use Rattle.judged_calls.specs.Fixings.{fixed_with, fixings_of}
 use Rattle.judged_calls.proofs.Fixes.{all_fixed, next_fixes}

@@ -1,0 +1,124 @@
+-- Conversions of arguments, by what is said of each.
+use Rattle.std.specs.Prelude.{is_some, map, nat_eq, replicate, unwrap_or, ◌++◌}
+use Rattle.std.proofs.Common.{◌≡◌, ℕ, Bool, true, false, Option, Some, None, List, [], ◌∷◌, refl, sym, ◌∙◌, ap, length}
+use Rattle.std.proofs.lemmas.List.{length-map}
+use Rattle.cyc_types.specs.Regions.{region_of}
+use Rattle.cyc_types.specs.Types.{static_type}
+use Rattle.cyc_types.specs.declared.ctype.CType.{CType}
+use Rattle.judged_values.specs.Values.{value_of}
+use Rattle.judged_values.specs.declared.value.Value.{Value}
+use Rattle.source_typing.specs.Calls.{all_convert, arguments_converted, arguments_counted, arguments_fit, partly_convert}
+use Rattle.source_typing.specs.Conversions.{converts}
+use Rattle.source_typing.specs.Faults.{Fault, earliest, fault, sooner_of, type_rule}
+use Rattle.source_typing.specs.Fixing.{fixed_from}
+use Rattle.source_typing.specs.Regions.{Region, TheHeap}
+use Rattle.source_typing.specs.Scope.{Env, InRegion}
+use Rattle.source_typing.specs.Tables.{argument, or_heap}
+use Rattle.source_typing.specs.Types.{renamed}
+use Rattle.source_typing.specs.Verdicts.{Of, unless_faulty}
+use Rattle.type_verdicts.specs.Faults.{faults_of, first_of, sooner_found}
+use Rattle.type_verdicts.specs.Verdicts.{Wrong, shortened}
+use Rattle.type_verdicts.specs.declared.fault.Fault as found
+use Rattle.type_verdicts.proofs.Earliest.{earliest_of_both, found_sooner}
+use Rattle.judged_calls.specs.Converted.{argument_faults, arguments_faults, short_unless}
+use Rattle.judged_calls.specs.Fitted.{fits_all, parameter_types}
+use Rattle.judged_calls.specs.Fixings.{fixed_with, fixing_faults, fixings_of, regions_by, which_are_known}
+use Rattle.judged_calls.specs.declared.fixing.Fixed.{Fixed}
+use Rattle.judged_calls.specs.declared.fixing.Fixed.TheVariants as region
+use Rattle.judged_calls.specs.declared.fixing.Fixing as code
+use Rattle.judged_calls.proofs.Fitting.{all_are_known, in_order, variables_fixed, variables_known}
+
+-- ---- of all of them
+
+pub none_given : (partly : Bool) (g : Env) (some : List (Option Region)) (rs : List Region) (ps : List CType) → arguments_faults partly g some rs ps [] ≡ []
+none_given partly g some rs [] = refl
+none_given partly g some rs (p ∷ ps) = refl
+
+module _ (g : Env) (some : List (Option Region)) (rs : List Region) where
+  all_is : (ps : List CType) (vs : List Value) → arguments_faults false g some rs ps vs ≡ all_convert g rs (parameter_types ps) (map value_of vs)
+  all_is [] vs = refl
+  all_is (p ∷ ps) [] = refl
+  all_is (p ∷ ps) (v ∷ vs) = ap (λ fs. converts g (value_of v) (renamed (argument rs) (static_type p)) ++ fs) (all_is ps vs)
+
+  abbrev of_one : List Region → CType → Value → List Fault
+  of_one qs p v = argument_faults true g some qs p v
+
+  partly_is : (ps : List CType) (vs : List Value) → rs ≡ map or_heap some
+      → arguments_faults true g some rs ps vs ≡ partly_convert g some (parameter_types ps) (map value_of vs)
+  partly_is [] vs e = refl
+  partly_is (p ∷ ps) [] e = refl
+  partly_is (p ∷ ps) (v ∷ vs) e =
+      ap (λ qs. of_one qs p v ++ arguments_faults true g some rs ps vs) e ∙ ap (λ fs. of_one (map or_heap some) p v ++ fs) (partly_is ps vs e)
+
+-- a variable at fault counts as the heap
+heap_in : (fs : List (Option code.Fixing)) → regions_by (fixings_of fs) ≡ map or_heap (which_are_known (fixings_of fs))
+heap_in [] = refl
+heap_in (None ∷ fs) = ap (λ rs. TheHeap ∷ rs) (heap_in fs)
+heap_in (Some f ∷ fs) = by (heap_in fs) f.is
+  where
+    by : regions_by (fixings_of fs) ≡ map or_heap (which_are_known (fixings_of fs)) → (is : Fixed)
+        → regions_by (fixings_of (Some (record f { is = is }) ∷ fs)) ≡ map or_heap (which_are_known (fixings_of (Some (record f { is = is }) ∷ fs)))
+    by h (region.Is r) = ap (λ rs. region_of r ∷ rs) h
+    by h region.Unique = ap (λ rs. TheHeap ∷ rs) h
+
+-- ---- what the variables stand for, or a fault
+
+short_unless_is : {A : Type 0} (fs : List Fault) (a : A) → short_unless (earliest fs) a ≡ shortened (unless_faulty fs (Of a))
+short_unless_is [] a = refl
+short_unless_is (f ∷ fs) a = by (earliest fs)
+  where
+    by : (o : Option Fault) → short_unless (sooner_of f o) a ≡ Wrong (unwrap_or (sooner_of f o) f)
+    by None = refl
+    by (Some g) = refl
+
+some_is_found : (f : Fault) (o : Option Fault) → None ≡ sooner_of f o → ⊥
+some_is_found f None e = absurd cc
+some_is_found f (Some g) e = absurd cc
+
+-- by the counts in code
+counts_are : (t : Bool) (ps : List CType) (vs : List Value) → nat_eq (length ps) (length vs) ≡ t
+    → nat_eq (length (parameter_types ps)) (length (map value_of vs)) ≡ t
+counts_are t ps vs e =
+    ap (λ n. nat_eq n (length (map value_of vs))) (length-map ps (λ p. Some (static_type p))) ∙ ap (λ n. nat_eq (length ps) n) (length-map vs value_of) ∙ e
+
+pub miscounted : (g : Env) (at n : ℕ) (ps : List CType) (vs : List Value) → nat_eq (length ps) (length vs) ≡ false
+    → Wrong (fault type_rule at) ≡ shortened (arguments_fit g at n (parameter_types ps) (map value_of vs))
+miscounted g at n ps vs e =
+    ap (λ b. shortened (arguments_counted b g at n (parameter_types ps) (map value_of vs))) (sym (counts_are false ps vs e))
+
+module _ (g : Env) (ps : List CType) (vs : List Value) (fs : List (Option code.Fixing)) (conversion : Option found.Fault) where
+  abbrev rs : List Region
+  rs = regions_by (fixings_of fs)
+
+  abbrev some : List (Option Region)
+  some = which_are_known (fixings_of fs)
+
+  converted_by : (faults : List Fault) (fixing : Option found.Fault) → faults_of fixing ≡ earliest faults
+      → faults_of conversion ≡ earliest (arguments_faults (is_some fixing) g some rs ps vs)
+      → short_unless (faults_of (sooner_found fixing conversion)) rs
+      ≡ shortened (arguments_converted g some (parameter_types ps) (map value_of vs) (unless_faulty faults (Of rs)))
+  converted_by [] None e h =
+      ap (λ o. short_unless o rs) (h ∙ ap earliest (all_is g some rs ps vs))
+      ∙ short_unless_is (all_convert g rs (parameter_types ps) (map value_of vs)) rs
+      ∙ ap shortened (sym (in_order g some (parameter_types ps) (map value_of vs) rs (all_are_known ps)))
+  converted_by [] (Some x) e h = absurd cc
+  converted_by (f ∷ more) None e h = absurd (some_is_found f (earliest more) e)
+  converted_by (f ∷ more) (Some x) e h =
+      ap (λ o. short_unless o rs) (found_sooner (Some x) conversion)
+      ∙ ap (λ o. short_unless (first_of o (faults_of conversion)) rs) e
+      ∙ ap (λ o. short_unless (first_of (earliest (f ∷ more)) o) rs) (h ∙ ap earliest (partly_is g some rs ps vs (heap_in fs)))
+      ∙ ap (λ o. short_unless o rs) (sym (earliest_of_both (f ∷ more) (partly_convert g some (parameter_types ps) (map value_of vs))))
+      ∙ short_unless_is ((f ∷ more) ++ partly_convert g some (parameter_types ps) (map value_of vs)) rs
+
+  -- outside of any `rnew`, with as many arguments as parameters
+  pub arguments_are : (at n : ℕ) (fixing : Option found.Fault) → g.enclosing ≡ InRegion TheHeap
+      → fixings_of fs ≡ fixed_with (fits_all ps vs) 0 (replicate n None) → nat_eq (length ps) (length vs) ≡ true
+      → faults_of fixing ≡ earliest (fixing_faults (fixings_of fs)) → faults_of conversion ≡ earliest (arguments_faults (is_some fixing) g some rs ps vs)
+      → short_unless (faults_of (sooner_found fixing conversion)) rs ≡ shortened (arguments_fit g at n (parameter_types ps) (map value_of vs))
+  arguments_are at n fixing heap are count e h =
+      converted_by (fixing_faults (fixings_of fs)) fixing e h
+      ∙ ap (λ v. shortened (arguments_converted g some (parameter_types ps) (map value_of vs) v))
+      (sym (variables_fixed g.enclosing at n (fits_all ps vs) fs heap are))
+      ∙ ap (λ k. shortened (arguments_converted g k (parameter_types ps) (map value_of vs) (fixed_from g.enclosing at (fits_all ps vs) 0 n)))
+      (sym (variables_known g.enclosing at n (fits_all ps vs) fs heap are))
+      ∙ ap (λ b. shortened (arguments_counted b g at n (parameter_types ps) (map value_of vs))) (sym (counts_are true ps vs count))

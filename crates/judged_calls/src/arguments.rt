@@ -1,0 +1,142 @@
+// The conversions of a call's arguments.
+
+ghost use Rattle.std.specs.Prelude.{◌≡◌, IfOk, map};
+ghost use Rattle.cyc_types.specs.Regions.{regions_of};
+ghost use Rattle.cyc_types.specs.Types.{static_type};
+ghost use Rattle.judged_values.specs.Values.{value_of};
+ghost use Rattle.scoped_names.specs.Knows.{Knows};
+ghost use Rattle.source_typing.specs.Calls.{arguments_fit};
+ghost use Rattle.source_typing.specs.Faults.{earliest};
+ghost use Rattle.source_typing.specs.Scope.{Env};
+ghost use Rattle.type_verdicts.specs.Faults.{faults_of};
+ghost use Rattle.type_verdicts.specs.Verdicts.{short_of, shortened};
+ghost use Rattle.judged_calls.specs.Converted.{argument_faults, arguments_faults, counted, is_whole, regions_in, short_unless, type_alone};
+ghost use Rattle.judged_calls.specs.Fitted.{parameter_types};
+ghost use Rattle.judged_calls.specs.Fixings.{fixings_of, which_are_known};
+
+use crate::fixing::{Fixing, fixings_fault, fixings_for, regions_by};
+use crate::known::is_known_type;
+use crate::renaming::renamed_type;
+use cyc_types::{CType, RegionId};
+use judged_values::{Value, converted};
+use scoped_names::Scope;
+use std::alloc::{AllocError, Global};
+use type_verdicts::{Fault, FaultKind, Verdict, sooner};
+
+/// A fault, where it is of types.
+fn type_alone(fault: Option<Fault>) -> Option<Fault>
+    ensures { faults_of result ≡ type_alone (faults_of fault) }
+{
+    match fault {
+        Some(
+            Fault {
+                kind: FaultKind::Typing,
+                at,
+            },
+        ) => Some(Fault {
+            kind: FaultKind::Typing,
+            at,
+        }),
+        _ => None,
+    }
+}
+
+/// A conversion's fault; where it isn't looked at with its regions, one of types alone.
+fn counted(is_whole: bool, fault: Option<Fault>) -> Option<Fault>
+    ensures { faults_of result ≡ counted is_whole (faults_of fault) }
+{
+    if is_whole { fault } else { type_alone(fault) }
+}
+
+/// Whether a conversion to a parameter's type is looked at with its regions: where a variable is at fault, all others of the
+/// type have to be known.
+fn is_whole(partly: bool, fixings: &[Option<Fixing>], parameter: &CType) -> bool
+    ensures { result ≡ is_whole partly (which_are_known (fixings_of fixings.now)) (static_type parameter.now) }
+{
+    if partly {
+        is_known_type(fixings, parameter)
+    } else {
+        true
+    }
+}
+
+/// The fault of an argument that is converted to a parameter's type, if any. Fails only where no host memory is left.
+fn argument_fault(
+    scope: &Scope,
+    fixings: &[Option<Fixing>],
+    regions: &[RegionId],
+    partly: bool,
+    parameter: &CType,
+    value: &Value,
+) -> Result<Option<Fault>, AllocError>
+    ensures { (g : Env) → Knows scope.now g → IfOk result (λ f. faults_of f
+        ≡ earliest (argument_faults partly g (which_are_known (fixings_of fixings.now)) (regions_of regions.now) parameter.now value.now)) }
+{
+    let to = renamed_type(regions, parameter)?;
+    let fault = converted(scope, value, &to)?;
+    Ok(counted(is_whole(partly, fixings, parameter), fault))
+}
+
+/// The fault of the arguments that is answered, if any. Fails only where no host memory is left.
+fn conversions_fault(
+    scope: &Scope,
+    fixings: &[Option<Fixing>],
+    regions: &[RegionId],
+    partly: bool,
+    parameters: &[CType],
+    arguments: &[Value],
+) -> Result<Option<Fault>, AllocError>
+    ensures { (g : Env) → Knows scope.now g → IfOk result (λ f. faults_of f
+        ≡ earliest (arguments_faults partly g (which_are_known (fixings_of fixings.now)) (regions_of regions.now) parameters.now arguments.now)) }
+{
+    let count = parameters.len().min(arguments.len());
+    let mut found = None;
+    'each: for index in 0..count {
+        let to = &parameters[index];
+        let own = argument_fault(scope, fixings, regions, partly, to, &arguments[index])?;
+        found = sooner(found, own);
+    }
+    Ok(found)
+}
+
+/// What the variables stand for, unless there is a fault.
+fn unless_found(fault: Option<Fault>, regions: Vec<RegionId>) -> Verdict<Vec<RegionId>>
+    ensures { short_of regions_in result ≡ short_unless (faults_of fault) (regions_in regions) }
+{
+    match fault {
+        Some(fault) => Verdict::Wrong(fault),
+        None => Verdict::Of(regions),
+    }
+}
+
+/// What the variables stand for where the arguments fit parameters of these types. Fails only where no host memory is left.
+pub(crate) fn arguments_fit(
+    scope: &Scope,
+    alloc: Global,
+    at: u32,
+    variables: u32,
+    parameters: &[CType],
+    arguments: &[Value],
+) -> Result<Verdict<Vec<RegionId>>, AllocError>
+    ensures { (g : Env) → Knows scope.now g → IfOk result (λ v. short_of regions_in v
+        ≡ shortened (arguments_fit g at variables (parameter_types parameters.now) (map value_of arguments.now))) }
+{
+    if parameters.len() != arguments.len() {
+        return Ok(Verdict::Wrong(Fault {
+            kind: FaultKind::Typing,
+            at,
+        }));
+    }
+    let fixings = fixings_for(alloc, variables, parameters, arguments)?;
+    let regions = regions_by(alloc, fixings.as_slice())?;
+    let fixing = fixings_fault(fixings.as_slice());
+    let conversion = conversions_fault(
+        scope,
+        fixings.as_slice(),
+        regions.as_slice(),
+        fixing.is_some(),
+        parameters,
+        arguments,
+    )?;
+    Ok(unless_found(sooner(fixing, conversion), regions))
+}

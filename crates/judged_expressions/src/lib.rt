@@ -1,0 +1,7 @@
+//! What the expressions of a program of integers and thin pointers are.
+#![tactic(auto)]
+
+mod expression;
+mod parts;
+
+pub use expression::judge;

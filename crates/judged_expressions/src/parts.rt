@@ -1,0 +1,162 @@
+// What expressions are, by what their parts are.
+
+ghost use Rattle.std.specs.Prelude.{◌≡◌, IfOk, if◌then◌else◌};
+ghost use Rattle.source_typing.specs.Operators.{applied, prefixed, tested_both};
+ghost use Rattle.source_typing.specs.Places.{assigned, grouped};
+ghost use Rattle.source_typing.specs.Calls.{called};
+ghost use Rattle.source_typing.specs.Scope.{Env};
+ghost use Rattle.source_typing.specs.Faults.{fault, type_rule};
+ghost use Rattle.type_verdicts.specs.Verdicts.{Wrong, short_after, short_both, short_of, shortened};
+ghost use Rattle.scoped_names.specs.Knows.{Knows};
+ghost use Rattle.judged_values.specs.Values.{value_of};
+ghost use Rattle.judged_calls.specs.Targets.{target_of};
+ghost use Rattle.judged_expressions.specs.Joined.{one_more, values_of};
+
+use cyc_tree::{Operator, Prefix};
+use judged_calls::{Target, called};
+use judged_values::{Value, applied, assigned, grouped, prefixed, tested_both};
+use scoped_names::Scope;
+use std::alloc::{AllocError, Global};
+use type_verdicts::{Fault, FaultKind, Verdict};
+
+/// A form that isn't taken.
+pub(crate) fn refused<'p>(at: u32) -> Verdict<Value<'p>>
+    ensures { short_of value_of result ≡ Wrong (fault type_rule at) }
+{
+    Verdict::Wrong(Fault {
+        kind: FaultKind::Typing,
+        at,
+    })
+}
+
+/// What operands are that an operator joins, from this place on. A first one alone isn't taken.
+pub(crate) fn only_joined<'p>(
+    are_joined: bool,
+    at: u32,
+    judged: Verdict<Value<'p>>,
+) -> Verdict<Value<'p>>
+    ensures { short_of value_of result ≡ (if are_joined then short_of value_of judged.entry else Wrong (fault type_rule at)) }
+{
+    if are_joined { judged } else { refused(at) }
+}
+
+/// An operator before an operand.
+pub(crate) fn prefixed_part<'p>(
+    scope: &Scope<'_, 'p>,
+    alloc: Global,
+    at: u32,
+    operator: Prefix,
+    operand: Verdict<Value<'p>>,
+) -> Result<Verdict<Value<'p>>, AllocError>
+    ensures { (g : Env) → Knows scope.now g
+        → IfOk result (λ v. short_of value_of v ≡ short_after (short_of value_of operand.entry) (λ a. shortened (prefixed g at operator a))) }
+{
+    match operand {
+        Verdict::Of(value) => prefixed(scope, alloc, at, operator, value),
+        Verdict::Wrong(fault) => Ok(Verdict::Wrong(fault)),
+        Verdict::NotJudged => Ok(Verdict::NotJudged),
+    }
+}
+
+/// An expression in parentheses.
+pub(crate) fn grouped_part<'p>(at: u32, inner: Verdict<Value<'p>>) -> Verdict<Value<'p>>
+    ensures { short_of value_of result ≡ short_after (short_of value_of inner.entry) (λ a. shortened (grouped at a)) }
+{
+    match inner {
+        Verdict::Of(value) => grouped(at, value),
+        Verdict::Wrong(fault) => Verdict::Wrong(fault),
+        Verdict::NotJudged => Verdict::NotJudged,
+    }
+}
+
+/// Two operands of an operator.
+#[tactic(auto, using(crate::proofs::Joining::both_wrong, crate::proofs::Joining::both_not_judged))]
+pub(crate) fn applied_parts<'p>(
+    scope: &Scope<'_, 'p>,
+    alloc: Global,
+    operator: Operator,
+    one: Verdict<Value<'p>>,
+    two: Verdict<Value<'p>>,
+) -> Result<Verdict<Value<'p>>, AllocError>
+    ensures { (g : Env) → Knows scope.now g → IfOk result
+        (λ v. short_of value_of v ≡ short_both (short_of value_of one.entry) (short_of value_of two.entry) (λ a b. shortened (applied g operator a b))) }
+{
+    match one.paired(two) {
+        Verdict::Of((one, two)) => applied(scope, alloc, operator, one, two),
+        Verdict::Wrong(fault) => Ok(Verdict::Wrong(fault)),
+        Verdict::NotJudged => Ok(Verdict::NotJudged),
+    }
+}
+
+/// Two operands of `&&` or `||`.
+#[tactic(auto, using(crate::proofs::Joining::both_known, crate::proofs::Joining::both_wrong, crate::proofs::Joining::both_not_judged))]
+pub(crate) fn tested_parts<'p>(
+    alloc: Global,
+    one: Verdict<Value<'p>>,
+    two: Verdict<Value<'p>>,
+) -> Verdict<Value<'p>>
+    ensures { short_of value_of result ≡ short_both (short_of value_of one.entry) (short_of value_of two.entry) (λ a b. shortened (tested_both a b)) }
+{
+    match one.paired(two) {
+        Verdict::Of((one, two)) => tested_both(alloc, one, two),
+        Verdict::Wrong(fault) => Verdict::Wrong(fault),
+        Verdict::NotJudged => Verdict::NotJudged,
+    }
+}
+
+/// A place, and what is assigned to it.
+#[tactic(auto, using(crate::proofs::Joining::both_wrong, crate::proofs::Joining::both_not_judged))]
+pub(crate) fn assigned_parts<'p>(
+    scope: &Scope<'_, 'p>,
+    alloc: Global,
+    to: Verdict<Value<'p>>,
+    from: Verdict<Value<'p>>,
+) -> Result<Verdict<Value<'p>>, AllocError>
+    ensures { (g : Env) → Knows scope.now g → IfOk result
+        (λ v. short_of value_of v ≡ short_both (short_of value_of to.entry) (short_of value_of from.entry) (λ a b. shortened (assigned g a b))) }
+{
+    match to.paired(from) {
+        Verdict::Of((to, from)) => assigned(scope, alloc, to, from),
+        Verdict::Wrong(fault) => Ok(Verdict::Wrong(fault)),
+        Verdict::NotJudged => Ok(Verdict::NotJudged),
+    }
+}
+
+/// What is called, and its arguments.
+#[tactic(auto, using(crate::proofs::Joining::both_wrong, crate::proofs::Joining::both_not_judged))]
+pub(crate) fn called_parts<'p>(
+    scope: &Scope<'_, 'p>,
+    alloc: Global,
+    at: u32,
+    callee: Verdict<Target<'_, 'p>>,
+    given: Verdict<Vec<Value<'p>>>,
+) -> Result<Verdict<Value<'p>>, AllocError>
+    ensures { (g : Env) → Knows scope.now g → IfOk result
+        (λ v. short_of value_of v
+        ≡ short_both (short_of target_of callee.entry) (short_of (λ vs. values_of vs.items) given.entry) (λ t vs. shortened (called g at t vs))) }
+{
+    match callee.paired(given) {
+        Verdict::Of((callee, given)) => called(scope, alloc, at, callee, given.as_slice()),
+        Verdict::Wrong(fault) => Ok(Verdict::Wrong(fault)),
+        Verdict::NotJudged => Ok(Verdict::NotJudged),
+    }
+}
+
+/// Arguments, and one after them.
+#[tactic(auto, using(crate::proofs::Joining::both_wrong, crate::proofs::Joining::both_not_judged))]
+pub(crate) fn given_after<'p>(
+    given: Verdict<Vec<Value<'p>>>,
+    argument: Verdict<Value<'p>>,
+) -> Result<Verdict<Vec<Value<'p>>>, AllocError>
+    ensures { IfOk result (λ v. short_of (λ vs. values_of vs.items) v
+        ≡ short_both (short_of (λ vs. values_of vs.items) given.entry) (short_of value_of argument.entry) one_more) }
+{
+    match given.paired(argument) {
+        Verdict::Of((mut given, argument)) => {
+            given.push(argument)?;
+            Ok(Verdict::Of(given))
+        }
+        Verdict::Wrong(fault) => Ok(Verdict::Wrong(fault)),
+        Verdict::NotJudged => Ok(Verdict::NotJudged),
+    }
+}

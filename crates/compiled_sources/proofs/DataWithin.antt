@@ -14,19 +14,18 @@ use Rattle.core_meaning.specs.Memory.{Content}
 use Rattle.core_frames.specs.Selected.{rounded, bytes_of, end_from, datum_local, datum_locals}
 use Rattle.core_frames.specs.Running.{data_end}
 use Rattle.source_lowering.specs.Programs.{data_of, datum_of, initial_content, program_code}
-use Rattle.accepted_sources.specs.IntegerForms.{IsIntegerBase, IsIntegerType}
 use Rattle.source_typing.specs.Answers.{program_faults}
 use Rattle.source_typing.specs.Faults.{Fault, name_rule, test}
 use Rattle.source_typing.specs.Globals.{Static, global_size, if_passed, item_statics, static_string, total_faults}
 use Rattle.source_typing.specs.Programs.{if_first, is_seen, second_names, statics_from, tables_of}
 use Rattle.source_typing.specs.Scope.{at_item}
 use Rattle.source_typing.specs.Tables.{Tables}
-use Rattle.source_typing.specs.Taken.{integers}
+use Rattle.source_typing.specs.Taken.{thin_pointers}
+use Rattle.source_typing.specs.Types.{Char, Int, StaticType, Thin, Unsigned, shape_of}
 use Rattle.source_typing.proofs.Inversion.{test_is, none_of_both}
-use Rattle.accepted_sources.specs.Accepted.{AllAccepted}
-use Rattle.accepted_sources.proofs.Declarations.{by_base}
-use Rattle.accepted_sources.proofs.Programs.{accepted_is_in_order}
-use Rattle.accepted_sources.proofs.Sizes.{base_bytes, global_bytes}
+use Rattle.source_safety.specs.Entries.{IsWordType}
+use Rattle.judged_sources.proofs.Globals.{GlobalGood, global_eight}
+use Rattle.judged_sources.proofs.GoodTables.{AreHeaded, IsClean, is_clean_program, program_headed}
 
 -- ---- the rule on sizes
 
@@ -70,37 +69,16 @@ unseen some seen x h e = by (is_seen some x) refl
 
 -- ---- globals
 
--- an integer is rounded up to 8 bytes
-eight : (b : tree.Base) → rounded_up (base_bytes b) 8 ≡ 8
-eight tree.Char = refl
-eight tree.Int = refl
-eight tree.Unsigned = refl
-eight tree.Void = refl
-eight (tree.Struct tag rs) = refl
-eight (tree.Union tag rs) = refl
-eight (tree.Handle r) = refl
-eight (tree.Key r) = refl
+-- the bytes of an object that begins as a word
+word_small : (w : World) (t : StaticType) (c : Content) → IsWordType t → bytes_of (datum_local (datum_of w (shape_of t) c)) ≤ 4
+word_small w Int c h = omega arith
+word_small w Unsigned c h = omega arith
+word_small w Char c h = omega arith
+word_small w (Thin n r t) c h = omega arith
+word_small w _ c h = absurd h
 
-four : (b : tree.Base) → base_bytes b ≤ 4
-four tree.Char = omega arith
-four tree.Int = omega arith
-four tree.Unsigned = omega arith
-four tree.Void = omega arith
-four (tree.Struct tag rs) = omega arith
-four (tree.Union tag rs) = omega arith
-four (tree.Handle r) = omega arith
-four (tree.Key r) = omega arith
-
--- the bytes of its object
-datum_size : (w : World) (t : tree.TypeName) (c : Content) → IsIntegerType t → bytes_of (datum_local (datum_of w (settled (written t)) c)) ≡ base_bytes t.base
-datum_size w t c h = by_base (λ z. bytes_of (datum_local (datum_of w (settled (written z)) c)) ≡ base_bytes z.base) t h by
-  where
-    by : (b : tree.Base) → IsIntegerBase b
-        → bytes_of (datum_local (datum_of w (settled (written (record { at = t.at; base = b; pointers = [] }))) c)) ≡ base_bytes b
-    by tree.Int i = refl
-    by tree.Unsigned i = refl
-    by tree.Char i = refl
-    by _ i = absurd i
+global_small : (w : World) (x : tree.Global) (c : Content) → GlobalGood x → bytes_of (datum_local (datum_of w (settled (written x.of)) c)) ≤ 4
+global_small w x c h = subst (λ (s : Shape). bytes_of (datum_local (datum_of w s c)) ≤ 4) (sym h.good.shape) (word_small w h.type c h.good.word)
 
 -- an object of at most 4 bytes behind a multiple of 4
 next_rounded : (low so_far bytes : ℕ) → rounded low ≤ so_far → bytes ≤ 4 → rounded (rounded low + bytes) ≤ so_far + 8
@@ -111,7 +89,7 @@ low_rounded low = omega arith
 
 module _ (g : Tables) (w : World) where
   -- from an offset on, where so much was counted before
-  within : (items : List Item) (i low so_far : ℕ) (some seen : List (List ℕ)) → AreSeen some seen → second_names seen items ≡ [] → AllAccepted g i items
+  within : (items : List Item) (i low so_far : ℕ) (some seen : List (List ℕ)) → AreSeen some seen → second_names seen items ≡ [] → AreHeaded g items
       → rounded low ≤ so_far → so_far ≤ 1048576 → total_faults so_far (statics_from false g i some items) ≡ []
       → end_from low (datum_locals (data_of w items)) ≤ 1048576
   within [] i low so_far some seen s n a h l e = omega (arith, low_rounded low, h, l)
@@ -129,18 +107,18 @@ module _ (g : Tables) (w : World) where
       let first : not (is_seen some x.name.text) ≡ true = unseen some seen x.name.text s (test_is (not (is_seen seen x.name.text)) name_rule x.name.at names.0) in
       let counted : total_faults so_far (statics ++ rest) ≡ [] = subst (λ b. total_faults so_far (if_first b statics ++ rest) ≡ []) first e in
       let one = first_within so_far x.of.at (rounded_up (global_size (at_item false g i) x) 8) (map static_string (item_strings (tree.GlobalItem x)) ++ rest) counted in
-      let bytes : rounded_up (global_size (at_item false g i) x) 8 ≡ 8 = ap (λ k. rounded_up k 8) (global_bytes (at_item false g i) x a.0) ∙ eight x.of.base in
+      let bytes : rounded_up (global_size (at_item false g i) x) 8 ≡ 8 = global_eight g i x a.0 in
       let (next, above, below, none) = skipped (map static_string (item_strings (tree.GlobalItem x))) rest
       (so_far + rounded_up (global_size (at_item false g i) x) 8) one.0 one.1 in
-      let size = datum_size w x.of (initial_content x.initial (settled (written x.of))) (a.0).type in
-      let room = next_rounded low so_far (base_bytes x.of.base) h (four x.of.base) in
-      subst (λ k. end_from (rounded low + k) (datum_locals (data_of w items)) ≤ 1048576) (sym size)
-      (within items (suc i) (rounded low + base_bytes x.of.base) next (x.name.text ∷ some) (x.name.text ∷ seen) (one_more some seen x.name.text s) names.1 a.1
-      (omega (arith, room, bytes, above)) below none)
+      let c : Content = initial_content x.initial (settled (written x.of)) in
+      let size : ℕ = bytes_of (datum_local (datum_of w (settled (written x.of)) c)) in
+      let room = next_rounded low so_far size h (global_small w x c a.0) in
+      within items (suc i) (rounded low + size) next (x.name.text ∷ some) (x.name.text ∷ seen) (one_more some seen x.name.text s) names.1 a.1
+      (omega (arith, room, bytes, above)) below none
 
 -- where the rules find no fault, the data end within the limit
-pub data_within : (p : Program) → program_faults integers p ≡ [] → data_end (program_code p).data_objects ≤ 2 ^ 20
+pub data_within : (p : Program) → program_faults thin_pointers p ≡ [] → data_end (program_code p).data_objects ≤ 2 ^ 20
 data_within p e =
-    let order = accepted_is_in_order p e in
-    within (tables_of false p) (world_of p) p 0 0 0 [] (codes "getchar" ∷ codes "putchar" ∷ []) (λ x f. absurd cc) order.names order.items (omega arith) (omega arith)
-    order.sizes
+    let clean : IsClean p = is_clean_program p e in
+    within (tables_of false p) (world_of p) p 0 0 0 [] (codes "getchar" ∷ codes "putchar" ∷ []) (λ x f. absurd cc) clean.names (program_headed p clean) (omega arith)
+    (omega arith) clean.sizes

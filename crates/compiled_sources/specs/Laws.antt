@@ -5,7 +5,7 @@ use Rattle.source_meaning.specs.Programs.{world_of}
 use Rattle.source_lowering.specs.Taken.{IsLowerable}
 use Rattle.source_lowering.specs.Programs.{program_code}
 use Rattle.source_typing.specs.Answers.{program_faults}
-use Rattle.source_typing.specs.Taken.{integers}
+use Rattle.source_typing.specs.Taken.{thin_pointers}
 use Rattle.core_frames.specs.Running.{data_end}
 use Rattle.compiled_sources.specs.Promise.{AreNamedApart, LowerableDoes}
 
@@ -20,4 +20,4 @@ pub record AcceptedDoes (p : Program) : Type 0 where
 
 -- that holds of each such program
 abbrev pub AllAcceptedDo : Type 0
-AllAcceptedDo = (p : Program) → program_faults integers p ≡ [] → AcceptedDoes p
+AllAcceptedDo = (p : Program) → program_faults thin_pointers p ≡ [] → AcceptedDoes p

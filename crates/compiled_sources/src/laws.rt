@@ -10,7 +10,7 @@ pub fn lowerable_do()
     ensures { AllLowerableDo }
 {}
 
-/// A law, with nothing to run: of each program in which the rules on functions and globals of integers
+/// A law, with nothing to run: of each program in which the rules on functions and globals of integers and of thin pointers
 /// find no fault, `lowerable_do` holds, and its data take no more bytes than the data of an image may.
 pub fn accepted_do()
     ensures { AllAcceptedDo }

@@ -4,7 +4,7 @@
 //! the laws of the passes put together, with the bounds on frames and on code. `accepted_do` says it of all programs
 //! in which the rules find no fault. There is no code but these laws. Stands on `source_lowering`, from
 //! the tree to Core, `core_frames`, from Core to lines, on the rules of `source_typing`, and on
-//! `accepted_sources`, from the rules to what lowering takes.
+//! `judged_sources`, from the rules to what lowering takes.
 #![tactic(auto)]
 
 mod laws;

@@ -2,9 +2,8 @@
 use Rattle.std.proofs.Common.{◌≡◌, ℕ, List, [], ⊎_elim}
 use Rattle.cyc_words.specs.Events.{SourceEnding}
 use Rattle.cyc_tree.specs.Tree.{Program}
-use Rattle.accepted_sources.proofs.Programs.{accepted_is_lowerable}
 use Rattle.core_meaning.specs.Meaning.{core}
-use Rattle.safe_sources.proofs.Programs.{accepted_is_never_stuck}
+use Rattle.judged_sources.proofs.Joined.{lowerable, never_stuck}
 use Rattle.source_lowering.proofs.Programs.{programs_same}
 use Rattle.source_lowering.specs.Agreeing.{AreBytes, SameOutcome}
 use Rattle.source_lowering.specs.Programs.{program_code}
@@ -14,10 +13,10 @@ use Rattle.unique_flow.proofs.Accepted.{no_faults}
 use Rattle.unique_flow.specs.Accepted.{IsAccepted}
 
 is_lowerable : (p : Program) → IsAccepted p → IsLowerable p
-is_lowerable p accepted = accepted_is_lowerable p (no_faults p accepted)
+is_lowerable p accepted = lowerable p (no_faults p accepted)
 
 pub is_never_stuck : (p : Program) → IsAccepted p → (input : List ℕ) (n : ℕ) → (source p input n).ending ≡ SourceEnding.Stuck → ⊥
-is_never_stuck p accepted = accepted_is_never_stuck p (no_faults p accepted)
+is_never_stuck p accepted = never_stuck p (no_faults p accepted)
 
 pub does_the_same : (p : Program) → IsAccepted p → (input : List ℕ) → AreBytes input → (n : ℕ)
     → SameOutcome (world_of p) (source p input n) (core (program_code p) input n)

@@ -1,12 +1,12 @@
 -- A program's first fault as that of its text.
 use Rattle.std.proofs.Common.{◌≡◌, ℕ, List, Some, refl, sym, subst}
 use Rattle.cyc_tree.specs.Tree.{Program}
-use Rattle.region_types.specs.Faults.{fault_of}
+use Rattle.type_verdicts.specs.Faults.{fault_of}
 use Rattle.source_typing.specs.Answers.{first_fault}
-use Rattle.source_typing.specs.Taken.{integers}
-use Rattle.region_types.specs.declared.fault.Fault.{Fault}
-use Rattle.region_types.specs.declared.fault.FaultKind.{FaultKind}
-use Rattle.region_types.specs.declared.fault.FaultKind.TheVariants as kind
+use Rattle.source_typing.specs.Taken.{thin_pointers}
+use Rattle.type_verdicts.specs.declared.fault.Fault.{Fault}
+use Rattle.type_verdicts.specs.declared.fault.FaultKind.{FaultKind}
+use Rattle.type_verdicts.specs.declared.fault.FaultKind.TheVariants as kind
 use Rattle.effect_check.specs.declared.fault.CheckFault.{CheckFault}
 use Rattle.effect_check.specs.declared.fault.CheckFault.TheVariants as check
 use Rattle.cycc_driver.specs.declared.fault.Place.{Place}
@@ -21,9 +21,12 @@ by_kind text kind.Typing place broken = broken
 by_kind text kind.Region place broken = broken
 by_kind text kind.Outlives place broken = broken
 by_kind text kind.Effect place broken = broken
+by_kind text kind.Consumed place broken = broken
+by_kind text kind.Lent place broken = broken
+by_kind text kind.Copy place broken = broken
 by_kind text kind.Size place broken = broken
 
-pub broken_text : (text : List ℕ) (program : Program) (why : CheckFault) (f : CompileFault) → ((b : Fault) → why ≡ check.Broken b → first_fault integers program ≡ Some (fault_of b))
+pub broken_text : (text : List ℕ) (program : Program) (why : CheckFault) (f : CompileFault) → ((b : Fault) → why ≡ check.Broken b → first_fault thin_pointers program ≡ Some (fault_of b))
     → IsOfChecking text why f → IsTextOf text program → IsRefusedFor f text
 broken_text text program (check.Broken b) f first (place, is, there) spelled =
     subst (λ (x : CompileFault). IsRefusedFor x text) (sym is)

@@ -10,8 +10,8 @@ use Rattle.cyc_parser.specs.Grammar.{IsProgram}
 use Rattle.cyc_parser.specs.Refusals.{IsUnexpectedFirst, IsTooDeepAt, GoNoFurther}
 use Rattle.cyc_parser.proofs.WholePrograms.{one_program}
 use Rattle.source_typing.specs.Answers.{first_fault}
-use Rattle.source_typing.specs.Taken.{integers}
-use Rattle.region_types.specs.declared.fault.FaultKind.{FaultKind}
+use Rattle.source_typing.specs.Taken.{thin_pointers}
+use Rattle.type_verdicts.specs.declared.fault.FaultKind.{FaultKind}
 use Rattle.cycc_driver.specs.declared.fault.Place.{Place}
 use Rattle.cycc_driver.specs.declared.fault.CompileFault.{CompileFault}
 use Rattle.cycc_driver.specs.declared.fault.CompileFault.TheVariants as fault
@@ -48,7 +48,7 @@ too_deep text p place spelled none =
 pub broken : (text : List ℕ) (p : Program) (k : FaultKind) (place : Place) → IsAcceptedAs text p → IsBroken text k place → ⊥
 broken text p k place accepted breaks =
     let same = same_program text p breaks.program accepted.spelled breaks.spelled in
-    let none = sym accepted.accepted ∙ ap (first_fault integers) same ∙ breaks.first in
+    let none = sym accepted.accepted ∙ ap (first_fault thin_pointers) same ∙ breaks.first in
     cc
 
 -- an accepted text is refused only for want of memory
@@ -61,9 +61,9 @@ accepted_or_refused text p (fault.Typing place) accepted why = absurd (broken te
 accepted_or_refused text p (fault.Region place) accepted why = absurd (broken text p _ place accepted why)
 accepted_or_refused text p (fault.Outlives place) accepted why = absurd (broken text p _ place accepted why)
 accepted_or_refused text p (fault.Effect place) accepted why = absurd (broken text p _ place accepted why)
-accepted_or_refused text p (fault.Consumed place) accepted why = absurd why
-accepted_or_refused text p (fault.Lent place) accepted why = absurd why
-accepted_or_refused text p (fault.Copy place) accepted why = absurd why
+accepted_or_refused text p (fault.Consumed place) accepted why = absurd (broken text p _ place accepted why)
+accepted_or_refused text p (fault.Lent place) accepted why = absurd (broken text p _ place accepted why)
+accepted_or_refused text p (fault.Copy place) accepted why = absurd (broken text p _ place accepted why)
 accepted_or_refused text p (fault.Size place) accepted why = absurd (broken text p _ place accepted why)
 accepted_or_refused text p (fault.TooLarge place) accepted why = absurd why
 accepted_or_refused text p fault.Memory accepted why = refl

@@ -15,10 +15,10 @@ use Rattle.rv32_layout.proofs.Programs.{too_long}
 use Rattle.cyc_image.specs.Format.{Contents, Fits, IsImage, code_limit, data_limit}
 use Rattle.cyc_tree.specs.Tree.{Program}
 use Rattle.rv32_machine.specs.Arrays.{Arrays, IsStart, areas_of, byte_at, state_of}
-use Rattle.safe_sources.proofs.Programs.{accepted_is_never_stuck, has_main}
+use Rattle.judged_sources.proofs.Joined.{have_main, never_stuck}
 use Rattle.source_lowering.specs.Programs.{program_code}
 use Rattle.source_typing.specs.Answers.{program_faults}
-use Rattle.source_typing.specs.Taken.{integers}
+use Rattle.source_typing.specs.Taken.{thin_pointers}
 use Rattle.unique_flow.specs.Accepted.{IsAccepted}
 use Rattle.unique_flow.proofs.Accepted.{no_faults}
 use Rattle.cycc_driver.proofs.Small.{code_small, code_words, data_small, each_small, memory_small}
@@ -56,13 +56,13 @@ module _ (program : Program) (code statics : List ℕ) (parts : Contents) (layer
 
   pub implemented : IsAccepted program → IsImplementedBy program parts
   implemented accepted arena start small starts input are_bytes =
-      let faultless : program_faults integers program ≡ [] = no_faults program accepted in
+      let faultless : program_faults thin_pointers program ≡ [] = no_faults program accepted in
       let does = (accepted_do program faultless).promised in
       let begun : Begins (areas_of start) (place_of (lines_of program)) (lines_of program) (program_code program).data_objects (state_of start) =
       begins_as start (place_of (lines_of program)) (lines_of program) (program_code program).data_objects (first_machine arena start small starts) does.plain
       (starts.statics ∙ is_statics ∙ layers.statics_are) layers.places (layers.has start (starts.code ∙ is_code)) in
       does.does (areas_of start) (place_of (lines_of program)) (state_of start) input are_bytes begun
-      (λ fuel. accepted_is_never_stuck program faultless input fuel)
+      (λ fuel. never_stuck program faultless input fuel)
 
 -- ---- sizes
 
@@ -74,7 +74,7 @@ is_code program code long within =
 
 -- code that can't be placed is over the limit
 pub long_code : (program : Program) → IsAccepted program → AreTooLarge (lines_of program) → code_limit < code_length (lines_of program)
-long_code program accepted large = too_long (program_code program) (has_main program (no_faults program accepted)) large
+long_code program accepted large = too_long (program_code program) (have_main program (no_faults program accepted)) large
 
 -- the data are never over theirs
 pub data_fit : (program : Program) → IsAccepted program → data_limit < length (data_bytes 0 (program_code program).data_objects) → ⊥

@@ -7,11 +7,11 @@ use Rattle.cyc_lexer.proofs.TextSteps.{same_tokens, same_fault, tokens_or_fault,
 use Rattle.cyc_parser.specs.Refusals.{IsUnexpectedFirst, IsTooDeepAt}
 use Rattle.cyc_parser.proofs.OnePlace.{one_place, one_depth}
 use Rattle.cyc_parser.proofs.OneFault.{one_fault as not_both}
-use Rattle.region_types.proofs.Faults.{same_rule, same_at}
+use Rattle.type_verdicts.proofs.Telling.{same_rule, same_at}
 use Rattle.source_typing.specs.Answers.{first_fault}
-use Rattle.source_typing.specs.Taken.{integers}
-use Rattle.region_types.specs.declared.fault.FaultKind.{FaultKind}
-use Rattle.region_types.specs.declared.fault.FaultKind.TheVariants as kind
+use Rattle.source_typing.specs.Taken.{thin_pointers}
+use Rattle.type_verdicts.specs.declared.fault.FaultKind.{FaultKind}
+use Rattle.type_verdicts.specs.declared.fault.FaultKind.TheVariants as kind
 use Rattle.cycc_driver.specs.declared.fault.Place.{Place}
 use Rattle.cycc_driver.specs.declared.fault.CompileFault.{CompileFault}
 use Rattle.cycc_driver.specs.declared.fault.CompileFault.TheVariants as fault
@@ -77,7 +77,7 @@ module _ (text : List ℕ) where
   both_broken : (k l : FaultKind) (p q : Place) → IsBroken text k p → IsBroken text l q → form_of k p ≡ form_of l q
   both_broken k l p q a b =
       let program : a.program ≡ b.program = same_program text a.program b.program a.spelled b.spelled in
-      let first = sym a.first ∙ ap (first_fault integers) program ∙ b.first in
+      let first = sym a.first ∙ ap (first_fault thin_pointers) program ∙ b.first in
       let kinds : k ≡ l = same_rule k l a.at b.at first in
       let places : p ≡ q = same_place text a.at b.at p q a.there b.there (same_at k l a.at b.at first) in
       ap (λ (j : FaultKind). form_of j p) kinds ∙ ap (form_of l) places
@@ -130,9 +130,9 @@ module _ (text : List ℕ) where
   reason (fault.Outlives p) why = inr (inr (inr (inl (kind.Outlives, p, refl, why))))
   reason (fault.Effect p) why = inr (inr (inr (inl (kind.Effect, p, refl, why))))
   reason (fault.Size p) why = inr (inr (inr (inl (kind.Size, p, refl, why))))
-  reason (fault.Consumed p) why = absurd why
-  reason (fault.Lent p) why = absurd why
-  reason (fault.Copy p) why = absurd why
+  reason (fault.Consumed p) why = inr (inr (inr (inl (kind.Consumed, p, refl, why))))
+  reason (fault.Lent p) why = inr (inr (inr (inl (kind.Lent, p, refl, why))))
+  reason (fault.Copy p) why = inr (inr (inr (inl (kind.Copy, p, refl, why))))
   reason (fault.TooLarge p) why = inr (inr (inr (inr (inl (p, refl, why)))))
   reason fault.Memory why = inr (inr (inr (inr (inr refl))))
 

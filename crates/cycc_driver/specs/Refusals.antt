@@ -6,12 +6,12 @@ use Rattle.cyc_lexer.specs.Places.{line_of, column_of}
 use Rattle.cyc_image.specs.Format.{code_limit}
 use Rattle.cyc_parser.specs.Refusals.{IsUnexpectedFirst, IsTooDeepAt}
 use Rattle.cyc_tree.specs.Tree.{Program}
-use Rattle.region_types.specs.Faults.{number_of}
-use Rattle.region_types.specs.declared.fault.FaultKind.{FaultKind}
-use Rattle.region_types.specs.declared.fault.FaultKind.TheVariants as kind
+use Rattle.type_verdicts.specs.Faults.{number_of}
+use Rattle.type_verdicts.specs.declared.fault.FaultKind.{FaultKind}
+use Rattle.type_verdicts.specs.declared.fault.FaultKind.TheVariants as kind
 use Rattle.source_typing.specs.Answers.{first_fault}
 use Rattle.source_typing.specs.Faults as rules
-use Rattle.source_typing.specs.Taken.{integers}
+use Rattle.source_typing.specs.Taken.{thin_pointers}
 use Rattle.cycc_driver.specs.declared.fault.Place.{Place}
 use Rattle.cycc_driver.specs.declared.fault.CompileFault.{CompileFault}
 use Rattle.cycc_driver.specs.declared.fault.CompileFault.TheVariants as fault
@@ -42,10 +42,10 @@ pub record IsBroken (text : List ℕ) (k : FaultKind) (place : Place) : Type 0 w
   pub program : Program
   pub spelled : IsTextOf text program
   pub at : ℕ
-  pub first : first_fault integers program ≡ Some (rules.fault (number_of k) at)
+  pub first : first_fault thin_pointers program ≡ Some (rules.fault (number_of k) at)
   pub there : IsPlaceOf text at place
 
--- Why a text is refused before its code is made. No rule of flow is supported yet.
+-- Why a text is refused before its code is made.
 abbrev pub IsRefusedFor : CompileFault → List ℕ → Type 0
 IsRefusedFor (fault.Lex place) text = IsNoTokens text place
 IsRefusedFor (fault.Parse place) text = AreNoProgram text IsUnexpectedFirst place
@@ -55,9 +55,9 @@ IsRefusedFor (fault.Typing place) text = IsBroken text kind.Typing place
 IsRefusedFor (fault.Region place) text = IsBroken text kind.Region place
 IsRefusedFor (fault.Outlives place) text = IsBroken text kind.Outlives place
 IsRefusedFor (fault.Effect place) text = IsBroken text kind.Effect place
-IsRefusedFor (fault.Consumed place) text = ⊥
-IsRefusedFor (fault.Lent place) text = ⊥
-IsRefusedFor (fault.Copy place) text = ⊥
+IsRefusedFor (fault.Consumed place) text = IsBroken text kind.Consumed place
+IsRefusedFor (fault.Lent place) text = IsBroken text kind.Lent place
+IsRefusedFor (fault.Copy place) text = IsBroken text kind.Copy place
 IsRefusedFor (fault.Size place) text = IsBroken text kind.Size place
 IsRefusedFor (fault.TooLarge place) text = ⊥
 IsRefusedFor fault.Memory text = Unit {0}

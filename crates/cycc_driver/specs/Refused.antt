@@ -6,10 +6,10 @@ use Rattle.cyc_parser.specs.declared.fault.ParseFault.{ParseFault}
 use Rattle.cyc_parser.specs.declared.fault.ParseFault.TheVariants as parse
 use Rattle.effect_check.specs.declared.fault.CheckFault.{CheckFault}
 use Rattle.effect_check.specs.declared.fault.CheckFault.TheVariants as check
-use Rattle.region_types.specs.declared.fault.FaultKind.{FaultKind}
+use Rattle.type_verdicts.specs.declared.fault.FaultKind.{FaultKind}
 use Rattle.unique_flow.specs.declared.fault.FlowFault.{FlowFault}
 use Rattle.unique_flow.specs.declared.fault.FlowFault.TheVariants as flow
-use Rattle.region_types.specs.declared.fault.FaultKind.TheVariants as kind
+use Rattle.type_verdicts.specs.declared.fault.FaultKind.TheVariants as kind
 use Rattle.cycc_driver.specs.declared.fault.Place.{Place}
 use Rattle.cycc_driver.specs.declared.fault.CompileFault.{CompileFault}
 use Rattle.cycc_driver.specs.declared.fault.CompileFault.TheVariants as fault
@@ -38,6 +38,9 @@ form_of kind.Typing = fault.Typing
 form_of kind.Region = fault.Region
 form_of kind.Outlives = fault.Outlives
 form_of kind.Effect = fault.Effect
+form_of kind.Consumed = fault.Consumed
+form_of kind.Lent = fault.Lent
+form_of kind.Copy = fault.Copy
 form_of kind.Size = fault.Size
 
 abbrev pub IsOfChecking : List ℕ → CheckFault → CompileFault → Type 0

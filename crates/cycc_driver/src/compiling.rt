@@ -41,6 +41,7 @@ fn parsed(alloc: Global, text: &[u8]) -> Result<Program, CompileFault>
 }
 
 /// The checked program, where it is accepted.
+#[tactic(auto, using(accepted_sources::proofs::NoFlow::first_is_of_effects))]
 fn checked(alloc: Global, text: &[u8], program: &Program) -> Result<Checked, CompileFault>
     ensures same { IfOk result (λ c. c ≡ program.now) }
     ensures accepted { IfOk result (λ _. IsAccepted program.now) }

@@ -9,10 +9,10 @@ ghost use Rattle.cycc_driver.specs.Refused.{IsOfLexing, IsOfParsing, IsOfCheckin
 use cyc_lexer::{LexFault, place_of};
 use cyc_parser::ParseFault;
 use effect_check::CheckFault;
-use region_types::FaultKind;
 use std::alloc::AllocError;
 use std::error::Error;
 use std::fmt;
+use type_verdicts::FaultKind;
 use unique_flow::FlowFault;
 
 /// A place in a text: the line and the column, from 1 on, of a byte.
@@ -174,6 +174,9 @@ pub fn of_checking(text: &[u8], fault: CheckFault) -> CompileFault
                 FaultKind::Region => CompileFault::Region(place),
                 FaultKind::Outlives => CompileFault::Outlives(place),
                 FaultKind::Effect => CompileFault::Effect(place),
+                FaultKind::Consumed => CompileFault::Consumed(place),
+                FaultKind::Lent => CompileFault::Lent(place),
+                FaultKind::Copy => CompileFault::Copy(place),
                 FaultKind::Size => CompileFault::Size(place),
             }
         }

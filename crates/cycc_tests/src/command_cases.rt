@@ -161,14 +161,14 @@ pub const REFUSED: &str = "\
 1:21: Parse <- int main() { while () ; }
 1:14: Type <- int main() { return; }
 1:14: Type <- int main() { int a[3]; }
-1:14: Type <- int main() { int *p; }";
+1:14: Type <- int main() { int @p; }";
 
 /// Texts of functions and globals that are refused, in the form of `REFUSED`.
 pub const REFUSED_FUNCTIONS: &str = "\
 1:7: Name <- int x;
 1:1: Type <- struct S { int x; };$int main() { }
 1:1: Type <- void x;$int main() { }
-1:1: Type <- int *p;$int main() { }
+1:1: Type <- int @p;$int main() { }
 1:1: Type <- int a[3];$int main() { }
 1:10: Type <- char c = NULL;$int main() { }
 2:5: Name <- int x;$int x() { return 1; }$int main() { }
@@ -177,7 +177,7 @@ pub const REFUSED_FUNCTIONS: &str = "\
 1:5: Type <- int main(int x) { }
 1:6: Type <- void main() { }
 1:5: Type <- int main;
-1:1: Type <- int *f() { }$int main() { }
+1:12: Type <- int *f() { }$int main() { }
 1:8: Type <- void f(void *p) { }$int main() { }
 1:19: Name <- void f(int x, int x) { }$int main() { }
 1:21: Name <- void f(int x) { int x; }$int main() { }
@@ -194,11 +194,13 @@ pub const REFUSED_FUNCTIONS: &str = "\
 1:28: Type <- int f(int x) { while (x) ; }$int main() { }
 1:33: Type <- int f(int x) { if (x) return 1; }$int main() { }
 1:11: Type <- int f() { g() = 1; return 1; }$int g() { return 1; }$int main() { }
-1:18: Type <- int f() { return &f; }$int main() { }
+1:19: Type <- int f() { return &f; }$int main() { }
 1:10: Type <- unsigned main() { }
 1:6: Type <- char main() { }
-1:1: Type <- int *main() { }
-1:1: Type <- int *p;$int main(int x) { }
+1:6: Type <- int *main() { }
+1:1: Type <- int ?main() { }
+1:1: Type <- int ?p;$int main(int x) { }
+2:5: Type <- int *p;$int main(int x) { }
 2:5: Name <- int f() { return 1; }$int f() { return 2; }$int main() { }
 2:6: Name <- int f() { return 1; }$void f() { }$int main() { }
 1:23: Type <- int main() { int f; { f(); } } int f() { return 1; }

@@ -4,6 +4,7 @@ use crate::command_cases::{
     AND_OR, NESTED_LOOPS, OPERATORS, REFUSED, REFUSED_FUNCTIONS, STATEMENTS, VALUES,
 };
 use crate::function_cases::{CALLS, CHARS, CONVERSION_EDGES, GLOBALS, OPERATOR_EDGES, UNSIGNED};
+use crate::pointer_cases::{POINTERS, REFUSED_POINTERS};
 use command_line::command_of;
 use cycc_answer::answer;
 use cycc_driver::{Counted, load};
@@ -116,6 +117,11 @@ fn operators_and_conversions_meet_their_edges(rt: HostRuntime) -> Result<(), Fai
     Ok(())
 }
 
+#[test]
+fn pointers_run_as_by_their_meaning(rt: HostRuntime) -> Result<(), Fail> {
+    expect_runs(&rt, POINTERS)
+}
+
 /// Two functions without end: a call each time a byte is written.
 const ENDLESS: &[u8] = b"int f() { putchar(97); return f(); } int main() { return f(); }";
 
@@ -133,9 +139,9 @@ fn endless_recursion_is_exhausted(rt: HostRuntime) -> Result<(), Fail> {
     Ok(())
 }
 
-#[test]
-fn refusals_have_their_places(rt: HostRuntime) -> Result<(), Fail> {
-    for line in REFUSED.lines().chain(REFUSED_FUNCTIONS.lines()) {
+/// Asserts that each command refuses the texts of a table.
+fn expect_refusals(rt: &(impl Abort + AllocGlobal), table: &str) -> Result<(), Fail> {
+    for line in table.lines() {
         let (fault, source) = line.split_once(" <- ").ok_or("no source")?;
         let wanted = format!(in rt.alloc(); "8 | IN:{fault}$ | -")?;
         let commands = [
@@ -144,7 +150,15 @@ fn refusals_have_their_places(rt: HostRuntime) -> Result<(), Fail> {
             "cycc eval IN",
             "cycc compile IN OUT",
         ];
-        expect_all(&rt, commands.as_slice(), wanted.as_str(), source)?;
+        expect_all(rt, commands.as_slice(), wanted.as_str(), source)?;
+    }
+    Ok(())
+}
+
+#[test]
+fn refusals_have_their_places(rt: HostRuntime) -> Result<(), Fail> {
+    for table in [REFUSED, REFUSED_FUNCTIONS, REFUSED_POINTERS] {
+        expect_refusals(&rt, table)?;
     }
     Ok(())
 }

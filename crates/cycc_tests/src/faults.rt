@@ -11,7 +11,10 @@ const FAULTS: &str = "\
 1:14: Type <- int main() { 1 = 2; }
 1:14: Type <- int main() { break; }
 1:7: Name <- int x;
-1:11: Type <- int f() { }";
+1:11: Type <- int f() { }
+1:31: Region <- int f(int *`r p; {}) { return *p; } int main() { }
+1:26: Outlives <- int *f() { int x; return &x; } int main() { }
+1:56: Effect <- int g(int *p) { return 1; } int f(int *p; {}) { return g(p); } int main() { }";
 
 #[test]
 fn faults_have_their_smallest_sources(rt: HostRuntime) -> Result<(), Fail> {

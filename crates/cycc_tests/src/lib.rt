@@ -41,6 +41,8 @@ mod parsed_trees;
 #[cfg(test)]
 mod placed_lines;
 #[cfg(test)]
+mod pointer_cases;
+#[cfg(test)]
 mod printed_names;
 #[cfg(test)]
 mod refused_texts;

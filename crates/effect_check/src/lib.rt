@@ -1,8 +1,7 @@
 //! Live regions and effects.
 //!
-//! `effects` answers the earliest fault of names, types, regions and effects, or the program without
-//! one. No form that a region or an effect is judged for is supported yet, so this layer adds no fault to
-//! those of `region_types`, on which it stands.
+//! `effects` answers the earliest fault of names, types, regions, effects and sizes, or the program without one. The rules are those of
+//! `source_typing`; `program_types` finds the fault. Stands on these and on `region_types`.
 #![tactic(auto)]
 
 mod effected;

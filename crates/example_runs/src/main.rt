@@ -16,7 +16,7 @@ use std::process::ExitCode;
 const MOST: u64 = 65536;
 
 /// The examples' names.
-const EXAMPLES: [&str; 23] = [
+const EXAMPLES: [&str; 25] = [
     "arithmetic",
     "bases",
     "bits",
@@ -33,10 +33,12 @@ const EXAMPLES: [&str; 23] = [
     "hello",
     "hiding",
     "nesting",
+    "ordered",
     "powers",
     "prime_table",
     "primes",
     "shortcut",
+    "sums",
     "swap",
     "triangle",
     "upper",

@@ -7,7 +7,9 @@ use Rattle.source_lowering.specs.Taken as lowering
 use Rattle.source_lowering.specs.Taken.{HasFirst, IsIntegerShape, IsNullable, TakesConstant, TakesInitial}
 use Rattle.source_safety.specs.Entries.{Begins, IsWordType}
 use Rattle.source_safety.specs.Programs.{GlobalJudged}
+use Rattle.source_meaning.specs.Sizes.{rounded_up}
 use Rattle.source_typing.specs.Declarations.{converted_to, what_after, what_of}
+use Rattle.source_typing.specs.Extents.{variable_size}
 use Rattle.source_typing.specs.Faults.{Fault}
 use Rattle.source_typing.specs.Globals.{
   constant,
@@ -17,9 +19,12 @@ use Rattle.source_typing.specs.Globals.{
   global_entry,
   global_faults,
   global_type,
+  global_size,
   global_type_by,
   has_none,
+  if_clean,
   initial_faults,
+  typed_size,
 }
 use Rattle.source_typing.specs.Regions.{TheHeap}
 use Rattle.source_typing.specs.Scope.{Env, Value, at_item}
@@ -226,3 +231,35 @@ global_judged x h = record { type = h.type; word = h.good.word; begins = h.begin
 
 pub global_takes : (x : tree.Global) → GlobalGood x → lowering.TakesItem (tree.GlobalItem x)
 global_takes x h = (h.good.taken, subst (λ s. TakesInitial s x.initial) (sym h.good.shape) h.initial.taken)
+
+-- ---- sizes
+
+-- a word is rounded up to 8 bytes
+word_eight : (g : Env) (x : tree.Global) (t : StaticType) → IsWordType t → count_of x.initial ≡ None → rounded_up (typed_size g x (Of t)) 8 ≡ 8
+word_eight g x t w n = subst (λ (o : Option ℕ). rounded_up (variable_size g.tables o t) 8 ≡ 8) (sym n) (by t w)
+  where
+    by : (t : StaticType) → IsWordType t → rounded_up (variable_size g.tables None t) 8 ≡ 8
+    by Int w = refl
+    by Unsigned w = refl
+    by Char w = refl
+    by (Thin b r t) w = refl
+    by _ w = absurd w
+
+-- what its name means tells that it is without fault, and its type
+size_by_entry : (g : Env) (x : tree.Global) (t : StaticType) (fs : List Fault) (o : Option ℕ) (v : Verdict StaticType) → o ≡ None
+    → OfValue (what_after fs (what_of TheHeap o v)) ≡ OfValue (Stored t TheHeap) → if_clean fs (typed_size g x v) ≡ typed_size g x (Of t)
+size_by_entry g x t [] None (Of u) n e = ap (λ z. typed_size g x (Of z)) (same u e)
+  where
+    same : (u : StaticType) → OfValue (Stored u TheHeap) ≡ OfValue (Stored t TheHeap) → u ≡ t
+    same u e = cc
+size_by_entry g x t [] None (Faulty f fs) n e = absurd cc
+size_by_entry g x t [] None Unjudged n e = absurd cc
+size_by_entry g x t [] (Some m) v n e = absurd cc
+size_by_entry g x t (f ∷ fs) o v n e = absurd cc
+
+-- each takes 8 bytes of the data, rounded up
+pub global_eight : (g : Tables) (i : ℕ) (x : tree.Global) → GlobalGood x → rounded_up (global_size (at_item false g i) x) 8 ≡ 8
+global_eight g i x h =
+    let s : Env = at_item false g i in
+    ap (λ k. rounded_up k 8) (size_by_entry s x h.type (global_faults s x) (count_of x.initial) (global_type s x) h.uncounted (h.entry g i))
+    ∙ word_eight s x h.type h.good.word h.uncounted

@@ -39,20 +39,22 @@ use Rattle.judged_sources.proofs.NoTags.{no_tags}
 -- ---- the faults of a program
 
 -- where the rules on the forms that are taken find no fault, all rules find none in the program as it is
-no_typing_faults : (p : Program) → program_faults thin_pointers p ≡ [] → typing_faults false p ≡ []
+pub no_typing_faults : (p : Program) → program_faults thin_pointers p ≡ [] → typing_faults false p ≡ []
 no_typing_faults p e =
     let a : (constant_forms thin_pointers p ≡ []) × (rule_faults (only_taken thin_pointers p) ≡ []) =
     none_of_both (constant_forms thin_pointers p) (rule_faults (only_taken thin_pointers p)) e in
     let b : rule_faults p ≡ [] = subst (λ z. rule_faults z ≡ []) (program_is_taken thin_pointers p e) a.1 in
     (none_of_both (typing_faults false p) (flow_faults p) b).0
 
--- what is at fault nowhere: its tags, its items, and `main`
+-- what is at fault nowhere: its tags, its names, its items, `main`, and its sizes
 pub record IsClean (p : Program) : Type 0 where
   pub taken : only_taken thin_pointers p ≡ p
   pub forms : constant_forms thin_pointers p ≡ []
   pub tags : all_tag_faults (judged_tags p) ≡ []
+  pub names : second_names (codes "getchar" ∷ codes "putchar" ∷ []) p ≡ []
   pub items : items_from false (tables_of false p) 0 p ≡ []
   pub main : main_found p ≡ []
+  pub sizes : size_faults false (tables_of false p) p ≡ []
 
 pub is_clean_program : (p : Program) → program_faults thin_pointers p ≡ [] → IsClean p
 is_clean_program p e =
@@ -62,12 +64,15 @@ is_clean_program p e =
     none_of_both (all_tag_faults (judged_tags p)) (faults_with false g p) (no_typing_faults p e) in
     let b = none_of_both ((seconds ++ items_from false g 0 p) ++ main_found p) (size_faults false g p) a.1 in
     let c = none_of_both (seconds ++ items_from false g 0 p) (main_found p) b.0 in
+    let d = none_of_both seconds (items_from false g 0 p) c.0 in
     record {
       taken = program_is_taken thin_pointers p e;
       forms = (none_of_both (constant_forms thin_pointers p) (rule_faults (only_taken thin_pointers p)) e).0;
       tags = a.0;
-      items = (none_of_both seconds (items_from false g 0 p) c.0).1;
+      names = d.0;
+      items = d.1;
       main = c.1;
+      sizes = b.1;
     }
 
 -- ---- heads and globals, by the program's tables

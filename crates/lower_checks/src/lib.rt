@@ -3,9 +3,8 @@
 //! `lower` appends operation after operation: an expression leaves its value in a temporary, and its
 //! parts use the temporaries above it; a block's locals have numbers in it. The result is the Core
 //! program of `program_code` in `source_lowering`. Programs of functions, globals and locals of
-//! integers and of thin pointers are taken; only those of integers are checked as yet. Functions and
-//! globals are found by tables of their names. Stands on `unique_flow`, `cyc_core`, `accepted_sources`,
-//! `source_lowering`, `cyc_tree` and `indexmap`.
+//! integers and of thin pointers are taken. Functions and globals are found by tables of their names.
+//! Stands on `unique_flow`, `cyc_core`, `judged_sources`, `source_lowering`, `cyc_tree` and `indexmap`.
 #![tactic(auto)]
 
 mod call;

@@ -2,16 +2,15 @@
 
 ghost use Rattle.std.specs.Prelude.{◌≡◌, IfOk};
 
-use crate::fault::first_found;
 use crate::program::Typed;
 use cyc_tree::Program;
-use integer_checker::program_fault;
+use program_types::program_fault;
 use std::alloc::{AllocError, Global};
 
-/// Looks at a program's names, types and sizes. Fails only where no host memory is left.
+/// Looks at a program's names, types, regions and sizes. Fails only where no host memory is left.
 pub fn typed(alloc: Global, program: &Program) -> Result<Typed, AllocError>
     ensures { IfOk result (λ t. t ≡ program.now) }
 {
-    let fault = first_found(program_fault(alloc, program)?);
+    let fault = program_fault(alloc, program, true)?;
     Ok(Typed::new(program.clone()?, fault))
 }

@@ -1,13 +1,13 @@
 // A program whose types were looked at.
 
 ghost use Rattle.std.specs.Prelude.{◌≡◌};
-ghost use Rattle.region_types.specs.Faults.{IsFirstFault};
+ghost use Rattle.region_types.specs.Faults.{IsTypeFault};
 
-use crate::fault::Fault;
 use cyc_tree::Program;
 use std::marker::Model;
+use type_verdicts::Fault;
 
-/// A program, with its first fault of names, types and sizes. A contract sees it as the program.
+/// A program, with its first fault of names, types, regions and sizes. A contract sees it as the program.
 #[derive(Drop)]
 pub struct Typed {
     program: Program,
@@ -17,7 +17,7 @@ pub struct Typed {
 impl Model for Typed {
     ghost use Rattle.cyc_tree.specs.Tree.{Program as Tree};
     ghost use Rattle.cyc_tree.specs.Stored.{coded_program};
-    ghost use Rattle.region_types.specs.Faults.{IsFirstFault};
+    ghost use Rattle.region_types.specs.Faults.{IsTypeFault};
 
     ghost Value = { Tree };
 
@@ -25,13 +25,13 @@ impl Model for Typed {
 
     ghost view = { λ t. t.program };
 
-    ghost invariant = { λ t. IsFirstFault t.fault t.program };
+    ghost invariant = { λ t. IsTypeFault t.fault t.program };
 }
 
 impl Typed {
     /// A program whose first fault this is.
     pub(crate) fn new(program: Program, fault: Option<Fault>) -> Self
-        requires { IsFirstFault fault program }
+        requires { IsTypeFault fault program }
         ensures { result ≡ program }
     {
         Typed { program, fault }
@@ -51,9 +51,10 @@ impl Typed {
         self.program
     }
 
-    /// The program's earliest fault of names, types and sizes; at one place, the one of the lowest number.
+    /// The program's earliest fault of names, types, regions and sizes, without the rules on live regions and effects; at one place, the
+    /// one of the lowest number.
     pub fn fault(&self) -> Option<Fault>
-        ensures { IsFirstFault result self.now }
+        ensures { IsTypeFault result self.now }
     {
         self.fault
     }

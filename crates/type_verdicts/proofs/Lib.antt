@@ -1,2 +1,3 @@
 pub mod Earliest
 pub mod Shortened
+pub mod Telling

@@ -1,5 +1,5 @@
 -- Faults in code, as the rules say them.
-use Rattle.std.specs.Prelude.{None, Option, Some, option_map, ℕ, if◌then◌else◌}
+use Rattle.std.specs.Prelude.{List, None, Option, Some, codes, option_map, ℕ, if◌then◌else◌}
 use Rattle.source_typing.specs.Faults.{
   consumed_rule,
   copy_rule,
@@ -31,6 +31,19 @@ number_of kind.Lent = lent_rule
 number_of kind.Copy = copy_rule
 number_of kind.Size = size_rule
 
+-- the word that a rule is printed as
+abbrev pub word_of : FaultKind → List ℕ
+word_of kind.Name = codes "Name"
+word_of kind.Typing = codes "Type"
+word_of kind.Region = codes "Region"
+word_of kind.Outlives = codes "Outlives"
+word_of kind.Effect = codes "Effect"
+word_of kind.Consumed = codes "Consumed"
+word_of kind.Lent = codes "Lent"
+word_of kind.Copy = codes "Copy"
+word_of kind.Size = codes "Size"
+
+-- a fault as the rules say it
 abbrev pub fault_of : Fault → rules.Fault
 fault_of f = fault (number_of f.kind) f.at
 

@@ -1,2 +1,1 @@
 pub mod Accepted
-pub use Rattle.region_types.specs.Faults

@@ -40,6 +40,7 @@ impl Checked {
 }
 
 /// Looks at a program's flow. As yet each program that comes here is accepted, and no memory is taken.
+#[tactic(auto, using(accepted_sources::proofs::NoFlow::first_is_of_effects))]
 pub fn flow(_alloc: Global, effected: Effected) -> Result<Checked, FlowFault>
     // the program is answered as it is
     ensures same { IfOk result (λ c. c ≡ effected) }

@@ -1,2 +1,3 @@
 pub mod MissingRegions
 pub mod Pointers
+pub mod Parameters

@@ -1,3 +1,4 @@
 pub mod Settling
 pub mod Reading
 pub mod Written
+pub mod Parameters

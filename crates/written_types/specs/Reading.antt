@@ -1,5 +1,5 @@
 -- Types as they are read: which of them are taken, and the pointers on a base by what was found of their regions.
-use Rattle.std.specs.Prelude.{Bool, List, None, Option, Some, false, map, option_map, true, ℕ, ◌&&◌, ◌||◌, if◌then◌else◌, [], ◌∷◌}
+use Rattle.std.specs.Prelude.{Bool, List, None, Option, Some, false, map, true, ℕ, ◌&&◌, ◌||◌, if◌then◌else◌, [], ◌∷◌}
 use Rattle.cyc_tree.specs.Tree.{TypeName}
 use Rattle.cyc_tree.specs.View.{pointer_tree}
 use Rattle.cyc_tree.specs.declared.name.Pointer.{Pointer}

@@ -21,8 +21,8 @@ use scoped_types::RegionNames;
 use std::alloc::{AllocError, Global};
 use type_verdicts::{Fault, FaultKind, Verdict};
 
-/// A type that takes no missing regions from another one.
-fn settled_alone<'p>(
+/// A type that takes no missing regions from another one. Fails only where no host memory is left.
+pub fn settled_alone<'p>(
     of: Verdict<WrittenType<'p>>,
     at: u32,
 ) -> Result<Verdict<CType<'p>>, AllocError>
@@ -61,7 +61,7 @@ fn fitted<'p>(of: CType<'p>, at: u32, takes_void: bool) -> Verdict<CType<'p>>
 }
 
 /// The type of a result, where `void` is taken, and else of a parameter.
-fn fitting<'p>(of: Verdict<CType<'p>>, at: u32, takes_void: bool) -> Verdict<CType<'p>>
+pub(crate) fn fitting<'p>(of: Verdict<CType<'p>>, at: u32, takes_void: bool) -> Verdict<CType<'p>>
     ensures { (w : rules.Verdict StaticType) → short_of static_type of.entry ≡ shortened w
         → short_of static_type result ≡ shortened (rules.after w (if_scalar takes_void at)) }
 {

@@ -10,8 +10,8 @@ mod reading;
 mod settling;
 mod variables;
 
-pub use heading::result_type;
+pub use heading::{result_type, settled_alone};
 pub use layer::WrittenLayer;
-pub use reading::{misses_region, written};
+pub use reading::{misses_region, takes_type, written};
 pub use settling::{WrittenLayers, WrittenType, settled};
-pub use variables::{RegionVariables, VariableFault};
+pub use variables::RegionVariables;

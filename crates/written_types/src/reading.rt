@@ -59,7 +59,7 @@ fn takes_each(pointers: &[Pointer]) -> bool
 }
 
 /// The base of a type that is taken. None: the type isn't.
-fn taken_base<'p>(of: &TypeName) -> Option<BaseType<'p>>
+pub(crate) fn taken_base<'p>(of: &TypeName) -> Option<BaseType<'p>>
     ensures { option_map partial_base result ≡ taken_base (type_tree of.now) }
 {
     if takes_pointers(&of.pointers) {
@@ -80,7 +80,7 @@ fn refused<'p>(at: u32) -> Verdict<WrittenType<'p>>
 }
 
 /// A pointer of this sign.
-fn layer_of(sign: Sign, region: Option<RegionId>) -> WrittenLayer
+pub(crate) fn layer_of(sign: Sign, region: Option<RegionId>) -> WrittenLayer
     ensures { (t : PartialType) → partial_to result t ≡ made sign (option_map region_of region) t }
 {
     match sign {
@@ -98,7 +98,11 @@ fn can_lead(base: &BaseType<'_>) -> bool
 }
 
 /// The type of pointers on a base, at fault at this place where no pointer leads to the base.
-fn built<'p>(at: u32, base: BaseType<'p>, layers: WrittenLayers) -> Verdict<WrittenType<'p>>
+pub(crate) fn built<'p>(
+    at: u32,
+    base: BaseType<'p>,
+    layers: WrittenLayers,
+) -> Verdict<WrittenType<'p>>
     ensures { let b = partial_base base.entry in short_of partial_type result ≡ shortened (type_built at (led (can_lead b) b layers.items)) }
 {
     if layers.is_empty() || can_lead(&base) {
@@ -172,7 +176,7 @@ fn takes_base(base: &Base) -> bool
 }
 
 /// Whether a type is taken.
-fn takes_type(of: &TypeName) -> bool
+pub fn takes_type(of: &TypeName) -> bool
     ensures { result ≡ takes_type thin_pointers (type_tree of.now) }
 {
     takes_base(&of.base) && takes_pointers(&of.pointers)

@@ -1,23 +1,31 @@
 // The region variables of a function's head.
 
-ghost use Rattle.std.specs.Prelude.{◌≡◌, ◌^◌, IfOk, OnErr, OnOk, [], suc};
+ghost use Rattle.std.specs.Prelude.{◌≡◌, IfOk, None, OnErr, OnOk, Some, [], is_none, option_map, suc, true};
+ghost use Rattle.cyc_tree.specs.Tree.{Named};
+ghost use Rattle.cyc_tree.specs.View.{name_tree, region_tree, type_tree};
 ghost use Rattle.cyc_types.specs.Regions.{region_of};
-ghost use Rattle.source_typing.specs.Functions.{variables};
+ghost use Rattle.cyc_types.specs.Types.{static_type};
+ghost use Rattle.source_typing.specs.Functions.{parameter_type, take_named, take_spot, take_spots, variables};
 ghost use Rattle.source_typing.specs.Regions.{Level};
+ghost use Rattle.source_typing.specs.Tables.{Tables};
+ghost use Rattle.source_typing.specs.Taken.{refused_type, takes_pointers, takes_region, thin_pointers};
+ghost use Rattle.source_typing.specs.Types.{PartialType};
+ghost use Rattle.source_typing.specs.Written.{Is, find_region, pointers_to, spots_of, type_built};
+ghost use Rattle.type_verdicts.specs.Verdicts.{short_of, shortened};
+ghost use Rattle.written_types.specs.Parameters.{as_parameter, parameter_in, refused_at, spotted_in};
+ghost use Rattle.written_types.specs.Reading.{can_lead, led, pointer_spots, pointer_trees, taken_base};
+ghost use Rattle.written_types.specs.Written.{partial_base};
 
-use cyc_types::RegionId;
+use crate::heading::{fitting, settled_alone};
+use crate::reading::{built, layer_of, taken_base};
+use crate::settling::WrittenLayers;
+use cyc_tree::{Name, Pointer, RegionName, TypeName};
+use cyc_types::{BaseType, CType, RegionId};
 use scoped_types::RegionNames;
-use std::alloc::Global;
+use smallvec::SmallVec;
+use std::alloc::{AllocError, Global};
 use std::marker::Model;
-
-/// Why a parameter isn't read.
-#[derive(Clone, Copy, PartialEq, Eq, Debug)]
-pub enum VariableFault {
-    /// No host memory is left.
-    Memory,
-    /// There would be 2^32 region variables, more than have numbers.
-    TooMany,
-}
+use type_verdicts::{Fault, FaultKind, Verdict};
 
 /// The region variables of a head while its parameters are read: those with names, and how many there are.
 #[derive(Drop)]
@@ -32,6 +40,20 @@ impl<'p> Model for RegionVariables<'p> {
     ghost Value = { Variables };
 
     ghost view = { λ s. variables s.names s.count };
+}
+
+/// The type of a parameter: of these pointers on a base.
+fn parameter_of<'p>(
+    at: u32,
+    base: BaseType<'p>,
+    layers: WrittenLayers,
+) -> Result<Verdict<CType<'p>>, AllocError>
+    ensures { let b = partial_base base.entry in IfOk result (λ v. short_of static_type v
+        ≡ shortened (as_parameter at (type_built at (led (can_lead b) b layers.items)))) }
+{
+    let written = built(at, base, layers);
+    let settled = settled_alone(written, at)?;
+    Ok(fitting(settled, at, false))
 }
 
 impl<'p> RegionVariables<'p> {
@@ -59,12 +81,11 @@ impl<'p> RegionVariables<'p> {
         self.count
     }
 
-    /// A variable without a name. Fails only where no number is left, and then there is none more.
-    pub fn fresh(&mut self) -> Result<RegionId, VariableFault>
+    /// A variable without a name. Fails only where there would be 2^32 variables, more than have numbers, and then there is none more.
+    pub fn fresh(&mut self) -> Result<RegionId, AllocError>
         ensures found { IfOk result (λ r. region_of r ≡ Level self.old.count) }
         ensures after { OnOk result (self.new ≡ variables self.old.names (suc self.old.count)) }
         ensures kept { OnErr result (self.new ≡ self.old) }
-        ensures none_left { OnErr result (suc self.old.count ≡ 2 ^ 32) }
     {
         match self.count.checked_add(1) {
             Some(count) => {
@@ -72,7 +93,117 @@ impl<'p> RegionVariables<'p> {
                 self.count = count;
                 Ok(region)
             }
-            None => Err(VariableFault::TooMany),
+            None => Err(AllocError),
         }
+    }
+
+    /// The region of a name, a fresh variable for the first of a spelling. Fails only where no host memory is left.
+    fn take_named(&mut self, name: &'p Name) -> Result<RegionId, AllocError>
+        ensures found { IfOk result (λ r. (take_spot self.old (Some (Named (name_tree name.entry.now))) true).found ≡ Is (region_of r)) }
+        ensures after { OnOk result (self.new ≡ (take_spot self.old (Some (Named (name_tree name.entry.now))) true).after_it) }
+    {
+        match self.names.find(&name.text) {
+            Some(region) => Ok(region),
+            None => self.add_named(name),
+        }
+    }
+
+    /// The region of a pointer that is taken, a fresh variable for a missing one. Fails only where no host memory is left.
+    fn take(&mut self, region: &'p Option<RegionName>) -> Result<RegionId, AllocError>
+        ensures found { takes_region thin_pointers (option_map region_tree region.entry.now) ≡ true
+            → IfOk result (λ r. (take_spot self.old (option_map region_tree region.entry.now) true).found ≡ Is (region_of r)) }
+        ensures after { takes_region thin_pointers (option_map region_tree region.entry.now) ≡ true
+            → OnOk result (self.new ≡ (take_spot self.old (option_map region_tree region.entry.now) true).after_it) }
+    {
+        match region {
+            Some(RegionName::Named(name)) => self.take_named(name),
+            Some(RegionName::Heap(_) | RegionName::Unique(_)) => Ok(RegionId::Heap),
+            None => self.fresh(),
+        }
+    }
+
+    /// The region of a name that isn't known yet.
+    fn add_named(&mut self, name: &'p Name) -> Result<RegionId, AllocError>
+        ensures found { IfOk result (λ r. region_of r ≡ Level self.old.count) }
+        ensures after { is_none (find_region self.old.names name.entry.now.text.items) ≡ true
+            → OnOk result (self.new ≡ (take_named self.old (name_tree name.entry.now) None).after_it) }
+    {
+        let region = self.fresh()?;
+        self.names.add(&name.text, region)?;
+        Ok(region)
+    }
+
+    /// The pointers of a type that is taken, with their regions. Fails only where no host memory is left.
+    fn take_layers(
+        &mut self,
+        alloc: Global,
+        pointers: &'p [Pointer],
+    ) -> Result<WrittenLayers, AllocError>
+        ensures found { (b : PartialType) → takes_pointers thin_pointers (pointer_trees pointers.entry.now) ≡ true
+            → IfOk result (λ ls. pointers_to (pointer_trees pointers.entry.now) (take_spots self.old (pointer_spots pointers.entry.now)).found (Some b)
+            ≡ led (can_lead b) b ls.items) }
+        ensures after { takes_pointers thin_pointers (pointer_trees pointers.entry.now) ≡ true
+            → OnOk result (self.new ≡ (take_spots self.old (pointer_spots pointers.entry.now)).after_all) }
+    {
+        let mut layers = SmallVec::new(alloc);
+        'each: for pointer in pointers {
+            let region = self.take(&pointer.region)?;
+            layers.push(layer_of(pointer.sign, Some(region)))?;
+        }
+        Ok(layers)
+    }
+
+    /// The type of a parameter that is refused. It is a pointer whose region is missing.
+    fn refused(&mut self, at: u32) -> Result<Verdict<CType<'p>>, AllocError>
+        ensures found { IfOk result (λ v. short_of static_type v ≡ shortened (refused_at at)) }
+        ensures after { OnOk result (self.new ≡ variables self.old.names (suc self.old.count)) }
+    {
+        let _region = self.fresh()?;
+        Ok(Verdict::Wrong(Fault {
+            kind: FaultKind::Typing,
+            at,
+        }))
+    }
+
+    /// The type of a parameter of this base, which is taken.
+    fn on_base(
+        &mut self,
+        alloc: Global,
+        of: &'p TypeName,
+        base: BaseType<'p>,
+    ) -> Result<Verdict<CType<'p>>, AllocError>
+        ensures found { (g : Tables) → taken_base (type_tree of.entry.now) ≡ Some (partial_base base.entry)
+            → IfOk result (λ v. short_of static_type v ≡ shortened (parameter_in g self.old (type_tree of.entry.now))) }
+        ensures after { (g : Tables) → taken_base (type_tree of.entry.now) ≡ Some (partial_base base.entry)
+            → OnOk result (self.new ≡ (spotted_in g self.old (type_tree of.entry.now)).after_all) }
+    {
+        let layers = self.take_layers(alloc, &of.pointers)?;
+        let parameter = parameter_of(of.at, base, layers)?;
+        Ok(parameter)
+    }
+
+    /// The type of a parameter: a scalar other than a union. Its missing regions, and the first of each name, are fresh variables. A
+    /// type that isn't taken is at fault at its first token, and has one missing region. Fails only where no host memory is left.
+    pub fn parameter(
+        &mut self,
+        alloc: Global,
+        of: &'p TypeName,
+    ) -> Result<Verdict<CType<'p>>, AllocError>
+        ensures found { (g : Tables) → IfOk result (λ v. short_of static_type v ≡ shortened (parameter_in g self.old (type_tree of.entry.now))) }
+        ensures after { (g : Tables) → OnOk result (self.new ≡ (spotted_in g self.old (type_tree of.entry.now)).after_all) }
+    {
+        match taken_base(of) {
+            Some(base) => self.on_base(alloc, of, base),
+            None => self.refused(of.at),
+        }
+    }
+
+    /// The type of a parameter that stands for a form that isn't taken. Fails only where no host memory is left.
+    pub fn refused_parameter(&mut self, at: u32) -> Result<Verdict<CType<'p>>, AllocError>
+        ensures found { (g : Tables) → IfOk result (λ v. short_of static_type v
+            ≡ shortened (parameter_type g (refused_type at) (take_spots self.old (spots_of g (refused_type at))))) }
+        ensures after { (g : Tables) → OnOk result (self.new ≡ (take_spots self.old (spots_of g (refused_type at))).after_all) }
+    {
+        self.refused(at)
     }
 }

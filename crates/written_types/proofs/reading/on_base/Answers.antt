@@ -5,7 +5,7 @@ use Rattle.source_typing.specs.Faults.{earliest}
 use Rattle.source_typing.specs.Taken.{takes_pointers, thin_pointers}
 use Rattle.source_typing.specs.Written.{all_found, pointers_to}
 use Rattle.type_verdicts.specs.Faults.{faults_of}
-use Rattle.written_types.specs.Reading.{can_lead, led, pointer_spots, pointer_trees}
+use Rattle.written_types.specs.Reading.{pointer_spots, pointer_trees}
 use Rattle.written_types.specs.Written.{partial_base}
 use Rattle.written_types.proofs.Pointers.{pointers_taken, written_right}
 use Rattle.source_typing.specs.Faults as rules

@@ -1,0 +1,97 @@
+-- What is in scope where a body begins, and the fault of a function that is answered.
+use Rattle.std.proofs.Common.{◌≡◌, ℕ, Bool, false, Option, Some, None, List, [], ◌∷◌, refl, sym, ◌∙◌, ap, subst, arith}
+use Rattle.std.specs.Prelude.{◌++◌, option_map}
+use Rattle.cyc_types.specs.Regions.{region_of}
+use Rattle.cyc_types.specs.Types.{static_type}
+use Rattle.cyc_types.specs.declared.region.RegionId.TheVariants as code_region
+use Rattle.source_typing.specs.Faults.{Fault, earliest, own_after, sooner_of}
+use Rattle.source_typing.specs.Functions.{body_scope, function_scope, with_parameters}
+use Rattle.source_typing.specs.Functions as rules
+use Rattle.source_typing.specs.Regions.{Level, Region, entry_regions, with_scope}
+use Rattle.source_typing.specs.Tables.{Tables, find}
+use Rattle.scoped_names.specs.Changes.{IsBlock}
+use Rattle.scoped_names.specs.Globals.{global_meaning}
+use Rattle.scoped_names.specs.Knows.{Knows, local_or}
+use Rattle.scoped_names.specs.Locals.{find_what, is_after}
+use Rattle.scoped_names.specs.Means.{Means}
+use Rattle.scoped_names.specs.declared.scope.Scope.{Scope}
+use Rattle.scoped_types.specs.Scopes.{AreThose}
+use Rattle.type_verdicts.proofs.Earliest.{earliest_of_both, found_sooner}
+use Rattle.type_verdicts.specs.Faults.{faults_of, first_of, sooner_found}
+use Rattle.type_verdicts.specs.declared.fault.Fault as found
+use Rattle.judged_statements.specs.Contexts.{StandsIn}
+use Rattle.judged_statements.specs.declared.context.Context.{Context}
+use Rattle.judged_heads.specs.Bodies.{KnowsGlobals, own_found, types_of}
+use Rattle.judged_heads.specs.Heads.{IsHead, effect_in, known_static}
+use Rattle.judged_heads.specs.declared.head.Head as code
+use Rattle.cyc_tree.specs.Tree as tree
+
+-- ---- where the body begins
+
+module _ (c : code.Head) (f : tree.Function) (h : rules.Head) (is : IsHead c f h) where
+  pub same_regions : (n : ℕ) (rs : List Region) → n ≡ c.variables.count → rs ≡ effect_in c.is_whole n
+      → entry_regions n rs [] ≡ entry_regions h.signature.regions h.signature.effect h.signature.bounds
+  same_regions n rs a e =
+      ap (λ k. entry_regions k rs []) (a ∙ is.count)
+      ∙ ap (λ qs. entry_regions h.signature.regions qs []) (e ∙ ap (effect_in c.is_whole) a ∙ is.effect)
+      ∙ ap (λ bs. entry_regions h.signature.regions h.signature.effect bs) (sym is.bounds)
+
+  module _ (lenient : Bool) (g : Tables) (i : ℕ) (s : Scope) (alone : s.locals ≡ []) where
+    pub begins : KnowsGlobals s.globals.now g → s.lenient ≡ lenient
+        → AreThose s.regions (with_scope (entry_regions h.signature.regions h.signature.effect h.signature.bounds))
+        → Knows s (function_scope lenient g i h)
+    begins globals same regions = record {
+      names = λ x. subst (λ m. Means (find g x) (local_or m (global_meaning s.globals.now x)))
+          (sym (ap (λ ls. find_what ls x) alone)) (globals x);
+      regions = regions;
+      lenient = same;
+      enclosing = refl;
+    }
+
+    no_locals : IsBlock 0 s (function_scope lenient g i h)
+    no_locals = record {
+      second = λ x. ap (λ ls. is_after ls 0 x) alone;
+      within = omega arith;
+      around = tt;
+    }
+
+    pub stands : (d : Context) → Knows s (function_scope lenient g i h) → d.names.now ≡ c.variables.names
+        → option_map (λ t. static_type t.now) d.result ≡ known_static c.result → d.frame ≡ code_region.Level c.variables.count → d.in_loop ≡ false
+        → StandsIn d 0 s (function_scope lenient g i h)
+    stands d known names result frame in_loop = record {
+      known = known;
+      suits = record {
+        names = names ∙ is.names;
+        result = result ∙ is.result;
+        frame = ap region_of frame ∙ ap (λ n. Level n) is.count;
+        in_loop = in_loop;
+        no_switch = refl;
+      };
+      block = no_locals;
+    }
+
+    -- with the parameters it is the body's scope
+    pub at_body : (d : Context) (t : Scope) → StandsIn d 0 t (with_parameters f.parameters (types_of c.parameters.items) (function_scope lenient g i h))
+        → StandsIn d 0 t (body_scope lenient g i f h)
+    at_body d t q = subst (λ ts. StandsIn d 0 t (with_parameters f.parameters ts (function_scope lenient g i h))) is.types q
+
+-- ---- the fault that is answered
+
+own_earliest : (own parts : List Fault) → earliest (own_after own parts) ≡ own_found (earliest own) (earliest parts)
+own_earliest own [] = refl
+own_earliest own (f ∷ fs) = by (earliest fs)
+  where
+    by : (o : Option Fault) → sooner_of f o ≡ own_found (earliest own) (sooner_of f o)
+    by None = refl
+    by (Some g) = refl
+
+-- a head's fault, and the body's or else the end's
+pub function_found : (head body end both : Option found.Fault) (hs bs es : List Fault) → faults_of head ≡ earliest hs → faults_of body ≡ earliest bs
+    → faults_of end ≡ earliest es → faults_of both ≡ own_found (faults_of end) (faults_of body)
+    → faults_of (sooner_found head both) ≡ earliest (hs ++ own_after es bs)
+function_found head body end both hs bs es a b c d =
+    found_sooner head both
+    ∙ ap (λ o. first_of o (faults_of both)) a
+    ∙ ap (λ o. first_of (earliest hs) o)
+    (d ∙ ap (λ o. own_found o (faults_of body)) c ∙ ap (λ o. own_found (earliest es) o) b ∙ sym (own_earliest es bs))
+    ∙ sym (earliest_of_both hs (own_after es bs))

@@ -1,0 +1,20 @@
+use Rattle.std.proofs.Common.{◌∷◌, ap, subst, sym, ◌∙◌}
+use Rattle.source_typing.specs.Functions.{what_of_known}
+use Rattle.scoped_names.specs.Locals.{is_after, known}
+use Rattle.scoped_names.specs.Means.{WhatIs}
+use Rattle.source_typing.specs.Scope.{with_local}
+use Rattle.judged_statements.specs.Contexts.{StandsIn}
+use Rattle.judged_heads.specs.Heads.{known_static}
+use Rattle.judged_heads.proofs.Parameters.{is_added}
+use Rattle.judged_heads.proofs.body.declare_parameter.Goals as goal
+
+pub returns : goal.returns
+returns c g x e h =
+    let s = c.args.scope.now in
+    let d = c.args.context in
+    let k = known_static c.args.parameter.now.of in
+    let what = c.in_ok-what.what in
+    subst (λ ls. StandsIn d 0 (record s { locals = ls }) (with_local x (what_of_known g.frame k) g))
+    (sym (c.in_ok-declare.ensures.declared ∙ ap (λ y. known y what ∷ s.locals) (sym e)))
+    (is_added d s g h x (what_of_known g.frame k) what (subst (λ r. WhatIs (what_of_known r k) what) h.suits.frame c.in_ok-what.ensures)
+    (sym (h.block.second x.text) ∙ ap (is_after s.locals 0) e ∙ sym c.is_second.ensures ∙ c.if-is_second.false))

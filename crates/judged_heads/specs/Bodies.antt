@@ -1,0 +1,30 @@
+-- What a function's body is judged in.
+use Rattle.std.specs.Prelude.{List, None, Option, Some, map, ℕ}
+use Rattle.source_typing.specs.Tables.{Tables, find}
+use Rattle.source_typing.specs.Types.{StaticType}
+use Rattle.scoped_names.specs.Globals.{global_meaning}
+use Rattle.scoped_names.specs.Means.{Means}
+use Rattle.scoped_names.specs.declared.globals.Globals.{Globals}
+use Rattle.judged_heads.specs.Heads.{known_static}
+use Rattle.judged_heads.specs.declared.head.Parameter.{Parameter}
+use Rattle.cyc_tree.specs.Tree as tree
+use Rattle.source_typing.specs.Faults as rules
+
+-- each global and function means what it means by the rules
+abbrev pub KnowsGlobals : Globals → Tables → Type 0
+KnowsGlobals s g = (x : List ℕ) → Means (find g x) (global_meaning s x)
+
+-- parameters by their names, and by their types where these are known
+abbrev pub code_names : List Parameter → List (List ℕ)
+code_names ps = map (λ (p : Parameter). p.name.now) ps
+
+abbrev pub names_of : List tree.Member → List (List ℕ)
+names_of ms = map (λ (m : tree.Member). m.name.text) ms
+
+abbrev pub types_of : List Parameter → List (Option StaticType)
+types_of ps = map (λ (p : Parameter). known_static p.of) ps
+
+-- the fault of a phrase's parts, or else its own
+abbrev pub own_found : Option rules.Fault → Option rules.Fault → Option rules.Fault
+own_found own None = own
+own_found own (Some f) = Some f

@@ -1,0 +1,61 @@
+-- What a head in code says, as the rules say it.
+use Rattle.std.specs.Prelude.{Bool, List, None, Option, Some, false, is_none, map, true, ℕ, ◌≡◌, [], ◌∷◌}
+use Rattle.cyc_types.specs.Types.{static_type}
+use Rattle.cyc_types.specs.declared.ctype.CType.{CType}
+use Rattle.source_typing.specs.Faults.{earliest}
+use Rattle.source_typing.specs.Functions.{levels_but}
+use Rattle.source_typing.specs.Regions.{Region}
+use Rattle.source_typing.specs.Types.{StaticType}
+use Rattle.type_verdicts.specs.Faults.{faults_of}
+use Rattle.type_verdicts.specs.declared.verdict.Verdict as verdict
+use Rattle.type_verdicts.specs.declared.verdict.Verdict.TheVariants as variant
+use Rattle.judged_heads.specs.declared.head.Head as code
+use Rattle.judged_heads.specs.declared.head.Parameter.{Parameter}
+use Rattle.cyc_tree.specs.Tree as tree
+use Rattle.source_typing.specs.Functions as rules
+
+-- the type of what is in order
+abbrev pub known_static : verdict.Verdict CType → Option StaticType
+known_static (variant.Of t) = Some (static_type t)
+known_static (variant.Wrong f) = None
+known_static variant.NotJudged = None
+
+-- A phrase is at fault or in order: here no phrase is left unjudged.
+abbrev pub IsJudged : verdict.Verdict CType → Type 0
+IsJudged variant.NotJudged = ⊥
+IsJudged v = Unit {0}
+
+abbrev pub AllJudged : List Parameter → Type 0
+AllJudged [] = Unit {0}
+AllJudged (p ∷ ps) = IsJudged p.of × AllJudged ps
+
+-- A phrase is in order.
+abbrev pub IsInOrder : verdict.Verdict CType → Type 0
+IsInOrder (variant.Of t) = Unit {0}
+IsInOrder v = ⊥
+
+abbrev pub AllInOrder : List Parameter → Type 0
+AllInOrder [] = Unit {0}
+AllInOrder (p ∷ ps) = IsInOrder p.of × AllInOrder ps
+
+-- all region variables, or none
+abbrev pub effect_in : Bool → ℕ → List Region
+effect_in true count = levels_but [] count
+effect_in false count = []
+
+-- The head in code has the region variables, parameters, result, effect and earliest fault of that of the rules.
+pub record IsHead (c : code.Head) (f : tree.Function) (h : rules.Head) : Type 0 where
+  pub names : c.variables.names ≡ h.names
+  pub count : c.variables.count ≡ h.signature.regions
+  pub named : map (λ (p : Parameter). p.name.now) c.parameters.items ≡ map (λ (m : tree.Member). m.name.text) f.parameters
+  pub types : map (λ (p : Parameter). known_static p.of) c.parameters.items ≡ h.signature.parameters
+  pub result : known_static c.result ≡ h.signature.result
+  pub effect : effect_in c.is_whole c.variables.count ≡ h.signature.effect
+  pub bounds : h.signature.bounds ≡ []
+  pub fault : faults_of c.fault ≡ earliest h.faults
+  pub sound : is_none c.fault ≡ h.signature.sound
+  pub judged : AllJudged c.parameters.items
+  pub result_judged : IsJudged c.result
+  -- where the head has no fault, its parameters and its result have none
+  pub in_order : c.fault ≡ None → AllInOrder c.parameters.items
+  pub result_in_order : c.fault ≡ None → IsInOrder c.result

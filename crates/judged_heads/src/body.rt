@@ -1,0 +1,175 @@
+// The faults of functions.
+
+ghost use Rattle.std.specs.Prelude.{◌≡◌, Bool, IfOk, List, OnOk, [], not, true, ℕ};
+ghost use Rattle.cyc_tree.specs.Tree as tree;
+ghost use Rattle.cyc_tree.specs.View.{function_tree};
+ghost use Rattle.cyc_types.specs.Regions.{region_of};
+ghost use Rattle.source_typing.specs.Faults.{earliest, test, type_rule};
+ghost use Rattle.source_typing.specs.Functions.{body_scope, end_reached, function_faults, function_scope, needs_return, what_of_known, with_parameters};
+ghost use Rattle.source_typing.specs.Functions as rules;
+ghost use Rattle.source_typing.specs.Scope.{Env, with_local};
+ghost use Rattle.source_typing.specs.Statements.{items_faults};
+ghost use Rattle.source_typing.specs.Tables.{Tables, find};
+ghost use Rattle.source_typing.specs.Taken.{function_taken, thin_pointers};
+ghost use Rattle.type_verdicts.specs.Faults.{faults_of};
+ghost use Rattle.scoped_names.specs.Globals.{global_meaning};
+ghost use Rattle.scoped_names.specs.Knows.{Knows};
+ghost use Rattle.scoped_names.specs.Means.{Means, WhatIs};
+ghost use Rattle.judged_statements.specs.Contexts.{StandsIn};
+ghost use Rattle.judged_heads.specs.Bodies.{KnowsGlobals, code_names, names_of, own_found, types_of};
+ghost use Rattle.judged_heads.specs.Heads.{IsHead, known_static};
+
+use crate::effect::effect_of;
+use crate::head::{Head, Parameter, is_main, read_head};
+use crate::meaning::known_type;
+use crate::ways::items_fall;
+use cyc_tree::Function;
+use cyc_types::{CType, RegionId};
+use judged_statements::{Context, items_fault};
+use scoped_names::{Globals, Locals, Scope, What};
+use scoped_types::RegionScope;
+use std::alloc::{AllocError, Global};
+use type_verdicts::{Fault, FaultKind, Verdict, sooner};
+
+/// What a parameter of a type is as a local of the block with this stack region. Fails only where no host memory is left.
+fn local_of<'p>(frame: RegionId, of: &Verdict<CType<'p>>) -> Result<What<'p>, AllocError>
+    ensures { IfOk result (λ w. WhatIs (what_of_known (region_of frame) (known_static of.now)) w) }
+{
+    match known_type(of) {
+        Some(of) => Ok(What::Variable(of.try_clone()?, frame)),
+        None => Ok(What::NotKnown),
+    }
+}
+
+/// Declares a parameter in the body's block; a second one of a name leaves the first. Fails only where no host memory is left.
+fn declare_parameter<'p>(
+    scope: &mut Scope<'_, 'p>,
+    context: Context<'_, 'p>,
+    parameter: &Parameter<'p>,
+) -> Result<(), AllocError>
+    ensures { (g : Env) (x : tree.Name) → x.text ≡ parameter.now.name.now → StandsIn context.entry 0 scope.old g
+        → OnOk result (StandsIn context.entry 0 scope.new (with_local x (what_of_known g.frame (known_static parameter.now.of)) g)) }
+{
+    if scope.locals.is_second(0, parameter.name) {
+        return Ok(());
+    }
+    let what = local_of(context.frame, &parameter.of)?;
+    scope.locals.declare(parameter.name, what)?;
+    Ok(())
+}
+
+/// Declares the parameters in the body's block. Fails only where no host memory is left.
+fn declare_parameters<'p>(
+    scope: &mut Scope<'_, 'p>,
+    context: Context<'_, 'p>,
+    parameters: &[Parameter<'p>],
+) -> Result<(), AllocError>
+    ensures { (g : Env) (ms : List tree.Member) → code_names parameters.now ≡ names_of ms → StandsIn context.entry 0 scope.old g
+        → OnOk result (StandsIn context.entry 0 scope.new (with_parameters ms (types_of parameters.now) g)) }
+{
+    'each: for parameter in parameters {
+        declare_parameter(scope, context, parameter)?;
+    }
+    Ok(())
+}
+
+/// What is in scope where a function's body begins, without its parameters. Fails only where no host memory is left.
+fn entered<'g, 'p>(
+    alloc: Global,
+    globals: &'g Globals<'p>,
+    lenient: bool,
+    head: &Head<'p>,
+) -> Result<Scope<'g, 'p>, AllocError>
+    ensures known { (g : Tables) (i : ℕ) (f : tree.Function) (h : rules.Head) → KnowsGlobals globals.entry.now g → IsHead head.now f h
+        → IfOk result (λ s. Knows s (function_scope lenient g i h)) }
+    ensures alone { IfOk result (λ s. s.locals ≡ []) }
+{
+    let count = head.variables.count();
+    let effect = effect_of(alloc, head.is_whole, count)?;
+    let mut regions = RegionScope::of_function(alloc, count, effect.as_slice(), &[])?;
+    regions.begin_block()?;
+    Ok(Scope {
+        globals,
+        locals: Locals::new(alloc),
+        regions,
+        lenient,
+    })
+}
+
+/// The earliest fault of a function's body. Fails only where no host memory is left.
+fn body_fault<'p>(
+    alloc: Global,
+    globals: &Globals<'p>,
+    lenient: bool,
+    head: &Head<'p>,
+    function: &'p Function,
+) -> Result<Option<Fault>, AllocError>
+    ensures { (g : Tables) (i : ℕ) (h : rules.Head) → KnowsGlobals globals.now g
+        → let f = function_taken thin_pointers (function_tree function.entry.now) in IsHead head.now f h
+        → IfOk result (λ found. faults_of found ≡ earliest (items_faults (body_scope lenient g i f h) true f.body)) }
+{
+    let mut scope = entered(alloc, globals, lenient, head)?;
+    let context = Context {
+        names: head.variables.names(),
+        result: known_type(&head.result),
+        frame: RegionId::Level(head.variables.count()),
+        in_loop: false,
+    };
+    declare_parameters(&mut scope, context, head.parameters.as_slice())?;
+    items_fault(&mut scope, alloc, context, 0, &function.body)
+}
+
+/// Whether a function with a result of this type has to return one.
+fn needs_return(of: &Verdict<CType>) -> bool
+    ensures { result ≡ needs_return (known_static of.now) }
+{
+    match of {
+        Verdict::Of(of) => !of.is_void(),
+        Verdict::Wrong(_) | Verdict::NotJudged => false,
+    }
+}
+
+/// The fault of a function whose end is reached without a result.
+fn end_fault(head: &Head, function: &Function) -> Option<Fault>
+    ensures { (h : rules.Head) → let f = function_taken thin_pointers (function_tree function.now) in IsHead head.now f h
+        → faults_of result ≡ earliest (test (not (end_reached f h)) type_rule f.end) }
+{
+    let is_reached = head.fault.is_none()
+        && items_fall(&function.body)
+        && needs_return(&head.result);
+    if is_reached && !is_main(&function.name.text) {
+        Some(Fault {
+            kind: FaultKind::Typing,
+            at: function.end,
+        })
+    } else {
+        None
+    }
+}
+
+/// The fault of a phrase: that of its parts, or else its own.
+fn first_or(parts: Option<Fault>, own: Option<Fault>) -> Option<Fault>
+    ensures { faults_of result ≡ own_found (faults_of own) (faults_of parts) }
+{
+    match parts {
+        Some(fault) => Some(fault),
+        None => own,
+    }
+}
+
+/// The earliest fault of a function, where these are the program's functions and globals; with or without the rules on live regions and
+/// effects. Fails only where no host memory is left.
+pub fn function_fault<'p>(
+    alloc: Global,
+    globals: &Globals<'p>,
+    lenient: bool,
+    function: &'p Function,
+) -> Result<Option<Fault>, AllocError>
+    ensures { (g : Tables) (i : ℕ) → ((x : List ℕ) → Means (find g x) (global_meaning globals.now x))
+        → IfOk result (λ f. faults_of f ≡ earliest (function_faults lenient g i (function_taken thin_pointers (function_tree function.entry.now)))) }
+{
+    let head = read_head(alloc, function)?;
+    let body = body_fault(alloc, globals, lenient, &head, function)?;
+    let end = end_fault(&head, function);
+    Ok(sooner(head.fault, first_or(body, end)))
+}

@@ -1,0 +1,72 @@
+// What the name of a function means.
+
+ghost use Rattle.std.specs.Prelude.{◌≡◌, IfOk, Some, map, option_map};
+ghost use Rattle.cyc_tree.specs.Tree.{Function};
+ghost use Rattle.cyc_types.specs.Types.{static_type};
+ghost use Rattle.source_typing.specs.Functions as rules;
+ghost use Rattle.source_typing.specs.Tables.{OfFunction};
+ghost use Rattle.scoped_names.specs.Means.{Means};
+ghost use Rattle.judged_heads.specs.Bodies.{types_of};
+ghost use Rattle.judged_heads.specs.Heads.{AllInOrder, IsHead, known_static};
+
+use crate::effect::effect_of;
+use crate::head::{Head, Parameter};
+use cyc_types::CType;
+use scoped_names::{Meaning, Signature};
+use std::alloc::{AllocError, Global};
+use type_verdicts::Verdict;
+
+/// A type, where it is known.
+pub(crate) fn known_type<'a, 'p>(of: &'a Verdict<CType<'p>>) -> Option<&'a CType<'p>>
+    ensures { option_map (λ t. static_type t.now) result ≡ known_static of.now }
+{
+    match of {
+        Verdict::Of(of) => Some(of),
+        Verdict::Wrong(_) | Verdict::NotJudged => None,
+    }
+}
+
+/// The types of parameters that are in order. Fails only where no host memory is left.
+fn known_types<'p>(
+    alloc: Global,
+    parameters: &[Parameter<'p>],
+) -> Result<Vec<CType<'p>>, AllocError>
+    ensures { AllInOrder parameters.now → IfOk result (λ ts. map (λ t. Some (static_type t)) ts.items ≡ types_of parameters.now) }
+{
+    let mut types = Vec::new(alloc);
+    'each: for parameter in parameters {
+        if let Some(of) = known_type(&parameter.of) {
+            types.push(of.try_clone()?)?;
+        }
+    }
+    Ok(types)
+}
+
+/// What the name of a function with this head means: a function, where the head has no fault. Fails only where no host memory is left.
+pub fn head_meaning<'p>(alloc: Global, head: Head<'p>) -> Result<Meaning<'p>, AllocError>
+    ensures { (f : Function) (h : rules.Head) → IsHead head.entry f h → IfOk result (λ m. Means (Some (OfFunction h.signature)) (Some m)) }
+{
+    let Head {
+        variables,
+        parameters,
+        result,
+        is_whole,
+        fault,
+    } = head;
+    if fault.is_some() {
+        return Ok(Meaning::NotKnown);
+    }
+    let regions = variables.count();
+    let parameters = known_types(alloc, parameters.as_slice())?;
+    let effect = effect_of(alloc, is_whole, regions)?;
+    match result {
+        Verdict::Of(result) => Ok(Meaning::Function(Signature {
+            regions,
+            parameters,
+            result,
+            effect,
+            bounds: Vec::new(alloc),
+        })),
+        Verdict::Wrong(_) | Verdict::NotJudged => Ok(Meaning::NotKnown),
+    }
+}

@@ -1,0 +1,163 @@
+-- The earliest fault of a block's items, one at a time, and what is in scope after them.
+use Rattle.std.proofs.Common.{◌≡◌, ℕ, ◌+◌, ◌<◌, ◌≤◌, List, ◌∷◌, [], ◌++◌, Bool, true, false, Option, Some, None, refl, sym, ap, subst, ◌∙◌, map, length, drop, get_or, arith}
+use Rattle.std.specs.Prelude.{nat_le, option_map, ◌&&◌, if◌then◌else◌}
+use Rattle.std.proofs.lemmas.List.{drop_more}
+use Rattle.cyc_tree.specs.declared.statement.BlockItem as code_item
+use Rattle.cyc_tree.specs.declared.expression.Expression as code_expression
+use Rattle.cyc_tree.specs.View.{OneItem, expression_tree, item_tree, items_of}
+use Rattle.cyc_tree.specs.Tree.{BlockItems, Statement}
+use Rattle.source_typing.specs.Declarations.{declare}
+use Rattle.source_typing.specs.Expressions.{judge}
+use Rattle.source_typing.specs.Faults.{Fault, earliest}
+use Rattle.source_typing.specs.Scope.{Env, block_entered}
+use Rattle.source_typing.specs.Statements.{in_a_loop, items_faults, returned, statement_faults}
+use Rattle.source_typing.specs.Taken.{declaration_taken, items_taken, statement_taken, taken, thin_pointers}
+use Rattle.source_typing.specs.Ways.{ways_of}
+use Rattle.type_verdicts.specs.Faults.{faults_of, first_of, sooner_found}
+use Rattle.type_verdicts.specs.declared.fault.Fault as found
+use Rattle.type_verdicts.proofs.Earliest.{earliest_of_both, found_sooner, sooner_first}
+use Rattle.scoped_names.specs.Changes.{left}
+use Rattle.scoped_names.specs.Locals.{Known, dropped_to}
+use Rattle.scoped_names.specs.declared.scope.Scope.{Scope}
+use Rattle.scoped_names.specs.Changes.{AllAround, IsBlock, entered}
+use Rattle.scoped_names.specs.Knows.{Knows}
+use Rattle.scoped_names.proofs.Keeping.{block_is_entered, entered_known, known_there, left_at_once, left_entered}
+use Rattle.scoped_types.specs.Marks.{mark_of}
+use Rattle.scoped_types.specs.Scopes.{Scoped, with_begun}
+use Rattle.scoped_types.specs.Scopes as scoped
+use Rattle.scoped_types.specs.declared.begun.Begun.TheVariants.{Block}
+use Rattle.scoped_types.specs.declared.scope.RegionMark.{RegionMark}
+use Rattle.cyc_types.specs.Regions.{region_of}
+use Rattle.cyc_types.specs.declared.region.RegionId.{RegionId}
+use Rattle.source_typing.specs.Regions.{Level}
+use Rattle.judged_statements.specs.Contexts.{StandsIn, Suits}
+use Rattle.judged_statements.specs.declared.context.Context.{Context}
+
+-- the items of a block as far as they are taken
+abbrev pub taken_items : List OneItem → BlockItems
+taken_items items = items_taken thin_pointers (items_of items)
+
+-- the faults of one item, what is in scope after it, and whether its end is reached
+abbrev pub item_faults : Env → Bool → OneItem → List Fault
+item_faults g reached (OneItem.Declare d) = (declare g (declaration_taken thin_pointers d)).faults
+item_faults g reached (OneItem.Execute s) = statement_faults g reached (statement_taken thin_pointers s)
+
+abbrev pub scope_behind : Env → OneItem → Env
+scope_behind g (OneItem.Declare d) = (declare g (declaration_taken thin_pointers d)).scope
+scope_behind g (OneItem.Execute s) = g
+
+abbrev pub reached_behind : Bool → OneItem → Bool
+reached_behind reached (OneItem.Declare d) = reached
+reached_behind reached (OneItem.Execute s) = reached && (ways_of (statement_taken thin_pointers s)).falls
+
+item_more : (g : Env) (reached : Bool) (i : OneItem) (rest : List OneItem) → items_faults g reached (taken_items (i ∷ rest))
+    ≡ item_faults g reached i ++ items_faults (scope_behind g i) (reached_behind reached i) (taken_items rest)
+item_more g reached (OneItem.Declare d) rest = refl
+item_more g reached (OneItem.Execute s) rest = refl
+
+first_joined : (a b c : Option Fault) → first_of (first_of a b) c ≡ first_of a (first_of b c)
+first_joined None b c = refl
+first_joined (Some f) b c = sym (sooner_first f b c)
+
+-- where some items were judged: what stands in scope by the rules, and what was found, with the faults of the rest, is what is found of all
+pub record Going (c : Context) (outer : ℕ) (s : Scope) (o : Option found.Fault) (rest : List OneItem) (all : Option Fault) : Type 0 where
+  pub env : Env
+  pub reached : Bool
+  pub stands : StandsIn c outer s env
+  pub same : first_of (faults_of o) (earliest (items_faults env reached (taken_items rest))) ≡ all
+
+pub goes_on : (c : Context) (outer : ℕ) (s after : Scope) (o fault : Option found.Fault) (items : List code_item.BlockItem) (index : ℕ)
+    (item : code_item.BlockItem) (all : Option Fault) → index < length items → item ≡ get_or items index item
+    → (h : Going c outer s o (map item_tree (drop index items)) all)
+    → faults_of fault ≡ earliest (item_faults h.env h.reached (item_tree item)) → StandsIn c outer after (scope_behind h.env (item_tree item))
+    → Going c outer after (sooner_found o fault) (map item_tree (drop (index + 1) items)) all
+goes_on c outer s after o fault items index item all l is_item h own stands =
+    let i : OneItem = item_tree item in
+    let rest : List OneItem = map item_tree (drop (index + 1) items) in
+    let others : Option Fault = earliest (items_faults (scope_behind h.env i) (reached_behind h.reached i) (taken_items rest)) in
+    let next : drop index items ≡ item ∷ drop (index + 1) items = drop_more items index item l ∙ ap (λ y. y ∷ drop (index + 1) items) (sym is_item) in
+    record {
+      env = scope_behind h.env i;
+      reached = reached_behind h.reached i;
+      stands = stands;
+      same =
+          ap (λ f. first_of f others) (found_sooner o fault) ∙ first_joined (faults_of o) (faults_of fault) others
+          ∙ ap (λ f. first_of (faults_of o) (first_of f others)) own
+          ∙ ap (λ f. first_of (faults_of o) f)
+          (sym (ap earliest (item_more h.env h.reached i rest)
+          ∙ earliest_of_both (item_faults h.env h.reached i) (items_faults (scope_behind h.env i) (reached_behind h.reached i) (taken_items rest))))
+          ∙ ap (λ xs. first_of (faults_of o) (earliest (items_faults h.env h.reached (taken_items (map item_tree xs))))) (sym next)
+          ∙ h.same;
+    }
+
+-- what was found of two phrases
+pub two_found : (a b r : Option found.Fault) (fs gs : List Fault) → r ≡ sooner_found a b → faults_of a ≡ earliest fs → faults_of b ≡ earliest gs
+    → faults_of r ≡ earliest (fs ++ gs)
+two_found a b r fs gs e p q =
+    ap (λ o. faults_of o) e ∙ found_sooner a b ∙ ap (λ o. first_of o (faults_of b)) p ∙ ap (λ o. first_of (earliest fs) o) q ∙ sym (earliest_of_both fs gs)
+
+-- a `return`, with a result or without
+pub return_faults : (g : Env) (reached : Bool) (at : ℕ) (v : Option code_expression.Expression)
+    → statement_faults g reached (statement_taken thin_pointers (Statement.Return at (option_map expression_tree v)))
+    ≡ returned g at g.result (option_map (λ e. judge g (taken thin_pointers (expression_tree e))) v)
+return_faults g reached at None = refl
+return_faults g reached at (Some e) = refl
+
+-- ---- blocks
+
+-- a block begins: all that is in scope is known, and its stack region is the one that is next
+pub block_stands : (c : Context) (s : Scope) (g : Env) (regions : Scoped) (frame : RegionId) (outer : ℕ) → Knows s g → Suits c g → AllAround g.block g.locals
+    → regions ≡ with_begun Block s.regions → region_of frame ≡ Level (length s.regions.begun) → outer ≡ length s.locals
+    → StandsIn (record c { frame = frame }) outer (record s { regions = regions }) (block_entered g)
+block_stands c s g regions frame outer h suits around e f o =
+    subst (λ r. StandsIn (record c { frame = frame }) outer (record s { regions = r }) (block_entered g)) (sym e) record {
+      known = entered_known s g h;
+      suits = record {
+        names = suits.names;
+        result = suits.result;
+        frame = f ∙ ap Level h.regions.count;
+        in_loop = suits.in_loop;
+        no_switch = suits.no_switch;
+      };
+      block = subst (λ n. IsBlock n (entered s) (block_entered g)) (sym o) (block_is_entered s g around);
+    }
+
+-- leaving it at once, and after all of its items
+pub block_left : (s t : Scope) (regions : Scoped) → regions ≡ with_begun Block s.regions
+    → left (length s.locals) (mark_of s.regions) t ≡ left (length s.locals) (mark_of s.regions) (record s { regions = regions })
+    → left (length s.locals) (mark_of s.regions) t ≡ s
+block_left s t regions e k =
+    k ∙ ap (λ r. left (length s.locals) (mark_of s.regions) (record s { regions = r })) e
+    ∙ left_entered (length s.locals) (mark_of s.regions) s (grind arith) ∙ left_at_once s
+
+pub left_is : (t : Scope) (locals : List Known) (regions : Scoped) (n : ℕ) (m : RegionMark) → locals ≡ dropped_to n t.locals
+    → regions ≡ scoped.first_of m.names m.opened t.regions → record t { locals = locals; regions = regions } ≡ left n m t
+left_is t locals regions n m e f =
+    ap (λ ls. record t { locals = ls; regions = regions }) e ∙ ap (λ r. record t { locals = dropped_to n t.locals; regions = r }) f
+
+-- ---- loops
+
+pub loop_known : (s : Scope) (g : Env) → Knows s g → Knows s (in_a_loop g)
+loop_known s g h = known_there s g h (in_a_loop g) refl refl refl refl refl
+
+pub loop_suits : (c d : Context) (g : Env) → Suits c g → d ≡ record c { in_loop = true } → Suits d (in_a_loop g)
+loop_suits c d g h e =
+    subst (λ x. Suits x (in_a_loop g)) (sym e) record { names = h.names; result = h.result; frame = h.frame; in_loop = refl; no_switch = h.no_switch }
+
+-- ---- what is left
+
+dropped_shorter : (n : ℕ) (ls : List Known) → length (dropped_to n ls) ≤ length ls
+dropped_shorter n [] = grind arith
+dropped_shorter n (l ∷ ls) = by (nat_le n (length ls)) (dropped_shorter n ls)
+  where
+    by : (b : Bool) → length (dropped_to n ls) ≤ length ls → length (if b then dropped_to n ls else l ∷ ls) ≤ length (l ∷ ls)
+    by true h = grind (arith, h)
+    by false h = grind arith
+
+-- where leaving the block gives back what was in scope, there are no fewer locals
+pub no_fewer : (s t : Scope) → left (length s.locals) (mark_of s.regions) t ≡ left (length s.locals) (mark_of s.regions) s → length s.locals ≤ length t.locals
+no_fewer s t e =
+    let n : ℕ = length s.locals in
+    let same : dropped_to n t.locals ≡ s.locals = ap (λ (x : Scope). x.locals) (e ∙ left_at_once s) in
+    let shorter : length (dropped_to n t.locals) ≤ length t.locals = dropped_shorter n t.locals in
+    subst (λ ls. length ls ≤ length t.locals) same shorter

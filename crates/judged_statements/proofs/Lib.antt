@@ -1,0 +1,4 @@
+pub mod Beginning
+pub mod Declaring
+pub mod Answered
+pub mod Blocks

@@ -1,0 +1,22 @@
+use Rattle.std.proofs.Common.{◌≡◌, ap, false, subst, sym, ◌∙◌}
+use Rattle.std.specs.Prelude.{IfOk, None}
+use Rattle.cyc_tree.specs.View.{type_tree}
+use Rattle.cyc_types.specs.Types.{static_type}
+use Rattle.source_typing.specs.Declarations.{local_type}
+use Rattle.source_typing.specs.Scope.{in_scope}
+use Rattle.source_typing.specs.Taken.{thin_pointers, type_taken}
+use Rattle.source_typing.specs.Verdicts.{after}
+use Rattle.source_typing.specs.Written.{written}
+use Rattle.type_verdicts.specs.Verdicts.{short_of, shortened}
+use Rattle.written_types.proofs.Pointers.{place_kept}
+use Rattle.judged_statements.proofs.Beginning.{written_tagless}
+use Rattle.judged_statements.proofs.declaration.unset_type.Goals as goal
+
+pub returns : goal.returns
+returns c g suits =
+    let t = type_tree c.args.of.now in
+    let u = type_taken thin_pointers t in
+    let w = written (in_scope g) g.names u in
+    let e = c.in_ok-written.ensures (in_scope g) ∙ ap (λ n. shortened (written (in_scope g) n u)) suits.names in
+    subst (λ n. IfOk c.local_type.result (λ v. short_of static_type v ≡ shortened (after w (local_type g n None false None)))) (sym (place_kept t))
+    (c.local_type.ensures g w e (written_tagless (in_scope g) g.names t))

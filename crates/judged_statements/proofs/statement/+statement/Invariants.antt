@@ -1,0 +1,20 @@
+use Rattle.std.proofs.Common.{◌≡◌, ◌≤◌, Bool, ℕ, length, map, drop}
+use Rattle.cyc_tree.specs.View.{item_tree, items_of}
+use Rattle.source_typing.specs.Faults.{earliest}
+use Rattle.source_typing.specs.Scope.{Env}
+use Rattle.source_typing.specs.Statements.{items_faults}
+use Rattle.source_typing.specs.Taken.{items_taken, thin_pointers}
+use Rattle.scoped_names.specs.Changes.{left}
+use Rattle.scoped_types.specs.declared.scope.RegionMark.{RegionMark}
+use Rattle.judged_statements.specs.Contexts.{StandsIn}
+use Rattle.judged_statements.proofs.Blocks.{Going}
+use Rattle.judged_statements.proofs.statement.+statement.Given as goal
+
+-- for each scope of the rules that is known at the block's beginning one is known now, with what was found; and leaving the block gives back what was in scope
+abbrev pub invariant-items_fault-each : goal.invariant-items_fault-each
+invariant-items_fault-each l = record {
+  each : (g : Env) (reached : Bool) → StandsIn l.fn.context l.fn.outer l.fn.scope g
+      → Going l.fn.context l.fn.outer l.scope l.found (map item_tree (drop l.item-index l.fn.items))
+      (earliest (items_faults g reached (items_taken thin_pointers (items_of (map item_tree l.fn.items)))));
+  left : (count : ℕ) (mark : RegionMark) → count ≤ length l.fn.scope.locals → left count mark l.scope ≡ left count mark l.fn.scope;
+}

@@ -1,0 +1,23 @@
+-- When the context in code is that of the rules.
+use Rattle.std.specs.Prelude.{false, option_map, ℕ, ◌≡◌}
+use Rattle.cyc_types.specs.Regions.{region_of}
+use Rattle.cyc_types.specs.Types.{static_type}
+use Rattle.scoped_names.specs.Changes.{IsBlock}
+use Rattle.scoped_names.specs.Knows.{Knows}
+use Rattle.scoped_names.specs.declared.scope.Scope.{Scope}
+use Rattle.source_typing.specs.Scope.{Env}
+use Rattle.judged_statements.specs.declared.context.Context.{Context}
+
+-- The region names, the result's type and the innermost block's stack region are the same; a loop is around by both, and no `switch`.
+pub record Suits (c : Context) (g : Env) : Type 0 where
+  pub names : c.names.now ≡ g.names
+  pub result : option_map (λ t. static_type t.now) c.result ≡ g.result
+  pub frame : region_of c.frame ≡ g.frame
+  pub in_loop : c.in_loop ≡ g.in_loop
+  pub no_switch : g.in_switch ≡ false
+
+-- All that is in scope is known, and the locals after the first so many are those of the innermost block.
+pub record StandsIn (c : Context) (outer : ℕ) (s : Scope) (g : Env) : Type 0 where
+  pub known : Knows s g
+  pub suits : Suits c g
+  pub block : IsBlock outer s g

@@ -1,0 +1,39 @@
+// What is in scope beside the names of values.
+
+ghost use Rattle.std.specs.Prelude.{◌≡◌, true};
+
+use cyc_types::{CType, RegionId};
+use scoped_types::RegionNames;
+
+/// What is in scope in a function's body beside the names of values: what stays as it is while the body is judged, and what changes
+/// with the blocks and loops around a statement.
+#[derive(Clone, Copy)]
+pub struct Context<'a, 'p> {
+    /// The region names of the function's head.
+    pub names: &'a RegionNames<'p>,
+    /// The function's result type, where it is known.
+    pub result: Option<&'a CType<'p>>,
+    /// The stack region of the innermost block.
+    pub frame: RegionId,
+    /// Whether a loop is around.
+    pub in_loop: bool,
+}
+
+impl<'a, 'p> Context<'a, 'p> {
+    /// Within a loop.
+    pub(crate) fn looping(self) -> Self
+        ensures { result ≡ record self.entry { in_loop = true } }
+    {
+        Context {
+            in_loop: true,
+            ..self
+        }
+    }
+
+    /// Within a block whose stack region this is.
+    pub(crate) fn in_block(self, frame: RegionId) -> Self
+        ensures { result ≡ record self.entry { frame = frame } }
+    {
+        Context { frame, ..self }
+    }
+}

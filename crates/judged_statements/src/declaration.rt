@@ -1,0 +1,343 @@
+// Declarations of locals.
+
+ghost use Rattle.std.specs.Prelude.{◌≡◌, ◌≤◌, ◌∷◌, ◌&&◌, ◌||◌, Bool, IfOk, List, None, OnOk, [], false, length, not, option_map, true, ℕ};
+ghost use Rattle.cyc_tree.specs.View.{declaration_tree, expression_tree, initializer_tree, type_tree};
+ghost use Rattle.cyc_types.specs.Regions.{region_of};
+ghost use Rattle.cyc_types.specs.Types.{static_type};
+ghost use Rattle.source_typing.specs.Declarations.{converted_to, declare, fitting_local, local_type, set_faults, set_type, taken_from, unset_type, what_after, what_of};
+ghost use Rattle.source_typing.specs.Expressions.{judge};
+ghost use Rattle.source_typing.specs.Faults.{earliest, fault, type_rule};
+ghost use Rattle.source_typing.specs.Regions.{Region};
+ghost use Rattle.source_typing.specs.Scope.{Env};
+ghost use Rattle.source_typing.specs.Tables.{Unknown};
+ghost use Rattle.source_typing.specs.Taken.{declaration_taken, taken, thin_pointers, type_taken};
+ghost use Rattle.source_typing.specs.Types.{PartialType, StaticType, is_void};
+ghost use Rattle.type_verdicts.specs.Faults.{faults_of};
+ghost use Rattle.type_verdicts.specs.Verdicts.{short_of, shortened};
+ghost use Rattle.judged_values.specs.Values.{value_of};
+ghost use Rattle.scoped_names.specs.Changes.{left};
+ghost use Rattle.scoped_names.specs.Knows.{Knows};
+ghost use Rattle.scoped_names.specs.Means.{WhatIs};
+ghost use Rattle.scoped_types.specs.declared.scope.RegionMark.{RegionMark};
+ghost use Rattle.written_types.specs.Written.{partial_type};
+ghost use Rattle.judged_statements.specs.Contexts.{StandsIn, Suits};
+ghost use Rattle.judged_statements.specs.Declaring.{Matches, is_tagless, own_faults, own_what, plain_begins, tagless_short};
+ghost use Rattle.cyc_tree.specs.Tree as tree;
+ghost use Rattle.source_typing.specs.Faults as rules;
+ghost use Rattle.source_typing.specs.Scope as judged;
+ghost use Rattle.source_typing.specs.Verdicts as verdict;
+
+use crate::context::Context;
+use cyc_tree::{Declaration, Expression, Initializer, TypeName};
+use cyc_types::{BaseType, CType, RegionId};
+use judged_expressions::judge;
+use judged_values::{Value, converted};
+use scoped_names::{Scope, What};
+use std::alloc::{AllocError, Global};
+use type_verdicts::{Fault, FaultKind, Verdict, sooner};
+use written_types::{WrittenType, misses_region, settled, takes_type, written};
+
+/// A local as it is declared: the earliest fault of its type and its initializer, and what it is.
+#[derive(Drop)]
+struct Judged<'p> {
+    fault: Option<Fault>,
+    what: What<'p>,
+}
+
+/// Whether a variable of a type that is no struct begins without an initializer.
+#[tactic(auto, using(crate::proofs::Beginning::pointer_begun, crate::proofs::Beginning::base_begun))]
+fn begins(of: &CType) -> bool
+    ensures { result ≡ plain_begins (static_type of.now) }
+{
+    match of.outer() {
+        Some(pointer) => pointer.has_beginning(),
+        None => matches!(of.base, BaseType::Int | BaseType::Unsigned | BaseType::Char),
+    }
+}
+
+/// Whether a local may be of a type that is no struct and no union, by whether it has an initializer.
+fn fits(of: &CType, set: bool) -> bool
+    ensures { result ≡ ((set || plain_begins (static_type of.now)) && not (is_void (static_type of.now))) }
+{
+    (set || begins(of)) && !of.is_void()
+}
+
+/// The type of a local, at fault at this place where it doesn't fit.
+fn fitted<'p>(of: CType<'p>, at: u32, set: bool) -> Verdict<CType<'p>>
+    ensures { (g : Env) → is_tagless (static_type of.entry) ≡ true → short_of static_type result ≡ shortened (fitting_local g at None set (static_type of.entry)) }
+{
+    if fits(&of, set) {
+        Verdict::Of(of)
+    } else {
+        Verdict::Wrong(Fault {
+            kind: FaultKind::Typing,
+            at,
+        })
+    }
+}
+
+/// The type of a local by its settled type.
+fn fitting<'p>(of: Verdict<CType<'p>>, at: u32, set: bool) -> Verdict<CType<'p>>
+    ensures { (g : Env) (t : verdict.Verdict StaticType) → short_of static_type of.entry ≡ shortened t → tagless_short (shortened t) ≡ true
+        → short_of static_type result ≡ shortened (verdict.after t (fitting_local g at None set)) }
+{
+    match of {
+        Verdict::Of(of) => fitted(of, at, set),
+        Verdict::Wrong(fault) => Verdict::Wrong(fault),
+        Verdict::NotJudged => Verdict::NotJudged,
+    }
+}
+
+/// The type of a local, with its missing regions from that of its initializer. Fails only where no host memory is left.
+fn local_type<'p>(
+    of: Verdict<WrittenType<'p>>,
+    at: u32,
+    set: bool,
+    source: Option<&CType<'_>>,
+) -> Result<Verdict<CType<'p>>, AllocError>
+    ensures { (g : Env) (w : verdict.Verdict PartialType) → short_of partial_type of.entry ≡ shortened w → tagless_short (shortened w) ≡ true
+        → IfOk result (λ v. short_of static_type v
+        ≡ shortened (verdict.after w (local_type g at None set (option_map (λ s. static_type s.now) source.entry)))) }
+{
+    match of {
+        Verdict::Of(of) => {
+            let settled = settled(of, at, source)?;
+            Ok(fitting(settled, at, set))
+        }
+        Verdict::Wrong(fault) => Ok(Verdict::Wrong(fault)),
+        Verdict::NotJudged => Ok(Verdict::NotJudged),
+    }
+}
+
+/// The type of a local without an initializer. Fails only where no host memory is left.
+fn unset_type<'p>(
+    alloc: Global,
+    context: Context<'_, 'p>,
+    of: &TypeName,
+) -> Result<Verdict<CType<'p>>, AllocError>
+    ensures { (g : Env) → Suits context.entry g
+        → IfOk result (λ v. short_of static_type v ≡ shortened (unset_type g (type_taken thin_pointers (type_tree of.now)) None)) }
+{
+    let written = written(alloc, context.names, of)?;
+    local_type(written, of.at, false, None)
+}
+
+/// A type whose missing regions aren't known: its fault, or else it isn't judged.
+#[tactic(auto, using(crate::proofs::Declaring::unsettled_is))]
+fn unsettled<'p>(of: &Verdict<WrittenType<'p>>) -> Verdict<CType<'p>>
+    ensures { (w : verdict.Verdict PartialType) → short_of partial_type of.now ≡ shortened w
+        → short_of static_type result ≡ shortened (verdict.after w (λ p. verdict.Unjudged)) }
+{
+    Verdict::wrong_if(of.fault())
+}
+
+/// The type of a local that takes missing regions from its initializer. Fails only where no host memory is left.
+fn taken_from<'p>(
+    of: Verdict<WrittenType<'p>>,
+    at: u32,
+    value: &Verdict<Value<'_>>,
+) -> Result<Verdict<CType<'p>>, AllocError>
+    ensures { (g : Env) (w : verdict.Verdict PartialType) (v : verdict.Verdict judged.Value)
+        → short_of partial_type of.entry ≡ shortened w → tagless_short (shortened w) ≡ true → short_of value_of value.now ≡ shortened v
+        → IfOk result (λ found. short_of static_type found ≡ shortened (verdict.after w (taken_from g at true v))) }
+{
+    match value {
+        Verdict::Of(value) => local_type(of, at, true, Some(&value.of)),
+        Verdict::Wrong(_) => Ok(unsettled(&of)),
+        Verdict::NotJudged => Ok(unsettled(&of)),
+    }
+}
+
+/// The type of a local with an initializer. Fails only where no host memory is left.
+fn set_type<'p>(
+    alloc: Global,
+    context: Context<'_, 'p>,
+    of: &TypeName,
+    value: &Verdict<Value<'_>>,
+) -> Result<Verdict<CType<'p>>, AllocError>
+    ensures { (g : Env) (v : verdict.Verdict judged.Value) → Suits context.entry g → short_of value_of value.now ≡ shortened v
+        → IfOk result (λ found. short_of static_type found ≡ shortened (set_type g (type_taken thin_pointers (type_tree of.now)) v)) }
+{
+    let written = written(alloc, context.names, of)?;
+    if misses_region(of) {
+        taken_from(written, of.at, value)
+    } else {
+        local_type(written, of.at, true, None)
+    }
+}
+
+/// The fault of an initializer that is converted to its local's type. Fails only where no host memory is left.
+fn conversion(
+    scope: &Scope,
+    value: &Verdict<Value<'_>>,
+    of: &Verdict<CType<'_>>,
+) -> Result<Option<Fault>, AllocError>
+    ensures { (g : Env) (v : verdict.Verdict judged.Value) (t : verdict.Verdict StaticType) → Knows scope.now g
+        → short_of value_of value.now ≡ shortened v → short_of static_type of.now ≡ shortened t
+        → IfOk result (λ f. faults_of f ≡ earliest (converted_to g v t)) }
+{
+    match (value, of) {
+        (Verdict::Of(value), Verdict::Of(of)) => converted(scope, value, of),
+        _ => Ok(None),
+    }
+}
+
+/// The earliest fault of a local's type and its initializer. Fails only where no host memory is left.
+fn set_fault(
+    scope: &Scope,
+    value: &Verdict<Value<'_>>,
+    of: &Verdict<CType<'_>>,
+) -> Result<Option<Fault>, AllocError>
+    ensures { (g : Env) (v : verdict.Verdict judged.Value) (t : verdict.Verdict StaticType) → Knows scope.now g
+        → short_of value_of value.now ≡ shortened v → short_of static_type of.now ≡ shortened t
+        → IfOk result (λ f. faults_of f ≡ earliest (set_faults g v t)) }
+{
+    let conversion = conversion(scope, value, of)?;
+    Ok(sooner(sooner(of.fault(), value.fault()), conversion))
+}
+
+/// What a local is by its type.
+fn what_of<'p>(frame: RegionId, of: Verdict<CType<'p>>) -> What<'p>
+    ensures { (t : verdict.Verdict StaticType) → short_of static_type of.entry ≡ shortened t → WhatIs (what_of (region_of frame) None t) result }
+{
+    match of {
+        Verdict::Of(of) => What::Variable(of, frame),
+        Verdict::Wrong(_) => What::NotKnown,
+        Verdict::NotJudged => What::NotKnown,
+    }
+}
+
+/// A local by its fault and its type.
+fn judged_as<'p>(fault: Option<Fault>, frame: RegionId, of: Verdict<CType<'p>>) -> Judged<'p>
+    ensures { (fs : List rules.Fault) (t : verdict.Verdict StaticType) → faults_of fault ≡ earliest fs → short_of static_type of.entry ≡ shortened t
+        → Matches fs (what_after fs (what_of (region_of frame) None t)) result }
+{
+    match fault {
+        Some(fault) => Judged {
+            fault: Some(fault),
+            what: What::NotKnown,
+        },
+        None => Judged {
+            fault: None,
+            what: what_of(frame, of),
+        },
+    }
+}
+
+/// A local without an initializer. Fails only where no host memory is left.
+fn unset<'p>(
+    alloc: Global,
+    context: Context<'_, 'p>,
+    of: &TypeName,
+) -> Result<Judged<'p>, AllocError>
+    ensures { (g : Env) (x : tree.Name) → Suits context.entry g → let d = declaration_taken thin_pointers (tree.Local (type_tree of.now) x tree.Initializer.Unset) in
+        IfOk result (Matches (own_faults g d) (own_what g d)) }
+{
+    let found = unset_type(alloc, context, of)?;
+    Ok(judged_as(found.fault(), context.frame, found))
+}
+
+/// A local with an initializer, of a type that is taken. Fails only where no host memory is left.
+fn set<'p>(
+    scope: &Scope<'_, 'p>,
+    alloc: Global,
+    context: Context<'_, 'p>,
+    of: &TypeName,
+    initial: &Expression,
+) -> Result<Judged<'p>, AllocError>
+    ensures { (g : Env) → Knows scope.now g → Suits context.entry g → let v = judge g (taken thin_pointers (expression_tree initial.now)) in
+        let t = set_type g (type_taken thin_pointers (type_tree of.now)) v in
+        IfOk result (Matches (set_faults g v t) (what_after (set_faults g v t) (what_of g.frame None t))) }
+{
+    let value = judge(scope, alloc, initial)?;
+    let found = set_type(alloc, context, of, &value)?;
+    let fault = set_fault(scope, &value, &found)?;
+    Ok(judged_as(fault, context.frame, found))
+}
+
+/// A declaration that isn't taken.
+fn refused<'p>(at: u32) -> Judged<'p>
+    ensures { Matches (fault type_rule at ∷ []) Unknown result }
+{
+    Judged {
+        fault: Some(Fault {
+            kind: FaultKind::Typing,
+            at,
+        }),
+        what: What::NotKnown,
+    }
+}
+
+/// A local by its type and its initializer. Fails only where no host memory is left.
+fn local<'p>(
+    scope: &Scope<'_, 'p>,
+    alloc: Global,
+    context: Context<'_, 'p>,
+    of: &TypeName,
+    initializer: &Initializer,
+) -> Result<Judged<'p>, AllocError>
+    ensures { (g : Env) (x : tree.Name) → Knows scope.now g → Suits context.entry g
+        → let d = declaration_taken thin_pointers (tree.Local (type_tree of.now) x (initializer_tree initializer.now)) in
+        IfOk result (Matches (own_faults g d) (own_what g d)) }
+{
+    match initializer {
+        Initializer::None => unset(alloc, context, of),
+        Initializer::Array(_) => Ok(refused(of.at)),
+        Initializer::Value(initial) => {
+            if takes_type(of) {
+                set(scope, alloc, context, of, initial)
+            } else {
+                Ok(refused(of.at))
+            }
+        }
+    }
+}
+
+/// A declaration, apart from whether it is a second one. Fails only where no host memory is left.
+fn declared_local<'p>(
+    scope: &Scope<'_, 'p>,
+    alloc: Global,
+    context: Context<'_, 'p>,
+    declaration: &Declaration,
+) -> Result<Judged<'p>, AllocError>
+    ensures { (g : Env) → Knows scope.now g → Suits context.entry g → let d = declaration_taken thin_pointers (declaration_tree declaration.now) in
+        IfOk result (Matches (own_faults g d) (own_what g d)) }
+{
+    match declaration {
+        Declaration::Local(of, _, initializer) => local(scope, alloc, context, of, initializer),
+        Declaration::Region(at, _, _)
+        | Declaration::Open(at, _, _, _)
+        | Declaration::Alias(at, _, _, _, _)
+        | Declaration::NewKey(at, _, _) => Ok(refused(*at)),
+    }
+}
+
+/// Declares a local in the innermost block, whose own locals come after the first `outer` ones, and answers the earliest fault of its
+/// declaration. One whose declaration is at fault is declared as one of no known type, and a second one of a name leaves the first.
+/// Fails only where no host memory is left.
+pub(crate) fn declare<'p>(
+    scope: &mut Scope<'_, 'p>,
+    alloc: Global,
+    context: Context<'_, 'p>,
+    outer: usize,
+    declaration: &'p Declaration,
+) -> Result<Option<Fault>, AllocError>
+    ensures fault { (g : Env) → StandsIn context.entry outer scope.old g
+        → IfOk result (λ f. faults_of f ≡ earliest (declare g (declaration_taken thin_pointers (declaration_tree declaration.entry.now))).faults) }
+    ensures known { (g : Env) → StandsIn context.entry outer scope.old g
+        → OnOk result (StandsIn context.entry outer scope.new (declare g (declaration_taken thin_pointers (declaration_tree declaration.entry.now))).scope) }
+    // where the block is left, what was in scope before is so again
+    ensures left { OnOk result ((count : ℕ) (mark : RegionMark) → count ≤ length scope.old.locals → left count mark scope.new ≡ left count mark scope.old) }
+{
+    let local = declared_local(scope, alloc, context, declaration)?;
+    let name = declaration.local();
+    if scope.locals.is_second(outer, &name.text) {
+        let second = Fault {
+            kind: FaultKind::Name,
+            at: name.at,
+        };
+        return Ok(sooner(local.fault, Some(second)));
+    }
+    scope.locals.declare(&name.text, local.what)?;
+    Ok(local.fault)
+}

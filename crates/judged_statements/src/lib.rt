@@ -1,0 +1,13 @@
+//! The faults of statements and declarations in a function's body, where integers and thin pointers are taken.
+//!
+//! What is said of them are the rules of `source_typing`: `items_fault` answers the earliest of the faults that these find in a
+//! block, in each scope of the rules that is known as the one in code is.
+#![tactic(auto)]
+
+mod context;
+mod declaration;
+mod returning;
+mod statement;
+
+pub use context::Context;
+pub use statement::items_fault;

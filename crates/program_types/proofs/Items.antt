@@ -1,0 +1,66 @@
+-- Items one by one.
+use Rattle.std.proofs.Common.{◌≡◌, ℕ, ◌+◌, ◌<◌, Bool, true, false, List, ◌∷◌, ◌++◌, refl, sym, ap, ◌∙◌, drop, get_or, length}
+use Rattle.std.specs.Prelude.{None, Option, Some, ◌&&◌}
+use Rattle.std.proofs.lemmas.List.{drop_more}
+use Rattle.cyc_tree.specs.Tree.{Initial, Item}
+use Rattle.source_typing.specs.Faults.{Fault, earliest}
+use Rattle.source_typing.specs.Programs.{name_of}
+use Rattle.source_typing.specs.Taken.{form_if, global_if, initial_form, initial_taken, item_taken, takes_initial, takes_type, thin_pointers}
+use Rattle.type_verdicts.proofs.Earliest.{earliest_of_both, found_sooner, sooner_first}
+use Rattle.type_verdicts.specs.Faults.{faults_of, first_of, sooner_found}
+use Rattle.cyc_tree.specs.Tree as tree
+use Rattle.type_verdicts.specs.declared.fault.Fault as code
+
+-- ---- names
+
+global_named : (b : Bool) (x : tree.Global) (i : Initial) → (global_if b x i).name ≡ x.name
+global_named true x i = refl
+global_named false x i = refl
+
+-- an item that isn't taken keeps its name
+pub name_stays : (i : Item) → name_of i ≡ name_of (item_taken thin_pointers i)
+name_stays (tree.StructItem s) = refl
+name_stays (tree.UnionItem s) = refl
+name_stays (tree.GlobalItem x) =
+    sym (global_named (takes_type thin_pointers x.of && takes_initial thin_pointers x.initial) x (initial_taken thin_pointers x.of x.initial))
+name_stays (tree.FunctionItem f) = refl
+
+-- ---- forms
+
+-- an array has no constant
+form_by : (t : Bool) (i : Initial) → form_if t (initial_form thin_pointers i) ≡ form_if (t && takes_initial thin_pointers i) (initial_form thin_pointers i)
+form_by true Initial.Unset = refl
+form_by true (Initial.Elements n) = refl
+form_by true (Initial.Given c) = refl
+form_by false i = refl
+
+pub form_of_global : (x : tree.Global) → form_if (takes_type thin_pointers x.of) (initial_form thin_pointers x.initial)
+    ≡ form_if (takes_type thin_pointers x.of && takes_initial thin_pointers x.initial) (initial_form thin_pointers x.initial)
+form_of_global x = form_by (takes_type thin_pointers x.of) x.initial
+
+-- ---- the earliest fault of items
+
+pub first_joined : (a b c : Option Fault) → first_of (first_of a b) c ≡ first_of a (first_of b c)
+first_joined None b c = refl
+first_joined (Some f) b c = sym (sooner_first f b c)
+
+-- two parts in code
+pub both_found : (r a b : Option code.Fault) (fs gs : List Fault) → r ≡ sooner_found a b → faults_of a ≡ earliest fs → faults_of b ≡ earliest gs
+    → faults_of r ≡ earliest (fs ++ gs)
+both_found r a b fs gs e p q =
+    ap faults_of e ∙ found_sooner a b ∙ ap (λ o. first_of o (faults_of b)) p ∙ ap (first_of (earliest fs)) q ∙ sym (earliest_of_both fs gs)
+
+pub next_of : {X : Type 0} (xs : List X) (i : ℕ) (x : X) → i < length xs → x ≡ get_or xs i x → drop i xs ≡ x ∷ drop (i + 1) xs
+next_of xs i x h is_item = drop_more xs i x h ∙ ap (λ y. y ∷ drop (i + 1) xs) (sym is_item)
+
+-- what was found before an item, at it and after it
+pub next_found : {X : Type 0} (before after : List X → List Fault) (own : List Fault) (xs : List X) (i : ℕ) (x : X) (found fault : Option code.Fault)
+    → i < length xs → x ≡ get_or xs i x → faults_of fault ≡ earliest own → before (x ∷ drop (i + 1) xs) ≡ own ++ after (drop (i + 1) xs)
+    → first_of (faults_of (sooner_found found fault)) (earliest (after (drop (i + 1) xs))) ≡ first_of (faults_of found) (earliest (before (drop i xs)))
+next_found before after own xs i x found fault h is_item is_own e =
+    let rest : List Fault = after (drop (i + 1) xs) in
+    ap (λ o. first_of o (earliest rest)) (found_sooner found fault)
+    ∙ first_joined (faults_of found) (faults_of fault) (earliest rest)
+    ∙ ap (first_of (faults_of found))
+    (ap (λ o. first_of o (earliest rest)) is_own ∙ sym (earliest_of_both own rest) ∙ ap earliest (sym e)
+    ∙ ap (λ l. earliest (before l)) (sym (next_of xs i x h is_item)))

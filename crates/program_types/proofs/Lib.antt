@@ -1,0 +1,9 @@
+pub mod Tags
+pub mod GlobalTypes
+pub mod Globals
+pub mod Items
+pub mod ItemNames
+pub mod NoTexts
+pub mod Scopes
+pub mod Seeing
+pub mod Sizes

@@ -1,0 +1,38 @@
+use Rattle.std.proofs.Common.{◌≡◌, ◌+◌, [], ◌∷◌, List, ap, drop, refl, subst, ◌∙◌}
+use Rattle.std.specs.Prelude.{codes, not}
+use Rattle.cyc_tree.specs.Tree as tree
+use Rattle.cyc_tree.specs.View.{program_item_tree, program_tree}
+use Rattle.cyc_tree.specs.declared.item.Item as code_item
+use Rattle.source_typing.specs.Faults.{earliest, name_rule, test}
+use Rattle.source_typing.specs.Programs.{is_seen, name_of, second_names}
+use Rattle.source_typing.specs.Taken.{item_taken, only_taken, thin_pointers}
+use Rattle.type_verdicts.specs.Faults.{faults_of, first_of}
+use Rattle.program_types.proofs.Items.{next_found}
+use Rattle.program_types.specs.Programs.{AreSeen}
+use Rattle.program_types.proofs.program.seconds_fault.Goals as goal
+
+pub each-init : goal.each-init
+each-init c = record { names = codes "getchar" ∷ codes "putchar" ∷ []; are = c.in_ok-seen.ensures; is = refl }
+
+pub each-preserved : goal.each-preserved
+each-preserved c =
+    let names = c.each.invariant.names in
+    let items = c.args.items.now in
+    let k = c.each.item-index in
+    let name = name_of (item_taken thin_pointers (program_item_tree c.item-item.result)) in
+    let same : c.as_slice.result.now ≡ name.text = c.as_slice.ensures.value ∙ ap (λ (n : tree.Name). n.text) c.item_name-name.ensures.taken in
+    let before = λ (l : List code_item.Item). second_names names (only_taken thin_pointers (program_tree l)) in
+    let after = λ (l : List code_item.Item). second_names (name.text ∷ names) (only_taken thin_pointers (program_tree l)) in
+    record {
+      names = name.text ∷ names;
+      are = subst (λ n. AreSeen (n ∷ names) c.see.new.seen) same (c.in_ok-is_new.ensures.seen names c.each.invariant.are);
+      is = ap (λ o. first_of (faults_of o) (earliest (after (drop (k + 1) items)))) c.sooner-found.ensures
+          ∙ next_found before after (test (not (is_seen names name.text)) name_rule name.at) items k c.item-item.result c.each.found c.second_fault.result
+          c.each-test.true c.item-item.is
+          (c.second_fault.ensures
+          ∙ ap (λ b. earliest (test b name_rule c.item_name-name.result.now.at)) (c.in_ok-is_new.ensures.is_new names c.each.invariant.are)
+          ∙ ap (λ n. earliest (test (not (is_seen names n)) name_rule c.item_name-name.result.now.at)) same
+          ∙ ap (λ (n : tree.Name). earliest (test (not (is_seen names name.text)) name_rule n.at)) c.item_name-name.ensures.taken)
+          refl
+          ∙ c.each.invariant.is;
+    }

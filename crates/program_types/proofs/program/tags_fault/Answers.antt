@@ -1,0 +1,16 @@
+use Rattle.std.proofs.Common.{◌+◌, List, ap, drop, refl, ◌∙◌}
+use Rattle.cyc_tree.specs.View.{program_item_tree, program_tree}
+use Rattle.cyc_tree.specs.declared.item.Item as code_item
+use Rattle.source_typing.specs.Faults.{earliest}
+use Rattle.program_types.specs.Programs.{tag_forms, tag_form}
+use Rattle.type_verdicts.specs.Faults.{faults_of, first_of}
+use Rattle.program_types.proofs.Items.{next_found}
+use Rattle.program_types.proofs.program.tags_fault.Goals as goal
+
+pub each-preserved : goal.each-preserved
+each-preserved c =
+    let all = λ (l : List code_item.Item). tag_forms (program_tree l) in
+    ap (λ o. first_of (faults_of o) (earliest (all (drop (c.each.item-index + 1) c.args.items.now)))) c.sooner-found.ensures
+    ∙ next_found all all (tag_form (program_item_tree c.item-item.result)) c.args.items.now c.each.item-index c.item-item.result c.each.found
+    c.tag_form.result c.each-test.true c.item-item.is c.tag_form.ensures refl
+    ∙ c.each.invariant

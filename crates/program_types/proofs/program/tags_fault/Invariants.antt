@@ -1,0 +1,11 @@
+use Rattle.std.proofs.Common.{◌≡◌, drop}
+use Rattle.cyc_tree.specs.View.{program_tree}
+use Rattle.source_typing.specs.Faults.{earliest}
+use Rattle.program_types.specs.Programs.{tag_forms}
+use Rattle.type_verdicts.specs.Faults.{faults_of, first_of}
+use Rattle.program_types.proofs.program.tags_fault.Given as goal
+
+-- what was found, and the earliest fault of the rest, is the earliest of all
+abbrev pub invariant-each : goal.invariant-each
+invariant-each l =
+    first_of (faults_of l.found) (earliest (tag_forms (program_tree (drop l.item-index l.items)))) ≡ earliest (tag_forms (program_tree l.items))

@@ -17,7 +17,7 @@ ghost use Rattle.program_types.specs.Programs.{Adds, AreSeen, tag_form, tag_form
 
 use crate::global::judged_global;
 use crate::names::{item_name, program_names};
-use cyc_tree::{Constant, END_OF_TEXT, Initial, Item, Program};
+use cyc_tree::{Constant, END_OF_TEXT, Initial, Item, Name, Program};
 use judged_heads::{function_fault, is_main};
 use scoped_names::{Globals, Meaning};
 use std::alloc::{AllocError, Global};

@@ -13,5 +13,5 @@ pub returns-in-Err-clause-refused : goal.returns-in-Err-clause-refused
 returns-in-Err-clause-refused c =
     broken_text c.args.text.now c.args.program.now c.in-Err.fault c.of_checking.result
     (λ b is. subst (λ (p : Program). first_fault thin_pointers p ≡ Some (fault_of b)) c.in_ok-typed.ensures
-        (sym (first_is_of_effects c.in_ok-typed.typed) ∙ c.in-Err.ensures.broken b (ap (λ (f : CheckFault). Err f) is)))
+    (sym (first_is_of_effects c.in_ok-typed.typed) ∙ c.in-Err.ensures.broken b (ap (λ (f : CheckFault). Err f) is)))
     c.of_checking.ensures

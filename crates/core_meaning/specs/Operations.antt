@@ -1,5 +1,5 @@
 -- What each operation of Core does.
-use Rattle.std.specs.Prelude.{ℕ, ◌+◌, ◌-◌, ◌*◌, ◌%◌, ◌^◌, Bool, true, false, ◌&&◌, nat_eq, nat_lt, nat_le, if◌then◌else◌, Option, Some, None, slice_get, length}
+use Rattle.std.specs.Prelude.{ℕ, zero, suc, ◌+◌, ◌-◌, ◌*◌, ◌%◌, ◌^◌, Bool, true, false, not, ◌&&◌, List, [], ◌∷◌, nat_eq, nat_lt, nat_le, if◌then◌else◌, Option, Some, None, slice_get, length}
 use Rattle.cyc_words.specs.Events as events
 use Rattle.step_trees.specs.Trees.{Says, Reads, Pays}
 use Rattle.core_meaning.specs.Memory.{
@@ -74,7 +74,7 @@ use Rattle.core_meaning.specs.Core.{
   KeyFree,
 }
 use Rattle.core_meaning.specs.Words.{truth, two}
-use Rattle.core_meaning.specs.Steps.{Config, with_temp, with_memory, Event, Visible, Step, read_event, stuck, word_of, pointer_of, birth_of, needed, checked}
+use Rattle.core_meaning.specs.Steps.{Config, with_temp, with_memory, Visible, Step, stuck, word_of, pointer_of, birth_of, needed, checked}
 
 -- the part at a distance from a pointer has to lie so many bytes on, and to be so wide
 abbrev pub reached : Memory → Distance → Spot → ℕ → (Spot → Part → Step) → Step
@@ -125,34 +125,85 @@ same_place m (Birth d) y next = stuck
 abbrev pub saturated : ℕ → ℕ
 saturated n = (if nat_lt n (2 ^ 32) then n else 2 ^ 32 - 1)
 
--- the parts of an object from a spot on get what those from another have, or what they begin as
+-- no object has so many bytes: a pointer goes no further from where its object begins
+abbrev pub too_far : ℕ
+too_far = 2 ^ 25
+
+-- ---- whole objects
+
+-- a part lies where a layout has one, from a byte on, and is as wide
+abbrev pub is_part : Option Part → ℕ → PartShape → Bool
+is_part None b s = false
+is_part (Some p) b s = nat_eq p.offset (b + s.offset) && nat_eq p.width s.width
+
+-- so do those of a cell, from the j-th on
+abbrev pub are_parts : Memory → Spot → ℕ → ℕ → List PartShape → Bool
+are_parts m s b j [] = true
+are_parts m s b j (x ∷ xs) = is_part (m.parts s j) b x && are_parts m s b (suc j) xs
+
+-- and those of the cells from a spot on
+abbrev pub are_laid : Memory → Spot → ℕ → List (List PartShape) → Bool
+are_laid m s b [] = true
+are_laid m s b (x ∷ xs) = are_parts m s b 0 x && are_laid m (beyond s 1) b xs
+
+-- and those of so many elements of a layout
+abbrev pub are_elements : Memory → Spot → ℕ → Layout → ℕ → Bool
+are_elements m s b l zero = true
+are_elements m s b l (suc n) = are_laid m s b l.cells && are_elements m (beyond s (length l.cells)) (b + l.bytes) l n
+
+-- from a spot and a byte on there is an object of a layout, in a live region
+abbrev pub is_there : Memory → Layout → Spot → ℕ → Bool
+is_there m l s b = is_live (m.standing s.region) && are_laid m s b l.cells
+
+abbrev pub same_object : Spot → Spot → Bool
+same_object s t = same_region s.region t.region && nat_eq s.object t.object
+
+-- how many cells on from a spot another one of its object is, if it is among the next so many
+abbrev pub cells_on : ℕ → Spot → Spot → Option ℕ
+cells_on count s t = (if same_object t s && (nat_le s.cell t.cell && nat_lt t.cell (s.cell + count)) then Some (t.cell - s.cell) else None)
+
+-- the shape of a layout's part, if there is one
+abbrev pub part_of : Layout → Option ℕ → ℕ → Option PartShape
+part_of l None j = None
+part_of l (Some k) j = shape_in (slice_get l.cells k) j
+
+abbrev pub content_from : Part → Option Part → Option Part
+content_from p None = Some p
+content_from p (Some q) = Some (record p { content = q.content })
+
+-- the spot so many cells on from another one
+abbrev pub on_from : Spot → Option ℕ → Spot
+on_from s None = s
+on_from s (Some k) = beyond s k
+
+-- the layout's parts from a spot on get what those from another have
 abbrev pub copied : Layout → Spot → Spot → Memory → Memory
-copied l to from m = record m {
-  parts = λ t j. copy_of t j (m.parts t j);
-}
+copied l to from m = record m { parts = λ t j. copied_part (cells_on (length l.cells) to t) j (m.parts t j) }
   where
-    copy_of : Spot → ℕ → Option Part → Option Part
-    copy_of t j None = None
-    copy_of t j (Some p) =
-        (if same_spot (record t { cell = to.cell }) to && (nat_le to.cell t.cell && nat_lt t.cell (to.cell + length l.cells))
-        then from_there p (m.parts (record from { cell = from.cell + (t.cell - to.cell) }) j) else Some p)
+    copied_part : Option ℕ → ℕ → Option Part → Option Part
+    copied_part k j None = None
+    copied_part k j (Some p) = by (part_of l k j)
       where
-        from_there : Part → Option Part → Option Part
-        from_there p None = Some p
-        from_there p (Some q) = Some (record p { content = q.content })
+        by : Option PartShape → Option Part
+        by None = Some p
+        by (Some s) = content_from p (m.parts (on_from from k) j)
 
-abbrev pub first_of : Option PartShape → Content
-first_of None = Blank
-first_of (Some s) = s.first
+-- the number of a cell in its element
+abbrev pub in_element : Layout → Option ℕ → Option ℕ
+in_element l None = None
+in_element l (Some k) = Some (k % length l.cells)
 
+abbrev pub begun : Part → Option PartShape → Part
+begun p None = p
+begun p (Some s) = record p { content = s.first }
+
+-- the parts of so many elements of a layout from a spot on get what they begin with
 abbrev pub cleared : Layout → ℕ → Spot → Memory → Memory
-cleared l count to m = record m { parts = λ t j. clear_of t j (m.parts t j) }
+cleared l count to m = record m { parts = λ t j. cleared_part (in_element l (cells_on (count * length l.cells) to t)) j (m.parts t j) }
   where
-    clear_of : Spot → ℕ → Option Part → Option Part
-    clear_of t j None = None
-    clear_of t j (Some p) =
-        (if same_spot (record t { cell = to.cell }) to && (nat_le to.cell t.cell && nat_lt t.cell (to.cell + count * length l.cells))
-        then Some (record p { content = first_of (shape_in (slice_get l.cells ((t.cell - to.cell) % length l.cells)) j) }) else Some p)
+    cleared_part : Option ℕ → ℕ → Option Part → Option Part
+    cleared_part k j None = None
+    cleared_part k j (Some p) = Some (begun p (part_of l k j))
 
 abbrev pub born : Standing → Memory → Memory
 born now m = with_standing (record m { births = m.births + 1 }) (Born m.births) now
@@ -176,7 +227,8 @@ does (LocalAddress t out local) next c =
     needed (slice_get c.blocks out) (λ k. next (with_temp t (Pointer (local_spot k local) 0) c))
 does (OwnAddress t object) next c = next (with_temp t (Pointer (record { region = Own c.own; object = object; cell = 0 }) 0) c)
 does (DataAddress t object) next c = next (with_temp t (Pointer (record { region = Born 0; object = object; cell = 0 }) 0) c)
-does (Offset t p cells bytes) next c = pointer_of (c.temps p) (λ s b. next (with_temp t (Pointer (beyond s cells) (b + bytes)) c))
+does (Offset t p cells bytes) next c =
+    pointer_of (c.temps p) (λ s b. checked (nat_lt (b + bytes) too_far) (next (with_temp t (Pointer (beyond s cells) (b + bytes)) c)))
 does (Element t p i cells bytes) next c =
     pointer_of (c.temps p) (λ s b. word_of (c.temps i) (λ n. next (with_temp t (Pointer (beyond s (n * cells)) (b + n * bytes)) c)))
 does (Get t out local width) next c =
@@ -190,9 +242,10 @@ does (Store p d x) next c =
     next (with_memory (with_part c.memory there d.part (record part { content = fitting d.width (c.temps x) })) c)))
 does (Copy to from l) next c =
     pointer_of (c.temps to) (λ s b. pointer_of (c.temps from) (λ t e.
-    checked (is_live (c.memory.standing s.region) && is_live (c.memory.standing t.region)) (next (with_memory (copied l s t c.memory) c))))
+    checked (is_there c.memory l s b && (is_there c.memory l t e && not (same_object s t))) (next (with_memory (copied l s t c.memory) c))))
 does (Clear p l count) next c =
-    pointer_of (c.temps p) (λ s b. checked (is_live (c.memory.standing s.region)) (next (with_memory (cleared l count s c.memory) c)))
+    pointer_of (c.temps p) (λ s b.
+    checked (is_live (c.memory.standing s.region) && are_elements c.memory s b l count) (next (with_memory (cleared l count s c.memory) c)))
 does (IsNull t p) next c = is_null (c.temps p) (λ n. next (with_temp t (Word n) c))
 does (SamePlace t p q) next c = same_place c.memory (c.temps p) (c.temps q) (λ n. next (with_temp t (Word n) c))
 does (Getchar t) next c = Pays (λ kept. Reads (λ byte. next (with_temp t (Word (byte_word byte)) kept))) c

@@ -44,7 +44,6 @@ use Rattle.source_typing.specs.Types.{PartialType, StaticType, is_key, is_void}
 use Rattle.source_typing.specs.Verdicts.{Verdict, after, if_fits, known}
 use Rattle.source_typing.specs.Written.{RegionNamed, spots_of, written, written_with}
 use Rattle.source_typing.proofs.Converting.{and_is}
-use Rattle.accepted_sources.proofs.Globals.{global_of}
 use Rattle.accepted_sources.proofs.CopiedNames.{
   AreNoOtherValues,
   HasCopiedAlone,
@@ -165,6 +164,9 @@ module _ (pointers : Bool) where
       known_copied (result_type g names y.result) (result_known g names y.result (taken_type f.result))
 
   -- ---- globals
+
+  abbrev pub global_of : TypeName → tree.Name → Initial → tree.Global
+  global_of t x i = record { of = t; name = x; initial = i }
 
   -- a global of a type that is taken, without a count of elements, or the fault that stands for another one
   pub data IsTakenGlobal : tree.Global → Type 0 where

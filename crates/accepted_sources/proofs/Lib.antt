@@ -1,17 +1,3 @@
-pub mod PlainTypes
-pub mod Names
-pub mod Expressions
-pub mod Parts
-pub mod Declarations
-pub mod Statements
-pub mod Heads
-pub mod Functions
-pub mod Globals
-pub mod Sizes
-pub mod Tags
-pub mod Strings
-pub mod Lowerable
-pub mod Programs
 pub mod StillStates
 pub mod CopiedTypes
 pub mod CopiedNames
@@ -22,7 +8,3 @@ pub mod StillStatements
 pub mod CopiedHeads
 pub mod StillPrograms
 pub mod NoFlow
-pub mod RefusedTags
-pub mod TakenSizes
-pub mod TakenTables
-mod Samples

@@ -9,12 +9,12 @@ use Rattle.source_typing.specs.Programs.{tables_of}
 use Rattle.source_typing.specs.Scope.{Env}
 use Rattle.source_typing.specs.Tables.{Tables}
 use Rattle.source_typing.specs.Taken.{Taken, function_taken, item_taken, only_taken}
-use Rattle.accepted_sources.specs.Laws.{IntegersHaveNoFlowFaults, PointersHaveNoFlowFaults}
+use Rattle.accepted_sources.specs.Laws.{PointersHaveNoFlowFaults}
 use Rattle.accepted_sources.proofs.CopiedHeads.{body_kept, tables_known}
 use Rattle.accepted_sources.proofs.CopiedNames.{AreNoOtherValues}
 use Rattle.accepted_sources.proofs.CopiedTypes.{with_pointers}
+use Rattle.accepted_sources.proofs.StillStates.{no_more}
 use Rattle.accepted_sources.proofs.StillStatements.{items_still}
-use Rattle.accepted_sources.proofs.Strings.{no_more}
 
 module _ (pointers : Bool) where
   abbrev k : Taken
@@ -36,9 +36,6 @@ module _ (pointers : Bool) where
 
   pub no_flow_faults : (p : Program) → flow_faults (only_taken k p) ≡ []
   no_flow_faults p = items_flow (tables_of false (only_taken k p)) 0 p (tables_known pointers false p)
-
-pub integers_have_no_flow_faults : IntegersHaveNoFlowFaults
-integers_have_no_flow_faults = no_flow_faults false
 
 pub pointers_have_no_flow_faults : PointersHaveNoFlowFaults
 pointers_have_no_flow_faults = no_flow_faults true

@@ -1,5 +1,5 @@
 -- Uses and statements that leave the states of all locals as they are, and have no fault of flow.
-use Rattle.std.proofs.Common.{◌≡◌, ℕ, zero, suc, Option, Some, None, [], ◌∷◌, refl, sym, subst, ap, ap₂, ◌∙◌}
+use Rattle.std.proofs.Common.{◌≡◌, ℕ, zero, suc, Option, Some, None, List, [], ◌∷◌, refl, sym, subst, ap, ap₂, ◌∙◌}
 use Rattle.std.proofs.Math.Seq.{drop-append_seam}
 use Rattle.std.specs.Prelude.{length, option_map, ◌++◌}
 use Rattle.source_typing.specs.Left.{
@@ -37,7 +37,11 @@ use Rattle.source_typing.specs.States.{
   or_entry,
   passed,
 }
-use Rattle.accepted_sources.proofs.Strings.{no_more}
+
+-- nothing and nothing is nothing
+pub no_more : {A : Type 0} (xs ys : List A) → xs ≡ [] → ys ≡ [] → xs ++ ys ≡ []
+no_more [] ys a b = b
+no_more (x ∷ xs) ys a b = absurd cc
 
 -- ---- uses
 

@@ -1,4 +1,1 @@
-pub mod IntegerForms
-pub mod Plain
-pub mod Accepted
 pub mod Laws

@@ -30,11 +30,10 @@ use Rattle.source_typing.specs.Tables.{Entry, Tables}
 use Rattle.source_typing.specs.Taken.{constant_forms, function_taken, item_forms, item_taken, only_taken, thin_pointers}
 use Rattle.source_typing.proofs.Inversion.{none_of_both}
 use Rattle.source_typing.proofs.TakenItems.{program_is_taken}
-use Rattle.accepted_sources.proofs.Tags.{AreNoTags, IsNoTag}
 use Rattle.judged_sources.specs.Good.{AllGood, IsGoodEntry}
 use Rattle.judged_sources.proofs.Globals.{GlobalGood, global_good}
 use Rattle.judged_sources.proofs.Heads.{HeadGood, head_good, head_same, head_taken}
-use Rattle.judged_sources.proofs.NoTags.{no_tags}
+use Rattle.judged_sources.proofs.NoTags.{AreNoTags, IsNoTag, no_tags}
 
 -- ---- the faults of a program
 

@@ -47,7 +47,7 @@ use Rattle.source_lowering.specs.Taken.{
   TakesProgram,
   TakesStatement,
 }
-use Rattle.accepted_sources.proofs.Strings.{no_more}
+use Rattle.accepted_sources.proofs.StillStates.{no_more}
 
 -- ---- expressions
 

@@ -9,7 +9,17 @@ use Rattle.source_typing.specs.Tables.{Tables}
 use Rattle.source_typing.specs.Tags.{member_faults, region_parameters, repeated, struct_sized, tag_faults, tag_parts, tag_scope}
 use Rattle.source_typing.specs.Taken.{item_taken, only_taken, refused_structure, thin_pointers}
 use Rattle.source_typing.proofs.Inversion.{none_of_both, own_is}
-use Rattle.accepted_sources.proofs.Tags.{AreNoTags, IsNoTag}
+
+-- globals and functions alone
+abbrev pub IsNoTag : Item → Type 0
+IsNoTag (tree.StructItem s) = ⊥
+IsNoTag (tree.UnionItem s) = ⊥
+IsNoTag (tree.GlobalItem x) = Unit {0}
+IsNoTag (tree.FunctionItem f) = Unit {0}
+
+abbrev pub AreNoTags : List Item → Type 0
+AreNoTags [] = Unit {0}
+AreNoTags (x ∷ is) = IsNoTag x × AreNoTags is
 
 -- a struct or union that isn't taken is at fault
 refused_clean : (g : Tables) (i : ℕ) (u : Bool) (s t : tree.Structure) → refused_structure t ≡ s → tag_faults g i u s ≡ [] → ⊥

@@ -4,5 +4,6 @@ mod Linking
 mod Lists
 mod Lowerable
 mod Pointers
+mod Promised
 mod Tables
 mod Taken

@@ -1,4 +1,5 @@
 pub mod Marks
+pub mod Promise
 pub mod Refusals
 pub mod Tables
 pub mod Views

@@ -9,6 +9,7 @@ ghost use Rattle.source_meaning.specs.Steps.{World};
 ghost use Rattle.source_meaning.specs.Programs.{world_of, functions_of};
 ghost use Rattle.source_lowering.specs.Programs.{function_code, constant_content, initial_content, datum_of, data_of, program_code};
 ghost use Rattle.source_lowering.specs.Taken.{IsWordType, TakesConstant, TakesInitial, TakesProgram};
+ghost use Rattle.lower_checks.specs.Promise.{IsLoweringOf};
 ghost use Rattle.lower_checks.specs.Views.{shape_tree};
 ghost use Rattle.lower_checks.specs.Refusals.{IsLocal, NeverRefused};
 
@@ -140,7 +141,11 @@ fn lower_tree(alloc: Global, program: &Source) -> Result<Program, LowerFault>
 
 /// The Core of a checked program. Fails only where no host memory is left, or a number of temporaries, locals, functions or
 /// globals is over the greatest u32.
+#[tactic(auto, using(crate::proofs::Promised::is_lowering))]
 pub fn lower(alloc: Global, checked: &Checked) -> Result<Program, AllocError>
+    // it does what the source does, and its frames and its code are within the source's bounds
+    ensures promised { IfOk result (λ core. IsLoweringOf checked.now (program_tree core)) }
+    // it is the one by the definition
     ensures code { IfOk result (λ core. program_tree core ≡ program_code checked.now) }
 {
     match lower_tree(alloc, checked.program()) {

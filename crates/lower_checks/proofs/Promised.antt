@@ -1,0 +1,43 @@
+-- What is promised of lowering holds of the Core of each accepted program.
+use Rattle.std.proofs.Common.{◌≡◌, ℕ, zero, suc, ◌≤◌, ⊎_elim, List, [], ◌∷◌, Some, refl, sym, ap, ◌∙◌, subst, arith}
+use Rattle.std.specs.Prelude.{map, slice_get}
+use Rattle.cyc_tree.specs.Tree.{Program}
+use Rattle.source_meaning.specs.Steps.{Routine, World}
+use Rattle.source_meaning.specs.Programs.{world_of}
+use Rattle.core_meaning.specs.Core.{Function}
+use Rattle.core_meaning.specs.Core as core
+use Rattle.source_lowering.specs.Programs.{function_code, program_code}
+use Rattle.source_lowering.specs.Bounds.{FramesFit, core_bound, frame_bound}
+use Rattle.source_lowering.proofs.Programs.{programs_same}
+use Rattle.source_lowering.proofs.Bounded.{code_bounded, program_frames_bounded}
+use Rattle.spelled_programs.proofs.ProgramSizes.{tokens_pay}
+use Rattle.unique_flow.specs.Accepted.{IsAccepted}
+use Rattle.lower_checks.specs.Promise.{IsLoweringOf}
+use Rattle.lower_checks.proofs.Lowerable.{is_lowerable}
+
+-- a frame is within its bound where all are
+frame_fits : (w : World) (fs : List Routine) (number : ℕ) (f : Routine) (g : Function) → FramesFit w fs → slice_get fs number ≡ Some f
+    → slice_get (map (function_code w) fs) number ≡ Some g → core_bound g ≤ frame_bound f
+frame_fits w [] number f g fit is_source is_core = absurd cc is_source
+frame_fits w (r ∷ rs) zero f g fit is_source is_core =
+    let same : r ≡ f = cc is_source in
+    let made : function_code w r ≡ g = cc is_core in
+    subst (λ (z : Function). core_bound z ≤ frame_bound f) made (subst (λ (z : Routine). core_bound (function_code w r) ≤ frame_bound z) same fit.0)
+frame_fits w (r ∷ rs) (suc number) f g fit is_source is_core = frame_fits w rs number f g fit.1 is_source is_core
+
+promised : (p : Program) → IsAccepted p → IsLoweringOf p (program_code p)
+promised p accepted =
+    let lowerable = is_lowerable p accepted in
+    record {
+      does = λ input bytes never n. ⊎_elim (λ stuck. absurd (never n stuck)) (λ same. same) (programs_same p lowerable input bytes n);
+      frames = λ number f g is_source is_core.
+          frame_fits (world_of p) (world_of p).functions number f g (program_frames_bounded p lowerable) is_source is_core;
+      code = λ tokens spelled.
+          let bounded = code_bounded p lowerable in
+          let paid = tokens_pay p tokens spelled in
+          omega (arith, bounded, paid);
+    }
+
+-- whichever way the Core is written
+pub is_lowering : (p : Program) (c : core.Program) → IsAccepted p → c ≡ program_code p → IsLoweringOf p c
+is_lowering p c accepted same = subst (λ (z : core.Program). IsLoweringOf p z) (sym same) (promised p accepted)

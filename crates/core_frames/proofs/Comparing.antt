@@ -1,28 +1,5 @@
 -- What the code that compares two pointers does: the addresses of two parts are equal exactly where they are the same part's.
-use Rattle.std.proofs.Common.{
-  ◌≡◌,
-  ℕ,
-  pos,
-  ◌+◌,
-  ◌^◌,
-  ◌<◌,
-  ◌≤◌,
-  ⊎_elim,
-  Bool,
-  true,
-  false,
-  List,
-  [],
-  ◌∷◌,
-  ◌++◌,
-  Some,
-  refl,
-  sym,
-  ap,
-  subst,
-  ◌∙◌,
-  arith,
-}
+use Rattle.std.proofs.Common.{◌≡◌, ℕ, pos, ◌+◌, ◌^◌, ◌<◌, ◌≤◌, ⊎_elim, Bool, true, false, List, ◌∷◌, ◌++◌, Some, refl, sym, ap, subst, ◌∙◌, arith}
 use Rattle.std.specs.Prelude.{nat_eq, nat_lt, ◌&&◌}
 use Rattle.std.proofs.lemmas.Bool.{eq-eqb, ne_eqb}
 use Rattle.cyc_words.specs.Words.{difference_of}
@@ -34,11 +11,10 @@ use Rattle.core_meaning.specs.Core as core
 use Rattle.core_meaning.specs.Words as meaning
 use Rattle.core_frames.specs.Machines.{Machine, Store}
 use Rattle.core_frames.specs.Lines.{code_length}
-use Rattle.core_frames.specs.Lies.{Maps, Activation, Cell, PartLies, Points, Shows, Fits, Apart}
+use Rattle.core_frames.specs.Lies.{Maps, Activation, Cell, PartLies, Points, Fits}
 use Rattle.core_frames.specs.Selected.{binary_code}
 use Rattle.core_frames.proofs.Relations.{World, IsInOrder, Has, Waiting, At}
 use Rattle.core_frames.proofs.Moving.{Comes, comes_then, comes_as}
-use Rattle.core_frames.proofs.Access.{length_of_both}
 use Rattle.core_frames.proofs.Passing.{has_first, has_second}
 use Rattle.core_meaning.proofs.Spots.{spot_same}
 use Rattle.core_frames.proofs.Storing.{live_lasts}

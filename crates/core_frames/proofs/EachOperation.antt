@@ -1,47 +1,15 @@
 -- Each operation's code does as the operation means, whatever goes on behind it.
-use Rattle.std.specs.Prelude.{slice_get, length, nat_eq, ◌&&◌, if◌then◌else◌}
-use Rattle.std.proofs.Common.{◌≡◌, ℕ, ◌+◌, ◌%◌, ◌^◌, ◌<◌, Bool, true, false, List, ◌∷◌, ◌++◌, Option, Some, None, refl, subst, arith}
-use Rattle.std.proofs.lemmas.Bool.{and_parts, eqb-true}
+use Rattle.std.specs.Prelude.{slice_get, length, nat_lt}
+use Rattle.std.proofs.Common.{◌≡◌, ℕ, ◌+◌, ◌%◌, ◌^◌, ◌<◌, true, List, ◌∷◌, ◌++◌, Some, refl, subst, arith}
+use Rattle.std.proofs.lemmas.Bool.{ltb-true}
 use Rattle.cyc_words.specs.Events.{ByteWritten}
 use Rattle.rv32_machine.specs.State.{data_base}
 use Rattle.step_trees.specs.Trees.{Pays, Says}
-use Rattle.core_meaning.specs.Memory.{Spot, Frame, Own, Born, Content, Blank, Word, Null, Pointer, Birth, Part, Memory, is_live, same_spot, part_at, with_part, beyond}
-use Rattle.core_meaning.specs.Core.{
-  Distance,
-  Operation,
-  Constant,
-  NullPointer,
-  Move,
-  Narrow,
-  Apply,
-  LocalAddress,
-  OwnAddress,
-  DataAddress,
-  Offset,
-  Element,
-  Get,
-  Put,
-  Load,
-  Store,
-  Copy,
-  Clear,
-  IsNull,
-  SamePlace,
-  Getchar,
-  Putchar,
-  RegionNew,
-  RegionAlloc,
-  RegionFree,
-  UniqueAlloc,
-  UniqueFree,
-  KeyNew,
-  KeyOpen,
-  KeyClose,
-  KeyFree,
-}
-use Rattle.core_meaning.specs.Words.{truth, two}
+use Rattle.core_meaning.specs.Memory.{Spot, Frame, Own, Born, Content, Word, Null, Pointer, Part, Memory, is_live, with_part, beyond}
+use Rattle.core_meaning.specs.Core.{Operation, Constant, NullPointer, Move, Narrow, Apply, LocalAddress, OwnAddress, DataAddress, Offset, Element, Get, Put, Load, Store, Copy, Clear, IsNull, SamePlace, Getchar, Putchar, RegionNew, RegionAlloc, RegionFree, UniqueAlloc, UniqueFree, KeyNew, KeyOpen, KeyClose, KeyFree}
+use Rattle.core_meaning.specs.Words.{two}
 use Rattle.core_meaning.specs.Steps.{Config, Step, Exit, Falls, with_temp, with_memory, word_of, pointer_of, needed, checked, stuck}
-use Rattle.core_meaning.specs.Operations.{does, reached, local_spot, at_once, fitting, is_null, same_place}
+use Rattle.core_meaning.specs.Operations.{does, reached, local_spot, at_once, fitting, too_far}
 use Rattle.core_frames.specs.declared.line.Line.{Line}
 use Rattle.core_frames.specs.Machines.{Machine}
 use Rattle.core_frames.specs.Lines.{code_length}
@@ -50,7 +18,7 @@ use Rattle.core_frames.specs.Selected.{Surroundings, nth, nth_block, constant_co
 use Rattle.core_frames.specs.Lies.{Maps, Activation}
 use Rattle.core_frames.specs.Selectable.{Scope, HasCode, IsLocal}
 use Rattle.core_frames.proofs.Relations.{back_of, FrameShows, World, IsInOrder, Has, Waiting, At, Goes, active_of}
-use Rattle.core_frames.proofs.Moving.{Comes, comes_then, comes_as, goes_from, goes_stuck}
+use Rattle.core_frames.proofs.Moving.{Comes, comes_then, comes_as, goes_from}
 use Rattle.core_frames.proofs.Bodies.{with_config, IsIn, GoesFrom}
 use Rattle.core_frames.proofs.Forms.{at_config}
 use Rattle.core_frames.proofs.Nests.{BlocksAre, nth_is, local_small, local_found}
@@ -58,106 +26,9 @@ use Rattle.core_frames.proofs.Operations.{having, saving, then_saves, constant_i
 use Rattle.core_frames.proofs.Zero.{null_pointer}
 use Rattle.core_frames.proofs.Parts.{load, store, get, put, object_address}
 use Rattle.core_frames.proofs.Streams.{putchar_goes, getchar_goes}
-use Rattle.core_meaning.proofs.Results.{truth_below}
-use Rattle.core_frames.proofs.Comparing.{IsAtPart, GivesTruth, compare_places, two_nulls, null_and_pointer, pointer_and_null, two_pointers}
-
--- ---- what an operation needs
-
-module _ (w : World) (R : Machine → Type 0) (active : List (List ℕ)) (fuel : ℕ) where
-  word_goes : (v : Content) (k : ℕ → Step) → ((n : ℕ) → v ≡ Word n → Goes w fuel (k n) R active) → Goes w fuel (word_of v k) R active
-  word_goes (Word n) k goes = goes n refl
-  word_goes Blank k goes = goes_stuck w R active fuel
-  word_goes Null k goes = goes_stuck w R active fuel
-  word_goes (Pointer s b) k goes = goes_stuck w R active fuel
-  word_goes (Birth d) k goes = goes_stuck w R active fuel
-
-  pointer_goes : (v : Content) (k : Spot → ℕ → Step) → ((s : Spot) (b : ℕ) → v ≡ Pointer s b → Goes w fuel (k s b) R active) → Goes w fuel
-      (pointer_of v k) R active
-  pointer_goes (Pointer s b) k goes = goes s b refl
-  pointer_goes Blank k goes = goes_stuck w R active fuel
-  pointer_goes Null k goes = goes_stuck w R active fuel
-  pointer_goes (Word n) k goes = goes_stuck w R active fuel
-  pointer_goes (Birth d) k goes = goes_stuck w R active fuel
-
-  null_goes : (v : Content) (k : ℕ → Step) → (v ≡ Null → Goes w fuel (k 1) R active) → ((s : Spot) (b : ℕ) → v ≡ Pointer s b → Goes w fuel (k 0) R active)
-      → Goes w fuel (is_null v k) R active
-  null_goes Null k one other = one refl
-  null_goes (Pointer s b) k one other = other s b refl
-  null_goes Blank k one other = goes_stuck w R active fuel
-  null_goes (Word n) k one other = goes_stuck w R active fuel
-  null_goes (Birth d) k one other = goes_stuck w R active fuel
-
-  block_goes : (o : Option ℕ) (k : ℕ → Step) → ((n : ℕ) → o ≡ Some n → Goes w fuel (k n) R active) → Goes w fuel (needed o k) R active
-  block_goes None k goes = goes_stuck w R active fuel
-  block_goes (Some n) k goes = goes n refl
-
-  -- a part of a live region
-  part_goes : (m : Memory) (s : Spot) (k : Part → Step)
-      → ((p : Part) → m.parts s 0 ≡ Some p → is_live (m.standing s.region) ≡ true → Goes w fuel (k p) R active)
-      → Goes w fuel (needed (part_at m s 0) k) R active
-  part_goes m s k goes = by (is_live (m.standing s.region)) refl (m.parts s 0) refl
-    where
-      by : (live : Bool) → is_live (m.standing s.region) ≡ live → (found : Option Part) → m.parts s 0 ≡ found
-          → Goes w fuel (needed (if live then found else None) k) R active
-      by false e found f = goes_stuck w R active fuel
-      by true e None f = goes_stuck w R active fuel
-      by true e (Some p) f = goes p f e
-
-  -- two pointers that are compared
-  module _ (m : Memory) (k : ℕ → Step) (Gives : Content → Content → ℕ → Type 0) (two_none : Gives Null Null 1)
-      (none_first : (t : Spot) (c : ℕ) → Gives Null (Pointer t c) 0) (none_second : (s : Spot) (b : ℕ) → Gives (Pointer s b) Null 0)
-      (two_places : (s t : Spot) (b c : ℕ) → IsAtPart m s b → IsAtPart m t c → Gives (Pointer s b) (Pointer t c) (truth (same_spot s t))) where
-    places_of : (s t : Spot) (b c : ℕ) → ((n : ℕ) → n < 2 ^ 32 → Gives (Pointer s b) (Pointer t c) n → Goes w fuel (k n) R active)
-        → Goes w fuel (same_place m (Pointer s b) (Pointer t c) k) R active
-    places_of s t b c go =
-        part_goes m s (λ p. needed (part_at m t 0) (λ q. checked (nat_eq p.offset b && nat_eq q.offset c) (k (truth (same_spot s t))))) (λ p is live.
-        part_goes m t (λ q. checked (nat_eq p.offset b && nat_eq q.offset c) (k (truth (same_spot s t)))) (λ q is' live'.
-        by p q is live is' live' (nat_eq p.offset b && nat_eq q.offset c) refl))
-      where
-        by : (p q : Part) → m.parts s 0 ≡ Some p → is_live (m.standing s.region) ≡ true → m.parts t 0 ≡ Some q → is_live (m.standing t.region) ≡ true
-            → (same : Bool) → (nat_eq p.offset b && nat_eq q.offset c) ≡ same → Goes w fuel (checked same (k (truth (same_spot s t)))) R active
-        by p q is live is' live' false e = goes_stuck w R active fuel
-        by p q is live is' live' true e =
-            let both = and_parts (nat_eq p.offset b) (nat_eq q.offset c) e in
-            go (truth (same_spot s t)) (truth_below (same_spot s t)) (two_places s t b c
-            (record { part = p; is = is; live = live; offset = eqb-true p.offset b both.0 })
-            (record { part = q; is = is'; live = live'; offset = eqb-true q.offset c both.1 }))
-
-    places_go : (a b : Content) → ((n : ℕ) → n < 2 ^ 32 → Gives a b n → Goes w fuel (k n) R active) → Goes w fuel (same_place m a b k) R active
-    places_go Null Null go = go 1 (omega arith) two_none
-    places_go Null (Pointer t c) go = go 0 (omega arith) (none_first t c)
-    places_go (Pointer s b) Null go = go 0 (omega arith) (none_second s b)
-    places_go (Pointer s b) (Pointer t c) go = places_of s t b c go
-    places_go Null Blank go = goes_stuck w R active fuel
-    places_go Null (Word n) go = goes_stuck w R active fuel
-    places_go Null (Birth d) go = goes_stuck w R active fuel
-    places_go (Pointer s b) Blank go = goes_stuck w R active fuel
-    places_go (Pointer s b) (Word n) go = goes_stuck w R active fuel
-    places_go (Pointer s b) (Birth d) go = goes_stuck w R active fuel
-    places_go Blank b go = goes_stuck w R active fuel
-    places_go (Word n) b go = goes_stuck w R active fuel
-    places_go (Birth d) b go = goes_stuck w R active fuel
-
-  -- a part that is where it is looked for
-  reached_goes : (m : Memory) (d : Distance) (s : Spot) (b : ℕ) (k : Spot → Part → Step)
-      → ((part : Part) → m.parts (beyond s d.cells) d.part ≡ Some part → is_live (m.standing s.region) ≡ true → part.offset ≡ b + d.bytes → part.width ≡ d.width
-      → Goes w fuel (k (beyond s d.cells) part) R active)
-      → Goes w fuel (reached m d s b k) R active
-  reached_goes m d s b k goes = by (is_live (m.standing s.region)) refl (m.parts (beyond s d.cells) d.part) refl
-    where
-      fits : (part : Part) → m.parts (beyond s d.cells) d.part ≡ Some part → is_live (m.standing s.region) ≡ true → (c : Bool)
-          → (nat_eq part.offset (b + d.bytes) && nat_eq part.width d.width) ≡ c → Goes w fuel (checked c (k (beyond s d.cells) part)) R active
-      fits part is live false e = goes_stuck w R active fuel
-      fits part is live true e =
-          let both = and_parts (nat_eq part.offset (b + d.bytes)) (nat_eq part.width d.width) e in
-          goes part is live (eqb-true part.offset (b + d.bytes) both.0) (eqb-true part.width d.width both.1)
-
-      by : (live : Bool) → is_live (m.standing s.region) ≡ live → (found : Option Part) → m.parts (beyond s d.cells) d.part ≡ found
-          → Goes w fuel (needed (if live then found else None) (λ p. checked (nat_eq p.offset (b + d.bytes) && nat_eq p.width d.width)
-          (k (beyond s d.cells) p))) R active
-      by false e found is = goes_stuck w R active fuel
-      by true e None is = goes_stuck w R active fuel
-      by true e (Some part) is = fits part is e (nat_eq part.offset (b + d.bytes) && nat_eq part.width d.width) refl
+use Rattle.core_frames.proofs.Needing.{word_goes, pointer_goes, null_goes, checked_goes, block_goes, places_go, reached_goes}
+use Rattle.core_frames.proofs.Offsets.{offset}
+use Rattle.core_frames.proofs.Comparing.{GivesTruth, compare_places, two_nulls, null_and_pointer, pointer_and_null, two_pointers}
 
 -- ---- addresses of unnamed values and data
 
@@ -336,7 +207,12 @@ module _ (w : World) (order : IsInOrder w) (x : Waiting) (outer : List Waiting) 
   operation_goes (DataAddress t object) named has ends c is =
       sets c t (Pointer (record { region = Born 0; object = object; cell = 0 }) 0) (operation_code u (DataAddress t object)) is
       (data_address w order (with_config x c) outer c.memory t object place named.0 named.1 small has) ends
-  operation_goes (Offset t p cells bytes) named has ends c is = absurd named
+  operation_goes (Offset t p cells bytes) named has ends c is =
+      pointer_goes w (At_first c) active fuel (c.temps p)
+      (λ s b. checked (nat_lt (b + bytes) too_far) (next (with_temp t (Pointer (beyond s cells) (b + bytes)) c))) (λ s b e.
+      checked_goes w (At_first c) active fuel (nat_lt (b + bytes) too_far) (next (with_temp t (Pointer (beyond s cells) (b + bytes)) c)) (λ few.
+      sets c t (Pointer (beyond s cells) (b + bytes)) (operation_code u (Offset t p cells bytes)) is
+      (offset w order (with_config x c) outer c.memory t p cells bytes b s place named.0 named.1 e (ltb-true (b + bytes) too_far few) has) ends))
   operation_goes (Element t p i cells bytes) named has ends c is = absurd named
   operation_goes (Get t out local width) named has ends c is =
       block_goes w (At_first c) active fuel (slice_get c.blocks out)

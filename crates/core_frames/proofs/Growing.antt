@@ -1,6 +1,6 @@
 -- A region gets an object: in bytes that nothing else has.
 use Rattle.std.specs.Prelude.{nat_eq, ◌&&◌, if◌then◌else◌}
-use Rattle.std.proofs.Common.{◌≡◌, ℕ, ◌+◌, ◌%◌, ◌≤◌, ◌⊎◌, inl, inr, ⊎_elim, Bool, true, false, List, Option, Some, None, refl, sym, ap, ◌∙◌, subst, arith}
+use Rattle.std.proofs.Common.{◌≡◌, ℕ, ◌+◌, ◌%◌, ◌^◌, ◌<◌, ◌≤◌, ◌⊎◌, inl, inr, ⊎_elim, Bool, true, false, List, Option, Some, None, refl, sym, ap, ◌∙◌, subst, arith}
 use Rattle.std.proofs.lemmas.Bool.{eqb-true, ne_eqb, eq-eqb, and_parts, and_right, and_left, and_from}
 use Rattle.core_meaning.specs.Memory.{Region, Frame, Own, Born, Dead, Spot, Content, Blank, Part, Memory, same_region, same_spot, is_live, with_object}
 use Rattle.core_frames.specs.Machines.{Store}
@@ -203,9 +203,9 @@ module _ (n : Areas) (m : Maps) (fs : List Activation) (mem : Memory) (b : ℕ �
   }
 
   -- and what is known grows with it, whatever the store now holds of blocks
-  pub grow_known : is_live (mem.standing r) ≡ true → st'.ledger.births ≡ st.ledger.births → st'.ledger.birth_of ≡ st.ledger.birth_of
+  pub grow_known : x < 2 ^ 31 → is_live (mem.standing r) ≡ true → st'.ledger.births ≡ st.ledger.births → st'.ledger.birth_of ≡ st.ledger.birth_of
       → st'.holdings.standing ≡ st.holdings.standing → Known m mem st → Known m' mem' st'
-  grow_known live births birth_of standing k = record {
+  grow_known below live births birth_of standing k = record {
     births = ap (λ c. c + 1) births ∙ k.births;
     heap = k.heap;
     no_zero = ap (λ hs. hs 0) standing ∙ k.no_zero;
@@ -219,6 +219,7 @@ module _ (n : Areas) (m : Maps) (fs : List Activation) (mem : Memory) (b : ℕ �
     zero_is_heap = k.zero_is_heap;
     heap_is_zero = ap (λ g. g 0) birth_of ∙ k.heap_is_zero;
     based = λ s j p e. based s j p e (same_region s.region r && nat_eq s.object (mem.objects r)) refl;
+    low = λ q c y e. low q c y e (same_region q r && nat_eq c (mem.objects r)) refl;
     unmade = λ q c le. unmade q c le (same_region q r) refl;
     unborn = λ d le. let u = k.unborn d le in (u.0, other_count (Born d) u.0 ∙ u.1, u.2);
     unentered = λ q le. let u = k.unentered q le in (u.0, other_count (Frame q) u.0 ∙ u.1);
@@ -231,6 +232,11 @@ module _ (n : Areas) (m : Maps) (fs : List Activation) (mem : Memory) (b : ℕ �
       based s j p e false is =
           let old = k.based s j p (ap (λ c. if c then o s.cell j else mem.parts s j) (sym is) ∙ e) in
           (old.0, ap (λ c. if c then Some x else m.base s.region s.object) is ∙ old.1)
+
+      low : (q : Region) (c y : ℕ) → m'.base q c ≡ Some y → (t : Bool) → (same_region q r && nat_eq c (mem.objects r)) ≡ t → y < 2 ^ 31
+      low q c y e true is =
+          subst (λ z. z < 2 ^ 31) (some_same x y (ap (λ t. if t then Some x else m.base q c) (sym is) ∙ e)) below
+      low q c y e false is = k.low q c y (ap (λ t. if t then Some x else m.base q c) (sym is) ∙ e)
 
       other_base : (q : Region) (c : ℕ) → (same_region q r && nat_eq c (mem.objects r)) ≡ false → m'.base q c ≡ m.base q c
       other_base q c e = ap (λ t. if t then Some x else m.base q c) e

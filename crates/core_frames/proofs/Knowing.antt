@@ -33,6 +33,7 @@ known_death m mem st r frame k = record {
   zero_is_heap = k.zero_is_heap;
   heap_is_zero = k.heap_is_zero;
   based = k.based;
+  low = k.low;
   unmade = k.unmade;
   unborn = λ d le. let u = k.unborn d le in (born d ∙ u.0, u.1, u.2);
   unentered = λ q le. let u = k.unentered q le in (dead_still (Frame q) u.0, u.1);
@@ -73,6 +74,7 @@ known_called m mem st k = record {
   zero_is_heap = k.zero_is_heap;
   heap_is_zero = k.heap_is_zero;
   based = k.based;
+  low = k.low;
   unmade = k.unmade;
   unborn = k.unborn;
   unentered = k.unentered;
@@ -92,6 +94,7 @@ known_block m mem st k = record {
   zero_is_heap = k.zero_is_heap;
   heap_is_zero = k.heap_is_zero;
   based = k.based;
+  low = k.low;
   unmade = k.unmade;
   unborn = k.unborn;
   unentered = λ q le.

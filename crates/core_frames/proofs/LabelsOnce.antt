@@ -22,6 +22,7 @@ use Rattle.core_frames.specs.Frames.{is_short, word_code, load_code, save_code, 
 use Rattle.core_frames.specs.Frames.{test_code, move_code, prologue_code, values_code, leave_code, return_code}
 use Rattle.core_frames.specs.Selected.{frame_bytes, Surroundings, local_offset, nth, from_temp, to_temp, constant_code, far_code, read_line, read_code}
 use Rattle.core_frames.specs.Selected.{write_line, write_code, binary_code, address_code, operation_code, labels_in, labels_of, choice_code, within_block}
+use Rattle.core_frames.specs.Selected.{further_code, are_words, copy_loop, bytes_in, clear_loop}
 use Rattle.core_frames.specs.Selected.{statement_code, statements_code, around, function_code, functions_code, program_code}
 use Rattle.core_frames.specs.Running.{data_offsets}
 
@@ -91,6 +92,17 @@ constant_none w = choice_none (is_short w) _ _ refl refl
 address_none : (w : ℕ) → labels_placed (address_code w) ≡ []
 address_none w = choice_none (is_short w) _ _ refl refl
 
+further_none : (to w : ℕ) → labels_placed (further_code to w) ≡ []
+further_none to w = choice_none (is_short w) _ _ refl refl
+
+copy_none : (words : Bool) → labels_placed (copy_loop words) ≡ []
+copy_none true = refl
+copy_none false = refl
+
+clear_none : (words : Bool) → labels_placed (clear_loop words) ≡ []
+clear_none true = refl
+clear_none false = refl
+
 load_none : (to k : ℕ) → labels_placed (load_code to k) ≡ []
 load_none to k = choice_none (is_short (4 * k)) _ _ refl refl
 
@@ -148,7 +160,8 @@ operation_none u (LocalAddress t out local) =
 operation_none u (OwnAddress t object) = two (address_code (nth u.own object)) (to_temp u 5 t) (address_none (nth u.own object)) (to_none u 5 t)
 operation_none u (DataAddress t object) = two (constant_code (data_base + nth u.statics object)) (to_temp u 5 t)
     (constant_none (data_base + nth u.statics object)) (to_none u 5 t)
-operation_none u (Offset t p cells bytes) = refl
+operation_none u (Offset t p cells bytes) =
+    three (from_temp u 5 p) (further_code 5 bytes) (to_temp u 5 t) (from_none u 5 p) (further_none 5 bytes) (to_none u 5 t)
 operation_none u (Element t p i cells bytes) = refl
 operation_none u (Get t out local width) =
     two (read_code width 2 (local_offset u out local)) (to_temp u 5 t) (read_none width 2 (local_offset u out local)) (to_none u 5 t)
@@ -158,8 +171,14 @@ operation_none u (Load t p d) =
     three (from_temp u 5 p) (read_code d.width 5 d.bytes) (to_temp u 5 t) (from_none u 5 p) (read_none d.width 5 d.bytes) (to_none u 5 t)
 operation_none u (Store p d x) =
     three (from_temp u 5 p) (from_temp u 6 x) (write_code d.width 5 d.bytes) (from_none u 5 p) (from_none u 6 x) (write_none d.width 5 d.bytes)
-operation_none u (Copy to from layout) = refl
-operation_none u (Clear p layout count) = refl
+operation_none u (Copy to from l) =
+    choice_none (nat_eq l.bytes 0) [] (from_temp u 5 to ++ from_temp u 6 from ++ further_code 7 l.bytes ++ copy_loop (are_words l)) refl
+    (four (from_temp u 5 to) (from_temp u 6 from) (further_code 7 l.bytes) (copy_loop (are_words l)) (from_none u 5 to) (from_none u 6 from)
+    (further_none 7 l.bytes) (copy_none (are_words l)))
+operation_none u (Clear p l count) =
+    choice_none (nat_eq (bytes_in l count) 0) [] (from_temp u 5 p ++ further_code 7 (bytes_in l count) ++ clear_loop (are_words l)) refl
+    (three (from_temp u 5 p) (further_code 7 (bytes_in l count)) (clear_loop (are_words l)) (from_none u 5 p) (further_none 7 (bytes_in l count))
+    (clear_none (are_words l)))
 operation_none u (IsNull t p) = three (from_temp u 5 p) (Plain (instr.Sltiu 5 5 (pos 1)) ∷ []) (to_temp u 5 t) (from_none u 5 p) refl (to_none u 5 t)
 operation_none u (SamePlace t p q) =
     four (from_temp u 5 p) (from_temp u 6 q) (binary_code Equal) (to_temp u 5 t) (from_none u 5 p) (from_none u 6 q) refl (to_none u 5 t)

@@ -44,6 +44,8 @@ pub mod Streams
 pub mod Tests
 pub mod Programs
 pub mod EachFunction
+mod Needing
+pub mod Offsets
 pub mod EachOperation
 pub mod EachStatement
 pub mod DoesAsCore

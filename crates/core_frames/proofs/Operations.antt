@@ -87,20 +87,20 @@ module _ (w : World) (order : IsInOrder w) (x : Waiting) (outer : List Waiting) 
 
   -- ---- constants
 
-  -- a word into x5, where something stays
-  pub word_into : (v place : ℕ) (P Q : Maps → (ℕ → ℕ) → Type 0) → v < 2 ^ 32 → Has w place (word_code 5 v)
-      → ((m : Maps) (new old : ℕ → ℕ) → new 5 ≡ v → Kept 5 new old → P m old → Q m new)
+  -- a word into a register, where something stays
+  pub word_into : (r v place : ℕ) (P Q : Maps → (ℕ → ℕ) → Type 0) → nat_eq 2 (suc r) ≡ false → v < 2 ^ 32 → Has w place (word_code (suc r) v)
+      → ((m : Maps) (new old : ℕ → ℕ) → new (suc r) ≡ v → Kept (suc r) new old → P m old → Q m new)
       → Comes w (With P place) (With Q (place + 8))
-  word_into v place P Q small has gets = record {
+  word_into r v place P Q other small has gets = record {
     count = 2;
     by = λ s a.
-        let p = puts_word w order place s.registers s.bytes s.store a.stands.kept 4 v small has in
+        let p = puts_word w order place s.registers s.bytes s.store a.stands.kept r v small has in
         let aligned = a.stands.aligned in
         record {
           next = state_at (place + 8) p.new s.bytes s.store;
           moves = subst (λ (t : Machine). Moves w.areas 2 t (state_at (place + 8) p.new s.bytes s.store))
               (sym (written_out w order mem place a.maps (a.frame ∷ a.others) a.sp s a.stands)) p.moves;
-          there = elsewhere w order x outer mem place (place + 8) P Q s a p.new (omega (arith, aligned)) (p.kept 2 refl refl)
+          there = elsewhere w order x outer mem place (place + 8) P Q s a p.new (omega (arith, aligned)) (p.kept 2 refl other)
               (gets a.maps p.new s.registers p.holds p.kept a.holds);
         };
   }
@@ -116,7 +116,7 @@ module _ (w : World) (order : IsInOrder w) (x : Waiting) (outer : List Waiting) 
           puts w order x outer mem 4 place Free (λ m registers. registers 5 ≡ v) (instr.Addi 5 0 (lower_of v))
           (λ registers. sum_of 0 (word (lower_of v))) refl has.0.0
           (λ r b st n. refl) (λ _. tt) (λ m registers h. let same = short_word v short small in omega (arith, same, small))
-      by false long has = word_into v place Free (λ m registers. registers 5 ≡ v) small has (λ m new old is kept h. is)
+      by false long has = word_into 4 v place Free (λ m registers. registers 5 ≡ v) refl small has (λ m new old is kept h. is)
 
   pub constant : (t v place : ℕ) → t < x.fn.temporaries → v < 2 ^ 32 → Has w place (constant_code v ++ saving 5 t)
       → Comes w (Here place) (At w (having t (Word v) x) outer mem (place + code_length (constant_code v ++ saving 5 t)))

@@ -9,6 +9,7 @@ use Rattle.std.proofs.Common.{
   ◌*◌,
   ◌%◌,
   ◌^◌,
+  ◌<◌,
   ◌≤◌,
   ◌⊎◌,
   inl,
@@ -127,6 +128,9 @@ module _ (n : Areas) (few : n.statics ≤ 2 ^ 20) (m : Maps) (a : Activation) (f
   abbrev pub maps : Maps
   maps = placed (Own k) (mem.objects (Own k)) (a.at + offset) m
 
+  at_low : a.at + offset < 2 ^ 31
+  at_low = let end = below_end (a.at + a.bytes) fs stacked.1 in omega (arith, end, room)
+
   at_even : (a.at + offset) % 4 ≡ 0
   at_even = let e = laid.even in let e' = laid.there in omega (arith, e, e', even)
 
@@ -146,7 +150,7 @@ module _ (n : Areas) (few : n.statics ≤ 2 ^ 20) (m : Maps) (a : Activation) (f
 
   pub owned_known : Known maps (with_object mem (Own k) o) st
   owned_known = grow_known n m (after ∷ fs) mem b st st (Own k) o bytes (a.at + offset) raised_fits fresh fits at_even away new_ground (λ y at width g. g)
-      live refl refl refl known
+      at_low live refl refl refl known
 
   pub owned_stacked : Stacked sp (after ∷ fs)
   owned_stacked = (

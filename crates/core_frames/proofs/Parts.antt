@@ -191,9 +191,9 @@ module _ (w : World) (order : IsInOrder w) (x : Waiting) (outer : List Waiting) 
           word_into_offset : (place : ℕ) → Has w place (word_code 5 off)
               → Comes w (With w order x outer mem Addressed place) (With w order x outer mem (λ m registers. (registers 5 ≡ off) × Addressed m registers)
               (place + 8))
-          word_into_offset place has = word_into w order x outer mem off place Addressed
+          word_into_offset place has = word_into w order x outer mem 4 off place Addressed
               (λ m registers. (registers 5 ≡ off) × Addressed m registers)
-              (omega (arith, few)) has
+              refl (omega (arith, few)) has
               (λ m new old is kept a. (
                 is,
                 record {

@@ -239,6 +239,7 @@ module _ (w : World) (order : IsInOrder w) (four : w.stub ≡ 4) (main : ℕ)
     zero_is_heap = refl;
     heap_is_zero = ap (λ (l : Ledger). l.birth_of 0) start.fresh;
     based = λ t j p e. based t j p t.region e;
+    low = λ r o x e. low r o x e;
     unmade = λ r o le. unmade r o le;
     unborn = λ d le. later d le;
     unentered = λ k le. (refl, refl);
@@ -252,6 +253,17 @@ module _ (w : World) (order : IsInOrder w) (four : w.stub ≡ 4) (main : ℕ)
       later : (d : ℕ) → 1 ≤ d → (memory.standing (Born d) ≡ Dead) × (memory.objects (Born d) ≡ 0) × ((first_maps offsets).number d ≡ None)
       later zero le = absurd (omega (arith, le))
       later (suc d) le = (refl, refl, ap (λ c. if c then Some 0 else None) (ne_eqb (suc d) 0 (λ q. omega (arith, q))))
+
+      low : (r : Region) (o x : ℕ) → first_base offsets r o ≡ Some x → x < 2 ^ 31
+      low (Born zero) o x e =
+          let found = in_data_is (slice_get offsets o) x e in
+          let within = (object_at ds offsets 0 high o found.0 laid found.1.0).within in
+          let is = found.1.1 in
+          let few = order.statics_within in
+          omega (arith, is, within, room, few)
+      low (Born (suc d)) o x e = absurd (none_some x e)
+      low (Frame k) o x e = absurd (none_some x e)
+      low (Own k) o x e = absurd (none_some x e)
 
       unmade : (r : Region) (o : ℕ) → memory.objects r ≤ o → first_base offsets r o ≡ None
       unmade (Born zero) o le = ap in_data (none_behind ds offsets 0 high o laid le)

@@ -29,6 +29,7 @@ known_part m mem st s j old v is k = record {
       subst (λ (u : Spot). (y : ℕ) × (m.base u.region u.object ≡ Some y)) (sym same) (k.based s j old is))
       (λ (x : (_ ≡ false) × (mem.parts t i ≡ Some p)). k.based t i p x.1)
       (if_split _ (Some (record old { content = v })) (mem.parts t i) (Some p) e);
+  low = k.low;
   unmade = k.unmade;
   unborn = k.unborn;
   unentered = k.unentered;

@@ -1,5 +1,5 @@
 -- How a memory lies in a machine: where each thing that holds something stands, and what its bytes show.
-use Rattle.std.specs.Prelude.{◌≡◌, ℕ, zero, suc, ◌+◌, ◌*◌, ◌%◌, ◌≤◌, ◌<◌, ◌⊎◌, ◌&&◌, Bool, false, nat_eq, if◌then◌else◌, Option, Some, None, List, [], ◌∷◌}
+use Rattle.std.specs.Prelude.{◌≡◌, ℕ, zero, suc, ◌+◌, ◌*◌, ◌%◌, ◌^◌, ◌≤◌, ◌<◌, ◌⊎◌, ◌&&◌, Bool, false, nat_eq, if◌then◌else◌, Option, Some, None, List, [], ◌∷◌}
 use Rattle.arena_laws.specs.Holdings.{arena_base}
 use Rattle.arena_laws.specs.Blocks.{Block}
 use Rattle.arena_laws.specs.declared.owner.Owner.{Owner}
@@ -226,6 +226,8 @@ pub record Known (m : Maps) (mem : Memory) (st : Store) : Type 0 where
   pub heap_is_zero : st.ledger.birth_of 0 ≡ 0
   -- each object's parts have an address
   pub based : (s : Spot) (j : ℕ) (p : Part) → mem.parts s j ≡ Some p → (x : ℕ) × (m.base s.region s.object ≡ Some x)
+  -- none is in the upper half of all addresses
+  pub low : (r : Region) (o x : ℕ) → m.base r o ≡ Some x → x < 2 ^ 31
   -- what is to come has none
   pub unmade : (r : Region) (o : ℕ) → mem.objects r ≤ o → m.base r o ≡ None
   pub unborn : (d : ℕ) → mem.births ≤ d → (mem.standing (Born d) ≡ Dead) × (mem.objects (Born d) ≡ 0) × (m.number d ≡ None)

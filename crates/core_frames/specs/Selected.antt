@@ -1,8 +1,9 @@
 -- The lines that each operation, statement, function and program of Core becomes.
-use Rattle.std.specs.Prelude.{ℕ, zero, suc, pos, ◌+◌, ◌-◌, ◌*◌, ◌/◌, ◌%◌, ◌^◌, List, [], ◌∷◌, ◌++◌, nat_le, nat_eq, if◌then◌else◌, length}
+use Rattle.std.specs.Prelude.{ℕ, zero, suc, pos, negsuc, ◌&&◌, Bool, true, false, ◌+◌, ◌-◌, ◌*◌, ◌/◌, ◌%◌, ◌^◌, List, [], ◌∷◌, ◌++◌, nat_le, nat_eq, if◌then◌else◌, length}
 use Rattle.rv32_isa.specs.declared.instruction.Instr.{Instr}
 use Rattle.rv32_isa.specs.declared.instruction.Instr.TheVariants as instr
 use Rattle.rv32_machine.specs.State.{data_base}
+use Rattle.core_meaning.specs.Memory.{PartShape, Layout}
 use Rattle.core_meaning.specs.Core.{
   Binary,
   Add,
@@ -243,7 +244,52 @@ abbrev pub address_code : ℕ → List Line
 address_code w =
     (if is_short w then Plain (instr.Addi 5 2 (lower_of w)) ∷ [] else word_code 5 w ++ (Plain (instr.Add 5 5 2) ∷ []))
 
--- The code of an operation. Those on regions, unique blocks and keys, on elements and whole objects have none as yet.
+-- x5 and so many bytes, into a register: by x7, where they are no short word
+abbrev pub further_code : ℕ → ℕ → List Line
+further_code to bytes =
+    (if is_short bytes then Plain (instr.Addi to 5 (lower_of bytes)) ∷ [] else word_code 7 bytes ++ (Plain (instr.Add to 7 5) ∷ []))
+
+-- ---- whole objects: a loop over an object's units, each a word where all parts of its layout are words, and else a byte
+
+abbrev pub are_word_parts : List PartShape → Bool
+are_word_parts [] = true
+are_word_parts (s ∷ ss) = nat_eq s.width 4 && are_word_parts ss
+
+abbrev pub are_word_cells : List (List PartShape) → Bool
+are_word_cells [] = true
+are_word_cells (c ∷ cs) = are_word_parts c && are_word_cells cs
+
+abbrev pub are_words : Layout → Bool
+are_words l = are_word_cells l.cells
+
+-- from x6 on by way of x28 to x5 on, one unit after the other, until x5 is x7
+abbrev pub copy_loop : Bool → List Line
+copy_loop true =
+    Plain (instr.Lw 28 6 (pos 0)) ∷ Plain (instr.Sw 5 28 (pos 0)) ∷ Plain (instr.Addi 5 5 (pos 4)) ∷ Plain (instr.Addi 6 6 (pos 4)) ∷
+    Plain (instr.Bne 5 7 (negsuc 15)) ∷ []
+copy_loop false =
+    Plain (instr.Lbu 28 6 (pos 0)) ∷ Plain (instr.Sb 5 28 (pos 0)) ∷ Plain (instr.Addi 5 5 (pos 1)) ∷ Plain (instr.Addi 6 6 (pos 1)) ∷
+    Plain (instr.Bne 5 7 (negsuc 15)) ∷ []
+
+-- 0 to x5 on
+abbrev pub clear_loop : Bool → List Line
+clear_loop true = Plain (instr.Sw 5 0 (pos 0)) ∷ Plain (instr.Addi 5 5 (pos 4)) ∷ Plain (instr.Bne 5 7 (negsuc 7)) ∷ []
+clear_loop false = Plain (instr.Sb 5 0 (pos 0)) ∷ Plain (instr.Addi 5 5 (pos 1)) ∷ Plain (instr.Bne 5 7 (negsuc 7)) ∷ []
+
+-- an object of no bytes needs none
+abbrev pub copy_code : Surroundings → ℕ → ℕ → Layout → List Line
+copy_code u to from l =
+    (if nat_eq l.bytes 0 then [] else from_temp u 5 to ++ from_temp u 6 from ++ further_code 7 l.bytes ++ copy_loop (are_words l))
+
+-- the bytes of so many elements, as a word
+abbrev pub bytes_in : Layout → ℕ → ℕ
+bytes_in l count = count * l.bytes % 2 ^ 32
+
+abbrev pub clear_code : Surroundings → ℕ → Layout → ℕ → List Line
+clear_code u p l count =
+    (if nat_eq (bytes_in l count) 0 then [] else from_temp u 5 p ++ further_code 7 (bytes_in l count) ++ clear_loop (are_words l))
+
+-- The code of an operation. Those on regions, unique blocks and keys, and on elements have none as yet.
 abbrev pub operation_code : Surroundings → Operation → List Line
 operation_code u (Constant t w) = constant_code (w % 2 ^ 32) ++ to_temp u 5 t
 operation_code u (NullPointer t) = to_temp u 0 t
@@ -253,14 +299,14 @@ operation_code u (Apply o t x y) = from_temp u 5 x ++ from_temp u 6 y ++ binary_
 operation_code u (LocalAddress t out local) = address_code (local_offset u out local) ++ to_temp u 5 t
 operation_code u (OwnAddress t object) = address_code (nth u.own object) ++ to_temp u 5 t
 operation_code u (DataAddress t object) = constant_code (data_base + nth u.statics object) ++ to_temp u 5 t
-operation_code u (Offset t p cells bytes) = []
+operation_code u (Offset t p cells bytes) = from_temp u 5 p ++ further_code 5 bytes ++ to_temp u 5 t
 operation_code u (Element t p i cells bytes) = []
 operation_code u (Get t out local width) = read_code width 2 (local_offset u out local) ++ to_temp u 5 t
 operation_code u (Put out local width x) = from_temp u 6 x ++ write_code width 2 (local_offset u out local)
 operation_code u (Load t p d) = from_temp u 5 p ++ read_code d.width 5 d.bytes ++ to_temp u 5 t
 operation_code u (Store p d x) = from_temp u 5 p ++ from_temp u 6 x ++ write_code d.width 5 d.bytes
-operation_code u (Copy to from layout) = []
-operation_code u (Clear p layout count) = []
+operation_code u (Copy to from layout) = copy_code u to from layout
+operation_code u (Clear p layout count) = clear_code u p layout count
 operation_code u (IsNull t p) = from_temp u 5 p ++ (Plain (instr.Sltiu 5 5 (pos 1)) ∷ []) ++ to_temp u 5 t
 operation_code u (SamePlace t p q) = from_temp u 5 p ++ from_temp u 6 q ++ binary_code Equal ++ to_temp u 5 t
 operation_code u (Getchar t) = environment_code 2 ++ to_temp u 10 t

@@ -1,2 +1,3 @@
 pub mod Spots
 pub mod Results
+pub mod Wholes

@@ -1,5 +1,5 @@
 -- Words in memory: what a word that was written reads as, and that other words stay.
-use Rattle.std.proofs.Common.{◌≡◌, ℕ, ◌+◌, ◌/◌, ◌%◌, ◌^◌, ◌<◌, ◌≤◌, ◌⊎◌, refl, ◌∙◌, arith, if◌then◌else◌}
+use Rattle.std.proofs.Common.{◌≡◌, ℕ, zero, suc, ◌+◌, ◌*◌, ◌/◌, ◌%◌, ◌^◌, ◌<◌, ◌≤◌, ◌⊎◌, refl, ap, ◌∙◌, arith, if◌then◌else◌}
 use Rattle.std.specs.Prelude.{nat_eq}
 use Rattle.std.proofs.lemmas.Bool.Decides.{nat_tests}
 use Rattle.rv32_machine.specs.State.{word_at, set_word}
@@ -25,6 +25,14 @@ fourth_byte at v bytes = byte_of_word at v bytes (at + 3) ∙ grind (arith, nat_
 
 pub same_word : (at v : ℕ) (bytes : ℕ → ℕ) → v < 2 ^ 32 → word_at (set_word at v bytes) at ≡ v
 same_word at v bytes within = rw (first_byte at v bytes, second_byte at v bytes, third_byte at v bytes, fourth_byte at v bytes) (omega arith)
+
+-- each of the four is that byte of the word
+pub byte_in_word : (at v : ℕ) (bytes : ℕ → ℕ) (d : ℕ) → d < 4 → set_word at v bytes (at + d) ≡ v / 2 ^ (8 * d) % 2 ^ 8
+byte_in_word at v bytes zero less = let e : at + zero ≡ at = omega arith in ap (λ q. set_word at v bytes q) e ∙ first_byte at v bytes ∙ omega arith
+byte_in_word at v bytes (suc zero) less = second_byte at v bytes ∙ omega arith
+byte_in_word at v bytes (suc (suc zero)) less = third_byte at v bytes ∙ omega arith
+byte_in_word at v bytes (suc (suc (suc zero))) less = fourth_byte at v bytes ∙ omega arith
+byte_in_word at v bytes (suc (suc (suc (suc d)))) less = absurd (omega (arith, less))
 
 pub other_byte : (at v : ℕ) (bytes : ℕ → ℕ) (q : ℕ) → (q < at) ⊎ (at + 4 ≤ q) → set_word at v bytes q ≡ bytes q
 other_byte at v bytes q apart = byte_of_word at v bytes q ∙ grind (arith, nat_tests)

@@ -44,6 +44,10 @@ pub mod Streams
 pub mod Tests
 pub mod Programs
 pub mod EachFunction
+pub mod Filling
+pub mod ByteLoops
+pub mod Covering
+pub mod Refilling
 mod Needing
 pub mod Offsets
 pub mod EachOperation

@@ -16,6 +16,11 @@ use Rattle.core_frames.proofs.Steps.{state_at, IsKeptBelow, IsAllowed, is_in_cod
 use Rattle.core_frames.proofs.Reaching.{loads_byte}
 use Rattle.core_frames.proofs.Filling.{unit_size, get_unit, set_unit, unit_other, unit_small, unit_copied, unit_cleared, Filled, filled_none, filled_more}
 
+-- the instructions of so many turns and one more
+abbrev pub turn_count : ℕ → ℕ → ℕ
+turn_count count zero = count + 1
+turn_count count (suc left) = count + 1 + turn_count count left
+
 module _ (w : World) (order : IsInOrder w) (st : Store) (x2 : ℕ) where
   abbrev Allowed : ℕ → ℕ → Type 0
   Allowed at width = IsAllowed w.areas w.code order.code_within st x2 at width
@@ -38,11 +43,6 @@ module _ (w : World) (order : IsInOrder w) (st : Store) (x2 : ℕ) where
     pub new_bytes : ℕ → ℕ
     pub moves : Moves w.areas count (state_at place registers bytes st) (state_at behind new new_bytes st)
     pub there : Running to n b v Six i new new_bytes
-
-  -- the instructions of so many turns and one more
-  abbrev pub turn_count : ℕ → ℕ → ℕ
-  turn_count count zero = count + 1
-  turn_count count (suc left) = count + 1 + turn_count count left
 
   module _ (place last behind count size : ℕ) (offset : ℤ) (has : HasInstr w.areas w.code (code_base + last) (instr.Bne 5 7 offset))
       (back : sum_of (code_base + last) (word offset) ≡ code_base + place) (next : last + 4 ≡ behind) (aligned : place % 4 ≡ 0) (some : 0 < size)

@@ -220,9 +220,18 @@ word_in_cell [] are k i x e = absurd (cc e)
 word_in_cell (c ∷ cs) are zero i x e = word_shape c (and_parts (are_word_parts c) (are_word_cells cs) are).0 i x e
 word_in_cell (c ∷ cs) are (suc k) i x e = word_in_cell cs (and_parts (are_word_parts c) (are_word_cells cs) are).1 k i x e
 
-multiple_of_four : (a b : ℕ) → b % 4 ≡ 0 → a * b % 4 ≡ 0
+pub multiple_of_four : (a b : ℕ) → b % 4 ≡ 0 → a * b % 4 ≡ 0
 multiple_of_four zero b even = omega arith
 multiple_of_four (suc a) b even = let rest = multiple_of_four a b even in let e : suc a * b ≡ a * b + b = omega arith in omega (arith, e, rest, even)
+
+-- where they are words, so is the whole of an object
+pub whole_units : (l : Layout) → IsLayout l → IsFull l → (words : Bool) → are_words l ≡ words → 0 < l.bytes → l.bytes % unit_size words ≡ 0
+whole_units l layout full false are some = omega arith
+whole_units l layout full true are some =
+    let f = full.full 0 some in
+    let wide = word_in_cell l.cells are f.cell f.part f.shape f.has.is in
+    ⊎_elim (λ (one : f.shape.width ≡ 1). absurd (omega (arith, one, wide)))
+    (λ (e : (f.shape.width ≡ 4) × (f.shape.offset % 4 ≡ 0) × (l.bytes % 4 ≡ 0)). e.2) (layout.even f.cell f.part f.shape f.has)
 
 -- ---- each unit may be read and written
 
@@ -245,6 +254,13 @@ module _ (n : Areas) (few : n.statics ≤ 2 ^ 20) (pages : n.pages ≤ 4096) (wh
       (narrower n fs st c.spot.region (base + c.part.offset) c.part.width (base + b + i) 1 (omega (arith, low)) (omega (arith, high))
       (fits.ground (Cell c.spot c.number) (base + c.part.offset) c.part.width c.part.content c.lies))
       (inl refl) (omega arith)
+
+  -- no object is larger than the machine
+  pub object_below : 0 < count * l.bytes → base + b + count * l.bytes < 2 ^ 32
+  object_below some =
+      let last = count * l.bytes - 1 in
+      let end = (byte_allowed last (omega (arith, some))).small in
+      omega (arith, some, end)
 
   -- where all parts are words, one begins at each multiple of 4
   word_here : are_words l ≡ true → (i : ℕ) → i % 4 ≡ 0 → (c : CoveredHere i) → (c.part.width ≡ 4) × (c.part.offset ≡ b + i)

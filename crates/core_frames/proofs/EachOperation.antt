@@ -1,7 +1,7 @@
 -- Each operation's code does as the operation means, whatever goes on behind it.
-use Rattle.std.specs.Prelude.{slice_get, length, nat_lt}
+use Rattle.std.specs.Prelude.{slice_get, length, nat_lt, not, ◌&&◌}
 use Rattle.std.proofs.Common.{◌≡◌, ℕ, ◌+◌, ◌%◌, ◌^◌, ◌<◌, true, List, ◌∷◌, ◌++◌, Some, refl, subst, arith}
-use Rattle.std.proofs.lemmas.Bool.{ltb-true}
+use Rattle.std.proofs.lemmas.Bool.{ltb-true, not-true, and_parts}
 use Rattle.cyc_words.specs.Events.{ByteWritten}
 use Rattle.rv32_machine.specs.State.{data_base}
 use Rattle.step_trees.specs.Trees.{Pays, Says}
@@ -9,7 +9,7 @@ use Rattle.core_meaning.specs.Memory.{Spot, Frame, Own, Born, Content, Word, Nul
 use Rattle.core_meaning.specs.Core.{Operation, Constant, NullPointer, Move, Narrow, Apply, LocalAddress, OwnAddress, DataAddress, Offset, Element, Get, Put, Load, Store, Copy, Clear, IsNull, SamePlace, Getchar, Putchar, RegionNew, RegionAlloc, RegionFree, UniqueAlloc, UniqueFree, KeyNew, KeyOpen, KeyClose, KeyFree}
 use Rattle.core_meaning.specs.Words.{two}
 use Rattle.core_meaning.specs.Steps.{Config, Step, Exit, Falls, with_temp, with_memory, word_of, pointer_of, needed, checked, stuck}
-use Rattle.core_meaning.specs.Operations.{does, reached, local_spot, at_once, fitting, too_far}
+use Rattle.core_meaning.specs.Operations.{does, reached, local_spot, at_once, fitting, too_far, are_elements, is_there, same_object, copied, cleared}
 use Rattle.core_frames.specs.declared.line.Line.{Line}
 use Rattle.core_frames.specs.Machines.{Machine}
 use Rattle.core_frames.specs.Lines.{code_length}
@@ -28,6 +28,8 @@ use Rattle.core_frames.proofs.Parts.{load, store, get, put, object_address}
 use Rattle.core_frames.proofs.Streams.{putchar_goes, getchar_goes}
 use Rattle.core_frames.proofs.Needing.{word_goes, pointer_goes, null_goes, checked_goes, block_goes, places_go, reached_goes}
 use Rattle.core_frames.proofs.Offsets.{offset}
+use Rattle.core_frames.proofs.Copying.{copy}
+use Rattle.core_frames.proofs.Clearing.{clear}
 use Rattle.core_frames.proofs.Comparing.{GivesTruth, compare_places, two_nulls, null_and_pointer, pointer_and_null, two_pointers}
 
 -- ---- addresses of unnamed values and data
@@ -239,8 +241,26 @@ module _ (w : World) (order : IsInOrder w) (x : Waiting) (outer : List Waiting) 
       (λ there part. next (with_memory (with_part c.memory there d.part (record part { content = fitting d.width (c.temps y) })) c))
       (λ part found live offset wide.
       store_goes c p y d.cells d.part d.bytes b s is named.0 named.1 e part found live offset d.width wide has ends))
-  operation_goes (Copy to from layout) named has ends c is = absurd named
-  operation_goes (Clear p layout count) named has ends c is = absurd named
+  operation_goes (Copy to from l) named has ends c is =
+      pointer_goes w (At_first c) active fuel (c.temps to) (λ s b. pointer_of (c.temps from) (λ t d.
+      checked (is_there c.memory l s b && (is_there c.memory l t d && not (same_object s t))) (next (with_memory (copied l s t c.memory) c)))) (λ s b e.
+      pointer_goes w (At_first c) active fuel (c.temps from) (λ t d.
+      checked (is_there c.memory l s b && (is_there c.memory l t d && not (same_object s t))) (next (with_memory (copied l s t c.memory) c))) (λ t d e'.
+      checked_goes w (At_first c) active fuel (is_there c.memory l s b && (is_there c.memory l t d && not (same_object s t)))
+      (next (with_memory (copied l s t c.memory) c)) (λ all.
+      let both = and_parts (is_there c.memory l s b) (is_there c.memory l t d && not (same_object s t)) all in
+      let others = and_parts (is_there c.memory l t d) (not (same_object s t)) both.1 in
+      puts_part c (copied l s t c.memory) (operation_code u (Copy to from l)) is
+      (copy w order (with_config x c) outer c.memory l named.2 named.3 s t b d both.0 others.0 (not-true (same_object s t) others.1) to from named.0 named.1 e
+      e' place has) ends)))
+  operation_goes (Clear p l count) named has ends c is =
+      pointer_goes w (At_first c) active fuel (c.temps p) (λ s b.
+      checked (is_live (c.memory.standing s.region) && are_elements c.memory s b l count) (next (with_memory (cleared l count s c.memory) c))) (λ s b e.
+      checked_goes w (At_first c) active fuel (is_live (c.memory.standing s.region) && are_elements c.memory s b l count)
+      (next (with_memory (cleared l count s c.memory) c)) (λ all.
+      let both = and_parts (is_live (c.memory.standing s.region)) (are_elements c.memory s b l count) all in
+      puts_part c (cleared l count s c.memory) (operation_code u (Clear p l count)) is
+      (clear w order (with_config x c) outer c.memory l named.1 named.2 named.3 count s b both.0 both.1 p named.0 e place has) ends))
   operation_goes (IsNull t p) named has ends c is =
       null_goes w (At_first c) active fuel (c.temps p) (λ n. next (with_temp t (Word n) c))
       (λ e. sets c t (Word 1) (operation_code u (IsNull t p)) is (null_is w order (with_config x c) outer c.memory t p place named.0 named.1 has e) ends)

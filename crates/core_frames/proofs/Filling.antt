@@ -1,4 +1,5 @@
 -- Bytes from an address on that get values, one unit after the other: a word or a byte.
+use Rattle.std.specs.Prelude.{nat_eq, if◌then◌else◌}
 use Rattle.std.proofs.Common.{◌≡◌, ℕ, zero, suc, ◌+◌, ◌-◌, ◌*◌, ◌/◌, ◌%◌, ◌^◌, ◌<◌, ◌≤◌, ◌⊎◌, inl, inr, ⊎_elim, Bool, true, false, refl, sym, ap, subst, ◌∙◌, arith}
 use Rattle.std.proofs.lemmas.Bool.{eq-eqb, cases_lt}
 use Rattle.std.proofs.lemmas.Bool.Decides.{nat_tests}
@@ -97,7 +98,8 @@ filled_more words b b' to i x v f here = record {
       ap (λ q. set_unit words (to + i) x b' q) (sym at) ∙ here (j - i) (omega (arith, less, from)) ∙ ap v same)
       (cases_lt j i);
   outside = λ q far.
-      unit_other words (to + i) x b' q (⊎_elim (λ (low : q < to). inl (omega (arith, low))) (λ (high : to + (i + unit_size words) ≤ q). inr (omega (arith, high))) far)
+      unit_other words (to + i) x b' q
+      (⊎_elim (λ (low : q < to). inl (omega (arith, low))) (λ (high : to + (i + unit_size words) ≤ q). inr (omega (arith, high))) far)
       ∙ f.outside q (⊎_elim (λ (low : q < to). inl low) (λ (high : to + (i + unit_size words) ≤ q). inr (omega (arith, high))) far);
 }
 
@@ -135,4 +137,17 @@ read_outside b b' to n v at width f wide far = ⊎_elim
     by_byte some = let e : at + 0 ≡ at = omega arith in subst (λ q. b' q ≡ b q) e (one 0 (omega (arith, some)))
 
     by_word : 4 ≤ width → word_at b' at ≡ word_at b at
-    by_word some = word_from_bytes b' b at (by_byte (omega (arith, some))) (one 1 (omega (arith, some))) (one 2 (omega (arith, some))) (one 3 (omega (arith, some)))
+    by_word some = word_from_bytes b' b at (by_byte (omega (arith, some))) (one 1 (omega (arith, some))) (one 2 (omega (arith, some)))
+        (one 3 (omega (arith, some)))
+
+-- bytes that are counted from an address on
+pub read_on : (b : ℕ → ℕ) (from o width : ℕ) → read (λ j. b (from + j)) o width ≡ read b (from + o) width
+read_on b from o width = by (nat_eq width 1)
+  where
+    by : (one : Bool) → (if one then b (from + o) else word_at (λ j. b (from + j)) o) ≡ (if one then b (from + o) else word_at b (from + o))
+    by true = refl
+    by false =
+        let first : from + (o + 1) ≡ from + o + 1 = omega arith in
+        let second : from + (o + 2) ≡ from + o + 2 = omega arith in
+        let third : from + (o + 3) ≡ from + o + 3 = omega arith in
+        cc (ap b first, ap b second, ap b third)

@@ -48,6 +48,8 @@ pub mod Filling
 pub mod ByteLoops
 pub mod Covering
 pub mod Refilling
+pub mod Copying
+pub mod Clearing
 mod Needing
 pub mod Offsets
 pub mod EachOperation

@@ -3,7 +3,7 @@ use Rattle.rv32_machine.specs.Run.{Run}
 use Rattle.arena_laws.specs.Lawful.{Answer}
 use Rattle.core_frames.specs.Machines.{state_of}
 use Rattle.std.specs.Prelude.{nat_eq, bit_and, if◌then◌else◌}
-use Rattle.std.proofs.Common.{◌≡◌, ℕ, suc, pos, ◌+◌, ◌%◌, ◌^◌, ◌<◌, Bool, true, false, nat_lt, List, [], ◌∷◌, ◌++◌, refl, sym, ap, subst, ◌∙◌, arith}
+use Rattle.std.proofs.Common.{◌≡◌, ℕ, suc, pos, ◌+◌, ◌*◌, ◌%◌, ◌^◌, ◌<◌, Bool, true, false, nat_lt, List, [], ◌∷◌, ◌++◌, refl, sym, ap, subst, ◌∙◌, arith}
 use Rattle.std.proofs.lemmas.Nat.{and_mask}
 use Rattle.std.proofs.lemmas.Bool.{lt-ltb, le-ltb}
 use Rattle.cyc_words.specs.Words.{word, sum_of}
@@ -13,20 +13,21 @@ use Rattle.core_meaning.specs.Core.{Binary}
 use Rattle.core_meaning.specs.Steps.{with_temp}
 use Rattle.core_meaning.specs.Words.{two}
 use Rattle.core_frames.specs.Machines.{Machine}
-use Rattle.core_frames.specs.Lies.{Maps, Shows, Points}
+use Rattle.core_frames.specs.Lies.{Maps, Shows, Points, Slot}
 use Rattle.rv32_machine.specs.Step.{truth}
+use Rattle.rv32_machine.specs.State.{word_at}
 use Rattle.core_frames.specs.declared.line.Line.{Line}
 use Rattle.core_frames.specs.declared.line.Line.TheVariants.{Plain}
 use Rattle.core_frames.specs.Lines.{code_length}
 use Rattle.core_frames.specs.Frames.{is_short, lower_of, word_code, load_code, save_code, slot_of}
 use Rattle.core_frames.specs.Selected.{constant_code, binary_code}
-use Rattle.core_frames.proofs.Relations.{Moves, World, IsInOrder, Has, Waiting, At}
+use Rattle.core_frames.proofs.Relations.{Moves, World, IsInOrder, Has, Waiting, At, back_of}
 use Rattle.core_frames.proofs.Moving.{Comes, comes_then, comes_as}
 use Rattle.core_frames.proofs.Words.{short_word}
 use Rattle.core_frames.proofs.Steps.{state_at}
 use Rattle.core_frames.proofs.Slots.{Kept, puts_word}
 use Rattle.core_frames.proofs.Access.{written_out}
-use Rattle.core_frames.proofs.Passing.{has_first, has_second}
+use Rattle.core_frames.proofs.Passing.{has_first, has_second, temp_lies}
 use Rattle.core_frames.proofs.Registers.{AtWith, InRegister, in_turn, knows, at_with, elsewhere, loads_temp, saves_temp, puts}
 use Rattle.core_frames.proofs.Values.{Both, computes}
 
@@ -49,6 +50,14 @@ module _ (w : World) (order : IsInOrder w) (x : Waiting) (outer : List Waiting) 
 
   abbrev pub saving : ℕ → ℕ → List Line
   saving r t = save_code r (slot_of x.fn.passed t)
+
+  -- what a temporary holds is shown by the word in its slot
+  pub temp_shown : (t place : ℕ) (s : Machine) (a : At w x outer mem place s) → t < x.fn.temporaries
+      → Shows a.maps (x.config.temps t) (word_at s.bytes (a.sp + 4 * slot_of x.fn.passed t))
+  temp_shown t place s a named =
+      let slot = slot_of x.fn.passed t in
+      a.stands.fits.shows (Slot 0 slot) (a.sp + 4 * slot) 4 (x.config.temps t)
+      (temp_lies w order x outer mem a.maps (back_of w outer) a.frame a.others a.sp t named a.shows a.stands.stacked)
 
   -- a temporary into a register
   pub loads_into : (r t place : ℕ) → t < x.fn.temporaries → nat_eq 2 (suc r) ≡ false → Has w place (loading (suc r) t)

@@ -1,14 +1,16 @@
 -- How a memory lies when the bytes of so many elements of a layout, and these parts alone, have become others.
-use Rattle.std.proofs.Common.{◌≡◌, ℕ, ◌+◌, ◌-◌, ◌*◌, ◌<◌, ◌≤◌, ◌⊎◌, ⊎_elim, inl, inr, true, Option, Some, List, sym, ap, subst, ◌∙◌, arith}
+use Rattle.std.proofs.Common.{◌≡◌, ℕ, ◌+◌, ◌-◌, ◌*◌, ◌<◌, ◌≤◌, ◌⊎◌, ⊎_elim, inl, inr, true, ◌%◌, ◌∷◌, refl, Option, Some, List, sym, ap, subst, ◌∙◌, arith}
 use Rattle.std.proofs.lemmas.Bool.{cases_lt}
 use Rattle.std.proofs.Math.Nat.{mul-le-mul_right}
 use Rattle.rv32_machine.specs.State.{Areas}
 use Rattle.core_meaning.specs.Memory.{Spot, Content, Part, Layout, Memory, is_live}
 use Rattle.core_meaning.specs.Operations.{are_elements}
 use Rattle.core_meaning.proofs.Wholes.{IsAmong, elements_in}
-use Rattle.core_frames.specs.Machines.{Store}
+use Rattle.core_frames.specs.Machines.{Machine, Store}
 use Rattle.core_frames.specs.Lies.{Maps, Shows, read, Activation, Name, Slot, Cell, PartLies, Lies, Fits, Known}
 use Rattle.core_frames.specs.Layouts.{IsLayout, IsFull}
+use Rattle.core_frames.proofs.Relations.{World, IsInOrder, Waiting, At}
+use Rattle.core_frames.proofs.Steps.{state_at, IsKeptBelow}
 use Rattle.core_frames.proofs.Fitting.{some_same, IsWidth}
 use Rattle.core_frames.proofs.Filling.{Filled, read_filled, read_outside}
 use Rattle.core_frames.proofs.Covering.{IsOther, byte_apart}
@@ -142,3 +144,37 @@ module _ (n : Areas) (m : Maps) (fs : List Activation) (mem : Memory) (bytes : �
     unentered = k.unentered;
     uncalled = k.uncalled;
   }
+
+-- ---- in an activation
+
+module _ (w : World) (order : IsInOrder w) (x : Waiting) (outer : List Waiting) (mem : Memory) (s : Spot) (b : ℕ)
+    (live : is_live (mem.standing s.region) ≡ true) (l : Layout) (count : ℕ) (layout : IsLayout l) (full : IsFull l)
+    (there : are_elements mem s b l count ≡ true) where
+  pub refilled_at : (place place' : ℕ) (q : Machine) (a : At w x outer mem place q) (base : ℕ) → a.maps.base s.region s.object ≡ Some base
+      → (new b' v : ℕ → ℕ) (f : Spot → ℕ → Option Part)
+      → ((u : Spot) (j : ℕ) (p : Part) → f u j ≡ Some p → Stays mem l count s u j p ⊎ Renewed a.maps mem l count s v u j p)
+      → place' % 4 ≡ 0 → new 2 ≡ a.sp → IsKeptBelow w.code b' → ((r : ℕ) → b' r < 256) → Filled q.bytes b' (base + b) (count * l.bytes) v
+      → At w x outer (record mem { parts = f }) place' (state_at place' new b' q.store)
+  refilled_at place place' q a base known new b' v f cases aligned pointer kept small filled =
+      let fs = a.frame ∷ a.others in
+      record {
+        maps = a.maps;
+        frame = a.frame;
+        others = a.others;
+        sp = a.sp;
+        stands = record {
+          runs = refl;
+          there = refl;
+          aligned = aligned;
+          pointer = pointer;
+          small = small;
+          kept = kept;
+          stacked = a.stands.stacked;
+          fits = refilled w.areas a.maps fs mem q.bytes q.store a.stands.fits s b base known live l count layout full there b' v filled f cases;
+          known = still_known w.areas a.maps fs mem q.bytes q.store a.stands.fits s b base known live l count layout full there b' v filled f cases
+              a.stands.known;
+          data_based = a.stands.data_based;
+        };
+        shows = a.shows;
+        stack = a.stack;
+      }

@@ -63,7 +63,7 @@ module _ (w : World) (order : IsInOrder w) (x : Waiting) (outer : List Waiting) 
   pub at_with : (place : ℕ) (s : Machine) → At w x outer mem place s → AtWith w x outer mem place (λ m registers. Unit {0}) s
   at_with place s a = record { maps = a.maps; frame = a.frame; others = a.others; sp = a.sp; stands = a.stands; shows = a.shows; stack = a.stack; holds = tt }
 
-  pub at_of : (place : ℕ) (P : Maps → (ℕ → ℕ) → Type 0) (s : Machine) → AtWith w x outer mem place P s → At w x outer mem place s
+  abbrev pub at_of : (place : ℕ) (P : Maps → (ℕ → ℕ) → Type 0) (s : Machine) → AtWith w x outer mem place P s → At w x outer mem place s
   at_of place P s a = record { maps = a.maps; frame = a.frame; others = a.others; sp = a.sp; stands = a.stands; shows = a.shows; stack = a.stack }
 
   -- elsewhere with other registers, and the same bytes

@@ -49,7 +49,7 @@ use Rattle.core_meaning.specs.Core.{
   Datum,
   Program,
 }
-use Rattle.core_frames.specs.Layouts.{IsLayout}
+use Rattle.core_frames.specs.Layouts.{IsLayout, IsFull, IsZero}
 
 -- ---- layouts
 
@@ -97,8 +97,8 @@ HasCode u (Get t out local width) = (t < u.temporaries) × IsLocal u.blocks out 
 HasCode u (Put out local width x) = (x < u.temporaries) × IsLocal u.blocks out local
 HasCode u (Load t p d) = (t < u.temporaries) × (p < u.temporaries)
 HasCode u (Store p d x) = (p < u.temporaries) × (x < u.temporaries)
-HasCode u (Copy to from layout) = ⊥
-HasCode u (Clear p layout count) = ⊥
+HasCode u (Copy to from layout) = (to < u.temporaries) × (from < u.temporaries) × IsLayout layout × IsFull layout
+HasCode u (Clear p layout count) = (p < u.temporaries) × IsLayout layout × IsFull layout × IsZero layout
 HasCode u (IsNull t p) = (t < u.temporaries) × (p < u.temporaries)
 HasCode u (SamePlace t p q) = (t < u.temporaries) × (p < u.temporaries) × (q < u.temporaries)
 HasCode u (Getchar t) = t < u.temporaries

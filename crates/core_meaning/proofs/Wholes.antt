@@ -180,7 +180,8 @@ copied_cases l to from m u j p e = by_part (m.parts u j) refl e
           now = subst (λ c. content_from old (m.parts (beyond from c) j) ≡ Some p) cell e;
         })
 
-    by_part : (old : Option Part) → m.parts u j ≡ old → copied_part old ≡ Some p → ((m.parts u j ≡ Some p) × (IsAmong l 1 to u j → ⊥)) ⊎ IsCopy l to from m u j p
+    by_part : (old : Option Part) → m.parts u j ≡ old → copied_part old ≡ Some p
+        → ((m.parts u j ≡ Some p) × (IsAmong l 1 to u j → ⊥)) ⊎ IsCopy l to from m u j p
     by_part None was e = absurd (cc e)
     by_part (Some old) was e =
         by_shape old was (cells_on (length l.cells) to u) refl (part_of l (cells_on (length l.cells) to u) j) refl e

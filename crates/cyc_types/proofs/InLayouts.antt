@@ -70,7 +70,7 @@ added what acc e tag here there true h new own others =
     own ∙ sym (ap what (subst (λ x. found (acc ++ e ∷ []) x ≡ Some e.1) same (found_here acc [] e.0 e.1 new)))
 added what acc e tag here there false h new own others = others ∙ ap what (elsewhere acc e tag (same_bytes tag e.0.now ∙ h))
 
-kept : (acc after : List Entry) (tag : List ℕ) (k : Known) → found acc tag ≡ Some k → found (acc ++ after) tag ≡ Some k
+pub kept : (acc after : List Entry) (tag : List ℕ) (k : Known) → found acc tag ≡ Some k → found (acc ++ after) tag ≡ Some k
 kept [] after tag k h = absurd (true≢false (ap is_none h))
 kept (a ∷ others) after tag k h = by (bytes_eq tag a.0.now) h (kept others after tag k)
   where

@@ -46,6 +46,10 @@ parts_known es x k h = ap parts_of_tag (tag_found es x ∙ ap (option_map (λ k.
 no_parts : (es : List Entry) (x : List ℕ) → found es x ≡ None → parts_in (entries_of es) x ≡ []
 no_parts es x h = ap parts_of_tag (tag_found es x ∙ ap (option_map (λ k. tag_of x k.tag)) h)
 
+pub is_nothing : (k : Option Known) → is_none k ≡ true → k ≡ None
+is_nothing None h = refl
+is_nothing (Some k) h = absurd (true≢false (sym h))
+
 -- ---- where a tag stands
 
 pub record Split (es : List Entry) (x : List ℕ) (k : Known) : Type 0 where

@@ -3,10 +3,14 @@ mod InCells
 mod InLayouts
 mod InOrder
 pub mod KindsUnder
+mod Laid
 mod Lengths
 mod Measured
 mod MemberSteps
-mod NearCells
+mod NextMember
 pub mod Outermost
 mod PlacedCells
+mod Spread
+mod StillMeasured
+mod StructCells
 mod Pointers

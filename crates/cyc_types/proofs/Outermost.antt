@@ -2,7 +2,7 @@
 use Rattle.std.proofs.Common.{◌≡◌, ℕ, ◌+◌, map, Bool, true, List, [], ◌∷◌, length, refl, sym, ap, ◌∙◌, arith, ◌-◌}
 use Rattle.std.specs.Prelude.{None, Option, Some, slice_get}
 use Rattle.source_typing.specs.Types.{StaticType}
-use Rattle.cyc_types.specs.Cells.{moved_by, quick_cells, scalar_at}
+use Rattle.cyc_types.specs.Cells.{KindAt, moved_by, quick_cells, scalar_at}
 use Rattle.cyc_types.specs.Known.{Entry, is_declared, quick_begins, quick_copies}
 use Rattle.cyc_types.specs.Measures.{layer_extent, quick_measure, scalar_bytes}
 use Rattle.cyc_types.specs.Layers.{last_or, layer_begins, layer_copies, outermost, pointed, pointer_to}
@@ -99,19 +99,19 @@ pub pointer_kind : (ls : List Layer) (t : StaticType) (l : Layer) → outermost 
 unfolding outer_or
 pointer_kind ls t l e = with_outer only_kind (λ l. Some (layer_kind l)) of_kind ls t (Some l) e
 
-of_cells : (es : List Entry) (l : Layer) (t : StaticType) → quick_cells es (pointer_to l t) ≡ scalar_at 0 (layer_kind l) ∷ []
-of_cells es (code.Thin n r) t = refl
-of_cells es (code.Fat r) t = refl
-of_cells es (code.Unique n) t = refl
+of_cells : (of : List ℕ → List KindAt) (l : Layer) (t : StaticType) → quick_cells of (pointer_to l t) ≡ scalar_at 0 (layer_kind l) ∷ []
+of_cells of (code.Thin n r) t = refl
+of_cells of (code.Fat r) t = refl
+of_cells of (code.Unique n) t = refl
 
 -- a pointer is one cell
-pub pointer_cells : (es : List Entry) (ls : List Layer) (t : StaticType) (l : Layer) (at : ℕ) → outermost ls ≡ Some l
-    → scalar_at at (layer_kind l) ∷ [] ≡ map (moved_by at) (quick_cells es (pointed t ls))
+pub pointer_cells : (of : List ℕ → List KindAt) (ls : List Layer) (t : StaticType) (l : Layer) (at : ℕ) → outermost ls ≡ Some l
+    → scalar_at at (layer_kind l) ∷ [] ≡ map (moved_by at) (quick_cells of (pointed t ls))
 unfolding outer_or
-pointer_cells es ls t l at e =
+pointer_cells of ls t l at e =
     let here : at ≡ at + 0 = omega arith in
     ap (λ n. scalar_at n (layer_kind l) ∷ []) here
-    ∙ sym (ap (map (moved_by at)) (with_outer (quick_cells es) (λ l. scalar_at 0 (layer_kind l) ∷ []) (of_cells es) ls t (Some l) e))
+    ∙ sym (ap (map (moved_by at)) (with_outer (quick_cells of) (λ l. scalar_at 0 (layer_kind l) ∷ []) (of_cells of) ls t (Some l) e))
 
 always : Layer → Bool
 always l = true

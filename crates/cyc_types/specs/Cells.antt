@@ -1,18 +1,16 @@
 -- Where the cells of types lie, by what is known of structs once they are declared.
-use Rattle.std.specs.Prelude.{List, None, Option, Some, false, map, true, ℕ, ◌+◌, ◌≤◌, if◌then◌else◌, [], ◌∷◌, ◌++◌}
-use Rattle.std.specs.List.{All}
+use Rattle.std.specs.Prelude.{List, None, Option, Some, bytes_eq, false, map, true, ℕ, ◌+◌, if◌then◌else◌, [], ◌∷◌, ◌++◌}
 use Rattle.source_meaning.specs.Placing.{Placed, placed_by, struct_placed}
 use Rattle.source_meaning.specs.Sizes.{Extent, rounded_up}
-use Rattle.source_typing.specs.Extents.{layouts_of, most_bytes}
+use Rattle.source_typing.specs.Extents.{layouts_of}
 use Rattle.source_typing.specs.Tables.{Part}
 use Rattle.source_typing.specs.Types.{StaticType, Struct, shape_of}
-use Rattle.cyc_types.specs.Known.{Entry, found}
-use Rattle.cyc_types.specs.Measures.{bytes_and, part_extent, placed_after, quick_measure, quick_tag}
+use Rattle.cyc_types.specs.Known.{Entry}
+use Rattle.cyc_types.specs.Measures.{bytes_and, part_extent, placed_after, quick_measure, stored}
 use Rattle.cyc_types.specs.Scalars.{Kind, kind_in, kind_of, only_kind}
 use Rattle.cyc_types.specs.Tags.{members_of}
 use Rattle.cyc_types.specs.declared.cell.Cell.{Cell}
 use Rattle.cyc_types.specs.declared.tag.Known.{Known}
-use Rattle.cyc_types.specs.declared.tag.Tag.{Tag}
 use Rattle.source_typing.specs.Tables as rules
 
 -- a cell by the kind of its shape, so many bytes from the first
@@ -40,26 +38,14 @@ cell_of c = scalar_at c.offset (kind_of c.scalar)
 abbrev pub cells_of : List Cell → List KindAt
 cells_of cs = map cell_of cs
 
--- none begins behind the most bytes of a type
-abbrev pub AreNear : List Cell → Type 0
-AreNear cs = All (λ (c : Cell). c.offset ≤ most_bytes) cs
-
--- ---- what is stored
-
-abbrev pub stored_cells : Known → List KindAt
-stored_cells k = cells_of k.cells.items
-
-abbrev pub cells_if : Option Known → List KindAt
-cells_if None = []
-cells_if (Some k) = stored_cells k
-
 abbrev pub scalar_cells : Option Kind → List KindAt
 scalar_cells None = []
 scalar_cells (Some k) = scalar_at 0 k ∷ []
 
-abbrev pub quick_cells : List Entry → StaticType → List KindAt
-quick_cells es (Struct tag rs) = cells_if (found es tag)
-quick_cells es t = scalar_cells (only_kind t)
+-- here the cells of a struct are given
+abbrev pub quick_cells : (List ℕ → List KindAt) → StaticType → List KindAt
+quick_cells of (Struct tag rs) = of tag
+quick_cells of t = scalar_cells (only_kind t)
 
 -- a member of no known type has none
 abbrev pub part_cells : (StaticType → List KindAt) → Option StaticType → List KindAt
@@ -77,17 +63,36 @@ placed_onto of cells (Some s) [] = []
 placed_onto of cells (Some s) (p ∷ ps) =
     cells_after s (part_extent of p.type) (part_cells cells p.type) ++ placed_onto of cells (placed_after s (part_extent of p.type)) ps
 
-abbrev pub struct_cells : List Entry → List Part → List KindAt
-struct_cells es ps = placed_onto (quick_measure es) (quick_cells es) (Some (bytes_and 0 1)) ps
+-- where the bytes of structs are known
+abbrev pub struct_cells : List Entry → (List ℕ → List KindAt) → List Part → List KindAt
+struct_cells es of ps = placed_onto (quick_measure es) (quick_cells of) (Some (bytes_and 0 1)) ps
 
 -- none where the bytes are too many
 abbrev pub kept_with : Option Extent → List KindAt → List KindAt
 kept_with None cs = []
 kept_with (Some e) cs = cs
 
-abbrev pub tag_cells : List Entry → Option Extent → Tag → List KindAt
-tag_cells es e t = (if t.is_union then [] else kept_with e (struct_cells es (members_of t.members.items)))
+-- the cells of a struct; a union has none of its own
+abbrev pub known_cells : List Entry → (List ℕ → List KindAt) → Known → List KindAt
+known_cells es of k = (if k.tag.is_union then [] else kept_with (stored k) (struct_cells es of (members_of k.tag.members.items)))
 
--- the cells of a struct with members that are declared; a union has none of its own
-abbrev pub quick_tag_cells : List Entry → Tag → List KindAt
-quick_tag_cells es t = tag_cells es (quick_tag es t) t
+-- ---- struct by struct
+
+-- what is found of one more struct or union
+abbrev pub with_tag : {A : Type 0} → List ℕ → A → (List ℕ → A) → List ℕ → A
+with_tag name own others tag = (if bytes_eq tag name then own else others tag)
+
+-- what is found of each by what is found of those before it
+abbrev pub spread : {A : Type 0} → ((List ℕ → A) → Known → A) → (List ℕ → A) → List Entry → List ℕ → A
+spread of so_far [] = so_far
+spread of so_far (e ∷ es) = spread of (with_tag e.0.now (of so_far e.1) so_far) es
+
+-- what isn't declared has no cells
+abbrev pub no_cells_of : List ℕ → List KindAt
+no_cells_of tag = []
+
+abbrev pub found_cells : List Entry → List ℕ → List KindAt
+found_cells es = spread (known_cells es) no_cells_of es
+
+abbrev pub cells_found : List Entry → StaticType → List KindAt
+cells_found es t = quick_cells (found_cells es) t

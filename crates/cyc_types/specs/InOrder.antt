@@ -1,8 +1,7 @@
 -- Structs and unions in the order of their declarations, with what is known of each.
-use Rattle.std.specs.Prelude.{Bool, List, is_none, true, ℕ, ◌&&◌, ◌≡◌, [], ◌∷◌, ◌++◌}
+use Rattle.std.specs.Prelude.{Bool, List, is_none, true, ℕ, ◌&&◌, [], ◌∷◌, ◌++◌}
 use Rattle.source_typing.specs.Tables.{each_part}
 use Rattle.source_typing.specs.Types.{same_bool}
-use Rattle.cyc_types.specs.Cells.{quick_tag_cells, stored_cells}
 use Rattle.cyc_types.specs.Known.{Entry, found, is_declared, quick_begins, quick_copies}
 use Rattle.cyc_types.specs.Measures.{quick_tag, same_measure, stored}
 use Rattle.cyc_types.specs.Tags.{members_of}
@@ -20,8 +19,3 @@ is_known before x k =
 abbrev pub are_known : List Entry → List Entry → Bool
 are_known before [] = true
 are_known before (e ∷ es) = is_known before e.0.now e.1 && are_known (before ++ e ∷ []) es
-
--- the cells that are stored are those of the members
-abbrev pub are_placed : List Entry → List Entry → Type 0
-are_placed before [] = Unit {0}
-are_placed before (e ∷ es) = (stored_cells e.1 ≡ quick_tag_cells before e.1.tag) × are_placed (before ++ e ∷ []) es

@@ -3,10 +3,10 @@ pub mod Cells
 pub mod Conversions
 pub mod InOrder
 pub mod Known
+pub mod Laying
 pub mod Layers
 pub mod Likeness
 pub mod Measures
-pub mod Placings
 pub mod Regions
 pub mod Scalars
 pub mod Tables

@@ -1,7 +1,7 @@
 // Cells of a type, one by one.
 
-ghost use Rattle.std.specs.Prelude.{◌≡◌, ◌≤◌, ◌++◌, ◌∷◌, [], OnOk, map};
-ghost use Rattle.cyc_types.specs.Cells.{AreNear, cell_of, cells_of, moved_by, scalar_at};
+ghost use Rattle.std.specs.Prelude.{◌≡◌, ◌++◌, ◌∷◌, [], OnOk};
+ghost use Rattle.cyc_types.specs.Cells.{cells_of, scalar_at};
 ghost use Rattle.cyc_types.specs.Scalars.{kind_of};
 
 use crate::extent::Extent;
@@ -23,18 +23,6 @@ pub struct Layout<'p> {
     pub extent: Extent,
 }
 
-/// A cell so many bytes further.
-fn moved<'p>(cell: Cell<'p>, by: u32) -> Cell<'p>
-    requires own { cell.offset ≤ 4096 }
-    requires start { by ≤ 4096 }
-    ensures { cell_of result ≡ moved_by by (cell_of cell.entry) }
-{
-    Cell {
-        offset: by + cell.offset,
-        scalar: cell.scalar,
-    }
-}
-
 /// Appends a scalar's cell, so many bytes from the first.
 pub(crate) fn push_scalar<'p>(
     cells: &mut Vec<Cell<'p>>,
@@ -44,21 +32,5 @@ pub(crate) fn push_scalar<'p>(
     ensures { OnOk result (cells_of cells.new.items ≡ cells_of cells.old.items ++ scalar_at offset (kind_of scalar.entry) ∷ []) }
 {
     cells.push(Cell { offset, scalar })?;
-    Ok(())
-}
-
-/// Appends cells, each so many bytes further.
-pub(crate) fn push_moved<'p>(
-    cells: &mut Vec<Cell<'p>>,
-    by: u32,
-    more: &[Cell<'p>],
-) -> Result<(), AllocError>
-    requires near { AreNear more.now }
-    requires start { by ≤ 4096 }
-    ensures { OnOk result (cells_of cells.new.items ≡ cells_of cells.old.items ++ map (moved_by by) (cells_of more.now)) }
-{
-    'each: for cell in more {
-        cells.push(moved(*cell, by))?;
-    }
     Ok(())
 }

@@ -1,142 +1,177 @@
 // Where the cells of types lie.
 
-ghost use Rattle.std.specs.Prelude.{◌≡◌, ◌++◌, ◌<◌, ◌≤◌, ◌↔◌, Err, IfOk, OnOk, map};
+ghost use Rattle.std.specs.Prelude.{◌≡◌, ◌++◌, ◌∷◌, ◌-◌, ◌<◌, ◌↔◌, [], Err, IfNone, IfOk, IfSome, OnOk, map};
 ghost use Rattle.source_typing.specs.Extents.{most_bytes};
 ghost use Rattle.cyc_types.specs.Bases.{base_type};
-ghost use Rattle.cyc_types.specs.Cells.{cells_if, cells_in, cells_of, moved_by, part_cells, quick_cells, struct_cells, tag_cells};
+ghost use Rattle.cyc_types.specs.Cells.{cells_found, cells_in, cells_of, found_cells, moved_by, part_cells};
 ghost use Rattle.cyc_types.specs.Known.{found};
-ghost use Rattle.cyc_types.specs.Measures.{extent_in, extent_of, measured};
+ghost use Rattle.cyc_types.specs.Laying.{AreWithin, EndsIn, Goes, IsWithin, found_steps, part_steps, type_steps, waiting_cells, all_steps, waiting_parts};
+ghost use Rattle.cyc_types.specs.Measures.{extent_in, extent_of, part_extent, quick_measure, stored, struct_if};
 ghost use Rattle.cyc_types.specs.Tables.{tables_of};
-ghost use Rattle.cyc_types.specs.Tags.{member_of, members_of};
+ghost use Rattle.cyc_types.specs.Tags.{member_of};
 ghost use Rattle.cyc_types.specs.Types.{static_type};
 
 use crate::base::BaseType;
-use crate::cell::{Cell, Layout, push_moved, push_scalar};
+use crate::cell::{Cell, Layout, push_scalar};
 use crate::ctype::CType;
 use crate::extent::Extent;
 use crate::fault::SizeFault;
 use crate::scalar::{of_base, of_layer};
 use crate::tables::Tables;
-use crate::tag::{Member, Tag};
+use crate::tag::Member;
 use std::alloc::{AllocError, Global};
 
+/// The members of a struct whose cells are still to come.
+#[derive(Drop)]
+pub(crate) struct Waiting<'t, 'p> {
+    /// Where the struct begins.
+    at: u32,
+    /// The bytes of the members before these.
+    so_far: Extent,
+    members: &'t [Member<'p>],
+}
+
+/// The cells of a type as far as they are found, and what is still to come, the next one last.
+#[derive(Drop)]
+pub(crate) struct Laying<'t, 'p> {
+    cells: Vec<Cell<'p>>,
+    waiting: Vec<Waiting<'t, 'p>>,
+}
+
+/// What comes next, which is taken off.
+fn take_next<'t, 'p>(waiting: &mut Vec<Waiting<'t, 'p>>) -> Option<Waiting<'t, 'p>>
+    ensures some { IfSome result (λ next. waiting.old.items ≡ waiting.new.items ++ next ∷ []) }
+    ensures none { IfNone result (waiting.old.items ≡ []) }
+{
+    waiting.pop()
+}
+
 impl<'p> Tables<'p> {
-    /// Appends the cells of a struct by its tag; there are none of what isn't declared.
-    fn push_struct(&self, cells: &mut Vec<Cell<'p>>, at: u32, tag: &[u8]) -> Result<(), AllocError>
-        requires { at ≤ 4096 }
-        ensures { OnOk result (cells_of cells.new.items ≡ cells_of cells.old.items ++ map (moved_by at) (cells_if (found self.now.tags.entries tag.now))) }
+    /// Goes into a struct by its tag, so many bytes from the type's first; what isn't declared has no cells.
+    fn lay_struct<'t>(
+        &'t self,
+        laying: &mut Laying<'t, 'p>,
+        at: u32,
+        tag: &[u8],
+    ) -> Result<(), AllocError>
+        requires { EndsIn at (struct_if stored (found self.now.tags.entries tag.now)) }
+        ensures { OnOk result (Goes self.now.tags.entries (map (moved_by at) (found_cells self.now.tags.entries tag.now))
+            (found_steps self.now.tags.entries tag.now) laying.old laying.new) }
     {
         match self.known(tag) {
-            Some(known) => push_moved(cells, at, &known.cells)?,
+            Some(known) => {
+                if !known.tag.is_union {
+                    laying.waiting.push(Waiting {
+                        at,
+                        so_far: Extent::none(),
+                        members: &known.tag.members,
+                    })?;
+                }
+            }
             None => {}
         }
         Ok(())
     }
 
-    /// Appends the cells of what is no pointer, from so many bytes on.
-    fn push_base(
-        &self,
-        cells: &mut Vec<Cell<'p>>,
+    /// Lays what is no pointer.
+    fn lay_base<'t>(
+        &'t self,
+        laying: &mut Laying<'t, 'p>,
         at: u32,
         base: &BaseType<'p>,
     ) -> Result<(), AllocError>
-        requires { at ≤ 4096 }
-        ensures { OnOk result
-            (cells_of cells.new.items ≡ cells_of cells.old.items ++ map (moved_by at) (quick_cells self.now.tags.entries (base_type base.now))) }
+        requires { EndsIn at (quick_measure self.now.tags.entries (base_type base.now)) }
+        ensures { OnOk result (Goes self.now.tags.entries (map (moved_by at) (cells_found self.now.tags.entries (base_type base.now)))
+            (type_steps (found_steps self.now.tags.entries) (base_type base.now)) laying.old laying.new) }
     {
         match base {
-            BaseType::Struct(tag, _) => self.push_struct(cells, at, *tag)?,
+            BaseType::Struct(tag, _) => self.lay_struct(laying, at, *tag)?,
             _ => match of_base(base) {
-                Some(scalar) => push_scalar(cells, at, scalar)?,
+                Some(scalar) => push_scalar(&mut laying.cells, at, scalar)?,
                 None => {}
             },
         }
         Ok(())
     }
 
-    /// Appends the cells of a type, from so many bytes on.
-    fn push_type(
-        &self,
-        cells: &mut Vec<Cell<'p>>,
+    /// Lays a type, so many bytes from the first.
+    fn lay<'t>(
+        &'t self,
+        laying: &mut Laying<'t, 'p>,
         at: u32,
         of: &CType<'p>,
     ) -> Result<(), AllocError>
-        requires { at ≤ 4096 }
-        ensures { OnOk result
-            (cells_of cells.new.items ≡ cells_of cells.old.items ++ map (moved_by at) (quick_cells self.now.tags.entries (static_type of.now))) }
+        requires { EndsIn at (quick_measure self.now.tags.entries (static_type of.now)) }
+        ensures { OnOk result (Goes self.now.tags.entries (map (moved_by at) (cells_found self.now.tags.entries (static_type of.now)))
+            (type_steps (found_steps self.now.tags.entries) (static_type of.now)) laying.old laying.new) }
     {
         match of.outer() {
-            Some(pointer) => push_scalar(cells, at, of_layer(pointer))?,
-            None => self.push_base(cells, at, &of.base)?,
+            Some(pointer) => push_scalar(&mut laying.cells, at, of_layer(pointer))?,
+            None => self.lay_base(laying, at, &of.base)?,
         }
         Ok(())
     }
 
-    /// Appends the cells of a member, from so many bytes on; one of no known type has none.
-    fn push_member(
-        &self,
-        cells: &mut Vec<Cell<'p>>,
+    /// Lays a member; one of no known type has no cells.
+    fn lay_member<'t>(
+        &'t self,
+        laying: &mut Laying<'t, 'p>,
         at: u32,
         member: &Member<'p>,
     ) -> Result<(), AllocError>
-        requires { at ≤ 4096 }
-        ensures { OnOk result (cells_of cells.new.items
-            ≡ cells_of cells.old.items ++ map (moved_by at) (part_cells (quick_cells self.now.tags.entries) (member_of member.now).type)) }
+        requires { EndsIn at (part_extent (quick_measure self.now.tags.entries) (member_of member.now).type) }
+        ensures { OnOk result (Goes self.now.tags.entries (map (moved_by at) (part_cells (cells_found self.now.tags.entries) (member_of member.now).type))
+            (part_steps (found_steps self.now.tags.entries) (member_of member.now).type) laying.old laying.new) }
     {
         match &member.of {
-            Some(of) => self.push_type(cells, at, of)?,
+            Some(of) => self.lay(laying, at, of)?,
             None => {}
         }
         Ok(())
     }
 
-    /// The cells of a struct, as far as its bytes aren't too many.
-    fn struct_cells(
-        &self,
-        alloc: Global,
-        members: &[Member<'p>],
-    ) -> Result<Vec<Cell<'p>>, AllocError>
-        ensures { IfOk result (λ cells. cells_of cells.items ≡ struct_cells self.now.tags.entries (members_of members.now)) }
+    /// Lays the first of some members, and leaves the others for later.
+    fn lay_next<'t>(
+        &'t self,
+        laying: &mut Laying<'t, 'p>,
+        next: Waiting<'t, 'p>,
+    ) -> Result<(), AllocError>
+        requires { IsWithin self.now.tags.entries next }
+        ensures { OnOk result (Goes self.now.tags.entries (waiting_cells self.now.tags.entries next.entry)
+            (all_steps (found_steps self.now.tags.entries) (waiting_parts next.entry) - 1) laying.old laying.new) }
     {
-        let mut cells = Vec::new(alloc);
-        let mut so_far = Extent::none();
-        'each: for member in members {
-            let Some(next) = self.member_extent(member) else {
-                return Ok(cells);
-            };
-            self.push_member(&mut cells, so_far.start_of(next), member)?;
-            let Some(further) = so_far.then(next) else {
-                return Ok(cells);
-            };
-            so_far = further;
-        }
-        Ok(cells)
+        let Some((member, others)) = next.members.split_first() else {
+            return Ok(());
+        };
+        let Some(extent) = self.member_extent(member) else {
+            return Ok(());
+        };
+        let start = next.so_far.start_of(extent);
+        let Some(so_far) = next.so_far.then(extent) else {
+            return Ok(());
+        };
+        laying.waiting.push(Waiting {
+            at: next.at,
+            so_far,
+            members: others,
+        })?;
+        self.lay_member(laying, next.at + start, member)
     }
 
-    /// The cells of a struct whose members are declared, where its bytes aren't too many. A union has none of its own.
-    pub(crate) fn tag_cells(
-        &self,
-        tag: &Tag<'p>,
-        extent: Option<Extent>,
-    ) -> Result<Vec<Cell<'p>>, AllocError>
-        ensures { IfOk result (λ cells. cells_of cells.items ≡ tag_cells self.now.tags.entries (measured extent) tag.now) }
-    {
-        let alloc = *tag.members.allocator();
-        if tag.is_union || extent.is_none() {
-            return Ok(Vec::new(alloc));
-        }
-        let cells = self.struct_cells(alloc, &tag.members)?;
-        Ok(cells)
-    }
-
-    /// The cells of a type.
-    #[tactic(auto, using(crate::proofs::PlacedCells::map_here))]
+    /// The cells of a type whose bytes aren't too many.
     fn cells(&self, alloc: Global, of: &CType<'p>) -> Result<Vec<Cell<'p>>, AllocError>
-        ensures { IfOk result (λ cells. cells_of cells.items ≡ quick_cells self.now.tags.entries (static_type of.now)) }
+        requires { EndsIn 0 (quick_measure self.now.tags.entries (static_type of.now)) }
+        ensures { IfOk result (λ cells. cells_of cells.items ≡ cells_found self.now.tags.entries (static_type of.now)) }
     {
-        let mut cells = Vec::new(alloc);
-        self.push_type(&mut cells, 0, of)?;
-        Ok(cells)
+        let mut laying = Laying {
+            cells: Vec::new(alloc),
+            waiting: Vec::new(alloc),
+        };
+        self.lay(&mut laying, 0, of)?;
+        'each: while let Some(next) = take_next(&mut laying.waiting) {
+            self.lay_next(&mut laying, next)?;
+        }
+        Ok(laying.cells)
     }
 }
 

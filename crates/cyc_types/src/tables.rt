@@ -1,8 +1,7 @@
 // The structs and unions of a program.
 
 ghost use Rattle.std.specs.Prelude.{◌≡◌, ℕ, true, [], List};
-ghost use Rattle.cyc_types.specs.InOrder.{are_known, are_placed};
-ghost use Rattle.cyc_types.specs.Placings.{are_placed-prop};
+ghost use Rattle.cyc_types.specs.InOrder.{are_known};
 
 use crate::base::BaseType;
 use crate::ctype::CType;
@@ -17,7 +16,6 @@ use std::alloc::Global;
 pub struct Tables<'p> {
     tags: IndexMap<&'p [u8], Known<'p>>,
     ghost known: { are_known [] tags.entries ≡ true },
-    ghost placed: { are_placed [] tags.entries } by { are_placed-prop [] tags.entries },
 }
 
 impl<'p> Tables<'p> {
@@ -211,7 +209,6 @@ impl<'p> Tables<'p> {
         let copyable = self.all_copied(&tag.members);
         let begins = self.all_begin(&tag.members);
         let extent = self.tag_extent(&tag);
-        let cells = self.tag_cells(&tag, extent)?;
         self.tags.insert(
             name,
             Known {
@@ -219,7 +216,6 @@ impl<'p> Tables<'p> {
                 copyable,
                 begins,
                 extent,
-                cells,
             },
         )?;
         Ok(())

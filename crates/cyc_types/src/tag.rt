@@ -1,6 +1,5 @@
 // Structs and unions.
 
-use crate::cell::Cell;
 use crate::ctype::CType;
 use crate::extent::Extent;
 
@@ -34,6 +33,4 @@ pub struct Known<'p> {
     pub begins: bool,
     /// Its bytes. None: too many.
     pub extent: Option<Extent>,
-    /// A struct's cells, where its bytes aren't too many. A union has none of its own.
-    pub cells: Vec<Cell<'p>>,
 }

@@ -3,11 +3,9 @@ use Rattle.indexmap.proofs.CallerLemmas.{insert_entry-new}
 use Rattle.std.specs.Str.{bytes_eq}
 use Rattle.std.specs.List.{list_all}
 use Rattle.source_typing.specs.Tables.{if_known}
-use Rattle.cyc_types.specs.Cells.{tag_cells}
 use Rattle.cyc_types.specs.Known.{entries_of, quick_begins, quick_copies}
 use Rattle.cyc_types.specs.Tags.{member_of}
 use Rattle.cyc_types.specs.declared.tag.Known.{Known}
-use Rattle.cyc_types.proofs.InCells.{placed_either, placed_more}
 use Rattle.cyc_types.proofs.InOrder.{each_member, entries_more, known_either, known_more, none_found, ok_then}
 use Rattle.cyc_types.proofs.tables.Tables.add_known.Goals as goal
 
@@ -21,7 +19,6 @@ invariant_of-self c =
       copyable = c.all_copied-copyable.result;
       begins = c.all_begin-begins.result;
       extent = c.tag_extent-extent.result;
-      cells = c.in_ok-cells.cells;
     } in
     let appended = insert_entry-new (λ x y. bytes_eq x.now y.now) old at k (none_found old.entries at.now c.requires.new) in
     record {
@@ -32,10 +29,6 @@ invariant_of-self c =
           ∙ each_member (quick_copies old.entries) c.args.tag.members.items)
           (c.all_begin-begins.ensures ∙ ap (list_all (λ m. if_known (quick_begins old.entries) (member_of m).type)) c.deref-2.ensures.value
           ∙ each_member (quick_begins old.entries) c.args.tag.members.items) c.tag_extent-extent.ensures);
-      placed = placed_either c.insert.result old.entries c.insert.new.self.entries (at, k)
-          (ok_then c.insert.result _ _ c.insert.ensures.entries (λ e. e ∙ appended)) c.insert.ensures.err c.args.self.now.placed
-          (placed_more old.entries (at, k) c.args.self.now.placed
-          (c.in_ok-cells.ensures ∙ ap (λ o. tag_cells old.entries o c.args.tag) c.tag_extent-extent.ensures));
     }
 
 pub returns-clause-added : goal.returns-clause-added
@@ -48,7 +41,6 @@ returns-clause-added c =
       copyable = c.all_copied-copyable.result;
       begins = c.all_begin-begins.result;
       extent = c.tag_extent-extent.result;
-      cells = c.in_ok-cells.cells;
     } in
     let appended = insert_entry-new (λ x y. bytes_eq x.now y.now) old at k (none_found old.entries at.now c.requires.new) in
     ap entries_of (c.in_ok-insert.ensures.entries ∙ appended) ∙ entries_more old.entries (at, k)

@@ -70,6 +70,7 @@ module _ (w : World) (order : IsInOrder w) (mem : Memory) (place : ℕ) (m : Map
     stacked = stands.stacked;
     fits = stands.fits;
     known = stands.known;
+    agrees = stands.agrees;
     data_based = stands.data_based;
   }
 
@@ -149,6 +150,7 @@ module _ (w : World) (order : IsInOrder w) (mem : Memory) (place : ℕ) (m : Map
               stands.fits (record { within = within; there = refl; wide = refl; value = refl }) (slot_change w.areas m a fs mem k v)
               (subst (λ q. Writes s.bytes (set_word at x s.bytes) q 4 x) (sym here) writes) shows;
           known = stands.known;
+          agrees = stands.agrees;
           data_based = stands.data_based;
         };
         kept = p.kept;

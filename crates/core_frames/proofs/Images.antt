@@ -51,6 +51,7 @@ begins_as m places lines ds first plain statics labels has =
       pointer = first.pointer;
       small = first.small;
       unheld = first.unheld;
+      has_pages = refl;
       code_within = first.code_within;
       statics_within = first.statics_within;
       stack_whole = first.stack_whole;

@@ -181,6 +181,7 @@ module _ (p : Program) (names : ℕ → List ℕ) (bound : List ℕ → ℕ) (n 
     kept = λ q less. refl;
     fresh = refl;
     no_numbers = begins.unheld;
+    has_pages = begins.has_pages;
     stub = first_lines n s.bytes places 0 stub behind_stub begins.has;
     shows_data = begins.shows_data;
   }

@@ -50,7 +50,7 @@ use Rattle.core_meaning.specs.Steps.{Step}
 use Rattle.core_frames.specs.declared.line.Line.TheVariants.{Plain, CallTo}
 use Rattle.core_frames.specs.Lines.{offset_to}
 use Rattle.core_frames.specs.Machines.{Machine, Store, state_of}
-use Rattle.core_frames.specs.Lies.{Shows, read, Name, Slot, Cell, same_name, PartLies, Lies, Apart, CellGround, Ground, Fits, Known, stack_end}
+use Rattle.core_frames.specs.Lies.{Shows, read, Name, Slot, Cell, same_name, PartLies, Lies, Apart, Among, CellGround, Ground, Fits, Known, Agrees, stack_end}
 use Rattle.core_frames.specs.Selected.{datum_locals}
 use Rattle.core_frames.specs.Running.{named, core_run, in_data, first_base, first_maps, ShowsData}
 use Rattle.core_frames.proofs.Relations.{Moves, Has, World, IsInOrder, Goes, Calling, Back, invoke}
@@ -74,6 +74,7 @@ pub record IsStart (w : World) (main : ℕ) (ds : List Datum) (offsets : List �
   pub kept : (q : ℕ) → q < data_base → s.bytes q ≡ w.code q
   pub fresh : s.store.ledger ≡ unborn
   pub no_numbers : (h : ℕ) → s.store.holdings.standing h ≡ None
+  pub has_pages : s.store.holdings.pages ≡ w.areas.pages
   pub stub : Has w 0 (CallTo main ∷ Plain (Addi 17 0 (pos 0)) ∷ Plain Ecall ∷ [])
   pub shows_data : ShowsData ds offsets s.bytes
 
@@ -278,6 +279,12 @@ module _ (w : World) (order : IsInOrder w) (four : w.stub ≡ 4) (main : ℕ)
       based t j p (Frame k) e = absurd (none_some p e)
       based t j p (Own k) e = absurd (none_some p e)
 
+  first_agrees : (s : Machine) → IsStart w main ds offsets s → Agrees w.areas s.store
+  first_agrees s start = record {
+    pages = start.has_pages;
+    blocks = λ b among. absurd (subst (λ (l : Ledger). Among b l.blocks) start.fresh among);
+  }
+
   -- `main` is called
   calls_main : Comes w (IsStart w main ds offsets) (Calling w main [] memory [])
   calls_main = record {
@@ -317,6 +324,7 @@ module _ (w : World) (order : IsInOrder w) (four : w.stub ≡ 4) (main : ℕ)
               stacked = refl;
               fits = first_fits s.bytes s.store start.shows_data;
               known = first_known s start;
+              agrees = first_agrees s start;
               data_based = λ o y e. ap in_data (ap (λ os. slice_get os o) (sym same) ∙ e);
             };
             stack = tt;

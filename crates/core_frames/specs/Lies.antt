@@ -1,6 +1,6 @@
 -- How a memory lies in a machine: where each thing that holds something stands, and what its bytes show.
-use Rattle.std.specs.Prelude.{◌≡◌, ℕ, zero, suc, ◌+◌, ◌*◌, ◌%◌, ◌^◌, ◌≤◌, ◌<◌, ◌⊎◌, ◌&&◌, Bool, false, nat_eq, if◌then◌else◌, Option, Some, None, List, [], ◌∷◌}
-use Rattle.arena_laws.specs.Holdings.{arena_base}
+use Rattle.std.specs.Prelude.{◌≡◌, ℕ, zero, suc, ◌+◌, ◌*◌, ◌%◌, ◌^◌, ◌≤◌, ◌<◌, ◌⊎◌, ◌&&◌, Bool, true, false, nat_eq, if◌then◌else◌, Option, Some, None, List, [], ◌∷◌}
+use Rattle.arena_laws.specs.Holdings.{arena_base, is_some}
 use Rattle.arena_laws.specs.Blocks.{Block}
 use Rattle.arena_laws.specs.declared.owner.Owner.{Owner}
 use Rattle.arena_laws.specs.declared.owner.Owner.TheVariants as owner
@@ -233,6 +233,24 @@ pub record Known (m : Maps) (mem : Memory) (st : Store) : Type 0 where
   pub unborn : (d : ℕ) → mem.births ≤ d → (mem.standing (Born d) ≡ Dead) × (mem.objects (Born d) ≡ 0) × (m.number d ≡ None)
   pub unentered : (k : ℕ) → mem.activations ≤ k → (mem.standing (Frame k) ≡ Dead) × (mem.objects (Frame k) ≡ 0)
   pub uncalled : (k : ℕ) → mem.calls ≤ k → (mem.standing (Own k) ≡ Dead) × (mem.objects (Own k) ≡ 0)
+
+-- ---- what is known of the store alone
+
+-- whose a block from an address on is: the heap's, a live number's, or its own
+abbrev pub IsNamed : Store → ℕ → Owner → Type 0
+IsNamed st from (owner.Region h) = (h ≡ 0) ⊎ (is_some (st.holdings.standing h) ≡ true)
+IsNamed st from (owner.Alone at room) = at ≡ from
+
+-- the store holds a live block: its room has the bytes asked for, and each address of the room is its owner's
+pub record IsHeld (st : Store) (b : Block) : Type 0 where
+  pub within : b.bytes ≤ b.room
+  pub owned : (q : ℕ) → b.from ≤ q → q < b.from + b.room → st.holdings.owner q ≡ Some b.who
+  pub named : IsNamed st b.from b.who
+
+-- the store has the arena's pages, and holds each block that the run counts as live
+pub record Agrees (n : Areas) (st : Store) : Type 0 where
+  pub pages : st.holdings.pages ≡ n.pages
+  pub blocks : (b : Block) → Among b st.ledger.blocks → IsHeld st b
 
 -- ---- the stack
 

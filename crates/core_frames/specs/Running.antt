@@ -66,13 +66,14 @@ ShowsData ds offsets bytes =
     → Shows (first_maps offsets) p.content (read bytes (data_base + offset + p.offset) p.width)
 
 -- A machine that begins with the first of the lines, and with the program's data: it runs, the stack pointer is the stack's end, and nothing was asked of its
--- store.
+-- store, which has the arena's pages.
 pub record Begins (n : Areas) (places : ℕ → ℕ) (lines : List Line) (ds : List Datum) (s : State) : Type 0 where
   pub runs : s.mode ≡ Runs
   pub at_first : s.pc ≡ code_base
   pub pointer : s.registers 2 ≡ stack_end
   pub small : (at : ℕ) → s.bytes at < 256
   pub unheld : (number : ℕ) → s.holdings.standing number ≡ None
+  pub has_pages : s.holdings.pages ≡ n.pages
   pub code_within : n.code ≤ 2 ^ 20
   pub statics_within : n.statics ≤ 2 ^ 20
   pub stack_whole : n.stack ≡ 2 ^ 20

@@ -31,6 +31,7 @@ use Rattle.core_frames.proofs.Offsets.{offset}
 use Rattle.core_frames.proofs.Copying.{copy}
 use Rattle.core_frames.proofs.Clearing.{clear}
 use Rattle.core_frames.proofs.Comparing.{GivesTruth, compare_places, two_nulls, null_and_pointer, pointer_and_null, two_pointers}
+use Rattle.core_frames.proofs.RegionOperations.{new_region_does, alloc_region_does, free_region_does}
 
 -- ---- addresses of unnamed values and data
 
@@ -281,9 +282,10 @@ module _ (w : World) (order : IsInOrder w) (x : Waiting) (outer : List Waiting) 
       (λ n. Pays (λ kept. Says (Rattle.core_meaning.specs.Steps.Visible (ByteWritten (n % 256))) (next (with_temp t (Word (n % 256)) kept))) c) (λ n e.
       putchar_goes w order (with_config x c) outer c.memory fuel active (λ kept. next (with_temp t (Word (n % 256)) kept)) c t place named.0 y n named.1 e has
       (ends (with_temp t (Word (n % 256)) c) (record { blocks = is.blocks; own = is.own })))
-  operation_goes (RegionNew t) named has ends c is = absurd named
-  operation_goes (RegionAlloc t h n layout) named has ends c is = absurd named
-  operation_goes (RegionFree h) named has ends c is = absurd named
+  operation_goes (RegionNew t) named has ends c is = new_region_does w order x outer fuel place next c.memory t named has ends c is
+  operation_goes (RegionAlloc t h n layout) named has ends c is =
+      alloc_region_does w order x outer fuel place next c.memory t h n layout named.0 named.1 named.2 named.3 has ends c is
+  operation_goes (RegionFree h) named has ends c is = free_region_does w order x outer fuel place next c.memory h named has ends c is
   operation_goes (UniqueAlloc t layout) named has ends c is = absurd named
   operation_goes (UniqueFree p) named has ends c is = absurd named
   operation_goes (KeyNew t) named has ends c is = absurd named

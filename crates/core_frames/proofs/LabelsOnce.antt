@@ -21,7 +21,7 @@ use Rattle.core_frames.specs.Lines.{labels_placed, AreOnce}
 use Rattle.core_frames.specs.Frames.{is_short, word_code, load_code, save_code, slot_of, pass_code, result_code, call_code, environment_code, raise_code, take_code}
 use Rattle.core_frames.specs.Frames.{test_code, move_code, prologue_code, values_code, leave_code, return_code}
 use Rattle.core_frames.specs.Selected.{frame_bytes, Surroundings, local_offset, nth, from_temp, to_temp, constant_code, far_code, read_line, read_code}
-use Rattle.core_frames.specs.Selected.{write_line, write_code, binary_code, address_code, operation_code, labels_in, labels_of, choice_code, within_block}
+use Rattle.core_frames.specs.Selected.{write_line, write_code, binary_code, address_code, bytes_code, operation_code, labels_in, labels_of, choice_code, within_block}
 use Rattle.core_frames.specs.Selected.{further_code, are_words, copy_loop, bytes_in, clear_loop}
 use Rattle.core_frames.specs.Selected.{statement_code, statements_code, around, function_code, functions_code, program_code}
 use Rattle.core_frames.specs.Running.{data_offsets}
@@ -184,9 +184,11 @@ operation_none u (SamePlace t p q) =
     four (from_temp u 5 p) (from_temp u 6 q) (binary_code Equal) (to_temp u 5 t) (from_none u 5 p) (from_none u 6 q) refl (to_none u 5 t)
 operation_none u (Getchar t) = two (environment_code 2) (to_temp u 10 t) refl (to_none u 10 t)
 operation_none u (Putchar t x) = three (from_temp u 10 x) (environment_code 1) (to_temp u 10 t) (from_none u 10 x) refl (to_none u 10 t)
-operation_none u (RegionNew t) = refl
-operation_none u (RegionAlloc t h n layout) = refl
-operation_none u (RegionFree h) = refl
+operation_none u (RegionNew t) = two (environment_code 4) (to_temp u 10 t) refl (to_none u 10 t)
+operation_none u (RegionAlloc t h n layout) =
+    three (from_temp u 10 h ++ from_temp u 5 n ++ bytes_code layout.bytes) (environment_code 5) (to_temp u 10 t)
+    (three (from_temp u 10 h) (from_temp u 5 n) (bytes_code layout.bytes) (from_none u 10 h) (from_none u 5 n) refl) refl (to_none u 10 t)
+operation_none u (RegionFree h) = two (from_temp u 10 h) (environment_code 6) (from_none u 10 h) refl
 operation_none u (UniqueAlloc t layout) = refl
 operation_none u (UniqueFree p) = refl
 operation_none u (KeyNew t) = refl

@@ -38,7 +38,17 @@ mod Reaching
 pub mod Writing
 pub mod Operations
 pub mod Parts
+pub mod RegionsBorn
+pub mod RegionsFreed
+pub mod Granting
+pub mod Products
+pub mod BlockBytes
+pub mod RegionCalls
+pub mod GrantCalls
+pub mod FreeCalls
+pub mod RegionOperations
 pub mod Showing
+pub mod Requests
 pub mod Zero
 pub mod Streams
 pub mod Tests

@@ -5,7 +5,7 @@ use Rattle.std.proofs.lemmas.Bool.{and_parts, eqb-true}
 use Rattle.core_meaning.specs.Memory.{Spot, Content, Blank, Word, Null, Pointer, Birth, Part, Memory, is_live, same_spot, part_at, beyond}
 use Rattle.core_meaning.specs.Core.{Distance}
 use Rattle.core_meaning.specs.Words.{truth}
-use Rattle.core_meaning.specs.Steps.{Step, word_of, pointer_of, needed, checked}
+use Rattle.core_meaning.specs.Steps.{Step, word_of, pointer_of, birth_of, needed, checked}
 use Rattle.core_meaning.specs.Operations.{reached, is_null, same_place}
 use Rattle.core_meaning.proofs.Results.{truth_below}
 use Rattle.core_frames.specs.Machines.{Machine}
@@ -28,6 +28,13 @@ module _ (w : World) (R : Machine → Type 0) (active : List (List ℕ)) (fuel :
   pointer_goes Null k goes = goes_stuck w R active fuel
   pointer_goes (Word n) k goes = goes_stuck w R active fuel
   pointer_goes (Birth d) k goes = goes_stuck w R active fuel
+
+  pub birth_goes : (v : Content) (k : ℕ → Step) → ((d : ℕ) → v ≡ Birth d → Goes w fuel (k d) R active) → Goes w fuel (birth_of v k) R active
+  birth_goes (Birth d) k goes = goes d refl
+  birth_goes Blank k goes = goes_stuck w R active fuel
+  birth_goes Null k goes = goes_stuck w R active fuel
+  birth_goes (Word n) k goes = goes_stuck w R active fuel
+  birth_goes (Pointer s b) k goes = goes_stuck w R active fuel
 
   pub null_goes : (v : Content) (k : ℕ → Step) → (v ≡ Null → Goes w fuel (k 1) R active) → ((s : Spot) (b : ℕ) → v ≡ Pointer s b → Goes w fuel (k 0) R active)
       → Goes w fuel (is_null v k) R active

@@ -45,7 +45,7 @@ step_later n e r = by (step n (r.answers 0) r.state)
     by : (x : Stepped) → after_step (shown_first e r) x ≡ shown_first e (after_step r x)
     by x = shown_by x.shown x.told x.state
 
-run_later : (n : Areas) (e : events.Event) (count : ℕ) (r : Run) → run_steps n count (shown_first e r) ≡ shown_first e (run_steps n count r)
+pub run_later : (n : Areas) (e : events.Event) (count : ℕ) (r : Run) → run_steps n count (shown_first e r) ≡ shown_first e (run_steps n count r)
 run_later n e zero r = refl
 run_later n e (suc count) r = ap (run_steps n count) (step_later n e r) ∙ run_later n e count (run_step n r)
 
@@ -71,7 +71,7 @@ module _ (n : Areas) (e : events.Event) (r : Run) where
   in_later Waits h = tt
   in_later (Over why) h = tt
 
-lawful_later : (n : Areas) (e : events.Event) (count : ℕ) (r : Run) → AreLawful n count r → AreLawful n count (shown_first e r)
+pub lawful_later : (n : Areas) (e : events.Event) (count : ℕ) (r : Run) → AreLawful n count r → AreLawful n count (shown_first e r)
 lawful_later n e zero r lawful = tt
 lawful_later n e (suc count) r (now, others) =
     (in_later n e r r.state.mode now, subst (AreLawful n count) (sym (step_later n e r)) (lawful_later n e count (run_step n r) others))
@@ -85,7 +85,7 @@ pub record Shows_then (n : Areas) (e : events.Event) (s : Machine) (input rest :
   pub lawful : (answers : ℕ → Answer) → IsLawful n (run_from s input answers)
   pub there : R next
 
-led_shown : (w : World) (active : List (List ℕ)) (e : events.Event) (r : Run) (o : Outcome Event) → Led w r o ⊎ Cut w active r o
+pub led_shown : (w : World) (active : List (List ℕ)) (e : events.Event) (r : Run) (o : Outcome Event) → Led w r o ⊎ Cut w active r o
     → Led w (shown_first e r) (after (Visible e) o) ⊎ Cut w active (shown_first e r) (after (Visible e) o)
 led_shown w active e r o (inl l) = inl (record { events = ap (λ es. e ∷ es) l.events; ends = l.ends })
 led_shown w active e r o (inr l) = let k = l.cut in inr (record {

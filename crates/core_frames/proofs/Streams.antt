@@ -58,7 +58,7 @@ module _ (w : World) (order : IsInOrder w) (x : Waiting) (outer : List Waiting) 
     abbrev behind : ℕ → Machine
     behind value = state_at (place + 4) (set_register 10 value s.registers) s.bytes s.store
 
-    next_is : following (state_of now) ≡ code_base + (place + 4)
+    pub next_is : following (state_of now) ≡ code_base + (place + 4)
     next_is = following_is w.areas w.code order.code_within s.store place s.registers s.bytes a.stands.kept Ecall has.0.0
 
     at_behind : (value : ℕ) (v : Content) → Shows a.maps v value → value < 2 ^ 32 → AtWith w x outer mem (place + 4) (InRegister 10 v) (behind value)

@@ -73,6 +73,7 @@ use Rattle.core_meaning.specs.Core.{
   Datum,
   Program,
 }
+use Rattle.core_meaning.specs.Operations.{saturated}
 use Rattle.core_frames.specs.declared.line.Line.{Line}
 use Rattle.core_frames.specs.declared.line.Line.TheVariants.{Plain, Label, Jump, JumpIfZero, CallTo}
 use Rattle.core_frames.specs.Frames.{
@@ -289,7 +290,13 @@ abbrev pub clear_code : Surroundings → ℕ → Layout → ℕ → List Line
 clear_code u p l count =
     (if nat_eq (bytes_in l count) 0 then [] else from_temp u 5 p ++ further_code 7 (bytes_in l count) ++ clear_loop (are_words l))
 
--- The code of an operation. Those on regions, unique blocks and keys, and on elements have none as yet.
+-- so many times a layout's bytes into x11, and all ones where a word doesn't say so many; how many times is in x5
+abbrev pub bytes_code : ℕ → List Line
+bytes_code bytes =
+    word_code 6 (saturated bytes)
+    ++ (Plain (instr.Mulhu 11 5 6) ∷ Plain (instr.Mul 5 5 6) ∷ Plain (instr.Sltu 11 0 11) ∷ Plain (instr.Sub 11 0 11) ∷ Plain (instr.Or 11 11 5) ∷ [])
+
+-- The code of an operation. Those on unique blocks and keys, and on elements have none as yet.
 abbrev pub operation_code : Surroundings → Operation → List Line
 operation_code u (Constant t w) = constant_code (w % 2 ^ 32) ++ to_temp u 5 t
 operation_code u (NullPointer t) = to_temp u 0 t
@@ -311,9 +318,10 @@ operation_code u (IsNull t p) = from_temp u 5 p ++ (Plain (instr.Sltiu 5 5 (pos 
 operation_code u (SamePlace t p q) = from_temp u 5 p ++ from_temp u 6 q ++ binary_code Equal ++ to_temp u 5 t
 operation_code u (Getchar t) = environment_code 2 ++ to_temp u 10 t
 operation_code u (Putchar t x) = from_temp u 10 x ++ environment_code 1 ++ to_temp u 10 t
-operation_code u (RegionNew t) = []
-operation_code u (RegionAlloc t h n layout) = []
-operation_code u (RegionFree h) = []
+operation_code u (RegionNew t) = environment_code 4 ++ to_temp u 10 t
+operation_code u (RegionAlloc t h n layout) =
+    from_temp u 10 h ++ from_temp u 5 n ++ bytes_code layout.bytes ++ environment_code 5 ++ to_temp u 10 t
+operation_code u (RegionFree h) = from_temp u 10 h ++ environment_code 6
 operation_code u (UniqueAlloc t layout) = []
 operation_code u (UniqueFree p) = []
 operation_code u (KeyNew t) = []

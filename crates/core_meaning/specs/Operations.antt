@@ -215,7 +215,7 @@ byte_word (Some byte) = byte
 abbrev pub says : events.Event → Step → Step
 says e next = Says (Visible e) next
 
--- ---- operations
+-- ---- operations; the heap is never freed
 
 abbrev pub does : Operation → (Config → Step) → Config → Step
 does (Constant t w) next c = next (with_temp t (Word (w % 2 ^ 32)) c)
@@ -258,7 +258,7 @@ does (RegionAlloc t h n l) next c =
     (says (events.RegionAlloc d (saturated (count * l.bytes)))
     (next (with_temp t (Pointer (first_spot c.memory (Born d)) 0) (with_memory (with_object c.memory (Born d) (blanks l count)) c))))))
 does (RegionFree h) next c =
-    birth_of (c.temps h) (λ d. checked (is_lexical (c.memory.standing (Born d)))
+    birth_of (c.temps h) (λ d. checked (not (nat_eq d 0) && is_lexical (c.memory.standing (Born d)))
     (says (events.RegionFree d) (next (with_memory (with_standing c.memory (Born d) Dead) c))))
 does (UniqueAlloc t l) next c =
     let d = c.memory.births in

@@ -1,0 +1,221 @@
+-- A block is granted where the store likes: in a room that nothing live has. What fits still does, with an object more.
+use Rattle.std.specs.Prelude.{nat_eq, nat_le, nat_lt, ◌&&◌, if◌then◌else◌}
+use Rattle.std.proofs.Common.{◌≡◌, ℕ, ◌+◌, ◌*◌, ◌/◌, ◌%◌, ◌^◌, ◌≤◌, ◌<◌, ◌⊎◌, inl, inr, ⊎_elim, true, List, ◌∷◌, Option, Some, None, refl, sym, ap, subst, ◌∙◌, arith}
+use Rattle.std.proofs.lemmas.Bool.{eqb-true, leb-true, le-leb, lt-ltb, ne_eqb, eq-eqb, and_parts, and_from, cases_eq, cases_lt}
+use Rattle.arena_laws.specs.declared.owner.Owner.{Owner}
+use Rattle.arena_laws.specs.declared.owner.Owner.TheVariants as owner
+use Rattle.arena_laws.specs.Blocks.{Block}
+use Rattle.arena_laws.specs.Counts.{room_of}
+use Rattle.arena_laws.specs.Holdings.{Holdings, arena_base}
+use Rattle.arena_laws.specs.Lawful.{is_clear, is_in_room, is_lawful_room, with_region_block}
+use Rattle.arena_laws.proofs.Rooms.{outside}
+use Rattle.rv32_machine.specs.State.{Areas}
+use Rattle.core_meaning.specs.Memory.{Region, Frame, Own, Born, Content, Part, Memory, is_live, with_object}
+use Rattle.core_frames.specs.Machines.{Store}
+use Rattle.core_frames.specs.Lies.{
+  Maps,
+  Extends,
+  Activation,
+  Name,
+  Slot,
+  Cell,
+  Lies,
+  Among,
+  CellGround,
+  Ground,
+  Fits,
+  Known,
+  IsNamed,
+  IsHeld,
+  Agrees,
+  Stacked,
+}
+use Rattle.core_frames.proofs.Fitting.{inside}
+use Rattle.core_frames.proofs.Growing.{placed, placed_extends, ObjectFits, grow_fits, grow_known}
+
+-- ---- rooms
+
+pub room_bound : (n : ℕ) → n ≤ room_of n
+room_bound n = ⊎_elim
+    (λ (e : n ≡ 0). omega (arith, e))
+    (λ (e : n ≡ 0 → ⊥). let r : room_of n ≡ (n + 7) / 8 * 8 = ap (λ c. if c then 8 else (n + 7) / 8 * 8) (ne_eqb n 0 e) in omega (arith, r))
+    (cases_eq n 0)
+
+room_some : (n : ℕ) → 1 ≤ room_of n
+room_some n = ⊎_elim
+    (λ (e : n ≡ 0). let r : room_of n ≡ 8 = ap (λ c. if c then 8 else (n + 7) / 8 * 8) (eq-eqb n 0 e) in omega (arith, r))
+    (λ (e : n ≡ 0 → ⊥). let bound = room_bound n in let some : 1 ≤ n = omega (arith, e) in omega (arith, bound, some))
+    (cases_eq n 0)
+
+-- a room that may be granted
+pub record IsRoom (s : Holdings) (at room : ℕ) : Type 0 where
+  pub even : at % 8 ≡ 0
+  pub low : arena_base ≤ at
+  pub high : at + room ≤ arena_base + s.pages * 4096
+  pub clear : (q : ℕ) (who : Owner) → s.owner q ≡ Some who → at ≤ q → q < at + room → ⊥
+
+in_room : (at room q : ℕ) → at ≤ q → q < at + room → is_in_room at room q ≡ true
+in_room at room q low high = and_from (nat_le at q) (nat_lt q (at + room)) (le-leb at q low) (lt-ltb q (at + room) high)
+
+pub is_room : (s : Holdings) (at room : ℕ) → is_lawful_room s at room ≡ true → IsRoom s at room
+is_room s at room e =
+    let p = and_parts (nat_eq (at % 8) 0) (nat_le arena_base at && (nat_le (at + room) (arena_base + s.pages * 4096) && is_clear s.owner at room)) e in
+    let q = and_parts (nat_le arena_base at) (nat_le (at + room) (arena_base + s.pages * 4096) && is_clear s.owner at room) p.1 in
+    let r = and_parts (nat_le (at + room) (arena_base + s.pages * 4096)) (is_clear s.owner at room) q.1 in
+    record {
+      even = eqb-true (at % 8) 0 p.0;
+      low = leb-true arena_base at q.0;
+      high = leb-true (at + room) (arena_base + s.pages * 4096) r.0;
+      clear = λ k who is low high. cc (outside s at room k who e is, in_room at room k low high);
+    }
+
+-- ---- a grant
+
+module _ (n : Areas) (few : n.statics ≤ 2 ^ 20) (m : Maps) (fs : List Activation) (mem : Memory) (b : ℕ → ℕ) (st : Store) (sp : ℕ) (stacked : Stacked sp fs)
+    (f : Fits n m fs mem b st) (k : Known m mem st) (agrees : Agrees n st) (d h : ℕ) (o : ℕ → ℕ → Option Part) (bytes x : ℕ) (fits : ObjectFits o bytes)
+    (lawful : is_lawful_room st.holdings x (room_of bytes) ≡ true) (live : is_live (mem.standing (Born d)) ≡ true) (birth : st.ledger.birth_of h ≡ d)
+    (named : IsNamed st x (owner.Region h)) where
+  abbrev room : ℕ
+  room = room_of bytes
+
+  abbrev block : Block
+  block = record { from = x; bytes = bytes; room = room; who = owner.Region h }
+
+  abbrev pub granting : Store
+  granting = record {
+    holdings = with_region_block h x room st.holdings;
+    ledger = record st.ledger { blocks = block ∷ st.ledger.blocks };
+  }
+
+  fresh : m.base (Born d) (mem.objects (Born d)) ≡ None
+  fresh = k.unmade (Born d) (mem.objects (Born d)) (omega arith)
+
+  its_room : IsRoom st.holdings x room
+  its_room = is_room st.holdings x room lawful
+
+  even : x % 4 ≡ 0
+  even = let e = its_room.even in omega (arith, e)
+
+  -- a live block's bytes are elsewhere
+  block_away : (c : Block) → Among c st.ledger.blocks → (at width : ℕ) → 1 ≤ width → c.from ≤ at → at + width ≤ c.from + c.bytes
+      → (at + width ≤ x) ⊎ (x + bytes ≤ at)
+  block_away c among at width some low high =
+      let held = agrees.blocks c among in
+      let within = held.within in
+      let bound = room_bound bytes in
+      let some_room = room_some bytes in
+      ⊎_elim
+      (λ (over : x < at + width). ⊎_elim
+      (λ (under : at < x + bytes). ⊎_elim
+      (λ (later : x < at). absurd (its_room.clear at c.who (held.owned at low (omega (arith, high, within, some))) (omega (arith, later)) (omega (arith, under, bound))))
+      (λ (first : at ≤ x). absurd (its_room.clear x c.who (held.owned x (omega (arith, low, first)) (omega (arith, over, high, within))) (omega arith)
+      (omega (arith, some_room))))
+      (cases_lt x at))
+      (λ (behind : x + bytes ≤ at). inr behind)
+      (cases_lt at (x + bytes)))
+      (λ (before : at + width ≤ x). inl before)
+      (cases_lt x (at + width))
+
+  region_away : (r : Region) (at width : ℕ) → 1 ≤ width → CellGround n fs st r at width → (at + width ≤ x) ⊎ (x + bytes ≤ at)
+  region_away (Frame q) at width some g =
+      let end = (inside sp fs g.frame stacked g.inside.among).high in let high = g.inside.high in let low = its_room.low in inl (omega (arith, end, high, low))
+  region_away (Own q) at width some g =
+      let end = (inside sp fs g.frame stacked g.inside.among).high in let high = g.inside.high in let low = its_room.low in inl (omega (arith, end, high, low))
+  region_away (Born q) at width some (inl g) = let high = g.high in let low = its_room.low in inl (omega (arith, high, low, few))
+  region_away (Born q) at width some (inr g) = block_away g.block g.among at width some g.low g.high
+
+  away : (y : Name) (at width : ℕ) (v : Content) → Lies m fs mem y at width v → (at + width ≤ x) ⊎ (x + bytes ≤ at)
+  away y at width v l = by y (⊎_elim (λ e. omega (arith, e)) (λ e. omega (arith, e)) (f.aligned y at width v l).0) (f.ground y at width v l)
+    where
+      by : (y : Name) → 1 ≤ width → Ground n fs st y at width → (at + width ≤ x) ⊎ (x + bytes ≤ at)
+      by (Slot g j) some gr =
+          let end = (inside sp fs gr.frame stacked gr.inside.among).high in
+          let high = gr.inside.high in
+          let low = its_room.low in
+          inl (omega (arith, end, high, low))
+      by (Cell s j) some gr = region_away s.region at width some gr
+
+  region_on : (r : Region) (at width : ℕ) → CellGround n fs st r at width → CellGround n fs granting r at width
+  region_on (Frame q) at width g = g
+  region_on (Own q) at width g = g
+  region_on (Born q) at width (inl g) = inl g
+  region_on (Born q) at width (inr g) = inr (record {
+    block = g.block;
+    among = inr g.among;
+    owner = g.owner;
+    low = g.low;
+    high = g.high;
+    bottom = g.bottom;
+    top = g.top;
+  })
+
+  ground_on : (y : Name) (at width : ℕ) → Ground n fs st y at width → Ground n fs granting y at width
+  ground_on (Slot g j) at width gr = gr
+  ground_on (Cell s j) at width gr = region_on s.region at width gr
+
+  ground_new : (at width : ℕ) → x ≤ at → at + width ≤ x + bytes → CellGround n fs granting (Born d) at width
+  ground_new at width lo hi =
+      let low = its_room.low in
+      let high = its_room.high in
+      let pages = agrees.pages in
+      let bound = room_bound bytes in
+      inr (record {
+        block = block;
+        among = inl refl;
+        owner = birth;
+        low = lo;
+        high = hi;
+        bottom = omega (arith, low, lo);
+        top = omega (arith, hi, high, bound, pages);
+      })
+
+  abbrev pub granted_maps : Maps
+  granted_maps = placed (Born d) (mem.objects (Born d)) x m
+
+  pub granted_extends : Extends m granted_maps
+  granted_extends = placed_extends m (Born d) (mem.objects (Born d)) x fresh
+
+  pub granted_fits : Fits n granted_maps fs (with_object mem (Born d) o) b granting
+  granted_fits = grow_fits n m fs mem b st granting (Born d) o bytes x f fresh fits even away ground_new ground_on
+
+  its_low : n.pages ≤ 4096 → x < 2 ^ 31
+  its_low few_pages = let high = its_room.high in let pages = agrees.pages in omega (arith, high, pages, few_pages)
+
+  pub granted_known : n.pages ≤ 4096 → Known granted_maps (with_object mem (Born d) o) granting
+  granted_known few_pages =
+      grow_known n m fs mem b st granting (Born d) o bytes x f fresh fits even away ground_new ground_on (its_low few_pages) live refl refl refl k
+
+  -- ---- what the store holds
+
+  held_new : IsHeld granting block
+  held_new = record {
+    within = room_bound bytes;
+    owned = λ q low high. ap (λ c. if c then Some (owner.Region h) else st.holdings.owner q) (in_room x room q low high);
+    named = named;
+  }
+
+  held_old : (c : Block) → IsHeld st c → IsHeld granting c
+  held_old c held = record {
+    within = held.within;
+    owned = λ q low high.
+        let its = held.owned q low high in
+        ap (λ t. if t then Some (owner.Region h) else st.holdings.owner q) (outside st.holdings x room q c.who lawful its) ∙ its;
+    named = by c.who held.named;
+  }
+    where
+      by : (who : Owner) → IsNamed st c.from who → IsNamed granting c.from who
+      by (owner.Region r) is = is
+      by (owner.Alone at _) is = is
+
+  pub granted_agrees : Agrees n granting
+  granted_agrees = record {
+    pages = agrees.pages;
+    blocks = λ c among. ⊎_elim (λ (same : c ≡ block). subst (IsHeld granting) (sym same) held_new)
+        (λ (i : Among c st.ledger.blocks). held_old c (agrees.blocks c i)) among;
+  }
+
+  pub granted_low : arena_base ≤ x
+  granted_low = its_room.low
+
+  pub granted_high : x ≤ arena_base + n.pages * 4096
+  granted_high = let high = its_room.high in let pages = agrees.pages in omega (arith, high, pages)

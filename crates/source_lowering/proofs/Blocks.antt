@@ -1,6 +1,6 @@
 -- A block is entered with its locals to come, and left whichever way.
 use Rattle.std.proofs.Common.{◌≡◌, ℕ, suc, ◌≤◌, inl, inr, ⊎_elim, List, [], ◌∷◌, refl, sym, ap, ◌∙◌, subst, arith}
-use Rattle.source_meaning.specs.Shapes.{Shape}
+use Rattle.source_meaning.specs.Shapes.{Shape, Layout}
 use Rattle.source_meaning.specs.Memory as source
 use Rattle.source_meaning.specs.Memory.{Scalar, with_state, Dead}
 use Rattle.source_meaning.specs.Steps as steps
@@ -16,8 +16,8 @@ use Rattle.source_lowering.specs.Lowered.{Named, all_of}
 use Rattle.source_lowering.specs.Programs.{locals_of, outward}
 use Rattle.source_lowering.proofs.Relations.{ArePending, Agree, Later, AreLocals, AreLed, Place, Fits, Next}
 use Rattle.source_lowering.proofs.Keeping.{later_on, later_less, shown_later, all_led_later, left_later, agree_left}
-use Rattle.source_lowering.proofs.Names.{AreWordNames}
-use Rattle.source_lowering.proofs.Entering.{source_in, core_in, agree_entered, entered_later, AreTaken, pending_entered}
+use Rattle.source_lowering.proofs.Names.{AreObjectNames}
+use Rattle.source_lowering.proofs.Entering.{source_in, core_in, agree_entered, entered_later, pending_entered}
 use Rattle.source_lowering.proofs.Calls.{OneResult, NoResult, ResultIs}
 use Rattle.source_lowering.proofs.Statements.{WaysOn, RunsAs}
 
@@ -33,9 +33,9 @@ locals_outward k blocks (b ∷ bs) (l ∷ ls) h = (
       bs ls h.1,
 )
 
-pub integers_outward : (ls : List Named) → AreWordNames ls → AreWordNames (outward ls)
-integers_outward [] h = tt
-integers_outward (l ∷ ls) h = (h.0, integers_outward ls h.1)
+pub objects_outward : (structs : List Layout) (ls : List Named) → AreObjectNames structs ls → AreObjectNames structs (outward ls)
+objects_outward structs [] h = tt
+objects_outward structs (l ∷ ls) h = (h.0, objects_outward structs ls h.1)
 
 -- ---- results
 
@@ -65,9 +65,9 @@ at_start w fs locals names frame outer shapes =
 
 -- a block is entered from memories that agree
 pub entered_fits : (w : World) (fs : Program) (locals : List Binding) (names : List Named) (outer : List ℕ) (shapes : List Shape) (m : source.Memory)
-    (c : Config) → AreTaken shapes → Agree w m c.memory → c.blocks ≡ outer → AreLed w m c.memory locals → AreLed w m c.memory w.globals
+    (c : Config) → Agree w m c.memory → c.blocks ≡ outer → AreLed w m c.memory locals → AreLed w m c.memory w.globals
     → Fits (at_start w fs locals names m.activations outer shapes) (source_in m) (meaning.in_block (locals_of w shapes) c)
-entered_fits w fs locals names outer shapes m c taken agree blocks led globals =
+entered_fits w fs locals names outer shapes m c agree blocks led globals =
     let later = entered_later 0 w m c.memory (locals_of w shapes) agree in
     record {
       agree = agree_entered w m c.memory (locals_of w shapes) agree;
@@ -77,7 +77,7 @@ entered_fits w fs locals names outer shapes m c taken agree blocks led globals =
       begun = omega arith;
       made = (agree.unbegun m.activations (omega arith)).0;
       pending = subst (λ k. ArePending w (core_in (locals_of w shapes) c.memory) k 0 shapes) (sym agree.activations)
-          (pending_entered w m c.memory shapes taken agree);
+          (pending_entered w m c.memory shapes agree);
     }
 
 -- its region ends in both
@@ -128,14 +128,14 @@ ways_out w fs n b shapes m c result next after agree less ways = record {
         (later_gone b m' c'.memory m.activations c.memory.activations agree.activations)
 
 -- a block does the same as its code, where its items do in each activation
-pub block_same : (p : Place) (n : ℕ) (result : Shape) (shapes : List Shape) (body : ℕ → Act Flow) (code : List Statement) → AreTaken shapes
+pub block_same : (p : Place) (n : ℕ) (result : Shape) (shapes : List Shape) (body : ℕ → Act Flow) (code : List Statement)
     → ((k : ℕ) → RunsAs (at_start p.world p.program p.locals (outward p.names) k (p.frame ∷ p.outer) shapes) n k result (body k) code)
     → RunsAs p n (suc p.frame) result (in_block body) (Block (locals_of p.world shapes) (all_of code) ∷ [])
-block_same p n result shapes body code taken runs = record {
+block_same p n result shapes body code runs = record {
   same = λ m c next rest after fits ways.
       let inner : Next = λ exit. meaning.falls_to exit (meaning.statements rest after) after in
       (runs m.activations).same (source_in m) (meaning.in_block (locals_of p.world shapes) c) (next_out next m.activations) NoStatements (after_out inner c)
-      (entered_fits p.world p.program p.locals (outward p.names) (p.frame ∷ p.outer) shapes m c taken fits.agree fits.blocks fits.locals fits.globals)
+      (entered_fits p.world p.program p.locals (outward p.names) (p.frame ∷ p.outer) shapes m c fits.agree fits.blocks fits.locals fits.globals)
       (ways_out p.world p.program n (suc p.frame) shapes m c result next inner fits.agree (let b = fits.begun in omega (arith, b))
       (record { falls = ways.falls; breaks = ways.breaks; continues = ways.continues; returns = ways.returns }));
 }

@@ -23,7 +23,7 @@ use Rattle.source_meaning.specs.Shapes.{
 use Rattle.source_meaning.specs.Steps.{World, Routine}
 use Rattle.source_meaning.specs.Programs.{world_of}
 use Rattle.core_meaning.specs.Core as core
-use Rattle.core_meaning.specs.Core.{Do, If, While, Block, Return, Constant, Put, NoStatements}
+use Rattle.core_meaning.specs.Core.{Do, If, While, Block, Return, Constant, LocalAddress, Put, NoStatements}
 use Rattle.source_lowering.specs.Lowered.{Named, all_of, width_of, results_in, static_shape}
 use Rattle.source_lowering.specs.Programs.{
   temporaries_of,
@@ -34,6 +34,7 @@ use Rattle.source_lowering.specs.Programs.{
   outward,
   named_here,
   first_code,
+  unset_code,
   declaration_code,
   statement_code,
   items_code,
@@ -45,57 +46,19 @@ use Rattle.source_lowering.specs.Programs.{
   program_code,
 }
 use Rattle.source_lowering.specs.Taken.{TakesDeclaration, TakesStatement, TakesItems, IsLowerable}
-use Rattle.source_lowering.specs.Bounds.{
-  block_words,
-  operations_of,
-  FramesFit,
-  local_words,
-  declaration_nodes,
-  statement_nodes,
-  item_nodes,
-  statement_locals,
-  item_locals,
-  statement_size,
-  item_size,
-  core_bound,
-  frame_bound,
-  all_operations,
-  core_code,
-  routines_size,
-  code_bound,
-}
-use Rattle.source_lowering.proofs.Integers.{IsTaken}
-use Rattle.source_lowering.proofs.Names.{IsRoutine, AreRoutines}
-use Rattle.source_lowering.proofs.Entering.{AreTaken}
+use Rattle.source_lowering.specs.Bounds.{block_words, operations_of, FramesFit, declaration_nodes, statement_nodes, item_nodes, statement_locals, item_locals, statement_size, item_size, core_bound, frame_bound, all_operations, core_code, routines_size, code_bound}
+use Rattle.source_lowering.proofs.Names.{AreParameters, IsRoutine, AreRoutines}
+use Rattle.source_lowering.proofs.LocalWords.{all_words, many_words, word_words}
 use Rattle.source_lowering.proofs.Costs.{Costs, no_costs, one_costs, both_cost, more_costs}
 use Rattle.source_lowering.proofs.PartCosts.{does_one, results_last, results_many, conversion_costs}
 use Rattle.source_lowering.proofs.ExpressionCosts.{expression_costs}
-use Rattle.source_lowering.proofs.EachStatement.{shapes_taken}
-use Rattle.source_lowering.proofs.Functions.{parameters_taken}
 use Rattle.source_lowering.proofs.Programs.{routines_are}
 
 -- ---- words of locals
 
-one_word : (w : World) (ss : List Shape) (s : Shape) → IsTaken s → local_words (locals_of w (s ∷ ss)) ≤ 1 + local_words (locals_of w ss)
-one_word w ss IntShape h = omega arith
-one_word w ss UnsignedShape h = omega arith
-one_word w ss CharShape h = omega arith
-one_word w ss VoidShape h = omega arith
-one_word w ss (ThinShape may_be_null owner to) h = omega arith
-one_word w ss (FatShape to) h = absurd h
-one_word w ss HandleShape h = absurd h
-one_word w ss KeyShape h = absurd h
-one_word w ss (StructShape tag) h = absurd h
-one_word w ss (UnionShape tag) h = absurd h
-one_word w ss (ArrayShape count of) h = absurd h
-
-many_words : (w : World) (ss : List Shape) → AreTaken ss → local_words (locals_of w ss) ≤ length ss
-many_words w [] h = omega arith
-many_words w (s ∷ ss) h = let a = one_word w ss s h.0 in let b = many_words w ss h.1 in omega (arith, a, b)
-
--- the locals that a block declares itself
-abbrev own_locals : BlockItems → ℕ
-own_locals items = length (block_shapes items)
+-- the words of the locals that a block declares itself
+abbrev own_locals : World → BlockItems → ℕ
+own_locals w items = all_words w (block_shapes items)
 
 -- ---- statements
 
@@ -118,17 +81,35 @@ first_costs t p (StructShape tag) h = does_one t p _ h
 first_costs t p (UnionShape tag) h = does_one t p _ h
 first_costs t p (ArrayShape count of) h = does_one t p _ h
 
-declaration_bounded : (w : World) (names : List Named) (d : Declaration) (index t p : ℕ) → TakesDeclaration d → declaration_nodes d + 1 ≤ t
+unset_costs : (w : World) (s : Shape) (index t p : ℕ) → 1 ≤ t → Costs t p 0 2 (unset_code w s index)
+unset_costs w s index t p h = by s
+  where
+    word : (of : Shape) → Costs t p 0 2 (Do (first_code of) ∷ Do (Put 0 index (width_of of) 0) ∷ [])
+    word of = both_cost t p 0 1 0 1 (Do (first_code of) ∷ []) (Do (Put 0 index (width_of of) 0) ∷ []) (first_costs t p of h) (does_one t p _ h)
+
+    by : (of : Shape) → Costs t p 0 2 (unset_code w of index)
+    by (StructShape tag) = both_cost t p 0 1 0 1 (Do (LocalAddress 0 0 index) ∷ []) _ (does_one t p _ h) (does_one t p _ h)
+    by IntShape = word IntShape
+    by UnsignedShape = word UnsignedShape
+    by CharShape = word CharShape
+    by VoidShape = word VoidShape
+    by (ThinShape b owner to) = word (ThinShape b owner to)
+    by (FatShape to) = word (FatShape to)
+    by HandleShape = word HandleShape
+    by KeyShape = word KeyShape
+    by (UnionShape tag) = word (UnionShape tag)
+    by (ArrayShape count of) = word (ArrayShape count of)
+
+declaration_bounded : (w : World) (names : List Named) (d : Declaration) (index t p : ℕ) → TakesDeclaration w names d → declaration_nodes d + 1 ≤ t
     → declaration_nodes d ≤ p → IsBounded t p 0 (1 + declaration_nodes d) (declaration_code w names d index)
 declaration_bounded w names (tree.Local of name Initializer.Unset) index t p h f g = record {
   operations = 2;
-  costs = both_cost t p 0 1 0 1 (Do (first_code (settled (written of))) ∷ [])
-      (Do (Put 0 index (width_of (settled (written of))) 0) ∷ []) (first_costs t p (settled (written of)) f) (does_one t p _ f);
+  costs = unset_costs w (settled (written of)) index t p f;
   less = omega arith;
 }
 declaration_bounded w names (tree.Local of name (Initializer.Elements count)) index t p h f g = absurd h.1
 declaration_bounded w names (tree.Local of name (Initializer.Value e)) index t p h f g =
-    let a = expression_costs w names e t p 0 h.1 (omega (arith, f)) g in
+    let a = expression_costs w names e t p 0 h.1.0 (omega (arith, f)) g in
     let l = a.less in
     record {
       operations = a.operations + (2 + 1);
@@ -165,20 +146,20 @@ leaf t p n s h c = record { operations = 1; costs = c; less = omega (arith, h) }
 record ItemsBounded (w : World) (t p : ℕ) (items : BlockItems) (code : List core.Statement) : Type 0 where
   inner : ℕ
   bounded : IsBounded t p inner (item_size items) code
-  locals : own_locals items + inner ≤ item_locals items
+  locals : own_locals w items + inner ≤ item_locals w items
 
 mutual
-  statement_bounded : (w : World) (result : Shape) (names : List Named) (s : Statement) (t p : ℕ) → TakesStatement result s → statement_nodes s + 1 ≤ t
-      → statement_nodes s ≤ p → IsBounded t p (statement_locals s) (statement_size s) (statement_code w result names s)
+  statement_bounded : (w : World) (result : Shape) (names : List Named) (s : Statement) (t p : ℕ) → TakesStatement w result names s → statement_nodes s + 1 ≤ t
+      → statement_nodes s ≤ p → IsBounded t p (statement_locals w s) (statement_size s) (statement_code w result names s)
   statement_bounded w result names (Statement.Empty at) t p h f g = record { operations = 0; costs = no_costs t p; less = omega arith }
   statement_bounded w result names (Statement.Block at items) t p h f g =
       let one = items_bounded w result (outward names) 0 items t p h f g in
       let b = one.bounded.less in let l = one.locals in
-      let m = many_words w (block_shapes items) (shapes_taken result items h) in
+      let m = many_words w (block_shapes items) in
       let a = one.bounded.costs.temporaries in let e = one.bounded.costs.passes in let k = one.bounded.costs.locals in let o = one.bounded.costs.operations in
       record {
         operations = 1 + one.bounded.operations;
-        costs = one_costs t p (item_locals items) (1 + one.bounded.operations) (Block (locals_of w (block_shapes items))
+        costs = one_costs t p (item_locals w items) (1 + one.bounded.operations) (Block (locals_of w (block_shapes items))
             (all_of (items_code w result (outward names) 0 items))) a e (omega (arith, l, m, k)) (omega (arith, o));
         less = omega (arith, b);
       }
@@ -191,8 +172,8 @@ mutual
       let l = a.less in let k = b.less in
       record {
         operations = a.operations + (1 + (b.operations + 0));
-        costs = more_costs t p (0 + (statement_locals body + 0)) _ t p (statement_locals body) _ _ (omega arith) (omega arith) (omega arith) (omega arith)
-            (both_cost t p 0 a.operations (statement_locals body + 0) (1 + (b.operations + 0)) _ _ a.costs (if_costs t p (statement_locals body) 0
+        costs = more_costs t p (0 + (statement_locals w body + 0)) _ t p (statement_locals w body) _ _ (omega arith) (omega arith) (omega arith) (omega arith)
+            (both_cost t p 0 a.operations (statement_locals w body + 0) (1 + (b.operations + 0)) _ _ a.costs (if_costs t p (statement_locals w body) 0
             b.operations 0 _ [] (omega (arith, f)) b.costs (no_costs t p)));
         less = omega (arith, l, k);
       }
@@ -203,10 +184,10 @@ mutual
       let l = a.less in let k = b.less in let j = c.less in
       record {
         operations = a.operations + (1 + (b.operations + c.operations));
-        costs = more_costs t p (0 + (statement_locals body + statement_locals otherwise)) _ t p (statement_locals body + statement_locals otherwise) _ _
+        costs = more_costs t p (0 + (statement_locals w body + statement_locals w otherwise)) _ t p (statement_locals w body + statement_locals w otherwise) _ _
             (omega arith) (omega arith) (omega arith) (omega arith)
-            (both_cost t p 0 a.operations (statement_locals body + statement_locals otherwise) (1 + (b.operations + c.operations)) _ _ a.costs
-            (if_costs t p (statement_locals body) (statement_locals otherwise) b.operations c.operations _ _ (omega (arith, f)) b.costs c.costs));
+            (both_cost t p 0 a.operations (statement_locals w body + statement_locals w otherwise) (1 + (b.operations + c.operations)) _ _ a.costs
+            (if_costs t p (statement_locals w body) (statement_locals w otherwise) b.operations c.operations _ _ (omega (arith, f)) b.costs c.costs));
         less = omega (arith, l, k, j);
       }
   statement_bounded w result names (Statement.While at condition body) t p h f g =
@@ -215,9 +196,9 @@ mutual
       let l = a.less in let k = b.less in
       record {
         operations = 1 + (a.operations + b.operations);
-        costs = more_costs t p (0 + statement_locals body) (1 + (a.operations + b.operations)) t p (statement_locals body) (1 + (a.operations + b.operations))
+        costs = more_costs t p (0 + statement_locals w body) (1 + (a.operations + b.operations)) t p (statement_locals w body) (1 + (a.operations + b.operations))
             _ (omega arith) (omega arith) (omega arith) (omega arith)
-            (while_costs t p 0 (statement_locals body) a.operations b.operations _ _ (omega (arith, f)) a.costs b.costs);
+            (while_costs t p 0 (statement_locals w body) a.operations b.operations _ _ (omega (arith, f)) a.costs b.costs);
         less = omega (arith, l, k);
       }
   statement_bounded w result names (Statement.Break at) t p h f g = leaf t p 1 core.Break (omega arith) (one_costs t p 0 1 core.Break (omega arith)
@@ -241,7 +222,7 @@ mutual
   statement_bounded w result names (Statement.FreeUnique at pointer) t p h f g = absurd h
   statement_bounded w result names (Statement.FreeKey at key) t p h f g = absurd h
 
-  items_bounded : (w : World) (result : Shape) (names : List Named) (index : ℕ) (items : BlockItems) (t p : ℕ) → TakesItems result items
+  items_bounded : (w : World) (result : Shape) (names : List Named) (index : ℕ) (items : BlockItems) (t p : ℕ) → TakesItems w result names index items
       → item_nodes items + 1 ≤ t → item_nodes items ≤ p → ItemsBounded w t p items (items_code w result names index items)
   items_bounded w result names index NoItems t p h f g = record {
     inner = 0;
@@ -268,10 +249,10 @@ mutual
       let b = items_bounded w result names index others t p h.1 (omega (arith, f)) (omega (arith, g)) in
       let l = a.less in let k = b.bounded.less in let m = b.locals in
       record {
-        inner = statement_locals s + b.inner;
+        inner = statement_locals w s + b.inner;
         bounded = record {
           operations = a.operations + b.bounded.operations;
-          costs = both_cost t p (statement_locals s) a.operations b.inner
+          costs = both_cost t p (statement_locals w s) a.operations b.inner
               b.bounded.operations _ _ a.costs b.bounded.costs;
           less = omega (arith, l, k);
         };
@@ -308,18 +289,23 @@ end_costs s t p h = by s
     by (UnionShape tag) = zero_code
     by (ArrayShape count of) = zero_code
 
-pub all_shapes : (ps : List Part) (items : BlockItems) → length (part_shapes ps ++ block_shapes items) ≡ length ps + own_locals items
-all_shapes [] items = omega arith
-all_shapes (p ∷ ps) items = let h = all_shapes ps items in omega (arith, h)
+-- a parameter is a word
+pub all_shapes : (w : World) (ps : List Part) (items : BlockItems) → AreParameters ps
+    → all_words w (part_shapes ps ++ block_shapes items) ≡ length ps + own_locals w items
+all_shapes w [] items h = omega arith
+all_shapes w (p ∷ ps) items h =
+    let a = word_words w p.shape h.0 in
+    let b = all_shapes w ps items h.1 in
+    omega (arith, a, b)
 
 -- what a function's body takes
 record BodyBounded (w : World) (f : Routine) : Type 0 where
   code : List core.Statement
   is : body_code w f ≡ all_of code
-  costs : Costs (length f.parameters + (item_nodes f.body + 1)) (item_nodes f.body) (length f.parameters + item_locals f.body)
+  costs : Costs (length f.parameters + (item_nodes f.body + 1)) (item_nodes f.body) (length f.parameters + item_locals w f.body)
       (1 + (length f.parameters + 8 * item_size f.body) + 3) code
 
-body_bounded : (w : World) (f : Routine) → IsRoutine f → BodyBounded w f
+body_bounded : (w : World) (f : Routine) → IsRoutine w f → BodyBounded w f
 body_bounded w f r =
     let t = length f.parameters + (item_nodes f.body + 1) in
     let p = item_nodes f.body in
@@ -330,34 +316,34 @@ body_bounded w f r =
     (items_code w f.result names (length f.parameters) f.body) (parameters_costs f.parameters 0 t p (omega arith)) items.bounded.costs in
     let a = inside.temporaries in let b = inside.passes in let c = inside.locals in let o = inside.operations in
     let less = items.bounded.less in let l = items.locals in
-    let m = many_words w shapes (parameters_taken f.parameters (block_shapes f.body) r.parameters (shapes_taken f.result f.body r.body)) in
-    let n = all_shapes f.parameters f.body in
+    let m = many_words w shapes in
+    let n = all_shapes w f.parameters f.body r.parameters in
     record {
       code = Block (locals_of w shapes) (all_of (parameters_code f.parameters 0 ++ items_code w f.result names (length f.parameters) f.body)) ∷ end_code
           f.result;
       is = refl;
-      costs = more_costs t p (length f.parameters + item_locals f.body + 0) (1 + (length f.parameters + 8 * item_size f.body) + 3) t p
-          (length f.parameters + item_locals f.body) (1 + (length f.parameters + 8 * item_size f.body) + 3) _ (omega arith) (omega arith) (omega arith)
+      costs = more_costs t p (length f.parameters + item_locals w f.body + 0) (1 + (length f.parameters + 8 * item_size f.body) + 3) t p
+          (length f.parameters + item_locals w f.body) (1 + (length f.parameters + 8 * item_size f.body) + 3) _ (omega arith) (omega arith) (omega arith)
           (omega arith)
-          (both_cost t p (length f.parameters + item_locals f.body) (1 + (length f.parameters + 8 * item_size f.body)) 0 3
+          (both_cost t p (length f.parameters + item_locals w f.body) (1 + (length f.parameters + 8 * item_size f.body)) 0 3
           (Block (locals_of w shapes) (all_of (parameters_code f.parameters 0 ++ items_code w f.result names (length f.parameters) f.body)) ∷ [])
           (end_code f.result)
-          (one_costs t p (length f.parameters + item_locals f.body) (1 + (length f.parameters + 8 * item_size f.body))
+          (one_costs t p (length f.parameters + item_locals w f.body) (1 + (length f.parameters + 8 * item_size f.body))
           (Block (locals_of w shapes) (all_of (parameters_code f.parameters 0 ++ items_code w f.result names (length f.parameters) f.body))) a b
           (omega (arith, c, l, m, n)) (omega (arith, o, less)))
           (end_costs f.result t p (omega arith)));
     }
 
 -- a function's frame in Core is within the source's bound
-pub frame_bounded : (w : World) (f : Routine) → IsRoutine f → core_bound (function_code w f) ≤ frame_bound f
+pub frame_bounded : (w : World) (f : Routine) → IsRoutine w f → core_bound (function_code w f) ≤ frame_bound w f
 frame_bounded w f r =
     let b = body_bounded w f r in
     let t = subst (λ z. temporaries_of z ≤ length f.parameters + (item_nodes f.body + 1)) (sym b.is) b.costs.temporaries in
     let p = subst (λ z. passed_by z ≤ item_nodes f.body) (sym b.is) b.costs.passes in
-    let l = subst (λ z. block_words z ≤ length f.parameters + item_locals f.body) (sym b.is) b.costs.locals in
+    let l = subst (λ z. block_words z ≤ length f.parameters + item_locals w f.body) (sym b.is) b.costs.locals in
     omega (arith, t, p, l)
 
-operations_bounded : (w : World) (fs : List Routine) → AreRoutines fs → all_operations (map (function_code w) fs) ≤ 8 * routines_size fs
+operations_bounded : (w : World) (fs : List Routine) → AreRoutines w fs → all_operations (map (function_code w) fs) ≤ 8 * routines_size fs
 operations_bounded w [] h = omega arith
 operations_bounded w (f ∷ fs) h =
     let b = body_bounded w f h.0 in
@@ -366,13 +352,13 @@ operations_bounded w (f ∷ fs) h =
     omega (arith, o, others)
 
 -- each function's frame
-pub frames_bounded : (w : World) (fs : List Routine) → AreRoutines fs → FramesFit w fs
+pub frames_bounded : (w : World) (fs : List Routine) → AreRoutines w fs → FramesFit w fs
 frames_bounded w [] h = tt
 frames_bounded w (f ∷ fs) h = (frame_bounded w f h.0, frames_bounded w fs h.1)
 
 pub code_bounded : (p : Program) → IsLowerable p → core_code (program_code p) ≤ code_bound (world_of p).functions
-code_bounded p h = let o = operations_bounded (world_of p) (world_of p).functions (routines_are p h.items) in omega (arith, o)
+code_bounded p h = let o = operations_bounded (world_of p) (world_of p).functions (routines_are (world_of p) p h.items) in omega (arith, o)
 
 -- of a program that is taken
 pub program_frames_bounded : (p : Program) → IsLowerable p → FramesFit (world_of p) (world_of p).functions
-program_frames_bounded p h = frames_bounded (world_of p) (world_of p).functions (routines_are p h.items)
+program_frames_bounded p h = frames_bounded (world_of p) (world_of p).functions (routines_are (world_of p) p h.items)

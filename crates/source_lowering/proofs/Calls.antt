@@ -121,7 +121,7 @@ pub record Returning (w : World) (fs : Program) (n : ℕ) (m0 : source.Memory) (
 pub record EntersAs (w : World) (fs : Program) (n : ℕ) : Type 0 where
   pub same : (name : List ℕ) (f : Routine) (vss : List (List Scalar)) (xs : List Content) (m : source.Memory) (c : core.Memory)
       (s : List Scalar → source.Memory → steps.Step) (k : List Content → core.Memory → core_steps.Step)
-      → slice_get w.functions (number_of w.functions name) ≡ Some f → IsRoutine f → Agree w m c → AreLed w m c w.globals
+      → slice_get w.functions (number_of w.functions name) ≡ Some f → IsRoutine w f → Agree w m c → AreLed w m c w.globals
       → AllGiven w m c (part_shapes f.parameters) vss xs → Returning w fs n m c f.result s k
       → Same w fs n (entered f w vss s m) (meaning.called fs.functions (record { function = number_of w.functions name; arguments = xs }) k c)
 
@@ -218,7 +218,7 @@ results_same p n d m0 c0 m c shape vs xs s k taken result fits later kept goes =
     by (ArrayShape count of) h go r = absurd h
 
 pub called_gives : (p : Place) (n d count : ℕ) (name : List ℕ) (f : Routine) (act : steps.Act (List (List Scalar))) (code : List Statement)
-    → slice_get p.world.functions (number_of p.world.functions name) ≡ Some f → IsRoutine f → CallsAs p.world p.program n
+    → slice_get p.world.functions (number_of p.world.functions name) ≡ Some f → IsRoutine p.world f → CallsAs p.world p.program n
     → ArgumentsAs p n d count (part_shapes f.parameters) act code
     → GivesAs p n d f.result (act >>= λ vss. invoke f p.world vss) (code ++ (Call (results_in f.result d) (number_of p.world.functions name) (from_on d count)
     ∷ []))

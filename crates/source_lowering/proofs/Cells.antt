@@ -50,12 +50,12 @@ use Rattle.core_meaning.specs.Memory.{Content, Word, Null, Pointer, Part, with_p
 use Rattle.core_meaning.specs.Core.{Program}
 use Rattle.core_meaning.specs.Steps as core_steps
 use Rattle.core_meaning.specs.Operations.{fitting}
-use Rattle.source_lowering.specs.Layouts.{placed_of, pieces_of}
+use Rattle.source_lowering.specs.Layouts.{layout_of, first_part}
 use Rattle.source_lowering.specs.Lowered.{width_of}
-use Rattle.source_lowering.proofs.Relations.{region_at, at, HasShape, PartsAre, AreLaid, Leads, ANull, APointer, Shown, PartsHold, Agree, Later, Same}
+use Rattle.source_lowering.proofs.Relations.{region_at, at, HasShape, PartIs, AreCells, AreMade, Leads, ANull, APointer, Shown, PartsHold, Agree, Later, Same}
 use Rattle.source_lowering.proofs.Keeping.{later_written, agree_written, m_written}
 use Rattle.source_lowering.proofs.Runs.{stuck_same}
-use Rattle.source_lowering.proofs.Integers.{IsWordShape}
+use Rattle.source_lowering.proofs.Integers.{IsWordShape, IsObject}
 
 -- ---- shapes of one word
 
@@ -67,14 +67,12 @@ pub record OneWord (width : ℕ) (cs : List Content) : Type 0 where
 
 pub record IsPlain (w : World) (shape : Shape) (width : ℕ) : Type 0 where
   pub cells : cells_of w shape ≡ shape ∷ []
-  pub placed : placed_of w shape ≡ (record { offset = 0; shape = shape }) ∷ []
-  pub pieces : pieces_of shape ≡ (record { offset = 0; width = width }) ∷ []
+  pub layout : (layout_of w shape).cells ≡ ((record { offset = 0; width = width; first = first_part shape }) ∷ []) ∷ []
   pub one : (m : source.Memory) (c : core.Memory) (v : Scalar) (cs : List Content) → Shown w m c shape v cs → OneWord width cs
   -- it is copied as it is looked at, and what is stored is given
   pub taken : (s : Spot) (k : List Scalar → source.Memory → steps.Step) (m : source.Memory)
       → take_cells (cells_of w shape) s k m ≡ read_cells (length (cells_of w shape)) s k m
   pub given : (vs : List Scalar) → given_by shape vs ≡ vs
-  pub variable : (s : Spot) → entity_sense w (Some (Variable shape s)) ≡ place_sense w shape (give s)
 
 low : (x : ℕ) → x < 256 → x % 256 ≡ x
 low x h = omega (arith, h)
@@ -82,17 +80,14 @@ low x h = omega (arith, h)
 pub plain_of : (w : World) (s : Shape) → IsWordShape s → IsPlain w s (width_of s)
 plain_of w IntShape h = record {
   cells = refl;
-  placed = refl;
-  pieces = refl;
+  layout = refl;
   one = λ m c v cs o. record { word = Word o.word; is = o.shown; fits = refl };
   taken = λ s k m. refl;
   given = λ vs. refl;
-  variable = λ s. refl;
 }
 plain_of w UnsignedShape h = record {
   cells = refl;
-  placed = refl;
-  pieces = refl;
+  layout = refl;
   one = λ m c v cs o. record {
     word = Word o.word;
     is = o.shown;
@@ -100,12 +95,10 @@ plain_of w UnsignedShape h = record {
   };
   taken = λ s k m. refl;
   given = λ vs. refl;
-  variable = λ s. refl;
 }
 plain_of w CharShape h = record {
   cells = refl;
-  placed = refl;
-  pieces = refl;
+  layout = refl;
   one = λ m c v cs o. record {
     word = Word o.word;
     is = o.shown;
@@ -114,21 +107,18 @@ plain_of w CharShape h = record {
   };
   taken = λ s k m. refl;
   given = λ vs. refl;
-  variable = λ s. refl;
 }
 plain_of w VoidShape h = absurd h
 plain_of w (ThinShape may_be_null owner to) h =
     subst (λ z. IsPlain w (ThinShape may_be_null z to) 4) (sym h.0)
     (record {
       cells = refl;
-      placed = refl;
-      pieces = refl;
+      layout = refl;
       one = λ m c v cs o.
           ⊎_elim (λ (z : ANull may_be_null v cs). record { word = Null; is = z.shown; fits = refl })
           (λ (z : APointer w m c to v cs). record { word = Pointer (at z.spot) z.byte; is = z.shown; fits = refl }) o;
       taken = λ s k m. refl;
       given = λ vs. refl;
-      variable = λ s. refl;
     })
 plain_of w (FatShape to) h = absurd h
 plain_of w HandleShape h = absurd h
@@ -137,23 +127,40 @@ plain_of w (StructShape tag) h = absurd h
 plain_of w (UnionShape tag) h = absurd h
 plain_of w (ArrayShape count of) h = absurd h
 
+-- an object's name is a place
+pub object_variable : (w : World) (shape : Shape) → IsObject w.structs shape → (s : Spot)
+    → entity_sense w (Some (Variable shape s)) ≡ place_sense w shape (give s)
+object_variable w (StructShape tag) h s = refl
+object_variable w IntShape h s = refl
+object_variable w UnsignedShape h s = refl
+object_variable w CharShape h s = refl
+object_variable w VoidShape h s = absurd h
+object_variable w (ThinShape may_be_null owner to) h s = refl
+object_variable w (FatShape to) h s = absurd h
+object_variable w HandleShape h s = absurd h
+object_variable w KeyShape h s = absurd h
+object_variable w (UnionShape tag) h s = absurd h
+object_variable w (ArrayShape count of) h s = absurd h
+
 -- the one cell of a plain place, and its one part
 pub record OneCell (m : source.Memory) (c : core.Memory) (s : Spot) (byte : ℕ) (shape : Shape) (width : ℕ) : Type 0 where
   pub has : HasShape m s shape
   pub content : Content
   pub is : c.parts (at s) 0 ≡ Some (record { offset = byte; width = width; content = content })
 
-part_here : (m : source.Memory) (c : core.Memory) (s : Spot) (byte : ℕ) (shape : Shape) (width : ℕ) → HasShape m s shape
-    → PartsAre c (at s) (byte + 0) 0 ((record { offset = 0; width = width }) ∷ []) → OneCell m c s byte shape width
-part_here m c s byte shape width has (one, others) =
-    let same : byte + 0 + 0 ≡ byte = omega arith in
+part_here : (m : source.Memory) (c : core.Memory) (s : Spot) (byte : ℕ) (shape : Shape) (width : ℕ) → HasShape m s shape → PartIs c (at s) 0 (byte + 0) width
+    → OneCell m c s byte shape width
+part_here m c s byte shape width has one =
+    let same : byte + 0 ≡ byte = omega arith in
     record { has = has; content = one.content; is = one.is ∙ ap (λ o. Some (record { offset = o; width = width; content = one.content })) same }
 
 pub plain_cell : (w : World) (m : source.Memory) (c : core.Memory) (s : Spot) (byte : ℕ) (shape : Shape) (width : ℕ) → IsPlain w shape width
     → Leads w m c shape s byte → OneCell m c s byte shape width
 plain_cell w m c s byte shape width plain leads =
-    let laid : AreLaid m c s byte ((record { offset = 0; shape = shape }) ∷ []) = subst (λ ps. AreLaid m c s byte ps) plain.placed leads in
-    part_here m c s byte shape width laid.0.has (subst (λ ps. PartsAre c (at s) (byte + 0) 0 ps) plain.pieces laid.0.parts)
+    let cells : AreCells m s (shape ∷ []) = subst (λ z. AreCells m s z) plain.cells leads.0 in
+    let made : AreMade c (at s) byte (((record { offset = 0; width = width; first = first_part shape }) ∷ []) ∷ []) =
+    subst (λ z. AreMade c (at s) byte z) plain.layout leads.1 in
+    part_here m c s byte shape width cells.0 made.0.0
 
 -- ---- a cell is read: where the source isn't stuck, its part has what stands for its value
 

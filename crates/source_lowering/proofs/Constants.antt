@@ -33,16 +33,17 @@ use Rattle.core_meaning.specs.Memory.{Content, Word, Part, with_part}
 use Rattle.core_meaning.specs.Core.{Program}
 use Rattle.core_meaning.specs.Steps as core_steps
 use Rattle.source_lowering.specs.Lowered.{width_of}
-use Rattle.source_lowering.specs.Programs.{word_in, constant_word, constant_content, initial_content}
-use Rattle.source_lowering.specs.Taken.{IsIntegerShape, IsNullable, TakesConstant, TakesInitial, TakesProgram}
+use Rattle.source_lowering.specs.Programs.{word_in, constant_word, constant_content}
+use Rattle.source_lowering.specs.Words.{IsIntegerShape, IsNullable, TakesConstant}
+use Rattle.source_lowering.specs.Taken.{IsObject, TakesGlobal, TakesProgram}
 use Rattle.source_lowering.proofs.Relations.{at, Leads, Shown, Agree, Later, AreLed, Same}
 use Rattle.core_meaning.proofs.Spots.{spot_same}
 use Rattle.source_lowering.proofs.Keeping.{later_self, all_led_later, m_written}
 use Rattle.source_lowering.proofs.Operators.{modulo_small}
-use Rattle.source_lowering.proofs.Integers.{IsWordShape, limit, word_shown}
+use Rattle.source_lowering.proofs.Integers.{IsWordShape, limit, word_shown, object_word}
 use Rattle.source_lowering.proofs.Cells.{plain_of, write_same}
-use Rattle.source_lowering.proofs.WrittenTypes.{type_settled}
-use Rattle.source_lowering.proofs.Heap.{part_of, AreStored}
+use Rattle.source_lowering.proofs.WrittenTypes.{object_settled}
+use Rattle.source_lowering.proofs.Heap.{part_of, constant_single, IsStored, AreStored}
 
 -- ---- a part that is written with what it has
 
@@ -145,18 +146,21 @@ pub record Begins (w : World) (fs : Program) (n : ℕ) (c : core.Memory) (s : so
 
 -- one global's constant is stored
 one_stored : (w : World) (fs : Program) (n : ℕ) (initial : Initial) (shape : Shape) (i : ℕ) (m : source.Memory) (c : core.Memory)
-    (s : Unit {0} → source.Memory → steps.Step) (k : core_steps.Step) → TakesInitial shape initial → IsWordShape shape → Agree w m c
-    → Leads w m c (global_shape initial shape) (heap_spot i) 0 → c.parts (at (heap_spot i)) 0 ≡ Some (part_of (width_of shape) (initial_content initial shape))
+    (s : Unit {0} → source.Memory → steps.Step) (k : core_steps.Step) → TakesGlobal shape initial → IsObject w.structs shape → Agree w m c
+    → Leads w m c (global_shape initial shape) (heap_spot i) 0 → IsStored c initial shape i
     → ((m' : source.Memory) → Agree w m' c → Later 0 m c m' c → Same w fs n (s tt m') k) → Same w fs n (global_stored w initial shape (heap_spot i) s m) k
-one_stored w fs n Initial.Unset shape i m c s k h is_word agree leads part go = go m agree (later_self 0 m c)
-one_stored w fs n (Initial.Elements count) shape i m c s k h is_word agree leads part go = absurd h
-one_stored w fs n (Initial.Given constant) shape i m c s k h is_word agree leads part go =
+one_stored w fs n Initial.Unset shape i m c s k h object agree leads part go = go m agree (later_self 0 m c)
+one_stored w fs n (Initial.Elements count) shape i m c s k h object agree leads part go = absurd h
+one_stored w fs n (Initial.Given constant) shape i m c s k h object agree leads part go =
     subst (λ z. Same w fs n z k) (sym (o.gives (λ vs. write_cells (heap_spot i) vs s) m))
-    (write_same w fs n shape (width_of shape) m c (heap_spot i) 0 o.value x s k (plain_of w shape is_word) agree leads (o.shown m c)
+    (write_same w fs n shape (width_of shape) m c (heap_spot i) 0 o.value x s k (plain_of w shape word) agree leads (o.shown m c)
     (λ y. go (m_written m (heap_spot i) shape o.value) (subst (λ z. Agree w (m_written m (heap_spot i) shape o.value) z) same
     y.agree)
     (subst (λ z. Later 0 m c (m_written m (heap_spot i) shape o.value) z) same (y.later 0))))
   where
+    word : IsWordShape shape
+    word = object_word w.structs shape object (constant_single constant shape h)
+
     o : IsConverted w constant shape
     o = constant_converted w constant shape h
 
@@ -167,16 +171,17 @@ one_stored w fs n (Initial.Given constant) shape i m c s k h is_word agree leads
     same = same_part c (at (heap_spot i)) (part_of (width_of shape) x) part
 
 pub globals_same : (w : World) (fs : Program) (n : ℕ) (items : List Item) (i : ℕ) (m : source.Memory) (c : core.Memory)
-    (s : Unit {0} → source.Memory → steps.Step) (k : core_steps.Step) → TakesProgram items → Agree w m c → AreLed w m c w.globals
+    (s : Unit {0} → source.Memory → steps.Step) (k : core_steps.Step) → TakesProgram w items → Agree w m c → AreLed w m c w.globals
     → AreLed w m c (globals_from items i) → AreStored c items i
     → Begins w fs n c (s tt) k → Same w fs n (globals_stored w items i s m) k
 globals_same w fs n [] i m c s k h agree led here stored begins = begins.go m agree led
-globals_same w fs n (tree.StructItem x ∷ items) i m c s k h agree led here stored begins = absurd h.0
+globals_same w fs n (tree.StructItem x ∷ items) i m c s k h agree led here stored begins = globals_same w fs n items i m c s k h.1 agree led here stored
+    begins
 globals_same w fs n (tree.UnionItem u ∷ items) i m c s k h agree led here stored begins = absurd h.0
 globals_same w fs n (tree.FunctionItem f ∷ items) i m c s k h agree led here stored begins = globals_same w fs n items i m c s k h.1 agree led here stored
     begins
 globals_same w fs n (tree.GlobalItem g ∷ items) i m c s k h agree led here stored begins =
-    one_stored w fs n g.initial (settled (written g.of)) i m c (λ u. globals_stored w items (suc i) s) k h.0.1 (type_settled g.of h.0.0).is_word agree here.0
+    one_stored w fs n g.initial (settled (written g.of)) i m c (λ u. globals_stored w items (suc i) s) k h.0.1 (object_settled w.structs g.of h.0.0) agree here.0
     stored.0
     (λ m' agree' later.
     globals_same w fs n items (suc i) m' c s k h.1 agree' (all_led_later 0 w m m' c c w.globals later led) (all_led_later 0 w m m' c c

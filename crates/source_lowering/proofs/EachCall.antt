@@ -24,7 +24,7 @@ own_call : (p : Place) (n d count : ℕ) (name : List ℕ) (es : List Sense) (co
     (code ++ function_call (function_of p.world.functions name) (number_of p.world.functions name) count d)
 own_call p n d count name es code plain calls passed =
     ⊎_elim
-    (λ (f : FoundFunction p.world.functions name).
+    (λ (f : FoundFunction p.world p.world.functions name).
     let arguments : Passed p n d count (part_shapes f.routine.parameters) es code = subst (λ z. Passed p n d count (parameter_shapes z) es code) f.found
     passed in
     let gives = called_gives p n d count name f.routine (converted_all p.world (part_shapes f.routine.parameters) es) code f.numbered f.is calls arguments in
@@ -33,7 +33,7 @@ own_call p n d count name es code plain calls passed =
     (λ (none : function_of p.world.functions name ≡ None).
     subst (λ z. Agrees p n d (called p.world z es) (result_shape z) (code ++ function_call z (number_of p.world.functions name) count d)) (sym none)
     (stuck_agrees p n d (code ++ [])))
-    (find_function p.world.functions name plain.functions)
+    (find_function p.world p.world.functions name plain.functions)
 
 read_call : (p : Place) (n d : ℕ) (es : List Sense) (code : List Statement) → (es ≡ [] → code ≡ [])
     → Agrees p n d (value_sense IntShape (read_byte es)) IntShape (code ++ (Do (Getchar d) ∷ []))
@@ -46,10 +46,10 @@ read_call p n d (e ∷ es) code none = value_agrees p n d IntShape IntShape (rea
 abbrev parameters_by : Bool → Bool → Option Routine → List Shape
 parameters_by reads writes f = (if reads then [] else (if writes then IntShape ∷ [] else parameter_shapes f))
 
-pub call_agrees : (p : Place) (n d count : ℕ) (name : List ℕ) (es : List Sense) (code : List Statement) → IsPlainWorld p.world → CallsAs p.world p.program n
+pub call_agrees : (p : Place) (n d count : ℕ) (name : List ℕ) (es : List Sense) (code : List Statement) → IsPlainWorld p.world → has_tag p.world.structs name ≡ false → CallsAs p.world p.program n
     → (call_parameters p.world name ≡ [] → code ≡ []) → Passed p n d count (call_parameters p.world name) es code
     → Agrees p n d (call_sense p.world name es) (call_shape p.world name) (code ++ call_code p.world name count d)
-call_agrees p n d count name es code plain calls none passed = by (bytes_eq name (codes "getchar")) (bytes_eq name (codes "putchar")) refl refl
+call_agrees p n d count name es code plain no_tag calls none passed = by (bytes_eq name (codes "getchar")) (bytes_eq name (codes "putchar")) refl refl
   where
     by : (reads writes : Bool) → bytes_eq name (codes "getchar") ≡ reads → bytes_eq name (codes "putchar") ≡ writes
         → Agrees p n d (call_sense p.world name es) (call_shape p.world name) (code ++ call_code p.world name count d)
@@ -64,7 +64,6 @@ call_agrees p n d count name es code plain calls none passed = by (bytes_eq name
         let arguments : Passed p n d count (parameter_shapes (function_of p.world.functions name)) es code = subst (λ z. Passed p n d count z es code)
         (ap (λ b. parameters_by b (bytes_eq name (codes "putchar")) (function_of p.world.functions name)) e ∙ ap
         (λ b. parameters_by false b (function_of p.world.functions name)) f) passed in
-        let no_tag : has_tag p.world.structs name ≡ false = ap (λ z. has_tag z name) plain.structs in
         rw (e, f, no_tag) (own_call p n d count name es code plain calls arguments)
 
 -- what a name's function takes are words
@@ -81,10 +80,10 @@ call_words w name plain = by (bytes_eq name (codes "getchar")) (bytes_eq name (c
   where
     own : AllWords (parameter_shapes (function_of w.functions name))
     own = ⊎_elim
-        (λ (f : FoundFunction w.functions name). subst (λ z. AllWords (parameter_shapes z)) (sym f.found) (parameters_words f.routine.parameters
+        (λ (f : FoundFunction w w.functions name). subst (λ z. AllWords (parameter_shapes z)) (sym f.found) (parameters_words f.routine.parameters
         f.is.parameters))
         (λ (none : function_of w.functions name ≡ None). subst (λ z. AllWords (parameter_shapes z)) (sym none) tt)
-        (find_function w.functions name plain.functions)
+        (find_function w w.functions name plain.functions)
 
     by : (reads writes : Bool) → AllWords (parameters_by reads writes (function_of w.functions name))
     by true writes = tt

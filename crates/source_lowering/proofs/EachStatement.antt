@@ -19,32 +19,31 @@ use Rattle.core_meaning.specs.Core.{Program, Do, Put, Statements, MoreStatements
 use Rattle.core_meaning.specs.Steps.{Config}
 use Rattle.core_meaning.specs.Meaning as meaning
 use Rattle.core_meaning.specs.Meaning.{values_of}
-use Rattle.source_lowering.specs.Lowered.{put, width_of, from_on, conversion_code, static_shape, expression_code}
+use Rattle.source_lowering.specs.Lowered.{Named, put, width_of, from_on, conversion_code, static_shape, expression_code}
 use Rattle.source_lowering.specs.Programs.{
   local_shape,
   block_shapes,
   outward,
   named_here,
-  first_code,
+  unset_code,
   declaration_code,
   statement_code,
   items_code,
   parameter_names,
   parameters_code,
 }
-use Rattle.source_lowering.specs.Taken.{HasFirst, TakesDeclaration, TakesStatement, TakesItems}
+use Rattle.source_lowering.specs.Taken.{IsObject, HasBeginning, TakesDeclaration, TakesStatement, TakesItems}
 use Rattle.source_lowering.proofs.Relations.{Later, Place, Fits, SameAt, Next}
 use Rattle.source_lowering.proofs.Keeping.{later_on, later_less, shown_later}
 use Rattle.source_lowering.proofs.Runs.{stuck_same, put_all}
-use Rattle.source_lowering.proofs.Integers.{IsTaken, IsWordShape, word_taken}
-use Rattle.source_lowering.proofs.WrittenTypes.{type_settled}
+use Rattle.source_lowering.proofs.Integers.{IsTaken, IsWordShape, word_taken, taken_target, object_word, word_object}
+use Rattle.source_lowering.proofs.WrittenTypes.{type_settles, object_settled}
 use Rattle.source_lowering.proofs.Names.{AreParameters}
 use Rattle.source_lowering.proofs.Values.{put_three}
 use Rattle.source_lowering.proofs.Variables.{Agrees, value_of}
 use Rattle.source_lowering.proofs.Conversions.{converted_gives}
 use Rattle.source_lowering.proofs.Calls.{AllGiven, CallsAs}
 use Rattle.source_lowering.proofs.EachExpression.{Known, place_in, IsKnown, expression_same}
-use Rattle.source_lowering.proofs.Entering.{AreTaken}
 use Rattle.source_lowering.proofs.Making.{local_spot}
 use Rattle.source_lowering.proofs.Statements.{
   WaysOn,
@@ -61,8 +60,9 @@ use Rattle.source_lowering.proofs.Statements.{
   sequence_same,
   loop_same,
 }
-use Rattle.source_lowering.proofs.Declaring.{local_with_same, declared_same}
-use Rattle.source_lowering.proofs.Blocks.{locals_outward, integers_outward, block_same}
+use Rattle.source_lowering.proofs.Declaring.{local_with_same}
+use Rattle.source_lowering.proofs.Beginning.{declared_same}
+use Rattle.source_lowering.proofs.Blocks.{locals_outward, objects_outward, block_same}
 
 -- ---- declarations
 
@@ -74,26 +74,32 @@ known_more k name shape pending =
 abbrev pub scope_more : Scope → Known → List ℕ → Shape → Scope
 scope_more scope k name shape = with_binding scope name (Variable shape (local_spot scope.frame k.made))
 
-pub known_still : (scope : Scope) (k : Known) (name : List ℕ) (shape : Shape) (pending : List Shape) → IsWordShape shape → IsKnown scope k
+pub known_still : (scope : Scope) (k : Known) (name : List ℕ) (shape : Shape) (pending : List Shape) → IsObject scope.world.structs shape
+    → IsKnown scope k
     → IsKnown (scope_more scope k name shape) (known_more k name shape pending)
-known_still scope k name shape pending is_word known = record {
+known_still scope k name shape pending object known = record {
   world = known.world;
   locals = (record { frame = scope.frame; in_block = refl; named = refl; is = refl }, known.locals);
-  words = (is_word, known.words);
+  words = (object, known.words);
 }
 
 unset_same : (n : ℕ) (scope : Scope) (k : Known) (result : Shape) (name : List ℕ) (shape : Shape) (shapes : List Shape) (then_act : Scope → Act Flow)
-    (others : List core.Statement) → IsWordShape shape → HasFirst shape → k.pending ≡ shape ∷ shapes
+    (others : List core.Statement) → IsKnown scope k → IsObject scope.world.structs shape → HasBeginning shape → k.pending ≡ shape ∷ shapes
     → RunsAs (place_in (scope_more scope k name shape) (known_more k name shape shapes)) n scope.frame result (then_act (scope_more scope k name shape)) others
     → RunsAs (place_in scope k) n scope.frame result (declared scope name shape (meaning_of.first_object scope.world shape) then_act)
-    ((Do (first_code shape) ∷ Do (Put 0 k.made (width_of shape) 0) ∷ []) ++ others)
-unset_same n scope k result name shape shapes then_act others is_word begins pending more = record {
+    (unset_code scope.world shape k.made ++ others)
+unset_same n scope k result name shape shapes then_act others known object begins pending more = record {
   same = λ m c next rest after fits ways.
-      declared_same (place_in scope k) n scope name shape shapes then_act next m c (put others rest) after refl refl is_word begins pending fits
-      (λ m2 c2 fits2 later2 blocks2.
-      more.same m2 c2 next rest after fits2
-      (ways_later scope.world k.program n scope.frame scope.frame m m2 c c2 result next (meaning.statements rest after) after (omega arith) later2 blocks2
-      ways));
+      subst (λ z. SameAt (place_in scope k) n (declared scope name shape (meaning_of.first_object scope.world shape) then_act next m)
+      (meaning.statements z after c)) (sym (put_all (unset_code scope.world shape k.made) others rest))
+      (declared_same (place_in scope k) n scope name shape shapes then_act next m c (put others rest) after refl refl known.world.structs object begins pending
+      fits
+      (record {
+        go = λ m2 c2 fits2 later2 blocks2.
+            more.same m2 c2 next rest after fits2
+            (ways_later scope.world k.program n scope.frame scope.frame m m2 c c2 result next (meaning.statements rest after) after (omega arith) later2
+            blocks2 ways);
+      }));
 }
 
 value_same : (n : ℕ) (scope : Scope) (k : Known) (result : Shape) (name : List ℕ) (shape : Shape) (shapes : List Shape) (e : Sense) (from : Shape)
@@ -129,38 +135,35 @@ value_same n scope k result name shape shapes e from first then_act others is_wo
     stores = Do (Put 0 k.made (width_of shape) 0) ∷ []
 
 declaration_same : (n : ℕ) (d : Declaration) (scope : Scope) (k : Known) (result : Shape) (shapes : List Shape) (then_act : Scope → Act Flow)
-    (others : List core.Statement) → TakesDeclaration d → IsKnown scope k → CallsAs scope.world k.program n → k.pending ≡ local_shape d ∷ shapes
+    (others : List core.Statement) → TakesDeclaration scope.world k.names d → IsKnown scope k → CallsAs scope.world k.program n → k.pending ≡ local_shape d ∷ shapes
     → RunsAs (place_in (scope_more scope k (tree.local_of d).text (local_shape d)) (known_more k (tree.local_of d).text (local_shape d) shapes)) n scope.frame
     result (then_act (scope_more scope k (tree.local_of d).text (local_shape d))) others
     → RunsAs (place_in scope k) n scope.frame result (meaning_of.declaration d scope then_act) (declaration_code scope.world k.names d k.made ++ others)
 declaration_same n (tree.Local of name Initializer.Unset) scope k result shapes then_act others h known calls pending more =
-    unset_same n scope k result name.text (settled (written of)) shapes then_act others (type_settled of h.0).is_word h.1 pending more
+    unset_same n scope k result name.text (settled (written of)) shapes then_act others known (object_settled scope.world.structs of h.0) h.1 pending more
 declaration_same n (tree.Local of name (Initializer.Elements count)) scope k result shapes then_act others h known calls pending more = absurd h.1
 declaration_same n (tree.Local of name (Initializer.Value e)) scope k result shapes then_act others h known calls pending more =
-    let type = type_settled of h.0 in
-    let one = expression_same e scope k h.1 known n calls 0 in
+    let object = object_settled scope.world.structs of h.0 in
+    let one = expression_same e scope k h.1.0 known n calls 0 in
     subst (λ z. RunsAs (place_in scope k) n scope.frame result (initialised scope name.text z (sense e scope) then_act)
     (declaration_code scope.world k.names (tree.Local of name (Initializer.Value e)) k.made ++ others))
-    (sym (type.by (sense e scope).shape (subst (λ z. IsTaken z) (sym one.shape_is) one.taken)))
+    (sym (type_settles scope.world.structs of h.0 (sense e scope).shape (taken_target (sense e scope).shape
+    (subst (λ z. IsTaken z) (sym one.shape_is) one.taken))))
     (value_same n scope k result name.text (settled (written of)) shapes (sense e scope) (static_shape scope.world k.names e)
-    (expression_code scope.world k.names e 0) then_act others type.is_word pending one more)
+    (expression_code scope.world k.names e 0) then_act others
+    (object_word scope.world.structs (settled (written of)) object h.1.1) pending one more)
 declaration_same n (tree.Region at region handle) scope k result shapes then_act others h known calls pending more = absurd h
 declaration_same n (tree.Open at region handle key) scope k result shapes then_act others h known calls pending more = absurd h
 declaration_same n (tree.Alias at region of alias pointer) scope k result shapes then_act others h known calls pending more = absurd h
 declaration_same n (tree.NewKey at region key) scope k result shapes then_act others h known calls pending more = absurd h
 
--- the locals of a block are of words
-shape_taken : (d : Declaration) → TakesDeclaration d → IsWordShape (local_shape d)
-shape_taken (tree.Local of name initializer) h = (type_settled of h.0).is_word
-shape_taken (tree.Region at region handle) h = absurd h
-shape_taken (tree.Open at region handle key) h = absurd h
-shape_taken (tree.Alias at region of alias pointer) h = absurd h
-shape_taken (tree.NewKey at region key) h = absurd h
-
-pub shapes_taken : (result : Shape) (items : BlockItems) → TakesItems result items → AreTaken (block_shapes items)
-shapes_taken result NoItems h = tt
-shapes_taken result (Declare d others) h = (word_taken (local_shape d) (shape_taken d h.0), shapes_taken result others h.1)
-shapes_taken result (Execute s others) h = shapes_taken result others h.1
+-- a local is an object
+shape_object : (w : World) (names : List Named) (d : Declaration) → TakesDeclaration w names d → IsObject w.structs (local_shape d)
+shape_object w names (tree.Local of name initializer) h = object_settled w.structs of h.0
+shape_object w names (tree.Region at region handle) h = absurd h
+shape_object w names (tree.Open at region handle key) h = absurd h
+shape_object w names (tree.Alias at region of alias pointer) h = absurd h
+shape_object w names (tree.NewKey at region key) h = absurd h
 
 -- ---- statements
 
@@ -173,20 +176,20 @@ known_in_block : (scope : Scope) (k : Known) (frame : ℕ) (shapes : List Shape)
 known_in_block scope k frame shapes known = record {
   world = known.world;
   locals = locals_outward frame (scope.frame ∷ k.outer) scope.locals k.names known.locals;
-  words = integers_outward k.names known.words;
+  words = objects_outward scope.world.structs k.names known.words;
 }
 
 calls_less : (w : World) (fs : Program) (n j : ℕ) → j ≤ n → CallsAs w fs n → CallsAs w fs j
 calls_less w fs n j less calls i h = calls i (omega (arith, less, h))
 
 mutual
-  pub statement_same : (s : Statement) (scope : Scope) (k : Known) → TakesStatement scope.result s → IsKnown scope k → IsTaken scope.result → (n : ℕ)
+  pub statement_same : (s : Statement) (scope : Scope) (k : Known) → TakesStatement scope.world scope.result k.names s → IsKnown scope k → IsTaken scope.result → (n : ℕ)
       → CallsAs scope.world k.program n → RunsAs (place_in scope k) n (suc scope.frame) scope.result (meaning_of.statement s scope)
       (statement_code scope.world scope.result k.names s)
   statement_same (Statement.Empty at) scope k h known result n calls = falls_same (place_in scope k) n (suc scope.frame) scope.result
   statement_same (Statement.Block at items) scope k h known result n calls =
       block_same (place_in scope k) n scope.result (block_shapes items) (λ frame. meaning_of.block_items items (record scope { frame = frame }))
-      (items_code scope.world scope.result (outward k.names) 0 items) (shapes_taken scope.result items h)
+      (items_code scope.world scope.result (outward k.names) 0 items)
       (λ frame. items_same items (record scope { frame = frame }) (known_inside scope k (block_shapes items)) h
       (known_in_block scope k frame (block_shapes items) known) result n calls refl)
   statement_same (Statement.Run e) scope k h known result n calls =
@@ -220,7 +223,7 @@ mutual
   statement_same (Statement.FreeUnique at pointer) scope k h known result n calls = absurd h
   statement_same (Statement.FreeKey at key) scope k h known result n calls = absurd h
 
-  pub items_same : (items : BlockItems) (scope : Scope) (k : Known) → TakesItems scope.result items → IsKnown scope k → IsTaken scope.result → (n : ℕ)
+  pub items_same : (items : BlockItems) (scope : Scope) (k : Known) → TakesItems scope.world scope.result k.names k.made items → IsKnown scope k → IsTaken scope.result → (n : ℕ)
       → CallsAs scope.world k.program n → k.pending ≡ block_shapes items → RunsAs (place_in scope k) n scope.frame scope.result
       (meaning_of.block_items items scope) (items_code scope.world scope.result k.names k.made items)
   items_same NoItems scope k h known result n calls pending = falls_same (place_in scope k) n scope.frame scope.result
@@ -229,7 +232,7 @@ mutual
       (named_here (tree.local_of d).text (local_shape d) k.made ∷ k.names) (suc k.made) others) h.0 known calls pending
       (items_same others (scope_more scope k (tree.local_of d).text (local_shape d)) (known_more k (tree.local_of d).text (local_shape d)
       (block_shapes others)) h.1
-      (known_still scope k (tree.local_of d).text (local_shape d) (block_shapes others) (shape_taken d h.0) known) result n calls refl)
+      (known_still scope k (tree.local_of d).text (local_shape d) (block_shapes others) (shape_object scope.world k.names d h.0) known) result n calls refl)
   items_same (Execute s others) scope k h known result n calls pending =
       sequence_same (place_in scope k) n scope.result (meaning_of.statement s scope) (meaning_of.block_items others scope)
       (statement_code scope.world scope.result k.names s) (items_code scope.world scope.result k.names k.made others)
@@ -255,7 +258,7 @@ same_values f g [] e = refl
 same_values f g (t ∷ ts) e = ap (λ z. z ∷ values_of f ts) (sym (e t)) ∙ ap (λ z. g t ∷ z) (same_values f g ts e)
 
 pub body_same : (ps : List Part) (items : BlockItems) (scope : Scope) (k : Known) (total n : ℕ) (vss : List (List Scalar)) → AreParameters ps
-    → TakesItems scope.result items → IsKnown scope k → IsTaken scope.result → CallsAs scope.world k.program n → k.made + length ps ≡ total
+    → TakesItems scope.world scope.result (parameter_names ps k.made k.names) total items → IsKnown scope k → IsTaken scope.result → CallsAs scope.world k.program n → k.made + length ps ≡ total
     → k.pending ≡ part_shapes ps ++ block_shapes items
     → (m : source.Memory) (c : Config) (next : Flow → source.Memory → steps.Step) (rest : Statements) (after : Next) → Fits (place_in scope k) m c
     → AllGiven scope.world m c.memory (part_shapes ps) vss (values_of c.temps (from_on k.made (length ps)))
@@ -266,7 +269,8 @@ body_same [] items scope k total n [] integers h known result calls sum pending 
     let e : k.made ≡ total = omega (arith, sum) in
     subst (λ z. SameAt (place_in scope k) n (meaning_of.block_items items scope next m) (meaning.statements (put
     (items_code scope.world scope.result k.names z items) rest) after c)) e
-    ((items_same items scope k h known result n calls pending).same m c next rest after fits ways)
+    ((items_same items scope k (subst (λ z. TakesItems scope.world scope.result k.names z items) (sym e) h) known result n calls pending).same m c next rest
+    after fits ways)
 body_same [] items scope k total n (vs ∷ vss) integers h known result calls sum pending m c next rest after fits given ways = stuck_same scope.world k.program
     n _
 body_same (p ∷ ps) items scope k total n [] integers h known result calls sum pending m c next rest after fits given ways = stuck_same scope.world k.program n _
@@ -278,7 +282,7 @@ body_same (p ∷ ps) items scope k total n (vs ∷ vss) integers h known result 
     local_with_same (place_in scope k) n k.made scope p.name p.shape shapes vs (with_arguments ps vss (meaning_of.block_items items)) next m c (put code rest)
     after refl refl integers.0 pending fits given.0 (record {
       go = λ m2 c2 fits2 later2 temps2 blocks2.
-          body_same ps items (scope_more scope k p.name p.shape) more total n vss integers.1 h (known_still scope k p.name p.shape shapes integers.0 known)
+          body_same ps items (scope_more scope k p.name p.shape) more total n vss integers.1 h (known_still scope k p.name p.shape shapes (word_object scope.world.structs p.shape integers.0) known)
           result calls (omega (arith, sum)) refl m2 c2 next rest after fits2
           (given_later scope.frame scope.world m m2 c.memory c2.memory (part_shapes ps) vss (values_of c2.temps (from_on (suc k.made) (length ps))) later2
           (subst (λ z. AllGiven scope.world m c.memory (part_shapes ps) vss z) (same_values c.temps c2.temps (from_on (suc k.made) (length ps)) temps2)

@@ -1,33 +1,20 @@
 -- A block is entered: its region is live in both, and Core makes the blank objects of all its locals at once.
 use Rattle.std.proofs.Common.{◌≡◌, ℕ, suc, ◌+◌, ◌<◌, ◌≤◌, List, [], ◌∷◌, Bool, true, false, nat_eq, Some, None, refl, sym, ap, ◌∙◌, subst, arith}
-use Rattle.std.specs.Prelude.{◌&&◌, if◌then◌else◌}
+use Rattle.std.specs.Prelude.{◌&&◌, ◌*◌, ◌/◌, ◌%◌, if◌then◌else◌, nat_lt, length, slice_get}
+use Rattle.std.proofs.Math.Nat.{div-eq_of_lt, mod-eq_of_lt}
 use Rattle.std.proofs.lemmas.Bool.{eq-eqb}
 use Rattle.std.proofs.lemmas.Bool.Decides.{nat_tests}
-use Rattle.source_meaning.specs.Shapes.{
-  Shape,
-  IntShape,
-  UnsignedShape,
-  CharShape,
-  VoidShape,
-  ThinShape,
-  FatShape,
-  HandleShape,
-  KeyShape,
-  StructShape,
-  UnionShape,
-  ArrayShape,
-}
+use Rattle.source_meaning.specs.Shapes.{Shape}
 use Rattle.source_meaning.specs.Memory as source
 use Rattle.source_meaning.specs.Memory.{Scalar, Spot, Holds, same_region, with_state, state_is_live}
 use Rattle.source_meaning.specs.Steps.{World}
 use Rattle.core_meaning.specs.Memory as core
-use Rattle.core_meaning.specs.Memory.{Content, Part, with_object, with_standing, blanks}
+use Rattle.core_meaning.specs.Memory.{Content, Part, PartShape, Layout, shape_in, blank_of, with_object, with_standing, blanks}
 use Rattle.core_meaning.specs.Core.{Local}
 use Rattle.core_meaning.specs.Meaning.{with_objects}
-use Rattle.source_lowering.specs.Layouts.{placed_of, layout_of}
+use Rattle.source_lowering.specs.Layouts.{layout_of}
 use Rattle.source_lowering.specs.Programs.{locals_of}
-use Rattle.source_lowering.proofs.Relations.{region_at, at, AreMade, ArePending, PartsHold, Agree, Later}
-use Rattle.source_lowering.proofs.Integers.{IsTaken}
+use Rattle.source_lowering.proofs.Relations.{region_at, at, PartIs, AreShaped, AreMade, ArePending, PartsHold, Agree, Later}
 use Rattle.core_meaning.proofs.Spots.{region_same, region_self}
 use Rattle.source_lowering.proofs.Keeping.{region_as, shown_later}
 
@@ -122,10 +109,6 @@ agree_entered w m c ls a = record {
 
 -- ---- the objects that Core has made
 
-abbrev pub AreTaken : List Shape → Type 0
-AreTaken [] = Unit {0}
-AreTaken (s ∷ ss) = IsTaken s × AreTaken ss
-
 -- an object's number is below the next one
 made_before : (r : core.Region) (ls : List Local) (c : core.Memory) (t : core.Spot) (j : ℕ) → t.object < c.objects r
     → (with_objects r ls c).parts t j ≡ c.parts t j
@@ -144,29 +127,72 @@ made_before r (l ∷ ls) c t j h =
     none true b e = e
     none false b e = refl
 
-abbrev spot_in : core.Region → ℕ → core.Spot
-spot_in r index = record { region = r; object = index; cell = 0 }
+abbrev pub spot_in : core.Region → ℕ → ℕ → core.Spot
+spot_in r index cell = record { region = r; object = index; cell = cell }
 
--- the parts of an object are those of its layout
-made_of : (w : World) (s : Shape) (c : core.Memory) (r : core.Region) (index : ℕ) → IsTaken s
-    → ((j : ℕ) → c.parts (spot_in r index) j ≡ blanks (layout_of w s) 1 0 j) → AreMade c (spot_in r index) 0 (placed_of w s)
-made_of w IntShape c r index taken h = ((record { content = core.Blank; is = h 0 }, tt), tt)
-made_of w UnsignedShape c r index taken h = ((record { content = core.Blank; is = h 0 }, tt), tt)
-made_of w CharShape c r index taken h = ((record { content = core.Blank; is = h 0 }, tt), tt)
-made_of w VoidShape c r index taken h = tt
-made_of w (ThinShape may_be_null owner to) c r index taken h = ((record { content = core.Blank; is = h 0 }, tt), tt)
-made_of w (FatShape to) c r index taken h = absurd taken
-made_of w HandleShape c r index taken h = absurd taken
-made_of w KeyShape c r index taken h = absurd taken
-made_of w (StructShape tag) c r index taken h = absurd taken
-made_of w (UnionShape tag) c r index taken h = absurd taken
-made_of w (ArrayShape count of) c r index taken h = absurd taken
+-- parts, from one on, are shaped as they are in the list
+all_shaped : (c : core.Memory) (t : core.Spot) (before j : ℕ) (all xs : List PartShape) → before ≡ 0
+    → ((i : ℕ) → slice_get all (j + i) ≡ slice_get xs i) → ((i : ℕ) (x : PartShape) → slice_get all i ≡ Some x → PartIs c t i (before + x.offset) x.width)
+    → AreShaped c t 0 j xs
+all_shaped c t before j all [] none same h = tt
+all_shaped c t before j all (x ∷ xs) none same h = (
+  subst (λ z. PartIs c t j (z + x.offset) x.width) none (h j x (ap (slice_get all) here ∙ same 0)),
+  all_shaped c t before (suc j) all xs none (λ i. ap (slice_get all) (one_on j i) ∙ same (suc i)) h,
+)
+  where
+    here : j ≡ j + 0
+    here = omega arith
 
-pending_made : (w : World) (ss : List Shape) (c : core.Memory) (k index : ℕ) → AreTaken ss → c.objects (core.Frame k) ≡ index
+    one_on : (k i : ℕ) → suc k + i ≡ k + suc i
+    one_on k i = omega arith
+
+-- what is known of one of an object's cells
+pub cell_blank : (l : Layout) (k j : ℕ) (xs : List PartShape) → k < length l.cells → slice_get l.cells k ≡ Some xs
+    → blanks l 1 k j ≡ blank_of (k / length l.cells * l.bytes) (slice_get xs j)
+cell_blank l k j xs less is =
+    let one : nat_lt (k / length l.cells) 1 ≡ true = ap (λ z. nat_lt z 1) (div-eq_of_lt less) in
+    ap (λ b. if b then blank_of (k / length l.cells * l.bytes) (shape_in (slice_get l.cells (k % length l.cells)) j) else None) one ∙
+    ap (λ z. blank_of (k / length l.cells * l.bytes) (shape_in z j)) (ap (slice_get l.cells) (mod-eq_of_lt less) ∙ is)
+
+-- the cells of an object, from one on
+
+pub cells_made : (c : core.Memory) (r : core.Region) (index : ℕ) (l : Layout) (k : ℕ) (xs : List (List PartShape)) → k + length xs ≡ length l.cells
+    → ((i : ℕ) → slice_get l.cells (k + i) ≡ slice_get xs i) → ((cell j : ℕ) (p : Part) → blanks l 1 cell j ≡ Some p → PartIs c (spot_in r index cell) j p.offset p.width)
+    → AreMade c (spot_in r index k) 0 xs
+cells_made c r index l k [] count same h = tt
+cells_made c r index l k (x ∷ xs) count same h = (
+  all_shaped c (spot_in r index k) (k / length l.cells * l.bytes) 0 x x none (λ i. ap (slice_get x) (zero_on i))
+      (λ i y e. h k i _ (cell_blank l k i x less (ap (slice_get l.cells) here ∙ same 0) ∙ ap (blank_of (k / length l.cells * l.bytes)) e)),
+  subst (λ z. AreMade c (spot_in r index z) 0 xs) next
+      (cells_made c r index l (suc k) xs (omega (arith, count)) (λ i. ap (slice_get l.cells) (one_on k i) ∙ same (suc i)) h),
+)
+  where
+    less : k < length l.cells
+    less = omega (arith, count)
+
+    none : k / length l.cells * l.bytes ≡ 0
+    none = ap (λ z. z * l.bytes) (div-eq_of_lt less) ∙ omega arith
+
+    here : k ≡ k + 0
+    here = omega arith
+
+    next : suc k ≡ k + 1
+    next = omega arith
+
+    zero_on : (i : ℕ) → 0 + i ≡ i
+    zero_on i = omega arith
+
+    one_on : (k i : ℕ) → suc k + i ≡ k + suc i
+    one_on k i = omega arith
+
+pending_made : (w : World) (ss : List Shape) (c : core.Memory) (k index : ℕ) → c.objects (core.Frame k) ≡ index
     → ArePending w (with_objects (core.Frame k) (locals_of w ss) c) k index ss
-pending_made w [] c k index taken e = tt
-pending_made w (s ∷ ss) c k index taken e =
-    (made_of w s (with_objects r (locals_of w ss) more) r index taken.0 here, pending_made w ss more k (suc index) taken.1 next)
+pending_made w [] c k index e = tt
+pending_made w (s ∷ ss) c k index e = (
+  cells_made (with_objects r (locals_of w ss) more) r index (layout_of w s) 0 (layout_of w s).cells (omega arith)
+      (λ i. ap (slice_get (layout_of w s).cells) (zero_on i)) (λ cell j p e. record { content = p.content; is = here cell j ∙ e }),
+  pending_made w ss more k (suc index) next,
+)
   where
     r : core.Region
     r = core.Frame k
@@ -177,14 +203,17 @@ pending_made w (s ∷ ss) c k index taken e =
     next : more.objects r ≡ suc index
     next = ap (λ z. if z then c.objects r + 1 else c.objects r) (region_self r) ∙ ap (λ z. z + 1) e ∙ omega arith
 
-    here : (j : ℕ) → (with_objects r (locals_of w ss) more).parts (spot_in r index) j ≡ blanks (layout_of w s) 1 0 j
-    here j =
-        made_before r (locals_of w ss) more (spot_in r index) j (subst (λ z. index < z) (sym next) (omega arith)) ∙
-        ap (λ z. if z && nat_eq index (c.objects r) then blanks (layout_of w s) 1 0 j else c.parts (spot_in r index) j) (region_self r) ∙
-        ap (λ z. if z then blanks (layout_of w s) 1 0 j else c.parts (spot_in r index) j) (eq-eqb index (c.objects r) (sym e))
+    zero_on : (i : ℕ) → 0 + i ≡ i
+    zero_on i = omega arith
+
+    here : (cell j : ℕ) → (with_objects r (locals_of w ss) more).parts (spot_in r index cell) j ≡ blanks (layout_of w s) 1 cell j
+    here cell j =
+        made_before r (locals_of w ss) more (spot_in r index cell) j (subst (λ z. index < z) (sym next) (omega arith)) ∙
+        ap (λ z. if z && nat_eq index (c.objects r) then blanks (layout_of w s) 1 cell j else c.parts (spot_in r index cell) j) (region_self r) ∙
+        ap (λ z. if z then blanks (layout_of w s) 1 cell j else c.parts (spot_in r index cell) j) (eq-eqb index (c.objects r) (sym e))
 
 -- a block's locals are all to come
-pub pending_entered : (w : World) (m : source.Memory) (c : core.Memory) (ss : List Shape) → AreTaken ss → Agree w m c
+pub pending_entered : (w : World) (m : source.Memory) (c : core.Memory) (ss : List Shape) → Agree w m c
     → ArePending w (core_in (locals_of w ss) c) c.activations 0 ss
-pending_entered w m c ss taken a =
-    pending_made w ss (core_opened c) c.activations 0 taken (a.unbegun c.activations (subst (λ z. m.activations ≤ z) a.activations (omega arith))).1
+pending_entered w m c ss a =
+    pending_made w ss (core_opened c) c.activations 0 (a.unbegun c.activations (subst (λ z. m.activations ≤ z) a.activations (omega arith))).1

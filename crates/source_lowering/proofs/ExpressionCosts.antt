@@ -7,44 +7,12 @@ use Rattle.source_meaning.specs.Steps.{World}
 use Rattle.source_meaning.specs.Operators.{operator_shape}
 use Rattle.source_meaning.specs.Places.{bound_to}
 use Rattle.core_meaning.specs.Core.{Statement, If, Constant, NullPointer, NoStatements}
-use Rattle.source_lowering.specs.Lowered.{
-  Named,
-  local_named,
-  static_shape,
-  all_of,
-  place_code,
-  put_code,
-  word_code,
-  truth_code,
-  call_parameters,
-  count_of,
-  expression_code,
-  links_code,
-  all_code,
-  any_code,
-  arguments_code,
-}
+use Rattle.source_lowering.specs.Lowered.{Named, local_named, static_shape, all_of, place_code, put_code, offset_code, Left, left_of, suffixed_code, word_code, truth_code, call_parameters, count_of, expression_code, links_code, all_code, any_code, arguments_code}
 use Rattle.source_lowering.specs.Taken.{TakesPlace, Takes, TakesAll, TakesLinks}
-use Rattle.source_lowering.specs.Bounds.{nodes_of, all_nodes, joined_nodes, tested_nodes, link_nodes}
+use Rattle.source_lowering.specs.Bounds.{nodes_of, all_nodes, joined_nodes, tested_nodes, link_nodes, suffix_nodes}
 use Rattle.source_lowering.proofs.Costs.{Costs, no_costs, one_costs, both_cost}
-use Rattle.source_lowering.proofs.PartCosts.{
-  IsCheap,
-  IsPointed,
-  does_one,
-  get_costs,
-  put_costs,
-  address_costs,
-  conversion_costs,
-  operator_costs,
-  tested_word,
-  truth_costs,
-  negate_costs,
-  complement_costs,
-  inverted_costs,
-  contents_costs,
-  loaded_costs,
-  call_costs,
-}
+use Rattle.source_lowering.proofs.SuffixCosts.{primary_costs, offset_costs}
+use Rattle.source_lowering.proofs.PartCosts.{IsCheap, IsPointed, does_one, get_costs, put_costs, address_costs, conversion_costs, operator_costs, tested_word, truth_costs, negate_costs, complement_costs, inverted_costs, contents_costs, loaded_costs, call_costs}
 
 -- ---- all of them
 
@@ -65,7 +33,7 @@ nodes_positive (Expression.UniqueRegion at) = omega arith
 nodes_positive (Expression.Variable name) = omega arith
 nodes_positive (Expression.MakeUnion tag member value) = omega arith
 nodes_positive (Expression.NumElts at operand) = omega arith
-nodes_positive (Expression.Suffixed primary _) = omega arith
+nodes_positive (Expression.Suffixed primary others) = let h = nodes_positive primary in omega (arith, h)
 nodes_positive (Expression.New at made) = omega arith
 nodes_positive (Expression.NewIn at handle made) = omega arith
 
@@ -126,7 +94,7 @@ one_cheap t p n o code c h = record { operations = o; costs = c; less = h }
 
 mutual
   -- a value is stored
-  pub stores_costs : (w : World) (names : List Named) (e : Expression) (t p d : ℕ) → TakesPlace e → d + 1 + nodes_of e + 1 ≤ t → nodes_of e ≤ p
+  pub stores_costs : (w : World) (names : List Named) (e : Expression) (t p d : ℕ) → TakesPlace w names e → d + 1 + nodes_of e + 1 ≤ t → nodes_of e ≤ p
       → IsCheap t p (nodes_of e) (put_code w names e d)
   stores_costs w names (Expression.Variable name) t p d h f g =
       one_cheap t p 1 2 _ (put_costs t p d (local_named names name.text) (bound_to w.globals name.text) (omega (arith, f))) (omega arith)
@@ -150,7 +118,17 @@ mutual
   stores_costs w names (Expression.Call name arguments) t p d h f g = absurd h
   stores_costs w names (Expression.MakeUnion tag member value) t p d h f g = absurd h
   stores_costs w names (Expression.NumElts at operand) t p d h f g = absurd h
-  stores_costs w names (Expression.Suffixed primary _) t p d h f g = absurd h
+  stores_costs w names (Expression.Suffixed primary suffixes) t p d h f g =
+      let n = nodes_positive primary in
+      let left : Left = suffixed_code w suffixes (d + 1)
+      (left_of (static_shape w names primary) (expression_code w names primary (d + 1)) (place_code w names primary (d + 1))) in
+      let one = primary_costs w suffixes t p (d + 1) (nodes_of primary) (static_shape w names primary) (expression_code w names primary (d + 1))
+      (place_code w names primary (d + 1)) (Takes w names primary) (TakesPlace w names primary) (omega (arith, f, n)) h
+      (λ k. expression_costs w names primary t p (d + 1) k (omega (arith, f)) (omega (arith, g)))
+      (λ k. place_costs w names primary t p (d + 1) k (omega (arith, f)) (omega (arith, g))) in
+      let l = one.pointer_less in
+      one_cheap t p (nodes_of primary + suffix_nodes suffixes) (one.pointer_operations + 1) _
+      (both_cost t p 0 one.pointer_operations 0 1 left.pointer _ one.pointer (does_one t p _ (omega (arith, f, n)))) (omega (arith, l))
   stores_costs w names (Expression.New at made) t p d h f g = absurd h
   stores_costs w names (Expression.NewIn at handle made) t p d h f g = absurd h
   stores_costs w names (Expression.Chain first others) t p d h f g = absurd h
@@ -159,7 +137,7 @@ mutual
   stores_costs w names (Expression.Assign place value) t p d h f g = absurd h
 
   -- a pointer to a place
-  pub place_costs : (w : World) (names : List Named) (e : Expression) (t p d : ℕ) → TakesPlace e → d + nodes_of e + 1 ≤ t → nodes_of e ≤ p
+  pub place_costs : (w : World) (names : List Named) (e : Expression) (t p d : ℕ) → TakesPlace w names e → d + nodes_of e + 1 ≤ t → nodes_of e ≤ p
       → IsPointed t p (nodes_of e) (place_code w names e d)
   place_costs w names (Expression.Variable name) t p d h f g = record {
     operations = 1;
@@ -183,7 +161,21 @@ mutual
   place_costs w names (Expression.Call name arguments) t p d h f g = absurd h
   place_costs w names (Expression.MakeUnion tag member value) t p d h f g = absurd h
   place_costs w names (Expression.NumElts at operand) t p d h f g = absurd h
-  place_costs w names (Expression.Suffixed primary _) t p d h f g = absurd h
+  place_costs w names (Expression.Suffixed primary suffixes) t p d h f g =
+      let n = nodes_positive primary in
+      let left : Left = suffixed_code w suffixes d
+      (left_of (static_shape w names primary) (expression_code w names primary d) (place_code w names primary d)) in
+      let one = primary_costs w suffixes t p d (nodes_of primary) (static_shape w names primary) (expression_code w names primary d)
+      (place_code w names primary d) (Takes w names primary) (TakesPlace w names primary) (omega (arith, f, n)) h
+      (λ k. expression_costs w names primary t p d k (omega (arith, f)) (omega (arith, g)))
+      (λ k. place_costs w names primary t p d k (omega (arith, f)) (omega (arith, g))) in
+      let l = one.pointer_less in
+      record {
+        operations = one.pointer_operations + 1;
+        costs = both_cost t p 0 one.pointer_operations 0 1 left.pointer (offset_code d left.cells left.bytes) one.pointer
+            (offset_costs t p d left.cells left.bytes (omega (arith, f, n)));
+        less = omega (arith, l);
+      }
   place_costs w names (Expression.New at made) t p d h f g = absurd h
   place_costs w names (Expression.NewIn at handle made) t p d h f g = absurd h
   place_costs w names (Expression.Chain first others) t p d h f g = absurd h
@@ -191,7 +183,7 @@ mutual
   place_costs w names (Expression.AnyOf first others) t p d h f g = absurd h
   place_costs w names (Expression.Assign place value) t p d h f g = absurd h
 
-  pub expression_costs : (w : World) (names : List Named) (e : Expression) (t p d : ℕ) → Takes e → d + nodes_of e + 1 ≤ t → nodes_of e ≤ p
+  pub expression_costs : (w : World) (names : List Named) (e : Expression) (t p d : ℕ) → Takes w names e → d + nodes_of e + 1 ≤ t → nodes_of e ≤ p
       → IsCheap t p (nodes_of e) (expression_code w names e d)
   expression_costs w names (Expression.Number at value suffix) t p d h f g = one_cheap t p 1 1 _ (does_one t p (Constant d value) (omega (arith, f)))
       (omega arith)
@@ -201,7 +193,7 @@ mutual
       (bound_to w.globals name.text) (omega (arith, f))) (omega arith)
   expression_costs w names (Expression.Call name arguments) t p d h f g =
       let n = many_nodes arguments in
-      let a = arguments_costs w names (call_parameters w name.text) arguments t p d h (omega (arith, f)) (omega (arith, g)) in
+      let a = arguments_costs w names (call_parameters w name.text) arguments t p d h.1 (omega (arith, f)) (omega (arith, g)) in
       let l = a.less in
       one_cheap t p (1 + all_nodes arguments) (a.operations + (2 + count_of arguments)) _ (both_cost t p 0 a.operations 0 (2 + count_of arguments) _ _ a.costs
       (call_costs w name.text t p d (count_of arguments) (omega (arith, f)) (omega (arith, f, n)) (omega (arith, g, n)))) (omega (arith, l))
@@ -217,7 +209,7 @@ mutual
       (place_code w names operand d) (omega (arith, f)) (expression_costs w names operand t p (d + 1) h (omega (arith, f)) (omega (arith, g)))
   expression_costs w names (Expression.Prefixed at prefix.Dereference operand) t p d h f g =
       loaded_costs t p d (nodes_of operand) (static_shape w names operand) (expression_code w names operand (d + 1)) (expression_code w names operand d)
-      (place_code w names operand d) (omega (arith, f)) (expression_costs w names operand t p d h (omega (arith, f)) (omega (arith, g)))
+      (place_code w names operand d) (omega (arith, f)) (expression_costs w names operand t p d h.0 (omega (arith, f)) (omega (arith, g)))
   expression_costs w names (Expression.Prefixed at prefix.AddressOf operand) t p d h f g =
       let a = place_costs w names operand t p d h (omega (arith, f)) (omega (arith, g)) in
       let l = a.less in
@@ -242,7 +234,7 @@ mutual
       (any_code w names others d) (omega (arith, f, n)) a b.costs (tested_less others b.operations b.less)
   expression_costs w names (Expression.Assign place value) t p d h f g =
       let n = nodes_positive place in
-      let a = expression_costs w names value t p d h.1 (omega (arith, f)) (omega (arith, g)) in
+      let a = expression_costs w names value t p d h.1.0 (omega (arith, f)) (omega (arith, g)) in
       let b = stores_costs w names place t p d h.0 (omega (arith, f)) (omega (arith, g)) in
       let l = a.less in let k = b.less in
       one_cheap t p (nodes_of place + (1 + nodes_of value)) (a.operations + (2 + b.operations)) _
@@ -255,11 +247,17 @@ mutual
   expression_costs w names (Expression.UniqueRegion at) t p d h f g = absurd h
   expression_costs w names (Expression.MakeUnion tag member value) t p d h f g = absurd h
   expression_costs w names (Expression.NumElts at operand) t p d h f g = absurd h
-  expression_costs w names (Expression.Suffixed primary _) t p d h f g = absurd h
+  expression_costs w names (Expression.Suffixed primary suffixes) t p d h f g =
+      let n = nodes_positive primary in
+      let one = primary_costs w suffixes t p d (nodes_of primary) (static_shape w names primary) (expression_code w names primary d)
+      (place_code w names primary d) (Takes w names primary) (TakesPlace w names primary) (omega (arith, f, n)) h.0
+      (λ k. expression_costs w names primary t p d k (omega (arith, f)) (omega (arith, g)))
+      (λ k. place_costs w names primary t p d k (omega (arith, f)) (omega (arith, g))) in
+      one_cheap t p (nodes_of primary + suffix_nodes suffixes) one.value_operations _ one.value one.value_less
   expression_costs w names (Expression.New at made) t p d h f g = absurd h
   expression_costs w names (Expression.NewIn at handle made) t p d h f g = absurd h
 
-  pub arguments_costs : (w : World) (names : List Named) (shapes : List Shape) (es : Expressions) (t p d : ℕ) → TakesAll es → d + all_nodes es + 1 ≤ t
+  pub arguments_costs : (w : World) (names : List Named) (shapes : List Shape) (es : Expressions) (t p d : ℕ) → TakesAll w names es → d + all_nodes es + 1 ≤ t
       → all_nodes es ≤ p → AreArguments t p es (arguments_code w names shapes es d)
   arguments_costs w names [] es t p d h f g = let n = many_nodes es in record { operations = 0; costs = no_costs t p; less = omega (arith, n) }
   arguments_costs w names (s ∷ ss) NoExpressions t p d h f g = record { operations = 0; costs = no_costs t p; less = omega arith }
@@ -275,7 +273,7 @@ mutual
         less = omega (arith, l, k);
       }
 
-  pub links_costs : (w : World) (names : List Named) (links : Links) (left : Shape) (t p d : ℕ) → TakesLinks links → d + 1 + link_nodes links + 1 ≤ t
+  pub links_costs : (w : World) (names : List Named) (links : Links) (left : Shape) (t p d : ℕ) → TakesLinks w names links → d + 1 + link_nodes links + 1 ≤ t
       → link_nodes links ≤ p → ArePassed t p (link_nodes links) (links_code w names links left d)
   links_costs w names NoLinks left t p d h f g = record { operations = 0; costs = no_costs t p; less = omega arith }
   links_costs w names (MoreLinks operator operand others) left t p d h f g =
@@ -289,7 +287,7 @@ mutual
         less = omega (arith, l, k);
       }
 
-  pub all_costs : (w : World) (names : List Named) (es : Expressions) (t p d : ℕ) → TakesAll es → d + 1 + joined_nodes es + 1 ≤ t → joined_nodes es ≤ p
+  pub all_costs : (w : World) (names : List Named) (es : Expressions) (t p d : ℕ) → TakesAll w names es → d + 1 + joined_nodes es + 1 ≤ t → joined_nodes es ≤ p
       → IsJoined t p es (all_code w names es d)
   all_costs w names NoExpressions t p d h f g = record { operations = 0; costs = no_costs t p; less = omega arith }
   all_costs w names (MoreExpressions e es) t p d h f g =
@@ -306,7 +304,7 @@ mutual
         less = omega (arith, l, k);
       }
 
-  pub any_costs : (w : World) (names : List Named) (es : Expressions) (t p d : ℕ) → TakesAll es → d + 1 + joined_nodes es + 1 ≤ t → joined_nodes es ≤ p
+  pub any_costs : (w : World) (names : List Named) (es : Expressions) (t p d : ℕ) → TakesAll w names es → d + 1 + joined_nodes es + 1 ≤ t → joined_nodes es ≤ p
       → IsJoined t p es (any_code w names es d)
   any_costs w names NoExpressions t p d h f g = record { operations = 0; costs = no_costs t p; less = omega arith }
   any_costs w names (MoreExpressions e es) t p d h f g =

@@ -66,13 +66,13 @@ use Rattle.source_lowering.specs.Programs.{locals_of, block_shapes, end_code, bo
 use Rattle.source_lowering.proofs.Relations.{region_at, at, Shown, Agree, Later, AreLed, Same, Next, BothCalled, BothReturned}
 use Rattle.source_lowering.proofs.Keeping.{later_on, shown_later, held_same, all_led_later}
 use Rattle.source_lowering.proofs.Runs.{stuck_same, says_same}
-use Rattle.source_lowering.proofs.Integers.{IsTaken, word_taken, word_shown}
-use Rattle.source_lowering.proofs.Names.{AreParameters, IsRoutine, IsPlainWorld}
-use Rattle.source_lowering.proofs.Entering.{source_in, AreTaken, entered_later}
+use Rattle.source_lowering.proofs.Integers.{IsTaken, word_shown}
+use Rattle.source_lowering.proofs.Names.{IsRoutine, IsPlainWorld}
+use Rattle.source_lowering.proofs.Entering.{source_in, entered_later}
 use Rattle.source_lowering.proofs.Calls.{AllGiven, ResultIs, Returning, EntersAs, CallsAs}
 use Rattle.source_lowering.proofs.Blocks.{result_later, entered_fits, next_out, after_out, ways_out}
 use Rattle.source_lowering.proofs.EachExpression.{Known}
-use Rattle.source_lowering.proofs.EachStatement.{shapes_taken, given_later, body_same}
+use Rattle.source_lowering.proofs.EachStatement.{given_later, body_same}
 
 -- ---- a change that the source doesn't see
 
@@ -176,7 +176,7 @@ returned_same w fs n number own f m0 c0 s k m c vs xs numbered goes a l r =
 
 -- the end of a body without `return`
 end_same : (w : World) (fs : Program) (n number own : ℕ) (f : Routine) (m0 : source.Memory) (c0 : core.Memory) (s : List Scalar → source.Memory → steps.Step)
-    (k : List Content → core.Memory → core_steps.Step) (m : source.Memory) (c : Config) → slice_get w.functions number ≡ Some f → IsRoutine f
+    (k : List Content → core.Memory → core_steps.Step) (m : source.Memory) (c : Config) → slice_get w.functions number ≡ Some f → IsRoutine w f
     → Returning w fs n m0 c0 f.result s k → Agree w m c.memory → Later m0.activations m0 c0 m c.memory
     → Same w fs n (left_by f s steps.Falls m) (ended f number own k core_steps.Falls c)
 end_same w fs n number own f m0 c0 s k m c numbered routine goes a l = by f.result refl routine.result
@@ -231,14 +231,10 @@ end_same w fs n number own f m0 c0 s k m c numbered routine goes a l = by f.resu
 
 -- ---- a function is entered
 
-pub parameters_taken : (ps : List Part) (shapes : List Shape) → AreParameters ps → AreTaken shapes → AreTaken (part_shapes ps ++ shapes)
-parameters_taken [] shapes h g = g
-parameters_taken (p ∷ ps) shapes h g = (word_taken p.shape h.0, parameters_taken ps shapes h.1 g)
-
 -- the body's block, from memories that agree
 entered_same : (w : World) (fs : Program) (n number own : ℕ) (f : Routine) (vss : List (List Scalar)) (xs : List Content) (m : source.Memory)
     (c : core.Memory) (c0 : Config) (s : List Scalar → source.Memory → steps.Step) (k : List Content → core.Memory → core_steps.Step)
-    → IsPlainWorld w → CallsAs w fs n → slice_get w.functions number ≡ Some f → IsRoutine f → Agree w m c0.memory → AreLed w m c0.memory w.globals
+    → IsPlainWorld w → CallsAs w fs n → slice_get w.functions number ≡ Some f → IsRoutine w f → Agree w m c0.memory → AreLed w m c0.memory w.globals
     → AllGiven w m c0.memory (part_shapes f.parameters) vss xs → c0.temps ≡ passed_in xs → c0.blocks ≡ [] → Later m.activations m c m c0.memory
     → Returning w fs n m c f.result s k
     → Same w fs n (in_block (λ frame. with_arguments f.parameters vss (meaning_of.block_items f.body) (record {
@@ -252,7 +248,7 @@ entered_same w fs n number own f vss xs m c c0 s k plain calls numbered routine 
     body_same f.parameters f.body scope known (length f.parameters) n vss routine.parameters routine.body (record
     { world = plain; locals = tt; words = tt }) routine.result calls (omega arith) refl
     (source_in m) inside (next_out (left_by f s) m.activations) NoStatements (after_out (ended f number own k) c0)
-    (entered_fits w fs [] [] [] shapes m c0 taken agree blocks tt led)
+    (entered_fits w fs [] [] [] shapes m c0 agree blocks tt led)
     (given_later 0 w m (source_in m) c0.memory inside.memory (part_shapes f.parameters) vss (values_of inside.temps (from_on 0 (length f.parameters)))
     (entered_later 0 w m c0.memory (locals_of w shapes) agree)
     (subst (λ z. AllGiven w m c0.memory (part_shapes f.parameters) vss z) (sym (ap (λ z. values_of z (from_on 0 (length f.parameters))) temps ∙ passed_first
@@ -272,9 +268,6 @@ entered_same w fs n number own f vss xs m c c0 s k plain calls numbered routine 
 
     known : Known
     known = record { program = fs; names = []; outer = []; made = 0; pending = shapes }
-
-    taken : AreTaken shapes
-    taken = parameters_taken f.parameters (block_shapes f.body) routine.parameters (shapes_taken f.result f.body routine.body)
 
     inside : Config
     inside = meaning.in_block (locals_of w shapes) c0

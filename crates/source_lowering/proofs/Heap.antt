@@ -1,6 +1,6 @@
 -- The heap at the start: the globals, in the source and in Core.
-use Rattle.std.proofs.Common.{◌≡◌, ℕ, zero, suc, ◌+◌, ◌≤◌, List, [], ◌∷◌, length, false, nat_eq, Option, Some, None, refl, sym, ap, ◌∙◌, subst, arith}
-use Rattle.std.specs.Prelude.{slice_get, option_and_then, if◌then◌else◌}
+use Rattle.std.proofs.Common.{◌≡◌, ℕ, zero, suc, ◌+◌, ◌≤◌, List, [], ◌∷◌, length, map, false, nat_eq, Option, Some, None, refl, sym, ap, ◌∙◌, subst, arith}
+use Rattle.std.specs.Prelude.{◌*◌, ◌/◌, slice_get, option_and_then, if◌then◌else◌}
 use Rattle.std.proofs.lemmas.Bool.Decides.{nat_tests}
 use Rattle.cyc_tree.specs.Tree as tree
 use Rattle.cyc_tree.specs.Tree.{Initial, Item}
@@ -21,22 +21,29 @@ use Rattle.source_meaning.specs.Shapes.{
   settled,
 }
 use Rattle.source_meaning.specs.Memory as source
-use Rattle.source_meaning.specs.Memory.{IntegerType, Integer, Scalar, Spot, Holds, Cell, Object, state_is_live, same_region}
+use Rattle.source_meaning.specs.Memory.{IntegerType, Integer, Scalar, Spot, Holds, Cell, Object, object_of, state_is_live, same_region}
 use Rattle.source_meaning.specs.Steps.{World}
+use Rattle.source_meaning.specs.Conversions.{cells_of}
 use Rattle.source_meaning.specs.Programs.{global_shape, global_object, global_objects, globals_from, heap_alone, heap_spot}
 use Rattle.core_meaning.specs.Memory as core
-use Rattle.core_meaning.specs.Memory.{Content, Word, Part}
+use Rattle.core_meaning.specs.Memory.{Content, Word, Part, Layout, blanks}
 use Rattle.core_meaning.specs.Core.{Datum}
 use Rattle.core_meaning.specs.Meaning.{datum_parts, first_memory}
+use Rattle.source_lowering.specs.Layouts.{layout_of, first_part}
 use Rattle.source_lowering.specs.Lowered.{width_of}
-use Rattle.source_lowering.specs.Programs.{initial_content, datum_of, data_of}
-use Rattle.source_lowering.specs.Taken.{TakesInitial, TakesProgram}
-use Rattle.source_lowering.proofs.Relations.{region_at, at, HasShape, PartsAre, AreLaid, Leads, Shown, IsShown, Agree, AreLed}
-use Rattle.source_lowering.proofs.Integers.{IsWordShape}
+use Rattle.source_lowering.specs.Programs.{constant_content, initial_content, datum_of, first_content, global_datum, data_of}
+use Rattle.source_lowering.specs.Words.{IsIntegerShape, IsNullable, TakesConstant}
+use Rattle.source_lowering.specs.Taken.{IsObject, IsNoStruct, AreStructs, TakesGlobal, TakesProgram}
+use Rattle.source_lowering.proofs.Relations.{region_at, at, PartIs, AreMade, Leads, Shown, IsShown, Agree, AreLed}
+use Rattle.source_lowering.proofs.Integers.{IsWordShape, object_word}
 use Rattle.source_lowering.proofs.Cells.{plain_of}
-use Rattle.source_lowering.proofs.Making.{one_cell}
-use Rattle.source_lowering.proofs.Declaring.{no_value, first_of}
-use Rattle.source_lowering.proofs.WrittenTypes.{type_settled}
+use Rattle.source_lowering.proofs.StructCells.{object_cells}
+use Rattle.source_lowering.proofs.Making.{cell_with, spot_of, cells_from}
+use Rattle.source_lowering.proofs.Entering.{spot_in, cell_blank, cells_made}
+use Rattle.source_lowering.proofs.Clearing.{BeginsWith, layout_first}
+use Rattle.source_lowering.proofs.Declaring.{blank_holds}
+use Rattle.source_lowering.proofs.Beginning.{IsFirstCell, first_cell_is, first_shown}
+use Rattle.source_lowering.proofs.WrittenTypes.{object_settled}
 
 abbrev pub part_of : ℕ → Content → Part
 part_of width x = record { offset = 0; width = width; content = x }
@@ -60,53 +67,42 @@ datum_is w (StructShape tag) x ds h = absurd h
 datum_is w (UnionShape tag) x ds h = absurd h
 datum_is w (ArrayShape count of) x ds h = absurd h
 
--- the source's object of a global: one cell, blank where a constant will be stored
-record IsObject (w : World) (initial : Initial) (s : Shape) : Type 0 where
-  content : source.Content
-  is : global_object w initial s ≡ one_cell s content
-  shape : global_shape initial s ≡ s
-  shown : (v : Scalar) → content ≡ Holds v → (m : source.Memory) (c : core.Memory) → Shown w m c s v (initial_content initial s ∷ [])
+-- ---- the source's object
 
-abbrev value_in : Scalar → source.Content → Scalar
-value_in v (Holds u) = u
-value_in v source.Blank = v
-value_in v source.Gone = v
-value_in v source.Lent = v
+-- a global that is given a constant is no struct
+integer_single : (s : Shape) → IsIntegerShape s → IsNoStruct s
+integer_single (StructShape tag) h = h
+integer_single _ h = tt
 
-object_is : (w : World) (initial : Initial) (s : Shape) → TakesInitial s initial → IsWordShape s → IsObject w initial s
-object_is w Initial.Unset s h is_word =
-    let first = first_of w s h in
-    record {
-      content = Holds first.value;
-      is = first.first;
-      shape = refl;
-      shown = λ v e m c. subst (λ z. Shown w m c s z (initial_content Initial.Unset s ∷ [])) (ap (value_in v) e)
-          (subst (λ z. Shown w m c s first.value (z ∷ [])) (sym first.part) (first.shown m c));
-    }
-object_is w (Initial.Elements count) s h is_word = absurd h
-object_is w (Initial.Given c) s h is_word = record {
-  content = source.Blank;
-  is = ap (λ z. source.blank_object z) (plain_of w s is_word).cells;
-  shape = refl;
-  shown = λ v e m k. absurd (no_value v e);
-}
+nullable_single : (s : Shape) → IsNullable s → IsNoStruct s
+nullable_single (StructShape tag) h = h
+nullable_single _ h = tt
+
+pub constant_single : (c : tree.Constant) (s : Shape) → TakesConstant s c → IsNoStruct s
+constant_single (tree.Number at value suffix) s h = integer_single s h
+constant_single (tree.Negative at value suffix) s h = integer_single s h
+constant_single (tree.Character at byte) s h = integer_single s h
+constant_single (tree.Text at bytes) s h = absurd h
+constant_single (tree.Null at) s h = nullable_single s h
+
+-- what the cells of a global hold before its constant is stored
+abbrev content_of : Initial → Shape → source.Content
+content_of Initial.Unset s = source.first_content s
+content_of (Initial.Elements count) s = source.Blank
+content_of (Initial.Given c) s = source.Blank
+
+object_is : (w : World) (initial : Initial) (s : Shape) → TakesGlobal s initial
+    → global_object w initial s ≡ object_of (map (cell_with (content_of initial)) (cells_of w s))
+object_is w Initial.Unset s h = refl
+object_is w (Initial.Elements count) s h = absurd h
+object_is w (Initial.Given c) s h = refl
+
+pub shape_kept : (initial : Initial) (s : Shape) → TakesGlobal s initial → global_shape initial s ≡ s
+shape_kept Initial.Unset s h = refl
+shape_kept (Initial.Elements count) s h = absurd h
+shape_kept (Initial.Given c) s h = refl
 
 -- ---- each global
-
--- a global's cell holds what its part in Core's data has
-pub record IsHeapValue (w : World) (ds : List Datum) (i cell : ℕ) (shape : Shape) (v : Scalar) : Type 0 where
-  pub first : cell ≡ 0
-  pub content : Content
-  pub part : datum_parts ds i 0 0 ≡ Some (part_of (width_of shape) content)
-  pub shown : (m : source.Memory) (c : core.Memory) → Shown w m c shape v (content ∷ [])
-
-abbrev shape_in : Shape → Option Cell → Shape
-shape_in s None = s
-shape_in s (Some c) = c.shape
-
-abbrev content_in : source.Content → Option Cell → source.Content
-content_in v None = v
-content_in v (Some c) = c.content
 
 abbrev cell_in : ℕ → Option Object → Option Cell
 cell_in cell o = option_and_then (λ f. f cell) o
@@ -114,38 +110,89 @@ cell_in cell o = option_and_then (λ f. f cell) o
 no_cell : (x : Cell) → None ≡ Some x → ⊥
 no_cell x e = cc e
 
-global_value : (w : World) (initial : Initial) (s : Shape) (ds : List Datum) (cell : ℕ) (shape : Shape) (v : Scalar) → TakesInitial s initial → IsWordShape s
-    → global_object w initial s cell ≡ Some (cell_of shape (Holds v)) → IsHeapValue w (datum_of w s (initial_content initial s) ∷ ds) 0 cell shape v
-global_value w initial s ds cell shape v h is_word e = by cell refl
+-- a global's cell holds what its part in Core's data has
+pub record IsHeapValue (w : World) (ds : List Datum) (i cell : ℕ) (shape : Shape) (v : Scalar) : Type 0 where
+  pub part : Part
+  pub is : datum_parts ds i cell 0 ≡ Some part
+  pub shown : (m : source.Memory) (c : core.Memory) → Shown w m c shape v (part.content ∷ [])
+
+-- what begins by its shape: a word
+word_value : (w : World) (s : Shape) (ds : List Datum) (cell : ℕ) (shape : Shape) (v : Scalar) → IsWordShape s
+    → slice_get (map (cell_with source.first_content) (cells_of w s)) cell ≡ Some (cell_of shape (Holds v))
+    → IsHeapValue w (datum_of w s (first_part s) ∷ ds) 0 cell shape v
+word_value w s ds cell shape v is_word e = at_cell cell (first_cell_is (s ∷ []) cell shape v (is_word, tt)
+    (ap (λ z. slice_get (map (cell_with source.first_content) z) cell) (sym (plain_of w s is_word).cells) ∙ e))
   where
-    o : IsObject w initial s
-    o = object_is w initial s h is_word
+    some_is : (x y : Shape) → Some x ≡ Some y → x ≡ y
+    some_is x y f = cc f
 
-    by : (k : ℕ) → cell ≡ k → IsHeapValue w (datum_of w s (initial_content initial s) ∷ ds) 0 cell shape v
-    by zero z =
-        let same : Some (cell_of s o.content) ≡ Some (cell_of shape (Holds v)) = ap (λ k. one_cell s o.content k) (sym z) ∙ ap (λ f. f cell) (sym o.is) ∙ e in
-        let holds : o.content ≡ Holds v = ap (content_in o.content) same in
-        let shapes : s ≡ shape = ap (shape_in s) same in
-        record {
-          first = z;
-          content = initial_content initial s;
-          part = subst (λ q. datum_parts (datum_of w s (initial_content initial s) ∷ ds) 0 0 0 ≡ Some (part_of (width_of q) (initial_content initial s)))
-              shapes (datum_is w s (initial_content initial s) ds is_word);
-          shown = λ m c. subst (λ q. Shown w m c q v (initial_content initial s ∷ [])) shapes (o.shown v holds m c);
-        }
-    by (suc k) z = absurd (no_cell (cell_of shape (Holds v)) (ap (λ j. one_cell s o.content j) (sym z) ∙ ap (λ f. f cell) (sym o.is) ∙ e))
+    no_shape : None ≡ Some shape → ⊥
+    no_shape f = cc f
 
-pub heap_value : (w : World) (items : List Item) (i cell : ℕ) (shape : Shape) (v : Scalar) → TakesProgram items
+    at_cell : (k : ℕ) → IsFirstCell (s ∷ []) k shape v → IsHeapValue w (datum_of w s (first_part s) ∷ ds) 0 k shape v
+    at_cell zero o = record {
+      part = part_of (width_of s) (first_part s);
+      is = datum_is w s (first_part s) ds is_word;
+      shown = λ m c. subst (λ z. Shown w m c shape v (first_part z ∷ [])) (sym (some_is s shape o.here)) (first_shown w m c shape v o.word o.holds);
+    }
+    at_cell (suc k) o = absurd (no_shape o.here)
+
+-- or a struct
+struct_value : (w : World) (tag : List ℕ) (ds : List Datum) (cell : ℕ) (shape : Shape) (v : Scalar) → AreStructs w.unions w.structs
+    → IsObject w.structs (StructShape tag)
+    → slice_get (map (cell_with source.first_content) (cells_of w (StructShape tag))) cell ≡ Some (cell_of shape (Holds v))
+    → IsHeapValue w (global_datum w Initial.Unset (StructShape tag) ∷ ds) 0 cell shape v
+struct_value w tag ds cell shape v structs object e = record {
+  part = record { offset = cell / length layout.cells * layout.bytes + first.offset; width = width_of shape; content = first_part shape };
+  is = rw (cell_blank layout cell 0 _ first.less first.is) (ap filled (ap (λ z. first_content (core.shape_in z 0)) first.is));
+  shown = λ m c. first_shown w m c shape v o.word o.holds;
+}
+  where
+    layout : Layout
+    layout = layout_of w (StructShape tag)
+
+    o : IsFirstCell (cells_of w (StructShape tag)) cell shape v
+    o = first_cell_is (cells_of w (StructShape tag)) cell shape v (object_cells w.unions w.structs (StructShape tag) structs object).words e
+
+    first : BeginsWith layout.cells cell shape
+    first = layout_first w (StructShape tag) cell shape structs object o.here
+
+    filled : Content → Option Part
+    filled x = Some (record { offset = cell / length layout.cells * layout.bytes + first.offset; width = width_of shape; content = x })
+
+unset_value : (w : World) (s : Shape) (ds : List Datum) (cell : ℕ) (shape : Shape) (v : Scalar) → AreStructs w.unions w.structs → IsObject w.structs s
+    → slice_get (map (cell_with source.first_content) (cells_of w s)) cell ≡ Some (cell_of shape (Holds v))
+    → IsHeapValue w (global_datum w Initial.Unset s ∷ ds) 0 cell shape v
+unset_value w (StructShape tag) ds cell shape v structs object e = struct_value w tag ds cell shape v structs object e
+unset_value w IntShape ds cell shape v structs object e = word_value w IntShape ds cell shape v tt e
+unset_value w UnsignedShape ds cell shape v structs object e = word_value w UnsignedShape ds cell shape v tt e
+unset_value w CharShape ds cell shape v structs object e = word_value w CharShape ds cell shape v tt e
+unset_value w (ThinShape b owner to) ds cell shape v structs object e = word_value w (ThinShape b owner to) ds cell shape v object e
+unset_value w VoidShape ds cell shape v structs object e = absurd object
+unset_value w (FatShape to) ds cell shape v structs object e = absurd object
+unset_value w HandleShape ds cell shape v structs object e = absurd object
+unset_value w KeyShape ds cell shape v structs object e = absurd object
+unset_value w (UnionShape tag) ds cell shape v structs object e = absurd object
+unset_value w (ArrayShape count of) ds cell shape v structs object e = absurd object
+
+global_value : (w : World) (initial : Initial) (s : Shape) (ds : List Datum) (cell : ℕ) (shape : Shape) (v : Scalar) → AreStructs w.unions w.structs
+    → TakesGlobal s initial → IsObject w.structs s → global_object w initial s cell ≡ Some (cell_of shape (Holds v))
+    → IsHeapValue w (global_datum w initial s ∷ ds) 0 cell shape v
+global_value w Initial.Unset s ds cell shape v structs h object e = unset_value w s ds cell shape v structs object e
+global_value w (Initial.Elements count) s ds cell shape v structs h object e = absurd h
+global_value w (Initial.Given c) s ds cell shape v structs h object e = absurd (blank_holds (cells_of w s) cell shape v e)
+
+pub heap_value : (w : World) (items : List Item) (i cell : ℕ) (shape : Shape) (v : Scalar) → AreStructs w.unions w.structs → TakesProgram w items
     → cell_in cell (slice_get (global_objects w items) i) ≡ Some (cell_of shape (Holds v)) → IsHeapValue w (data_of w items) i cell shape v
-heap_value w [] i cell shape v h e = absurd (no_cell (cell_of shape (Holds v)) e)
-heap_value w (tree.StructItem s ∷ items) i cell shape v h e = absurd h.0
-heap_value w (tree.UnionItem u ∷ items) i cell shape v h e = absurd h.0
-heap_value w (tree.FunctionItem f ∷ items) i cell shape v h e = heap_value w items i cell shape v h.1 e
-heap_value w (tree.GlobalItem g ∷ items) zero cell shape v h e = global_value w g.initial (settled (written g.of)) (data_of w items) cell shape v h.0.1
-    (type_settled g.of h.0.0).is_word e
-heap_value w (tree.GlobalItem g ∷ items) (suc i) cell shape v h e =
-    let one = heap_value w items i cell shape v h.1 e in
-    record { first = one.first; content = one.content; part = one.part; shown = one.shown }
+heap_value w [] i cell shape v structs h e = absurd (no_cell (cell_of shape (Holds v)) e)
+heap_value w (tree.StructItem s ∷ items) i cell shape v structs h e = heap_value w items i cell shape v structs h.1 e
+heap_value w (tree.UnionItem u ∷ items) i cell shape v structs h e = absurd h.0
+heap_value w (tree.FunctionItem f ∷ items) i cell shape v structs h e = heap_value w items i cell shape v structs h.1 e
+heap_value w (tree.GlobalItem g ∷ items) zero cell shape v structs h e =
+    global_value w g.initial (settled (written g.of)) (data_of w items) cell shape v structs h.0.1 (object_settled w.structs g.of h.0.0) e
+heap_value w (tree.GlobalItem g ∷ items) (suc i) cell shape v structs h e =
+    let one = heap_value w items i cell shape v structs h.1 e in
+    record { part = one.part; is = one.is; shown = one.shown }
 
 -- ---- the memories at the start agree
 
@@ -160,8 +207,8 @@ not_zero d = grind (arith, nat_tests)
 abbrev pub heap_of : World → List Item → source.Memory
 heap_of w items = heap_alone (global_objects w items)
 
-pub heap_agrees : (w : World) (items : List Item) → TakesProgram items → Agree w (heap_of w items) (first_memory (data_of w items))
-heap_agrees w items h = record {
+pub heap_agrees : (w : World) (items : List Item) → AreStructs w.unions w.structs → TakesProgram w items → Agree w (heap_of w items) (first_memory (data_of w items))
+heap_agrees w items structs h = record {
   cells = λ s shape v e. shown_at s.region s.object s.cell shape v e;
   live = λ r. alive r;
   activations = refl;
@@ -181,14 +228,12 @@ heap_agrees w items h = record {
 
     in_heap : (object cell : ℕ) (shape : Shape) (v : Scalar) → IsHeapValue w (data_of w items) object cell shape v
         → IsShown w m c (spot (source.Born 0) object cell) shape v
-    in_heap object cell shape v o =
-        subst (λ z. IsShown w m c (spot (source.Born 0) object z) shape v) (sym o.first)
-        (record { contents = o.content ∷ []; shown = o.shown m c; held = ((part_of (width_of shape) o.content, (o.part, refl)), tt) })
+    in_heap object cell shape v o = record { contents = o.part.content ∷ []; shown = o.shown m c; held = ((o.part, (o.is, refl)), tt) }
 
     shown_at : (r : source.Region) (object cell : ℕ) (shape : Shape) (v : Scalar) → m.cells (spot r object cell) ≡ Some (cell_of shape (Holds v))
         → IsShown w m c (spot r object cell) shape v
     shown_at (source.Frame k) object cell shape v e = absurd (no_cell (cell_of shape (Holds v)) e)
-    shown_at (source.Born zero) object cell shape v e = in_heap object cell shape v (heap_value w items object cell shape v h e)
+    shown_at (source.Born zero) object cell shape v e = in_heap object cell shape v (heap_value w items object cell shape v structs h e)
     shown_at (source.Born (suc d)) object cell shape v e =
         absurd (no_cell (cell_of shape (Holds v)) (sym (ap (λ b. if b then cell_in cell (slice_get (global_objects w items) object) else None) (not_zero d)) ∙
         e))
@@ -211,12 +256,58 @@ heap_agrees w items h = record {
 
 -- ---- the globals lie where their names say
 
--- each global's part has what the global begins with
+-- the parts of an object of Core's data
+datum_filled : (d : Datum) (ds : List Datum) (cell j : ℕ) (p : Part) → blanks d.layout d.count cell j ≡ Some p
+    → datum_parts (d ∷ ds) 0 cell j ≡ Some (record p { content = d.first cell j })
+datum_filled d ds cell j p e = rw e refl
+
+record IsLaidOut (w : World) (s : Shape) (d : Datum) : Type 0 where
+  layout : d.layout ≡ layout_of w s
+  one : d.count ≡ 1
+
+laid_out_as : (w : World) (initial : Initial) (s : Shape) → IsLaidOut w s (global_datum w initial s)
+laid_out_as w initial (StructShape tag) = record { layout = refl; one = refl }
+laid_out_as w initial IntShape = record { layout = refl; one = refl }
+laid_out_as w initial UnsignedShape = record { layout = refl; one = refl }
+laid_out_as w initial CharShape = record { layout = refl; one = refl }
+laid_out_as w initial VoidShape = record { layout = refl; one = refl }
+laid_out_as w initial (ThinShape b owner to) = record { layout = refl; one = refl }
+laid_out_as w initial (FatShape to) = record { layout = refl; one = refl }
+laid_out_as w initial HandleShape = record { layout = refl; one = refl }
+laid_out_as w initial KeyShape = record { layout = refl; one = refl }
+laid_out_as w initial (UnionShape tag) = record { layout = refl; one = refl }
+laid_out_as w initial (ArrayShape count of) = record { layout = refl; one = refl }
+
+global_made : (w : World) (initial : Initial) (s : Shape) (ds : List Datum) (c : core.Memory) (k : ℕ)
+    → ((cell j : ℕ) → c.parts (spot_in (core.Born 0) k cell) j ≡ datum_parts (global_datum w initial s ∷ ds) 0 cell j)
+    → AreMade c (at (heap_spot k)) 0 (layout_of w s).cells
+global_made w initial s ds c k h = cells_made c (core.Born 0) k (layout_of w s) 0 (layout_of w s).cells (omega arith)
+    (λ i. ap (slice_get (layout_of w s).cells) (zero_on i)) there
+  where
+    d : Datum
+    d = global_datum w initial s
+
+    laid : IsLaidOut w s d
+    laid = laid_out_as w initial s
+
+    zero_on : (i : ℕ) → 0 + i ≡ i
+    zero_on i = omega arith
+
+    there : (cell j : ℕ) (p : Part) → blanks (layout_of w s) 1 cell j ≡ Some p → PartIs c (spot_in (core.Born 0) k cell) j p.offset p.width
+    there cell j p e = record {
+      content = d.first cell j;
+      is = h cell j ∙ datum_filled d ds cell j p (ap (λ z. blanks z d.count cell j) laid.layout ∙ ap (λ z. blanks (layout_of w s) z cell j) laid.one ∙ e);
+    }
+
+-- a global's part has the constant that it is given
+abbrev pub IsStored : core.Memory → Initial → Shape → ℕ → Type 0
+IsStored c Initial.Unset s k = Unit {0}
+IsStored c (Initial.Elements count) s k = Unit {0}
+IsStored c (Initial.Given x) s k = (c.parts (at (heap_spot k)) 0 ≡ Some (part_of (width_of s) (constant_content x s)))
+
 abbrev pub AreStored : core.Memory → List Item → ℕ → Type 0
 AreStored c [] k = Unit {0}
-AreStored c (tree.GlobalItem g ∷ items) k =
-    (c.parts (at (heap_spot k)) 0 ≡ Some (part_of (width_of (settled (written g.of))) (initial_content g.initial (settled (written g.of))))) × AreStored c
-    items (suc k)
+AreStored c (tree.GlobalItem g ∷ items) k = IsStored c g.initial (settled (written g.of)) k × AreStored c items (suc k)
 AreStored c (tree.StructItem s ∷ items) k = AreStored c items k
 AreStored c (tree.UnionItem u ∷ items) k = AreStored c items k
 AreStored c (tree.FunctionItem f ∷ items) k = AreStored c items k
@@ -230,50 +321,60 @@ no_more k = omega arith
 none_on : (i : ℕ) → 0 + i ≡ i
 none_on i = omega arith
 
-stored_from : (w : World) (c : core.Memory) (items : List Item) (k : ℕ) → TakesProgram items
-    → ((i : ℕ) → c.parts (at (heap_spot (k + i))) 0 ≡ datum_parts (data_of w items) i 0 0) → AreStored c items k
+word_datum : (w : World) (initial : Initial) (s : Shape) → IsWordShape s → global_datum w initial s ≡ datum_of w s (initial_content initial s)
+word_datum w initial (StructShape tag) h = absurd h
+word_datum w initial _ h = refl
+
+is_stored : (w : World) (c : core.Memory) (initial : Initial) (s : Shape) (ds : List Datum) (k : ℕ) → TakesGlobal s initial → IsObject w.structs s
+    → c.parts (at (heap_spot k)) 0 ≡ datum_parts (global_datum w initial s ∷ ds) 0 0 0 → IsStored c initial s k
+is_stored w c Initial.Unset s ds k h object e = tt
+is_stored w c (Initial.Elements count) s ds k h object e = tt
+is_stored w c (Initial.Given x) s ds k h object e =
+    let word = object_word w.structs s object (constant_single x s h) in
+    e ∙ ap (λ z. datum_parts (z ∷ ds) 0 0 0) (word_datum w (Initial.Given x) s word) ∙ datum_is w s (constant_content x s) ds word
+
+-- Core's data are there, from a global on
+abbrev ArePresent : World → core.Memory → List Item → ℕ → Type 0
+ArePresent w c items k = (i cell j : ℕ) → c.parts (spot_in (core.Born 0) (k + i) cell) j ≡ datum_parts (data_of w items) i cell j
+
+stored_from : (w : World) (c : core.Memory) (items : List Item) (k : ℕ) → TakesProgram w items → ArePresent w c items k → AreStored c items k
 stored_from w c [] k h e = tt
-stored_from w c (tree.StructItem s ∷ items) k h e = absurd h.0
+stored_from w c (tree.StructItem s ∷ items) k h e = stored_from w c items k h.1 e
 stored_from w c (tree.UnionItem u ∷ items) k h e = absurd h.0
 stored_from w c (tree.FunctionItem f ∷ items) k h e = stored_from w c items k h.1 e
 stored_from w c (tree.GlobalItem g ∷ items) k h e = (
-  ap (λ z. c.parts (at (heap_spot z)) 0) (no_more k) ∙ e 0 ∙ datum_is w (settled (written g.of)) (initial_content g.initial (settled (written g.of)))
-      (data_of w items) (type_settled g.of h.0.0).is_word,
-  stored_from w c items (suc k) h.1 (λ i. ap (λ z. c.parts (at (heap_spot z)) 0) (one_on k i) ∙ e (suc i)),
+  is_stored w c g.initial (settled (written g.of)) (data_of w items) k h.0.1 (object_settled w.structs g.of h.0.0)
+      (ap (λ z. c.parts (spot_in (core.Born 0) z 0) 0) (no_more k) ∙ e 0 0 0),
+  stored_from w c items (suc k) h.1 (λ i cell j. ap (λ z. c.parts (spot_in (core.Born 0) z cell) j) (one_on k i) ∙ e (suc i) cell j),
 )
 
-pub heap_stored : (w : World) (items : List Item) → TakesProgram items → AreStored (first_memory (data_of w items)) items 0
-heap_stored w items h = stored_from w (first_memory (data_of w items)) items 0 h (λ i. ap (λ z. (first_memory (data_of w items)).parts (at (heap_spot z)) 0)
-    (none_on i))
+heap_present : (w : World) (items : List Item) → ArePresent w (first_memory (data_of w items)) items 0
+heap_present w items i cell j = ap (λ z. (first_memory (data_of w items)).parts (spot_in (core.Born 0) z cell) j) (none_on i)
 
-led_from : (w : World) (m : source.Memory) (c : core.Memory) (items : List Item) (k : ℕ) → TakesProgram items
-    → ((i : ℕ) → m.cells (heap_spot (k + i)) ≡ cell_in 0 (slice_get (global_objects w items) i)) → AreStored c items k → AreLed w m c (globals_from items k)
-led_from w m c [] k h e stored = tt
-led_from w m c (tree.StructItem s ∷ items) k h e stored = absurd h.0
-led_from w m c (tree.UnionItem u ∷ items) k h e stored = absurd h.0
-led_from w m c (tree.FunctionItem f ∷ items) k h e stored = led_from w m c items k h.1 e stored
-led_from w m c (tree.GlobalItem g ∷ items) k h e stored = (
-  subst (λ z. Leads w m c z (heap_spot k) 0) (sym o.shape)
-      (subst (λ z. AreLaid m c (heap_spot k) 0 z) (sym (plain_of w (settled (written g.of)) is_word).placed) (
-        record {
-          has = has;
-          parts = subst (λ z. PartsAre c (at (heap_spot k)) 0 0 z) (sym (plain_of w (settled (written g.of)) is_word).pieces)
-              (record { content = initial_content g.initial (settled (written g.of)); is = stored.0 }, tt);
-        },
-        tt,
-      )),
-  led_from w m c items (suc k) h.1 (λ i. ap (λ z. m.cells (heap_spot z)) (one_on k i) ∙ e (suc i)) stored.1,
+pub heap_stored : (w : World) (items : List Item) → TakesProgram w items → AreStored (first_memory (data_of w items)) items 0
+heap_stored w items h = stored_from w (first_memory (data_of w items)) items 0 h (heap_present w items)
+
+led_from : (w : World) (m : source.Memory) (c : core.Memory) (items : List Item) (k : ℕ) → TakesProgram w items
+    → ((i cell : ℕ) → m.cells (spot_of (source.Born 0) (k + i) cell) ≡ cell_in cell (slice_get (global_objects w items) i)) → ArePresent w c items k
+    → AreLed w m c (globals_from items k)
+led_from w m c [] k h e present = tt
+led_from w m c (tree.StructItem s ∷ items) k h e present = led_from w m c items k h.1 e present
+led_from w m c (tree.UnionItem u ∷ items) k h e present = absurd h.0
+led_from w m c (tree.FunctionItem f ∷ items) k h e present = led_from w m c items k h.1 e present
+led_from w m c (tree.GlobalItem g ∷ items) k h e present = (
+  subst (λ z. Leads w m c z (heap_spot k) 0) (sym (shape_kept g.initial s h.0.1)) (
+    cells_from m (source.Born 0) k 0 (content_of g.initial) (cells_of w s)
+        (λ i. ap (λ z. m.cells (spot_of (source.Born 0) z (0 + i))) (no_more k) ∙ e 0 (0 + i) ∙ ap (λ f. f (0 + i)) (object_is w g.initial s h.0.1) ∙
+        ap (slice_get (map (cell_with (content_of g.initial)) (cells_of w s))) (none_on i)),
+    global_made w g.initial s (data_of w items) c k (λ cell j. ap (λ z. c.parts (spot_in (core.Born 0) z cell) j) (no_more k) ∙ present 0 cell j),
+  ),
+  led_from w m c items (suc k) h.1 (λ i cell. ap (λ z. m.cells (spot_of (source.Born 0) z cell)) (one_on k i) ∙ e (suc i) cell)
+      (λ i cell j. ap (λ z. c.parts (spot_in (core.Born 0) z cell) j) (one_on k i) ∙ present (suc i) cell j),
 )
   where
-    is_word : IsWordShape (settled (written g.of))
-    is_word = (type_settled g.of h.0.0).is_word
+    s : Shape
+    s = settled (written g.of)
 
-    o : IsObject w g.initial (settled (written g.of))
-    o = object_is w g.initial (settled (written g.of)) h.0.1 is_word
-
-    has : HasShape m (heap_spot k) (settled (written g.of))
-    has = record { content = o.content; is = ap (λ z. m.cells (heap_spot z)) (no_more k) ∙ e 0 ∙ ap (λ f. f 0) o.is }
-
-pub heap_led : (w : World) (items : List Item) → TakesProgram items → AreLed w (heap_of w items) (first_memory (data_of w items)) (globals_from items 0)
-heap_led w items h = led_from w (heap_of w items) (first_memory (data_of w items)) items 0 h (λ i. ap (λ z. (heap_of w items).cells (heap_spot z))
-    (none_on i)) (heap_stored w items h)
+pub heap_led : (w : World) (items : List Item) → TakesProgram w items → AreLed w (heap_of w items) (first_memory (data_of w items)) (globals_from items 0)
+heap_led w items h = led_from w (heap_of w items) (first_memory (data_of w items)) items 0 h
+    (λ i cell. ap (λ z. (heap_of w items).cells (spot_of (source.Born 0) z cell)) (none_on i)) (heap_present w items)

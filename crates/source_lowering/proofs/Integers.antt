@@ -3,6 +3,7 @@ use Rattle.std.proofs.Common.{◌≡◌, ℕ, Bool, true, Some, None, ◌^◌, �
 use Rattle.source_meaning.specs.Shapes.{
   Shape,
   Shared,
+  Layout,
   IntShape,
   UnsignedShape,
   CharShape,
@@ -26,37 +27,24 @@ use Rattle.core_meaning.specs.Memory.{Content, Word, Null, Pointer}
 use Rattle.core_meaning.specs.Core.{Program}
 use Rattle.core_meaning.specs.Steps as core_steps
 use Rattle.source_lowering.specs.Lowered.{type_of}
-use Rattle.source_lowering.specs.Taken.{IsIntegerShape}
-use Rattle.source_lowering.proofs.Relations.{at, Leads, Shown, ANull, APointer, AValue, ANothing, Given, Same}
+use Rattle.source_lowering.specs.Words.{IsIntegerShape}
+pub use Rattle.source_lowering.specs.Taken.{IsTarget, IsWordShape, IsObject, IsNoStruct}
+use Rattle.source_lowering.proofs.Relations.{at, LiesNear, Leads, Shown, ANull, APointer, AValue, ANothing, Given, Same}
 use Rattle.source_lowering.proofs.Runs.{stuck_same}
 
--- the shapes that are taken: those of integers and of thin pointers, and none
+-- the shapes of values: a word, or none
 abbrev pub IsTaken : Shape → Type 0
 IsTaken IntShape = Unit {0}
 IsTaken UnsignedShape = Unit {0}
 IsTaken CharShape = Unit {0}
 IsTaken VoidShape = Unit {0}
-IsTaken (ThinShape may_be_null owner to) = (owner ≡ Shared) × IsTaken to
+IsTaken (ThinShape may_be_null owner to) = (owner ≡ Shared) × IsTarget to
 IsTaken (FatShape to) = ⊥
 IsTaken HandleShape = ⊥
 IsTaken KeyShape = ⊥
 IsTaken (StructShape tag) = ⊥
 IsTaken (UnionShape tag) = ⊥
 IsTaken (ArrayShape count of) = ⊥
-
--- those of a word
-abbrev pub IsWordShape : Shape → Type 0
-IsWordShape IntShape = Unit {0}
-IsWordShape UnsignedShape = Unit {0}
-IsWordShape CharShape = Unit {0}
-IsWordShape VoidShape = ⊥
-IsWordShape (ThinShape may_be_null owner to) = (owner ≡ Shared) × IsTaken to
-IsWordShape (FatShape to) = ⊥
-IsWordShape HandleShape = ⊥
-IsWordShape KeyShape = ⊥
-IsWordShape (StructShape tag) = ⊥
-IsWordShape (UnionShape tag) = ⊥
-IsWordShape (ArrayShape count of) = ⊥
 
 pub word_taken : (s : Shape) → IsWordShape s → IsTaken s
 word_taken IntShape h = tt
@@ -103,19 +91,89 @@ integer_word (StructShape tag) h = absurd h
 integer_word (UnionShape tag) h = absurd h
 integer_word (ArrayShape count of) h = absurd h
 
--- all that is taken but nothing
-pub full_word : (s : Shape) → IsTaken s → (s ≡ VoidShape → ⊥) → IsWordShape s
-full_word IntShape h f = tt
-full_word UnsignedShape h f = tt
-full_word CharShape h f = tt
-full_word VoidShape h f = absurd (f refl)
-full_word (ThinShape may_be_null owner to) h f = h
-full_word (FatShape to) h f = h
-full_word HandleShape h f = h
-full_word KeyShape h f = h
-full_word (StructShape tag) h f = h
-full_word (UnionShape tag) h f = h
-full_word (ArrayShape count of) h f = h
+-- what can be pointed to, and is no struct, is a value
+pub target_taken : (s : Shape) → IsTarget s → IsNoStruct s → IsTaken s
+target_taken IntShape h g = tt
+target_taken UnsignedShape h g = tt
+target_taken CharShape h g = tt
+target_taken VoidShape h g = tt
+target_taken (ThinShape may_be_null owner to) h g = h
+target_taken (FatShape to) h g = h
+target_taken HandleShape h g = h
+target_taken KeyShape h g = h
+target_taken (StructShape tag) h g = g
+target_taken (UnionShape tag) h g = h
+target_taken (ArrayShape count of) h g = h
+
+pub word_target : (s : Shape) → IsWordShape s → IsTarget s
+word_target IntShape h = tt
+word_target UnsignedShape h = tt
+word_target CharShape h = tt
+word_target VoidShape h = tt
+word_target (ThinShape may_be_null owner to) h = h
+word_target (FatShape to) h = h
+word_target HandleShape h = h
+word_target KeyShape h = h
+word_target (StructShape tag) h = tt
+word_target (UnionShape tag) h = h
+word_target (ArrayShape count of) h = h
+
+pub taken_target : (s : Shape) → IsTaken s → IsTarget s
+taken_target VoidShape h = tt
+taken_target IntShape h = tt
+taken_target UnsignedShape h = tt
+taken_target CharShape h = tt
+taken_target (ThinShape may_be_null owner to) h = h
+taken_target (FatShape to) h = h
+taken_target HandleShape h = h
+taken_target KeyShape h = h
+taken_target (StructShape tag) h = tt
+taken_target (UnionShape tag) h = h
+taken_target (ArrayShape count of) h = h
+
+pub taken_no_struct : (s : Shape) → IsTaken s → IsNoStruct s
+taken_no_struct (StructShape tag) h = h
+taken_no_struct _ h = tt
+
+-- an object is a word or a struct
+pub object_target : (structs : List Layout) (s : Shape) → IsObject structs s → IsTarget s
+object_target structs (StructShape tag) h = tt
+object_target structs IntShape h = tt
+object_target structs UnsignedShape h = tt
+object_target structs CharShape h = tt
+object_target structs VoidShape h = tt
+object_target structs (ThinShape may_be_null owner to) h = h
+object_target structs (FatShape to) h = h
+object_target structs HandleShape h = h
+object_target structs KeyShape h = h
+object_target structs (UnionShape tag) h = h
+object_target structs (ArrayShape count of) h = h
+
+pub object_word : (structs : List Layout) (s : Shape) → IsObject structs s → IsNoStruct s → IsWordShape s
+object_word structs (StructShape tag) h g = g
+object_word structs IntShape h g = tt
+object_word structs UnsignedShape h g = tt
+object_word structs CharShape h g = tt
+object_word structs VoidShape h g = h
+object_word structs (ThinShape may_be_null owner to) h g = h
+object_word structs (FatShape to) h g = h
+object_word structs HandleShape h g = h
+object_word structs KeyShape h g = h
+object_word structs (UnionShape tag) h g = h
+object_word structs (ArrayShape count of) h g = h
+
+pub word_object : (structs : List Layout) (s : Shape) → IsWordShape s → IsObject structs s
+word_object structs (StructShape tag) h = absurd h
+word_object structs IntShape h = tt
+word_object structs UnsignedShape h = tt
+word_object structs CharShape h = tt
+word_object structs VoidShape h = h
+word_object structs (ThinShape may_be_null owner to) h = h
+word_object structs (FatShape to) h = h
+word_object structs HandleShape h = h
+word_object structs KeyShape h = h
+word_object structs (UnionShape tag) h = h
+word_object structs (ArrayShape count of) h = h
 
 pub not_void : (shape : Shape) → IsWordShape shape → shape ≡ VoidShape → ⊥
 not_void shape h e = subst (λ z. IsWordShape z) e h
@@ -124,7 +182,7 @@ not_void shape h e = subst (λ z. IsWordShape z) e h
 pub record IsThin (w : World) (m : source.Memory) (c : core.Memory) (shape : Shape) (v : Scalar) (x : Content) : Type 0 where
   pub may_be_null : Bool
   pub to : Shape
-  pub taken : IsTaken to
+  pub taken : IsTarget to
   pub shape_is : shape ≡ ThinShape may_be_null Shared to
   pub shown : ANull may_be_null v (x ∷ []) ⊎ APointer w m c to v (x ∷ [])
 
@@ -230,11 +288,11 @@ one_same w fs n shape m c vs x s k taken given go_word go_thin = ⊎_elim value 
 pub thin_same : (w : World) (fs : Program) (n : ℕ) (shape : Shape) (m : source.Memory) (c : core.Memory) (v : Scalar) (x : Content)
     (s : Scalar → source.Memory → steps.Step) (k : core_steps.Step) (o : IsThin w m c shape v x)
     → (x ≡ Null → o.may_be_null ≡ true → Same w fs n (s (Thin None) m) k)
-    → ((t : Spot) (byte : ℕ) → x ≡ Pointer (at t) byte → (o.to ≡ VoidShape → ⊥) → Leads w m c o.to t byte → Same w fs n (s (Thin (Some t)) m) k)
+    → ((t : Spot) (byte : ℕ) → x ≡ Pointer (at t) byte → LiesNear w o.to byte → Leads w m c o.to t byte → Same w fs n (s (Thin (Some t)) m) k)
     → Same w fs n (s v m) k
 thin_same w fs n shape m c v x s k o go_null go_spot =
     ⊎_elim
     (λ (z : ANull o.may_be_null v (x ∷ [])). subst (λ u. Same w fs n (s u m) k) (sym z.value) (go_null (null_is x o.may_be_null v z) z.allowed))
     (λ (z : APointer w m c o.to v (x ∷ [])).
-    subst (λ u. Same w fs n (s u m) k) (sym z.value) (go_spot z.spot z.byte (pointer_is w m c o.to x v z) z.full z.leads))
+    subst (λ u. Same w fs n (s u m) k) (sym z.value) (go_spot z.spot z.byte (pointer_is w m c o.to x v z) z.lies z.leads))
     o.shown

@@ -27,7 +27,6 @@ use Rattle.std.proofs.Common.{
 }
 use Rattle.std.specs.Prelude.{◌&&◌, if◌then◌else◌}
 use Rattle.std.proofs.lemmas.Bool.{eqb-true, and_parts}
-use Rattle.source_meaning.specs.Placing.{Placed}
 use Rattle.source_meaning.specs.Shapes.{
   Shape,
   IntShape,
@@ -45,20 +44,21 @@ use Rattle.source_meaning.specs.Shapes.{
 use Rattle.source_meaning.specs.Memory as source
 use Rattle.source_meaning.specs.Memory.{Scalar, Spot, Holds, Cell, same_region, same_spot, with_cell, with_state, state_is_live, Live, Dead}
 use Rattle.source_meaning.specs.Steps.{World, Entity, Variable, Fixed, Binding}
-use Rattle.source_meaning.specs.Conversions.{size_of}
+use Rattle.source_meaning.specs.Conversions.{cells_of, size_of}
 use Rattle.source_meaning.proofs.Cases.{spot_is}
 use Rattle.core_meaning.specs.Memory as core
 use Rattle.core_meaning.specs.Memory.{Content, Part, with_part, with_standing}
 use Rattle.core_meaning.specs.Steps.{Config}
 use Rattle.core_meaning.proofs.Spots.{spot_same, spot_self}
-use Rattle.source_lowering.specs.Layouts.{placed_of, Piece, pieces_of}
+use Rattle.source_lowering.specs.Layouts.{layout_of}
 use Rattle.source_lowering.proofs.Relations.{
   region_at,
   at,
   HasShape,
   PartIs,
-  PartsAre,
-  AreLaid,
+  AreShaped,
+  AreCells,
+  Leads,
   APointer,
   AFat,
   Shown,
@@ -122,17 +122,29 @@ later_on b m m' m'' c c' c'' x y = record {
 pub later_less : (b b' : ℕ) (m m' : source.Memory) (c c' : core.Memory) → b' ≤ b → Later b m c m' c' → Later b' m c m' c'
 later_less b b' m m' c c' less l = record { shapes = l.shapes; parts = l.parts; objects = λ k h. l.objects k (omega (arith, less, h)); begun = l.begun }
 
-parts_later : (b : ℕ) (m m' : source.Memory) (c c' : core.Memory) (t : core.Spot) (byte j : ℕ) (ps : List Piece) → Later b m c m' c' → PartsAre c t byte j ps
-    → PartsAre c' t byte j ps
-parts_later b m m' c c' t byte j [] l h = tt
-parts_later b m m' c c' t byte j (p ∷ ps) l (one, others) = (l.parts t j (byte + p.offset) p.width one, parts_later b m m' c c' t byte (j + 1) ps l others)
+shaped_later : (b : ℕ) (m m' : source.Memory) (c c' : core.Memory) (t : core.Spot) (byte j : ℕ) (xs : List core.PartShape) → Later b m c m' c'
+    → AreShaped c t byte j xs → AreShaped c' t byte j xs
+shaped_later b m m' c c' t byte j [] l h = tt
+shaped_later b m m' c c' t byte j (x ∷ xs) l (one, others) = (
+  l.parts t j (byte + x.offset) x.width one,
+  shaped_later b m m' c c' t byte (suc j) xs l others,
+)
 
-pub laid_later : (b : ℕ) (m m' : source.Memory) (c c' : core.Memory) (s : Spot) (byte : ℕ) (ps : List Placed) → Later b m c m' c' → AreLaid m c s byte ps
-    → AreLaid m' c' s byte ps
-laid_later b m m' c c' s byte [] l h = tt
-laid_later b m m' c c' s byte (p ∷ ps) l (one, others) = (
-  record { has = l.shapes s p.shape one.has; parts = parts_later b m m' c c' (at s) (byte + p.offset) 0 (pieces_of p.shape) l one.parts },
-  laid_later b m m' c c' (source.beyond s 1) byte ps l others,
+pub made_later : (b : ℕ) (m m' : source.Memory) (c c' : core.Memory) (t : core.Spot) (byte : ℕ) (xs : List (List core.PartShape)) → Later b m c m' c'
+    → AreMade c t byte xs → AreMade c' t byte xs
+made_later b m m' c c' t byte [] l h = tt
+made_later b m m' c c' t byte (x ∷ xs) l (one, others) =
+    (shaped_later b m m' c c' t byte 0 x l one, made_later b m m' c c' (core.beyond t 1) byte xs l others)
+
+cells_later : (b : ℕ) (m m' : source.Memory) (c c' : core.Memory) (s : Spot) (xs : List Shape) → Later b m c m' c' → AreCells m s xs → AreCells m' s xs
+cells_later b m m' c c' s [] l h = tt
+cells_later b m m' c c' s (x ∷ xs) l (one, others) = (l.shapes s x one, cells_later b m m' c c' (source.beyond s 1) xs l others)
+
+pub leads_later : (b : ℕ) (w : World) (m m' : source.Memory) (c c' : core.Memory) (shape : Shape) (s : Spot) (byte : ℕ) → Later b m c m' c'
+    → Leads w m c shape s byte → Leads w m' c' shape s byte
+leads_later b w m m' c c' shape s byte l h = (
+  cells_later b m m' c c' s (cells_of w shape) l h.0,
+  made_later b m m' c c' (at s) byte (layout_of w shape).cells l h.1,
 )
 
 pub shown_later : (b : ℕ) (w : World) (m m' : source.Memory) (c c' : core.Memory) (shape : Shape) (v : Scalar) (cs : List Content) → Later b m c m' c'
@@ -147,9 +159,8 @@ shown_later b w m m' c c' (ThinShape n o to) v cs l h =
       byte = p.byte;
       value = p.value;
       shown = p.shown;
-      full = p.full;
-      leads = laid_later b m
-          m' c c' p.spot p.byte (placed_of w to) l p.leads;
+      lies = p.lies;
+      leads = leads_later b w m m' c c' to p.spot p.byte l p.leads;
     })) h
 shown_later b w m m' c c' (FatShape to) v cs l h =
     ⊎_elim (λ x. inl x) (λ (p : AFat w m c to (size_of w to) v cs). inr (record {
@@ -159,7 +170,7 @@ shown_later b w m m' c c' (FatShape to) v cs l h =
       shown = p.shown;
       small =
           p.small;
-      leads = λ k less. laid_later b m m' c c' _ _ (placed_of w to) l (p.leads k less);
+      leads = λ k less. leads_later b w m m' c c' to _ _ l (p.leads k less);
     })) h
 shown_later b w m m' c c' HandleShape v cs l h = h
 shown_later b w m m' c c' KeyShape v cs l h = h
@@ -168,7 +179,7 @@ shown_later b w m m' c c' (UnionShape tag) v cs l h = h
 shown_later b w m m' c c' (ArrayShape count of) v cs l h = h
 
 pub led_later : (b : ℕ) (w : World) (m m' : source.Memory) (c c' : core.Memory) (e : Entity) → Later b m c m' c' → IsLed w m c e → IsLed w m' c' e
-led_later b w m m' c c' (Variable shape s) l h = laid_later b m m' c c' s 0 (placed_of w shape) l h
+led_later b w m m' c c' (Variable shape s) l h = leads_later b w m m' c c' shape s 0 l h
 led_later b w m m' c c' (Fixed shape v) l h = tt
 
 pub all_led_later : (b : ℕ) (w : World) (m m' : source.Memory) (c c' : core.Memory) (bs : List Binding) → Later b m c m' c' → AreLed w m c bs
@@ -176,17 +187,11 @@ pub all_led_later : (b : ℕ) (w : World) (m m' : source.Memory) (c c' : core.Me
 all_led_later b w m m' c c' [] l h = tt
 all_led_later b w m m' c c' (x ∷ bs) l (one, others) = (led_later b w m m' c c' x.entity l one, all_led_later b w m m' c c' bs l others)
 
-pub made_later : (b : ℕ) (m m' : source.Memory) (c c' : core.Memory) (t : core.Spot) (byte : ℕ) (ps : List Placed) → Later b m c m' c' → AreMade c t byte ps
-    → AreMade c' t byte ps
-made_later b m m' c c' t byte [] l h = tt
-made_later b m m' c c' t byte (p ∷ ps) l (one, others) =
-    (parts_later b m m' c c' t (byte + p.offset) 0 (pieces_of p.shape) l one, made_later b m m' c c' (core.beyond t 1) byte ps l others)
-
 pub pending_later : (b : ℕ) (w : World) (m m' : source.Memory) (c c' : core.Memory) (frame index : ℕ) (ss : List Shape) → Later b m c m' c'
     → ArePending w c frame index ss → ArePending w c' frame index ss
 pending_later b w m m' c c' frame index [] l h = tt
 pending_later b w m m' c c' frame index (s ∷ ss) l (one, others) =
-    (made_later b m m' c c' _ 0 (placed_of w s) l one, pending_later b w m m' c c' frame (suc index) ss l others)
+    (made_later b m m' c c' _ 0 (layout_of w s).cells l one, pending_later b w m m' c c' frame (suc index) ss l others)
 
 -- a place fits later memories that agree
 pub fits_later : (p : Place) (m m' : source.Memory) (c c' : Config) → Fits p m c → Agree p.world m' c'.memory → LaterAt p m c m' c' → c'.blocks ≡ c.blocks

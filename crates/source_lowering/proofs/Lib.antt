@@ -1,3 +1,5 @@
+pub mod Structs
+pub mod StructCells
 pub mod Relations
 pub mod Keeping
 pub mod Runs
@@ -5,6 +7,7 @@ pub mod Integers
 pub mod Operators
 pub mod Entering
 pub mod Cells
+pub mod Members
 pub mod Making
 pub mod Values
 pub mod Names
@@ -13,12 +16,15 @@ pub mod Conversions
 pub mod Forms
 pub mod Tests
 pub mod Places
+pub mod Reaching
 pub mod Pointers
 pub mod Calls
 pub mod EachCall
 pub mod EachExpression
 pub mod Statements
+pub mod Clearing
 pub mod Declaring
+pub mod Beginning
 pub mod Blocks
 pub mod WrittenTypes
 pub mod EachStatement
@@ -28,7 +34,9 @@ pub mod Constants
 pub mod Programs
 pub mod Costs
 pub mod PartCosts
+pub mod SuffixCosts
 pub mod ExpressionCosts
+pub mod LocalWords
 pub mod Bounded
 mod Samples
 mod SameShapes

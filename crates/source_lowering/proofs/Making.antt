@@ -1,30 +1,6 @@
 -- The source makes a local, whose object Core has made before.
-use Rattle.std.proofs.Common.{
-  ◌≡◌,
-  ℕ,
-  suc,
-  ◌+◌,
-  ◌<◌,
-  ◌≤◌,
-  List,
-  [],
-  ◌∷◌,
-  length,
-  Bool,
-  true,
-  false,
-  nat_eq,
-  Option,
-  Some,
-  None,
-  refl,
-  sym,
-  ap,
-  ◌∙◌,
-  subst,
-  arith,
-}
-use Rattle.std.specs.Prelude.{◌&&◌, if◌then◌else◌}
+use Rattle.std.proofs.Common.{◌≡◌, ℕ, suc, ◌+◌, ◌<◌, ◌≤◌, List, [], ◌∷◌, Bool, true, false, nat_eq, Option, Some, None, refl, sym, ap, ◌∙◌, subst, arith}
+use Rattle.std.specs.Prelude.{◌&&◌, if◌then◌else◌, map, slice_get}
 use Rattle.std.proofs.lemmas.Bool.{eqb-true, eq-eqb, and_parts}
 use Rattle.std.proofs.lemmas.Bool.Decides.{nat_tests}
 use Rattle.source_meaning.specs.Shapes.{Shape}
@@ -34,19 +10,19 @@ use Rattle.source_meaning.specs.Steps.{World}
 use Rattle.source_meaning.proofs.Cases.{region_itself, region_is}
 use Rattle.core_meaning.specs.Memory as core
 use Rattle.core_meaning.specs.Memory.{Content, Part, with_part}
-use Rattle.source_lowering.proofs.Relations.{region_at, at, HasShape, PartIs, IsShown, Agree, Later}
+use Rattle.source_lowering.proofs.Relations.{region_at, at, PartIs, AreCells, IsShown, Agree, Later}
 use Rattle.core_meaning.proofs.Spots.{spot_same}
 use Rattle.source_lowering.proofs.Keeping.{held_other, region_as, shown_later}
-
--- the object of one cell
-abbrev pub one_cell : Shape → source.Content → Object
-one_cell shape content = object_of ((record { shape = shape; content = content }) ∷ [])
 
 abbrev pub local_spot : ℕ → ℕ → Spot
 local_spot k index = record { region = source.Frame k; object = index; cell = 0 }
 
-abbrev pub m_made : source.Memory → ℕ → Shape → source.Content → source.Memory
-m_made m k shape content = with_object m (source.Frame k) (one_cell shape content)
+-- a cell of a local
+abbrev pub cell_spot : ℕ → ℕ → ℕ → Spot
+cell_spot k index cell = record { region = source.Frame k; object = index; cell = cell }
+
+abbrev pub m_made : source.Memory → ℕ → Object → source.Memory
+m_made m k o = with_object m (source.Frame k) o
 
 abbrev is_here : source.Memory → ℕ → Spot → Bool
 is_here m k t = same_region t.region (source.Frame k) && nat_eq t.object (m.objects (source.Frame k))
@@ -56,63 +32,86 @@ fresh : (m : source.Memory) (k : ℕ) (t : Spot) → ((s : Spot) → m.objects s
 fresh m k t unmade e =
     let two = and_parts (same_region t.region (source.Frame k)) (nat_eq t.object (m.objects (source.Frame k))) e in
     let r = region_is t.region (source.Frame k) two.0 in
-    let o = eqb-true t.object (m.objects (source.Frame k)) two.1 in
-    unmade t (subst (λ q. m.objects q ≤ t.object) (sym r) (subst (λ z. m.objects (source.Frame k) ≤ z) (sym o) (omega arith)))
+    let n = eqb-true t.object (m.objects (source.Frame k)) two.1 in
+    unmade t (subst (λ q. m.objects q ≤ t.object) (sym r) (subst (λ z. m.objects (source.Frame k) ≤ z) (sym n) (omega arith)))
 
-made_cell : (m : source.Memory) (k : ℕ) (shape : Shape) (content : source.Content) (t : Spot) (x : Cell)
-    → ((s : Spot) → m.objects s.region ≤ s.object → m.cells s ≡ None) → m.cells t ≡ Some x → (m_made m k shape content).cells t ≡ Some x
-made_cell m k shape content t x unmade is = by (is_here m k t) refl
+made_cell : (m : source.Memory) (k : ℕ) (o : Object) (t : Spot) (x : Cell)
+    → ((s : Spot) → m.objects s.region ≤ s.object → m.cells s ≡ None) → m.cells t ≡ Some x → (m_made m k o).cells t ≡ Some x
+made_cell m k o t x unmade is = by (is_here m k t) refl
   where
-    by : (b : Bool) → is_here m k t ≡ b → (m_made m k shape content).cells t ≡ Some x
+    by : (b : Bool) → is_here m k t ≡ b → (m_made m k o).cells t ≡ Some x
     by true e = let none : None ≡ Some x = sym (fresh m k t unmade e) ∙ is in absurd (cc none)
-    by false e = ap (λ b. if b then one_cell shape content t.cell else m.cells t) e ∙ is
+    by false e = ap (λ b. if b then o t.cell else m.cells t) e ∙ is
 
-objects_other : (m : source.Memory) (j k : ℕ) (shape : Shape) (content : source.Content) → j < k
-    → (m_made m k shape content).objects (source.Frame j) ≡ m.objects (source.Frame j)
-objects_other m j k shape content h = let no : nat_eq j k ≡ false = grind (arith, nat_tests, h) in ap (λ b. if b then m.objects (source.Frame k) + 1 else
+objects_other : (m : source.Memory) (j k : ℕ) (o : Object) → j < k
+    → (m_made m k o).objects (source.Frame j) ≡ m.objects (source.Frame j)
+objects_other m j k o h = let no : nat_eq j k ≡ false = grind (arith, nat_tests, h) in ap (λ b. if b then m.objects (source.Frame k) + 1 else
     m.objects (source.Frame j)) no
 
-pub objects_here : (m : source.Memory) (k : ℕ) (shape : Shape) (content : source.Content) → (m_made m k shape content).objects (source.Frame k) ≡ m.objects
+pub objects_here : (m : source.Memory) (k : ℕ) (o : Object) → (m_made m k o).objects (source.Frame k) ≡ m.objects
     (source.Frame k) + 1
-objects_here m k shape content = ap (λ b. if b then m.objects (source.Frame k) + 1 else m.objects (source.Frame k)) (region_itself (source.Frame k))
+objects_here m k o = ap (λ b. if b then m.objects (source.Frame k) + 1 else m.objects (source.Frame k)) (region_itself (source.Frame k))
 
 -- the blocks before this one have no more locals
-pub grown_later : (m : source.Memory) (c : core.Memory) (k : ℕ) (shape : Shape) (content : source.Content)
-    → ((s : Spot) → m.objects s.region ≤ s.object → m.cells s ≡ None) → Later k m c (m_made m k shape content) c
-grown_later m c k shape content unmade = record {
-  shapes = λ s other h. record { content = h.content; is = made_cell m k shape content s _ unmade h.is };
+pub grown_later : (m : source.Memory) (c : core.Memory) (k : ℕ) (o : Object)
+    → ((s : Spot) → m.objects s.region ≤ s.object → m.cells s ≡ None) → Later k m c (m_made m k o) c
+grown_later m c k o unmade = record {
+  shapes = λ s other h. record { content = h.content; is = made_cell m k o s _ unmade h.is };
   parts = λ t j o w h. h;
-  objects = λ j h. objects_other m j k shape content h;
+  objects = λ j h. objects_other m j k o h;
   begun = omega arith;
 }
 
--- the new local's own cell
-pub here_is : (m : source.Memory) (k index : ℕ) (shape : Shape) (content : source.Content) → m.objects (source.Frame k) ≡ index
-    → HasShape (m_made m k shape content) (local_spot k index) shape
-here_is m k index shape content e = record {
-  content = content;
-  is = ap (λ b. if b && nat_eq index (m.objects (source.Frame k)) then one_cell shape content 0 else m.cells (local_spot k index))
-      (region_itself (source.Frame k)) ∙
-      ap (λ b. if b then one_cell shape content 0 else m.cells (local_spot k index)) (eq-eqb index (m.objects (source.Frame k)) (sym e));
-}
+-- the new local's own cells
+pub here_is : (m : source.Memory) (k index cell : ℕ) (o : Object) → m.objects (source.Frame k) ≡ index
+    → (m_made m k o).cells (cell_spot k index cell) ≡ o cell
+here_is m k index cell o e =
+    ap (λ b. if b && nat_eq index (m.objects (source.Frame k)) then o cell else m.cells (cell_spot k index cell)) (region_itself (source.Frame k)) ∙
+    ap (λ b. if b then o cell else m.cells (cell_spot k index cell)) (eq-eqb index (m.objects (source.Frame k)) (sym e))
+
+-- a cell of a shape, with the content that its shape gives it
+abbrev pub cell_with : (Shape → source.Content) → Shape → Cell
+cell_with g s = record { shape = s; content = g s }
+
+-- a cell of an object
+abbrev pub spot_of : source.Region → ℕ → ℕ → Spot
+spot_of r index cell = record { region = r; object = index; cell = cell }
+
+pub cells_from : (m : source.Memory) (r : source.Region) (index cell : ℕ) (g : Shape → source.Content) (xs : List Shape)
+    → ((i : ℕ) → m.cells (spot_of r index (cell + i)) ≡ slice_get (map (cell_with g) xs) i) → AreCells m (spot_of r index cell) xs
+cells_from m r index cell g [] h = tt
+cells_from m r index cell g (x ∷ xs) h = (
+  record { content = g x; is = ap (λ z. m.cells (spot_of r index z)) here ∙ h 0 },
+  subst (λ z. AreCells m (spot_of r index z) xs) next (cells_from m r index (suc cell) g xs (λ i. ap (λ z. m.cells (spot_of r index z)) (one_on cell i) ∙
+      h (suc i))),
+)
+  where
+    here : cell ≡ cell + 0
+    here = omega arith
+
+    next : suc cell ≡ cell + 1
+    next = omega arith
+
+    one_on : (k i : ℕ) → suc k + i ≡ k + suc i
+    one_on k i = omega arith
+
+-- an object of these cells
+pub cells_here : (m : source.Memory) (k index : ℕ) (g : Shape → source.Content) (xs : List Shape) → m.objects (source.Frame k) ≡ index
+    → AreCells (m_made m k (object_of (map (cell_with g) xs))) (cell_spot k index 0) xs
+cells_here m k index g xs e =
+    cells_from (m_made m k (object_of (map (cell_with g) xs))) (source.Frame k) index 0 g xs
+    (λ i. here_is m k index (0 + i) (object_of (map (cell_with g) xs)) e ∙ ap (slice_get (map (cell_with g) xs)) (zero_on i))
+  where
+    zero_on : (i : ℕ) → 0 + i ≡ i
+    zero_on i = omega arith
 
 -- ---- the relation holds where the new cell's value, if there is one, is in its part
 
-abbrev shape_in : Shape → Option Cell → Shape
-shape_in s None = s
-shape_in s (Some c) = c.shape
-
-abbrev content_in : source.Content → Option Cell → source.Content
-content_in v None = v
-content_in v (Some c) = c.content
-
-one_alone : (shape : Shape) (content : source.Content) (k : ℕ) (x : Cell) → one_cell shape content (suc k) ≡ Some x → ⊥
-one_alone shape content k x e = cc e
-
-pub agree_made : (w : World) (m : source.Memory) (c : core.Memory) (k index : ℕ) (shape : Shape) (content : source.Content) → Agree w m c
-    → m.objects (source.Frame k) ≡ index → k < m.activations → ((v : Scalar) → content ≡ Holds v → IsShown w m c (local_spot k index) shape v)
-    → Agree w (m_made m k shape content) c
-agree_made w m c k index shape content a e begun shown = record {
+pub agree_made : (w : World) (m : source.Memory) (c : core.Memory) (k index : ℕ) (o : Object) → Agree w m c
+    → m.objects (source.Frame k) ≡ index → k < m.activations → ((cell : ℕ) (shape : Shape) (v : Scalar) → o cell ≡ Some (record { shape = shape; content = Holds v })
+    → IsShown w m c (cell_spot k index cell) shape v)
+    → Agree w (m_made m k o) c
+agree_made w m c k index o a e begun shown = record {
   cells = λ t other v h. by (is_here m k t) t other v refl h;
   live = a.live;
   activations = a.activations;
@@ -125,47 +124,44 @@ agree_made w m c k index shape content a e begun shown = record {
 }
   where
     m' : source.Memory
-    m' = m_made m k shape content
+    m' = m_made m k o
 
     later : Later k m c m' c
-    later = grown_later m c k shape content a.unmade
+    later = grown_later m c k o a.unmade
 
     kept : (s : Spot) (other : Shape) (v : Scalar) → IsShown w m c s other v → IsShown w m' c s other v
     kept s other v one = record { contents = one.contents; shown = shown_later k w m m' c c other v one.contents later one.shown; held = one.held }
 
-    here : (t : Spot) (other : Shape) (v : Scalar) → is_here m k t ≡ true → (n : ℕ) → t.cell ≡ n
-        → one_cell shape content n ≡ Some (record { shape = other; content = Holds v }) → IsShown w m' c t other v
-    here t other v e1 Rattle.std.proofs.Common.zero z is =
+    here : (t : Spot) (other : Shape) (v : Scalar) → is_here m k t ≡ true → o t.cell ≡ Some (record { shape = other; content = Holds v })
+        → IsShown w m' c t other v
+    here t other v e1 is =
         let two = and_parts (same_region t.region (source.Frame k)) (nat_eq t.object (m.objects (source.Frame k))) e1 in
         let r = region_is t.region (source.Frame k) two.0 in
-        let o : t.object ≡ index = eqb-true t.object (m.objects (source.Frame k)) two.1 ∙ e in
-        let same : local_spot k index ≡ t = λ i. record { region = sym r i; object = sym o i; cell = sym z i } in
-        let there = shown v (ap (content_in content) is) in
-        subst (λ u. IsShown w m' c u other v) same (subst (λ u. IsShown w m' c (local_spot k index) u v) (ap (shape_in shape) is)
-        (kept (local_spot k index) shape v there))
-    here t other v e1 (suc n) z is = absurd (one_alone shape content n _ is)
+        let n : t.object ≡ index = eqb-true t.object (m.objects (source.Frame k)) two.1 ∙ e in
+        let same : cell_spot k index t.cell ≡ t = λ i. record { region = sym r i; object = sym n i; cell = t.cell } in
+        subst (λ u. IsShown w m' c u other v) same (kept (cell_spot k index t.cell) other v (shown t.cell other v is))
 
     by : (b : Bool) (t : Spot) (other : Shape) (v : Scalar) → is_here m k t ≡ b → m'.cells t ≡ Some (record { shape = other; content = Holds v })
         → IsShown w m' c t other v
-    by true t other v e1 h = here t other v e1 t.cell refl (sym (ap (λ b. if b then one_cell shape content t.cell else m.cells t) e1) ∙ h)
-    by false t other v e1 h = kept t other v (a.cells t other v (sym (ap (λ b. if b then one_cell shape content t.cell else m.cells t) e1) ∙ h))
+    by true t other v e1 h = here t other v e1 (sym (ap (λ b. if b then o t.cell else m.cells t) e1) ∙ h)
+    by false t other v e1 h = kept t other v (a.cells t other v (sym (ap (λ b. if b then o t.cell else m.cells t) e1) ∙ h))
 
     grown : (q : source.Region) (b : Bool) → same_region q (source.Frame k) ≡ b → m.objects q ≤ m'.objects q
     grown q true e1 = subst (λ z. m.objects z ≤ m'.objects z) (sym (region_is q (source.Frame k) e1)) (subst (λ z. m.objects (source.Frame k) ≤ z)
-        (sym (objects_here m k shape content)) (omega arith))
+        (sym (objects_here m k o)) (omega arith))
     grown q false e1 = subst (λ z. m.objects q ≤ z) (sym (ap (λ b. if b then m.objects (source.Frame k) + 1 else m.objects q) e1)) (omega arith)
 
     free : (b : Bool) (t : Spot) → is_here m k t ≡ b → m'.objects t.region ≤ t.object → m'.cells t ≡ None
     free true t e1 h =
         let two = and_parts (same_region t.region (source.Frame k)) (nat_eq t.object (m.objects (source.Frame k))) e1 in
         let r = region_is t.region (source.Frame k) two.0 in
-        let o = eqb-true t.object (m.objects (source.Frame k)) two.1 in
-        let more : m.objects (source.Frame k) + 1 ≤ t.object = subst (λ z. z ≤ t.object) (objects_here m k shape content)
+        let z = eqb-true t.object (m.objects (source.Frame k)) two.1 in
+        let more : m.objects (source.Frame k) + 1 ≤ t.object = subst (λ z. z ≤ t.object) (objects_here m k o)
         (subst (λ q. m'.objects q ≤ t.object) r h) in
-        absurd (omega (arith, o, more))
+        absurd (omega (arith, z, more))
     free false t e1 h =
         let less : m.objects t.region ≤ t.object = let g = grown t.region (same_region t.region (source.Frame k)) refl in omega (arith, g, h) in
-        ap (λ b. if b then one_cell shape content t.cell else m.cells t) e1 ∙ a.unmade t less
+        ap (λ b. if b then o t.cell else m.cells t) e1 ∙ a.unmade t less
 
 -- ---- Core writes a part of a local that the source makes next
 

@@ -37,14 +37,16 @@ use Rattle.core_meaning.specs.Steps.{Config, with_temp, with_memory}
 use Rattle.core_meaning.specs.Meaning as meaning
 use Rattle.core_meaning.specs.Operations.{does, fitting}
 use Rattle.source_lowering.specs.Lowered.{local_named, shape_by, put, width_of, distance, address_by, check_code, load_code, store_code}
-use Rattle.source_lowering.proofs.Relations.{at, Leads, AreLed, Place, Fits, SameAt, Next, AreKept, LaterAt, Given, GivesAs, AreLocals}
+use Rattle.source_lowering.specs.Taken.{AreStructs}
+use Rattle.source_lowering.proofs.Relations.{at, LiesNear, Leads, AreLed, Place, Fits, SameAt, Next, AreKept, LaterAt, Given, GivesAs, AreLocals}
 use Rattle.source_lowering.proofs.Keeping.{later_self, later_on, m_written}
 use Rattle.source_lowering.proofs.Runs.{stuck_same, stops_same, put_all}
-use Rattle.source_lowering.proofs.Integers.{IsTaken, IsWordShape, full_word, not_void, one_same, thin_same}
-use Rattle.source_lowering.proofs.Cells.{plain_of, read_same, write_same}
+use Rattle.source_lowering.proofs.Integers.{IsTaken, IsTarget, IsWordShape, IsNoStruct, object_word, object_target, taken_no_struct, one_same, thin_same}
+use Rattle.source_lowering.proofs.Cells.{plain_of, object_variable, read_same, write_same}
+use Rattle.source_lowering.proofs.Members.{lies_here}
 use Rattle.source_lowering.proofs.Making.{local_spot}
 use Rattle.source_lowering.proofs.Values.{put_temp, kept_temp, temp_fits, put_value, given_later}
-use Rattle.source_lowering.proofs.Names.{AreWordNames, AreGlobals, FoundLocal, MissingLocal, find_local, FoundGlobal, find_global}
+use Rattle.source_lowering.proofs.Names.{AreObjectNames, AreGlobals, FoundLocal, MissingLocal, find_local, FoundGlobal, find_global}
 use Rattle.source_lowering.proofs.Variables.{Agrees, StoresAs, value_of, written_on, part_at_byte}
 
 -- ---- forms
@@ -53,18 +55,24 @@ use Rattle.source_lowering.proofs.Variables.{Agrees, StoresAs, value_of, written
 pub record PlaceGoesOn (p : Place) (n d : ℕ) (m0 : source.Memory) (c0 : Config) (shape : Shape) (s : Spot → source.Memory → steps.Step)
     (k : Config → core_steps.Step) : Type 0 where
   pub go : (m : source.Memory) (c : Config) (t : Spot) (byte : ℕ) → Fits p m c → LaterAt p m0 c0 m c → AreKept d c0 c → c.temps d ≡ Pointer (at t) byte
-      → IsWordShape shape → Leads p.world m c.memory shape t byte → SameAt p n (s t m) (k c)
+      → LiesNear p.world shape byte → Leads p.world m c.memory shape t byte → SameAt p n (s t m) (k c)
 
 -- an act gives the place to which its code leaves a pointer in a temporary
 pub record PlacedAs (p : Place) (n d : ℕ) (shape : Shape) (act : steps.Act Spot) (code : List Statement) : Type 0 where
   pub same : (m : source.Memory) (c : Config) (s : Spot → source.Memory → steps.Step) (rest : Statements) (next : Next) → Fits p m c
       → PlaceGoesOn p n d m c shape s (meaning.statements rest next) → SameAt p n (act s m) (meaning.statements (put code rest) next c)
 
+-- what has a pointer to it
+pub record IsPlaced (p : Place) (n d : ℕ) (e : Sense) (shape : Shape) (code : List Statement) : Type 0 where
+  pub shape_is : e.shape ≡ shape
+  pub target : IsTarget shape
+  pub placed : PlacedAs p n d shape e.place code
+
 -- ---- variables
 
 -- a pointer is put into its temporary
 pointer_put : (p : Place) (n d : ℕ) (m : source.Memory) (c : Config) (shape : Shape) (t : Spot) (s : Spot → source.Memory → steps.Step)
-    (k : Config → core_steps.Step) → Fits p m c → IsWordShape shape → Leads p.world m c.memory shape t 0 → PlaceGoesOn p n d m c shape s k
+    (k : Config → core_steps.Step) → Fits p m c → LiesNear p.world shape 0 → Leads p.world m c.memory shape t 0 → PlaceGoesOn p n d m c shape s k
     → SameAt p n (s t m) (k (with_temp d (Pointer (at t) 0) c))
 pointer_put p n d m c shape t s k fits word leads goes =
     goes.go m (with_temp d (Pointer (at t) 0) c) t 0 (temp_fits p m c d (Pointer (at t) 0) fits) (later_self (suc p.frame) m c.memory)
@@ -74,7 +82,7 @@ addressed : (c : Config) (d out index frame : ℕ) (next : Config → core_steps
     → does (LocalAddress d out index) next c ≡ next (with_temp d (Pointer (at (local_spot frame index)) 0) c)
 addressed c d out index frame next block = rw block refl
 
-local_placed : (p : Place) (n d out index frame : ℕ) (shape : Shape) → IsWordShape shape → slice_get (p.frame ∷ p.outer) out ≡ Some frame
+local_placed : (p : Place) (n d out index frame : ℕ) (shape : Shape) → LiesNear p.world shape 0 → slice_get (p.frame ∷ p.outer) out ≡ Some frame
     → ((m : source.Memory) (c : core.Memory) → AreLed p.world m c p.locals → Leads p.world m c shape (local_spot frame index) 0)
     → PlacedAs p n d shape (give (local_spot frame index)) (Do (LocalAddress d out index) ∷ [])
 local_placed p n d out index frame shape word block led = record {
@@ -84,7 +92,7 @@ local_placed p n d out index frame shape word block led = record {
       (pointer_put p n d m c shape (local_spot frame index) s (meaning.statements rest next) fits word (led m c.memory fits.locals) goes);
 }
 
-global_placed : (p : Place) (n d number : ℕ) (shape : Shape) → IsWordShape shape → ((m : source.Memory) (c : core.Memory) → AreLed p.world m c p.world.globals
+global_placed : (p : Place) (n d number : ℕ) (shape : Shape) → LiesNear p.world shape 0 → ((m : source.Memory) (c : core.Memory) → AreLed p.world m c p.world.globals
     → Leads p.world m c shape (heap_spot number) 0) → PlacedAs p n d shape (give (heap_spot number)) (Do (DataAddress d number) ∷ [])
 global_placed p n d number shape word led = record {
   same = λ m c s rest next fits goes.
@@ -95,28 +103,37 @@ global_placed p n d number shape word led = record {
 stuck_placed : (p : Place) (n d : ℕ) (shape : Shape) (code : List Statement) → PlacedAs p n d shape steps.stuck code
 stuck_placed p n d shape code = record { same = λ m c s rest next fits goes. stuck_same p.world p.program n _ }
 
-pub variable_placed : (p : Place) (n d : ℕ) (name : List ℕ) → AreLocals (p.frame ∷ p.outer) p.locals p.names → AreWordNames p.names
-    → AreGlobals p.world.globals
-    → PlacedAs p n d (shape_by (local_named p.names name) (bound_to p.world.globals name)) (entity_sense p.world
-    (or_else (bound_to p.locals name) (bound_to p.world.globals name))).place (address_by (local_named p.names name) (bound_to p.world.globals name) d)
-variable_placed p n d name locals words globals = ⊎_elim here missing (find_local (p.frame ∷ p.outer) p.locals p.names name locals words)
+pub variable_placed : (p : Place) (n d : ℕ) (name : List ℕ) → AreLocals (p.frame ∷ p.outer) p.locals p.names → AreObjectNames p.world.structs p.names
+    → AreGlobals p.world.structs p.world.globals → AreStructs p.world.unions p.world.structs
+    → IsPlaced p n d (entity_sense p.world (or_else (bound_to p.locals name) (bound_to p.world.globals name))) (shape_by (local_named p.names name)
+    (bound_to p.world.globals name)) (address_by (local_named p.names name) (bound_to p.world.globals name) d)
+variable_placed p n d name locals words globals structs = ⊎_elim here missing (find_local p.world.structs (p.frame ∷ p.outer) p.locals p.names name locals words)
   where
-    here : FoundLocal (p.frame ∷ p.outer) p.locals p.names name → PlacedAs p n d (shape_by (local_named p.names name) (bound_to p.world.globals name))
-        (entity_sense p.world (or_else (bound_to p.locals name) (bound_to p.world.globals name))).place (address_by (local_named p.names name)
+    here : FoundLocal p.world.structs (p.frame ∷ p.outer) p.locals p.names name → IsPlaced p n d (entity_sense p.world
+        (or_else (bound_to p.locals name) (bound_to p.world.globals name))) (shape_by (local_named p.names name) (bound_to p.world.globals name)) (address_by (local_named p.names name)
         (bound_to p.world.globals name) d)
-    here f = rw (f.bound, f.found, (plain_of p.world f.local.shape f.is_word).variable (local_spot f.frame f.local.index))
-        (local_placed p n d f.local.out f.local.index f.frame f.local.shape f.is_word f.in_block (f.led p.world))
+    here f = rw (f.bound, f.found, object_variable p.world f.local.shape f.is_object (local_spot f.frame f.local.index))
+        (record {
+          shape_is = refl;
+          target = object_target p.world.structs f.local.shape f.is_object;
+          placed = local_placed p n d f.local.out f.local.index f.frame f.local.shape (lies_here p.world f.local.shape structs f.is_object) f.in_block
+              (f.led p.world);
+        })
 
-    missing : MissingLocal p.locals p.names name → PlacedAs p n d (shape_by (local_named p.names name) (bound_to p.world.globals name))
-        (entity_sense p.world (or_else (bound_to p.locals name) (bound_to p.world.globals name))).place (address_by (local_named p.names name)
+    missing : MissingLocal p.locals p.names name → IsPlaced p n d (entity_sense p.world
+        (or_else (bound_to p.locals name) (bound_to p.world.globals name))) (shape_by (local_named p.names name) (bound_to p.world.globals name)) (address_by (local_named p.names name)
         (bound_to p.world.globals name) d)
     missing f = rw (f.bound, f.found)
         (⊎_elim
-        (λ (g : FoundGlobal p.world.globals name).
-        rw (g.bound, (plain_of p.world g.shape g.is_word).variable (heap_spot g.number))
-        (global_placed p n d g.number g.shape g.is_word (g.led p.world)))
-        (λ (g : bound_to p.world.globals name ≡ None). rw g (stuck_placed p n d VoidShape []))
-        (find_global p.world.globals name globals))
+        (λ (g : FoundGlobal p.world.structs p.world.globals name).
+        rw (g.bound, object_variable p.world g.shape g.is_object (heap_spot g.number))
+        (record {
+          shape_is = refl;
+          target = object_target p.world.structs g.shape g.is_object;
+          placed = global_placed p n d g.number g.shape (lies_here p.world g.shape structs g.is_object) (g.led p.world);
+        }))
+        (λ (g : bound_to p.world.globals name ≡ None). rw g (record { shape_is = refl; target = tt; placed = stuck_placed p n d VoidShape [] }))
+        (find_global p.world.structs p.world.globals name globals))
 
 -- ---- `*e`
 
@@ -150,11 +167,11 @@ contents_placed p n d cells e shape code agrees = record {
             (λ t byte x full leads.
             subst (λ z. SameAt p n (s t m1) z) (sym (spot_passes d byte o.may_be_null o.to (at t) c1 rest next x))
             ((subst (λ z. PlaceGoesOn p n d m c (pointee z) s (meaning.statements rest next)) o.shape_is goes).go m1 c1 t byte fits1 later1 kept1 x
-            (full_word o.to o.taken full) leads))));
+            full leads))));
       }));
 }
 
-pub pointee_taken : (s : Shape) → IsTaken s → IsTaken (pointee s)
+pub pointee_taken : (s : Shape) → IsTaken s → IsTarget (pointee s)
 pointee_taken IntShape h = tt
 pointee_taken UnsignedShape h = tt
 pointee_taken CharShape h = tt
@@ -192,13 +209,14 @@ stored_at c d e width byte t old next temp live part =
 
 -- the value at a place is read
 read_placed : (p : Place) (n d : ℕ) (shape : Shape) (act : steps.Act Spot) (code : List Statement) (reads : Spot → steps.Act (List Scalar))
-    → PlacedAs p n d shape act code → (IsWordShape shape → (t : Spot) (s : List Scalar → source.Memory → steps.Step) (m : source.Memory)
+    → IsTaken shape → PlacedAs p n d shape act code → (IsWordShape shape → (t : Spot) (s : List Scalar → source.Memory → steps.Step) (m : source.Memory)
     → reads t s m ≡ read_cells (length (cells_of p.world shape)) t s m) → GivesAs p n d shape (act >>= reads) (code ++ load_code shape d)
-read_placed p n d shape act code reads placed same = record {
+read_placed p n d shape act code reads taken placed same = record {
   same = λ m c s rest next fits goes.
       subst (λ z. SameAt p n (act (λ t. reads t s) m) (meaning.statements z next c)) (sym (put_all code (load_code shape d) rest))
       (placed.same m c (λ t. reads t s) (put (load_code shape d) rest) next fits (record {
-        go = λ m1 c1 t byte fits1 later1 kept1 temp word leads.
+        go = λ m1 c1 t byte fits1 later1 kept1 temp lies leads.
+            let word = object_word p.world.structs shape lies.object (taken_no_struct shape taken) in
             let step : core_steps.Step = does (Load d d (distance 0 0 (width_of shape))) (meaning.statements rest next) c1 in
             subst (λ z. SameAt p n z step) (sym (same word t s m1))
             (read_same p.world p.program n shape (width_of shape) m1 c1.memory t byte s step (plain_of p.world shape word) fits1.agree leads
@@ -215,20 +233,21 @@ pub place_read : (p : Place) (n d : ℕ) (shape : Shape) (act : steps.Act Spot) 
 place_read p n d shape act code taken placed = record {
   shape_is = refl;
   taken = taken;
-  looks = read_placed p n d shape act code (λ t. read_cells (length (cells_of p.world shape)) t) placed (λ word t s m. refl);
-  values = read_placed p n d shape act code (λ t. take_cells (cells_of p.world shape) t) placed
+  looks = read_placed p n d shape act code (λ t. read_cells (length (cells_of p.world shape)) t) taken placed (λ word t s m. refl);
+  values = read_placed p n d shape act code (λ t. take_cells (cells_of p.world shape) t) taken placed
       (λ word t s m. (plain_of p.world shape word).taken t s m);
 }
 
 -- a value is stored at a place
-pub place_stores : (p : Place) (n d : ℕ) (shape : Shape) (act : steps.Act Spot) (code : List Statement) → PlacedAs p n (d + 1) shape act code
+pub place_stores : (p : Place) (n d : ℕ) (shape : Shape) (act : steps.Act Spot) (code : List Statement) → IsNoStruct shape → PlacedAs p n (d + 1) shape act code
     → StoresAs p n d shape act (code ++ store_code shape d)
-place_stores p n d shape act code placed = record {
+place_stores p n d shape act code value placed = record {
   same = λ m0 c0 m c vs s rest next fits later kept given goes.
       let then_act : Spot → source.Memory → steps.Step = λ t. write_cells t vs (λ u. s (given_by shape vs)) in
       subst (λ z. SameAt p n (act then_act m) (meaning.statements z next c)) (sym (put_all code (store_code shape d) rest))
       (placed.same m c then_act (put (store_code shape d) rest) next fits (record {
-        go = λ m1 c1 t byte fits1 later1 kept1 temp word leads.
+        go = λ m1 c1 t byte fits1 later1 kept1 temp lies leads.
+            let word = object_word p.world.structs shape lies.object value in
             let same : c.temps d ≡ c1.temps d = sym (kept1 d (omega arith)) in
             let plain = plain_of p.world shape word in
             let given1 = given_later (suc p.frame) p.world m m1 c.memory c1.memory shape vs (c.temps d) later1 given in
@@ -248,7 +267,7 @@ place_stores p n d shape act code placed = record {
 
 -- ---- `&e`, and NULL
 
-pub address_agrees : (p : Place) (n d : ℕ) (e : Sense) (shape : Shape) (code : List Statement) → e.shape ≡ shape → IsTaken shape
+pub address_agrees : (p : Place) (n d : ℕ) (e : Sense) (shape : Shape) (code : List Statement) → e.shape ≡ shape → IsTarget shape
     → PlacedAs p n d shape e.place code
     → Agrees p n d (value_sense (ThinShape false Shared e.shape) (e.place >>= λ t. give (Thin (Some t) ∷ []))) (ThinShape false Shared shape) code
 address_agrees p n d e shape code same taken placed = record {
@@ -271,7 +290,7 @@ address_agrees p n d e shape code same taken placed = record {
                     byte = byte;
                     value = refl;
                     shown = ap (λ z. z ∷ []) temp;
-                    full = not_void shape word;
+                    lies = word;
                     leads = leads;
                   });
                 }));

@@ -43,12 +43,12 @@ use Rattle.core_meaning.specs.Steps as core_steps
 use Rattle.core_meaning.specs.Steps.{Config, with_temp}
 use Rattle.core_meaning.specs.Meaning as meaning
 use Rattle.core_meaning.specs.Operations.{same_place}
-use Rattle.source_lowering.specs.Lowered.{put, width_of, pointers_code, operator_code, turned_code}
+use Rattle.source_lowering.specs.Lowered.{put, pointers_code, operator_code, turned_code}
 use Rattle.source_lowering.proofs.Relations.{at, region_at, ANull, APointer, Agree, Later, Place, Fits, SameAt, Next, AreKept, LaterAt, GoesOn}
 use Rattle.source_lowering.proofs.Keeping.{spot_as, shown_later}
 use Rattle.source_lowering.proofs.Runs.{stuck_same}
-use Rattle.source_lowering.proofs.Integers.{full_word, IsThin, null_is, pointer_is}
-use Rattle.source_lowering.proofs.Cells.{plain_of, plain_cell}
+use Rattle.source_lowering.proofs.Integers.{IsThin, null_is, pointer_is}
+use Rattle.source_lowering.proofs.Members.{first_part_of}
 use Rattle.source_lowering.proofs.Values.{put_temp, temp_fits, kept_temp}
 use Rattle.source_lowering.proofs.Tests.{put_truth, turned_does}
 
@@ -145,8 +145,8 @@ both_pointers w m c sa sb u v x y agree a b =
       });
     })
     (λ (q : APointer w m c b.to v (y ∷ [])).
-    let one = plain_cell w m c p.spot p.byte a.to (width_of a.to) (plain_of w a.to (full_word a.to a.taken p.full)) p.leads in
-    let other = plain_cell w m c q.spot q.byte b.to (width_of b.to) (plain_of w b.to (full_word b.to b.taken q.full)) q.leads in
+    let one = first_part_of w m c a.to p.spot p.byte p.lies p.leads in
+    let other = first_part_of w m c b.to q.spot q.byte q.lies q.leads in
     record {
       first = Some p.spot;
       second = Some q.spot;
@@ -154,7 +154,7 @@ both_pointers w m c sa sb u v x y agree a b =
       second_is = q.value;
       compares = subst (λ z. Compares m c (Some p.spot) (Some q.spot) z y) (sym (pointer_is w m c a.to x u p))
           (subst (λ z. Compares m c (Some p.spot) (Some q.spot) (Pointer (at p.spot) p.byte) z) (sym (pointer_is w m c b.to y v q))
-          (spots_compared w m c p.spot q.spot p.byte q.byte (width_of a.to) (width_of b.to) one.content other.content agree one.is other.is));
+          (spots_compared w m c p.spot q.spot p.byte q.byte one.width other.width one.content other.content agree one.is other.is));
     }) b.shown)
     a.shown
 

@@ -14,22 +14,7 @@ use Rattle.source_meaning.specs.Steps.{World, Routine, need, ◌>>=◌}
 use Rattle.source_meaning.specs.Conversions.{one, integer}
 use Rattle.source_meaning.specs.Calls.{function_of}
 use Rattle.source_meaning.specs.Strings.{program_strings}
-use Rattle.source_meaning.specs.Programs.{
-  global_shape,
-  structs_from,
-  globals_from,
-  functions_of,
-  routine_of,
-  world_of,
-  globals_stored,
-  global_objects,
-  heap_alone,
-  string_object,
-  first_memory,
-  entered,
-  start,
-  source,
-}
+use Rattle.source_meaning.specs.Programs.{global_shape, globals_from, functions_of, routine_of, world_of, globals_stored, global_objects, heap_alone, string_object, first_memory, entered, start, source}
 use Rattle.core_meaning.specs.Memory as core_memory
 use Rattle.core_meaning.specs.Memory.{Content, Word}
 use Rattle.core_meaning.specs.Core.{Program}
@@ -38,59 +23,47 @@ use Rattle.core_meaning.specs.Meaning as meaning
 use Rattle.core_meaning.specs.Meaning.{core}
 use Rattle.source_lowering.specs.Lowered.{number_of}
 use Rattle.source_lowering.specs.Programs.{data_of, program_code}
+use Rattle.source_lowering.specs.Words.{IsVoidBase}
 use Rattle.source_lowering.specs.Taken.{
-  IsVoidBase,
+  IsObject,
   TakesResult,
   GivesWord,
   GivesNothing,
   TakesFunction,
   AreWords,
-  TakesInitial,
   TakesProgram,
   IsLowerable,
 }
 use Rattle.source_lowering.proofs.Relations.{Agree, AreLed, AreBytes, SameOutcome, Same}
 use Rattle.source_lowering.proofs.Runs.{stuck_same, stops_same}
-use Rattle.source_lowering.proofs.Integers.{IsTaken, IsWordShape, word_taken, shown_one, IsWord, IsThin, thin_same}
+use Rattle.source_lowering.proofs.Integers.{IsTaken, word_taken, shown_one, IsWord, IsThin, thin_same}
 use Rattle.source_lowering.proofs.Names.{AreGlobals, AreParameters, IsRoutine, AreRoutines, IsPlainWorld, FoundFunction, find_function}
 use Rattle.source_lowering.proofs.Calls.{AllGiven, OneResult, NoResult, ResultIs, EntersAs}
-use Rattle.source_lowering.proofs.WrittenTypes.{type_settled}
+use Rattle.source_lowering.proofs.WrittenTypes.{object_settled, word_settled}
 use Rattle.source_lowering.proofs.Functions.{enters_always}
-use Rattle.source_lowering.proofs.Heap.{heap_of, heap_agrees, heap_stored, heap_led}
+use Rattle.source_lowering.proofs.Heap.{shape_kept, heap_of, heap_agrees, heap_stored, heap_led}
 use Rattle.source_lowering.proofs.Constants.{globals_same}
 
 -- ---- a program of words
 
-no_structs : (items : List Item) → TakesProgram items → structs_from items [] ≡ []
-no_structs [] h = refl
-no_structs (tree.StructItem s ∷ items) h = absurd h.0
-no_structs (tree.UnionItem u ∷ items) h = absurd h.0
-no_structs (tree.GlobalItem g ∷ items) h = no_structs items h.1
-no_structs (tree.FunctionItem f ∷ items) h = no_structs items h.1
-
-same_shape : (i : tree.Initial) (s : Shape) → TakesInitial s i → global_shape i s ≡ s
-same_shape tree.Initial.Unset s h = refl
-same_shape (tree.Initial.Elements count) s h = absurd h
-same_shape (tree.Initial.Given c) s h = refl
-
-globals_are : (items : List Item) (k : ℕ) → TakesProgram items → AreGlobals (globals_from items k)
-globals_are [] k h = tt
-globals_are (tree.StructItem s ∷ items) k h = absurd h.0
-globals_are (tree.UnionItem u ∷ items) k h = absurd h.0
-globals_are (tree.FunctionItem f ∷ items) k h = globals_are items k h.1
-globals_are (tree.GlobalItem g ∷ items) k h = (
+globals_are : (w : World) (items : List Item) (k : ℕ) → TakesProgram w items → AreGlobals w.structs (globals_from items k)
+globals_are w [] k h = tt
+globals_are w (tree.StructItem s ∷ items) k h = globals_are w items k h.1
+globals_are w (tree.UnionItem u ∷ items) k h = absurd h.0
+globals_are w (tree.FunctionItem f ∷ items) k h = globals_are w items k h.1
+globals_are w (tree.GlobalItem g ∷ items) k h = (
   record {
     shape = global_shape g.initial (settled (written g.of));
     number = k;
     is = refl;
-    is_word = subst (λ z. IsWordShape z) (sym (same_shape g.initial (settled (written g.of)) h.0.1)) (type_settled g.of h.0.0).is_word;
+    is_object = subst (λ z. IsObject w.structs z) (sym (shape_kept g.initial (settled (written g.of)) h.0.1)) (object_settled w.structs g.of h.0.0);
   },
-  globals_are items (suc k) h.1,
+  globals_are w items (suc k) h.1,
 )
 
 parameters_are : (ms : List Member) → AreWords ms → AreParameters (map part_of ms)
 parameters_are [] h = tt
-parameters_are (m ∷ ms) h = ((type_settled m.of h.0).is_word, parameters_are ms h.1)
+parameters_are (m ∷ ms) h = (word_settled m.of h.0, parameters_are ms h.1)
 
 void_taken : (b : Base) (ps : List Pointer) (at : ℕ) → ps ≡ [] → IsVoidBase b → IsTaken (settled (written (record { at = at; base = b; pointers = ps })))
 void_taken b ps at e h = subst (λ z. IsTaken (settled (written (record { at = at; base = b; pointers = z })))) (sym e) (by b h)
@@ -106,7 +79,7 @@ void_taken b ps at e h = subst (λ z. IsTaken (settled (written (record { at = a
     by (tree.Key region) h = absurd h
 
 result_taken : (t : TypeName) → TakesResult t → IsTaken (settled (written t))
-result_taken t (GivesWord h) = word_taken (settled (written t)) (type_settled t h).is_word
+result_taken t (GivesWord h) = word_taken (settled (written t)) (word_settled t h)
 result_taken t (GivesNothing h) = void_taken t.base t.pointers t.at h.pointers h.base
 
 int_written : (t : TypeName) → t.pointers ≡ [] → t.base ≡ tree.Int → settled (written t) ≡ IntShape
@@ -114,23 +87,27 @@ int_written t e b =
     ap (λ z. settled (written (record { at = t.at; base = t.base; pointers = z }))) e ∙ ap (λ z. settled (written
     (record { at = t.at; base = z; pointers = [] }))) b
 
-routine_is : (f : Function) → TakesFunction f → IsRoutine (routine_of f)
-routine_is f h = record {
+routine_is : (w : World) (f : Function) → TakesFunction w f → IsRoutine w (routine_of f)
+routine_is w f h = record {
   result = result_taken f.result h.result;
   main = λ e. int_written f.result (h.main e).pointers (h.main e).base;
   parameters = parameters_are f.parameters h.parameters;
   body = h.body;
 }
 
-pub routines_are : (items : List Item) → TakesProgram items → AreRoutines (functions_of items)
-routines_are [] h = tt
-routines_are (tree.StructItem s ∷ items) h = absurd h.0
-routines_are (tree.UnionItem u ∷ items) h = absurd h.0
-routines_are (tree.GlobalItem g ∷ items) h = routines_are items h.1
-routines_are (tree.FunctionItem f ∷ items) h = (routine_is f h.0, routines_are items h.1)
+pub routines_are : (w : World) (items : List Item) → TakesProgram w items → AreRoutines w (functions_of items)
+routines_are w [] h = tt
+routines_are w (tree.StructItem s ∷ items) h = routines_are w items h.1
+routines_are w (tree.UnionItem u ∷ items) h = absurd h.0
+routines_are w (tree.GlobalItem g ∷ items) h = routines_are w items h.1
+routines_are w (tree.FunctionItem f ∷ items) h = (routine_is w f h.0, routines_are w items h.1)
 
-world_plain : (p : tree.Program) → TakesProgram p → IsPlainWorld (world_of p)
-world_plain p h = record { structs = no_structs p h; globals = globals_are p 0 h; functions = routines_are p h }
+world_plain : (p : tree.Program) → IsLowerable p → IsPlainWorld (world_of p)
+world_plain p h = record {
+  structs = h.structs;
+  globals = globals_are (world_of p) p 0 h.items;
+  functions = routines_are (world_of p) p h.items;
+}
 
 -- ---- `main`
 
@@ -162,7 +139,7 @@ stuck_entered : (w : World) (fs : Program) (n : ℕ) (name : List ℕ) (result :
     (k : core_steps.Step) → Same w fs n (entered (record { name = name; result = result; parameters = p ∷ ps; body = body }) w [] status m) k
 stuck_entered w fs n name result p ps body m k = record { at = λ j h input bytes. inl refl }
 
-main_by : (w : World) (fs : Program) (n : ℕ) (f : Routine) (ps : List Part) (m : source.Memory) (c : core_memory.Memory) → f.parameters ≡ ps → IsRoutine f
+main_by : (w : World) (fs : Program) (n : ℕ) (f : Routine) (ps : List Part) (m : source.Memory) (c : core_memory.Memory) → f.parameters ≡ ps → IsRoutine w f
     → EntersAs w fs n → Agree w m c → AreLed w m c w.globals → slice_get w.functions (number_of w.functions (codes "main")) ≡ Some f
     → Same w fs n (entered f w [] status m) (meaning.called fs.functions (record { function = number_of w.functions (codes "main"); arguments = [] })
     meaning.status_of c)
@@ -182,7 +159,7 @@ main_same : (w : World) (fs : Program) (n : ℕ) (m : source.Memory) (c : core_m
     (record { function = number_of w.functions (codes "main"); arguments = [] }) meaning.status_of c)
 main_same w fs n m c plain enters agree led =
     ⊎_elim
-    (λ (f : FoundFunction w.functions (codes "main")).
+    (λ (f : FoundFunction w w.functions (codes "main")).
     subst (λ z. Same w fs n ((need z >>= λ g. entered g w []) status m) (meaning.called fs.functions (record {
       function = number_of w.functions
           (codes "main");
@@ -195,7 +172,7 @@ main_same w fs n m c plain enters agree led =
           (codes "main");
       arguments = [];
     }) meaning.status_of c)) (sym none) (stuck_same w fs n _))
-    (find_function w.functions (codes "main") plain.functions)
+    (find_function w w.functions (codes "main") plain.functions)
 
 -- ---- programs
 
@@ -207,14 +184,14 @@ heap_is p e = ap (λ z. heap_alone (global_objects (world_of p) p ++ map string_
 pub program_same : (p : tree.Program) → IsLowerable p → (n : ℕ) → Same (world_of p) (program_code p) n (start p) (meaning.start (program_code p))
 program_same p h n =
     let w : World = world_of p in
-    let plain = world_plain p h.items in
+    let plain = world_plain p h in
     let enters = enters_always w (program_code p) n plain refl in
     let led = heap_led w p h.items in
     subst (λ z. Same w (program_code p) n (globals_stored w p 0 (λ u. (need (function_of w.functions (codes "main")) >>= λ f. entered f w []) status) z)
     (meaning.start (program_code p))) (sym (heap_is p h.strings))
     (globals_same w (program_code p) n p 0 (heap_of w p) (meaning.first_memory (data_of w p)) (λ u. (need (function_of w.functions (codes "main")) >>= λ f.
     entered f w []) status) (meaning.start (program_code p)) h.items
-    (heap_agrees w p h.items) led led (heap_stored w p h.items)
+    (heap_agrees w p h.structs h.items) led led (heap_stored w p h.items)
     (record { go = λ m agree globals. main_same w (program_code p) n m (meaning.first_memory (data_of w p)) plain enters agree globals }))
 
 -- on each input and with each amount of fuel: the program is stuck, or both show the same and end alike

@@ -4,7 +4,6 @@ use Rattle.std.specs.Prelude.{slice_get}
 use Rattle.cyc_words.specs.Events.{SourceEnding}
 pub use Rattle.source_lowering.specs.Agreeing.{SameEvent, BothVisible, BothCalled, BothReturned, SameEvents, SameOutcome, AreBytes}
 use Rattle.step_trees.specs.Trees.{run}
-use Rattle.source_meaning.specs.Placing.{Placed}
 use Rattle.source_meaning.specs.Shapes.{
   Shape,
   IntShape,
@@ -41,15 +40,17 @@ use Rattle.source_meaning.specs.Memory.{
 use Rattle.source_meaning.specs.Steps as steps
 use Rattle.source_meaning.specs.Steps.{Entity, World, Routine, Binding, Variable, Fixed}
 use Rattle.source_meaning.specs.Programs.{source_bodies}
-use Rattle.source_meaning.specs.Conversions.{size_of}
+use Rattle.source_meaning.specs.Conversions.{cells_of, size_of}
 use Rattle.core_meaning.specs.Memory as core
 use Rattle.core_meaning.specs.Memory.{Content, Word, Null, Pointer, Birth, Part}
 use Rattle.core_meaning.specs.Core.{Program, Statement, Statements}
 use Rattle.core_meaning.specs.Steps as core_steps
 use Rattle.core_meaning.specs.Steps.{Config, Exit}
 use Rattle.core_meaning.specs.Meaning as meaning
-use Rattle.source_lowering.specs.Layouts.{placed_of, Piece, pieces_of}
+use Rattle.source_lowering.specs.Layouts.{layout_of}
 use Rattle.source_lowering.specs.Lowered.{Named, put}
+use Rattle.source_lowering.specs.Taken.{IsObject}
+use Rattle.source_lowering.proofs.StructCells.{HasCells}
 
 -- ---- spots are equal, number for number
 
@@ -72,33 +73,30 @@ pub record PartIs (c : core.Memory) (t : core.Spot) (j offset width : ℕ) : Typ
   pub content : Content
   pub is : c.parts t j ≡ Some (record { offset = offset; width = width; content = content })
 
-abbrev pub PartsAre : core.Memory → core.Spot → ℕ → ℕ → List Piece → Type 0
-PartsAre c t byte j [] = Unit {0}
-PartsAre c t byte j (p ∷ ps) = PartIs c t j (byte + p.offset) p.width × PartsAre c t byte (j + 1) ps
+-- the parts of a cell, from one on, lie as a layout has them, from a byte on
+abbrev pub AreShaped : core.Memory → core.Spot → ℕ → ℕ → List core.PartShape → Type 0
+AreShaped c t byte j [] = Unit {0}
+AreShaped c t byte j (x ∷ xs) = PartIs c t j (byte + x.offset) x.width × AreShaped c t byte (suc j) xs
 
--- a cell of a shape, so many bytes from its object's start
-pub record CellIs (m : source.Memory) (c : core.Memory) (s : Spot) (byte : ℕ) (shape : Shape) : Type 0 where
-  pub has : HasShape m s shape
-  pub parts : PartsAre c (at s) byte 0 (pieces_of shape)
+-- so do the cells from a spot on
+abbrev pub AreMade : core.Memory → core.Spot → ℕ → List (List core.PartShape) → Type 0
+AreMade c t byte [] = Unit {0}
+AreMade c t byte (x ∷ xs) = AreShaped c t byte 0 x × AreMade c (core.beyond t 1) byte xs
 
-abbrev pub AreLaid : source.Memory → core.Memory → Spot → ℕ → List Placed → Type 0
-AreLaid m c s byte [] = Unit {0}
-AreLaid m c s byte (p ∷ ps) = CellIs m c s (byte + p.offset) p.shape × AreLaid m c (source.beyond s 1) byte ps
+-- the source's cells from a spot on have these shapes
+abbrev pub AreCells : source.Memory → Spot → List Shape → Type 0
+AreCells m s [] = Unit {0}
+AreCells m s (x ∷ xs) = HasShape m s x × AreCells m (source.beyond s 1) xs
 
 -- from a spot and a byte on there is an object of the shape
 abbrev pub Leads : World → source.Memory → core.Memory → Shape → Spot → ℕ → Type 0
-Leads w m c shape s byte = AreLaid m c s byte (placed_of w shape)
+Leads w m c shape s byte = AreCells m s (cells_of w shape) × AreMade c (at s) byte (layout_of w shape).cells
 
--- what Core has made of an object, where the source may not have made it yet
-abbrev pub AreMade : core.Memory → core.Spot → ℕ → List Placed → Type 0
-AreMade c t byte [] = Unit {0}
-AreMade c t byte (p ∷ ps) = PartsAre c t (byte + p.offset) 0 (pieces_of p.shape) × AreMade c (core.beyond t 1) byte ps
-
--- the objects of a block that the source makes later, from a number on
+-- the objects of a block that the source makes later, from a number on, as Core has made them
 abbrev pub ArePending : World → core.Memory → ℕ → ℕ → List Shape → Type 0
 ArePending w c frame index [] = Unit {0}
 ArePending w c frame index (s ∷ ss) =
-    AreMade c (record { region = core.Frame frame; object = index; cell = 0 }) 0 (placed_of w s) × ArePending w c frame (suc index) ss
+    AreMade c (record { region = core.Frame frame; object = index; cell = 0 }) 0 (layout_of w s).cells × ArePending w c frame (suc index) ss
 
 -- ---- values: a scalar of a static shape, and the words that stand for it
 
@@ -113,13 +111,18 @@ pub record ANull (may_be_null : Bool) (v : Scalar) (cs : List Content) : Type 0 
   pub value : v ≡ Thin None
   pub shown : cs ≡ Null ∷ []
 
+-- an object of a shape that is taken, and no more bytes up to its end than an object has
+pub record LiesNear (w : World) (shape : Shape) (byte : ℕ) : Type 0 where
+  pub object : IsObject w.structs shape
+  pub cells : HasCells w.unions w.structs shape
+  pub near : byte + size_of w shape ≤ 4096
+
 pub record APointer (w : World) (m : source.Memory) (c : core.Memory) (to : Shape) (v : Scalar) (cs : List Content) : Type 0 where
   pub spot : Spot
   pub byte : ℕ
   pub value : v ≡ Thin (Some spot)
   pub shown : cs ≡ Pointer (at spot) byte ∷ []
-  -- NULL alone is of a pointer to nothing
-  pub full : to ≡ VoidShape → ⊥
+  pub lies : LiesNear w to byte
   pub leads : Leads w m c to spot byte
 
 pub record AFatNull (v : Scalar) (cs : List Content) : Type 0 where
@@ -132,7 +135,7 @@ pub record AFat (w : World) (m : source.Memory) (c : core.Memory) (to : Shape) (
   pub value : v ≡ Wide (Some span)
   pub shown : cs ≡ Pointer (at span.first) byte ∷ Word span.count ∷ Word span.index ∷ []
   pub small : span.index < 2 ^ 32
-  pub leads : (k : ℕ) → k < span.count → Leads w m c to (source.beyond span.first (k * length (placed_of w to))) (byte + k * size)
+  pub leads : (k : ℕ) → k < span.count → Leads w m c to (source.beyond span.first (k * length (cells_of w to))) (byte + k * size)
 
 pub record ABirth (which : ℕ → Scalar) (v : Scalar) (cs : List Content) : Type 0 where
   pub birth : ℕ

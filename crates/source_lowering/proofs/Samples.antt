@@ -1,17 +1,17 @@
 -- A program of each taken form: it is taken, and Core's run of its code is computed.
-use Rattle.std.proofs.Common.{◌≡◌, false, Some, None, List, [], ◌∷◌, ◌++◌, refl}
+use Rattle.std.proofs.Common.{◌≡◌, arith, false, Some, None, List, [], ◌∷◌, ◌++◌, refl}
 use Rattle.cyc_tree.specs.declared.expression.Operator.TheVariants.{Less, Add, Multiply, Divide, Equal, GreaterEqual}
 use Rattle.cyc_tree.specs.declared.expression.Prefix.TheVariants.{Not, Dereference, AddressOf}
 use Rattle.cyc_tree.specs.declared.name.Sign.TheVariants.{Nullable, NotNull}
 use Rattle.cyc_tree.specs.Tree as tree
-use Rattle.cyc_tree.specs.Tree.{Expression, NoExpressions, MoreExpressions, NoLinks, MoreLinks, Initializer, Statement, NoItems, Constant, Initial, Program}
+use Rattle.cyc_tree.specs.Tree.{Expression, NoExpressions, MoreExpressions, NoLinks, MoreLinks, NoSuffixes, Dot, Arrow, Initializer, Statement, NoItems, Constant, Initial, Program}
 use Rattle.cyc_words.specs.declared.faults.Kind.TheVariants.{NullException}
 use Rattle.cyc_words.specs.Events.{ByteRead, ByteWritten, SourceEnding}
 use Rattle.source_meaning.proofs.Trees.{named, variable, number, typed, ◌▸◌, ◌▹◌, function}
 use Rattle.core_meaning.specs.Steps.{Visible, Called, Returned}
 use Rattle.core_meaning.specs.Meaning.{core}
 use Rattle.source_lowering.specs.Programs.{program_code}
-use Rattle.source_lowering.specs.Taken.{IsIntegerBase, IsWordType, GivesWord, GivesNothing, IsLowerable}
+use Rattle.source_lowering.specs.Taken.{GivesWord, GivesNothing, IsLowerable}
 
 -- char g = 321; void put(char c) { putchar(c); }
 -- int main() { int i; unsigned s = g; while (i < 3 && !(s >= 100)) { int b = getchar(); s = s * 2 + b / 4; put(b); i = i + 1; if (i >= 2) break; } return s; }
@@ -52,34 +52,36 @@ end_alone = tree.FunctionItem (function (typed tree.Int []) (named "main") [] No
 end_alone_runs : core (program_code end_alone) [] 0 ≡ record { events = Called 0 ∷ Returned 0 ∷ []; ending = SourceEnding.Ended 0 }
 end_alone_runs = refl
 
-integer : (b : tree.Base) → IsIntegerBase b → IsWordType (typed b [])
-integer b h = record { pointers = tt; base = h }
-
 all_forms_taken : IsLowerable all_forms
 all_forms_taken = record {
   items = (
-    (integer tree.Char tt, tt),
+    (record { pointers = tt; base = tt; known = tt }, tt),
     (
       record {
         result = GivesNothing (record { pointers = refl; base = tt });
         main = λ e. absurd (cc e);
-        parameters = (integer tree.Char tt, tt);
-        body =
-            ((tt, tt), tt);
+        parameters = (record { pointers = tt; base = tt; word = tt }, tt);
+        body = ((refl, (tt, tt)), tt);
       },
       (
         record {
-          result = GivesWord (integer tree.Int tt);
+          result = GivesWord (record { pointers = tt; base = tt; word = tt });
           main = λ e. record { pointers = refl; base = refl };
           parameters = tt;
           body = (
-            (integer tree.Int tt, tt),
+            (record { pointers = tt; base = tt; known = tt }, tt),
             (
-              (integer tree.Unsigned tt, tt),
+              (record { pointers = tt; base = tt; known = tt }, (tt, tt)),
               (
                 (
                   ((tt, (tt, tt)), ((tt, (tt, tt)), tt)),
-                  ((integer tree.Int tt, tt), ((tt, ((tt, (tt, tt)), ((tt, (tt, tt)), tt))), ((tt, tt), ((tt, (tt, (tt, tt))), (((tt, (tt, tt)), tt), tt))))),
+                  (
+                    (record { pointers = tt; base = tt; known = tt }, ((refl, tt), tt)),
+                    (
+                      (tt, (((tt, (tt, tt)), ((tt, (tt, tt)), tt)), tt)),
+                      ((refl, (tt, tt)), ((tt, ((tt, (tt, tt)), tt)), (((tt, (tt, tt)), tt), tt))),
+                    ),
+                  ),
                 ),
                 (tt, tt),
               ),
@@ -90,6 +92,7 @@ all_forms_taken = record {
       ),
     ),
   );
+  structs = tt;
   strings = refl;
 }
 
@@ -155,3 +158,116 @@ null_read =
 
 null_read_runs : core (program_code null_read) [] 0 ≡ record { events = Called 0 ∷ []; ending = SourceEnding.Raised NullException }
 null_read_runs = refl
+
+-- ---- structs
+
+abbrev struct_of : tree.Name → tree.TypeName
+struct_of tag = typed (tree.Struct tag []) []
+
+abbrev member : tree.TypeName → tree.Name → tree.Member
+member of name = record { of = of; name = name }
+
+abbrev dot : Expression → tree.Name → Expression
+dot e f = Expression.Suffixed e (Dot f NoSuffixes)
+
+abbrev arrow : Expression → tree.Name → Expression
+arrow e f = Expression.Suffixed e (Arrow f NoSuffixes)
+
+-- struct in { char c; int n; }; struct out { struct in a; struct out *next; char last; }; struct out g;
+-- int main() { struct out s; struct in *p = &s.a; int *q = &p->n; s.next = &s; s.a.n = 5; p->c = 300; g.a.n = s.next->a.n + p->c; s.next->last = 2;
+-- if (!g.next) putchar(*q); return g.a.n + s.last; }
+abbrev struct_forms : Program
+struct_forms =
+    tree.StructItem (record {
+      at = 0;
+      tag = named "in";
+      regions = [];
+      members = member (typed tree.Char []) (named "c") ∷ member (typed tree.Int []) (named "n") ∷ [];
+    }) ∷
+    tree.StructItem (record {
+      at = 0;
+      tag = named "out";
+      regions = [];
+      members = member (struct_of (named "in")) (named "a") ∷ member (typed (tree.Struct (named "out") []) nullable) (named "next") ∷
+          member (typed tree.Char []) (named "last") ∷ [];
+    }) ∷
+    tree.GlobalItem (record { of = struct_of (named "out"); name = (named "g"); initial = Initial.Unset }) ∷
+    tree.FunctionItem (function (typed tree.Int []) (named "main") [] (
+    (tree.Local (struct_of (named "out")) (named "s") Initializer.Unset) ▹
+    (tree.Local (typed (tree.Struct (named "in") []) nullable) (named "p") (Initializer.Value (address_of (dot (variable "s") (named "a"))))) ▹
+    (tree.Local (typed tree.Int nullable) (named "q") (Initializer.Value (address_of (arrow (variable "p") (named "n"))))) ▹
+    (Statement.Run (Expression.Assign (dot (variable "s") (named "next")) (address_of (variable "s")))) ▸
+    (Statement.Run (Expression.Assign (Expression.Suffixed (variable "s") (Dot (named "a") (Dot (named "n") NoSuffixes))) (number 5))) ▸
+    (Statement.Run (Expression.Assign (arrow (variable "p") (named "c")) (number 300))) ▸
+    (Statement.Run (Expression.Assign (Expression.Suffixed (variable "g") (Dot (named "a") (Dot (named "n") NoSuffixes)))
+    (Expression.Chain (Expression.Suffixed (variable "s") (Dot (named "next") (Arrow (named "a") (Dot (named "n") NoSuffixes))))
+    (MoreLinks Add (arrow (variable "p") (named "c")) NoLinks)))) ▸
+    (Statement.Run (Expression.Assign (Expression.Suffixed (variable "s") (Dot (named "next") (Arrow (named "last") NoSuffixes))) (number 2))) ▸
+    (Statement.If 0 (Expression.Prefixed 0 Not (dot (variable "g") (named "next")))
+    (Statement.Run (Expression.Call (named "putchar") (MoreExpressions (contents_of (variable "q")) NoExpressions)))) ▸
+    (Statement.Return 0 (Some (Expression.Chain (Expression.Suffixed (variable "g") (Dot (named "a") (Dot (named "n") NoSuffixes)))
+    (MoreLinks Add (dot (variable "s") (named "last")) NoLinks)))) ▸
+    NoItems)) ∷ []
+
+struct_forms_run : core (program_code struct_forms) [] 20 ≡ record {
+  events = Called 0 ∷ Visible (ByteWritten 5) ∷ Returned 0 ∷ [];
+  ending = SourceEnding.Ended 51;
+}
+struct_forms_run = refl
+
+struct_forms_taken : IsLowerable struct_forms
+struct_forms_taken = record {
+  items = (
+    tt,
+    (
+      tt,
+      (
+        (record { pointers = tt; base = tt; known = refl }, tt),
+        (
+          record {
+            result = GivesWord (record { pointers = tt; base = tt; word = tt });
+            main = λ e. record { pointers = refl; base = refl };
+            parameters = tt;
+            body = (
+              (record { pointers = tt; base = tt; known = refl }, tt),
+              (
+                (record { pointers = ((tt, tt), tt); base = tt; known = tt }, ((tt, (refl, tt)), tt)),
+                (
+                  (record { pointers = ((tt, tt), tt); base = tt; known = tt }, ((tt, (tt, tt)), tt)),
+                  (
+                    ((tt, ((refl, tt), tt)), (tt, tt)),
+                    (
+                      ((tt, (refl, (tt, tt))), (tt, tt)),
+                      (
+                        ((tt, (tt, tt)), (tt, tt)),
+                        (
+                          (
+                            (tt, (refl, (tt, tt))),
+                            ((((tt, ((refl, tt), (tt, (refl, (tt, tt))))), tt), (((tt, (tt, tt)), tt), tt)), tt),
+                          ),
+                          (
+                            ((tt, ((refl, tt), (tt, (tt, tt)))), (tt, tt)),
+                            (
+                              (((tt, ((refl, tt), tt)), tt), (refl, ((tt, tt), tt))),
+                              ((((tt, (refl, (tt, tt))), tt), (((tt, (tt, tt)), tt), tt)), tt),
+                            ),
+                          ),
+                        ),
+                      ),
+                    ),
+                  ),
+                ),
+              ),
+            );
+          },
+          tt,
+        ),
+      ),
+    ),
+  );
+  structs = (
+    record { new = refl; some = tt; members = (refl, ((refl, tt), (tt, tt))); small = omega arith },
+    (record { new = refl; some = tt; members = (tt, (tt, tt)); small = omega arith }, tt),
+  );
+  strings = refl;
+}

@@ -38,11 +38,11 @@ use Rattle.source_lowering.proofs.Relations.{
 }
 use Rattle.source_lowering.proofs.Keeping.{later_self, later_on, fits_later, shown_later, m_written}
 use Rattle.source_lowering.proofs.Runs.{stuck_same}
-use Rattle.source_lowering.proofs.Integers.{IsTaken, IsWordShape, word_taken, not_void}
-use Rattle.source_lowering.proofs.Cells.{IsPlain, plain_of, read_same, IsWritten, write_same}
+use Rattle.source_lowering.proofs.Integers.{IsTaken, IsWordShape, IsNoStruct, word_taken, object_word, not_void}
+use Rattle.source_lowering.proofs.Cells.{IsPlain, plain_of, object_variable, read_same, IsWritten, write_same}
 use Rattle.source_lowering.proofs.Making.{local_spot}
 use Rattle.source_lowering.proofs.Values.{put_temp, other_temp, kept_temp, temp_fits, put_value}
-use Rattle.source_lowering.proofs.Names.{AreWordNames, AreGlobals, FoundLocal, MissingLocal, find_local, FoundGlobal, find_global}
+use Rattle.source_lowering.proofs.Names.{AreObjectNames, AreGlobals, FoundLocal, MissingLocal, find_local, FoundGlobal, find_global}
 
 -- an expression's meaning and its code: the same shape, and the same value, looked at or given away
 pub record Agrees (p : Place) (n d : ℕ) (e : Sense) (shape : Shape) (code : List Statement) : Type 0 where
@@ -135,31 +135,43 @@ stuck_gives p n d shape code = record { same = λ m c s rest next fits goes. stu
 pub stuck_agrees : (p : Place) (n d : ℕ) (code : List Statement) → Agrees p n d no_sense VoidShape code
 stuck_agrees p n d code = record { shape_is = refl; taken = tt; looks = stuck_gives p n d VoidShape code; values = stuck_gives p n d VoidShape code }
 
+-- a local that is no struct is a word
+local_word : (p : Place) {name : List ℕ} (f : FoundLocal p.world.structs (p.frame ∷ p.outer) p.locals p.names name)
+    → IsNoStruct (shape_by (local_named p.names name) (bound_to p.world.globals name)) → IsWordShape f.local.shape
+local_word p {name} f value =
+    object_word p.world.structs f.local.shape f.is_object (subst (λ z. IsNoStruct (shape_by z (bound_to p.world.globals name))) f.found value)
+
+global_word : (p : Place) {name : List ℕ} → local_named p.names name ≡ None → (g : FoundGlobal p.world.structs p.world.globals name)
+    → IsNoStruct (shape_by (local_named p.names name) (bound_to p.world.globals name)) → IsWordShape g.shape
+global_word p {name} none g value =
+    object_word p.world.structs g.shape g.is_object (subst (λ z. IsNoStruct (shape_by None z)) g.bound
+    (subst (λ z. IsNoStruct (shape_by z (bound_to p.world.globals name))) none value))
+
 -- ---- a name's value
 
-pub variable_agrees : (p : Place) (n d : ℕ) (name : List ℕ) → AreLocals (p.frame ∷ p.outer) p.locals p.names → AreWordNames p.names
-    → AreGlobals p.world.globals
+pub variable_agrees : (p : Place) (n d : ℕ) (name : List ℕ) → AreLocals (p.frame ∷ p.outer) p.locals p.names → AreObjectNames p.world.structs p.names
+    → AreGlobals p.world.structs p.world.globals → IsNoStruct (shape_by (local_named p.names name) (bound_to p.world.globals name))
     → Agrees p n d (entity_sense p.world (or_else (bound_to p.locals name) (bound_to p.world.globals name))) (shape_by (local_named p.names name)
     (bound_to p.world.globals name)) (get_by (local_named p.names name) (bound_to p.world.globals name) d)
-variable_agrees p n d name locals integers globals = ⊎_elim here missing (find_local (p.frame ∷ p.outer) p.locals p.names name locals integers)
+variable_agrees p n d name locals integers globals value = ⊎_elim here missing (find_local p.world.structs (p.frame ∷ p.outer) p.locals p.names name locals integers)
   where
-    here : FoundLocal (p.frame ∷ p.outer) p.locals p.names name → Agrees p n d (entity_sense p.world (or_else (bound_to p.locals name)
+    here : FoundLocal p.world.structs (p.frame ∷ p.outer) p.locals p.names name → Agrees p n d (entity_sense p.world (or_else (bound_to p.locals name)
         (bound_to p.world.globals name))) (shape_by (local_named p.names name) (bound_to p.world.globals name))
         (get_by (local_named p.names name) (bound_to p.world.globals name) d)
-    here f = rw (f.bound, f.found, (plain_of p.world f.local.shape f.is_word).variable (local_spot f.frame f.local.index))
-        (place_agrees p n d f.local.shape (local_spot f.frame f.local.index) (Do (Get d f.local.out f.local.index (width_of f.local.shape)) ∷ []) f.is_word
-        (get_local p n d f.local.out f.local.index f.frame f.local.shape f.is_word f.in_block (f.led p.world)))
+    here f = rw (f.bound, f.found, object_variable p.world f.local.shape f.is_object (local_spot f.frame f.local.index))
+        (place_agrees p n d f.local.shape (local_spot f.frame f.local.index) (Do (Get d f.local.out f.local.index (width_of f.local.shape)) ∷ []) (local_word p f value)
+        (get_local p n d f.local.out f.local.index f.frame f.local.shape (local_word p f value) f.in_block (f.led p.world)))
 
     missing : MissingLocal p.locals p.names name → Agrees p n d (entity_sense p.world (or_else (bound_to p.locals name) (bound_to p.world.globals name)))
         (shape_by (local_named p.names name) (bound_to p.world.globals name)) (get_by (local_named p.names name) (bound_to p.world.globals name) d)
     missing f = rw (f.bound, f.found)
         (⊎_elim
-        (λ (g : FoundGlobal p.world.globals name).
-        rw (g.bound, (plain_of p.world g.shape g.is_word).variable (heap_spot g.number))
-        (place_agrees p n d g.shape (heap_spot g.number) (Do (DataAddress d g.number) ∷ Do (Load d d (distance 0 0 (width_of g.shape))) ∷ []) g.is_word
-        (load_global p n d g.number g.shape g.is_word (g.led p.world))))
+        (λ (g : FoundGlobal p.world.structs p.world.globals name).
+        rw (g.bound, object_variable p.world g.shape g.is_object (heap_spot g.number))
+        (place_agrees p n d g.shape (heap_spot g.number) (Do (DataAddress d g.number) ∷ Do (Load d d (distance 0 0 (width_of g.shape))) ∷ []) (global_word p f.found g value)
+        (load_global p n d g.number g.shape (global_word p f.found g value) (g.led p.world))))
         (λ (g : bound_to p.world.globals name ≡ None). rw g (stuck_agrees p n d []))
-        (find_global p.world.globals name globals))
+        (find_global p.world.structs p.world.globals name globals))
 
 -- ---- writes
 
@@ -245,25 +257,25 @@ store_global p n d number shape is_word led = record {
 stuck_stores : (p : Place) (n d : ℕ) (shape : Shape) (code : List Statement) → StoresAs p n d shape steps.stuck code
 stuck_stores p n d shape code = record { same = λ m0 c0 m c vs s rest next fits later kept given goes. stuck_same p.world p.program n _ }
 
-pub variable_stores : (p : Place) (n d : ℕ) (name : List ℕ) → AreLocals (p.frame ∷ p.outer) p.locals p.names → AreWordNames p.names
-    → AreGlobals p.world.globals
+pub variable_stores : (p : Place) (n d : ℕ) (name : List ℕ) → AreLocals (p.frame ∷ p.outer) p.locals p.names → AreObjectNames p.world.structs p.names
+    → AreGlobals p.world.structs p.world.globals → IsNoStruct (shape_by (local_named p.names name) (bound_to p.world.globals name))
     → StoresAs p n d (shape_by (local_named p.names name) (bound_to p.world.globals name)) (entity_sense p.world
     (or_else (bound_to p.locals name) (bound_to p.world.globals name))).place (put_by (local_named p.names name) (bound_to p.world.globals name) d)
-variable_stores p n d name locals integers globals = ⊎_elim here missing (find_local (p.frame ∷ p.outer) p.locals p.names name locals integers)
+variable_stores p n d name locals integers globals value = ⊎_elim here missing (find_local p.world.structs (p.frame ∷ p.outer) p.locals p.names name locals integers)
   where
-    here : FoundLocal (p.frame ∷ p.outer) p.locals p.names name → StoresAs p n d (shape_by (local_named p.names name) (bound_to p.world.globals name))
+    here : FoundLocal p.world.structs (p.frame ∷ p.outer) p.locals p.names name → StoresAs p n d (shape_by (local_named p.names name) (bound_to p.world.globals name))
         (entity_sense p.world (or_else (bound_to p.locals name) (bound_to p.world.globals name))).place (put_by (local_named p.names name)
         (bound_to p.world.globals name) d)
-    here f = rw (f.bound, f.found, (plain_of p.world f.local.shape f.is_word).variable (local_spot f.frame f.local.index))
-        (put_local p n d f.local.out f.local.index f.frame f.local.shape f.is_word f.in_block (f.led p.world))
+    here f = rw (f.bound, f.found, object_variable p.world f.local.shape f.is_object (local_spot f.frame f.local.index))
+        (put_local p n d f.local.out f.local.index f.frame f.local.shape (local_word p f value) f.in_block (f.led p.world))
 
     missing : MissingLocal p.locals p.names name → StoresAs p n d (shape_by (local_named p.names name) (bound_to p.world.globals name))
         (entity_sense p.world (or_else (bound_to p.locals name) (bound_to p.world.globals name))).place (put_by (local_named p.names name)
         (bound_to p.world.globals name) d)
     missing f = rw (f.bound, f.found)
         (⊎_elim
-        (λ (g : FoundGlobal p.world.globals name).
-        rw (g.bound, (plain_of p.world g.shape g.is_word).variable (heap_spot g.number))
-        (store_global p n d g.number g.shape g.is_word (g.led p.world)))
+        (λ (g : FoundGlobal p.world.structs p.world.globals name).
+        rw (g.bound, object_variable p.world g.shape g.is_object (heap_spot g.number))
+        (store_global p n d g.number g.shape (global_word p f.found g value) (g.led p.world)))
         (λ (g : bound_to p.world.globals name ≡ None). rw g (stuck_stores p n d VoidShape []))
-        (find_global p.world.globals name globals))
+        (find_global p.world.structs p.world.globals name globals))

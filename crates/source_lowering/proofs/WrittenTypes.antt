@@ -21,6 +21,7 @@ use Rattle.source_meaning.specs.Shapes.{
   StructShape,
   UnionShape,
   ArrayShape,
+  Layout,
   owner_of,
   base_shape,
   signed_shape,
@@ -31,13 +32,9 @@ use Rattle.source_meaning.specs.Shapes.{
   first_owner,
   settled_by,
 }
-use Rattle.source_lowering.specs.Taken.{IsIntegerBase, IsThinSign, IsSharedRegion, AreThin, IsWordType}
-use Rattle.source_lowering.proofs.Integers.{IsTaken, IsWordShape, word_taken}
-
--- a word's type settles to its shape, whatever its initializer
-pub record IsSettled (t : TypeName) : Type 0 where
-  pub is_word : IsWordShape (settled (written t))
-  pub by : (s : Shape) → IsTaken s → settled_by (written t) s ≡ settled (written t)
+use Rattle.source_lowering.specs.Words.{IsThinSign, IsSharedRegion, AreThin}
+use Rattle.source_lowering.specs.Taken.{IsTarget, IsWordShape, IsObject, IsNoStruct, IsObjectBase, IsKnownIn, IsObjectType, IsWordType}
+use Rattle.source_lowering.proofs.Integers.{object_word}
 
 -- a pointer whose owner may be left open
 abbrev IsOpen : Shape → Type 0
@@ -45,6 +42,7 @@ IsOpen IntShape = Unit {0}
 IsOpen UnsignedShape = Unit {0}
 IsOpen CharShape = Unit {0}
 IsOpen (ThinShape may_be_null owner to) = (shared_owner owner ≡ Shared) × IsOpen to
+IsOpen (StructShape tag) = Unit {0}
 IsOpen _ = ⊥
 
 shared_region : (r : Option RegionName) → IsSharedRegion r → shared_owner (owner_of r) ≡ Shared
@@ -62,38 +60,52 @@ pointed_open : (ps : List Pointer) (s : Shape) → AreThin ps → IsOpen s → I
 pointed_open [] s h o = o
 pointed_open (p ∷ ps) s h o = pointed_open ps (signed_shape p.sign (owner_of p.region) s) h.1 (signed_open p.sign p.region s h.0.0 h.0.1 o)
 
-base_open : (b : Base) → IsIntegerBase b → IsOpen (base_shape b)
+base_open : (b : Base) → IsObjectBase b → IsOpen (base_shape b)
 base_open tree.Int h = tt
 base_open tree.Unsigned h = tt
 base_open tree.Char h = tt
 base_open tree.Void h = absurd h
-base_open (tree.Struct tag arguments) h = absurd h
+base_open (tree.Struct tag arguments) h = tt
 base_open (tree.Union tag arguments) h = absurd h
 base_open (tree.Handle region) h = absurd h
 base_open (tree.Key region) h = absurd h
 
-settled_word : (s : Shape) → IsOpen s → IsWordShape (settled s)
-settled_word IntShape h = tt
-settled_word UnsignedShape h = tt
-settled_word CharShape h = tt
-settled_word (ThinShape may_be_null owner to) h = (h.0, word_taken (settled to) (settled_word to h.1))
-settled_word VoidShape h = absurd h
-settled_word (FatShape to) h = absurd h
-settled_word HandleShape h = absurd h
-settled_word KeyShape h = absurd h
-settled_word (StructShape tag) h = absurd h
-settled_word (UnionShape tag) h = absurd h
-settled_word (ArrayShape count of) h = absurd h
+settled_target : (s : Shape) → IsOpen s → IsTarget (settled s)
+settled_target IntShape h = tt
+settled_target UnsignedShape h = tt
+settled_target CharShape h = tt
+settled_target (ThinShape may_be_null owner to) h = (h.0, settled_target to h.1)
+settled_target VoidShape h = absurd h
+settled_target (FatShape to) h = absurd h
+settled_target HandleShape h = absurd h
+settled_target KeyShape h = absurd h
+settled_target (StructShape tag) h = tt
+settled_target (UnionShape tag) h = absurd h
+settled_target (ArrayShape count of) h = absurd h
+
+settled_object : (structs : List Layout) (s : Shape) → IsOpen s → IsKnownIn structs (settled s) → IsObject structs (settled s)
+settled_object structs (StructShape tag) h g = g
+settled_object structs (ThinShape may_be_null owner to) h g = (h.0, settled_target to h.1)
+settled_object structs IntShape h g = tt
+settled_object structs UnsignedShape h g = tt
+settled_object structs CharShape h g = tt
+settled_object structs VoidShape h g = absurd h
+settled_object structs (FatShape to) h g = absurd h
+settled_object structs HandleShape h g = absurd h
+settled_object structs KeyShape h g = absurd h
+settled_object structs (UnionShape tag) h g = absurd h
+settled_object structs (ArrayShape count of) h g = absurd h
 
 first_shared : (o : Owner) → first_owner o Shared ≡ shared_owner o
 first_shared Shared = refl
 first_shared Alone = refl
 first_shared Unsaid = refl
 
-settled_same : (s from : Shape) → IsOpen s → IsTaken from → settled_by s from ≡ settled s
+settled_same : (s from : Shape) → IsOpen s → IsTarget from → settled_by s from ≡ settled s
 settled_same IntShape from h g = refl
 settled_same UnsignedShape from h g = refl
 settled_same CharShape from h g = refl
+settled_same (StructShape tag) from h g = refl
 settled_same (ThinShape m o to) (ThinShape n q from) h g =
     let owner : first_owner o q ≡ shared_owner o = ap (first_owner o) g.0 ∙ first_shared o in
     let inner = settled_same to from h.1 g.1 in
@@ -102,16 +114,30 @@ settled_same (ThinShape m o to) IntShape h g = refl
 settled_same (ThinShape m o to) UnsignedShape h g = refl
 settled_same (ThinShape m o to) CharShape h g = refl
 settled_same (ThinShape m o to) VoidShape h g = refl
+settled_same (ThinShape m o to) (StructShape tag) h g = refl
 settled_same (ThinShape m o to) _ h g = absurd g
 settled_same VoidShape from h g = absurd h
 settled_same (FatShape to) from h g = absurd h
 settled_same HandleShape from h g = absurd h
 settled_same KeyShape from h g = absurd h
-settled_same (StructShape tag) from h g = absurd h
 settled_same (UnionShape tag) from h g = absurd h
 settled_same (ArrayShape count of) from h g = absurd h
 
-pub type_settled : (t : TypeName) → IsWordType t → IsSettled t
-type_settled t h =
-    let open_type = pointed_open t.pointers (base_shape t.base) h.pointers (base_open t.base h.base) in
-    record { is_word = settled_word (written t) open_type; by = λ s taken. settled_same (written t) s open_type taken }
+written_open : (t : TypeName) → AreThin t.pointers → IsObjectBase t.base → IsOpen (written t)
+written_open t pointers base = pointed_open t.pointers (base_shape t.base) pointers (base_open t.base base)
+
+-- a type settles to its shape, whatever its initializer
+pub type_settles : (structs : List Layout) (t : TypeName) → IsObjectType structs t → (s : Shape) → IsTarget s → settled_by (written t) s ≡ settled (written t)
+type_settles structs t h s target = settled_same (written t) s (written_open t h.pointers h.base) target
+
+-- which is that of an object
+pub object_settled : (structs : List Layout) (t : TypeName) → IsObjectType structs t → IsObject structs (settled (written t))
+object_settled structs t h = settled_object structs (written t) (written_open t h.pointers h.base) h.known
+
+-- or of a word
+pub word_settled : (t : TypeName) → IsWordType t → IsWordShape (settled (written t))
+word_settled t h = object_word [] (settled (written t)) (settled_object [] (written t) (written_open t h.pointers h.base) (known (settled (written t)) h.word)) h.word
+  where
+    known : (s : Shape) → IsNoStruct s → IsKnownIn [] s
+    known (StructShape tag) g = absurd g
+    known _ g = tt

@@ -9,6 +9,11 @@ use Rattle.cyc_tree.specs.Tree.{
   Links,
   NoLinks,
   MoreLinks,
+  Suffixes,
+  NoSuffixes,
+  Index,
+  Dot,
+  Arrow,
   Initializer,
   Declaration,
   Statement,
@@ -19,9 +24,11 @@ use Rattle.cyc_tree.specs.Tree.{
   Member,
   Item,
 }
+use Rattle.source_meaning.specs.Shapes.{Shape}
 use Rattle.source_meaning.specs.Steps.{World, Routine}
 use Rattle.core_meaning.specs.Core as core
-use Rattle.source_lowering.specs.Programs.{function_code}
+use Rattle.source_lowering.specs.Layouts.{extent_of}
+use Rattle.source_lowering.specs.Programs.{local_shape, function_code}
 use Rattle.core_meaning.specs.Core.{Local, Do, If, While, Block, Break, Continue, Call, Return, Raise, Statements, NoStatements, MoreStatements, Function}
 
 -- ---- Core: words of a frame
@@ -84,11 +91,19 @@ core_code p = 4096 + 64 * all_operations p.functions
 
 -- ---- the source: nodes of expressions
 
+-- the use of a member is a node
+abbrev pub suffix_nodes : Suffixes → ℕ
+suffix_nodes NoSuffixes = 0
+suffix_nodes (Index index others) = 1 + suffix_nodes others
+suffix_nodes (Dot f others) = 1 + suffix_nodes others
+suffix_nodes (Arrow f others) = 1 + suffix_nodes others
+
 -- a literal, a variable, a call and an operator are a node each; parentheses and a call's name are none
 abbrev mutual
   pub nodes_of : Expression → ℕ
   nodes_of (Expression.Call name arguments) = 1 + all_nodes arguments
   nodes_of (Expression.Grouped at inner) = nodes_of inner
+  nodes_of (Expression.Suffixed primary suffixes) = nodes_of primary + suffix_nodes suffixes
   nodes_of (Expression.Prefixed at operator operand) = 1 + nodes_of operand
   nodes_of (Expression.Chain first others) = nodes_of first + link_nodes others
   nodes_of (Expression.AllOf first others) = nodes_of first + tested_nodes others
@@ -143,19 +158,23 @@ abbrev mutual
   item_nodes (Declare d others) = declaration_nodes d + item_nodes others
   item_nodes (Execute s others) = statement_nodes s + item_nodes others
 
-abbrev mutual
-  -- the locals that are declared in a statement, one word each
-  pub statement_locals : Statement → ℕ
-  statement_locals (Statement.Block at items) = item_locals items
-  statement_locals (Statement.If at condition body) = statement_locals body
-  statement_locals (Statement.IfElse at condition body otherwise) = statement_locals body + statement_locals otherwise
-  statement_locals (Statement.While at condition body) = statement_locals body
-  statement_locals _ = 0
+-- the words of an object of a shape
+abbrev pub shape_words : World → Shape → ℕ
+shape_words w s = words_of (extent_of w s).size
 
-  pub item_locals : BlockItems → ℕ
-  item_locals NoItems = 0
-  item_locals (Declare d others) = 1 + item_locals others
-  item_locals (Execute s others) = statement_locals s + item_locals others
+abbrev mutual
+  -- the words of the locals that are declared in a statement
+  pub statement_locals : World → Statement → ℕ
+  statement_locals w (Statement.Block at items) = item_locals w items
+  statement_locals w (Statement.If at condition body) = statement_locals w body
+  statement_locals w (Statement.IfElse at condition body otherwise) = statement_locals w body + statement_locals w otherwise
+  statement_locals w (Statement.While at condition body) = statement_locals w body
+  statement_locals w _ = 0
+
+  pub item_locals : World → BlockItems → ℕ
+  item_locals w NoItems = 0
+  item_locals w (Declare d others) = shape_words w (local_shape d) + item_locals w others
+  item_locals w (Execute s others) = statement_locals w s + item_locals w others
 
 -- ---- the source: how large its text is at least
 
@@ -185,10 +204,10 @@ abbrev pub code_bound : List Routine → ℕ
 code_bound fs = 4096 + 512 * routines_size fs
 
 -- 128 bytes, and 16 for each word of parameters and locals and for each node and its value, which is one word or none
-abbrev pub frame_bound : Routine → ℕ
-frame_bound f = 128 + 16 * (length f.parameters + (item_locals f.body + item_nodes f.body))
+abbrev pub frame_bound : World → Routine → ℕ
+frame_bound w f = 128 + 16 * (length f.parameters + (item_locals w f.body + item_nodes f.body))
 
 -- each function's frame in Core is within its bound
 abbrev pub FramesFit : World → List Routine → Type 0
 FramesFit w [] = Unit {0}
-FramesFit w (f ∷ fs) = (core_bound (function_code w f) ≤ frame_bound f) × FramesFit w fs
+FramesFit w (f ∷ fs) = (core_bound (function_code w f) ≤ frame_bound w f) × FramesFit w fs

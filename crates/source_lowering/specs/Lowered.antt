@@ -4,7 +4,6 @@ use Rattle.cyc_tree.specs.declared.expression.Operator.{Operator}
 use Rattle.cyc_tree.specs.declared.expression.Operator.TheVariants as operator
 use Rattle.cyc_tree.specs.declared.expression.Prefix.{Prefix}
 use Rattle.cyc_tree.specs.declared.expression.Prefix.TheVariants as prefix
-use Rattle.cyc_words.specs.declared.faults.Kind.TheVariants.{NullException}
 use Rattle.cyc_tree.specs.Tree.{Expression, Expressions, NoExpressions, MoreExpressions, Links, NoLinks, MoreLinks}
 use Rattle.source_meaning.specs.Shapes.{Shape, Shared, IntShape, UnsignedShape, CharShape, VoidShape, ThinShape, pointee, part_shapes}
 use Rattle.source_meaning.specs.Memory.{IntegerType, AsInt, AsUnsigned, AsChar}
@@ -13,6 +12,23 @@ use Rattle.source_meaning.specs.Operators.{common, by_type, operator_shape}
 use Rattle.source_meaning.specs.Places.{bound_to}
 use Rattle.source_meaning.specs.Calls.{number_type, function_of}
 use Rattle.source_meaning.specs.Programs.{integer_shape}
+pub use Rattle.source_lowering.specs.Members.{
+  put,
+  all_of,
+  width_of,
+  distance,
+  null_check,
+  check_code,
+  member_shape,
+  suffixed_shape,
+  offset_code,
+  Left,
+  left_of,
+  member_at,
+  suffixed_code,
+  pointer_to,
+  store_to,
+}
 use Rattle.core_meaning.specs.Core as core
 use Rattle.core_meaning.specs.Core.{
   Distance,
@@ -22,6 +38,7 @@ use Rattle.core_meaning.specs.Core.{
   NullPointer,
   Narrow,
   Apply,
+  Offset,
   LocalAddress,
   DataAddress,
   Get,
@@ -101,6 +118,7 @@ abbrev mutual
   static_shape w names (Expression.Variable name) = named_shape w names name.text
   static_shape w names (Expression.Call name arguments) = call_shape w name.text
   static_shape w names (Expression.Grouped at inner) = static_shape w names inner
+  static_shape w names (Expression.Suffixed primary suffixes) = suffixed_shape w suffixes (static_shape w names primary)
   static_shape w names (Expression.Prefixed at operator operand) = prefix_shape operator (static_shape w names operand)
   static_shape w names (Expression.Chain first others) = linked_shape w names others (static_shape w names first)
   static_shape w names (Expression.AllOf first others) = IntShape
@@ -112,24 +130,6 @@ abbrev mutual
   pub linked_shape : World → List Named → Links → Shape → Shape
   linked_shape w names NoLinks left = left
   linked_shape w names (MoreLinks operator operand others) left = linked_shape w names others (operator_shape operator left (static_shape w names operand))
-
--- ---- code
-
--- code, and what comes after it
-abbrev pub put : List Statement → Statements → Statements
-put [] rest = rest
-put (s ∷ ss) rest = MoreStatements s (put ss rest)
-
-abbrev pub all_of : List Statement → Statements
-all_of code = put code NoStatements
-
--- a char takes a byte, all else a word
-abbrev pub width_of : Shape → ℕ
-width_of CharShape = 1
-width_of s = 4
-
-abbrev pub distance : ℕ → ℕ → ℕ → Distance
-distance cells bytes width = record { cells = cells; bytes = bytes; part = 0; width = width }
 
 -- ---- variables
 
@@ -166,15 +166,6 @@ global_address None d = []
 abbrev pub address_by : Option Named → Option Entity → ℕ → List Statement
 address_by (Some l) global d = Do (LocalAddress d l.out l.index) ∷ []
 address_by None global d = global_address global d
-
--- NULL raises
-abbrev pub null_check : ℕ → List Statement
-null_check d = If d NoStatements (MoreStatements (Raise NullException) NoStatements) ∷ []
-
--- a pointer of a shape is checked where it may be NULL
-abbrev pub check_code : Shape → ℕ → List Statement
-check_code (ThinShape true owner to) d = null_check d
-check_code s d = []
 
 -- the object of a shape that a pointer leads to is read, into the pointer's temporary; or a value is stored there, from the temporary before it
 abbrev pub load_code : Shape → ℕ → List Statement
@@ -311,6 +302,8 @@ abbrev mutual
   expression_code w names (Expression.Call name arguments) d =
       arguments_code w names (call_parameters w name.text) arguments d ++ call_code w name.text (count_of arguments) d
   expression_code w names (Expression.Grouped at inner) d = expression_code w names inner d
+  expression_code w names (Expression.Suffixed primary suffixes) d = (suffixed_code w suffixes d
+      (left_of (static_shape w names primary) (expression_code w names primary d) (place_code w names primary d))).value
   expression_code w names (Expression.Prefixed at operator operand) d =
       prefix_code operator (static_shape w names operand) d (expression_code w names operand (d + 1)) (expression_code w names operand d)
       (place_code w names operand d)
@@ -328,6 +321,8 @@ abbrev mutual
   pub place_code : World → List Named → Expression → ℕ → List Statement
   place_code w names (Expression.Variable name) d = address_by (local_named names name.text) (bound_to w.globals name.text) d
   place_code w names (Expression.Grouped at inner) d = place_code w names inner d
+  place_code w names (Expression.Suffixed primary suffixes) d = pointer_to (suffixed_code w suffixes d
+      (left_of (static_shape w names primary) (expression_code w names primary d) (place_code w names primary d))) d
   place_code w names (Expression.Prefixed at operator operand) d =
       pointed_code operator (static_shape w names operand) d (expression_code w names operand d)
   place_code w names _ d = []
@@ -336,6 +331,8 @@ abbrev mutual
   pub put_code : World → List Named → Expression → ℕ → List Statement
   put_code w names (Expression.Variable name) d = put_by (local_named names name.text) (bound_to w.globals name.text) d
   put_code w names (Expression.Grouped at inner) d = put_code w names inner d
+  put_code w names (Expression.Suffixed primary suffixes) d = store_to (suffixed_code w suffixes (d + 1)
+      (left_of (static_shape w names primary) (expression_code w names primary (d + 1)) (place_code w names primary (d + 1)))) d
   put_code w names (Expression.Prefixed at operator operand) d =
       pointed_code operator (static_shape w names operand) (d + 1) (expression_code w names operand (d + 1)) ++
       store_code (prefix_shape operator (static_shape w names operand)) d

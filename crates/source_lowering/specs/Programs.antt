@@ -1,9 +1,9 @@
 -- What statements, functions, globals and programs are lowered to.
-use Rattle.std.specs.Prelude.{ℕ, suc, ◌%◌, ◌^◌, Some, None, List, [], ◌∷◌, ◌++◌, map, length, max, codes}
+use Rattle.std.specs.Prelude.{ℕ, suc, ◌%◌, Option, ◌^◌, Some, None, List, [], ◌∷◌, ◌++◌, map, slice_get, length, max, codes}
 use Rattle.cyc_tree.specs.Tree as tree
 use Rattle.cyc_tree.specs.Tree.{Initializer, Declaration, Statement, BlockItems, NoItems, Declare, Execute, Initial, Item, Program}
 use Rattle.cyc_words.specs.Words.{difference_of}
-use Rattle.source_meaning.specs.Shapes.{Shape, CharShape, VoidShape, ThinShape, Part, part_shapes, written, settled}
+use Rattle.source_meaning.specs.Shapes.{Shape, CharShape, VoidShape, ThinShape, StructShape, Part, part_shapes, written, settled}
 use Rattle.source_meaning.specs.Steps.{Routine, World}
 use Rattle.source_meaning.specs.Programs.{world_of}
 use Rattle.core_meaning.specs.Memory as memory
@@ -93,9 +93,13 @@ abbrev pub first_code : Shape → Operation
 first_code (ThinShape may_be_null owner to) = NullPointer 0
 first_code s = Constant 0 0
 
+-- a struct begins as its layout does
+abbrev pub unset_code : World → Shape → ℕ → List core.Statement
+unset_code w (StructShape tag) index = Do (LocalAddress 0 0 index) ∷ Do (Clear 0 (layout_of w (StructShape tag)) 1) ∷ []
+unset_code w s index = Do (first_code s) ∷ Do (Put 0 index (width_of s) 0) ∷ []
+
 abbrev pub declaration_code : World → List Named → Declaration → ℕ → List core.Statement
-declaration_code w names (tree.Local of name Initializer.Unset) index =
-    Do (first_code (settled (written of))) ∷ Do (Put 0 index (width_of (settled (written of))) 0) ∷ []
+declaration_code w names (tree.Local of name Initializer.Unset) index = unset_code w (settled (written of)) index
 declaration_code w names (tree.Local of name (Initializer.Elements count)) index = []
 declaration_code w names (tree.Local of name (Initializer.Value e)) index =
     expression_code w names e 0 ++
@@ -172,10 +176,12 @@ operation_temporaries (Apply o t x y) = max (suc t) (max (suc x) (suc y))
 operation_temporaries (NullPointer t) = suc t
 operation_temporaries (LocalAddress t out local) = suc t
 operation_temporaries (DataAddress t object) = suc t
+operation_temporaries (Offset t p cells bytes) = max (suc t) (suc p)
 operation_temporaries (Get t out local width) = suc t
 operation_temporaries (Put out local width x) = suc x
 operation_temporaries (Load t p d) = max (suc t) (suc p)
 operation_temporaries (Store p d x) = max (suc p) (suc x)
+operation_temporaries (Clear p layout count) = suc p
 operation_temporaries (IsNull t p) = max (suc t) (suc p)
 operation_temporaries (SamePlace t p q) = max (suc t) (max (suc p) (suc q))
 operation_temporaries (Getchar t) = suc t
@@ -250,10 +256,22 @@ initial_content (Initial.Given c) s = constant_content c s
 abbrev pub datum_of : World → Shape → memory.Content → Datum
 datum_of w s first = record { layout = layout_of w s; count = 1; first = λ cell part. first }
 
+-- what a part begins with
+abbrev pub first_content : Option memory.PartShape → memory.Content
+first_content None = memory.Blank
+first_content (Some x) = x.first
+
+-- a global of a struct begins as its layout does
+abbrev pub global_datum : World → Initial → Shape → Datum
+global_datum w initial (StructShape tag) =
+    let layout = layout_of w (StructShape tag) in
+    record { layout = layout; count = 1; first = λ cell part. first_content (memory.shape_in (slice_get layout.cells cell) part) }
+global_datum w initial s = datum_of w s (initial_content initial s)
+
 -- the globals, in their order
 abbrev pub data_of : World → List Item → List Datum
 data_of w [] = []
-data_of w (tree.GlobalItem g ∷ items) = datum_of w (settled (written g.of)) (initial_content g.initial (settled (written g.of))) ∷ data_of w items
+data_of w (tree.GlobalItem g ∷ items) = global_datum w g.initial (settled (written g.of)) ∷ data_of w items
 data_of w (_ ∷ items) = data_of w items
 
 -- ---- programs

@@ -1,0 +1,379 @@
+-- What a local without an initializer begins with: the source makes it so, and Core's code stores it.
+use Rattle.std.proofs.Common.{◌≡◌, inl, ℕ, zero, suc, ◌+◌, ◌≤◌, List, [], ◌∷◌, Bool, true, false, Option, Some, None, refl, sym, ap, ◌∙◌, subst, arith}
+use Rattle.std.specs.Prelude.{map, slice_get}
+use Rattle.source_meaning.specs.Shapes.{
+  Shape,
+  IntShape,
+  UnsignedShape,
+  CharShape,
+  VoidShape,
+  ThinShape,
+  FatShape,
+  HandleShape,
+  KeyShape,
+  StructShape,
+  UnionShape,
+  ArrayShape,
+}
+use Rattle.source_meaning.specs.Memory as source
+use Rattle.source_meaning.specs.Memory.{
+  IntegerType,
+  AsInt,
+  AsUnsigned,
+  AsChar,
+  Integer,
+  Thin,
+  Scalar,
+  Spot,
+  Holds,
+  Cell,
+  Object,
+  object_of,
+  is_live,
+  with_object,
+  blank_object,
+  with_state,
+  Dead,
+}
+use Rattle.source_meaning.specs.Steps as steps
+use Rattle.source_meaning.specs.Steps.{World, Entity, Variable, Fixed, Binding, Scope, Flow, Act, check, ◌>>=◌, ◌>>◌}
+use Rattle.source_meaning.specs.Conversions.{cells_of}
+use Rattle.source_meaning.specs.Places.{with_binding}
+use Rattle.source_meaning.specs.Regions.{declared}
+use Rattle.source_meaning.specs.Statements.{first_object}
+use Rattle.core_meaning.specs.Memory as core
+use Rattle.core_meaning.specs.Memory.{Content, Word, Null, Pointer, Part, PartShape, Layout, with_part}
+use Rattle.core_meaning.specs.Core.{Do, Put, LocalAddress, Clear, Statements, MoreStatements}
+use Rattle.core_meaning.specs.Steps as core_steps
+use Rattle.core_meaning.specs.Steps.{Config, with_temp, with_memory}
+use Rattle.core_meaning.specs.Operations.{does, fitting, are_elements, cleared}
+use Rattle.core_meaning.specs.Meaning as meaning
+use Rattle.source_lowering.specs.Lowered.{width_of, put}
+use Rattle.source_lowering.specs.Layouts.{first_part, layout_of}
+use Rattle.source_lowering.specs.Programs.{first_code, unset_code}
+use Rattle.source_lowering.specs.Words.{HasFirst}
+use Rattle.source_lowering.specs.Taken.{IsObject, AreStructs, HasBeginning}
+use Rattle.source_lowering.proofs.Relations.{at, PartIs, PartsHold, ArePending, Shown, Agree, Later, Place, Fits, SameAt, Next}
+use Rattle.core_meaning.proofs.Spots.{spot_self}
+use Rattle.source_lowering.proofs.Keeping.{later_on, fits_later}
+use Rattle.source_lowering.proofs.Runs.{stuck_same}
+use Rattle.source_lowering.proofs.Integers.{IsWordShape}
+use Rattle.source_lowering.proofs.Cells.{IsPlain, plain_of}
+use Rattle.source_lowering.proofs.Making.{local_spot, cell_spot, cell_with, m_made, grown_later, ahead_later, agree_ahead}
+use Rattle.source_lowering.proofs.Values.{put_temp}
+use Rattle.source_lowering.proofs.StructCells.{AreWordShapes, object_cells}
+use Rattle.source_lowering.proofs.Clearing.{element_there, cleared_here, cleared_later, agree_cleared, layout_first, made_at}
+use Rattle.source_lowering.proofs.Declaring.{with_local, part_to_come, local_fits, part_with, put_here, no_cell}
+
+-- ---- what a local begins with
+
+record IsFirst (shape : Shape) : Type 0 where
+  content : Content
+  fits : fitting (width_of shape) content ≡ content
+  does : (next : Config → core_steps.Step) (c : Config) → does (first_code shape) next c ≡ next (with_temp 0 content c)
+  part : first_part shape ≡ content
+
+first_of : (shape : Shape) → HasFirst shape → IsFirst shape
+first_of IntShape h = record { content = Word 0; fits = refl; does = λ next c. refl; part = refl }
+first_of UnsignedShape h = record { content = Word 0; fits = refl; does = λ next c. refl; part = refl }
+first_of CharShape h = record { content = Word 0; fits = refl; does = λ next c. refl; part = refl }
+first_of (ThinShape true owner to) h = record { content = Null; fits = refl; does = λ next c. refl; part = refl }
+first_of (ThinShape false owner to) h = absurd h
+first_of VoidShape h = absurd h
+first_of (FatShape to) h = absurd h
+first_of HandleShape h = absurd h
+first_of KeyShape h = absurd h
+first_of (StructShape tag) h = absurd h
+first_of (UnionShape tag) h = absurd h
+first_of (ArrayShape count of) h = absurd h
+
+-- ---- a local without an initializer
+
+-- what each cell begins with is shown by what its part does
+pub first_shown : (w : World) (m : source.Memory) (c : core.Memory) (s : Shape) (v : Scalar) → IsWordShape s → source.first_content s ≡ Holds v
+    → Shown w m c s v (first_part s ∷ [])
+first_shown w m c s v h e = by s h e
+  where
+    held : (u : Scalar) → Holds u ≡ Holds v → u ≡ v
+    held u f = cc f
+
+    none : (b : source.Content) → b ≡ source.Blank → b ≡ Holds v → ⊥
+    none b f g = cc (f, g)
+
+    by : (z : Shape) → IsWordShape z → source.first_content z ≡ Holds v → Shown w m c z v (first_part z ∷ [])
+    by IntShape h e = record { word = 0; value = sym (held (Integer AsInt 0) e); shown = refl; small = omega arith }
+    by UnsignedShape h e = record { word = 0; value = sym (held (Integer AsUnsigned 0) e); shown = refl; small = omega arith }
+    by CharShape h e = record { word = 0; value = sym (held (Integer AsChar 0) e); shown = refl; small = omega arith }
+    by (ThinShape true owner to) h e = inl (record { allowed = refl; value = sym (held (Thin None) e); shown = refl })
+    by (ThinShape false owner to) h e = absurd (none source.Blank refl e)
+    by VoidShape h e = absurd h
+    by (FatShape to) h e = absurd h
+    by HandleShape h e = absurd h
+    by KeyShape h e = absurd h
+    by (StructShape tag) h e = absurd h
+    by (UnionShape tag) h e = absurd h
+    by (ArrayShape count of) h e = absurd h
+
+-- a cell that holds something at first
+pub record IsFirstCell (xs : List Shape) (cell : ℕ) (of : Shape) (v : Scalar) : Type 0 where
+  pub here : slice_get xs cell ≡ Some of
+  pub holds : source.first_content of ≡ Holds v
+  pub word : IsWordShape of
+
+pub first_cell_is : (xs : List Shape) (cell : ℕ) (of : Shape) (v : Scalar) → AreWordShapes xs
+    → slice_get (map (cell_with source.first_content) xs) cell ≡ Some (record { shape = of; content = Holds v }) → IsFirstCell xs cell of v
+first_cell_is [] cell of v h e = absurd (no_cell _ e)
+first_cell_is (x ∷ xs) zero of v h e =
+    let same : x ≡ of = shape_is x of v (source.first_content x) e in
+    record {
+      here = ap (λ z. Some z) same;
+      holds = ap source.first_content (sym same) ∙ content_is x of v (source.first_content x) e;
+      word = subst IsWordShape same h.0;
+    }
+  where
+    of_cell : Shape → source.Content → Cell
+    of_cell s y = record { shape = s; content = y }
+
+    shape_in : Shape → Option Cell → Shape
+    shape_in s None = s
+    shape_in s (Some c) = c.shape
+
+    content_in : source.Content → Option Cell → source.Content
+    content_in y None = y
+    content_in y (Some c) = c.content
+
+    shape_is : (s z : Shape) (u : Scalar) (y : source.Content) → Some (of_cell s y) ≡ Some (of_cell z (Holds u)) → s ≡ z
+    shape_is s z u y f = ap (shape_in s) f
+
+    content_is : (s z : Shape) (u : Scalar) (y : source.Content) → Some (of_cell s y) ≡ Some (of_cell z (Holds u)) → y ≡ Holds u
+    content_is s z u y f = ap (content_in y) f
+first_cell_is (x ∷ xs) (suc cell) of v h e =
+    let more = first_cell_is xs cell of v h.1 e in
+    record { here = more.here; holds = more.holds; word = more.word }
+
+-- where Core's parts begin so, the source makes the object
+begins_fits : (p : Place) (m : source.Memory) (c : Config) (name : List ℕ) (shape : Shape) (shapes : List Shape) → AreWordShapes (cells_of p.world shape)
+    → p.pending ≡ shape ∷ shapes → Fits p m c
+    → ((cell : ℕ) (of : Shape) → slice_get (cells_of p.world shape) cell ≡ Some of
+    → PartsHold c.memory (at (cell_spot p.frame p.made cell)) 0 (first_part of ∷ []))
+    → Fits (with_local p name shape shapes) (m_made m p.frame (first_object p.world shape)) c
+begins_fits p m c name shape shapes words pending fits held =
+    local_fits p m c name shape shapes source.first_content pending fits
+    (λ cell of v e.
+    let o = first_cell_is (cells_of p.world shape) cell of v words e in
+    record { contents = first_part of ∷ []; shown = first_shown p.world m c.memory of v o.word o.holds; held = held cell of o.here })
+
+-- where Core's code goes on from there
+declared_by : (p : Place) (n : ℕ) (scope : Scope) (name : List ℕ) (shape : Shape) (then_act : Scope → Act Flow)
+    (next : Flow → source.Memory → steps.Step) (m : source.Memory) (code : core_steps.Step)
+    → scope.world ≡ p.world → scope.frame ≡ p.frame → m.objects (source.Frame p.frame) ≡ p.made
+    → (is_live m (source.Frame p.frame) ≡ true
+    → SameAt p n (then_act (with_binding scope name (Variable shape (local_spot p.frame p.made))) next (m_made m p.frame (first_object p.world shape))) code)
+    → SameAt p n (declared scope name shape (first_object scope.world shape) then_act next m) code
+declared_by p n scope name shape then_act next m code world frame count goes =
+    subst (λ z. SameAt p n (begun z scope.frame (next_of scope.frame)) code) (sym world)
+    (subst (λ z. SameAt p n (begun p.world z (next_of z)) code) (sym frame)
+    (by (is_live m (source.Frame p.frame)) refl))
+  where
+    next_of : ℕ → Spot
+    next_of f = record { region = source.Frame f; object = m.objects (source.Frame f); cell = 0 }
+
+    made : World → ℕ → Spot → steps.Step
+    made w f spot = then_act (with_binding scope name (Variable shape spot)) next (with_object m (source.Frame f) (first_object w shape))
+
+    begun : World → ℕ → Spot → steps.Step
+    begun w f spot = check (is_live m (source.Frame f)) (λ u m'. made w f spot) m
+
+    by : (b : Bool) → is_live m (source.Frame p.frame) ≡ b → SameAt p n (begun p.world p.frame (next_of p.frame)) code
+    by false e = rw e (stuck_same p.world p.program n code)
+    by true e =
+        rw e
+        (subst (λ z. SameAt p n (then_act (with_binding scope name (Variable shape (record { region = source.Frame p.frame; object = z; cell = 0 }))) next
+        (with_object m (source.Frame p.frame) (first_object p.world shape))) code) (sym count) (goes e))
+
+-- what comes after a declaration without an initializer
+pub record BeginsIn (p q : Place) (n : ℕ) (m0 : source.Memory) (c0 : Config) (s : source.Memory → steps.Step) (k : Config → core_steps.Step) : Type 0 where
+  pub go : (m : source.Memory) (c : Config) → Fits q m c → Later p.frame m0 c0.memory m c.memory → c.blocks ≡ c0.blocks → SameAt p n (s m) (k c)
+
+-- a word
+word_begins : (p : Place) (n : ℕ) (scope : Scope) (name : List ℕ) (shape : Shape) (shapes : List Shape) (then_act : Scope → Act Flow)
+    (next : Flow → source.Memory → steps.Step) (m : source.Memory) (c : Config) (rest : Statements) (after : Next)
+    → scope.world ≡ p.world → scope.frame ≡ p.frame → IsWordShape shape → HasFirst shape → p.pending ≡ shape ∷ shapes → Fits p m c
+    → BeginsIn p (with_local p name shape shapes) n m c (λ m'. then_act (with_binding scope name (Variable shape (local_spot p.frame p.made))) next m')
+    (meaning.statements rest after)
+    → SameAt p n (declared scope name shape (first_object scope.world shape) then_act next m) (meaning.statements
+    (MoreStatements (Do (first_code shape)) (MoreStatements (Do (Put 0 p.made (width_of shape) 0)) rest)) after c)
+word_begins p n scope name shape shapes then_act next m c rest after world frame is_word begins pending fits goes =
+    declared_by p n scope name shape then_act next m code world frame fits.made stored
+  where
+    code : core_steps.Step
+    code = meaning.statements (MoreStatements (Do (first_code shape)) (MoreStatements (Do (Put 0 p.made (width_of shape) 0)) rest)) after c
+
+    plain : IsPlain p.world shape (width_of shape)
+    plain = plain_of p.world shape is_word
+
+    first : IsFirst shape
+    first = first_of shape begins
+
+    spot : Spot
+    spot = local_spot p.frame p.made
+
+    c0 : Config
+    c0 = with_temp 0 first.content c
+
+    part : PartIs c.memory (at spot) 0 0 (width_of shape)
+    part = part_to_come p m c shape shapes plain pending fits
+
+    old : Part
+    old = part_with (width_of shape) part.content
+
+    c1 : Config
+    c1 = with_memory (with_part c.memory (at spot) 0 (part_with (width_of shape) first.content)) c0
+
+    none : m.cells spot ≡ None
+    none = fits.agree.unmade spot (subst (λ z. z ≤ p.made) (sym fits.made) (omega arith))
+
+    agree1 : Agree p.world m c1.memory
+    agree1 = agree_ahead p.world m c.memory spot old first.content fits.agree none part.is
+
+    later1 : (b : ℕ) → Later b m c.memory m c1.memory
+    later1 b = ahead_later b m c.memory (at spot) old first.content part.is
+
+    fits1 : Fits p m c1
+    fits1 = fits_later p m m c c1 fits agree1 (later1 (suc p.frame)) refl
+
+    words : AreWordShapes (cells_of p.world shape)
+    words = subst AreWordShapes (sym plain.cells) (is_word, tt)
+
+    only : (cell : ℕ) (of : Shape) → slice_get (shape ∷ []) cell ≡ Some of → PartsHold c1.memory (at (cell_spot p.frame p.made cell)) 0 (first_part of ∷ [])
+    only zero of e =
+        subst (λ z. PartsHold c1.memory (at spot) 0 (z ∷ [])) (sym first.part ∙ ap first_part (some_is shape of e))
+        ((part_with (width_of shape) first.content, (rw (spot_self (at spot)) refl, refl)), tt)
+      where
+        some_is : (s z : Shape) → Some s ≡ Some z → s ≡ z
+        some_is s z f = cc f
+    only (suc cell) of e = absurd (none_is of e)
+      where
+        none_is : (z : Shape) → None ≡ Some z → ⊥
+        none_is z f = cc f
+
+    stored : is_live m (source.Frame p.frame) ≡ true
+        → SameAt p n (then_act (with_binding scope name (Variable shape spot)) next (m_made m p.frame (first_object p.world shape))) code
+    stored live =
+        subst (λ z. SameAt p n (then_act (with_binding scope name (Variable shape spot)) next (m_made m p.frame (first_object p.world shape))) z)
+        (sym (first.does (meaning.statements (MoreStatements (Do (Put 0 p.made (width_of shape) 0)) rest) after) c
+        ∙ put_here c0 0 p.made (width_of shape) p.frame p.outer part.content (meaning.statements rest after) fits.blocks
+        (sym (fits.agree.live (source.Frame p.frame)) ∙ live) part.is ∙
+        ap (λ z. meaning.statements rest after (with_memory (with_part c.memory (at spot) 0 (part_with (width_of shape) z)) c0))
+        (ap (fitting (width_of shape)) (put_temp 0 first.content c) ∙ first.fits)))
+        (goes.go (m_made m p.frame (first_object p.world shape)) c1
+        (begins_fits p m c1 name shape shapes words pending fits1 (λ cell of e. only cell of (ap (λ z. slice_get z cell) (sym plain.cells) ∙ e)))
+        (later_on p.frame m m (m_made m p.frame (first_object p.world shape)) c.memory c1.memory c1.memory (later1 p.frame)
+        (grown_later m c1.memory p.frame (first_object p.world shape) fits.agree.unmade)) refl)
+
+-- a struct
+cleared_at : (c : Config) (index frame : ℕ) (outer : List ℕ) (l : Layout) (next : Config → core_steps.Step) → c.blocks ≡ frame ∷ outer
+    → core.is_live (c.memory.standing (core.Frame frame)) ≡ true → are_elements c.memory (at (local_spot frame index)) 0 l 1 ≡ true
+    → does (LocalAddress 0 0 index) (does (Clear 0 l 1) next) c
+    ≡ next (with_memory (cleared l 1 (at (local_spot frame index)) c.memory) (with_temp 0 (Pointer (at (local_spot frame index)) 0) c))
+cleared_at c index frame outer l next block live there = rw (block, live, there) refl
+
+pub struct_begins : (p : Place) (n : ℕ) (scope : Scope) (name tag : List ℕ) (shapes : List Shape) (then_act : Scope → Act Flow)
+    (next : Flow → source.Memory → steps.Step) (m : source.Memory) (c : Config) (rest : Statements) (after : Next)
+    → scope.world ≡ p.world → scope.frame ≡ p.frame → AreStructs p.world.unions p.world.structs → IsObject p.world.structs (StructShape tag)
+    → p.pending ≡ StructShape tag ∷ shapes → Fits p m c
+    → BeginsIn p (with_local p name (StructShape tag) shapes) n m c
+    (λ m'. then_act (with_binding scope name (Variable (StructShape tag) (local_spot p.frame p.made))) next m') (meaning.statements rest after)
+    → SameAt p n (declared scope name (StructShape tag) (first_object scope.world (StructShape tag)) then_act next m) (meaning.statements
+    (MoreStatements (Do (LocalAddress 0 0 p.made)) (MoreStatements (Do (Clear 0 (layout_of p.world (StructShape tag)) 1)) rest)) after c)
+struct_begins p n scope name tag shapes then_act next m c rest after world frame structs object pending fits goes =
+    declared_by p n scope name shape then_act next m code world frame fits.made stored
+  where
+    shape : Shape
+    shape = StructShape tag
+
+    layout : Layout
+    layout = layout_of p.world (StructShape tag)
+
+    code : core_steps.Step
+    code = meaning.statements
+        (MoreStatements (Do (LocalAddress 0 0 p.made)) (MoreStatements (Do (Clear 0 (layout_of p.world (StructShape tag)) 1)) rest)) after c
+
+    spot : Spot
+    spot = local_spot p.frame p.made
+
+    all : ArePending p.world c.memory p.frame p.made (shape ∷ shapes)
+    all = subst (λ z. ArePending p.world c.memory p.frame p.made z) pending fits.pending
+
+    c1 : Config
+    c1 = with_memory (cleared layout 1 (at spot) c.memory) (with_temp 0 (Pointer (at spot) 0) c)
+
+    agree1 : Agree p.world m c1.memory
+    agree1 = agree_cleared p.world m c.memory p.frame p.made layout fits.agree fits.made
+
+    later1 : (b : ℕ) → Later b m c.memory m c1.memory
+    later1 b = cleared_later b m c.memory layout 1 (at spot)
+
+    fits1 : Fits p m c1
+    fits1 = fits_later p m m c c1 fits agree1 (later1 (suc p.frame)) refl
+
+    words : AreWordShapes (cells_of p.world shape)
+    words = (object_cells p.world.unions p.world.structs shape structs object).words
+
+    held : (cell : ℕ) (of : Shape) → slice_get (cells_of p.world shape) cell ≡ Some of
+        → PartsHold c1.memory (at (cell_spot p.frame p.made cell)) 0 (first_part of ∷ [])
+    held cell of e =
+        let first = layout_first p.world shape cell of structs object e in
+        let x : PartShape = record { offset = first.offset; width = width_of of; first = first_part of } in
+        let part = made_at c.memory (core.Frame p.frame) p.made 0 0 cell layout.cells x first.others all.0 first.is in
+        let there : PartIs c.memory (at (cell_spot p.frame p.made cell)) 0 (0 + first.offset) (width_of of) =
+        subst (λ z. PartIs c.memory (at (cell_spot p.frame p.made z)) 0 (0 + first.offset) (width_of of)) (zero_on cell) part in (
+          (
+            record { offset = 0 + first.offset; width = width_of of; content = first_part of },
+            (
+              cleared_here layout (core.Frame p.frame) p.made c.memory cell 0 (x ∷ first.others) x
+                  (record { offset = 0 + first.offset; width = width_of of; content = there.content }) first.less first.is refl there.is,
+              refl,
+            ),
+          ),
+          tt,
+        )
+      where
+        zero_on : (i : ℕ) → 0 + i ≡ i
+        zero_on i = omega arith
+
+    stored : is_live m (source.Frame p.frame) ≡ true
+        → SameAt p n (then_act (with_binding scope name (Variable shape spot)) next (m_made m p.frame (first_object p.world shape))) code
+    stored live =
+        subst (λ z. SameAt p n (then_act (with_binding scope name (Variable shape spot)) next (m_made m p.frame (first_object p.world shape))) z)
+        (sym (cleared_at c p.made p.frame p.outer layout (meaning.statements rest after) fits.blocks
+        (sym (fits.agree.live (source.Frame p.frame)) ∙ live) (element_there c.memory (at spot) 0 layout all.0)))
+        (goes.go (m_made m p.frame (first_object p.world shape)) c1 (begins_fits p m c1 name shape shapes words pending fits1 held)
+        (later_on p.frame m m (m_made m p.frame (first_object p.world shape)) c.memory c1.memory c1.memory (later1 p.frame)
+        (grown_later m c1.memory p.frame (first_object p.world shape) fits.agree.unmade)) refl)
+
+-- whichever
+pub declared_same : (p : Place) (n : ℕ) (scope : Scope) (name : List ℕ) (shape : Shape) (shapes : List Shape) (then_act : Scope → Act Flow)
+    (next : Flow → source.Memory → steps.Step) (m : source.Memory) (c : Config) (rest : Statements) (after : Next)
+    → scope.world ≡ p.world → scope.frame ≡ p.frame → AreStructs p.world.unions p.world.structs → IsObject p.world.structs shape → HasBeginning shape
+    → p.pending ≡ shape ∷ shapes → Fits p m c
+    → BeginsIn p (with_local p name shape shapes) n m c (λ m'. then_act (with_binding scope name (Variable shape (local_spot p.frame p.made))) next m')
+    (meaning.statements rest after)
+    → SameAt p n (declared scope name shape (first_object scope.world shape) then_act next m) (meaning.statements (put (unset_code p.world shape p.made) rest)
+    after c)
+declared_same p n scope name (StructShape tag) shapes then_act next m c rest after world frame structs object begins pending fits goes =
+    struct_begins p n scope name tag shapes then_act next m c rest after world frame structs object pending fits goes
+declared_same p n scope name IntShape shapes then_act next m c rest after world frame structs object begins pending fits goes =
+    word_begins p n scope name IntShape shapes then_act next m c rest after world frame tt tt pending fits goes
+declared_same p n scope name UnsignedShape shapes then_act next m c rest after world frame structs object begins pending fits goes =
+    word_begins p n scope name UnsignedShape shapes then_act next m c rest after world frame tt tt pending fits goes
+declared_same p n scope name CharShape shapes then_act next m c rest after world frame structs object begins pending fits goes =
+    word_begins p n scope name CharShape shapes then_act next m c rest after world frame tt tt pending fits goes
+declared_same p n scope name (ThinShape b owner to) shapes then_act next m c rest after world frame structs object begins pending fits goes =
+    word_begins p n scope name (ThinShape b owner to) shapes then_act next m c rest after world frame object begins pending fits goes
+declared_same p n scope name VoidShape shapes then_act next m c rest after world frame structs object begins pending fits goes = absurd object
+declared_same p n scope name (FatShape to) shapes then_act next m c rest after world frame structs object begins pending fits goes = absurd object
+declared_same p n scope name HandleShape shapes then_act next m c rest after world frame structs object begins pending fits goes = absurd object
+declared_same p n scope name KeyShape shapes then_act next m c rest after world frame structs object begins pending fits goes = absurd object
+declared_same p n scope name (UnionShape tag) shapes then_act next m c rest after world frame structs object begins pending fits goes = absurd object
+declared_same p n scope name (ArrayShape count of) shapes then_act next m c rest after world frame structs object begins pending fits goes = absurd object

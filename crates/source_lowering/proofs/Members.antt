@@ -1,0 +1,352 @@
+-- A member of an object lies where the struct has it, in the source and in Core.
+use Rattle.std.proofs.Common.{◌≡◌, ℕ, zero, suc, ◌+◌, ◌-◌, ◌≤◌, List, [], ◌∷◌, ◌++◌, map, length, max, Bool, true, false, Some, refl, sym, ap, ◌∙◌, subst, arith}
+use Rattle.std.specs.Prelude.{bytes_eq}
+use Rattle.std.proofs.lemmas.List.{length-map}
+use Rattle.source_meaning.specs.Shapes.{
+  Shape,
+  IntShape,
+  UnsignedShape,
+  CharShape,
+  VoidShape,
+  ThinShape,
+  FatShape,
+  HandleShape,
+  KeyShape,
+  StructShape,
+  UnionShape,
+  ArrayShape,
+  Part,
+  Layout,
+  parts_of,
+  part_shape,
+  part_shapes,
+}
+use Rattle.source_meaning.specs.Sizes.{Extent, rounded_up, all_cells, cells_before, laid_out, no_extent}
+use Rattle.source_meaning.specs.Placing.{Placed, moved, all_placed}
+use Rattle.source_meaning.specs.Memory as source
+use Rattle.source_meaning.specs.Memory.{Spot}
+use Rattle.source_meaning.specs.Steps.{World}
+use Rattle.source_meaning.specs.Conversions.{cells_of}
+use Rattle.source_meaning.specs.Places.{struct_parts}
+use Rattle.core_meaning.specs.Memory as core
+use Rattle.core_meaning.specs.Memory.{Content}
+use Rattle.source_lowering.specs.Layouts.{Piece, pieces_of, part_shape_of, padding, next_at, padded, extent_of, bytes_before}
+use Rattle.source_lowering.specs.Lowered.{width_of, member_shape}
+use Rattle.source_lowering.specs.Taken.{IsWordShape, IsObject, AreObjects, AreStructs}
+use Rattle.source_lowering.proofs.Structs.{cells_in, placed_in, extent_in, rounded_above, object_small, IsMade, struct_made}
+use Rattle.source_lowering.proofs.StructCells.{shapes_in, shapes_count, AreWordShapes, HasCells, object_cells}
+use Rattle.source_lowering.proofs.Relations.{at, PartIs, AreShaped, AreMade, AreCells, Leads, LiesNear}
+
+-- ---- the first part
+
+pub word_pieces : (s : Shape) → IsWordShape s → pieces_of s ≡ (record { offset = 0; width = width_of s }) ∷ []
+word_pieces IntShape h = refl
+word_pieces UnsignedShape h = refl
+word_pieces CharShape h = refl
+word_pieces VoidShape h = absurd h
+word_pieces (ThinShape may_be_null owner to) h = refl
+word_pieces (FatShape to) h = absurd h
+word_pieces HandleShape h = absurd h
+word_pieces KeyShape h = absurd h
+word_pieces (StructShape tag) h = absurd h
+word_pieces (UnionShape tag) h = absurd h
+word_pieces (ArrayShape count of) h = absurd h
+
+-- the part at the spot and the byte where an object begins
+pub record FirstPart (c : core.Memory) (t : core.Spot) (byte : ℕ) : Type 0 where
+  pub width : ℕ
+  pub content : Content
+  pub is : c.parts t 0 ≡ Some (record { offset = byte; width = width; content = content })
+
+pub first_part_of : (w : World) (m : source.Memory) (c : core.Memory) (shape : Shape) (s : Spot) (byte : ℕ) → LiesNear w shape byte
+    → Leads w m c shape s byte → FirstPart c (at s) byte
+first_part_of w m c shape s byte lies leads = record {
+  width = width_of has.first.shape;
+  content = one.content;
+  is = one.is ∙ ap (λ o. Some (record { offset = o; width = width_of has.first.shape; content = one.content })) (first_byte has.first.offset has.begins);
+}
+  where
+    has : HasCells w.unions w.structs shape
+    has = lies.cells
+
+    words : AreWordShapes (has.first.shape ∷ shapes_in has.others)
+    words = subst AreWordShapes (sym has.shapes ∙ ap shapes_in has.is) has.words
+
+    cells_from : List Placed → List (List core.PartShape)
+    cells_from ps = padded (extent_of w) (extent_of w shape).size ps
+
+    rest : ℕ
+    rest = next_at (extent_of w shape).size has.others - (has.first.offset + (extent_of w has.first.shape).size)
+
+    pad : List core.PartShape
+    pad = padding (has.first.offset + (extent_of w has.first.shape).size) rest
+
+    made : AreMade c (at s) byte (cells_from (has.first ∷ has.others))
+    made = subst (λ z. AreMade c (at s) byte (cells_from z)) has.is leads.1
+
+    shaped : AreShaped c (at s) byte 0 (map (part_shape_of has.first) ((record { offset = 0; width = width_of has.first.shape }) ∷ []) ++ pad)
+    shaped = subst (λ z. AreShaped c (at s) byte 0 (map (part_shape_of has.first) z ++ pad)) (word_pieces has.first.shape words.0) made.0
+
+    one : PartIs c (at s) 0 (byte + (has.first.offset + 0)) (width_of has.first.shape)
+    one = shaped.0
+
+    first_byte : (o : ℕ) → o ≡ 0 → byte + (o + 0) ≡ byte
+    first_byte o e = omega (arith, e)
+
+-- ---- the source's cells
+
+pub beyond_on : (s : Spot) (a b c : ℕ) → a + b ≡ c → source.beyond (source.beyond s a) b ≡ source.beyond s c
+beyond_on s a b c e = λ i. record s { cell = same i }
+  where
+    same : s.cell + a + b ≡ s.cell + c
+    same = omega (arith, e)
+
+core_beyond_on : (s : core.Spot) (a b c : ℕ) → a + b ≡ c → core.beyond (core.beyond s a) b ≡ core.beyond s c
+core_beyond_on s a b c e = λ i. record s { cell = same i }
+  where
+    same : s.cell + a + b ≡ s.cell + c
+    same = omega (arith, e)
+
+pub beyond_zero : (s : Spot) → s ≡ source.beyond s 0
+beyond_zero s = λ i. record s { cell = same i }
+  where
+    same : s.cell ≡ s.cell + 0
+    same = omega arith
+
+core_beyond_zero : (s : core.Spot) → s ≡ core.beyond s 0
+core_beyond_zero s = λ i. record s { cell = same i }
+  where
+    same : s.cell ≡ s.cell + 0
+    same = omega arith
+
+cells_first : (m : source.Memory) (s : Spot) (xs ys : List Shape) → AreCells m s (xs ++ ys) → AreCells m s xs
+cells_first m s [] ys h = tt
+cells_first m s (x ∷ xs) ys h = (h.0, cells_first m (source.beyond s 1) xs ys h.1)
+
+cells_after : (m : source.Memory) (s : Spot) (xs ys : List Shape) → AreCells m s (xs ++ ys) → AreCells m (source.beyond s (length xs)) ys
+cells_after m s [] ys h = subst (λ z. AreCells m z ys) (beyond_zero s) h
+cells_after m s (x ∷ xs) ys h =
+    subst (λ z. AreCells m z ys) (beyond_on s 1 (length xs) (suc (length xs)) (omega arith)) (cells_after m (source.beyond s 1) xs ys h.1)
+
+member_cells : (m : source.Memory) (cells : Shape → List Shape) (none : cells VoidShape ≡ []) (ps : List Part) (f : List ℕ) (s : Spot)
+    → AreCells m s (all_cells cells ps) → AreCells m (source.beyond s (cells_before cells ps f)) (cells (part_shape ps f))
+member_cells m cells none [] f s h = subst (λ z. AreCells m (source.beyond s 0) z) (sym none) tt
+member_cells m cells none (p ∷ ps) f s h = by (bytes_eq p.name f) refl (member_cells m cells none ps f (source.beyond s (length (cells p.shape)))
+    (cells_after m s (cells p.shape) (all_cells cells ps) h))
+  where
+    by : (b : Bool) → bytes_eq p.name f ≡ b → AreCells m (source.beyond (source.beyond s (length (cells p.shape))) (cells_before cells ps f))
+        (cells (part_shape ps f)) → AreCells m (source.beyond s (cells_before cells (p ∷ ps) f)) (cells (part_shape (p ∷ ps) f))
+    by true e rest =
+        rw e (subst (λ z. AreCells m z (cells p.shape)) (beyond_zero s) (cells_first m s (cells p.shape) (all_cells cells ps) h))
+    by false e rest =
+        rw e (subst (λ z. AreCells m z (cells (part_shape ps f))) (beyond_on s (length (cells p.shape)) (cells_before cells ps f) _ refl) rest)
+
+-- ---- Core's parts
+
+-- parts that lie so many bytes on in another list, which may have more
+abbrev Moved : ℕ → List core.PartShape → List core.PartShape → Type 0
+Moved a [] xs = Unit {0}
+Moved a (y ∷ ys) [] = ⊥
+Moved a (y ∷ ys) (x ∷ xs) = (x.offset ≡ a + y.offset) × ((x.width ≡ y.width) × Moved a ys xs)
+
+abbrev AllMoved : ℕ → List (List core.PartShape) → List (List core.PartShape) → Type 0
+AllMoved a [] xss = Unit {0}
+AllMoved a (ys ∷ yss) [] = ⊥
+AllMoved a (ys ∷ yss) (xs ∷ xss) = Moved a ys xs × AllMoved a yss xss
+
+shaped_moved : (c : core.Memory) (t : core.Spot) (b a j : ℕ) (ys xs : List core.PartShape) → Moved a ys xs → AreShaped c t b j xs
+    → AreShaped c t (b + a) j ys
+shaped_moved c t b a j [] xs e h = tt
+shaped_moved c t b a j (y ∷ ys) [] e h = absurd e
+shaped_moved c t b a j (y ∷ ys) (x ∷ xs) e h = (
+  subst (λ z. PartIs c t j z y.width) same (subst (λ z. PartIs c t j (b + x.offset) z) e.1.0 h.0),
+  shaped_moved c t b a (suc j) ys xs e.1.1 h.1,
+)
+  where
+    same : b + x.offset ≡ b + a + y.offset
+    same = let f = e.0 in omega (arith, f)
+
+made_moved : (c : core.Memory) (t : core.Spot) (b a : ℕ) (yss xss : List (List core.PartShape)) → AllMoved a yss xss → AreMade c t b xss
+    → AreMade c t (b + a) yss
+made_moved c t b a [] xss e h = tt
+made_moved c t b a (ys ∷ yss) [] e h = absurd e
+made_moved c t b a (ys ∷ yss) (xs ∷ xss) e h = (shaped_moved c t b a 0 ys xs e.0 h.0, made_moved c (core.beyond t 1) b a yss xss e.1 h.1)
+
+padding_moved : (a e e' n n' : ℕ) → e' ≡ a + e → n ≤ n' → Moved a (padding e n) (padding e' n')
+padding_moved a e e' zero n' same less = tt
+padding_moved a e e' (suc n) zero same less = absurd (omega (arith, less))
+padding_moved a e e' (suc n) (suc n') same less = (same, (refl, padding_moved a (e + 1) (e' + 1) n n' (omega (arith, same)) (omega (arith, less))))
+
+pieces_moved : (a : ℕ) (p : Placed) (qs : List Piece) (ys xs : List core.PartShape) → Moved a ys xs
+    → Moved a (map (part_shape_of p) qs ++ ys) (map (part_shape_of (moved a p)) qs ++ xs)
+pieces_moved a p [] ys xs h = h
+pieces_moved a p (q ∷ qs) ys xs h = (omega arith, (refl, pieces_moved a p qs ys xs h))
+
+next_moved : (size bytes a : ℕ) (ps qs : List Placed) → a + size ≤ next_at bytes qs → a + next_at size ps ≤ next_at bytes (map (moved a) ps ++ qs)
+next_moved size bytes a [] qs h = h
+next_moved size bytes a (p ∷ ps) qs h = omega arith
+
+padded_moved : (extent : Shape → Extent) (size bytes a : ℕ) (ps qs : List Placed) → a + size ≤ next_at bytes qs
+    → AllMoved a (padded extent size ps) (padded extent bytes (map (moved a) ps ++ qs))
+padded_moved extent size bytes a [] qs h = tt
+padded_moved extent size bytes a (p ∷ ps) qs h =
+    let more = next_moved size bytes a ps qs h in
+    let end : ℕ = p.offset + (extent p.shape).size in
+    let far : ℕ = a + p.offset + (extent p.shape).size in (
+      pieces_moved a p (pieces_of p.shape) (padding end (next_at size ps - end)) (padding far (next_at bytes (map (moved a) ps ++ qs) - far))
+          (padding_moved a end far (next_at size ps - end) (next_at bytes (map (moved a) ps ++ qs) - far) (omega arith) (omega (arith, more))),
+      padded_moved extent size bytes a ps qs h,
+    )
+
+-- the cells after others
+made_after : (c : core.Memory) (t : core.Spot) (b bytes : ℕ) (extent : Shape → Extent) (ps qs : List Placed) → AreMade c t b (padded extent bytes (ps ++ qs))
+    → AreMade c (core.beyond t (length ps)) b (padded extent bytes qs)
+made_after c t b bytes extent [] qs h = subst (λ z. AreMade c z b (padded extent bytes qs)) (core_beyond_zero t) h
+made_after c t b bytes extent (p ∷ ps) qs h =
+    subst (λ z. AreMade c z b (padded extent bytes qs)) (core_beyond_on t 1 (length ps) (suc (length ps)) (omega arith))
+    (made_after c (core.beyond t 1) b bytes extent ps qs h.1)
+
+laid_above : (extent : Shape → Extent) (s : Extent) (ps : List Part) → s.size ≤ (laid_out extent s ps).size
+laid_above extent s [] = rounded_above s.size s.align
+laid_above extent s (p ∷ ps) =
+    let e = extent p.shape in
+    let further : rounded_up s.size e.align + e.size ≤ (laid_out extent s (p ∷ ps)).size =
+    laid_above extent (record { size = rounded_up s.size e.align + e.size; align = max s.align e.align }) ps in
+    omega (arith, rounded_above s.size e.align, further)
+
+-- each of these has cells
+abbrev HaveCells : List Layout → List Layout → List Part → Type 0
+HaveCells unions structs [] = Unit {0}
+HaveCells unions structs (p ∷ ps) = HasCells unions structs p.shape × HaveCells unions structs ps
+
+have_cells : (unions structs : List Layout) (ps : List Part) → AreStructs unions structs → AreObjects structs (part_shapes ps) → HaveCells unions structs ps
+have_cells unions structs [] h o = tt
+have_cells unions structs (p ∷ ps) h o = (object_cells unions structs p.shape h o.0, have_cells unions structs ps h o.1)
+
+-- what comes after so many bytes begins no earlier
+next_after : (unions structs : List Layout) (bytes : ℕ) (so_far : Extent) (ps : List Part) → HaveCells unions structs ps
+    → (laid_out (extent_in unions structs) so_far ps).size ≤ bytes
+    → so_far.size ≤ next_at bytes (all_placed (placed_in unions structs) (extent_in unions structs) so_far.size ps)
+next_after unions structs bytes so_far [] h room = let more = laid_above (extent_in unions structs) so_far [] in omega (arith, more, room)
+next_after unions structs bytes so_far (p ∷ ps) h room =
+    let e = extent_in unions structs p.shape in
+    let a = rounded_up so_far.size e.align in
+    let more = all_placed (placed_in unions structs) (extent_in unions structs) (a + e.size) ps in
+    let above = rounded_above so_far.size e.align in
+    subst (λ z. so_far.size ≤ next_at bytes (map (moved a) z ++ more)) (sym h.0.is) (omega (arith, above))
+
+member_made : (c : core.Memory) (unions structs : List Layout) (bytes : ℕ) (so_far : Extent) (ps : List Part) (f : List ℕ) (t : core.Spot) (b : ℕ)
+    → HaveCells unions structs ps → (laid_out (extent_in unions structs) so_far ps).size ≤ bytes
+    → AreMade c t b (padded (extent_in unions structs) bytes (all_placed (placed_in unions structs) (extent_in unions structs) so_far.size ps))
+    → AreMade c (core.beyond t (cells_before (cells_in structs) ps f)) (b + bytes_before (extent_in unions structs) so_far.size ps f)
+    (padded (extent_in unions structs) (extent_in unions structs (part_shape ps f)).size (placed_in unions structs (part_shape ps f)))
+member_made c unions structs bytes so_far [] f t b h room made = tt
+member_made c unions structs bytes so_far (p ∷ ps) f t b h room made = by (bytes_eq p.name f) refl
+    (member_made c unions structs bytes next ps f (core.beyond t (length (map (moved a) (placed_in unions structs p.shape)))) b h.1 room
+    (made_after c t b bytes extent (map (moved a) (placed_in unions structs p.shape)) others made))
+  where
+    extent : Shape → Extent
+    extent = extent_in unions structs
+
+    e : Extent
+    e = extent_in unions structs p.shape
+
+    a : ℕ
+    a = rounded_up so_far.size e.align
+
+    next : Extent
+    next = record { size = a + e.size; align = max so_far.align e.align }
+
+    others : List Placed
+    others = all_placed (placed_in unions structs) (extent_in unions structs) (a + e.size) ps
+
+    goal : (cells before : ℕ) (of : Shape) → Type 0
+    goal cells before of = AreMade c (core.beyond t cells) (b + before) (padded (extent_in unions structs) (extent_in unions structs of).size
+        (placed_in unions structs of))
+
+    here : goal 0 a p.shape
+    here = subst (λ z. AreMade c z (b + a) (padded extent e.size (placed_in unions structs p.shape))) (core_beyond_zero t)
+        (made_moved c t b a (padded extent e.size (placed_in unions structs p.shape)) _
+        (padded_moved extent e.size bytes a (placed_in unions structs p.shape) others (next_after unions structs bytes next ps h.1 room)) made)
+
+    count : length (map (moved a) (placed_in unions structs p.shape)) ≡ length (cells_in structs p.shape)
+    count = length-map (placed_in unions structs p.shape) (moved a) ∙ sym (shapes_count (placed_in unions structs p.shape)) ∙ ap length h.0.shapes
+
+    by : (z : Bool) → bytes_eq p.name f ≡ z
+        → AreMade c (core.beyond (core.beyond t (length (map (moved a) (placed_in unions structs p.shape)))) (cells_before (cells_in structs) ps f))
+        (b + bytes_before (extent_in unions structs) (a + e.size) ps f)
+        (padded (extent_in unions structs) (extent_in unions structs (part_shape ps f)).size (placed_in unions structs (part_shape ps f)))
+        → goal (cells_before (cells_in structs) (p ∷ ps) f) (bytes_before (extent_in unions structs) so_far.size (p ∷ ps) f) (part_shape (p ∷ ps) f)
+    by true g rest = rw g here
+    by false g rest =
+        rw g (subst (λ z. AreMade c z (b + bytes_before (extent_in unions structs) (a + e.size) ps f)
+        (padded (extent_in unions structs) (extent_in unions structs (part_shape ps f)).size (placed_in unions structs (part_shape ps f))))
+        (core_beyond_on t _ (cells_before (cells_in structs) ps f) (length (cells_in structs p.shape) + cells_before (cells_in structs) ps f)
+        (ap (λ z. z + cells_before (cells_in structs) ps f) count)) rest)
+
+member_near : (extent : Shape → Extent) (so_far : Extent) (ps : List Part) (f : List ℕ) → (extent VoidShape).size ≡ 0
+    → bytes_before extent so_far.size ps f + (extent (part_shape ps f)).size ≤ (laid_out extent so_far ps).size
+member_near extent so_far [] f none = let more = laid_above extent so_far [] in omega (arith, more, none)
+member_near extent so_far (p ∷ ps) f none = by (bytes_eq p.name f) refl (member_near extent next ps f none)
+  where
+    e : Extent
+    e = extent p.shape
+
+    next : Extent
+    next = record { size = rounded_up so_far.size e.align + e.size; align = max so_far.align e.align }
+
+    by : (z : Bool) → bytes_eq p.name f ≡ z → bytes_before extent next.size ps f + (extent (part_shape ps f)).size ≤ (laid_out extent next ps).size
+        → bytes_before extent so_far.size (p ∷ ps) f + (extent (part_shape (p ∷ ps) f)).size ≤ (laid_out extent so_far (p ∷ ps)).size
+    by true g rest = rw g (laid_above extent next ps)
+    by false g rest = rw g rest
+
+-- ---- members
+
+-- an object lies near where it begins
+pub lies_here : (w : World) (shape : Shape) → AreStructs w.unions w.structs → IsObject w.structs shape → LiesNear w shape 0
+lies_here w shape structs object = record {
+  object = object;
+  cells = object_cells w.unions w.structs shape structs object;
+  near = let a = object_small w.unions w.structs shape structs object in omega (arith, a);
+}
+
+-- where a member lies
+pub record IsMember (w : World) (m : source.Memory) (c : core.Memory) (shape : Shape) (s : Spot) (byte : ℕ) (f : List ℕ) : Type 0 where
+  pub lies : LiesNear w (member_shape w shape f) (byte + bytes_before (extent_of w) 0 (struct_parts w shape) f)
+  pub leads : Leads w m c (member_shape w shape f) (source.beyond s (cells_before (cells_of w) (struct_parts w shape) f))
+      (byte + bytes_before (extent_of w) 0 (struct_parts w shape) f)
+
+pub member_is : (w : World) (m : source.Memory) (c : core.Memory) (shape : Shape) (s : Spot) (byte : ℕ) (f : List ℕ) → AreStructs w.unions w.structs
+    → IsObject w.structs (member_shape w shape f) → LiesNear w shape byte → Leads w m c shape s byte → IsMember w m c shape s byte f
+member_is w m c (StructShape tag) s byte f structs object lies leads = record {
+  lies = record {
+    object = object;
+    cells = object_cells w.unions w.structs (part_shape parts f) structs object;
+    near = let a = member_near (extent_of w) (no_extent tag) parts f refl in
+        let b : byte + (laid_out (extent_of w) (no_extent tag) parts).size ≤ 4096 = subst (λ z. byte + z.size ≤ 4096) made.extent lies.near in
+        omega (arith, a, b);
+  };
+  leads = (
+    member_cells m (cells_of w) refl parts f s (subst (λ z. AreCells m s z) made.cells leads.0),
+    member_made c w.unions w.structs (extent_of w (StructShape tag)).size (no_extent tag) parts f (at s) byte
+        (have_cells w.unions w.structs parts structs made.members)
+        (subst (λ z. z.size ≤ (extent_of w (StructShape tag)).size) made.extent (omega arith))
+        (subst (λ z. AreMade c (at s) byte (padded (extent_of w) (extent_of w (StructShape tag)).size z)) made.placed leads.1),
+  );
+}
+  where
+    parts : List Part
+    parts = parts_of w.structs tag
+
+    made : IsMade w.unions w.structs tag
+    made = struct_made w.unions w.structs tag structs
+member_is w m c IntShape s byte f structs object lies leads = absurd object
+member_is w m c UnsignedShape s byte f structs object lies leads = absurd object
+member_is w m c CharShape s byte f structs object lies leads = absurd object
+member_is w m c VoidShape s byte f structs object lies leads = absurd object
+member_is w m c (ThinShape may_be_null owner to) s byte f structs object lies leads = absurd object
+member_is w m c (FatShape to) s byte f structs object lies leads = absurd object
+member_is w m c HandleShape s byte f structs object lies leads = absurd object
+member_is w m c KeyShape s byte f structs object lies leads = absurd object
+member_is w m c (UnionShape tag) s byte f structs object lies leads = absurd object
+member_is w m c (ArrayShape count of) s byte f structs object lies leads = absurd object

@@ -51,8 +51,8 @@ use Rattle.core_meaning.specs.Meaning as meaning
 use Rattle.source_lowering.specs.Lowered.{width_of, put}
 use Rattle.source_lowering.specs.Layouts.{first_part, layout_of}
 use Rattle.source_lowering.specs.Programs.{first_code, unset_code}
-use Rattle.source_lowering.specs.Words.{HasFirst}
-use Rattle.source_lowering.specs.Taken.{IsObject, AreStructs, HasBeginning}
+use Rattle.source_lowering.specs.Taken.{HasFirst}
+use Rattle.source_lowering.specs.Lowerable.{IsObject, AreStructs, HasBeginning}
 use Rattle.source_lowering.proofs.Relations.{at, PartIs, PartsHold, ArePending, Shown, Agree, Later, Place, Fits, SameAt, Next}
 use Rattle.core_meaning.proofs.Spots.{spot_self}
 use Rattle.source_lowering.proofs.Keeping.{later_on, fits_later}

@@ -45,7 +45,7 @@ use Rattle.source_lowering.specs.Programs.{
   function_code,
   program_code,
 }
-use Rattle.source_lowering.specs.Taken.{TakesDeclaration, TakesStatement, TakesItems, IsLowerable}
+use Rattle.source_lowering.specs.Lowerable.{TakesDeclaration, TakesStatement, TakesItems, IsLowerable}
 use Rattle.source_lowering.specs.Bounds.{block_words, operations_of, FramesFit, declaration_nodes, statement_nodes, item_nodes, statement_locals, item_locals, statement_size, item_size, core_bound, frame_bound, all_operations, core_code, routines_size, code_bound}
 use Rattle.source_lowering.proofs.Names.{AreParameters, IsRoutine, AreRoutines}
 use Rattle.source_lowering.proofs.LocalWords.{all_words, many_words, word_words}

@@ -29,7 +29,7 @@ use Rattle.core_meaning.specs.Operations.{
 use Rattle.core_meaning.proofs.Spots.{region_self}
 use Rattle.source_lowering.specs.Layouts.{part_shape_of, padding, next_at, padded, layout_of, placed_of, extent_of, first_part}
 use Rattle.source_lowering.specs.Lowered.{width_of}
-use Rattle.source_lowering.specs.Taken.{IsObject, AreStructs}
+use Rattle.source_lowering.specs.Lowerable.{IsObject, AreStructs}
 use Rattle.source_lowering.proofs.StructCells.{AreWordShapes, shapes_in, object_cells}
 use Rattle.source_lowering.proofs.Relations.{region_at, at, PartIs, AreShaped, AreMade, PartsHold, Agree, Later}
 use Rattle.source_lowering.proofs.Keeping.{region_as, shown_later}

@@ -34,8 +34,8 @@ use Rattle.core_meaning.specs.Core.{Program}
 use Rattle.core_meaning.specs.Steps as core_steps
 use Rattle.source_lowering.specs.Lowered.{width_of}
 use Rattle.source_lowering.specs.Programs.{word_in, constant_word, constant_content}
-use Rattle.source_lowering.specs.Words.{IsIntegerShape, IsNullable, TakesConstant}
-use Rattle.source_lowering.specs.Taken.{IsObject, TakesGlobal, TakesProgram}
+use Rattle.source_lowering.specs.Taken.{IsIntegerShape, IsNullable, TakesConstant}
+use Rattle.source_lowering.specs.Lowerable.{IsObject, TakesGlobal, TakesProgram}
 use Rattle.source_lowering.proofs.Relations.{at, Leads, Shown, Agree, Later, AreLed, Same}
 use Rattle.core_meaning.proofs.Spots.{spot_same}
 use Rattle.source_lowering.proofs.Keeping.{later_self, all_led_later, m_written}

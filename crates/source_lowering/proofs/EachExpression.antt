@@ -40,7 +40,7 @@ use Rattle.source_lowering.specs.Lowered.{
   any_code,
   arguments_code,
 }
-use Rattle.source_lowering.specs.Taken.{TakesPlace, Takes, TakesAll, TakesLinks}
+use Rattle.source_lowering.specs.Lowerable.{TakesPlace, Takes, TakesAll, TakesLinks}
 use Rattle.source_lowering.proofs.Relations.{Place, AreLocals}
 use Rattle.source_lowering.proofs.Integers.{IsTaken, IsNoStruct, word_taken, target_taken, object_word, object_target}
 use Rattle.source_lowering.proofs.Names.{AreObjectNames, IsPlainWorld}

@@ -32,7 +32,7 @@ use Rattle.source_lowering.specs.Programs.{
   parameter_names,
   parameters_code,
 }
-use Rattle.source_lowering.specs.Taken.{IsObject, HasBeginning, TakesDeclaration, TakesStatement, TakesItems}
+use Rattle.source_lowering.specs.Lowerable.{IsObject, HasBeginning, TakesDeclaration, TakesStatement, TakesItems}
 use Rattle.source_lowering.proofs.Relations.{Later, Place, Fits, SameAt, Next}
 use Rattle.source_lowering.proofs.Keeping.{later_on, later_less, shown_later}
 use Rattle.source_lowering.proofs.Runs.{stuck_same, put_all}

@@ -8,7 +8,7 @@ use Rattle.source_meaning.specs.Operators.{operator_shape}
 use Rattle.source_meaning.specs.Places.{bound_to}
 use Rattle.core_meaning.specs.Core.{Statement, If, Constant, NullPointer, NoStatements}
 use Rattle.source_lowering.specs.Lowered.{Named, local_named, static_shape, all_of, place_code, put_code, offset_code, Left, left_of, suffixed_code, word_code, truth_code, call_parameters, count_of, expression_code, links_code, all_code, any_code, arguments_code}
-use Rattle.source_lowering.specs.Taken.{TakesPlace, Takes, TakesAll, TakesLinks}
+use Rattle.source_lowering.specs.Lowerable.{TakesPlace, Takes, TakesAll, TakesLinks}
 use Rattle.source_lowering.specs.Bounds.{nodes_of, all_nodes, joined_nodes, tested_nodes, link_nodes, suffix_nodes}
 use Rattle.source_lowering.proofs.Costs.{Costs, no_costs, one_costs, both_cost}
 use Rattle.source_lowering.proofs.SuffixCosts.{primary_costs, offset_costs}

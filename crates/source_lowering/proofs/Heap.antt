@@ -32,8 +32,8 @@ use Rattle.core_meaning.specs.Meaning.{datum_parts, first_memory}
 use Rattle.source_lowering.specs.Layouts.{layout_of, first_part}
 use Rattle.source_lowering.specs.Lowered.{width_of}
 use Rattle.source_lowering.specs.Programs.{constant_content, initial_content, datum_of, first_content, global_datum, data_of}
-use Rattle.source_lowering.specs.Words.{IsIntegerShape, IsNullable, TakesConstant}
-use Rattle.source_lowering.specs.Taken.{IsObject, IsNoStruct, AreStructs, TakesGlobal, TakesProgram}
+use Rattle.source_lowering.specs.Taken.{IsIntegerShape, IsNullable, TakesConstant}
+use Rattle.source_lowering.specs.Lowerable.{IsObject, IsNoStruct, AreStructs, TakesGlobal, TakesProgram}
 use Rattle.source_lowering.proofs.Relations.{region_at, at, PartIs, AreMade, Leads, Shown, IsShown, Agree, AreLed}
 use Rattle.source_lowering.proofs.Integers.{IsWordShape, object_word}
 use Rattle.source_lowering.proofs.Cells.{plain_of}

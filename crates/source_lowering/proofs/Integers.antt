@@ -27,8 +27,8 @@ use Rattle.core_meaning.specs.Memory.{Content, Word, Null, Pointer}
 use Rattle.core_meaning.specs.Core.{Program}
 use Rattle.core_meaning.specs.Steps as core_steps
 use Rattle.source_lowering.specs.Lowered.{type_of}
-use Rattle.source_lowering.specs.Words.{IsIntegerShape}
-pub use Rattle.source_lowering.specs.Taken.{IsTarget, IsWordShape, IsObject, IsNoStruct}
+use Rattle.source_lowering.specs.Taken.{IsIntegerShape}
+pub use Rattle.source_lowering.specs.Lowerable.{IsTarget, IsWordShape, IsObject, IsNoStruct}
 use Rattle.source_lowering.proofs.Relations.{at, LiesNear, Leads, Shown, ANull, APointer, AValue, ANothing, Given, Same}
 use Rattle.source_lowering.proofs.Runs.{stuck_same}
 

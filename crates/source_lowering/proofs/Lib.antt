@@ -38,5 +38,6 @@ pub mod SuffixCosts
 pub mod ExpressionCosts
 pub mod LocalWords
 pub mod Bounded
+pub mod OfWords
 mod Samples
 mod SameShapes

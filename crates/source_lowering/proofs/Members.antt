@@ -32,7 +32,7 @@ use Rattle.core_meaning.specs.Memory as core
 use Rattle.core_meaning.specs.Memory.{Content}
 use Rattle.source_lowering.specs.Layouts.{Piece, pieces_of, part_shape_of, padding, next_at, padded, extent_of, bytes_before}
 use Rattle.source_lowering.specs.Lowered.{width_of, member_shape}
-use Rattle.source_lowering.specs.Taken.{IsWordShape, IsObject, AreObjects, AreStructs}
+use Rattle.source_lowering.specs.Lowerable.{IsWordShape, IsObject, AreObjects, AreStructs}
 use Rattle.source_lowering.proofs.Structs.{cells_in, placed_in, extent_in, rounded_above, object_small, IsMade, struct_made}
 use Rattle.source_lowering.proofs.StructCells.{shapes_in, shapes_count, AreWordShapes, HasCells, object_cells}
 use Rattle.source_lowering.proofs.Relations.{at, PartIs, AreShaped, AreMade, AreCells, Leads, LiesNear}

@@ -11,7 +11,7 @@ use Rattle.source_meaning.specs.Programs.{is_main, heap_spot}
 use Rattle.source_meaning.specs.Shapes.{IntShape}
 use Rattle.core_meaning.specs.Memory as core
 use Rattle.source_lowering.specs.Lowered.{Named, local_named, number_of}
-use Rattle.source_lowering.specs.Taken.{AreStructs, TakesBody}
+use Rattle.source_lowering.specs.Lowerable.{AreStructs, TakesBody}
 use Rattle.source_lowering.proofs.Relations.{Leads, IsLed, AreLed, IsLocal, AreLocals}
 use Rattle.source_lowering.proofs.Integers.{IsTaken, IsWordShape, IsObject}
 use Rattle.source_lowering.proofs.Making.{local_spot}

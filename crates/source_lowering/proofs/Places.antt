@@ -37,7 +37,7 @@ use Rattle.core_meaning.specs.Steps.{Config, with_temp, with_memory}
 use Rattle.core_meaning.specs.Meaning as meaning
 use Rattle.core_meaning.specs.Operations.{does, fitting}
 use Rattle.source_lowering.specs.Lowered.{local_named, shape_by, put, width_of, distance, address_by, check_code, load_code, store_code}
-use Rattle.source_lowering.specs.Taken.{AreStructs}
+use Rattle.source_lowering.specs.Lowerable.{AreStructs}
 use Rattle.source_lowering.proofs.Relations.{at, LiesNear, Leads, AreLed, Place, Fits, SameAt, Next, AreKept, LaterAt, Given, GivesAs, AreLocals}
 use Rattle.source_lowering.proofs.Keeping.{later_self, later_on, m_written}
 use Rattle.source_lowering.proofs.Runs.{stuck_same, stops_same, put_all}

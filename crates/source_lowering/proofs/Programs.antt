@@ -23,8 +23,8 @@ use Rattle.core_meaning.specs.Meaning as meaning
 use Rattle.core_meaning.specs.Meaning.{core}
 use Rattle.source_lowering.specs.Lowered.{number_of}
 use Rattle.source_lowering.specs.Programs.{data_of, program_code}
-use Rattle.source_lowering.specs.Words.{IsVoidBase}
-use Rattle.source_lowering.specs.Taken.{
+use Rattle.source_lowering.specs.Taken.{IsVoidBase}
+use Rattle.source_lowering.specs.Lowerable.{
   IsObject,
   TakesResult,
   GivesWord,

@@ -35,7 +35,7 @@ use Rattle.source_lowering.specs.Lowered.{
   member_at,
   suffixed_code,
 }
-use Rattle.source_lowering.specs.Taken.{IsObject, IsNoStruct, AreStructs, TakesMembers, TakesSuffixes}
+use Rattle.source_lowering.specs.Lowerable.{IsObject, IsNoStruct, AreStructs, TakesMembers, TakesSuffixes}
 use Rattle.source_lowering.proofs.Relations.{at, LiesNear, Leads, Place, Fits, SameAt, Next, AreKept, LaterAt, Given, GivesAs}
 use Rattle.source_lowering.proofs.Keeping.{later_on, m_written}
 use Rattle.source_lowering.proofs.Runs.{put_all}

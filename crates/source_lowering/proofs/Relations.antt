@@ -49,7 +49,7 @@ use Rattle.core_meaning.specs.Steps.{Config, Exit}
 use Rattle.core_meaning.specs.Meaning as meaning
 use Rattle.source_lowering.specs.Layouts.{layout_of}
 use Rattle.source_lowering.specs.Lowered.{Named, put}
-use Rattle.source_lowering.specs.Taken.{IsObject}
+use Rattle.source_lowering.specs.Lowerable.{IsObject}
 use Rattle.source_lowering.proofs.StructCells.{HasCells}
 
 -- ---- spots are equal, number for number

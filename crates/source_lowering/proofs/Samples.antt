@@ -11,7 +11,7 @@ use Rattle.source_meaning.proofs.Trees.{named, variable, number, typed, ◌▸�
 use Rattle.core_meaning.specs.Steps.{Visible, Called, Returned}
 use Rattle.core_meaning.specs.Meaning.{core}
 use Rattle.source_lowering.specs.Programs.{program_code}
-use Rattle.source_lowering.specs.Taken.{GivesWord, GivesNothing, IsLowerable}
+use Rattle.source_lowering.specs.Lowerable.{GivesWord, GivesNothing, IsLowerable}
 
 -- char g = 321; void put(char c) { putchar(c); }
 -- int main() { int i; unsigned s = g; while (i < 3 && !(s >= 100)) { int b = getchar(); s = s * 2 + b / 4; put(b); i = i + 1; if (i >= 2) break; } return s; }

@@ -4,7 +4,7 @@ use Rattle.std.specs.Prelude.{bytes_eq, if◌then◌else◌}
 use Rattle.source_meaning.specs.Shapes.{Shape, IntShape, UnsignedShape, CharShape, VoidShape, ThinShape, FatShape, HandleShape, KeyShape, StructShape, UnionShape, ArrayShape, Part, Layout, part_shapes, has_tag}
 use Rattle.source_meaning.specs.Sizes.{rounded_up, all_cells, struct_cells}
 use Rattle.source_meaning.specs.Placing.{Placed, moved, all_placed, struct_placed}
-use Rattle.source_lowering.specs.Taken.{IsWordShape, IsObject, AreObjects, HasMember, IsStruct, AreStructs}
+use Rattle.source_lowering.specs.Lowerable.{IsWordShape, IsObject, AreObjects, HasMember, IsStruct, AreStructs}
 use Rattle.source_lowering.proofs.Structs.{cells_in, placed_in, extent_in, rounded_zero, true_false}
 
 -- ---- cells

@@ -35,7 +35,7 @@ use Rattle.source_meaning.specs.Sizes.{
   struct_extent,
 }
 use Rattle.source_meaning.specs.Placing.{Placed, moved, placed_by, all_placed, struct_placed}
-use Rattle.source_lowering.specs.Taken.{IsObject, AreObjects, HasMember, IsStruct, AreStructs}
+use Rattle.source_lowering.specs.Lowerable.{IsObject, AreObjects, HasMember, IsStruct, AreStructs}
 
 -- ---- what a shape is made of, by the structs that are declared
 

@@ -5,7 +5,7 @@ use Rattle.source_meaning.specs.Shapes.{Shape, pointee}
 use Rattle.source_meaning.specs.Steps.{World}
 use Rattle.core_meaning.specs.Core.{Statement}
 use Rattle.source_lowering.specs.Lowered.{check_code, offset_code, Left, left_of, member_at, suffixed_code}
-use Rattle.source_lowering.specs.Taken.{TakesSuffixes}
+use Rattle.source_lowering.specs.Lowerable.{TakesSuffixes}
 use Rattle.source_lowering.specs.Bounds.{suffix_nodes}
 use Rattle.source_lowering.proofs.Costs.{Costs, no_costs, both_cost}
 use Rattle.source_lowering.proofs.PartCosts.{IsCheap, IsPointed, does_one, at_most, check_costs}

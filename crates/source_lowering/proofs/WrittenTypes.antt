@@ -32,8 +32,8 @@ use Rattle.source_meaning.specs.Shapes.{
   first_owner,
   settled_by,
 }
-use Rattle.source_lowering.specs.Words.{IsThinSign, IsSharedRegion, AreThin}
-use Rattle.source_lowering.specs.Taken.{IsTarget, IsWordShape, IsObject, IsNoStruct, IsObjectBase, IsKnownIn, IsObjectType, IsWordType}
+use Rattle.source_lowering.specs.Taken.{IsThinSign, IsSharedRegion, AreThin}
+use Rattle.source_lowering.specs.Lowerable.{IsTarget, IsWordShape, IsObject, IsNoStruct, IsObjectBase, IsKnownIn, IsObjectType, IsWordType}
 use Rattle.source_lowering.proofs.Integers.{object_word}
 
 -- a pointer whose owner may be left open

@@ -9,7 +9,7 @@ use Rattle.source_meaning.specs.Programs.{source, world_of}
 use Rattle.core_meaning.specs.Steps as core_steps
 use Rattle.core_meaning.specs.Meaning.{core}
 use Rattle.source_lowering.specs.Programs.{program_code}
-use Rattle.source_lowering.specs.Taken.{IsLowerable}
+use Rattle.source_lowering.specs.Lowerable.{IsLowerable}
 use Rattle.source_lowering.specs.Bounds.{FramesFit, core_code, code_bound}
 
 -- an event of Core is the source's; functions by their numbers and their names

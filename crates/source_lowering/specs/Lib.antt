@@ -2,7 +2,7 @@ pub mod Layouts
 pub mod Members
 pub mod Lowered
 pub mod Programs
-pub mod Words
 pub mod Taken
+pub mod Lowerable
 pub mod Bounds
 pub mod Agreeing

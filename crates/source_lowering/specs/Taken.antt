@@ -1,9 +1,14 @@
--- Which programs lowering takes: functions, globals and locals of integers, of structs and of thin pointers to these, by the forms of the tree and by shapes.
-use Rattle.std.specs.Prelude.{◌≡◌, ◌≤◌, ℕ, suc, true, false, Some, None, List, [], ◌∷◌, length}
+-- Programs of words alone: functions, globals and locals of integers and of thin pointers to them, by the forms of the tree alone.
+use Rattle.std.specs.Prelude.{◌≡◌, true, Option, Some, None, List, [], ◌∷◌}
+use Rattle.cyc_tree.specs.declared.name.Sign.{Sign}
+use Rattle.cyc_tree.specs.declared.name.Sign.TheVariants.{Nullable, NotNull, Fat}
 use Rattle.cyc_tree.specs.declared.expression.Prefix.{Prefix}
 use Rattle.cyc_tree.specs.declared.expression.Prefix.TheVariants as prefix
 use Rattle.cyc_tree.specs.Tree as tree
 use Rattle.cyc_tree.specs.Tree.{
+  Name,
+  RegionName,
+  Pointer,
   Base,
   TypeName,
   Expression,
@@ -13,11 +18,6 @@ use Rattle.cyc_tree.specs.Tree.{
   Links,
   NoLinks,
   MoreLinks,
-  Suffixes,
-  NoSuffixes,
-  Index,
-  Dot,
-  Arrow,
   Initializer,
   Declaration,
   Statement,
@@ -31,117 +31,66 @@ use Rattle.cyc_tree.specs.Tree.{
   Item,
   Program,
 }
-use Rattle.source_meaning.specs.Shapes.{Shape, Shared, IntShape, UnsignedShape, CharShape, VoidShape, ThinShape, FatShape, HandleShape, KeyShape, StructShape, UnionShape, ArrayShape, Part, Layout, part_shapes, has_tag, pointee, written, settled}
-use Rattle.source_meaning.specs.Sizes.{struct_extent}
-use Rattle.source_meaning.specs.Steps.{World, Routine}
-use Rattle.source_meaning.specs.Programs.{is_main, routine_of, world_of}
+use Rattle.source_meaning.specs.Shapes.{Shape, IntShape, UnsignedShape, CharShape, VoidShape, ThinShape, written, settled}
+use Rattle.source_meaning.specs.Programs.{is_main}
 use Rattle.source_meaning.specs.Strings.{program_strings}
-use Rattle.source_lowering.specs.Lowered.{Named, static_shape, member_shape, suffixed_shape}
-use Rattle.source_lowering.specs.Programs.{local_shape, named_here, outward, parameter_names}
-use Rattle.source_lowering.specs.Words.{IsVoidType, AreThin, HasFirst, IsIntType, TakesConstant}
-
--- ---- shapes
-
--- what a pointer leads to, beside nothing: an integer, a pointer, a struct
-abbrev pub IsTarget : Shape → Type 0
-IsTarget IntShape = Unit {0}
-IsTarget UnsignedShape = Unit {0}
-IsTarget CharShape = Unit {0}
-IsTarget VoidShape = Unit {0}
-IsTarget (ThinShape may_be_null owner to) = (owner ≡ Shared) × IsTarget to
-IsTarget (FatShape to) = ⊥
-IsTarget HandleShape = ⊥
-IsTarget KeyShape = ⊥
-IsTarget (StructShape tag) = Unit {0}
-IsTarget (UnionShape tag) = ⊥
-IsTarget (ArrayShape count of) = ⊥
-
--- a word: an integer, or a thin pointer that isn't unique
-abbrev pub IsWordShape : Shape → Type 0
-IsWordShape IntShape = Unit {0}
-IsWordShape UnsignedShape = Unit {0}
-IsWordShape CharShape = Unit {0}
-IsWordShape VoidShape = ⊥
-IsWordShape (ThinShape may_be_null owner to) = (owner ≡ Shared) × IsTarget to
-IsWordShape (FatShape to) = ⊥
-IsWordShape HandleShape = ⊥
-IsWordShape KeyShape = ⊥
-IsWordShape (StructShape tag) = ⊥
-IsWordShape (UnionShape tag) = ⊥
-IsWordShape (ArrayShape count of) = ⊥
-
--- a word, or one of these structs
-abbrev pub IsObject : List Layout → Shape → Type 0
-IsObject structs (StructShape tag) = (has_tag structs tag ≡ true)
-IsObject structs s = IsWordShape s
-
-abbrev pub AreObjects : List Layout → List Shape → Type 0
-AreObjects structs [] = Unit {0}
-AreObjects structs (s ∷ ss) = IsObject structs s × AreObjects structs ss
-
--- what is no struct: an operand, and what is stored, passed and returned
-abbrev pub IsNoStruct : Shape → Type 0
-IsNoStruct (StructShape tag) = ⊥
-IsNoStruct s = Unit {0}
-
--- ---- structs
-
-abbrev pub HasMember : List Part → Type 0
-HasMember [] = ⊥
-HasMember (p ∷ ps) = Unit {0}
-
--- a struct after earlier ones: its tag is new, it has a member, each of its members is a word or an earlier struct, and it takes at most 4,096 bytes
-pub record IsStruct (unions earlier : List Layout) (l : Layout) : Type 0 where
-  pub new : has_tag earlier l.tag ≡ false
-  pub some : HasMember l.parts
-  pub members : AreObjects earlier (part_shapes l.parts)
-  pub small : (struct_extent unions (l ∷ earlier) l.tag).size ≤ 4096
-
--- the latest comes first
-abbrev pub AreStructs : List Layout → List Layout → Type 0
-AreStructs unions [] = Unit {0}
-AreStructs unions (l ∷ earlier) = IsStruct unions earlier l × AreStructs unions earlier
 
 -- ---- types
 
-abbrev pub IsObjectBase : Base → Type 0
-IsObjectBase tree.Int = Unit {0}
-IsObjectBase tree.Unsigned = Unit {0}
-IsObjectBase tree.Char = Unit {0}
-IsObjectBase (tree.Struct tag arguments) = Unit {0}
-IsObjectBase _ = ⊥
+abbrev pub IsIntegerBase : Base → Type 0
+IsIntegerBase tree.Int = Unit {0}
+IsIntegerBase tree.Unsigned = Unit {0}
+IsIntegerBase tree.Char = Unit {0}
+IsIntegerBase _ = ⊥
 
--- a struct that is among these, or none
-abbrev pub IsKnownIn : List Layout → Shape → Type 0
-IsKnownIn structs (StructShape tag) = (has_tag structs tag ≡ true)
-IsKnownIn structs s = Unit {0}
+abbrev pub IsVoidBase : Base → Type 0
+IsVoidBase tree.Void = Unit {0}
+IsVoidBase _ = ⊥
 
--- an integer, a struct, or a thin pointer to these, or to such a pointer
-pub record IsObjectType (structs : List Layout) (t : TypeName) : Type 0 where
-  pub pointers : AreThin t.pointers
-  pub base : IsObjectBase t.base
-  pub known : IsKnownIn structs (settled (written t))
+-- void
+pub record IsVoidType (t : TypeName) : Type 0 where
+  pub pointers : t.pointers ≡ []
+  pub base : IsVoidBase t.base
 
--- an integer, or such a pointer
+abbrev pub IsThinSign : Sign → Type 0
+IsThinSign Nullable = Unit {0}
+IsThinSign NotNull = Unit {0}
+IsThinSign Fat = ⊥
+
+-- not the unique region
+abbrev pub IsSharedRegion : Option RegionName → Type 0
+IsSharedRegion None = Unit {0}
+IsSharedRegion (Some (tree.Heap at)) = Unit {0}
+IsSharedRegion (Some (tree.Unique at)) = ⊥
+IsSharedRegion (Some (tree.Named name)) = Unit {0}
+
+-- each pointer is thin, and none is unique
+abbrev pub AreThin : List Pointer → Type 0
+AreThin [] = Unit {0}
+AreThin (p ∷ ps) = (IsThinSign p.sign × IsSharedRegion p.region) × AreThin ps
+
+-- an integer, or a thin pointer to one, or to such a pointer
 pub record IsWordType (t : TypeName) : Type 0 where
   pub pointers : AreThin t.pointers
-  pub base : IsObjectBase t.base
-  pub word : IsNoStruct (settled (written t))
+  pub base : IsIntegerBase t.base
 
--- what has a beginning: a struct, an integer, and a pointer that may be NULL
-abbrev pub HasBeginning : Shape → Type 0
-HasBeginning (StructShape tag) = Unit {0}
-HasBeginning s = HasFirst s
+-- what has a beginning: an integer, and a pointer that may be NULL
+abbrev pub HasFirst : Shape → Type 0
+HasFirst IntShape = Unit {0}
+HasFirst UnsignedShape = Unit {0}
+HasFirst CharShape = Unit {0}
+HasFirst (ThinShape true owner to) = Unit {0}
+HasFirst _ = ⊥
 
 -- ---- expressions
 
--- an operator on a value of a shape; `*` and `&` are taken by their operands
-abbrev pub TakesPrefix : Prefix → Shape → Type 0 → Type 0 → Type 0
-TakesPrefix prefix.Negate s value place = value
-TakesPrefix prefix.Complement s value place = value
-TakesPrefix prefix.Not s value place = value
-TakesPrefix prefix.Dereference s value place = value × IsNoStruct (pointee s)
-TakesPrefix prefix.AddressOf s value place = place
+-- an operator on a value; `*` and `&` are taken by their operands
+abbrev pub TakesPrefix : Prefix → Type 0 → Type 0 → Type 0
+TakesPrefix prefix.Negate value place = value
+TakesPrefix prefix.Complement value place = value
+TakesPrefix prefix.Not value place = value
+TakesPrefix prefix.Dereference value place = value
+TakesPrefix prefix.AddressOf value place = place
 
 -- only `*e` names a place
 abbrev pub TakesPointer : Prefix → Type 0 → Type 0
@@ -151,93 +100,67 @@ TakesPointer prefix.Not value = ⊥
 TakesPointer prefix.Dereference value = value
 TakesPointer prefix.AddressOf value = ⊥
 
--- further suffixes on a member of a shape: it is a place, and a value where it is no struct
-abbrev pub TakesMembers : World → Suffixes → Shape → Type 0
-TakesMembers w NoSuffixes s = Unit {0}
-TakesMembers w (Index index others) s = ⊥
-TakesMembers w (Dot f others) s = IsObject w.structs (member_shape w s f.text) × TakesMembers w others (member_shape w s f.text)
-TakesMembers w (Arrow f others) s =
-    IsNoStruct s × (IsObject w.structs (member_shape w (pointee s) f.text) × TakesMembers w others (member_shape w (pointee s) f.text))
-
--- suffixes on what has a shape: `e.f` needs e's place and `e->f` its value, and f has to be a member
-abbrev pub TakesSuffixes : World → Suffixes → Shape → Type 0 → Type 0 → Type 0
-TakesSuffixes w NoSuffixes s value place = ⊥
-TakesSuffixes w (Index index others) s value place = ⊥
-TakesSuffixes w (Dot f others) s value place = place × TakesMembers w (Dot f others) s
-TakesSuffixes w (Arrow f others) s value place =
-    value × (IsObject w.structs (member_shape w (pointee s) f.text) × TakesMembers w others (member_shape w (pointee s) f.text))
-
 abbrev mutual
-  -- what is assigned to, has its address taken or is a struct: a name, `*e` or a member, in parentheses too
-  pub TakesPlace : World → List Named → Expression → Type 0
-  TakesPlace w names (Expression.Variable name) = Unit {0}
-  TakesPlace w names (Expression.Grouped at inner) = TakesPlace w names inner
-  TakesPlace w names (Expression.Suffixed primary suffixes) =
-      TakesSuffixes w suffixes (static_shape w names primary) (Takes w names primary) (TakesPlace w names primary)
-  TakesPlace w names (Expression.Prefixed at operator operand) = TakesPointer operator (Takes w names operand)
-  TakesPlace w names _ = ⊥
+  -- what is assigned to, or has its address taken: a name or `*e`, in parentheses too
+  pub TakesPlace : Expression → Type 0
+  TakesPlace (Expression.Variable name) = Unit {0}
+  TakesPlace (Expression.Grouped at inner) = TakesPlace inner
+  TakesPlace (Expression.Prefixed at operator operand) = TakesPointer operator (Takes operand)
+  TakesPlace _ = ⊥
 
-  -- a value that is no struct; a name that is called is no struct's
-  pub Takes : World → List Named → Expression → Type 0
-  Takes w names (Expression.Number at value suffix) = Unit {0}
-  Takes w names (Expression.Character at byte) = Unit {0}
-  Takes w names (Expression.Null at) = Unit {0}
-  Takes w names (Expression.Variable name) = IsNoStruct (static_shape w names (Expression.Variable name))
-  Takes w names (Expression.Call name arguments) = (has_tag w.structs name.text ≡ false) × TakesAll w names arguments
-  Takes w names (Expression.Grouped at inner) = Takes w names inner
-  Takes w names (Expression.Suffixed primary suffixes) =
-      TakesSuffixes w suffixes (static_shape w names primary) (Takes w names primary) (TakesPlace w names primary) ×
-      IsNoStruct (suffixed_shape w suffixes (static_shape w names primary))
-  Takes w names (Expression.Prefixed at operator operand) =
-      TakesPrefix operator (static_shape w names operand) (Takes w names operand) (TakesPlace w names operand)
-  Takes w names (Expression.Chain first others) = Takes w names first × TakesLinks w names others
-  Takes w names (Expression.AllOf first others) = Takes w names first × TakesAll w names others
-  Takes w names (Expression.AnyOf first others) = Takes w names first × TakesAll w names others
-  Takes w names (Expression.Assign place value) = TakesPlace w names place × (Takes w names value × IsNoStruct (static_shape w names place))
-  Takes w names _ = ⊥
+  pub Takes : Expression → Type 0
+  Takes (Expression.Number at value suffix) = Unit {0}
+  Takes (Expression.Character at byte) = Unit {0}
+  Takes (Expression.Null at) = Unit {0}
+  Takes (Expression.Variable name) = Unit {0}
+  Takes (Expression.Call name arguments) = TakesAll arguments
+  Takes (Expression.Grouped at inner) = Takes inner
+  Takes (Expression.Prefixed at operator operand) = TakesPrefix operator (Takes operand) (TakesPlace operand)
+  Takes (Expression.Chain first others) = Takes first × TakesLinks others
+  Takes (Expression.AllOf first others) = Takes first × TakesAll others
+  Takes (Expression.AnyOf first others) = Takes first × TakesAll others
+  Takes (Expression.Assign place value) = TakesPlace place × Takes value
+  Takes _ = ⊥
 
-  pub TakesAll : World → List Named → Expressions → Type 0
-  TakesAll w names NoExpressions = Unit {0}
-  TakesAll w names (MoreExpressions first others) = Takes w names first × TakesAll w names others
+  pub TakesAll : Expressions → Type 0
+  TakesAll NoExpressions = Unit {0}
+  TakesAll (MoreExpressions first others) = Takes first × TakesAll others
 
-  pub TakesLinks : World → List Named → Links → Type 0
-  TakesLinks w names NoLinks = Unit {0}
-  TakesLinks w names (MoreLinks operator operand others) = Takes w names operand × TakesLinks w names others
+  pub TakesLinks : Links → Type 0
+  TakesLinks NoLinks = Unit {0}
+  TakesLinks (MoreLinks operator operand others) = Takes operand × TakesLinks others
 
 -- ---- statements
 
 -- of a local of a shape
-abbrev pub TakesInitializer : World → List Named → Shape → Initializer → Type 0
-TakesInitializer w names shape Initializer.Unset = HasBeginning shape
-TakesInitializer w names shape (Initializer.Elements count) = ⊥
-TakesInitializer w names shape (Initializer.Value e) = Takes w names e × IsNoStruct shape
+abbrev pub TakesInitializer : Shape → Initializer → Type 0
+TakesInitializer shape Initializer.Unset = HasFirst shape
+TakesInitializer shape (Initializer.Elements count) = ⊥
+TakesInitializer shape (Initializer.Value e) = Takes e
 
-abbrev pub TakesDeclaration : World → List Named → Declaration → Type 0
-TakesDeclaration w names (tree.Local of name initializer) = IsObjectType w.structs of × TakesInitializer w names (settled (written of)) initializer
-TakesDeclaration w names _ = ⊥
+abbrev pub TakesDeclaration : Declaration → Type 0
+TakesDeclaration (tree.Local of name initializer) = IsWordType of × TakesInitializer (settled (written of)) initializer
+TakesDeclaration _ = ⊥
 
 -- a `return` without a value stands in a function that gives none
 abbrev mutual
-  pub TakesStatement : World → Shape → List Named → Statement → Type 0
-  TakesStatement w result names (Statement.Empty at) = Unit {0}
-  TakesStatement w result names (Statement.Block at items) = TakesItems w result (outward names) 0 items
-  TakesStatement w result names (Statement.Run e) = Takes w names e
-  TakesStatement w result names (Statement.If at condition body) = Takes w names condition × TakesStatement w result names body
-  TakesStatement w result names (Statement.IfElse at condition body otherwise) =
-      Takes w names condition × (TakesStatement w result names body × TakesStatement w result names otherwise)
-  TakesStatement w result names (Statement.While at condition body) = Takes w names condition × TakesStatement w result names body
-  TakesStatement w result names (Statement.Break at) = Unit {0}
-  TakesStatement w result names (Statement.Continue at) = Unit {0}
-  TakesStatement w result names (Statement.Return at None) = (result ≡ VoidShape)
-  TakesStatement w result names (Statement.Return at (Some e)) = Takes w names e
-  TakesStatement w result names _ = ⊥
+  pub TakesStatement : Shape → Statement → Type 0
+  TakesStatement result (Statement.Empty at) = Unit {0}
+  TakesStatement result (Statement.Block at items) = TakesItems result items
+  TakesStatement result (Statement.Run e) = Takes e
+  TakesStatement result (Statement.If at condition body) = Takes condition × TakesStatement result body
+  TakesStatement result (Statement.IfElse at condition body otherwise) = Takes condition × (TakesStatement result body × TakesStatement result otherwise)
+  TakesStatement result (Statement.While at condition body) = Takes condition × TakesStatement result body
+  TakesStatement result (Statement.Break at) = Unit {0}
+  TakesStatement result (Statement.Continue at) = Unit {0}
+  TakesStatement result (Statement.Return at None) = (result ≡ VoidShape)
+  TakesStatement result (Statement.Return at (Some e)) = Takes e
+  TakesStatement result _ = ⊥
 
-  -- the next local of the block has this number
-  pub TakesItems : World → Shape → List Named → ℕ → BlockItems → Type 0
-  TakesItems w result names index NoItems = Unit {0}
-  TakesItems w result names index (Declare d others) =
-      TakesDeclaration w names d × TakesItems w result (named_here (tree.local_of d).text (local_shape d) index ∷ names) (suc index) others
-  TakesItems w result names index (Execute s others) = TakesStatement w result names s × TakesItems w result names index others
+  pub TakesItems : Shape → BlockItems → Type 0
+  TakesItems result NoItems = Unit {0}
+  TakesItems result (Declare d others) = TakesDeclaration d × TakesItems result others
+  TakesItems result (Execute s others) = TakesStatement result s × TakesItems result others
 
 -- ---- items
 
@@ -250,34 +173,51 @@ pub data TakesResult (t : TypeName) : Type 0 where
   GivesWord : IsWordType t → TakesResult t
   GivesNothing : IsVoidType t → TakesResult t
 
-abbrev pub TakesBody : World → Routine → Type 0
-TakesBody w f = TakesItems w f.result (parameter_names f.parameters 0 []) (length f.parameters) f.body
+pub record IsIntType (t : TypeName) : Type 0 where
+  pub pointers : t.pointers ≡ []
+  pub base : t.base ≡ tree.Int
 
 -- `main` gives an int
-pub record TakesFunction (w : World) (f : Function) : Type 0 where
+pub record TakesFunction (f : Function) : Type 0 where
   pub result : TakesResult f.result
   pub main : is_main f.name.text ≡ true → IsIntType f.result
   pub parameters : AreWords f.parameters
-  pub body : TakesBody w (routine_of f)
+  pub body : TakesItems (settled (written f.result)) f.body
+
+abbrev pub IsIntegerShape : Shape → Type 0
+IsIntegerShape IntShape = Unit {0}
+IsIntegerShape UnsignedShape = Unit {0}
+IsIntegerShape CharShape = Unit {0}
+IsIntegerShape _ = ⊥
+
+abbrev pub IsNullable : Shape → Type 0
+IsNullable (ThinShape true owner to) = Unit {0}
+IsNullable _ = ⊥
 
 -- a number for an integer, and NULL for a pointer that may be NULL
-abbrev pub TakesGlobal : Shape → Initial → Type 0
-TakesGlobal shape Initial.Unset = HasBeginning shape
-TakesGlobal shape (Initial.Elements count) = ⊥
-TakesGlobal shape (Initial.Given c) = TakesConstant shape c
+abbrev pub TakesConstant : Shape → tree.Constant → Type 0
+TakesConstant shape (tree.Number at value suffix) = IsIntegerShape shape
+TakesConstant shape (tree.Negative at value suffix) = IsIntegerShape shape
+TakesConstant shape (tree.Character at byte) = IsIntegerShape shape
+TakesConstant shape (tree.Text at bytes) = ⊥
+TakesConstant shape (tree.Null at) = IsNullable shape
 
-abbrev pub TakesItem : World → Item → Type 0
-TakesItem w (tree.StructItem s) = Unit {0}
-TakesItem w (tree.UnionItem u) = ⊥
-TakesItem w (tree.GlobalItem g) = IsObjectType w.structs g.of × TakesGlobal (settled (written g.of)) g.initial
-TakesItem w (tree.FunctionItem f) = TakesFunction w f
+abbrev pub TakesInitial : Shape → Initial → Type 0
+TakesInitial shape Initial.Unset = HasFirst shape
+TakesInitial shape (Initial.Elements count) = ⊥
+TakesInitial shape (Initial.Given c) = TakesConstant shape c
 
-abbrev pub TakesProgram : World → List Item → Type 0
-TakesProgram w [] = Unit {0}
-TakesProgram w (i ∷ items) = TakesItem w i × TakesProgram w items
+abbrev pub TakesItem : Item → Type 0
+TakesItem (tree.StructItem s) = ⊥
+TakesItem (tree.UnionItem u) = ⊥
+TakesItem (tree.GlobalItem g) = IsWordType g.of × TakesInitial (settled (written g.of)) g.initial
+TakesItem (tree.FunctionItem f) = TakesFunction f
 
--- the forms that are taken, structs one after the other, and no string
-pub record IsLowerable (p : Program) : Type 0 where
-  pub items : TakesProgram (world_of p) p
-  pub structs : AreStructs (world_of p).unions (world_of p).structs
+abbrev pub TakesProgram : List Item → Type 0
+TakesProgram [] = Unit {0}
+TakesProgram (i ∷ items) = TakesItem i × TakesProgram items
+
+-- these forms, and no string
+pub record IsOfWords (p : Program) : Type 0 where
+  pub items : TakesProgram p
   pub strings : program_strings p ≡ []

@@ -1,9 +1,9 @@
 //! From a program's tree to Core, as definitions, and the proof that Core does what the source does.
 //!
 //! specs/Lowered has the code of expressions, specs/Programs that of statements, functions and
-//! programs, specs/Taken says which programs are taken: those of functions, globals and locals of
+//! programs, specs/Lowerable says which programs are taken: those of functions, globals and locals of
 //! integers, of structs and of thin pointers to these, where no struct is assigned, passed or
-//! returned whole (specs/Words: without structs), and specs/Agreeing what is proved of these: `programs_are_the_same`, and the bounds of
+//! returned whole (specs/Taken: without structs), and specs/Agreeing what is proved of these: `programs_are_the_same`, and the bounds of
 //! specs/Bounds on frames and code. There is no code but these laws. Stands on `source_meaning` and `core_meaning`.
 #![tactic(auto)]
 

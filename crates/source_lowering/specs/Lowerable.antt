@@ -1,0 +1,283 @@
+-- Which programs lowering takes: functions, globals and locals of integers, of structs and of thin pointers to these, by the forms of the tree and by shapes.
+use Rattle.std.specs.Prelude.{◌≡◌, ◌≤◌, ℕ, suc, true, false, Some, None, List, [], ◌∷◌, length}
+use Rattle.cyc_tree.specs.declared.expression.Prefix.{Prefix}
+use Rattle.cyc_tree.specs.declared.expression.Prefix.TheVariants as prefix
+use Rattle.cyc_tree.specs.Tree as tree
+use Rattle.cyc_tree.specs.Tree.{
+  Base,
+  TypeName,
+  Expression,
+  Expressions,
+  NoExpressions,
+  MoreExpressions,
+  Links,
+  NoLinks,
+  MoreLinks,
+  Suffixes,
+  NoSuffixes,
+  Index,
+  Dot,
+  Arrow,
+  Initializer,
+  Declaration,
+  Statement,
+  BlockItems,
+  NoItems,
+  Declare,
+  Execute,
+  Member,
+  Initial,
+  Function,
+  Item,
+  Program,
+}
+use Rattle.source_meaning.specs.Shapes.{Shape, Shared, IntShape, UnsignedShape, CharShape, VoidShape, ThinShape, FatShape, HandleShape, KeyShape, StructShape, UnionShape, ArrayShape, Part, Layout, part_shapes, has_tag, pointee, written, settled}
+use Rattle.source_meaning.specs.Sizes.{struct_extent}
+use Rattle.source_meaning.specs.Steps.{World, Routine}
+use Rattle.source_meaning.specs.Programs.{is_main, routine_of, world_of}
+use Rattle.source_meaning.specs.Strings.{program_strings}
+use Rattle.source_lowering.specs.Lowered.{Named, static_shape, member_shape, suffixed_shape}
+use Rattle.source_lowering.specs.Programs.{local_shape, named_here, outward, parameter_names}
+use Rattle.source_lowering.specs.Taken.{IsVoidType, AreThin, HasFirst, IsIntType, TakesConstant}
+
+-- ---- shapes
+
+-- what a pointer leads to, beside nothing: an integer, a pointer, a struct
+abbrev pub IsTarget : Shape → Type 0
+IsTarget IntShape = Unit {0}
+IsTarget UnsignedShape = Unit {0}
+IsTarget CharShape = Unit {0}
+IsTarget VoidShape = Unit {0}
+IsTarget (ThinShape may_be_null owner to) = (owner ≡ Shared) × IsTarget to
+IsTarget (FatShape to) = ⊥
+IsTarget HandleShape = ⊥
+IsTarget KeyShape = ⊥
+IsTarget (StructShape tag) = Unit {0}
+IsTarget (UnionShape tag) = ⊥
+IsTarget (ArrayShape count of) = ⊥
+
+-- a word: an integer, or a thin pointer that isn't unique
+abbrev pub IsWordShape : Shape → Type 0
+IsWordShape IntShape = Unit {0}
+IsWordShape UnsignedShape = Unit {0}
+IsWordShape CharShape = Unit {0}
+IsWordShape VoidShape = ⊥
+IsWordShape (ThinShape may_be_null owner to) = (owner ≡ Shared) × IsTarget to
+IsWordShape (FatShape to) = ⊥
+IsWordShape HandleShape = ⊥
+IsWordShape KeyShape = ⊥
+IsWordShape (StructShape tag) = ⊥
+IsWordShape (UnionShape tag) = ⊥
+IsWordShape (ArrayShape count of) = ⊥
+
+-- a word, or one of these structs
+abbrev pub IsObject : List Layout → Shape → Type 0
+IsObject structs (StructShape tag) = (has_tag structs tag ≡ true)
+IsObject structs s = IsWordShape s
+
+abbrev pub AreObjects : List Layout → List Shape → Type 0
+AreObjects structs [] = Unit {0}
+AreObjects structs (s ∷ ss) = IsObject structs s × AreObjects structs ss
+
+-- what is no struct: an operand, and what is stored, passed and returned
+abbrev pub IsNoStruct : Shape → Type 0
+IsNoStruct (StructShape tag) = ⊥
+IsNoStruct s = Unit {0}
+
+-- ---- structs
+
+abbrev pub HasMember : List Part → Type 0
+HasMember [] = ⊥
+HasMember (p ∷ ps) = Unit {0}
+
+-- a struct after earlier ones: its tag is new, it has a member, each of its members is a word or an earlier struct, and it takes at most 4,096 bytes
+pub record IsStruct (unions earlier : List Layout) (l : Layout) : Type 0 where
+  pub new : has_tag earlier l.tag ≡ false
+  pub some : HasMember l.parts
+  pub members : AreObjects earlier (part_shapes l.parts)
+  pub small : (struct_extent unions (l ∷ earlier) l.tag).size ≤ 4096
+
+-- the latest comes first
+abbrev pub AreStructs : List Layout → List Layout → Type 0
+AreStructs unions [] = Unit {0}
+AreStructs unions (l ∷ earlier) = IsStruct unions earlier l × AreStructs unions earlier
+
+-- ---- types
+
+abbrev pub IsObjectBase : Base → Type 0
+IsObjectBase tree.Int = Unit {0}
+IsObjectBase tree.Unsigned = Unit {0}
+IsObjectBase tree.Char = Unit {0}
+IsObjectBase (tree.Struct tag arguments) = Unit {0}
+IsObjectBase _ = ⊥
+
+-- a struct that is among these, or none
+abbrev pub IsKnownIn : List Layout → Shape → Type 0
+IsKnownIn structs (StructShape tag) = (has_tag structs tag ≡ true)
+IsKnownIn structs s = Unit {0}
+
+-- an integer, a struct, or a thin pointer to these, or to such a pointer
+pub record IsObjectType (structs : List Layout) (t : TypeName) : Type 0 where
+  pub pointers : AreThin t.pointers
+  pub base : IsObjectBase t.base
+  pub known : IsKnownIn structs (settled (written t))
+
+-- an integer, or such a pointer
+pub record IsWordType (t : TypeName) : Type 0 where
+  pub pointers : AreThin t.pointers
+  pub base : IsObjectBase t.base
+  pub word : IsNoStruct (settled (written t))
+
+-- what has a beginning: a struct, an integer, and a pointer that may be NULL
+abbrev pub HasBeginning : Shape → Type 0
+HasBeginning (StructShape tag) = Unit {0}
+HasBeginning s = HasFirst s
+
+-- ---- expressions
+
+-- an operator on a value of a shape; `*` and `&` are taken by their operands
+abbrev pub TakesPrefix : Prefix → Shape → Type 0 → Type 0 → Type 0
+TakesPrefix prefix.Negate s value place = value
+TakesPrefix prefix.Complement s value place = value
+TakesPrefix prefix.Not s value place = value
+TakesPrefix prefix.Dereference s value place = value × IsNoStruct (pointee s)
+TakesPrefix prefix.AddressOf s value place = place
+
+-- only `*e` names a place
+abbrev pub TakesPointer : Prefix → Type 0 → Type 0
+TakesPointer prefix.Negate value = ⊥
+TakesPointer prefix.Complement value = ⊥
+TakesPointer prefix.Not value = ⊥
+TakesPointer prefix.Dereference value = value
+TakesPointer prefix.AddressOf value = ⊥
+
+-- further suffixes on a member of a shape: it is a place, and a value where it is no struct
+abbrev pub TakesMembers : World → Suffixes → Shape → Type 0
+TakesMembers w NoSuffixes s = Unit {0}
+TakesMembers w (Index index others) s = ⊥
+TakesMembers w (Dot f others) s = IsObject w.structs (member_shape w s f.text) × TakesMembers w others (member_shape w s f.text)
+TakesMembers w (Arrow f others) s =
+    IsNoStruct s × (IsObject w.structs (member_shape w (pointee s) f.text) × TakesMembers w others (member_shape w (pointee s) f.text))
+
+-- suffixes on what has a shape: `e.f` needs e's place and `e->f` its value, and f has to be a member
+abbrev pub TakesSuffixes : World → Suffixes → Shape → Type 0 → Type 0 → Type 0
+TakesSuffixes w NoSuffixes s value place = ⊥
+TakesSuffixes w (Index index others) s value place = ⊥
+TakesSuffixes w (Dot f others) s value place = place × TakesMembers w (Dot f others) s
+TakesSuffixes w (Arrow f others) s value place =
+    value × (IsObject w.structs (member_shape w (pointee s) f.text) × TakesMembers w others (member_shape w (pointee s) f.text))
+
+abbrev mutual
+  -- what is assigned to, has its address taken or is a struct: a name, `*e` or a member, in parentheses too
+  pub TakesPlace : World → List Named → Expression → Type 0
+  TakesPlace w names (Expression.Variable name) = Unit {0}
+  TakesPlace w names (Expression.Grouped at inner) = TakesPlace w names inner
+  TakesPlace w names (Expression.Suffixed primary suffixes) =
+      TakesSuffixes w suffixes (static_shape w names primary) (Takes w names primary) (TakesPlace w names primary)
+  TakesPlace w names (Expression.Prefixed at operator operand) = TakesPointer operator (Takes w names operand)
+  TakesPlace w names _ = ⊥
+
+  -- a value that is no struct; a name that is called is no struct's
+  pub Takes : World → List Named → Expression → Type 0
+  Takes w names (Expression.Number at value suffix) = Unit {0}
+  Takes w names (Expression.Character at byte) = Unit {0}
+  Takes w names (Expression.Null at) = Unit {0}
+  Takes w names (Expression.Variable name) = IsNoStruct (static_shape w names (Expression.Variable name))
+  Takes w names (Expression.Call name arguments) = (has_tag w.structs name.text ≡ false) × TakesAll w names arguments
+  Takes w names (Expression.Grouped at inner) = Takes w names inner
+  Takes w names (Expression.Suffixed primary suffixes) =
+      TakesSuffixes w suffixes (static_shape w names primary) (Takes w names primary) (TakesPlace w names primary) ×
+      IsNoStruct (suffixed_shape w suffixes (static_shape w names primary))
+  Takes w names (Expression.Prefixed at operator operand) =
+      TakesPrefix operator (static_shape w names operand) (Takes w names operand) (TakesPlace w names operand)
+  Takes w names (Expression.Chain first others) = Takes w names first × TakesLinks w names others
+  Takes w names (Expression.AllOf first others) = Takes w names first × TakesAll w names others
+  Takes w names (Expression.AnyOf first others) = Takes w names first × TakesAll w names others
+  Takes w names (Expression.Assign place value) = TakesPlace w names place × (Takes w names value × IsNoStruct (static_shape w names place))
+  Takes w names _ = ⊥
+
+  pub TakesAll : World → List Named → Expressions → Type 0
+  TakesAll w names NoExpressions = Unit {0}
+  TakesAll w names (MoreExpressions first others) = Takes w names first × TakesAll w names others
+
+  pub TakesLinks : World → List Named → Links → Type 0
+  TakesLinks w names NoLinks = Unit {0}
+  TakesLinks w names (MoreLinks operator operand others) = Takes w names operand × TakesLinks w names others
+
+-- ---- statements
+
+-- of a local of a shape
+abbrev pub TakesInitializer : World → List Named → Shape → Initializer → Type 0
+TakesInitializer w names shape Initializer.Unset = HasBeginning shape
+TakesInitializer w names shape (Initializer.Elements count) = ⊥
+TakesInitializer w names shape (Initializer.Value e) = Takes w names e × IsNoStruct shape
+
+abbrev pub TakesDeclaration : World → List Named → Declaration → Type 0
+TakesDeclaration w names (tree.Local of name initializer) = IsObjectType w.structs of × TakesInitializer w names (settled (written of)) initializer
+TakesDeclaration w names _ = ⊥
+
+-- a `return` without a value stands in a function that gives none
+abbrev mutual
+  pub TakesStatement : World → Shape → List Named → Statement → Type 0
+  TakesStatement w result names (Statement.Empty at) = Unit {0}
+  TakesStatement w result names (Statement.Block at items) = TakesItems w result (outward names) 0 items
+  TakesStatement w result names (Statement.Run e) = Takes w names e
+  TakesStatement w result names (Statement.If at condition body) = Takes w names condition × TakesStatement w result names body
+  TakesStatement w result names (Statement.IfElse at condition body otherwise) =
+      Takes w names condition × (TakesStatement w result names body × TakesStatement w result names otherwise)
+  TakesStatement w result names (Statement.While at condition body) = Takes w names condition × TakesStatement w result names body
+  TakesStatement w result names (Statement.Break at) = Unit {0}
+  TakesStatement w result names (Statement.Continue at) = Unit {0}
+  TakesStatement w result names (Statement.Return at None) = (result ≡ VoidShape)
+  TakesStatement w result names (Statement.Return at (Some e)) = Takes w names e
+  TakesStatement w result names _ = ⊥
+
+  -- the next local of the block has this number
+  pub TakesItems : World → Shape → List Named → ℕ → BlockItems → Type 0
+  TakesItems w result names index NoItems = Unit {0}
+  TakesItems w result names index (Declare d others) =
+      TakesDeclaration w names d × TakesItems w result (named_here (tree.local_of d).text (local_shape d) index ∷ names) (suc index) others
+  TakesItems w result names index (Execute s others) = TakesStatement w result names s × TakesItems w result names index others
+
+-- ---- items
+
+abbrev pub AreWords : List Member → Type 0
+AreWords [] = Unit {0}
+AreWords (m ∷ ms) = IsWordType m.of × AreWords ms
+
+-- an integer or a pointer, or nothing
+pub data TakesResult (t : TypeName) : Type 0 where
+  GivesWord : IsWordType t → TakesResult t
+  GivesNothing : IsVoidType t → TakesResult t
+
+abbrev pub TakesBody : World → Routine → Type 0
+TakesBody w f = TakesItems w f.result (parameter_names f.parameters 0 []) (length f.parameters) f.body
+
+-- `main` gives an int
+pub record TakesFunction (w : World) (f : Function) : Type 0 where
+  pub result : TakesResult f.result
+  pub main : is_main f.name.text ≡ true → IsIntType f.result
+  pub parameters : AreWords f.parameters
+  pub body : TakesBody w (routine_of f)
+
+-- a number for an integer, and NULL for a pointer that may be NULL
+abbrev pub TakesGlobal : Shape → Initial → Type 0
+TakesGlobal shape Initial.Unset = HasBeginning shape
+TakesGlobal shape (Initial.Elements count) = ⊥
+TakesGlobal shape (Initial.Given c) = TakesConstant shape c
+
+abbrev pub TakesItem : World → Item → Type 0
+TakesItem w (tree.StructItem s) = Unit {0}
+TakesItem w (tree.UnionItem u) = ⊥
+TakesItem w (tree.GlobalItem g) = IsObjectType w.structs g.of × TakesGlobal (settled (written g.of)) g.initial
+TakesItem w (tree.FunctionItem f) = TakesFunction w f
+
+abbrev pub TakesProgram : World → List Item → Type 0
+TakesProgram w [] = Unit {0}
+TakesProgram w (i ∷ items) = TakesItem w i × TakesProgram w items
+
+-- the forms that are taken, structs one after the other, and no string
+pub record IsLowerable (p : Program) : Type 0 where
+  pub items : TakesProgram (world_of p) p
+  pub structs : AreStructs (world_of p).unions (world_of p).structs
+  pub strings : program_strings p ≡ []

@@ -106,6 +106,7 @@ use Rattle.core_frames.specs.Selected.{
   write_code,
   binary_code,
   address_code,
+  bytes_code,
   operation_code,
   labels_in,
   labels_of,
@@ -119,7 +120,7 @@ use Rattle.core_frames.specs.Selected.{
   program_code,
 }
 use Rattle.core_frames.proofs.Access.{length_of_both}
-use Rattle.source_lowering.specs.Bounds.{statement_operations, operations_of, all_operations, core_code}
+use Rattle.source_lowering.specs.Bounds.{operation_count, statement_operations, operations_of, all_operations, core_code}
 
 -- lines take no more than so many bytes
 record IsWithin (n : ℕ) (lines : List Line) : Type 0 where
@@ -214,7 +215,17 @@ from_within u register t = load_within register (slot_of u.passed t)
 two_within : (u : Surroundings) (r t q v : ℕ) → IsWithin 24 (from_temp u r t ++ from_temp u q v)
 two_within u r t q v = both_within 12 12 (from_temp u r t) (from_temp u q v) (from_within u r t) (from_within u q v)
 
-operation_within : (u : Surroundings) (o : Operation) → IsWithin 64 (operation_code u o)
+-- a request for a block takes the most
+block_within : (u : Surroundings) (t h n bytes : ℕ)
+    → IsWithin 128 (from_temp u 10 h ++ from_temp u 5 n ++ bytes_code bytes ++ environment_code 5 ++ to_temp u 10 t)
+block_within u t h n bytes =
+    less_within (24 + 28 + 8 + 12) 128 _ (omega arith)
+    (both_within (24 + 28 + 8) 12 (from_temp u 10 h ++ from_temp u 5 n ++ bytes_code bytes ++ environment_code 5) (to_temp u 10 t)
+    (both_within (24 + 28) 8 (from_temp u 10 h ++ from_temp u 5 n ++ bytes_code bytes) (environment_code 5)
+    (both_within 24 28 (from_temp u 10 h ++ from_temp u 5 n) (bytes_code bytes) (two_within u 10 h 5 n) (record { is = omega arith })) (environment_within 5))
+    (save_within 10 (slot_of u.passed t)))
+
+operation_within : (u : Surroundings) (o : Operation) → IsWithin (64 * operation_count o) (operation_code u o)
 operation_within u (Constant t w) = to_within 8 u 5 t (constant_code (w % 2 ^ 32)) (omega arith) (constant_within (w % 2 ^ 32))
 operation_within u (NullPointer t) = less_within 12 64 _ (omega arith) (save_within 0 (slot_of u.passed t))
 operation_within u (Move t x) = to_within 12 u 5 t (from_temp u 5 x) (omega arith) (from_within u 5 x)
@@ -254,9 +265,10 @@ operation_within u (Getchar t) = to_within 8 u 10 t (environment_code 2) (omega 
 operation_within u (Putchar t x) =
     to_within 20 u 10 t (from_temp u 10 x ++ environment_code 1) (omega arith)
     (both_within 12 8 (from_temp u 10 x) (environment_code 1) (from_within u 10 x) (environment_within 1))
-operation_within u (RegionNew t) = nothing_within 64
-operation_within u (RegionAlloc t h n layout) = nothing_within 64
-operation_within u (RegionFree h) = nothing_within 64
+operation_within u (RegionNew t) = to_within 8 u 10 t (environment_code 4) (omega arith) (environment_within 4)
+operation_within u (RegionAlloc t h n layout) = block_within u t h n layout.bytes
+operation_within u (RegionFree h) =
+    less_within (12 + 8) 64 _ (omega arith) (both_within 12 8 (from_temp u 10 h) (environment_code 6) (from_within u 10 h) (environment_within 6))
 operation_within u (UniqueAlloc t layout) = nothing_within 64
 operation_within u (UniqueFree p) = nothing_within 64
 operation_within u (KeyNew t) = nothing_within 64

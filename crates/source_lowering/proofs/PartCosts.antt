@@ -52,6 +52,7 @@ use Rattle.source_lowering.specs.Lowered.{
   call_code,
 }
 use Rattle.source_lowering.specs.Programs.{last_of, operation_temporaries}
+use Rattle.source_lowering.specs.Bounds.{operation_count}
 use Rattle.source_lowering.proofs.Costs.{Costs, max_both, no_costs, one_costs, both_cost, more_costs}
 
 -- an expression takes less than six operations a node, and no local: four are left
@@ -61,8 +62,8 @@ pub record IsCheap (t p n : ℕ) (code : List Statement) : Type 0 where
   pub less : operations + 4 ≤ 6 * n
 
 -- one operation
-pub does_one : (t p : ℕ) (o : core.Operation) → operation_temporaries o ≤ t → Costs t p 0 1 (Do o ∷ [])
-does_one t p o h = one_costs t p 0 1 (Do o) h (omega arith) (omega arith) (omega arith)
+pub does_one : (t p : ℕ) (o : core.Operation) → operation_temporaries o ≤ t → Costs t p 0 (operation_count o) (Do o ∷ [])
+does_one t p o h = one_costs t p 0 (operation_count o) (Do o) h (omega arith) (omega arith) (omega arith)
 
 -- ---- parts of expressions
 
@@ -155,6 +156,24 @@ applied_small operator.Multiply s u d t h = omega (arith, h)
 applied_small operator.Divide s u d t h = omega (arith, h)
 applied_small operator.Remainder s u d t h = omega (arith, h)
 
+applied_one : (o : Operator) (s u : IntegerType) (d : ℕ) → operation_count (applied_to o s u d d (d + 1)) ≤ 1
+applied_one operator.BitOr s u d = omega arith
+applied_one operator.BitXor s u d = omega arith
+applied_one operator.BitAnd s u d = omega arith
+applied_one operator.Equal s u d = omega arith
+applied_one operator.NotEqual s u d = omega arith
+applied_one operator.Less s u d = omega arith
+applied_one operator.LessEqual s u d = omega arith
+applied_one operator.Greater s u d = omega arith
+applied_one operator.GreaterEqual s u d = omega arith
+applied_one operator.ShiftLeft s u d = omega arith
+applied_one operator.ShiftRight s u d = omega arith
+applied_one operator.Add s u d = omega arith
+applied_one operator.Subtract s u d = omega arith
+applied_one operator.Multiply s u d = omega arith
+applied_one operator.Divide s u d = omega arith
+applied_one operator.Remainder s u d = omega arith
+
 turned_costs : (t p d : ℕ) → d + 2 ≤ t → Costs t p 0 2 (turned_code d)
 turned_costs t p d h = both_cost t p 0 1 0 1 (Do (Constant (d + 1) 0) ∷ []) (Do (Apply core.Equal d d (d + 1)) ∷ []) (does_one t p _ (omega (arith, h)))
     (does_one t p _ (omega (arith, h)))
@@ -180,8 +199,10 @@ pointers_costs t p d operator.Divide h = at_most t p 0 3 [] (omega arith) (no_co
 pointers_costs t p d operator.Remainder h = at_most t p 0 3 [] (omega arith) (no_costs t p)
 
 word_costs : (t p d : ℕ) (o : Operator) (s u : Shape) → d + 2 ≤ t → Costs t p 0 3 (Do (applied_to o (type_of s) (type_of u) d d (d + 1)) ∷ [])
-word_costs t p d o s u h = at_most t p 1 3 _ (omega arith) (does_one t p (applied_to o (type_of s) (type_of u) d d (d + 1)) (applied_small o (type_of s)
-    (type_of u) d t h))
+word_costs t p d o s u h =
+    let one = applied_one o (type_of s) (type_of u) d in
+    at_most t p (operation_count (applied_to o (type_of s) (type_of u) d d (d + 1))) 3 _ (omega (arith, one))
+    (does_one t p (applied_to o (type_of s) (type_of u) d d (d + 1)) (applied_small o (type_of s) (type_of u) d t h))
 
 pub operator_costs : (t p d : ℕ) (o : Operator) (s u : Shape) → d + 2 ≤ t → Costs t p 0 3 (operator_code o s u d)
 operator_costs t p d o (ThinShape may_be_null owner to) u h = pointers_costs t p d o h

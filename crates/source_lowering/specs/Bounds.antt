@@ -64,10 +64,15 @@ core_bound f = 64 + 4 * (f.passed + (f.temporaries + (local_words f.own + block_
 
 -- ---- Core: operations
 
+-- an operation counts as one, and the request for a block, whose code is the longest, as two
+abbrev pub operation_count : core.Operation → ℕ
+operation_count (core.RegionAlloc t h n layout) = 2
+operation_count operation = 1
+
 -- each statement counts as one, with those inside it, and one more for each word that a call or a return passes
 abbrev mutual
   pub statement_operations : core.Statement → ℕ
-  statement_operations (Do operation) = 1
+  statement_operations (Do operation) = operation_count operation
   statement_operations (If t these those) = 1 + (operations_of these + operations_of those)
   statement_operations (While test t body) = 1 + (operations_of test + operations_of body)
   statement_operations (Block locals body) = 1 + operations_of body

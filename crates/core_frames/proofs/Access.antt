@@ -70,7 +70,7 @@ module _ (w : World) (order : IsInOrder w) (mem : Memory) (place : ℕ) (m : Map
     stacked = stands.stacked;
     fits = stands.fits;
     known = stands.known;
-    agrees = stands.agrees;
+    holds_blocks = stands.holds_blocks;
     data_based = stands.data_based;
   }
 
@@ -150,7 +150,7 @@ module _ (w : World) (order : IsInOrder w) (mem : Memory) (place : ℕ) (m : Map
               stands.fits (record { within = within; there = refl; wide = refl; value = refl }) (slot_change w.areas m a fs mem k v)
               (subst (λ q. Writes s.bytes (set_word at x s.bytes) q 4 x) (sym here) writes) shows;
           known = stands.known;
-          agrees = stands.agrees;
+          holds_blocks = stands.holds_blocks;
           data_based = stands.data_based;
         };
         kept = p.kept;

@@ -1,6 +1,6 @@
 -- The code that puts a region's handle and the bytes of a block into the registers of a call.
-use Rattle.std.specs.Prelude.{nat_eq, nat_lt, bit_or}
-use Rattle.std.proofs.Common.{◌≡◌, ℕ, suc, ◌+◌, ◌*◌, ◌/◌, ◌%◌, ◌^◌, ◌<◌, false, List, [], ◌∷◌, ◌++◌, refl, sym, ap, subst, ◌∙◌, arith}
+use Rattle.std.specs.Prelude.{nat_lt, bit_or}
+use Rattle.std.proofs.Common.{◌≡◌, ℕ, ◌+◌, ◌*◌, ◌/◌, ◌%◌, ◌^◌, ◌<◌, List, [], ◌∷◌, ◌++◌, refl, sym, ap, subst, ◌∙◌, arith}
 use Rattle.cyc_words.specs.Words.{difference_of, product_of, upper_unsigned}
 use Rattle.rv32_isa.specs.declared.instruction.Instr.TheVariants as instr
 use Rattle.rv32_machine.specs.Step.{truth}
@@ -10,37 +10,15 @@ use Rattle.core_frames.specs.declared.line.Line.TheVariants.{Plain}
 use Rattle.core_frames.specs.Frames.{word_code}
 use Rattle.core_frames.specs.Lies.{Maps, Shows}
 use Rattle.core_frames.specs.Lines.{code_length}
-use Rattle.core_frames.specs.Machines.{Machine}
 use Rattle.core_frames.specs.Selected.{bytes_code}
-use Rattle.core_frames.proofs.Relations.{Moves, World, IsInOrder, Has, Waiting, At}
+use Rattle.core_frames.proofs.Relations.{World, IsInOrder, Has, Waiting, At}
 use Rattle.core_frames.proofs.Moving.{Comes, comes_then, comes_as}
-use Rattle.core_frames.proofs.Steps.{state_at}
-use Rattle.core_frames.proofs.Slots.{Kept, puts_word}
-use Rattle.core_frames.proofs.Access.{written_out}
 use Rattle.core_frames.proofs.Passing.{has_first, has_second}
-use Rattle.core_frames.proofs.Registers.{AtWith, InRegister, in_turn, elsewhere, loads_temp, puts}
+use Rattle.core_frames.proofs.Registers.{AtWith, InRegister, in_turn, knows, loads_temp, puts, puts_into}
 use Rattle.core_frames.proofs.Operations.{loading, loads_into}
 use Rattle.core_frames.proofs.Products.{saturated_below, times_saturated, masked}
 
 module _ (w : World) (order : IsInOrder w) (x : Waiting) (outer : List Waiting) (mem : Memory) where
-  -- a word into a register, where something stays
-  pub puts_into : (r v place : ℕ) (P Q : Maps → (ℕ → ℕ) → Type 0) → v < 2 ^ 32 → nat_eq 2 (suc r) ≡ false → Has w place (word_code (suc r) v)
-      → ((m : Maps) (new old : ℕ → ℕ) → new (suc r) ≡ v → Kept (suc r) new old → P m old → Q m new)
-      → Comes w (AtWith w x outer mem place P) (AtWith w x outer mem (place + 8) Q)
-  puts_into r v place P Q small other has gets = record {
-    count = 2;
-    by = λ s a.
-        let p = puts_word w order place s.registers s.bytes s.store a.stands.kept r v small has in
-        let aligned = a.stands.aligned in
-        record {
-          next = state_at (place + 8) p.new s.bytes s.store;
-          moves = subst (λ (t : Machine). Moves w.areas 2 t (state_at (place + 8) p.new s.bytes s.store))
-              (sym (written_out w order mem place a.maps (a.frame ∷ a.others) a.sp s a.stands)) p.moves;
-          there = elsewhere w order x outer mem place (place + 8) P Q s a p.new (omega (arith, aligned)) (p.kept 2 refl other)
-              (gets a.maps p.new s.registers p.holds p.kept a.holds);
-        };
-  }
-
   module _ (d count bytes : ℕ) where
     abbrev Handle : Maps → (ℕ → ℕ) → Type 0
     Handle m registers = InRegister 10 (Birth d) m registers
@@ -78,7 +56,7 @@ module _ (w : World) (order : IsInOrder w) (x : Waiting) (outer : List Waiting) 
         let p = place + 8 in
         let end : p + 4 + 4 + 4 + 4 + 4 ≡ place + code_length (bytes_code bytes) = omega arith in
         let first : Comes w (AtWith w x outer mem place Counted) (AtWith w x outer mem p Factors) =
-        puts_into 5 v place Counted Factors (saturated_below bytes) refl words (λ m new old is kept h. (
+        puts_into w order x outer mem 5 v place Counted Factors (saturated_below bytes) refl words (λ m new old is kept h. (
           is,
           kept 5 refl refl ∙ h.0,
           (subst (λ y. Shows m (Birth d) y) (sym (kept 10 refl refl)) h.1.0, subst (λ y. y < 2 ^ 32) (sym (kept 10 refl refl)) h.1.1),
@@ -131,7 +109,7 @@ module _ (w : World) (order : IsInOrder w) (x : Waiting) (outer : List Waiting) 
         (loads_temp w order x outer mem 4 n (place + code_length first) Handle named' refl
         (λ m new old kept g. (subst (λ y. Shows m (Birth d) y) (sym (kept 10 refl refl)) g.0, subst (λ y. y < 2 ^ 32) (sym (kept 10 refl refl)) g.1))
         (has_second w place first second has_both))
-        (comes_as w _ _ (λ s a. Rattle.core_frames.proofs.Registers.knows w order x outer mem (place + code_length first + code_length second) _ Counted s
+        (comes_as w _ _ (λ s a. knows w order x outer mem (place + code_length first + code_length second) _ Counted s
         (λ m registers g. (subst (λ c. Shows m c (registers 5)) is' g.0.0, g.1)) a)) in
         in_turn w (At w x outer mem place) (λ p. AtWith w x outer mem p Counted) (λ p. AtWith w x outer mem p Wanted) place (first ++ second)
         (bytes_code bytes)

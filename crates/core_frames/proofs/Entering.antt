@@ -280,7 +280,7 @@ module _ (w : World) (order : IsInOrder w) (f : ℕ) (fn : Function) (is : slice
         fits = call_fits w.areas r.maps (a ∷ r.frames) mem s.bytes s.store r.stands.known
             (push_fits w.areas order.statics_within r.maps r.frames mem s.bytes s.store r.sp r.stands.fits r.stands.stacked a laid (λ k. refl) end);
         known = known_called r.maps mem s.store r.stands.known;
-        agrees = r.stands.agrees;
+        holds_blocks = r.stands.holds_blocks;
         data_based = r.stands.data_based;
       } in
       let ra = code_base + back_of w outer in

@@ -26,7 +26,7 @@ use Rattle.core_frames.proofs.Registers.{AtWith, InRegister, at_of}
 use Rattle.core_frames.proofs.Operations.{loading, loads_into}
 use Rattle.core_frames.proofs.Streams.{numbered, now, here, call_is, lawful_here, next_is}
 use Rattle.core_frames.proofs.Requests.{GoesOn, IsCutThere, goes_asked, grants_on}
-use Rattle.core_frames.proofs.RegionsFreed.{freeing, freed_fits, freed_known, freed_agrees}
+use Rattle.core_frames.proofs.RegionsFreed.{freeing, freed_fits, freed_known, freed_blocks}
 use Rattle.core_frames.proofs.RegionCalls.{behind_call}
 
 -- a number that stands for a lexical region
@@ -72,7 +72,7 @@ module _ (w : World) (order : IsInOrder w) (x : Waiting) (outer : List Waiting) 
           let fs = a.frame ∷ a.others in
           let fits = a.stands.fits in
           let known = a.stands.known in
-          let agrees = a.stands.agrees in
+          let holds_blocks = a.stands.holds_blocks in
           let lexical : i.tag ≡ tag.Lexical =
           lexical_tag i.tag (mem.standing (Born (s.store.ledger.birth_of h))) (known.held h i.tag i.held).stands
           (ap (λ e. mem.standing (Born e)) i.birth ∙ live) in
@@ -93,9 +93,9 @@ module _ (w : World) (order : IsInOrder w) (x : Waiting) (outer : List Waiting) 
           })
           (ap (λ e. events.RegionFree e) i.birth)
           (behind_call w order x outer mem place (λ m registers. (registers 17 ≡ 6) × Handle m registers) Free s a a.maps freed
-          (freeing n a.maps fs mem s.bytes s.store fits known agrees d h i later) s.registers (extends_self a.maps)
-          (freed_fits n a.maps fs mem s.bytes s.store fits known agrees d h i later) (freed_known n a.maps fs mem s.bytes s.store fits known agrees d h i later)
-          (freed_agrees n a.maps fs mem s.bytes s.store fits known agrees d h i later) refl tt)
+          (freeing n a.maps fs mem s.bytes s.store fits known holds_blocks d h i later) s.registers (extends_self a.maps)
+          (freed_fits n a.maps fs mem s.bytes s.store fits known holds_blocks d h i later) (freed_known n a.maps fs mem s.bytes s.store fits known holds_blocks d h i later)
+          (freed_blocks n a.maps fs mem s.bytes s.store fits known holds_blocks d h i later) refl tt)
 
       free_asked : GoesOn w.areas event s input answers After ⊎ IsCutThere w event s input answers
       free_asked =

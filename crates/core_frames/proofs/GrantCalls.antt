@@ -15,7 +15,7 @@ use Rattle.rv32_isa.specs.declared.instruction.Instr.TheVariants.{Ecall}
 use Rattle.rv32_machine.specs.State.{Runs, code_base, set_register}
 use Rattle.rv32_machine.specs.Step.{Nothing, Says as Told, asks, step}
 use Rattle.step_trees.specs.Trees.{Says}
-use Rattle.core_meaning.specs.Memory.{Born, Standing, Pointer, Part, Memory, is_live, first_spot, with_object}
+use Rattle.core_meaning.specs.Memory.{Born, Standing, Pointer, Birth, Part, Memory, is_live, first_spot, with_object}
 use Rattle.core_meaning.specs.Steps.{Step, Visible}
 use Rattle.core_frames.specs.declared.line.Line.TheVariants.{Plain}
 use Rattle.core_frames.specs.Lies.{Maps, TagOf, IsNumber, Known, IsNamed}
@@ -32,7 +32,7 @@ use Rattle.core_frames.proofs.Granting.{
   granted_extends,
   granted_fits,
   granted_known,
-  granted_agrees,
+  granted_blocks,
   granted_low,
   granted_high,
 }
@@ -115,7 +115,7 @@ handle_of m mem st d h k number live = ⊎_elim
 module _ (w : World) (order : IsInOrder w) (x : Waiting) (outer : List Waiting) (mem : Memory) (d bytes : ℕ) (o : ℕ → ℕ → Option Part)
     (fits : bytes ≤ 4096 → ObjectFits o bytes) (live : is_live (mem.standing (Born d)) ≡ true) where
   abbrev Wanted : Maps → (ℕ → ℕ) → Type 0
-  Wanted m registers = InRegister 10 (Rattle.core_meaning.specs.Memory.Birth d) m registers × (registers 11 ≡ bytes)
+  Wanted m registers = InRegister 10 (Birth d) m registers × (registers 11 ≡ bytes)
 
   abbrev grown : Memory
   grown = with_object mem (Born d) o
@@ -159,13 +159,13 @@ module _ (w : World) (order : IsInOrder w) (x : Waiting) (outer : List Waiting) 
           let stacked = a.stands.stacked in
           let f = a.stands.fits in
           let k = a.stands.known in
-          let agrees = a.stands.agrees in
+          let holds_blocks = a.stands.holds_blocks in
           let at = g.at in
           let new = set_register 10 at s.registers in
           let after = with_region_block h at (room_of bytes) held in
           let named = handle.named at in
-          let low = granted_low n few a.maps fs mem b s.store a.sp stacked f k agrees d h o bytes at (fits g.few) g.lawful live handle.birth named in
-          let high = granted_high n few a.maps fs mem b s.store a.sp stacked f k agrees d h o bytes at (fits g.few) g.lawful live handle.birth named in
+          let low = granted_low n few a.maps fs mem b s.store a.sp stacked f k holds_blocks d h o bytes at (fits g.few) g.lawful live handle.birth named in
+          let high = granted_high n few a.maps fs mem b s.store a.sp stacked f k holds_blocks d h o bytes at (fits g.few) g.lawful live handle.birth named in
           let pages = order.pages_within in
           grants_on w (RegionAlloc h bytes) t input answers done called event (code_base + (place + 4)) at new after After g.is
           (λ i. record {
@@ -182,12 +182,13 @@ module _ (w : World) (order : IsInOrder w) (x : Waiting) (outer : List Waiting) 
           (ap (λ e. events.RegionAlloc e bytes) handle.birth)
           (behind_call w order x outer mem place (λ m registers. (registers 17 ≡ 5) × Wanted m registers)
           (InRegister 10 (Pointer (first_spot mem (Born d)) 0)) s a
-          (granted_maps n few a.maps fs mem b s.store a.sp stacked f k agrees d h o bytes at (fits g.few) g.lawful live handle.birth named) grown
-          (granting n few a.maps fs mem b s.store a.sp stacked f k agrees d h o bytes at (fits g.few) g.lawful live handle.birth named) new
-          (granted_extends n few a.maps fs mem b s.store a.sp stacked f k agrees d h o bytes at (fits g.few) g.lawful live handle.birth named)
-          (granted_fits n few a.maps fs mem b s.store a.sp stacked f k agrees d h o bytes at (fits g.few) g.lawful live handle.birth named)
-          (granted_known n few a.maps fs mem b s.store a.sp stacked f k agrees d h o bytes at (fits g.few) g.lawful live handle.birth named order.pages_within)
-          (granted_agrees n few a.maps fs mem b s.store a.sp stacked f k agrees d h o bytes at (fits g.few) g.lawful live handle.birth named) refl (
+          (granted_maps n few a.maps fs mem b s.store a.sp stacked f k holds_blocks d h o bytes at (fits g.few) g.lawful live handle.birth named) grown
+          (granting n few a.maps fs mem b s.store a.sp stacked f k holds_blocks d h o bytes at (fits g.few) g.lawful live handle.birth named) new
+          (granted_extends n few a.maps fs mem b s.store a.sp stacked f k holds_blocks d h o bytes at (fits g.few) g.lawful live handle.birth named)
+          (granted_fits n few a.maps fs mem b s.store a.sp stacked f k holds_blocks d h o bytes at (fits g.few) g.lawful live handle.birth named)
+          (granted_known n few a.maps fs mem b s.store a.sp stacked f k holds_blocks d h o bytes at (fits g.few) g.lawful live handle.birth named
+          order.pages_within)
+          (granted_blocks n few a.maps fs mem b s.store a.sp stacked f k holds_blocks d h o bytes at (fits g.few) g.lawful live handle.birth named) refl (
             record {
               base = at;
               known = ap (λ c. if c then Some at else a.maps.base (Born d) (mem.objects (Born d)))

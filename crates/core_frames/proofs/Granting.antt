@@ -26,8 +26,8 @@ use Rattle.core_frames.specs.Lies.{
   Fits,
   Known,
   IsNamed,
-  IsHeld,
-  Agrees,
+  HoldsBlock,
+  HoldsBlocks,
   Stacked,
 }
 use Rattle.core_frames.proofs.Fitting.{inside}
@@ -72,7 +72,7 @@ is_room s at room e =
 -- ---- a grant
 
 module _ (n : Areas) (few : n.statics ≤ 2 ^ 20) (m : Maps) (fs : List Activation) (mem : Memory) (b : ℕ → ℕ) (st : Store) (sp : ℕ) (stacked : Stacked sp fs)
-    (f : Fits n m fs mem b st) (k : Known m mem st) (agrees : Agrees n st) (d h : ℕ) (o : ℕ → ℕ → Option Part) (bytes x : ℕ) (fits : ObjectFits o bytes)
+    (f : Fits n m fs mem b st) (k : Known m mem st) (holds_blocks : HoldsBlocks n st) (d h : ℕ) (o : ℕ → ℕ → Option Part) (bytes x : ℕ) (fits : ObjectFits o bytes)
     (lawful : is_lawful_room st.holdings x (room_of bytes) ≡ true) (live : is_live (mem.standing (Born d)) ≡ true) (birth : st.ledger.birth_of h ≡ d)
     (named : IsNamed st x (owner.Region h)) where
   abbrev room : ℕ
@@ -100,7 +100,7 @@ module _ (n : Areas) (few : n.statics ≤ 2 ^ 20) (m : Maps) (fs : List Activati
   block_away : (c : Block) → Among c st.ledger.blocks → (at width : ℕ) → 1 ≤ width → c.from ≤ at → at + width ≤ c.from + c.bytes
       → (at + width ≤ x) ⊎ (x + bytes ≤ at)
   block_away c among at width some low high =
-      let held = agrees.blocks c among in
+      let held = holds_blocks.blocks c among in
       let within = held.within in
       let bound = room_bound bytes in
       let some_room = room_some bytes in
@@ -157,7 +157,7 @@ module _ (n : Areas) (few : n.statics ≤ 2 ^ 20) (m : Maps) (fs : List Activati
   ground_new at width lo hi =
       let low = its_room.low in
       let high = its_room.high in
-      let pages = agrees.pages in
+      let pages = holds_blocks.pages in
       let bound = room_bound bytes in
       inr (record {
         block = block;
@@ -179,7 +179,7 @@ module _ (n : Areas) (few : n.statics ≤ 2 ^ 20) (m : Maps) (fs : List Activati
   granted_fits = grow_fits n m fs mem b st granting (Born d) o bytes x f fresh fits even away ground_new ground_on
 
   its_low : n.pages ≤ 4096 → x < 2 ^ 31
-  its_low few_pages = let high = its_room.high in let pages = agrees.pages in omega (arith, high, pages, few_pages)
+  its_low few_pages = let high = its_room.high in let pages = holds_blocks.pages in omega (arith, high, pages, few_pages)
 
   pub granted_known : n.pages ≤ 4096 → Known granted_maps (with_object mem (Born d) o) granting
   granted_known few_pages =
@@ -187,14 +187,14 @@ module _ (n : Areas) (few : n.statics ≤ 2 ^ 20) (m : Maps) (fs : List Activati
 
   -- ---- what the store holds
 
-  held_new : IsHeld granting block
+  held_new : HoldsBlock granting block
   held_new = record {
     within = room_bound bytes;
     owned = λ q low high. ap (λ c. if c then Some (owner.Region h) else st.holdings.owner q) (in_room x room q low high);
     named = named;
   }
 
-  held_old : (c : Block) → IsHeld st c → IsHeld granting c
+  held_old : (c : Block) → HoldsBlock st c → HoldsBlock granting c
   held_old c held = record {
     within = held.within;
     owned = λ q low high.
@@ -207,15 +207,15 @@ module _ (n : Areas) (few : n.statics ≤ 2 ^ 20) (m : Maps) (fs : List Activati
       by (owner.Region r) is = is
       by (owner.Alone at _) is = is
 
-  pub granted_agrees : Agrees n granting
-  granted_agrees = record {
-    pages = agrees.pages;
-    blocks = λ c among. ⊎_elim (λ (same : c ≡ block). subst (IsHeld granting) (sym same) held_new)
-        (λ (i : Among c st.ledger.blocks). held_old c (agrees.blocks c i)) among;
+  pub granted_blocks : HoldsBlocks n granting
+  granted_blocks = record {
+    pages = holds_blocks.pages;
+    blocks = λ c among. ⊎_elim (λ (same : c ≡ block). subst (HoldsBlock granting) (sym same) held_new)
+        (λ (i : Among c st.ledger.blocks). held_old c (holds_blocks.blocks c i)) among;
   }
 
   pub granted_low : arena_base ≤ x
   granted_low = its_room.low
 
   pub granted_high : x ≤ arena_base + n.pages * 4096
-  granted_high = let high = its_room.high in let pages = agrees.pages in omega (arith, high, pages)
+  granted_high = let high = its_room.high in let pages = holds_blocks.pages in omega (arith, high, pages)

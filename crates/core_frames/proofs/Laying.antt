@@ -234,7 +234,7 @@ enters_block w order x outer p ls mem place s laid_out room nest a =
         stacked = l.stacked;
         fits = l.fits;
         known = l.known;
-        agrees = a.stands.agrees;
+        holds_blocks = a.stands.holds_blocks;
         data_based = λ o y e. l.extends.base (Born 0) o (data_base + y) (a.stands.data_based o y e);
       };
       shows = record {

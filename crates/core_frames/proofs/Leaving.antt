@@ -222,7 +222,7 @@ module _ (w : World) (order : IsInOrder w) (x : Waiting) (outer : List Waiting) 
                   stacked = a.stands.stacked;
                   fits = a.stands.fits;
                   known = a.stands.known;
-                  agrees = a.stands.agrees;
+                  holds_blocks = a.stands.holds_blocks;
                   data_based = a.stands.data_based;
                 };
                 shows = a.shows;
@@ -292,7 +292,7 @@ module _ (w : World) (order : IsInOrder w) (x : Waiting) (outer : List Waiting) 
               (pop_fits w.areas r.maps r.frame r.others mem s.bytes s.store r.sp r.stands.fits r.stands.stacked (no_zones r.maps r.frame.at r.frame.zones lie)
               slots);
           known = known_death r.maps mem s.store (Own x.config.own) tt r.stands.known;
-          agrees = r.stands.agrees;
+          holds_blocks = r.stands.holds_blocks;
           data_based = r.stands.data_based;
         };
         stack = r.stack;

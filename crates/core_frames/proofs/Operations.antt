@@ -28,7 +28,7 @@ use Rattle.core_frames.proofs.Steps.{state_at}
 use Rattle.core_frames.proofs.Slots.{Kept, puts_word}
 use Rattle.core_frames.proofs.Access.{written_out}
 use Rattle.core_frames.proofs.Passing.{has_first, has_second, temp_lies}
-use Rattle.core_frames.proofs.Registers.{AtWith, InRegister, in_turn, knows, at_with, elsewhere, loads_temp, saves_temp, puts}
+use Rattle.core_frames.proofs.Registers.{AtWith, InRegister, in_turn, knows, at_with, elsewhere, loads_temp, saves_temp, puts, puts_into}
 use Rattle.core_frames.proofs.Values.{Both, computes}
 
 -- an activation with a temporary set
@@ -100,19 +100,7 @@ module _ (w : World) (order : IsInOrder w) (x : Waiting) (outer : List Waiting) 
   pub word_into : (r v place : ℕ) (P Q : Maps → (ℕ → ℕ) → Type 0) → nat_eq 2 (suc r) ≡ false → v < 2 ^ 32 → Has w place (word_code (suc r) v)
       → ((m : Maps) (new old : ℕ → ℕ) → new (suc r) ≡ v → Kept (suc r) new old → P m old → Q m new)
       → Comes w (With P place) (With Q (place + 8))
-  word_into r v place P Q other small has gets = record {
-    count = 2;
-    by = λ s a.
-        let p = puts_word w order place s.registers s.bytes s.store a.stands.kept r v small has in
-        let aligned = a.stands.aligned in
-        record {
-          next = state_at (place + 8) p.new s.bytes s.store;
-          moves = subst (λ (t : Machine). Moves w.areas 2 t (state_at (place + 8) p.new s.bytes s.store))
-              (sym (written_out w order mem place a.maps (a.frame ∷ a.others) a.sp s a.stands)) p.moves;
-          there = elsewhere w order x outer mem place (place + 8) P Q s a p.new (omega (arith, aligned)) (p.kept 2 refl other)
-              (gets a.maps p.new s.registers p.holds p.kept a.holds);
-        };
-  }
+  word_into r v place P Q other small has gets = puts_into w order x outer mem r v place P Q small other has gets
 
   pub constant_into : (v place : ℕ) → v < 2 ^ 32 → Has w place (constant_code v)
       → Comes w (Here place) (With (λ m registers. registers 5 ≡ v) (place + code_length (constant_code v)))

@@ -173,7 +173,7 @@ module _ (w : World) (order : IsInOrder w) (x : Waiting) (outer : List Waiting) 
           fits = refilled w.areas a.maps fs mem q.bytes q.store a.stands.fits s b base known live l count layout full there b' v filled f cases;
           known = still_known w.areas a.maps fs mem q.bytes q.store a.stands.fits s b base known live l count layout full there b' v filled f cases
               a.stands.known;
-          agrees = a.stands.agrees;
+          holds_blocks = a.stands.holds_blocks;
           data_based = a.stands.data_based;
         };
         shows = a.shows;

@@ -18,7 +18,7 @@ use Rattle.core_meaning.specs.Operations.{born}
 use Rattle.core_meaning.specs.Steps.{Step, Visible}
 use Rattle.core_frames.specs.declared.line.Line.TheVariants.{Plain}
 use Rattle.core_frames.specs.Frames.{environment_code}
-use Rattle.core_frames.specs.Lies.{Maps, Extends, Fits, Known, Agrees}
+use Rattle.core_frames.specs.Lies.{Maps, Extends, Fits, Known, HoldsBlocks}
 use Rattle.core_frames.specs.Lines.{code_length}
 use Rattle.core_frames.specs.Machines.{Machine, Store}
 use Rattle.core_frames.proofs.Relations.{World, IsInOrder, Has, Waiting, back_of, At, Goes}
@@ -31,7 +31,7 @@ use Rattle.core_frames.proofs.Registers.{AtWith, InRegister, at_with, saves_temp
 use Rattle.core_frames.proofs.Operations.{having, saving}
 use Rattle.core_frames.proofs.Streams.{numbered, now, here, call_is, lawful_here, next_is}
 use Rattle.core_frames.proofs.Requests.{GoesOn, IsCutThere, goes_asked, grants_on, full_there, lacks_there}
-use Rattle.core_frames.proofs.RegionsBorn.{numbering, numbered_maps, numbered_extends, numbered_fits, numbered_known, numbered_agrees}
+use Rattle.core_frames.proofs.RegionsBorn.{numbering, numbered_maps, numbered_extends, numbered_fits, numbered_known, numbered_blocks}
 
 -- ---- what a store makes of a request for a number
 
@@ -71,9 +71,9 @@ makes_or_not tag (Grants h) s = by (is_new_number s h) refl
 module _ (w : World) (order : IsInOrder w) (x : Waiting) (outer : List Waiting) (mem : Memory) where
   -- behind a call, with other registers, memory and store, where no address and no number is lost
   pub behind_call : (place : ℕ) (P Q : Maps → (ℕ → ℕ) → Type 0) (s : Machine) (a : AtWith w x outer mem place P s) (m : Maps) (mem' : Memory) (st : Store)
-      (new : ℕ → ℕ) → Extends a.maps m → Fits w.areas m (a.frame ∷ a.others) mem' s.bytes st → Known m mem' st → Agrees w.areas st
+      (new : ℕ → ℕ) → Extends a.maps m → Fits w.areas m (a.frame ∷ a.others) mem' s.bytes st → Known m mem' st → HoldsBlocks w.areas st
       → new 2 ≡ s.registers 2 → Q m new → AtWith w x outer mem' (place + 4) Q (state_at (place + 4) new s.bytes st)
-  behind_call place P Q s a m mem' st new ext fits known agrees two holds = record {
+  behind_call place P Q s a m mem' st new ext fits known holds_blocks two holds = record {
     maps = m;
     frame = a.frame;
     others = a.others;
@@ -88,7 +88,7 @@ module _ (w : World) (order : IsInOrder w) (x : Waiting) (outer : List Waiting) 
       stacked = a.stands.stacked;
       fits = fits;
       known = known;
-      agrees = agrees;
+      holds_blocks = holds_blocks;
       data_based = λ o y e. ext.base _ o _ (a.stands.data_based o y e);
     };
     shows = frame_extends w a.maps m x (back_of w outer) a.frame ext a.shows;
@@ -129,7 +129,7 @@ module _ (w : World) (order : IsInOrder w) (x : Waiting) (outer : List Waiting) 
           let fs = a.frame ∷ a.others in
           let fits = a.stands.fits in
           let known = a.stands.known in
-          let agrees = a.stands.agrees in
+          let holds_blocks = a.stands.holds_blocks in
           grants_on w RegionNew t input answers done (call_is w order x outer mem place has Free 4 s a (answers 0)) event (code_base + (place + 4)) h new
           (with_number h tag.Lexical held) After g.is
           (λ i. record {
@@ -145,12 +145,12 @@ module _ (w : World) (order : IsInOrder w) (x : Waiting) (outer : List Waiting) 
           })
           (ap (λ d. events.RegionNew d) known.births)
           (behind_call place (λ m registers. (registers 17 ≡ 4) × Free m registers) (InRegister 10 (Birth mem.births)) s a
-          (numbered_maps n a.maps fs mem s.bytes s.store fits known agrees Live tag.Lexical refl h g.low g.free) (born Live mem)
-          (numbering n a.maps fs mem s.bytes s.store fits known agrees Live tag.Lexical refl h g.low g.free) new
-          (numbered_extends n a.maps fs mem s.bytes s.store fits known agrees Live tag.Lexical refl h g.low g.free)
-          (numbered_fits n a.maps fs mem s.bytes s.store fits known agrees Live tag.Lexical refl h g.low g.free)
-          (numbered_known n a.maps fs mem s.bytes s.store fits known agrees Live tag.Lexical refl h g.low g.free)
-          (numbered_agrees n a.maps fs mem s.bytes s.store fits known agrees Live tag.Lexical refl h g.low g.free) refl
+          (numbered_maps n a.maps fs mem s.bytes s.store fits known holds_blocks Live tag.Lexical refl h g.low g.free) (born Live mem)
+          (numbering n a.maps fs mem s.bytes s.store fits known holds_blocks Live tag.Lexical refl h g.low g.free) new
+          (numbered_extends n a.maps fs mem s.bytes s.store fits known holds_blocks Live tag.Lexical refl h g.low g.free)
+          (numbered_fits n a.maps fs mem s.bytes s.store fits known holds_blocks Live tag.Lexical refl h g.low g.free)
+          (numbered_known n a.maps fs mem s.bytes s.store fits known holds_blocks Live tag.Lexical refl h g.low g.free)
+          (numbered_blocks n a.maps fs mem s.bytes s.store fits known holds_blocks Live tag.Lexical refl h g.low g.free) refl
           (ap (λ c. if c then Some h else a.maps.number mem.births) (eq-eqb mem.births mem.births refl), g.small))
 
       refuses_it : (done ≡ refuses Full held) ⊎ (done ≡ refuses NoMemory held) → IsCutThere w event t input answers

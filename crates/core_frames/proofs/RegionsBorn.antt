@@ -12,12 +12,12 @@ use Rattle.rv32_machine.specs.State.{Areas}
 use Rattle.core_meaning.specs.Memory.{Region, Frame, Own, Born, Standing, Dead, Memory, same_region}
 use Rattle.core_meaning.specs.Operations.{born}
 use Rattle.core_frames.specs.Machines.{Store}
-use Rattle.core_frames.specs.Lies.{Maps, Extends, Activation, Name, Slot, Cell, PartLies, Lies, birth_in, CellGround, Ground, Fits, TagOf, Held, IsNumber, Known, IsNamed, Agrees}
+use Rattle.core_frames.specs.Lies.{Maps, Extends, Activation, Name, Slot, Cell, PartLies, Lies, birth_in, CellGround, Ground, Fits, TagOf, Held, IsNumber, Known, IsNamed, HoldsBlocks}
 use Rattle.core_frames.proofs.Fitting.{if_split, some_same, none_some, shows_on}
 use Rattle.core_frames.proofs.Knowing.{no_parts}
 
 module _ (n : Areas) (m : Maps) (fs : List Activation) (mem : Memory) (b : ℕ → ℕ) (st : Store) (f : Fits n m fs mem b st) (k : Known m mem st)
-    (agrees : Agrees n st) (now : Standing) (tag : Tag) (stands : TagOf tag now) (h : ℕ) (low : 1 ≤ h) (free : st.holdings.standing h ≡ None) where
+    (holds_blocks : HoldsBlocks n st) (now : Standing) (tag : Tag) (stands : TagOf tag now) (h : ℕ) (low : 1 ≤ h) (free : st.holdings.standing h ≡ None) where
   abbrev d : ℕ
   d = mem.births
 
@@ -102,7 +102,7 @@ module _ (n : Areas) (m : Maps) (fs : List Activation) (mem : Memory) (b : ℕ �
   region_on (Born q) at width (inr g) = inr (record {
     block = g.block;
     among = g.among;
-    owner = (named_on g.block.from g.block.who (agrees.blocks g.block g.among).named).1 ∙ g.owner;
+    owner = (named_on g.block.from g.block.who (holds_blocks.blocks g.block g.among).named).1 ∙ g.owner;
     low = g.low;
     high = g.high;
     bottom = g.bottom;
@@ -121,10 +121,10 @@ module _ (n : Areas) (m : Maps) (fs : List Activation) (mem : Memory) (b : ℕ �
     aligned = λ x at width v l. f.aligned x at width v (back x at width v l);
   }
 
-  pub numbered_agrees : Agrees n numbering
-  numbered_agrees = record {
-    pages = agrees.pages;
-    blocks = λ c among. let old = agrees.blocks c among in record {
+  pub numbered_blocks : HoldsBlocks n numbering
+  numbered_blocks = record {
+    pages = holds_blocks.pages;
+    blocks = λ c among. let old = holds_blocks.blocks c among in record {
       within = old.within;
       owned = old.owned;
       named = (named_on c.from c.who old.named).0;

@@ -28,7 +28,7 @@ use Rattle.core_frames.specs.Lies.{
   IsNumber,
   Known,
   IsNamed,
-  Agrees,
+  HoldsBlocks,
 }
 use Rattle.core_frames.proofs.Fitting.{if_split, some_same, none_some}
 use Rattle.core_frames.proofs.Frames.{other_region, death_back}
@@ -58,7 +58,7 @@ was_among test (j ∷ js) k i = by (test (Some j.who)) refl (λ among. let old =
 -- ---- a number is no one's any more, and its blocks are gone
 
 module _ (n : Areas) (m : Maps) (fs : List Activation) (mem : Memory) (b : ℕ → ℕ) (st : Store) (f : Fits n m fs mem b st) (k : Known m mem st)
-    (agrees : Agrees n st) (d h : ℕ) (number : IsNumber st d h) (later : d ≡ 0 → ⊥) where
+    (holds_blocks : HoldsBlocks n st) (d h : ℕ) (number : IsNumber st d h) (later : d ≡ 0 → ⊥) where
   abbrev pub freeing : Store
   freeing = record {
     holdings = without_number h st.holdings;
@@ -117,12 +117,12 @@ module _ (n : Areas) (m : Maps) (fs : List Activation) (mem : Memory) (b : ℕ �
   named_on from (owner.Region r) other (inr live) = inr (ap is_some (other_number r other) ∙ live)
   named_on from (owner.Alone at room) other is = is
 
-  pub freed_agrees : Agrees n freeing
-  freed_agrees = record {
-    pages = agrees.pages;
+  pub freed_blocks : HoldsBlocks n freeing
+  freed_blocks = record {
+    pages = holds_blocks.pages;
     blocks = λ c among.
         let was = was_among (is_of h) st.ledger.blocks c among in
-        let old = agrees.blocks c was.0 in
+        let old = holds_blocks.blocks c was.0 in
         record {
           within = old.within;
           owned = λ q low high.

@@ -3,7 +3,7 @@ use Rattle.arena_laws.specs.Lawful.{Answer}
 use Rattle.rv32_machine.specs.Run.{Run}
 use Rattle.core_frames.specs.Machines.{state_of}
 use Rattle.std.specs.Prelude.{nat_eq}
-use Rattle.std.proofs.Common.{◌≡◌, ℕ, suc, ◌+◌, ◌/◌, ◌%◌, ◌^◌, ◌<◌, false, List, ◌∷◌, ◌++◌, sym, subst, arith}
+use Rattle.std.proofs.Common.{◌≡◌, ℕ, suc, ◌+◌, ◌/◌, ◌%◌, ◌^◌, ◌<◌, false, List, ◌∷◌, ◌++◌, refl, sym, subst, arith}
 use Rattle.rv32_isa.specs.declared.instruction.Instr.{Instr}
 use Rattle.core_meaning.specs.Memory.{Content, Memory}
 use Rattle.core_meaning.specs.Steps.{with_temp}
@@ -13,12 +13,12 @@ use Rattle.rv32_machine.specs.Step.{effect, gives}
 use Rattle.rv32_machine.specs.Audit.{AccessIsLawful}
 use Rattle.core_frames.specs.declared.line.Line.{Line}
 use Rattle.core_frames.specs.Lines.{HasInstr, code_length}
-use Rattle.core_frames.specs.Frames.{load_code, save_code, slot_of}
+use Rattle.core_frames.specs.Frames.{word_code, load_code, save_code, slot_of}
 use Rattle.core_frames.specs.Lies.{Maps, Shows, Activation}
 use Rattle.core_frames.proofs.Relations.{Moves, World, IsInOrder, Has, Waiting, back_of, FrameShows, StackShows, Stands, At}
 use Rattle.core_frames.proofs.Moving.{Comes, comes_then, bare}
 use Rattle.core_frames.proofs.Steps.{state_at, gives_value}
-use Rattle.core_frames.proofs.Slots.{set_there}
+use Rattle.core_frames.proofs.Slots.{Kept, set_there, puts_word}
 use Rattle.core_frames.proofs.Access.{length_of_both, written_out, loads, saves, stands_behind}
 use Rattle.core_frames.proofs.Passing.{frame_set, temp_lies}
 
@@ -158,5 +158,23 @@ module _ (w : World) (order : IsInOrder w) (x : Waiting) (outer : List Waiting) 
               (λ answer. e s.registers s.bytes s.store answer) (access (bare (state_at place s.registers s.bytes s.store))));
           there = elsewhere place (place + 4) P Q s a new (omega (arith, aligned)) (set_there (suc r) (value s.registers) 2 s.registers other)
               (gets a.maps s.registers a.holds);
+        };
+  }
+
+  -- a word into a register, where something stays
+  pub puts_into : (r v place : ℕ) (P Q : Maps → (ℕ → ℕ) → Type 0) → v < 2 ^ 32 → nat_eq 2 (suc r) ≡ false → Has w place (word_code (suc r) v)
+      → ((m : Maps) (new old : ℕ → ℕ) → new (suc r) ≡ v → Kept (suc r) new old → P m old → Q m new)
+      → Comes w (AtWith w x outer mem place P) (AtWith w x outer mem (place + 8) Q)
+  puts_into r v place P Q small other has gets = record {
+    count = 2;
+    by = λ s a.
+        let p = puts_word w order place s.registers s.bytes s.store a.stands.kept r v small has in
+        let aligned = a.stands.aligned in
+        record {
+          next = state_at (place + 8) p.new s.bytes s.store;
+          moves = subst (λ (t : Machine). Moves w.areas 2 t (state_at (place + 8) p.new s.bytes s.store))
+              (sym (written_out w order mem place a.maps (a.frame ∷ a.others) a.sp s a.stands)) p.moves;
+          there = elsewhere place (place + 8) P Q s a p.new (omega (arith, aligned)) (p.kept 2 refl other)
+              (gets a.maps p.new s.registers p.holds p.kept a.holds);
         };
   }

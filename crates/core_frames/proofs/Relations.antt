@@ -15,7 +15,7 @@ use Rattle.core_meaning.specs.Steps.{Config, Step, Event, Invocation}
 use Rattle.core_frames.specs.declared.line.Line.{Line}
 use Rattle.core_frames.specs.Lines.{HasLines, IsPlace}
 use Rattle.core_frames.specs.Machines.{Machine, run_of, run_from}
-use Rattle.core_frames.specs.Lies.{Maps, Shows, Zone, Activation, Fits, Known, Agrees, Stacked}
+use Rattle.core_frames.specs.Lies.{Maps, Shows, Zone, Activation, Fits, Known, HoldsBlocks, Stacked}
 use Rattle.core_frames.specs.Running.{named, core_run}
 
 -- ---- runs
@@ -171,7 +171,7 @@ pub record Stands (w : World) (mem : Memory) (place : ℕ) (m : Maps) (fs : List
   pub stacked : Stacked sp fs
   pub fits : Fits w.areas m fs mem s.bytes s.store
   pub known : Known m mem s.store
-  pub agrees : Agrees w.areas s.store
+  pub holds_blocks : HoldsBlocks w.areas s.store
   pub data_based : (o y : ℕ) → slice_get w.data_offsets o ≡ Some y → m.base (Born 0) o ≡ Some (data_base + y)
 
 -- in an activation

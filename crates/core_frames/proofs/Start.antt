@@ -50,7 +50,7 @@ use Rattle.core_meaning.specs.Steps.{Step}
 use Rattle.core_frames.specs.declared.line.Line.TheVariants.{Plain, CallTo}
 use Rattle.core_frames.specs.Lines.{offset_to}
 use Rattle.core_frames.specs.Machines.{Machine, Store, state_of}
-use Rattle.core_frames.specs.Lies.{Shows, read, Name, Slot, Cell, same_name, PartLies, Lies, Apart, Among, CellGround, Ground, Fits, Known, Agrees, stack_end}
+use Rattle.core_frames.specs.Lies.{Shows, read, Name, Slot, Cell, same_name, PartLies, Lies, Apart, Among, CellGround, Ground, Fits, Known, HoldsBlocks, stack_end}
 use Rattle.core_frames.specs.Selected.{datum_locals}
 use Rattle.core_frames.specs.Running.{named, core_run, in_data, first_base, first_maps, ShowsData}
 use Rattle.core_frames.proofs.Relations.{Moves, Has, World, IsInOrder, Goes, Calling, Back, invoke}
@@ -279,8 +279,8 @@ module _ (w : World) (order : IsInOrder w) (four : w.stub ≡ 4) (main : ℕ)
       based t j p (Frame k) e = absurd (none_some p e)
       based t j p (Own k) e = absurd (none_some p e)
 
-  first_agrees : (s : Machine) → IsStart w main ds offsets s → Agrees w.areas s.store
-  first_agrees s start = record {
+  first_blocks : (s : Machine) → IsStart w main ds offsets s → HoldsBlocks w.areas s.store
+  first_blocks s start = record {
     pages = start.has_pages;
     blocks = λ b among. absurd (subst (λ (l : Ledger). Among b l.blocks) start.fresh among);
   }
@@ -324,7 +324,7 @@ module _ (w : World) (order : IsInOrder w) (four : w.stub ≡ 4) (main : ℕ)
               stacked = refl;
               fits = first_fits s.bytes s.store start.shows_data;
               known = first_known s start;
-              agrees = first_agrees s start;
+              holds_blocks = first_blocks s start;
               data_based = λ o y e. ap in_data (ap (λ os. slice_get os o) (sym same) ∙ e);
             };
             stack = tt;

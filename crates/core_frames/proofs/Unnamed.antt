@@ -49,7 +49,7 @@ owned_at w order x outer offsets high mem place s nest blocks laid room none liv
         stacked = l.stacked;
         fits = l.fits;
         known = l.known;
-        agrees = a.stands.agrees;
+        holds_blocks = a.stands.holds_blocks;
         data_based = λ o y e. l.extends.base (Born 0) o (data_base + y) (a.stands.data_based o y e);
       };
       shows = record {

@@ -73,7 +73,7 @@ module _ (w : World) (order : IsInOrder w) (x : Waiting) (outer : List Waiting) 
                       (sym r.place)
                       (part_change w.areas a.maps fs mem there j r.base r.known part is (fitting part.width v))) writes shows;
                   known = known_part a.maps mem s.store there j part (fitting part.width v) is a.stands.known;
-                  agrees = a.stands.agrees;
+                  holds_blocks = a.stands.holds_blocks;
                   data_based = a.stands.data_based;
                 };
                 shows = a.shows;

@@ -84,7 +84,7 @@ module _ (w : World) (order : IsInOrder w) (x : Waiting) (outer : List Waiting) 
                   stands.fits (record { within = within; there = refl; wide = refl; value = refl }) (slot_change w.areas r.maps a fs mem k Null)
                   (subst (λ q. Writes s.bytes (set_word at 0 s.bytes) q 4 0) (sym here) writes) refl;
               known = stands.known;
-              agrees = stands.agrees;
+              holds_blocks = stands.holds_blocks;
               data_based = stands.data_based;
             };
             shows = frame_set w r.maps x (back_of w outer) a t Null r.shows;

@@ -134,7 +134,7 @@ leaves w x outer m p ps k ks mem place frame others sp x2 s nest blocks stands s
             stacked = (unzoned sp frame z zs are stands.stacked.0, stands.stacked.1);
             fits = unzoned_fits w.areas m frame others z zs are k region mem s.bytes s.store stands.fits;
             known = known_death m mem s.store (Frame k) tt stands.known;
-            agrees = stands.agrees;
+            holds_blocks = stands.holds_blocks;
             data_based = stands.data_based;
           };
           shows = record {

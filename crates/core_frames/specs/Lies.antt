@@ -242,15 +242,15 @@ IsNamed st from (owner.Region h) = (h ≡ 0) ⊎ (is_some (st.holdings.standing 
 IsNamed st from (owner.Alone at room) = at ≡ from
 
 -- the store holds a live block: its room has the bytes asked for, and each address of the room is its owner's
-pub record IsHeld (st : Store) (b : Block) : Type 0 where
+pub record HoldsBlock (st : Store) (b : Block) : Type 0 where
   pub within : b.bytes ≤ b.room
   pub owned : (q : ℕ) → b.from ≤ q → q < b.from + b.room → st.holdings.owner q ≡ Some b.who
   pub named : IsNamed st b.from b.who
 
 -- the store has the arena's pages, and holds each block that the run counts as live
-pub record Agrees (n : Areas) (st : Store) : Type 0 where
+pub record HoldsBlocks (n : Areas) (st : Store) : Type 0 where
   pub pages : st.holdings.pages ≡ n.pages
-  pub blocks : (b : Block) → Among b st.ledger.blocks → IsHeld st b
+  pub blocks : (b : Block) → Among b st.ledger.blocks → HoldsBlock st b
 
 -- ---- the stack
 

@@ -6,6 +6,7 @@ use Rattle.rv32_isa.specs.declared.instruction.Instr.TheVariants as instr
 use Rattle.rv32_machine.specs.Step.{truth}
 use Rattle.core_meaning.specs.Memory.{Word, Birth, Memory}
 use Rattle.core_meaning.specs.Operations.{saturated}
+use Rattle.core_frames.specs.declared.line.Line.{Line}
 use Rattle.core_frames.specs.declared.line.Line.TheVariants.{Plain}
 use Rattle.core_frames.specs.Frames.{word_code}
 use Rattle.core_frames.specs.Lies.{Maps, Shows}
@@ -33,6 +34,20 @@ module _ (w : World) (order : IsInOrder w) (x : Waiting) (outer : List Waiting) 
     abbrev product : ℕ
     product = count * v
 
+    -- the product's upper half, 1 where that isn't 0, and then all ones
+    abbrev upper : ℕ
+    upper = product / 2 ^ 32
+
+    abbrev over : ℕ
+    over = truth (nat_lt 0 upper)
+
+    abbrev mask : ℕ
+    mask = difference_of 0 over
+
+    abbrev multiplied : List Line
+    multiplied =
+        Plain (instr.Mulhu 11 5 6) ∷ Plain (instr.Mul 5 5 6) ∷ Plain (instr.Sltu 11 0 11) ∷ Plain (instr.Sub 11 0 11) ∷ Plain (instr.Or 11 11 5) ∷ []
+
     abbrev Counted : Maps → (ℕ → ℕ) → Type 0
     Counted m registers = (registers 5 ≡ count) × Handle m registers
 
@@ -40,19 +55,17 @@ module _ (w : World) (order : IsInOrder w) (x : Waiting) (outer : List Waiting) 
     Factors m registers = (registers 6 ≡ v) × (registers 5 ≡ count) × Handle m registers
 
     abbrev Upper : Maps → (ℕ → ℕ) → Type 0
-    Upper m registers = (registers 11 ≡ product / 2 ^ 32) × (registers 6 ≡ v) × (registers 5 ≡ count) × Handle m registers
+    Upper m registers = (registers 11 ≡ upper) × (registers 6 ≡ v) × (registers 5 ≡ count) × Handle m registers
 
     abbrev Both : ℕ → Maps → (ℕ → ℕ) → Type 0
-    Both upper m registers = (registers 11 ≡ upper) × (registers 5 ≡ product % 2 ^ 32) × Handle m registers
+    Both value m registers = (registers 11 ≡ value) × (registers 5 ≡ product % 2 ^ 32) × Handle m registers
 
     -- the count is in x5, the handle in x10
     multiplies : (place : ℕ) → Has w place (bytes_code bytes)
         → Comes w (AtWith w x outer mem place Counted) (AtWith w x outer mem (place + code_length (bytes_code bytes)) Wanted)
     multiplies place has =
-        let words = has_first w place (word_code 6 v) (Plain (instr.Mulhu 11 5 6) ∷ Plain (instr.Mul 5 5 6) ∷ Plain (instr.Sltu 11 0 11)
-        ∷ Plain (instr.Sub 11 0 11) ∷ Plain (instr.Or 11 11 5) ∷ []) has in
-        let others = has_second w place (word_code 6 v) (Plain (instr.Mulhu 11 5 6) ∷ Plain (instr.Mul 5 5 6) ∷ Plain (instr.Sltu 11 0 11)
-        ∷ Plain (instr.Sub 11 0 11) ∷ Plain (instr.Or 11 11 5) ∷ []) has in
+        let words = has_first w place (word_code 6 v) multiplied has in
+        let others = has_second w place (word_code 6 v) multiplied has in
         let p = place + 8 in
         let end : p + 4 + 4 + 4 + 4 + 4 ≡ place + code_length (bytes_code bytes) = omega arith in
         let first : Comes w (AtWith w x outer mem place Counted) (AtWith w x outer mem p Factors) =
@@ -65,27 +78,27 @@ module _ (w : World) (order : IsInOrder w) (x : Waiting) (outer : List Waiting) 
         puts w order x outer mem 10 p Factors Upper (instr.Mulhu 11 5 6) (λ registers. upper_unsigned (registers 5) (registers 6)) refl others.0.0
         (λ r b st n. refl) (λ _. tt)
         (λ m registers h. (ap (λ y. upper_unsigned y (registers 6)) h.1 ∙ ap (λ y. upper_unsigned count y) h.0, h.0, h.1, h.2)) in
-        let third : Comes w (AtWith w x outer mem (p + 4) Upper) (AtWith w x outer mem (p + 4 + 4) (Both (product / 2 ^ 32))) =
-        puts w order x outer mem 4 (p + 4) Upper (Both (product / 2 ^ 32)) (instr.Mul 5 5 6) (λ registers. product_of (registers 5) (registers 6)) refl
+        let third : Comes w (AtWith w x outer mem (p + 4) Upper) (AtWith w x outer mem (p + 4 + 4) (Both upper)) =
+        puts w order x outer mem 4 (p + 4) Upper (Both upper) (instr.Mul 5 5 6) (λ registers. product_of (registers 5) (registers 6)) refl
         others.2.0.0 (λ r b st n. refl) (λ _. tt)
         (λ m registers h. (h.0, ap (λ y. product_of y (registers 6)) h.2 ∙ ap (λ y. product_of count y) h.1, h.3)) in
-        let fourth : Comes w (AtWith w x outer mem (p + 4 + 4) (Both (product / 2 ^ 32)))
-        (AtWith w x outer mem (p + 4 + 4 + 4) (Both (truth (nat_lt 0 (product / 2 ^ 32))))) =
-        puts w order x outer mem 10 (p + 4 + 4) (Both (product / 2 ^ 32)) (Both (truth (nat_lt 0 (product / 2 ^ 32)))) (instr.Sltu 11 0 11)
+        let fourth : Comes w (AtWith w x outer mem (p + 4 + 4) (Both upper))
+        (AtWith w x outer mem (p + 4 + 4 + 4) (Both over)) =
+        puts w order x outer mem 10 (p + 4 + 4) (Both upper) (Both over) (instr.Sltu 11 0 11)
         (λ registers. truth (nat_lt 0 (registers 11))) refl others.2.2.0.0 (λ r b st n. refl) (λ _. tt)
         (λ m registers h. (ap (λ y. truth (nat_lt 0 y)) h.0, h.1, h.2)) in
-        let fifth : Comes w (AtWith w x outer mem (p + 4 + 4 + 4) (Both (truth (nat_lt 0 (product / 2 ^ 32)))))
-        (AtWith w x outer mem (p + 4 + 4 + 4 + 4) (Both (difference_of 0 (truth (nat_lt 0 (product / 2 ^ 32)))))) =
-        puts w order x outer mem 10 (p + 4 + 4 + 4) (Both (truth (nat_lt 0 (product / 2 ^ 32)))) (Both (difference_of 0 (truth (nat_lt 0 (product / 2 ^ 32)))))
+        let fifth : Comes w (AtWith w x outer mem (p + 4 + 4 + 4) (Both over))
+        (AtWith w x outer mem (p + 4 + 4 + 4 + 4) (Both mask)) =
+        puts w order x outer mem 10 (p + 4 + 4 + 4) (Both over) (Both mask)
         (instr.Sub 11 0 11) (λ registers. difference_of 0 (registers 11)) refl others.2.2.2.0.0 (λ r b st n. refl) (λ _. tt)
         (λ m registers h. (ap (λ y. difference_of 0 y) h.0, h.1, h.2)) in
-        let sixth : Comes w (AtWith w x outer mem (p + 4 + 4 + 4 + 4) (Both (difference_of 0 (truth (nat_lt 0 (product / 2 ^ 32))))))
+        let sixth : Comes w (AtWith w x outer mem (p + 4 + 4 + 4 + 4) (Both mask))
         (AtWith w x outer mem (p + 4 + 4 + 4 + 4 + 4) Wanted) =
-        puts w order x outer mem 10 (p + 4 + 4 + 4 + 4) (Both (difference_of 0 (truth (nat_lt 0 (product / 2 ^ 32))))) Wanted (instr.Or 11 11 5)
+        puts w order x outer mem 10 (p + 4 + 4 + 4 + 4) (Both mask) Wanted (instr.Or 11 11 5)
         (λ registers. bit_or (registers 11) (registers 5)) refl others.2.2.2.2.0.0 (λ r b st n. refl) (λ _. tt)
         (λ m registers h. (
           h.2,
-          ap (λ y. bit_or y (registers 5)) h.0 ∙ ap (λ y. bit_or (difference_of 0 (truth (nat_lt 0 (product / 2 ^ 32)))) y) h.1 ∙ masked product
+          ap (λ y. bit_or y (registers 5)) h.0 ∙ ap (λ y. bit_or mask y) h.1 ∙ masked product
               ∙ times_saturated count bytes,
         )) in
         subst (λ q. Comes w (AtWith w x outer mem place Counted) (AtWith w x outer mem q Wanted)) end

@@ -21,14 +21,13 @@ use Rattle.core_frames.specs.declared.line.Line.TheVariants.{Plain}
 use Rattle.core_frames.specs.Lines.{code_length}
 use Rattle.core_frames.specs.Frames.{is_short, lower_of, word_code, load_code, save_code, slot_of}
 use Rattle.core_frames.specs.Selected.{constant_code, binary_code}
-use Rattle.core_frames.proofs.Relations.{Moves, World, IsInOrder, Has, Waiting, At, back_of}
+use Rattle.core_frames.proofs.Relations.{World, IsInOrder, Has, Waiting, At, back_of}
 use Rattle.core_frames.proofs.Moving.{Comes, comes_then, comes_as}
 use Rattle.core_frames.proofs.Words.{short_word}
 use Rattle.core_frames.proofs.Steps.{state_at}
-use Rattle.core_frames.proofs.Slots.{Kept, puts_word}
-use Rattle.core_frames.proofs.Access.{written_out}
+use Rattle.core_frames.proofs.Slots.{Kept}
 use Rattle.core_frames.proofs.Passing.{has_first, has_second, temp_lies}
-use Rattle.core_frames.proofs.Registers.{AtWith, InRegister, in_turn, knows, at_with, elsewhere, loads_temp, saves_temp, puts, puts_into}
+use Rattle.core_frames.proofs.Registers.{AtWith, InRegister, in_turn, knows, at_with, loads_temp, saves_temp, puts, puts_into}
 use Rattle.core_frames.proofs.Values.{Both, computes}
 
 -- an activation with a temporary set

@@ -1,11 +1,10 @@
 -- Declarations, and all statements together.
-use Rattle.std.proofs.Common.{◌≡◌, ℕ, true, false, inl, Some, None, List, [], ◌∷◌, refl, sym, ◌∙◌, ap, subst}
+use Rattle.std.proofs.Common.{◌≡◌, ℕ, true, false, Some, None, List, [], refl, sym, ◌∙◌, ap, subst}
 use Rattle.std.specs.Prelude.{map}
 use Rattle.cyc_tree.specs.Tree as tree
 use Rattle.cyc_tree.specs.Tree.{Expression, Initializer, Declaration, Statement, BlockItems, NoItems, Declare, Execute, TypeName}
 use Rattle.source_meaning.specs.Shapes.{Shape, written, settled, settled_by}
-use Rattle.source_meaning.specs.Memory as memory
-use Rattle.source_meaning.specs.Memory.{Region, Frame, Spot, Integer, AsInt, AsUnsigned, AsChar, Live, Memory, object_of, first_cell, blank_object}
+use Rattle.source_meaning.specs.Memory.{Region, Frame, Spot, Live, Memory, object_of, first_cell, blank_object}
 use Rattle.source_meaning.specs.Steps.{Variable, World, Scope, Flow, Falls, Breaks, Continues, Returns, Act, give, ◌>>=◌, ◌>>◌, take_turn}
 use Rattle.source_meaning.specs.Conversions.{cells_of, converted}
 use Rattle.source_meaning.specs.Values.{write_cells}
@@ -16,10 +15,10 @@ use Rattle.source_meaning.specs.Expressions.{sense}
 use Rattle.source_meaning.specs.Statements.{statement, block_items, falls_to}
 use Rattle.source_typing.specs.Scope.{Env, block_entered}
 use Rattle.source_typing.specs.Tables as typing
-use Rattle.source_typing.specs.Types.{StaticType, Int, Unsigned, Char, Void, Null, Thin, Fat, Unique, Handle, Key, Struct, Union, renamed, shape_of}
+use Rattle.source_typing.specs.Types.{StaticType, Void, renamed, shape_of}
 use Rattle.source_typing.specs.Ways.{Ways, ways, then_ways, ways_of, ways_of_items}
 use Rattle.source_safety.specs.Flat.{Tables}
-use Rattle.source_safety.specs.Entries.{IsWordType, Begins}
+use Rattle.source_safety.specs.Entries.{IsObjectType}
 use Rattle.source_safety.specs.Named.{TypeBelow}
 use Rattle.source_safety.specs.Judged.{Accepted, extended, LocalUnset, LocalSet, StatementJudged, ItemsJudged}
 use Rattle.source_safety.proofs.Invariant.{RunType, Reached, Ghost, Laid, Inv, Grows}
@@ -35,6 +34,9 @@ use Rattle.source_safety.proofs.Entries.{Invokes}
 use Rattle.source_safety.proofs.Forms.{Denotes}
 use Rattle.source_safety.proofs.Surroundings.{Surrounds, bound_scope, surrounds_local, scene_local, surrounds_block}
 use Rattle.source_safety.proofs.Begun.{runs_begun}
+use Rattle.source_safety.proofs.Layouts.{agrees, cells_begin}
+use Rattle.source_safety.proofs.Converting.{converts_some}
+use Rattle.source_typing.specs.Tables.{has_beginning}
 use Rattle.source_safety.proofs.Flows.{ReturnOk, FlowOk, Leaves, Turning, flow_as, flow_then, flow_breaks}
 use Rattle.source_safety.proofs.Statements.{full_laid, denotes, leaves_at_once, after_leaves, leaves_choice, condition_tells, leaves_block, leaves_return}
 
@@ -52,7 +54,7 @@ module _ (n : ℕ) (d : Tables) (world : World) (tables : typing.Tables) (invoke
 
     -- the rest of the block, with the local in scope
     follows : (g : Env) (scope : Scope) (f : NameOf → Region) (x : tree.Name) (t : StaticType) (s : Ways) (rest : Scope → Act Flow) → Surrounds d world tables g scope f gives
-        → IsWordType t → TypeBelow g.regions.count t → Follows g scope f x t s rest → (at : Spot) → at.region ≡ Frame scope.frame → (k : ℕ) (w : Ghost) (m : Memory) (w1 : Ghost) (m1 : Memory)
+        → IsObjectType t → TypeBelow g.regions.count t → Follows g scope f x t s rest → (at : Spot) → at.region ≡ Frame scope.frame → (k : ℕ) (w : Ghost) (m : Memory) (w1 : Ghost) (m1 : Memory)
         → Inv d w1 m1 → Grows k b w m w1 m1 → Scene d g scope f b k w1 m1 → Laid w1 at (cells_type d f t)
         → Runs n (rest (with_binding scope x.text (Variable (shape_of t) at))) m1 (λ flow. After d k b w m (λ w' m'. FlowOk d gives g s flow w'))
     follows g scope f x t s rest h it below go at there k w m w1 m1 i g1 z laid = record {
@@ -67,39 +69,12 @@ module _ (n : ℕ) (d : Tables) (world : World) (tables : typing.Tables) (invoke
 
     -- ---- without an initializer
 
-    begun : (g : Env) (scope : Scope) (f : NameOf → Region) (x : tree.Name) (s : Ways) (rest : Scope → Act Flow) (u : StaticType) → Surrounds d world tables g scope f gives
-        → IsWordType u → TypeBelow g.regions.count u → Begins u → Follows g scope f x u s rest
-        → Leaves n d gives g scope f b s
-        (make_object (Frame scope.frame) (object_of (map first_cell (cells_of scope.world (shape_of u)))) >>= λ at.
-        rest (with_binding scope x.text (Variable (shape_of u) at)))
-    begun g scope f x s rest Int h e l c go = λ k w m i z.
-        runs_begun d n k b w m (Frame scope.frame) Int (Integer AsInt 0) (λ at. rest (with_binding scope x.text (Variable (shape_of {R = NameOf} Int) at))) _ i
-        (frame_live g scope f k w m h z) refl (record { word = 0; is = refl })
-        (λ at w1 m1 i1 g1 there typed st. follows g scope f x Int s rest h e l go at there k w m w1 m1 i1 g1 (scene_later d g scope f b k w m w1 m1 i1 g1 z) (typed, tt))
-    begun g scope f x s rest Unsigned h e l c go = λ k w m i z.
-        runs_begun d n k b w m (Frame scope.frame) Unsigned (Integer AsUnsigned 0) (λ at. rest (with_binding scope x.text (Variable (shape_of {R = NameOf} Unsigned) at))) _ i
-        (frame_live g scope f k w m h z) refl (record { word = 0; is = refl })
-        (λ at w1 m1 i1 g1 there typed st. follows g scope f x Unsigned s rest h e l go at there k w m w1 m1 i1 g1 (scene_later d g scope f b k w m w1 m1 i1 g1 z) (typed, tt))
-    begun g scope f x s rest Char h e l c go = λ k w m i z.
-        runs_begun d n k b w m (Frame scope.frame) Char (Integer AsChar 0) (λ at. rest (with_binding scope x.text (Variable (shape_of {R = NameOf} Char) at))) _ i
-        (frame_live g scope f k w m h z) refl (record { word = 0; is = refl })
-        (λ at w1 m1 i1 g1 there typed st. follows g scope f x Char s rest h e l go at there k w m w1 m1 i1 g1 (scene_later d g scope f b k w m w1 m1 i1 g1 z) (typed, tt))
-    begun g scope f x s rest (Thin true r u) h e l c go = λ k w m i z.
-        subst (λ (y : Shape). Runs n (make_object (Frame scope.frame) (object_of (map first_cell (y ∷ []))) >>= λ at.
-        rest (with_binding scope x.text (Variable (shape_of (Thin true r u)) at))) m (λ flow. After d k b w m (λ w' m'. FlowOk d gives g s flow w')))
-        (shape_renamed f (Thin true r u))
-        (runs_begun d n k b w m (Frame scope.frame) (renamed f (Thin true r u)) (memory.Thin None) (λ at. rest (with_binding scope x.text (Variable (shape_of (Thin true r u)) at))) _ i
-        (frame_live g scope f k w m h z) refl (inl (record { allowed = refl; is = refl }))
-        (λ at w1 m1 i1 g1 there typed st. follows g scope f x (Thin true r u) s rest h e l go at there k w m w1 m1 i1 g1 (scene_later d g scope f b k w m w1 m1 i1 g1 z) (typed, tt)))
-    begun g scope f x s rest (Thin false r u) h e l c go = absurd cc
-    begun g scope f x s rest Void h e l c go = absurd e
-    begun g scope f x s rest Null h e l c go = absurd e
-    begun g scope f x s rest (Fat r u) h e l c go = absurd e
-    begun g scope f x s rest (Unique a u) h e l c go = absurd e
-    begun g scope f x s rest (Handle r) h e l c go = absurd e
-    begun g scope f x s rest (Key r) h e l c go = absurd e
-    begun g scope f x s rest (Struct tag rs) h e l c go = absurd e
-    begun g scope f x s rest (Union tag rs) h e l c go = absurd e
+    -- the cells of a local, by the shape of its type
+    local_cells : (g : Env) (scope : Scope) (f : NameOf → Region) (t : StaticType) → Surrounds d world tables g scope f gives
+        → cells_of scope.world (shape_of t) ≡ map shape_of (cells_type d f t)
+    local_cells g scope f t h =
+        ap (λ (y : World). cells_of y (shape_of t)) h.world_is
+        ∙ (ap (cells_of world) (sym (shape_renamed f t)) ∙ agrees d world tables h.structs (renamed f t))
 
     leaves_unset : (g : Env) (scope : Scope) (f : NameOf → Region) (of : TypeName) (x : tree.Name) (s : Ways) (rest : Scope → Act Flow)
         → Surrounds d world tables g scope f gives → (l : LocalUnset g of x) → Follows g scope f x l.type s rest
@@ -109,7 +84,14 @@ module _ (n : ℕ) (d : Tables) (world : World) (tables : typing.Tables) (invoke
     leaves_unset g scope f of x s rest h l go =
         subst (λ (y : Shape). Leaves n d gives g scope f b s (make_object (Frame scope.frame) (object_of (map first_cell (cells_of scope.world y))) >>= λ at.
         rest (with_binding scope x.text (Variable y at)))) (sym l.shape)
-        (begun g scope f x s rest l.type h l.word l.below l.begins go)
+        (subst (λ (cs : List Shape). Leaves n d gives g scope f b s (make_object (Frame scope.frame) (object_of (map first_cell cs)) >>= λ at.
+        rest (with_binding scope x.text (Variable (shape_of l.type) at)))) (sym (local_cells g scope f l.type h))
+        (λ k w m i z.
+        runs_begun d n k b w m (Frame scope.frame) (cells_type d f l.type) (λ at. rest (with_binding scope x.text (Variable (shape_of l.type) at))) _ i
+        (frame_live g scope f k w m h z)
+        (cells_begin d world tables f l.type h.structs l.object (subst (λ (y : typing.Tables). has_beginning y l.type ≡ true) h.tables_are l.begins))
+        (λ at w1 m1 i1 g1 there laid.
+        follows g scope f x l.type s rest h l.object l.below go at there k w m w1 m1 i1 g1 (scene_later d g scope f b k w m w1 m1 i1 g1 z) laid)))
 
     -- ---- with an initializer
 
@@ -122,26 +104,27 @@ module _ (n : ℕ) (d : Tables) (world : World) (tables : typing.Tables) (invoke
     leaves_set g scope f of x e s rest h l go =
         let a : Accepted g e = l.fitting.accepted in
         let z : Denotes n d g scope f b a.value (sense e scope) = denotes n d world tables invokes b gives g scope f e h a in
-        let shape_is : settled_by (written of) (sense e scope).shape ≡ shape_of l.type = ap (settled_by (written of)) z.sound.shape ∙ l.shape in
-        let cells : cells_of scope.world (shape_of l.type) ≡ map shape_of (cells_type d f l.type) =
-        ap (λ (y : World). cells_of y (shape_of l.type)) h.world_is ∙ (ap (cells_of world) (sym (shape_renamed f l.type)) ∙ h.agrees (renamed f l.type)) in
+        let from : (sense e scope).shape ≡ shape_of a.value.type =
+        z.sound.shape (converts_some g.regions a.value.type l.type l.fitting.converts l.object) in
+        let shape_is : settled_by (written of) (sense e scope).shape ≡ shape_of l.type = ap (settled_by (written of)) from ∙ l.shape in
+        let cells : cells_of scope.world (shape_of l.type) ≡ map shape_of (cells_type d f l.type) = local_cells g scope f l.type h in
         subst (λ (y : Shape). Leaves n d gives g scope f b s ((sense e scope).value >>= converted scope.world y (sense e scope).shape >>= λ vs.
         make_object (Frame scope.frame) (blank_object (cells_of scope.world y)) >>= λ at. write_cells at vs >> rest (with_binding scope x.text (Variable y at)))) (sym shape_is)
         (subst (λ (y : Shape). Leaves n d gives g scope f b s ((sense e scope).value >>= converted scope.world (shape_of l.type) y >>= λ vs.
         make_object (Frame scope.frame) (blank_object (cells_of scope.world (shape_of l.type))) >>= λ at.
-        write_cells at vs >> rest (with_binding scope x.text (Variable (shape_of l.type) at)))) (sym z.sound.shape)
+        write_cells at vs >> rest (with_binding scope x.text (Variable (shape_of l.type) at)))) (sym from)
         (subst (λ (cs : List Shape). Leaves n d gives g scope f b s ((sense e scope).value >>= converted scope.world (shape_of l.type) (shape_of a.value.type) >>= λ vs.
         make_object (Frame scope.frame) (blank_object cs) >>= λ at. write_cells at vs >> rest (with_binding scope x.text (Variable (shape_of l.type) at)))) (sym cells)
         (λ k w m i q. runs_converted n d g scope f b a.value.type l.type (sense e scope).value
         (λ vs. make_object (Frame scope.frame) (blank_object (map shape_of (cells_type d f l.type))) >>= λ at.
         write_cells at vs >> rest (with_binding scope x.text (Variable (shape_of l.type) at)))
-        k w m _ z.simple l.word l.fitting.converts z.sound.value i q
+        k w m _ z.simple l.object l.fitting.converts z.sound.value i q
         (λ vs w1 m1 i1 g1 typed.
         let q1 : Scene d g scope f b k w1 m1 = scene_later d g scope f b k w m w1 m1 i1 g1 q in
         runs_made d n k b (λ t. Reached t) w1 m1 (Frame scope.frame) (cells_type d f l.type) vs (λ at. rest (with_binding scope x.text (Variable (shape_of l.type) at))) _
         (λ t. refl) i1 (frame_live g scope f k w1 m1 h q1) typed
         (λ at w2 m2 i2 g2 there full st settles.
-        follows g scope f x l.type s rest h l.word l.below go at there k w m w2 m2 i2 (grows_trans g1 g2) (scene_later d g scope f b k w1 m1 w2 m2 i2 g2 q1)
+        follows g scope f x l.type s rest h l.object l.below go at there k w m w2 m2 i2 (grows_trans g1 g2) (scene_later d g scope f b k w1 m1 w2 m2 i2 g2 q1)
         (full_laid w2 m2 at (cells_type d f l.type) vs full))))))
 
     -- ---- a statement and what follows it
@@ -204,13 +187,13 @@ module _ (n : ℕ) (d : Tables) (world : World) (tables : typing.Tables) (invoke
       items_leave (Declare (tree.Local of x Initializer.Unset) others) g scope f h j =
           let l : LocalUnset g of x = j.0 in
           leaves_unset g scope f of x (ways_of_items others) (block_items others) h l
-          (λ at there. items_leave others (extended g x l.type) (bound_scope d world tables g scope f x l.type at gives h l.word l.below there) f
-          (surrounds_local d world tables g scope f x l.type at gives h l.word l.below there) (subst (λ (y : Env). ItemsJudged y others) l.scope j.1))
+          (λ at there. items_leave others (extended g x l.type) (bound_scope d world tables g scope f x l.type at gives h l.object l.below there) f
+          (surrounds_local d world tables g scope f x l.type at gives h l.object l.below there) (subst (λ (y : Env). ItemsJudged y others) l.scope j.1))
       items_leave (Declare (tree.Local of x (Initializer.Value e)) others) g scope f h j =
           let l : LocalSet g of x e = j.0 in
           leaves_set g scope f of x e (ways_of_items others) (block_items others) h l
-          (λ at there. items_leave others (extended g x l.type) (bound_scope d world tables g scope f x l.type at gives h l.word l.below there) f
-          (surrounds_local d world tables g scope f x l.type at gives h l.word l.below there) (subst (λ (y : Env). ItemsJudged y others) l.scope j.1))
+          (λ at there. items_leave others (extended g x l.type) (bound_scope d world tables g scope f x l.type at gives h l.object l.below there) f
+          (surrounds_local d world tables g scope f x l.type at gives h l.object l.below there) (subst (λ (y : Env). ItemsJudged y others) l.scope j.1))
       items_leave (Declare (tree.Local of x (Initializer.Elements c)) others) g scope f h j = absurd j.0
       items_leave (Declare (tree.Region at r x) others) g scope f h j = absurd j.0
       items_leave (Declare (tree.Open at r x y) others) g scope f h j = absurd j.0

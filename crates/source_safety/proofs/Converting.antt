@@ -1,7 +1,7 @@
--- Words are converted: integers to each other, `NULL` to pointers, and pointers to pointers into regions that theirs outlive.
+-- Values are converted: integers to each other, `NULL` to pointers, pointers to pointers into regions that theirs outlive, and structs to their own type.
 use Rattle.std.proofs.Common.{◌≡◌, ℕ, Bool, true, false, inl, inr, Some, None, List, [], ◌∷◌, refl, sym, ◌∙◌, ap, subst}
 use Rattle.cyc_words.specs.declared.faults.Kind.TheVariants.{NullException}
-use Rattle.source_meaning.specs.Shapes.{Shared, Shape, ThinShape}
+use Rattle.source_meaning.specs.Shapes.{Shared, Shape, ThinShape, StructShape}
 use Rattle.source_meaning.specs.Memory as memory
 use Rattle.source_meaning.specs.Memory.{Region, Spot, Scalar, Memory}
 use Rattle.source_meaning.specs.Steps.{World, Act, ◌>>=◌, ◌>>◌, give, check}
@@ -14,13 +14,27 @@ use Rattle.source_safety.proofs.Invariant.{RunType, Owner, Ghost, Reaches, HasTy
 use Rattle.source_safety.proofs.Runs.{Safe, Runs, safe_raised}
 use Rattle.source_safety.proofs.Names.{NameOf, NamesOk}
 use Rattle.source_safety.proofs.Sound.{cells_type}
+use Rattle.source_safety.proofs.Layouts.{same_text}
 use Rattle.source_safety.proofs.Integers.{word_of, Becomes, integer_becomes}
-use Rattle.source_safety.proofs.Words.{IsWordType, IsSimple, shape_itself, OneValue, one_value}
+use Rattle.source_safety.proofs.Words.{IsObjectType, IsSimple, object_some, integer_object, shape_itself, OneValue, one_value}
 
 -- a pointer may be used as one into a region that its own outlives
 reach_along : (d : Tables) (w : Ghost) (m : Memory) (at : Spot) (r q : Region) (t : RunType) → Inv d w m → w.above r q ≡ true → Reaches d w at r t
     → Reaches d w at q t
 reach_along d w m at r q t i o h = record { typed = h.typed; above = i.along at.region r q h.above o }
+
+-- what converts to an object is something
+pub converts_some : (g : Regions) (t u : StaticType) → Converts g t u → IsObjectType u → t ≡ Void → ⊥
+converts_some g t u (Same {t = s}) e z = object_some s e z
+converts_some g t u (Integers {t = s} a c) e z = object_some s (integer_object s a) z
+converts_some g t u NullToThin e z = cc
+converts_some g t u NullToFat e z = cc
+converts_some g t u NullToUnique e z = cc
+converts_some g t u (Thins o) e z = cc
+converts_some g t u (Fats o) e z = cc
+converts_some g t u (ThinToFat o) e z = cc
+converts_some g t u (FatToThin o) e z = cc
+converts_some g t u Uniques e z = cc
 
 module _ {B : Type 0} (n : ℕ) (d : Tables) (world : World) (f : NameOf → Region) (w : Ghost) (m : Memory) (holder : ℕ → Owner) (i : Inv d w m)
     (Q : B → Memory → Type 0) (h : List Scalar → Act B) where
@@ -35,7 +49,7 @@ module _ {B : Type 0} (n : ℕ) (d : Tables) (world : World) (f : NameOf → Reg
   null_goes false q t from go = record { by = λ next p. safe_raised n NullException }
 
   -- a pointer to somewhere
-  some_goes : (a c : Bool) (q : NameOf) (t : StaticType) (at : Spot) → IsWordType t → Reaches d w at (f q) (renamed f t) → Going (Thin c q t)
+  some_goes : (a c : Bool) (q : NameOf) (t : StaticType) (at : Spot) → IsObjectType t → Reaches d w at (f q) (renamed f t) → Going (Thin c q t)
       → Runs n (converted world (ThinShape c Shared (shape_of t)) (ThinShape a Shared (shape_of t)) (memory.Thin (Some at) ∷ []) >>= h) m Q
   some_goes a c q t at e reach go = record {
     by = λ next p.
@@ -51,7 +65,7 @@ module _ {B : Type 0} (n : ℕ) (d : Tables) (world : World) (f : NameOf → Reg
       by true next p = (go (memory.Thin (Some at) ∷ []) typed).by next p
       by false next p = (go (memory.Thin (Some at) ∷ []) typed).by next p
 
-  thin_goes : (a c : Bool) (r q : NameOf) (t : StaticType) (vs : List Scalar) → IsWordType t
+  thin_goes : (a c : Bool) (r q : NameOf) (t : StaticType) (vs : List Scalar) → IsObjectType t
       → ((at : Spot) → Reaches d w at (f r) (renamed f t) → Reaches d w at (f q) (renamed f t)) → HaveTypes d w holder vs (cells_type d f (Thin a r t)) → Going (Thin c q t)
       → Runs n (converted world (ThinShape c Shared (shape_of t)) (ThinShape a Shared (shape_of t)) vs >>= h) m Q
   thin_goes a c r q t [] e along x go = absurd x
@@ -70,7 +84,20 @@ module _ {B : Type 0} (n : ℕ) (d : Tables) (world : World) (f : NameOf → Reg
       let c : Becomes d f world t u vs = integer_becomes d f world t u vs iu (word_of d f w holder vs t it x) in
       record { by = λ next q. subst (λ (s : _). Safe n s) (sym (c.at_once h next m)) ((go c.values (c.typed w holder)).by next q) }
 
-  same_goes : (t : StaticType) (vs : List Scalar) → IsWordType t → HaveTypes d w holder vs (cells_type d f t) → Going t
+  -- a struct's cells stay as they are
+  struct_goes : (tag : List ℕ) (rs : List NameOf) (vs : List Scalar) → HaveTypes d w holder vs (cells_type d f (Struct tag rs)) → Going (Struct tag rs)
+      → Runs n (converted world (StructShape tag) (StructShape tag) vs >>= h) m Q
+  struct_goes tag rs [] x go = record {
+    by = λ next p. subst (λ (b : Bool). Safe n ((check b >> give [] >>= h) next m)) (sym (same_text tag)) ((go [] x).by next p);
+  }
+  struct_goes tag rs (v ∷ []) x go = record {
+    by = λ next p. subst (λ (b : Bool). Safe n ((check b >> give (v ∷ []) >>= h) next m)) (sym (same_text tag)) ((go (v ∷ []) x).by next p);
+  }
+  struct_goes tag rs (v ∷ u ∷ us) x go = record {
+    by = λ next p. subst (λ (b : Bool). Safe n ((check b >> give (v ∷ u ∷ us) >>= h) next m)) (sym (same_text tag)) ((go (v ∷ u ∷ us) x).by next p);
+  }
+
+  same_goes : (t : StaticType) (vs : List Scalar) → IsObjectType t → HaveTypes d w holder vs (cells_type d f t) → Going t
       → Runs n (converted world (shape_of t) (shape_of t) vs >>= h) m Q
   same_goes Int vs e x go = integer_goes Int Int vs refl refl x go
   same_goes Unsigned vs e x go = integer_goes Unsigned Unsigned vs refl refl x go
@@ -82,11 +109,11 @@ module _ {B : Type 0} (n : ℕ) (d : Tables) (world : World) (f : NameOf → Reg
   same_goes (Unique a t) vs e x go = absurd e
   same_goes (Handle r) vs e x go = absurd e
   same_goes (Key r) vs e x go = absurd e
-  same_goes (Struct tag rs) vs e x go = absurd e
+  same_goes (Struct tag rs) vs e x go = struct_goes tag rs vs x go
   same_goes (Union tag rs) vs e x go = absurd e
 
-  -- Each conversion to a word gives a value of its type, or raises.
-  pub converts_goes : (g : Regions) (k : ℕ) (t u : StaticType) (vs : List Scalar) → NamesOk g f k w m → IsSimple t → IsWordType u → Converts g t u
+  -- Each conversion gives a value of its type, or raises.
+  pub converts_goes : (g : Regions) (k : ℕ) (t u : StaticType) (vs : List Scalar) → NamesOk g f k w m → IsSimple t → IsObjectType u → Converts g t u
       → HaveTypes d w holder vs (cells_type d f t) → Going u → Runs n (converted world (shape_of u) (shape_of t) vs >>= h) m Q
   converts_goes g k t u vs names p e (Same {t = s}) x go = same_goes s vs e x go
   converts_goes g k t u vs names p e (Integers {t = s} {u = z} a c) x go = integer_goes s z vs a c x go

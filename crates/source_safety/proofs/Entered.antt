@@ -28,6 +28,7 @@ use Rattle.source_safety.proofs.Runs.{Safe, Runs, safe_says, safe_less}
 use Rattle.source_safety.proofs.After.{After, flying, grows_base}
 use Rattle.source_safety.proofs.Scopes.{above_scope, block_ghost, block_memory, runs_block}
 use Rattle.source_safety.proofs.Arguments.{Flown, bound_all, runs_arguments}
+use Rattle.source_safety.proofs.Layouts.{agrees}
 use Rattle.source_safety.proofs.Names.{NameOf}
 use Rattle.source_safety.proofs.Scenes.{Alike, Globals, Scene, scene_later}
 use Rattle.source_safety.proofs.Entries.{Function, Enters, Invokes}
@@ -99,13 +100,13 @@ module _ (n : ℕ) (d : Tables) (world : World) (tables : typing.Tables) (source
 
         inside : Inv d w1 m1 → Runs n (body_at a0) m1 (λ flow. After d k a0 w1 m1 (λ w' m'. Left flow w'))
         inside i1 = runs_arguments n d world (λ t u. Reached u) k a0 a0 F.routine.parameters (map (renamed f0) F.types) vss w1 m1 start (block_items F.routine.body)
-            (λ flow. After d k a0 w1 m1 (λ w' m'. Left flow w')) sources.agrees (λ t u. refl) refl refl (all_shaped f0 F.routine.parameters F.types F.shapes) i1
+            (λ flow. After d k a0 w1 m1 (λ w' m'. Left flow w')) (agrees d world tables sources.structs) (λ t u. refl) refl refl (all_shaped f0 F.routine.parameters F.types F.shapes) i1
             (same_here (Frame a0) Live (m.state (Frame a0))) (flown_moved d k w w1 vss (map (renamed f0) F.types) carry
             (subst (λ (ts : List RunType). Flown d w k vss ts) (sym (types_alike s.regions h f0 F.types alike judged.takes_below)) flown))
             (λ ss w2 m2 i2 g2 st cells landed.
             let all : AllBound d world tables f0 (renamed h F.gives) a0 g0 (with_all F.routine.parameters F.types g0) start (bound_all start F.routine.parameters ss) w2 m2 =
             all_bound d world tables f0 (renamed h F.gives) a0 F.routine.parameters F.types ss vss g0 start w2 m2
-            (surrounds_entry d world tables sources x s F judged h enters.heap_is a0) refl F.words takes_below F.shapes landed in
+            (surrounds_entry d world tables sources x s F judged h enters.heap_is a0) refl F.objects takes_below F.shapes landed in
             let scene : Scene d g0 start f0 a0 k w2 m2 =
             scene_later d g0 start f0 a0 k w1 m1 w2 m2 i2 g2 (scene_entry d world tables sources x s F judged h k w m i globals enters) in
             record {

@@ -14,7 +14,7 @@ use Rattle.source_typing.specs.Tables.{Entry, OfValue, OfTag, OfFunction, OfBuil
 use Rattle.source_typing.specs.Types.{StaticType, Int, Unsigned, Char, Void, Null, Thin, Fat, Unique, Handle, Key, Struct, Union, renamed}
 use Rattle.source_typing.proofs.Converting.{and_is}
 use Rattle.source_safety.specs.Flat.{Tables, flat}
-pub use Rattle.source_safety.specs.Entries.{IsWordType, IsPlain, AreWords, Function, Builtin, PlainEntry, PlainTables}
+pub use Rattle.source_safety.specs.Entries.{IsObjectType, IsPlain, AreObjects, Function, Structure, Builtin, PlainEntry, PlainTables}
 use Rattle.source_safety.proofs.Invariant.{RunType, heap, Ghost, HaveTypes, Known, Inv}
 use Rattle.source_safety.proofs.Growth.{grows_trans}
 use Rattle.source_safety.proofs.Runs.{Runs}
@@ -23,29 +23,29 @@ use Rattle.source_safety.proofs.Arguments.{Flown}
 use Rattle.source_safety.proofs.Names.{NameOf, AllBelow, NamesOk, AllStand, AllOrdered}
 use Rattle.source_safety.proofs.Scenes.{Globals, Scene, scene_later}
 use Rattle.source_safety.proofs.Sound.{Gives}
-use Rattle.source_safety.proofs.Words.{word_twice, plain_twice}
+use Rattle.source_safety.proofs.Words.{object_twice, plain_twice}
 use Rattle.source_safety.proofs.Fixed.{argument_below}
 use Rattle.source_safety.proofs.Calling.{AllPass, all_passed}
 
 -- ---- types
 
-pub word_plain : (t : StaticType) → IsWordType t → IsPlain t
-word_plain Int e = tt
-word_plain Unsigned e = tt
-word_plain Char e = tt
-word_plain Void e = absurd e
-word_plain Null e = absurd e
-word_plain (Thin n r t) e = e
-word_plain (Fat r t) e = absurd e
-word_plain (Unique n t) e = absurd e
-word_plain (Handle r) e = absurd e
-word_plain (Key r) e = absurd e
-word_plain (Struct tag rs) e = absurd e
-word_plain (Union tag rs) e = absurd e
+pub object_plain : (t : StaticType) → IsObjectType t → IsPlain t
+object_plain Int e = tt
+object_plain Unsigned e = tt
+object_plain Char e = tt
+object_plain Void e = absurd e
+object_plain Null e = absurd e
+object_plain (Thin n r t) e = e
+object_plain (Fat r t) e = absurd e
+object_plain (Unique n t) e = absurd e
+object_plain (Handle r) e = absurd e
+object_plain (Key r) e = absurd e
+object_plain (Struct tag rs) e = e
+object_plain (Union tag rs) e = absurd e
 
 -- ---- functions
 
--- all that is in scope is of integers
+-- all that is in scope is of such types
 abbrev pub MeansPlain : World → Env → Type 0
 MeansPlain world g = (x : List ℕ) (e : Entry) → meant g x ≡ Some e → PlainEntry world x e
 
@@ -67,11 +67,11 @@ Invokes n d world tables =
     → b ≤ m.activations → Inv d w m → Globals d tables world w → Enters s h k w m → Flown d w k vss (map (renamed h) F.types)
     → Runs n (invoke F.routine world vss) m (λ us. After d k b w m (λ w' m'. HaveTypes d w' (flying k 0) us (flat heap d (renamed h F.gives))))
 
-words_twice : (f : NameOf → Region) (h : NameOf → NameOf) (ts : List StaticType) → AreWords ts → map (renamed f) (map (renamed h) ts) ≡ map (renamed (λ a. f (h a))) ts
-words_twice f h [] e = refl
-words_twice f h (t ∷ ts) e =
-    let a : renamed f (renamed h t) ≡ renamed (λ a. f (h a)) t = word_twice f h t e.0 in
-    let c : map (renamed f) (map (renamed h) ts) ≡ map (renamed (λ a. f (h a))) ts = words_twice f h ts e.1 in
+objects_twice : (f : NameOf → Region) (h : NameOf → NameOf) (ts : List StaticType) → AreObjects ts → map (renamed f) (map (renamed h) ts) ≡ map (renamed (λ a. f (h a))) ts
+objects_twice f h [] e = refl
+objects_twice f h (t ∷ ts) e =
+    let a : renamed f (renamed h t) ≡ renamed (λ a. f (h a)) t = object_twice f h t e.0 in
+    let c : map (renamed f) (map (renamed h) ts) ≡ map (renamed (λ a. f (h a))) ts = objects_twice f h ts e.1 in
     cc
 
 -- ---- what region variables stand for
@@ -117,7 +117,7 @@ module _ (n : ℕ) (d : Tables) (g : Env) (scope : Scope) (f : NameOf → Region
         (λ vss m1 y.
         let z1 : Scene d g scope f b k y.ghost m1 = scene_later d g scope f b k w m y.ghost m1 y.inv y.grows z in
         let flown : Flown d y.ghost k vss (map (renamed (λ a. f (argument rs a))) F.types) =
-        subst (λ (ts : List RunType). Flown d y.ghost k vss ts) (words_twice f (argument rs) F.types F.words) y.holds in
+        subst (λ (ts : List RunType). Flown d y.ghost k vss ts) (objects_twice f (argument rs) F.types F.objects) y.holds in
         (invokes x s F there (λ a. f (argument rs a)) k b y.ghost m1 vss z1.base y.inv z1.globals
         (enters d g f k y.ghost m1 z1.names strict rs s below live ordered) flown).by next (λ us m2 u. q us m2 (record {
           ghost = u.ghost;

@@ -1,8 +1,8 @@
 -- Functions of regions and spots that are changed at one place.
-use Rattle.std.proofs.Common.{◌≡◌, Bool, true, false, refl, sym, ◌∙◌, ap}
+use Rattle.std.proofs.Common.{◌≡◌, ℕ, ◌+◌, Bool, true, false, refl, sym, ◌∙◌, ap, arith}
 use Rattle.std.specs.Prelude.{if◌then◌else◌}
 use Rattle.std.proofs.lemmas.Bool.{false≢true}
-use Rattle.source_meaning.specs.Memory.{Region, Spot, same_region, same_spot}
+use Rattle.source_meaning.specs.Memory.{Region, Spot, beyond, same_region, same_spot}
 use Rattle.source_meaning.proofs.Cases.{region_is, region_itself, spot_itself, spot_is}
 
 pub if_cases : {A : Type 0} (b : Bool) (x y : A) (P : A → Type 0) → (b ≡ true → P x) → (b ≡ false → P y) → P (if b then x else y)
@@ -26,3 +26,10 @@ same_here r v u = ap (λ (b : Bool). if b then v else u) (region_itself r)
 
 pub same_at : {A : Type 0} (s : Spot) (v u : A) → (if same_spot s s then v else u) ≡ v
 same_at s v u = ap (λ (b : Bool). if b then v else u) (spot_itself s)
+
+-- cells further on in an object
+pub further : (s : Spot) (a b c : ℕ) → a + b ≡ c → beyond (beyond s a) b ≡ beyond s c
+further s a b c e = ap (λ (j : ℕ). record { region = s.region; object = s.object; cell = j }) (omega (arith, e))
+
+pub not_further : (s : Spot) → beyond s 0 ≡ s
+not_further s = ap (λ (j : ℕ). record { region = s.region; object = s.object; cell = j }) (omega arith)

@@ -1,16 +1,16 @@
 -- What the region variables of a call stand for: regions that are in scope where the call is.
-use Rattle.std.proofs.Common.{◌≡◌, ℕ, zero, suc, Bool, true, false, Option, Some, None, List, [], ◌∷◌, subst}
+use Rattle.std.proofs.Common.{◌≡◌, ℕ, zero, suc, Bool, true, false, Option, Some, None, List, [], ◌∷◌, sym, subst}
 use Rattle.std.specs.Prelude.{map, ◌++◌, ◌&&◌, slice_get, if◌then◌else◌}
 use Rattle.source_typing.specs.Regions.{TheHeap, Level, same_id}
 use Rattle.source_typing.specs.Scope.{Enclosing, InRegion, Value}
-use Rattle.source_typing.specs.Fixing.{Fit, fit, fits_of, all_fits, first_fit, fixed_by, fixed_one, fixed_from, is_found, more}
-use Rattle.source_typing.specs.Missing.{pointee_of, outer_region}
+use Rattle.source_typing.specs.Fixing.{Fit, fit, fit_all, fits_of, all_fits, first_fit, fixed_by, fixed_one, fixed_from, is_found, more}
+use Rattle.source_typing.specs.Missing.{arguments_of, pointee_of, outer_region}
 use Rattle.source_typing.specs.Tables.{argument, or_heap}
 use Rattle.source_typing.specs.Types.{StaticType, Int, Unsigned, Char, Void, Null, Thin, Fat, Unique, Handle, Key, Struct, Union, renamed}
 use Rattle.source_typing.specs.Verdicts.{Of}
 use Rattle.source_typing.specs.Written.{Found, Is, IsUnique, Missing}
 use Rattle.source_typing.proofs.Inversion.{of_is, both_is}
-use Rattle.source_safety.specs.Entries.{IsWordType, IsPlain, AreWords}
+use Rattle.source_safety.specs.Entries.{IsObjectType, IsPlain, AreObjects}
 use Rattle.source_safety.specs.Named.{Below, AllBelow, TypeBelow}
 use Rattle.source_safety.proofs.Names.{NameOf}
 
@@ -25,19 +25,19 @@ pub argument_below : (n : ℕ) (rs : List NameOf) (a : NameOf) → AllBelow n rs
 argument_below n rs TheHeap h = tt
 argument_below n rs (Level k) h = listed_below n rs k h
 
-word_below : (n : ℕ) (rs : List NameOf) (t : StaticType) → IsWordType t → AllBelow n rs → TypeBelow n (renamed (argument rs) t)
-word_below n rs Int e h = tt
-word_below n rs Unsigned e h = tt
-word_below n rs Char e h = tt
-word_below n rs Void e h = tt
-word_below n rs Null e h = tt
-word_below n rs (Thin c r t) e h = (argument_below n rs r h, word_below n rs t e h)
-word_below n rs (Fat r t) e h = absurd e
-word_below n rs (Unique c t) e h = absurd e
-word_below n rs (Handle r) e h = absurd e
-word_below n rs (Key r) e h = absurd e
-word_below n rs (Struct tag qs) e h = absurd e
-word_below n rs (Union tag qs) e h = absurd e
+pub object_below : (n : ℕ) (rs : List NameOf) (t : StaticType) → IsObjectType t → AllBelow n rs → TypeBelow n (renamed (argument rs) t)
+object_below n rs Int e h = tt
+object_below n rs Unsigned e h = tt
+object_below n rs Char e h = tt
+object_below n rs Void e h = tt
+object_below n rs Null e h = tt
+object_below n rs (Thin c r t) e h = (argument_below n rs r h, object_below n rs t e h)
+object_below n rs (Fat r t) e h = absurd e
+object_below n rs (Unique c t) e h = absurd e
+object_below n rs (Handle r) e h = absurd e
+object_below n rs (Key r) e h = absurd e
+object_below n rs (Struct tag qs) e h = subst (λ (xs : List NameOf). AllBelow n (map (argument rs) xs)) (sym e) tt
+object_below n rs (Union tag qs) e h = absurd e
 
 pub plain_below : (n : ℕ) (rs : List NameOf) (t : StaticType) → IsPlain t → AllBelow n rs → TypeBelow n (renamed (argument rs) t)
 plain_below n rs Int e h = tt
@@ -45,12 +45,12 @@ plain_below n rs Unsigned e h = tt
 plain_below n rs Char e h = tt
 plain_below n rs Void e h = tt
 plain_below n rs Null e h = tt
-plain_below n rs (Thin c r t) e h = word_below n rs (Thin c r t) e h
+plain_below n rs (Thin c r t) e h = object_below n rs (Thin c r t) e h
 plain_below n rs (Fat r t) e h = absurd e
 plain_below n rs (Unique c t) e h = absurd e
 plain_below n rs (Handle r) e h = absurd e
 plain_below n rs (Key r) e h = absurd e
-plain_below n rs (Struct tag qs) e h = absurd e
+plain_below n rs (Struct tag qs) e h = object_below n rs (Struct tag qs) e h
 plain_below n rs (Union tag qs) e h = absurd e
 
 -- ---- what fixes them
@@ -106,7 +106,7 @@ outer_below n (Some (Key r)) h = tt
 outer_below n (Some (Struct tag rs)) h = tt
 outer_below n (Some (Union tag rs)) h = tt
 
-fits_below : (n at : ℕ) (t : StaticType) (u : Option StaticType) → IsWordType t → PartBelow n u → FitsBelow n (fits_of at t u)
+fits_below : (n at : ℕ) (t : StaticType) (u : Option StaticType) → IsObjectType t → PartBelow n u → FitsBelow n (fits_of at t u)
 fits_below n at Int u e h = tt
 fits_below n at Unsigned u e h = tt
 fits_below n at Char u e h = tt
@@ -118,7 +118,7 @@ fits_below n at (Fat r t) u e h = absurd e
 fits_below n at (Unique c t) u e h = absurd e
 fits_below n at (Handle r) u e h = absurd e
 fits_below n at (Key r) u e h = absurd e
-fits_below n at (Struct tag rs) u e h = absurd e
+fits_below n at (Struct tag rs) u e h = subst (λ (qs : List NameOf). FitsBelow n (fit_all at qs (arguments_of false tag u))) (sym e) tt
 fits_below n at (Union tag rs) u e h = absurd e
 
 -- the arguments' types name regions in scope
@@ -126,7 +126,7 @@ abbrev pub ValuesBelow : ℕ → List Value → Type 0
 ValuesBelow n [] = Unit {0}
 ValuesBelow n (v ∷ vs) = TypeBelow n v.type × ValuesBelow n vs
 
-all_below : (n : ℕ) (ts : List StaticType) (vs : List Value) → AreWords ts → ValuesBelow n vs → FitsBelow n (all_fits (map (λ (t : StaticType). Some t) ts) vs)
+all_below : (n : ℕ) (ts : List StaticType) (vs : List Value) → AreObjects ts → ValuesBelow n vs → FitsBelow n (all_fits (map (λ (t : StaticType). Some t) ts) vs)
 all_below n [] vs e h = tt
 all_below n (t ∷ ts) [] e h = tt
 all_below n (t ∷ ts) (v ∷ vs) e h =
@@ -158,7 +158,7 @@ from_below n at fs k (suc c) rs h e =
     (one_below n at (first_fit fs k) z.0 (first_below n fs k h) z.2, from_below n at fs (suc k) c z.1 h z.3)
 
 -- All that region variables stand for is in scope.
-pub fixed_below : (n at c : ℕ) (inside : Enclosing) (ts : List StaticType) (vs : List Value) (rs : List NameOf) → inside ≡ InRegion TheHeap → AreWords ts
+pub fixed_below : (n at c : ℕ) (inside : Enclosing) (ts : List StaticType) (vs : List Value) (rs : List NameOf) → inside ≡ InRegion TheHeap → AreObjects ts
     → ValuesBelow n vs → fixed_from inside at (all_fits (map (λ (t : StaticType). Some t) ts) vs) 0 c ≡ Of rs → AllBelow n rs
 fixed_below n at c inside ts vs rs heap_here e h p =
     from_below n at (all_fits (map (λ (t : StaticType). Some t) ts) vs) 0 c rs (all_below n ts vs e h)

@@ -53,9 +53,12 @@ use Rattle.source_safety.proofs.Names.{NameOf}
 use Rattle.source_safety.proofs.Scenes.{Bound, Binds}
 use Rattle.source_safety.proofs.Sound.{shape_renamed, cells_type, Gives, Shows, Sound, sound_value, gives_at_once}
 use Rattle.source_safety.proofs.Places.{sound_placed}
-use Rattle.source_safety.proofs.WordRules.{testable_word, Valued, value_of, applied_seat, fitted, assigned_word, Pointed, contents_is}
+use Rattle.source_safety.proofs.WordRules.{testable_word, Valued, value_of, applied_seat, fitted, given_type, assigned_object, given_simple, given_below}
+use Rattle.source_safety.proofs.WordRules.{given_shaped, Pointed, contents_is}
 use Rattle.source_safety.proofs.Integers.{integer_typed, integer_is, on_integers_is, operator_shaped}
-use Rattle.source_safety.proofs.Words.{IsWordType, IsSimple, word_simple, integer_word, integer_below, word_renamed, word_copied}
+use Rattle.source_safety.specs.Structs.{AreInOrder}
+use Rattle.source_safety.proofs.Words.{IsObjectType, IsSimple, object_simple, object_some, integer_object, integer_below, object_renamed, object_copied}
+use Rattle.source_safety.proofs.Converting.{converts_some}
 use Rattle.source_safety.proofs.Pointers.{
   IsValue,
   Compares,
@@ -71,30 +74,34 @@ use Rattle.source_safety.proofs.Operands.{gives_applied, Tells, tells_truth, giv
 use Rattle.source_safety.proofs.Storing.{runs_converted, sound_variable, gives_assigned}
 use Rattle.source_safety.proofs.Calling.{AllPass}
 use Rattle.source_safety.proofs.Fixed.{ValuesBelow}
-use Rattle.source_safety.proofs.Entries.{AreWords, MeansPlain, strictly}
+use Rattle.source_safety.proofs.Entries.{AreObjects, MeansPlain, strictly}
 
 -- ---- forms
 
 module _ (n : ℕ) (d : Tables) (g : Env) (scope : Scope) (f : NameOf → Region) (b : ℕ) where
-  -- An expression that was judged to be this: a word, `NULL` or nothing, whose type names regions in scope; where it is a place, that of a word in a region in
-  -- scope.
+  -- An expression that was judged to be this: a word, a struct, `NULL` or nothing, whose type names regions in scope; where it is a place, that of a word or
+  -- a struct in a region in scope.
   pub record Denotes (v : Value) (e : Sense) : Type 0 where
     pub simple : IsSimple v.type
     pub below : TypeBelow g.regions.count v.type
     pub outside : v.seat ≡ InBlock → ⊥
-    pub place : (r : NameOf) → v.seat ≡ In r → IsWordType v.type × Below g.regions.count r
+    pub place : (r : NameOf) → v.seat ≡ In r → IsObjectType v.type × Below g.regions.count r
     pub sound : Sound n d g scope f b v e
 
-  pub denotes_value : (v : Value) (t : StaticType) (s : Shape) (act : Act (List Scalar)) → IsSimple t → TypeBelow g.regions.count t → Valued v t → s ≡ shape_of t
-      → Gives n d g scope f b t act → Denotes v (value_sense s act)
-  denotes_value v t s act p l h e gives = record {
+  denotes_given : (v : Value) (t : StaticType) (s : Shape) (act : Act (List Scalar)) → IsSimple t → TypeBelow g.regions.count t → Valued v t
+      → ((t ≡ Void → ⊥) → s ≡ shape_of t) → Gives n d g scope f b t act → Denotes v (value_sense s act)
+  denotes_given v t s act p l h e gives = record {
     simple = subst (λ (y : StaticType). IsSimple y) (sym h.type) p;
     below = subst (λ (y : StaticType). TypeBelow g.regions.count y) (sym h.type) l;
     outside = λ z. let x : v.seat ≡ Nowhere = h.seat in cc;
     place = λ r z. absurd (let x : v.seat ≡ Nowhere = h.seat in cc);
-    sound = sound_value n d g scope f b v s act (e ∙ ap shape_of (sym h.type)) h.seat
+    sound = sound_value n d g scope f b v s act (λ z. e (λ q. z (h.type ∙ q)) ∙ ap shape_of (sym h.type)) h.seat
         (subst (λ (y : StaticType). Gives n d g scope f b y act) (sym h.type) gives);
   }
+
+  pub denotes_value : (v : Value) (t : StaticType) (s : Shape) (act : Act (List Scalar)) → IsSimple t → TypeBelow g.regions.count t → Valued v t → s ≡ shape_of t
+      → Gives n d g scope f b t act → Denotes v (value_sense s act)
+  denotes_value v t s act p l h e gives = denotes_given v t s act p l h (λ z. e) gives
 
   -- ---- literals, names, parentheses
 
@@ -110,39 +117,43 @@ module _ (n : ℕ) (d : Tables) (g : Env) (scope : Scope) (f : NameOf → Region
   denotes_null v h = denotes_value v Null _ (give (memory.Thin None ∷ [])) tt tt h refl
       (gives_at_once n d g scope f b Null (memory.Thin None ∷ []) (λ k w. (refl, tt)))
 
-  pub denotes_variable : Agrees scope.world d → Binds g scope f → (at : ℕ) (x : List ℕ) (o : Option Entry) (v : Value) → MeansPlain scope.world g
+  pub denotes_variable : Agrees scope.world d → AreInOrder d.structs → Binds g scope f → (at : ℕ) (x : List ℕ) (o : Option Entry) (v : Value) → MeansPlain scope.world g
       → meant g x ≡ o → variable at o ≡ Of v → Denotes v (entity_sense scope.world (entity_of scope x))
-  denotes_variable agrees binds at x None v p m e = absurd cc
-  denotes_variable agrees binds at x (Some (OfValue (Stored t r))) v p m e =
+  denotes_variable agrees order binds at x None v p m e = absurd cc
+  denotes_variable agrees order binds at x (Some (OfValue (Stored t r))) v p m e =
       let z : record { at = at; type = t; seat = In r } ≡ v = of_is (record { at = at; type = t; seat = In r }) v e in
-      let it : IsWordType t = p x (OfValue (Stored t r)) m in
+      let it : IsObjectType t = p x (OfValue (Stored t r)) m in
       let vt : v.type ≡ t = ap (λ (y : Value). y.type) (sym z) in
       let vs : v.seat ≡ In r = ap (λ (y : Value). y.seat) (sym z) in
       let bound : Bound g.regions.count f (entity_of scope x) t r = binds.variables x t r m in
       record {
-        simple = subst (λ (y : StaticType). IsSimple y) (sym vt) (word_simple t it);
+        simple = subst (λ (y : StaticType). IsSimple y) (sym vt) (object_simple t it);
         below = subst (λ (y : StaticType). TypeBelow g.regions.count y) (sym vt) bound.below;
         outside = λ q. cc;
         place = λ q y. (
-          subst (λ (u : StaticType). IsWordType u) (sym vt) it,
+          subst (λ (u : StaticType). IsObjectType u) (sym vt) it,
           subst (λ (a : NameOf). Below g.regions.count a) (same r q (sym vs ∙ y)) bound.within,
         );
-        sound = sound_variable n d g scope f b agrees binds x t r v m it vt vs;
+        sound = sound_variable n d g scope f b agrees order binds x t r v m it vt vs;
       }
     where
       same : (r q : NameOf) → In r ≡ In q → r ≡ q
       same r q e = cc
-  denotes_variable agrees binds at x (Some (OfValue (Arrayed t r))) v p m e = absurd (p x (OfValue (Arrayed t r)) m)
-  denotes_variable agrees binds at x (Some (OfValue Counter)) v p m e = absurd (p x (OfValue Counter) m)
-  denotes_variable agrees binds at x (Some (OfValue Unknown)) v p m e = absurd (p x (OfValue Unknown) m)
-  denotes_variable agrees binds at x (Some (OfTag t)) v p m e = absurd (p x (OfTag t) m)
-  denotes_variable agrees binds at x (Some (OfFunction s)) v p m e = absurd (never s.sound e)
+  denotes_variable agrees order binds at x (Some (OfValue (Arrayed t r))) v p m e = absurd (p x (OfValue (Arrayed t r)) m)
+  denotes_variable agrees order binds at x (Some (OfValue Counter)) v p m e = absurd (p x (OfValue Counter) m)
+  denotes_variable agrees order binds at x (Some (OfValue Unknown)) v p m e = absurd (p x (OfValue Unknown) m)
+  denotes_variable agrees order binds at x (Some (OfTag t)) v p m e = absurd (never t.sound e)
     where
       never : (c : Bool) → other_kind c at ≡ Of v → ⊥
       never true h = cc
       never false h = cc
-  denotes_variable agrees binds at x (Some (OfBuiltin c)) v p m e = absurd cc
-  denotes_variable agrees binds at x (Some OfOther) v p m e = absurd cc
+  denotes_variable agrees order binds at x (Some (OfFunction s)) v p m e = absurd (never s.sound e)
+    where
+      never : (c : Bool) → other_kind c at ≡ Of v → ⊥
+      never true h = cc
+      never false h = cc
+  denotes_variable agrees order binds at x (Some (OfBuiltin c)) v p m e = absurd cc
+  denotes_variable agrees order binds at x (Some OfOther) v p m e = absurd cc
 
   pub denotes_grouped : (at : ℕ) (a v : Value) (e : Sense) → Denotes a e → places.grouped at a ≡ Of v → Denotes v e
   denotes_grouped at a v e h z =
@@ -195,7 +206,7 @@ module _ (n : ℕ) (d : Tables) (g : Env) (scope : Scope) (f : NameOf → Region
       let result : IsInteger (on_integers o a c) = subst (λ (u : StaticType). IsInteger (on_integers o u c)) (sym s.1)
       (subst (λ (u : StaticType). IsInteger (on_integers o (integer_type s.0) u)) (sym t.1) (on_integers_is o s.0 t.0)) in
       record {
-        simple = word_simple (on_integers o a c) (integer_word (on_integers o a c) result);
+        simple = object_simple (on_integers o a c) (integer_object (on_integers o a c) result);
         below = integer_below g.regions.count (on_integers o a c) result;
         shape = ap (λ (u : Shape). operator_shape o u y.shape) (ex ∙ ap shape_of s.1)
             ∙ (ap (operator_shape o (shape_of (integer_type s.0))) (ey ∙ ap shape_of t.1)
@@ -204,9 +215,10 @@ module _ (n : ℕ) (d : Tables) (g : Env) (scope : Scope) (f : NameOf → Region
         gives = gives_applied n d g scope f b o a c x.look y.look ia ic hx hy;
       }
 
-  joins : g.lenient ≡ false → (o : Operator) (x y : Sense) (a c t : StaticType) → IsSimple a → IsSimple c → x.shape ≡ shape_of a → y.shape ≡ shape_of c
-      → Shows n d g scope f b a x.look → Shows n d g scope f b c y.look → Operates g o a c t → Joins o x y t
-  joins strict o x y a c t p q ex ey hx hy (OnIntegers ia ic) = joins_integers o x y a c ia ic ex ey hx hy
+  joins : g.lenient ≡ false → (o : Operator) (x y : Sense) (a c t : StaticType) → IsSimple a → IsSimple c → ((a ≡ Void → ⊥) → x.shape ≡ shape_of a)
+      → ((c ≡ Void → ⊥) → y.shape ≡ shape_of c) → Shows n d g scope f b a x.look → Shows n d g scope f b c y.look → Operates g o a c t → Joins o x y t
+  joins strict o x y a c t p q ex ey hx hy (OnIntegers ia ic) =
+      joins_integers o x y a c ia ic (ex (object_some a (integer_object a ia))) (ey (object_some c (integer_object c ic))) hx hy
   joins strict o x y a c t p q ex ey hx hy (OnFat u v) = absurd p
   joins strict o x y a c t p q ex ey hx hy (WithNull {a = s} e k) =
       let z : IsValue s × Compares n d g scope f b s Null × Compares n d g scope f b Null s = compares_pointer s p k in
@@ -228,29 +240,32 @@ module _ (n : ℕ) (d : Tables) (g : Env) (scope : Scope) (f : NameOf → Region
 
   -- ---- `*e` and `&e`
 
-  pub denotes_contents : g.lenient ≡ false → Agrees scope.world d → (at : ℕ) (a v : Value) (e : Sense) → Denotes a e → places.contents g at a ≡ Of v
+  pub denotes_contents : g.lenient ≡ false → Agrees scope.world d → AreInOrder d.structs → (at : ℕ) (a v : Value) (e : Sense) → Denotes a e → places.contents g at a ≡ Of v
       → Denotes v (contents scope.world e)
-  denotes_contents strict agrees at a v e h j =
+  denotes_contents strict agrees order at a v e h j =
       let z : Pointed g at a.type v = contents_is g at a.type v h.simple j in
       subst (λ (y : Value). Denotes y (contents scope.world e)) z.value_is (pointed z)
     where
       pointed : (z : Pointed g at a.type v) → Denotes (record { at = at; type = z.to; seat = In z.region }) (contents scope.world e)
       pointed z =
           let below : TypeBelow g.regions.count (Thin z.may_be_null z.region z.to) = subst (λ (y : StaticType). TypeBelow g.regions.count y) z.is h.below in
-          let word : IsWordType z.to = subst (λ (y : StaticType). IsSimple y) z.is h.simple in
+          let word : IsObjectType z.to = subst (λ (y : StaticType). IsSimple y) z.is h.simple in
           let shows : Shows n d g scope f b (Thin z.may_be_null z.region z.to) e.look = subst (λ (y : StaticType). Shows n d g scope f b y e.look) z.is h.sound.look in
           record {
-            simple = word_simple z.to word;
+            simple = object_simple z.to word;
             below = below.1;
             outside = λ q. cc;
             place = λ q y. (word, subst (λ (p : NameOf). Below g.regions.count p) (same z.region q y) below.0);
             sound = sound_placed n d g scope f b agrees (record { at = at; type = z.to; seat = In z.region }) (pointee e.shape) z.region _
-                (ap pointee (h.sound.shape ∙ ap shape_of z.is)) refl (word_copied d f z.to word)
+                (ap pointee (h.sound.shape (some z) ∙ ap shape_of z.is)) refl (object_copied d f z.to order word)
                 (finds_contents n d g scope f b z.may_be_null z.region z.to (length (cells_of scope.world (pointee e.shape))) e.look word (strictly g z.region strict z.live) shows);
           }
         where
           same : (r q : NameOf) → In r ≡ In q → r ≡ q
           same r q e = cc
+
+          some : (z : Pointed g at a.type v) → a.type ≡ Void → ⊥
+          some z q = let y : Thin z.may_be_null z.region z.to ≡ Void = sym z.is ∙ q in cc
 
   pub denotes_address : (at : ℕ) (a v : Value) (e : Sense) → Denotes a e → places.address at a ≡ Of v → Denotes v (address_of e)
   denotes_address at a v e h j = by a.seat refl j
@@ -259,9 +274,9 @@ module _ (n : ℕ) (d : Tables) (g : Env) (scope : Scope) (f : NameOf → Region
       by Nowhere z k = absurd cc
       by InBlock z k = absurd (h.outside z)
       by (In r) z k =
-          let word : IsWordType a.type × Below g.regions.count r = h.place r z in
+          let word : IsObjectType a.type × Below g.regions.count r = h.place r z in
           denotes_value v (Thin false r a.type) (ThinShape false Shared e.shape) _ word.0 (word.1, h.below) (value_of at (Thin false r a.type) v k)
-          (ap (ThinShape false Shared) h.sound.shape) (gives_address n d g scope f b r a.type e.place (h.sound.place r z))
+          (ap (ThinShape false Shared) (h.sound.shape (object_some a.type word.0))) (gives_address n d g scope f b r a.type e.place (h.sound.place r z))
 
   -- ---- tests
 
@@ -285,9 +300,9 @@ module _ (n : ℕ) (d : Tables) (g : Env) (scope : Scope) (f : NameOf → Region
 
   -- ---- assignments
 
-  pub denotes_assigned : (to from v : Value) (x y : Sense) → Denotes to x → Denotes from y → places.assigned g to from ≡ Of v
+  pub denotes_assigned : AreInOrder d.structs → (to from v : Value) (x y : Sense) → Denotes to x → Denotes from y → places.assigned g to from ≡ Of v
       → Denotes v (assigned scope.world x y)
-  denotes_assigned to from v x y ht hf e = by to.seat refl
+  denotes_assigned order to from v x y ht hf e = by to.seat refl
     where
       valued : (c : Bool) → places.assigned_in c g to from ≡ Of v → v.seat ≡ Nowhere
       valued true z = (value_of to.at (assigned_type g to.type) v (Rattle.source_typing.proofs.Inversion.unless_is _ _ v z).1).seat
@@ -300,10 +315,12 @@ module _ (n : ℕ) (d : Tables) (g : Env) (scope : Scope) (f : NameOf → Region
       by Nowhere z = absurd (let q : is_place to.seat ≡ true = rules_say.0 in let u = ap is_place z in cc)
       by InBlock z = absurd (ht.outside z)
       by (In r) z =
-          let it : IsWordType to.type = (ht.place r z).0 in
-          denotes_value v to.type x.shape _ (word_simple to.type it) ht.below
-          (record { type = rules_say.2 ∙ assigned_word g to.type it; seat = valued (is_place to.seat) e }) ht.sound.shape
-          (gives_assigned n d g scope f b from.type to.type r x y hf.simple it rules_say.1 hf.sound.shape ht.sound.shape hf.sound.value (ht.sound.place r z))
+          let it : IsObjectType to.type = (ht.place r z).0 in
+          let shape : x.shape ≡ shape_of to.type = ht.sound.shape (object_some to.type it) in
+          denotes_given v (given_type to.type) x.shape _ (given_simple to.type it) (given_below g.regions.count to.type it ht.below)
+          (record { type = rules_say.2 ∙ assigned_object g to.type it; seat = valued (is_place to.seat) e }) (given_shaped to.type x.shape it shape)
+          (gives_assigned n d g scope f b from.type to.type r x y order hf.simple it rules_say.1
+          (hf.sound.shape (converts_some g.regions from.type to.type rules_say.1 it)) shape hf.sound.value (ht.sound.place r z))
 
   -- ---- arguments
 
@@ -318,19 +335,20 @@ module _ (n : ℕ) (d : Tables) (g : Env) (scope : Scope) (f : NameOf → Region
   values_below [] (e ∷ es) h = absurd h
   values_below (v ∷ vs) [] h = absurd h
 
-  -- one that converts to a word, whose region variables stand for these
-  pub passes : (v : Value) (e : Sense) (rs : List NameOf) (t : StaticType) → IsWordType t → Converts g.regions v.type (renamed (argument rs) t) → Denotes v e
+  -- one that converts to a parameter's type, whose region variables stand for these
+  pub passes : (v : Value) (e : Sense) (rs : List NameOf) (t : StaticType) → IsObjectType t → Converts g.regions v.type (renamed (argument rs) t) → Denotes v e
       → Gives n d g scope f b (renamed (argument rs) t) (e.value >>= converted scope.world (shape_of t) e.shape)
   passes v e rs t it conv h =
-      subst (λ (s : Shape). Gives n d g scope f b (renamed (argument rs) t) (e.value >>= converted scope.world (shape_of t) s)) (sym h.sound.shape)
+      subst (λ (s : Shape). Gives n d g scope f b (renamed (argument rs) t) (e.value >>= converted scope.world (shape_of t) s))
+      (sym (h.sound.shape (converts_some g.regions v.type (renamed (argument rs) t) conv (object_renamed (argument rs) t it))))
       (subst (λ (s : Shape). Gives n d g scope f b (renamed (argument rs) t) (e.value >>= converted scope.world s (shape_of v.type))) (shape_renamed (argument rs) t)
       (λ k w m i x. record {
         by = λ next q. (runs_converted n d g scope f b v.type (renamed (argument rs) t) e.value (λ vs. give vs) k w m
-            (λ vs. After d k b w m (λ w' m'. HaveTypes d w' (flying k 0) vs (cells_type d f (renamed (argument rs) t)))) h.simple (word_renamed (argument rs) t it) conv h.sound.value i x
+            (λ vs. After d k b w m (λ w' m'. HaveTypes d w' (flying k 0) vs (cells_type d f (renamed (argument rs) t)))) h.simple (object_renamed (argument rs) t it) conv h.sound.value i x
             (λ vs w1 m1 i1 g1 typed. record { by = λ next2 q2. q2 vs m1 (record { ghost = w1; inv = i1; grows = g1; holds = typed }) })).by next q;
       }))
 
-  pub all_pass : (rs : List NameOf) (ts : List StaticType) (vs : List Value) (es : List Sense) → AreWords ts
+  pub all_pass : (rs : List NameOf) (ts : List StaticType) (vs : List Value) (es : List Sense) → AreObjects ts
       → length (map (λ (t : StaticType). Some t) ts) ≡ length vs → AllConvert g rs (map (λ (t : StaticType). Some t) ts) vs → AllDenote vs es
       → AllPass n d g scope f b (map shape_of ts) (map (renamed (argument rs)) ts) es
   all_pass rs [] [] [] i c a h = tt

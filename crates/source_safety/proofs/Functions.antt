@@ -16,16 +16,15 @@ pub use Rattle.source_safety.specs.Programs.{FunctionJudged}
 use Rattle.source_safety.proofs.Invariant.{RunType, heap, Ghost, Laid, Inv}
 use Rattle.source_safety.proofs.Values.{laid_kept}
 use Rattle.source_safety.proofs.Scopes.{block_ghost, block_memory, frame_births}
-use Rattle.source_safety.proofs.Arguments.{Agrees}
+use Rattle.source_safety.proofs.Layouts.{Structs}
 use Rattle.source_safety.proofs.Names.{NameOf, Below, NamesOk, naming, names_scope, names_entered}
 use Rattle.source_safety.proofs.Scenes.{TypeBelow, Alike, renamed_alike, Bound, bound_alike, Globals, Scene}
-use Rattle.source_safety.proofs.Entries.{Function, PlainTables, run_type, Enters}
+use Rattle.source_safety.proofs.Entries.{Function, run_type, Enters}
 use Rattle.source_safety.proofs.Surroundings.{ResultIs, Surrounds, below_zero, type_up, type_zero, naming_alike, naming_itself}
 
--- What holds of the program: its names are of words, its globals lie in the heap, and its functions are in order.
+-- What holds of the program: its structs are known, its globals lie in the heap, and its functions are in order.
 pub record Sources (d : Tables) (world : World) (tables : typing.Tables) : Type 0 where
-  pub agrees : Agrees world d
-  pub plain : PlainTables world tables
+  pub structs : Structs d world tables
   pub globals : (x : List ℕ) (t : StaticType) (r : NameOf) → find tables x ≡ Some (OfValue (Stored t r)) → Bound 0 (λ a. heap) (bound_to world.globals x) t r
   pub functions : (x : List ℕ) (s : Signature) (F : Function world x s) → find tables x ≡ Some (OfFunction s) → FunctionJudged world tables x s F
 
@@ -71,7 +70,7 @@ module _ (d : Tables) (world : World) (tables : typing.Tables) (sources : Source
     surrounds_entry = record {
       tables_are = judged.tables_are;
       world_is = refl;
-      agrees = sources.agrees;
+      structs = sources.structs;
       binds = record {
         variables = λ y u r e.
             bound_alike 0 (judged.outside.regions.count + 1) (λ c. heap) entry_names (bound_to world.globals y) u r (below_zero (judged.outside.regions.count + 1))
@@ -80,7 +79,7 @@ module _ (d : Tables) (world : World) (tables : typing.Tables) (sources : Source
             subst (λ (q : NameOf). (with_scope judged.outside.regions).live q ≡ true) (sym (heap_alone r (sources.globals y u r (sym (means y) ∙ e)).within)) heap_live;
         globals = λ y u r e. sources.globals y u r (subst (λ (t : typing.Tables). find t y ≡ Some (OfValue (Stored u r))) judged.tables_are e);
       };
-      plain = λ y e z. sources.plain y e (sym (means y) ∙ z);
+      plain = λ y e z. sources.structs.plain y e (sym (means y) ∙ z);
       functions = λ y c z. ap (λ (t : typing.Tables). find t y) judged.tables_are ∙ (sym (means y) ∙ z);
       result = λ t e. result_is t (let q : Some F.gives ≡ Some t = sym judged.result ∙ e in same_Some F.gives t q);
       strict = judged.strict;

@@ -13,6 +13,7 @@ pub mod Names
 pub mod Arguments
 pub mod Scenes
 pub mod Sound
+pub mod Layouts
 pub mod Places
 pub mod Integers
 pub mod Words
@@ -21,10 +22,12 @@ pub mod Pointers
 pub mod Operands
 pub mod Storing
 pub mod Calling
+pub mod Members
 pub mod Fixed
 pub mod Entries
 pub mod WordRules
 pub mod Forms
+pub mod StructForms
 pub mod Expressions
 pub mod Surroundings
 pub mod Begun

@@ -5,8 +5,7 @@ use Rattle.std.proofs.lemmas.Option.{slice_get_within}
 use Rattle.cyc_tree.specs.Tree as tree
 use Rattle.cyc_tree.specs.Tree.{Item, Program}
 use Rattle.cyc_words.specs.Events.{SourceEnding}
-use Rattle.source_meaning.specs.Shapes.{Layout, Shape, IntShape, UnsignedShape, CharShape, ThinShape, settled, written}
-use Rattle.source_meaning.specs.Sizes.{cells_by, struct_cells}
+use Rattle.source_meaning.specs.Shapes.{Shape, IntShape, UnsignedShape, CharShape, ThinShape, StructShape, settled, written}
 use Rattle.source_meaning.specs.Memory.{Spot, Scalar, Object, Memory}
 use Rattle.source_meaning.specs.Steps.{Entity, Variable, Binding, World, Routine, Stops, ◌>>=◌, need}
 use Rattle.source_meaning.specs.Conversions.{one, integer}
@@ -19,42 +18,19 @@ use Rattle.source_typing.specs.Tables.{OfValue, OfFunction, Stored, Signature, f
 use Rattle.source_typing.specs.Types.{Int, Unsigned, Char, Void, Null, Thin, Fat, Unique, Handle, Key, Struct, Union, StaticType, shape_of}
 use Rattle.source_safety.specs.Flat.{Tables, flat}
 pub use Rattle.source_safety.specs.Programs.{GlobalFound, MainFound, ProgramJudged}
-use Rattle.source_safety.proofs.Invariant.{RunType, heap, Reached, Ghost, Laid, HaveTypes, Inv}
+use Rattle.source_safety.proofs.Invariant.{RunType, heap, Ghost, Laid, HaveTypes, Inv}
 use Rattle.source_safety.proofs.Runs.{Safe, Runs, not_stuck}
 use Rattle.source_safety.proofs.After.{flying}
-use Rattle.source_safety.proofs.Arguments.{Agrees}
+use Rattle.source_safety.proofs.Layouts.{Structs}
 use Rattle.source_safety.proofs.Names.{NameOf, AllStand, AllOrdered}
 use Rattle.source_safety.proofs.Births.{known_live}
 use Rattle.source_safety.proofs.Scenes.{Globals}
 use Rattle.source_safety.proofs.Integers.{IsWord, word_of}
-use Rattle.source_safety.proofs.Entries.{IsWordType, run_type, Enters, Invokes}
+use Rattle.source_safety.proofs.Entries.{IsObjectType, run_type, Enters, Invokes}
 use Rattle.source_safety.proofs.Functions.{Sources}
 use Rattle.source_safety.proofs.Entered.{runs_entered, all_fuel}
 use Rattle.source_safety.proofs.First.{first_ghost, first_inv}
 use Rattle.source_safety.proofs.Started.{Ready, TypedEntity, EachTyped, runs_globals}
-
--- no structs and no unions
-abbrev pub no_tables : Tables
-no_tables = record { structs = []; unions = [] }
-
--- ---- cells
-
-agrees_none : (structs : List Layout) → structs ≡ [] → (t : RunType) → cells_by (struct_cells structs) (shape_of t) ≡ map shape_of (flat heap no_tables t)
-agrees_none structs e t = subst (λ (ls : List Layout). cells_by (struct_cells ls) (shape_of t) ≡ map shape_of (flat heap no_tables t)) (sym e) (by t)
-  where
-    by : (t : RunType) → cells_by (struct_cells []) (shape_of t) ≡ map shape_of (flat heap no_tables t)
-    by Int = refl
-    by Unsigned = refl
-    by Char = refl
-    by Void = refl
-    by Null = refl
-    by (Thin n r t) = refl
-    by (Fat r t) = refl
-    by (Unique n t) = refl
-    by (Handle r) = refl
-    by (Key r) = refl
-    by (Struct tag rs) = refl
-    by (Union tag rs) = refl
 
 -- ---- the memory at the start
 
@@ -64,8 +40,8 @@ first_ready world [] k os later h = tt
 first_ready world (tree.GlobalItem x ∷ items) k os later h =
     let o : Object = global_object world x.initial (settled (written x.of)) in
     let here : slice_get os k ≡ Some o = ap (slice_get os) (omega arith) ∙ h 0 in (
-      refl,
-      ap (option_and_then (λ (y : Object). y 0)) here,
+      λ j. refl,
+      λ j. ap (option_and_then (λ (y : Object). y (0 + j))) here ∙ ap (λ (c : ℕ). o c) (omega arith),
       slice_get_within os k o here,
       first_ready world items (suc k) os later (λ i. ap (slice_get os) (omega arith) ∙ h (suc i)),
     )
@@ -75,15 +51,16 @@ first_ready world (tree.FunctionItem f ∷ items) k os later h = first_ready wor
 
 -- ---- globals by their names
 
--- the type of a word of a run in which all regions are the heap, by its shape
+-- the type of an object of a run in which all regions are the heap, by its shape
 abbrev run_shaped : Shape → RunType
 run_shaped IntShape = Int
 run_shaped UnsignedShape = Unsigned
 run_shaped CharShape = Char
 run_shaped (ThinShape n owner to) = Thin n heap (run_shaped to)
+run_shaped (StructShape tag) = Struct tag []
 run_shaped _ = Void
 
-run_by_shape : (t : StaticType) → IsWordType t → run_type t ≡ run_shaped (shape_of t)
+run_by_shape : (t : StaticType) → IsObjectType t → run_type t ≡ run_shaped (shape_of t)
 run_by_shape Int e = refl
 run_by_shape Unsigned e = refl
 run_by_shape Char e = refl
@@ -94,41 +71,27 @@ run_by_shape (Fat r t) e = absurd e
 run_by_shape (Unique n t) e = absurd e
 run_by_shape (Handle r) e = absurd e
 run_by_shape (Key r) e = absurd e
-run_by_shape (Struct tag rs) e = absurd e
+run_by_shape (Struct tag rs) e = ap (λ (qs : List NameOf). Struct tag (map (λ (a : NameOf). heap) qs)) e
 run_by_shape (Union tag rs) e = absurd e
 
-typed_entity : (w : Ghost) (t : StaticType) (at : Spot) (e : Entity) → IsWordType t → TypedEntity w e → e ≡ Variable (shape_of t) at
-    → w.types at ≡ Some (Reached (run_type t))
-typed_entity w t at e word h q =
+laid_entity : (d : Tables) (w : Ghost) (t : StaticType) (at : Spot) (e : Entity) → IsObjectType t → TypedEntity d w e → e ≡ Variable (shape_of t) at
+    → Laid w at (flat heap d (run_type t))
+laid_entity d w t at e object h q =
     let both : Variable (shape_of h.type) h.at ≡ Variable (shape_of t) at = sym h.is ∙ q in
     let shapes : shape_of h.type ≡ shape_of t = cc in
     let spots : h.at ≡ at = cc in
-    let same : run_type h.type ≡ run_type t = run_by_shape h.type h.word ∙ (ap run_shaped shapes ∙ sym (run_by_shape t word)) in
-    subst (λ (s : Spot). w.types s ≡ Some (Reached (run_type t))) spots (subst (λ (u : RunType). w.types h.at ≡ Some (Reached u)) same h.typed)
+    let same : run_type h.type ≡ run_type t = run_by_shape h.type h.object ∙ (ap run_shaped shapes ∙ sym (run_by_shape t object)) in
+    subst (λ (s : Spot). Laid w s (flat heap d (run_type t))) spots (subst (λ (u : RunType). Laid w h.at (flat heap d u)) same h.laid)
 
-typed_global : (w : Ghost) (bs : List Binding) (x : List ℕ) (t : StaticType) (at : Spot) → IsWordType t → EachTyped w bs
-    → bound_to bs x ≡ Some (Variable (shape_of t) at) → w.types at ≡ Some (Reached (run_type t))
-typed_global w [] x t at word h e = absurd cc
-typed_global w (b ∷ bs) x t at word h e = by (bytes_eq b.name x) (λ q. typed_global w bs x t at word h.1 q) e
+laid_global : (d : Tables) (w : Ghost) (bs : List Binding) (x : List ℕ) (t : StaticType) (at : Spot) → IsObjectType t → EachTyped d w bs
+    → bound_to bs x ≡ Some (Variable (shape_of t) at) → Laid w at (flat heap d (run_type t))
+laid_global d w [] x t at object h e = absurd cc
+laid_global d w (b ∷ bs) x t at object h e = by (bytes_eq b.name x) (λ q. laid_global d w bs x t at object h.1 q) e
   where
-    by : (c : Bool) → (bound_to bs x ≡ Some (Variable (shape_of t) at) → w.types at ≡ Some (Reached (run_type t)))
-        → (if c then Some b.entity else bound_to bs x) ≡ Some (Variable (shape_of t) at) → w.types at ≡ Some (Reached (run_type t))
-    by true others q = typed_entity w t at b.entity word h.0 (let z : b.entity ≡ Variable (shape_of t) at = cc in z)
+    by : (c : Bool) → (bound_to bs x ≡ Some (Variable (shape_of t) at) → Laid w at (flat heap d (run_type t)))
+        → (if c then Some b.entity else bound_to bs x) ≡ Some (Variable (shape_of t) at) → Laid w at (flat heap d (run_type t))
+    by true others q = laid_entity d w t at b.entity object h.0 (let z : b.entity ≡ Variable (shape_of t) at = cc in z)
     by false others q = others q
-
-laid_one : (d : Tables) (w : Ghost) (t : StaticType) (at : Spot) → IsWordType t → w.types at ≡ Some (Reached (run_type t)) → Laid w at (flat heap d (run_type t))
-laid_one d w Int at word e = (e, tt)
-laid_one d w Unsigned at word e = (e, tt)
-laid_one d w Char at word e = (e, tt)
-laid_one d w Void at word e = absurd word
-laid_one d w Null at word e = absurd word
-laid_one d w (Thin n r t) at word e = (e, tt)
-laid_one d w (Fat r t) at word e = absurd word
-laid_one d w (Unique n t) at word e = absurd word
-laid_one d w (Handle r) at word e = absurd word
-laid_one d w (Key r) at word e = absurd word
-laid_one d w (Struct tag rs) at word e = absurd word
-laid_one d w (Union tag rs) at word e = absurd word
 
 -- a function whose region variables all stand for the heap
 heap_stands : (d : Tables) (w : Ghost) (m : Memory) (rs : List NameOf) → Inv d w m → AllStand (λ a. heap) 0 w m rs
@@ -151,16 +114,24 @@ module _ (p : Program) (tables : typing.Tables) (judged : ProgramJudged p tables
   abbrev world : World
   world = world_of p
 
-  word_global : (x : List ℕ) (t : StaticType) (r : NameOf) → find tables x ≡ Some (OfValue (Stored t r)) → IsWordType t
-  word_global x t r e = judged.plain x (OfValue (Stored t r)) e
+  -- its structs, and no unions
+  abbrev d : Tables
+  d = record { structs = judged.structs.types; unions = [] }
 
-  all_globals : (w : Ghost) → EachTyped w world.globals → Globals no_tables tables world w
-  all_globals w h x t r at e q = laid_one no_tables w t at (word_global x t r e) (typed_global w world.globals x t at (word_global x t r e) h q)
-
-  sources : Sources no_tables world tables
-  sources = record {
-    agrees = agrees_none world.structs judged.no_structs;
+  structs : Structs d world tables
+  structs = record {
+    in_order = judged.structs.in_order;
+    laid_out = judged.structs.laid_out;
+    few = judged.structs.few;
     plain = judged.plain;
+  }
+
+  all_globals : (w : Ghost) → EachTyped d w world.globals → Globals d tables world w
+  all_globals w h x t r at e q = laid_global d w world.globals x t at (judged.plain x (OfValue (Stored t r)) e) h q
+
+  sources : Sources d world tables
+  sources = record {
+    structs = structs;
     globals = λ x t r e.
         let z : GlobalFound world x t r = judged.variables x t r e in
         record {
@@ -174,21 +145,21 @@ module _ (p : Program) (tables : typing.Tables) (judged : ProgramJudged p tables
   }
 
   -- `main` is entered once the globals are stored
-  runs_main : (n : ℕ) (w : Ghost) (m : Memory) → Inv no_tables w m → EachTyped w world.globals
+  runs_main : (n : ℕ) (w : Ghost) (m : Memory) → Inv d w m → EachTyped d w world.globals
       → Runs n (need (function_of world.functions (codes "main")) >>= λ f. entered f world [] >>= one >>= integer) m (λ status m'. Unit {0})
   runs_main n w m i each =
       let main : MainFound world tables = judged.main in
-      let fuel : Invokes n no_tables world tables × Rattle.source_safety.proofs.Flows.Turning n no_tables world tables = all_fuel no_tables world tables sources n in
-      let runs = runs_entered n no_tables world tables sources fuel.0 fuel.1 (codes "main") main.signature main.function
+      let fuel : Invokes n d world tables × Rattle.source_safety.proofs.Flows.Turning n d world tables = all_fuel d world tables sources n in
+      let runs = runs_entered n d world tables sources fuel.0 fuel.1 (codes "main") main.signature main.function
       (judged.functions (codes "main") main.signature main.function main.found) (λ a. heap) 0 0 w m [] (omega arith) i (all_globals w each)
-      (heap_enters no_tables main.signature w m i)
-      (subst (λ (ts : List StaticType). Rattle.source_safety.proofs.Arguments.Flown no_tables w 0 [] (map run_type ts)) (sym main.types) tt) in
+      (heap_enters d main.signature w m i)
+      (subst (λ (ts : List StaticType). Rattle.source_safety.proofs.Arguments.Flown d w 0 [] (map run_type ts)) (sym main.types) tt) in
       subst (λ (o : Option Routine). Runs n (need o >>= λ f. entered f world [] >>= one >>= integer) m (λ status m'. Unit {0})) (sym main.function.found)
       (record {
         by = λ next q. runs.by (λ us. (one us >>= integer) next) (λ us m1 y.
-            let typed : HaveTypes no_tables y.ghost (flying 0 0) us (flat heap no_tables (run_type Int)) =
-            subst (λ (t : StaticType). HaveTypes no_tables y.ghost (flying 0 0) us (flat heap no_tables (run_type t))) main.gives y.holds in
-            let z : IsWord us Int = word_of no_tables (λ a. heap) y.ghost (flying 0 0) us Int refl typed in
+            let typed : HaveTypes d y.ghost (flying 0 0) us (flat heap d (run_type Int)) =
+            subst (λ (t : StaticType). HaveTypes d y.ghost (flying 0 0) us (flat heap d (run_type t))) main.gives y.holds in
+            let z : IsWord us Int = word_of d (λ a. heap) y.ghost (flying 0 0) us Int refl typed in
             subst (λ (vs : List Scalar). Safe n ((one vs >>= integer) next m1)) (sym z.is) (q z.word m1 tt));
       })
 
@@ -199,8 +170,8 @@ module _ (p : Program) (tables : typing.Tables) (judged : ProgramJudged p tables
   safe_start : (n : ℕ) → Safe n (start p)
   safe_start n =
       let os : List Object = global_objects world p ++ map string_object (program_strings p) in
-      (runs_globals no_tables n world (λ status m'. Unit {0}) p 0 first_ghost (heap_alone os)
-      (need (function_of world.functions (codes "main")) >>= λ f. entered f world [] >>= one >>= integer) judged.globals (first_inv no_tables os)
+      (runs_globals d n world tables structs (λ status m'. Unit {0}) p 0 first_ghost (heap_alone os)
+      (need (function_of world.functions (codes "main")) >>= λ f. entered f world [] >>= one >>= integer) judged.globals (first_inv d os)
       (first_ready world p 0 os (map string_object (program_strings p)) (λ i. ap (slice_get os) (omega arith)))
       (λ w m i keeps each. runs_main n w m i each)).by (λ status m. Stops (SourceEnding.Ended status)) (λ status m x. safe_ended n status)
 

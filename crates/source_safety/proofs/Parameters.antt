@@ -22,7 +22,7 @@ use Rattle.source_safety.proofs.Arguments.{Flown, Shaped, Landed, bound_all}
 use Rattle.source_safety.proofs.Names.{NameOf}
 use Rattle.source_safety.proofs.Scenes.{Alike, renamed_alike, Scene}
 use Rattle.source_safety.proofs.Sound.{shape_renamed}
-use Rattle.source_safety.proofs.Entries.{AreWords}
+use Rattle.source_safety.proofs.Entries.{AreObjects}
 use Rattle.source_safety.proofs.Surroundings.{Surrounds, surrounds_local, scene_local, type_up}
 use Rattle.source_safety.proofs.Statements.{full_laid}
 
@@ -108,7 +108,7 @@ module _ (d : Tables) (world : World) (tables : typing.Tables) (f : NameOf → R
     pub result : g'.result ≡ g.result
 
   pub all_bound : (ps : List Part) (ts : List StaticType) (ss : List Spot) (vss : List (List Scalar)) (g : Env) (scope : Scope) (w : Ghost) (m : Memory)
-      → Surrounds d world tables g scope f gives → scope.frame ≡ a → AreWords ts → TypesBelow g.regions.count ts → part_shapes ps ≡ map shape_of ts
+      → Surrounds d world tables g scope f gives → scope.frame ≡ a → AreObjects ts → TypesBelow g.regions.count ts → part_shapes ps ≡ map shape_of ts
       → Landed d (λ t u. Reached u) a w m ss (map (renamed f) ts) vss → AllBound g (with_all ps ts g) scope (bound_all scope ps ss) w m
   all_bound [] [] [] [] g scope w m h at_frame i q e l = record { surrounds = h; scene = λ b k z. z; in_loop = refl; in_switch = refl; result = refl }
   all_bound (p ∷ ps) (t ∷ ts) (s ∷ ss) (vs ∷ vss) g scope w m h at_frame i q e l =

@@ -53,7 +53,7 @@ module _ (n : ℕ) (d : Tables) (g : Env) (scope : Scope) (f : NameOf → memory
   pub sound_placed : (v : Value) (sh : Shape) (r : NameOf) (at : Act Spot) → sh ≡ shape_of v.type → v.seat ≡ In r → Copied (cells_type d f v.type)
       → Finds n d g scope f b v.type r at → Sound n d g scope f b v (place_sense scope.world sh at)
   sound_placed v sh r at e seat copied run = record {
-    shape = e;
+    shape = λ z. e;
     value = λ k w m i x.
         runs_bind n at (λ spot. take_cells (cells_of scope.world sh) spot) m (λ spot. After d k b w m (PlaceOk d f v.type r spot)) (given k w m) (run k w m i x)
         (λ spot m1 y.

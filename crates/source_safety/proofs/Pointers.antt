@@ -24,7 +24,7 @@ use Rattle.source_safety.proofs.Names.{NameOf}
 use Rattle.source_safety.proofs.Scenes.{Scene, scene_later}
 use Rattle.source_safety.proofs.Sound.{cells_type, PlaceOk, Gives, Shows, Finds}
 use Rattle.source_safety.proofs.Integers.{truth_typed}
-use Rattle.source_safety.proofs.Words.{IsWordType, OneValue, one_value, grows_grown}
+use Rattle.source_safety.proofs.Words.{IsObjectType, IsWordType, OneValue, one_value, grows_grown}
 
 -- a word's type, or that of `NULL`
 abbrev pub IsValue : StaticType → Type 0
@@ -223,7 +223,7 @@ module _ (n : ℕ) (d : Tables) (g : Env) (scope : Scope) (f : NameOf → Region
   -- ---- `*e` and `&e`
 
   -- NULL raises, and else the cell is there, in a region that is live
-  pub finds_contents : (c : Bool) (r : NameOf) (t : StaticType) (cells : ℕ) (act : Act (List Scalar)) → IsWordType t → g.regions.live r ≡ true
+  pub finds_contents : (c : Bool) (r : NameOf) (t : StaticType) (cells : ℕ) (act : Act (List Scalar)) → IsObjectType t → g.regions.live r ≡ true
       → Shows n d g scope f b (Thin c r t) act → Finds n d g scope f b t r (act >>= one >>= λ p. accessed cells p)
   finds_contents c r t cells act e live shows = λ k w m i x. record {
     by = λ next q. (runs_value (Thin c r t) act (λ p. accessed cells p) k w m (post k w m) e shows i x

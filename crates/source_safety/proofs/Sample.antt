@@ -1,5 +1,5 @@
 -- A program that is in order, by the rules' own tables of its names: `int main() { return 0; }`.
-use Rattle.std.proofs.Common.{◌≡◌, ℕ, Bool, true, false, inl, inr, Option, Some, None, List, [], ◌∷◌, refl, subst}
+use Rattle.std.proofs.Common.{◌≡◌, ℕ, Bool, true, false, inl, inr, Option, Some, None, List, [], ◌∷◌, refl, subst, arith}
 use Rattle.std.specs.Prelude.{bytes_eq, codes, if◌then◌else◌}
 use Rattle.std.proofs.lemmas.Slice.Eq.{bytes_eq-Decides}
 use Rattle.std.proofs.lemmas.Bool.{false≢true}
@@ -52,7 +52,7 @@ main_function = record {
   types = [];
   parameters = refl;
   shapes = refl;
-  words = tt;
+  objects = tt;
   gives = Int;
   result = refl;
   shape = refl;
@@ -78,7 +78,7 @@ main_judged = record {
     record {
       gives = Int;
       result = refl;
-      word = tt;
+      object = tt;
       fitting = record {
         accepted = record { value = record { at = 20; type = Int; seat = Nowhere }; judged = refl; is_taken = refl; operands = tt };
         converts = Integers refl refl;
@@ -130,7 +130,7 @@ no_variable t r false false false h = absurd cc
 -- what the law on runs asks for is met by the rules' tables
 pub nothing_judged : ProgramJudged nothing its_tables
 nothing_judged = record {
-  no_structs = refl;
+  structs = record { types = []; in_order = tt; laid_out = tt; few = omega arith };
   plain = λ x e h. entry_plain x e (bytes_eq (codes "getchar") x) (bytes_eq (codes "putchar") x) (bytes_eq (codes "main") x) refl refl refl h;
   globals = tt;
   variables = λ x t r h. absurd (no_variable t r (bytes_eq (codes "getchar") x) (bytes_eq (codes "putchar") x) (bytes_eq (codes "main") x) h);

@@ -69,9 +69,9 @@ module _ (n : ℕ) (d : Tables) (g : Env) (scope : Scope) (f : NameOf → Region
   Finds t r act = (k : ℕ) (w : Ghost) (m : Memory) → Inv d w m → Scene d g scope f b k w m
       → Runs n act m (λ at. After d k b w m (PlaceOk d f t r at))
 
-  -- what is promised of a meaning, where the expression was judged to be this
+  -- what is promised of a meaning, where the expression was judged to be this; what gives nothing may have any shape
   pub record Sound (v : Value) (e : Sense) : Type 0 where
-    pub shape : e.shape ≡ shape_of v.type
+    pub shape : (v.type ≡ Void → ⊥) → e.shape ≡ shape_of v.type
     pub value : Gives v.type e.value
     pub look : Shows v.type e.look
     pub place : (r : NameOf) → v.seat ≡ In r → Finds v.type r e.place
@@ -91,7 +91,8 @@ module _ (n : ℕ) (d : Tables) (g : Env) (scope : Scope) (f : NameOf → Region
   no_place v r A e h = absurd cc
 
   -- an expression that is no place
-  pub sound_value : (v : Value) (s : Shape) (act : Act (List Scalar)) → s ≡ shape_of v.type → v.seat ≡ Nowhere → Gives v.type act → Sound v (value_sense s act)
+  pub sound_value : (v : Value) (s : Shape) (act : Act (List Scalar)) → ((v.type ≡ Void → ⊥) → s ≡ shape_of v.type) → v.seat ≡ Nowhere
+      → Gives v.type act → Sound v (value_sense s act)
   sound_value v s act e p h = record {
     shape = e;
     value = h;

@@ -25,7 +25,9 @@ use Rattle.source_safety.proofs.Names.{NameOf, naming}
 use Rattle.source_safety.proofs.Scenes.{Scene}
 use Rattle.source_safety.proofs.Operands.{Tells, runs_choose}
 use Rattle.source_safety.proofs.Storing.{runs_converted}
-use Rattle.source_safety.proofs.Words.{word_kept, grown_itself}
+use Rattle.source_safety.proofs.Words.{object_kept, grown_itself}
+use Rattle.source_safety.proofs.Layouts.{Structs}
+use Rattle.source_safety.proofs.Converting.{converts_some}
 use Rattle.source_safety.proofs.Entries.{Invokes}
 use Rattle.source_safety.proofs.Forms.{Denotes, denotes_tells}
 use Rattle.source_safety.proofs.Expressions.{expression_sound}
@@ -46,7 +48,7 @@ module _ (n : ℕ) (d : Tables) (world : World) (tables : typing.Tables) (invoke
       → Denotes n d g scope f b a.value (sense e scope)
   denotes g scope f e h a = expression_sound n d g scope f b
       (subst (λ (y : World). Invokes n d y g.tables) (sym h.world_is) (subst (λ (y : typing.Tables). Invokes n d world y) (sym h.tables_are) invokes))
-      (subst (λ (y : World). Rattle.source_safety.proofs.Arguments.Agrees y d) (sym h.world_is) h.agrees) h.binds h.plain h.functions h.strict h.inside e a.value a.is_taken a.operands a.judged
+      (subst (λ (y : World). Structs d y g.tables) (sym h.world_is) (subst (λ (y : typing.Tables). Structs d world y) (sym h.tables_are) h.structs)) h.binds h.plain h.functions h.strict h.inside e a.value a.is_taken a.operands a.judged
 
   -- an act of a block after which the rest is done
   pub after_leaves : (g : Env) (scope : Scope) (f : NameOf → Region) (s : Ways) (act : Act Flow) (k : ℕ) (w : Ghost) (m : Memory) (w1 : Ghost) (m1 : Memory)
@@ -103,15 +105,16 @@ module _ (n : ℕ) (d : Tables) (world : World) (tables : typing.Tables) (invoke
       let z : Denotes n d g scope f b a.value (sense e scope) = denotes g scope f e h a in
       let result : ResultIs g scope f gives r.gives = h.result r.gives r.result in
       subst (λ (y : Shape). Leaves n d gives g scope f b s ((sense e scope).value >>= converted scope.world y (sense e scope).shape >>= λ vs. give (Returns vs))) (sym result.shape)
-      (subst (λ (y : Shape). Leaves n d gives g scope f b s ((sense e scope).value >>= converted scope.world (shape_of r.gives) y >>= λ vs. give (Returns vs))) (sym z.sound.shape)
+      (subst (λ (y : Shape). Leaves n d gives g scope f b s ((sense e scope).value >>= converted scope.world (shape_of r.gives) y >>= λ vs. give (Returns vs)))
+      (sym (z.sound.shape (converts_some g.regions a.value.type r.gives r.fitting.converts r.object)))
       (λ k w m i x. runs_converted n d g scope f b a.value.type r.gives (sense e scope).value (λ vs. give (Returns vs)) k w m
-      (λ flow. After d k b w m (λ w' m'. FlowOk d gives g s flow w')) z.simple r.word r.fitting.converts z.sound.value i x
+      (λ flow. After d k b w m (λ w' m'. FlowOk d gives g s flow w')) z.simple r.object r.fitting.converts z.sound.value i x
       (λ vs w1 m1 i1 g1 typed. record {
         by = λ next q. q (Returns vs) m1 (record {
           ghost = w1;
           inv = i1;
           grows = g1;
           holds = subst (λ (t : RunType). HaveTypes d w1 (λ c. Rattle.source_safety.proofs.Invariant.Returned c) vs (flat heap d t)) result.run
-              (word_kept d f w1 w1 (flying k 0) (λ c. Rattle.source_safety.proofs.Invariant.Returned c) vs r.gives r.word (grown_itself w1) typed);
+              (object_kept d f w1 w1 (flying k 0) (λ c. Rattle.source_safety.proofs.Invariant.Returned c) vs r.gives h.structs.in_order r.object (grown_itself w1) typed);
         });
       })))

@@ -1,4 +1,4 @@
--- Words are converted, variables are read, and values are stored to them.
+-- Values are converted, variables are read, and values are stored to them.
 use Rattle.std.proofs.Common.{◌≡◌, ℕ, suc, true, Option, Some, List, refl, sym, ◌∙◌, ap, subst}
 use Rattle.source_meaning.specs.Shapes.{Shape}
 use Rattle.source_meaning.specs.Memory.{Region, Spot, Scalar, Memory}
@@ -11,7 +11,8 @@ use Rattle.source_typing.specs.Types.{StaticType, Int, Unsigned, Char, Void, Nul
 use Rattle.source_typing.specs.Scope.{Env, Value, In, meant}
 use Rattle.source_typing.specs.Tables.{OfValue, Stored}
 use Rattle.source_safety.specs.Flat.{Tables}
-use Rattle.source_safety.proofs.Invariant.{Ghost, HaveTypes, Inv, Grows}
+use Rattle.source_safety.specs.Structs.{AreInOrder}
+use Rattle.source_safety.proofs.Invariant.{Owner, Ghost, HaveTypes, Inv, Grows}
 use Rattle.source_safety.proofs.Growth.{grows_refl, grows_trans, grows_less}
 use Rattle.source_safety.proofs.Runs.{Runs}
 use Rattle.source_safety.proofs.After.{After, flying}
@@ -20,14 +21,15 @@ use Rattle.source_safety.proofs.Arguments.{Agrees}
 use Rattle.source_safety.proofs.Names.{NameOf}
 use Rattle.source_safety.proofs.Scenes.{Bound, Binds, Scene, scene_later, scene_more}
 use Rattle.source_safety.proofs.Sound.{cells_type, PlaceOk, Gives, Finds, Sound}
-use Rattle.source_safety.proofs.Words.{IsWordType, IsSimple, word_copied, word_kept, grows_grown}
+use Rattle.source_safety.proofs.Words.{IsObjectType, IsSimple, object_copied, object_kept, grows_grown}
 use Rattle.source_safety.proofs.Converting.{converts_goes}
+use Rattle.source_safety.proofs.WordRules.{given_type}
 use Rattle.source_safety.proofs.Places.{sound_placed}
 
 module _ (n : ℕ) (d : Tables) (g : Env) (scope : Scope) (f : NameOf → Region) (b : ℕ) where
   -- a value that is given is converted, and then comes the rest, in which it is on its way
   pub runs_converted : {B : Type 0} (t u : StaticType) (act : Act (List Scalar)) (h : List Scalar → Act B) (k : ℕ) (w : Ghost) (m : Memory)
-      (Q : B → Memory → Type 0) → IsSimple t → IsWordType u → Converts g.regions t u → Gives n d g scope f b t act → Inv d w m → Scene d g scope f b k w m
+      (Q : B → Memory → Type 0) → IsSimple t → IsObjectType u → Converts g.regions t u → Gives n d g scope f b t act → Inv d w m → Scene d g scope f b k w m
       → ((vs : List Scalar) (w' : Ghost) (m' : Memory) → Inv d w' m' → Grows k b w m w' m' → HaveTypes d w' (flying k 0) vs (cells_type d f u)
       → Runs n (h vs) m' Q)
       → Runs n (act >>= converted scope.world (shape_of u) (shape_of t) >>= h) m Q
@@ -39,7 +41,7 @@ module _ (n : ℕ) (d : Tables) (g : Env) (scope : Scope) (f : NameOf → Region
 
   -- ---- variables
 
-  variable_sense : (t : StaticType) (at : Spot) → IsWordType t
+  variable_sense : (t : StaticType) (at : Spot) → IsObjectType t
       → entity_sense scope.world (Some (Variable (shape_of t) at)) ≡ place_sense scope.world (shape_of t) (give at)
   variable_sense Int at e = refl
   variable_sense Unsigned at e = refl
@@ -51,18 +53,18 @@ module _ (n : ℕ) (d : Tables) (g : Env) (scope : Scope) (f : NameOf → Region
   variable_sense (Unique c t) at e = absurd e
   variable_sense (Handle r) at e = absurd e
   variable_sense (Key r) at e = absurd e
-  variable_sense (Struct tag rs) at e = absurd e
+  variable_sense (Struct tag rs) at e = refl
   variable_sense (Union tag rs) at e = absurd e
 
-  -- a variable of a word is a place
-  pub sound_variable : Agrees scope.world d → Binds g scope f → (x : List ℕ) (t : StaticType) (r : NameOf) (v : Value)
-      → meant g x ≡ Some (OfValue (Stored t r)) → IsWordType t → v.type ≡ t → v.seat ≡ In r → Sound n d g scope f b v (entity_sense scope.world (entity_of scope x))
-  sound_variable agrees binds x t r v e it vt seat =
+  -- a variable is a place
+  pub sound_variable : Agrees scope.world d → AreInOrder d.structs → Binds g scope f → (x : List ℕ) (t : StaticType) (r : NameOf) (v : Value)
+      → meant g x ≡ Some (OfValue (Stored t r)) → IsObjectType t → v.type ≡ t → v.seat ≡ In r → Sound n d g scope f b v (entity_sense scope.world (entity_of scope x))
+  sound_variable agrees order binds x t r v e it vt seat =
       let z : Bound g.regions.count f (entity_of scope x) t r = binds.variables x t r e in
       subst (λ (y : Option Entity). Sound n d g scope f b v (entity_sense scope.world y)) (sym z.is)
       (subst (λ (y : Sense). Sound n d g scope f b v y) (sym (variable_sense t z.at it))
       (sound_placed n d g scope f b agrees v (shape_of t) r (give z.at) (ap shape_of (sym vt)) seat
-      (subst (λ (y : StaticType). Copied (cells_type d f y)) (sym vt) (word_copied d f t it))
+      (subst (λ (y : StaticType). Copied (cells_type d f y)) (sym vt) (object_copied d f t order it))
       (λ k w m h s. record {
         by = λ next q. q z.at m (record {
           ghost = w;
@@ -81,35 +83,37 @@ module _ (n : ℕ) (d : Tables) (g : Env) (scope : Scope) (f : NameOf → Region
 
   -- ---- assignments
 
-  given_word : (t : StaticType) (vs : List Scalar) → IsWordType t → given_by (shape_of t) vs ≡ vs
-  given_word Int vs e = refl
-  given_word Unsigned vs e = refl
-  given_word Char vs e = refl
-  given_word Void vs e = absurd e
-  given_word Null vs e = absurd e
-  given_word (Thin c r t) vs e = refl
-  given_word (Fat r t) vs e = absurd e
-  given_word (Unique c t) vs e = absurd e
-  given_word (Handle r) vs e = absurd e
-  given_word (Key r) vs e = absurd e
-  given_word (Struct tag rs) vs e = absurd e
-  given_word (Union tag rs) vs e = absurd e
+  -- what an assignment gives is of the type that the rules say
+  given_typed : (t : StaticType) (vs : List Scalar) (w : Ghost) (by : ℕ → Owner) → IsObjectType t → HaveTypes d w by vs (cells_type d f t)
+      → HaveTypes d w by (given_by (shape_of t) vs) (cells_type d f (given_type t))
+  given_typed Int vs w by e h = h
+  given_typed Unsigned vs w by e h = h
+  given_typed Char vs w by e h = h
+  given_typed Void vs w by e h = absurd e
+  given_typed Null vs w by e h = absurd e
+  given_typed (Thin c r t) vs w by e h = h
+  given_typed (Fat r t) vs w by e h = absurd e
+  given_typed (Unique c t) vs w by e h = absurd e
+  given_typed (Handle r) vs w by e h = absurd e
+  given_typed (Key r) vs w by e h = absurd e
+  given_typed (Struct tag rs) vs w by e h = tt
+  given_typed (Union tag rs) vs w by e h = absurd e
 
-  -- a value is stored to the place of a word, which is found after it was evaluated
-  pub gives_assigned : (t u : StaticType) (r : NameOf) (to from : Sense) → IsSimple t → IsWordType u → Converts g.regions t u → from.shape ≡ shape_of t
-      → to.shape ≡ shape_of u → Gives n d g scope f b t from.value → Finds n d g scope f b u r to.place
-      → Gives n d g scope f b u
+  -- a value is stored to the place of an object, which is found after it was evaluated
+  pub gives_assigned : (t u : StaticType) (r : NameOf) (to from : Sense) → AreInOrder d.structs → IsSimple t → IsObjectType u → Converts g.regions t u
+      → from.shape ≡ shape_of t → to.shape ≡ shape_of u → Gives n d g scope f b t from.value → Finds n d g scope f b u r to.place
+      → Gives n d g scope f b (given_type u)
       (from.value >>= converted scope.world to.shape from.shape >>= λ vs. to.place >>= λ s. write_cells s vs >> give (given_by to.shape vs))
-  gives_assigned t u r to from it iu conv ef et gives finds =
-      subst (λ (y : Shape). Gives n d g scope f b u
+  gives_assigned t u r to from order it iu conv ef et gives finds =
+      subst (λ (y : Shape). Gives n d g scope f b (given_type u)
       (from.value >>= converted scope.world to.shape y >>= λ vs. to.place >>= λ s. write_cells s vs >> give (given_by to.shape vs))) (sym ef)
-      (subst (λ (y : Shape). Gives n d g scope f b u
+      (subst (λ (y : Shape). Gives n d g scope f b (given_type u)
       (from.value >>= converted scope.world y (shape_of t) >>= λ vs. to.place >>= λ s. write_cells s vs >> give (given_by y vs))) (sym et)
       (λ k w m i x. runs_converted t u from.value (λ vs. to.place >>= λ s. write_cells s vs >> give (given_by (shape_of u) vs)) k w m (post k w m) it iu conv gives i x
       (λ vs w1 m1 i1 g1 typed. stored k w m vs w1 m1 i1 g1 typed (scene_later d g scope f b k w m w1 m1 i1 g1 x))))
     where
       post : ℕ → Ghost → Memory → List Scalar → Memory → Type 0
-      post k w m = λ vs. After d k b w m (λ w' m'. HaveTypes d w' (flying k 0) vs (cells_type d f u))
+      post k w m = λ vs. After d k b w m (λ w' m'. HaveTypes d w' (flying k 0) vs (cells_type d f (given_type u)))
 
       stored : (k : ℕ) (w : Ghost) (m : Memory) (vs : List Scalar) (w1 : Ghost) (m1 : Memory) → Inv d w1 m1 → Grows k b w m w1 m1
           → HaveTypes d w1 (flying k 0) vs (cells_type d f u) → Scene d g scope f b k w1 m1
@@ -118,14 +122,15 @@ module _ (n : ℕ) (d : Tables) (g : Env) (scope : Scope) (f : NameOf → Region
         by = λ next q. (finds (suc k) w1 m1 i1 (scene_more d g scope f b k w1 m1 x1)).by (λ s. (write_cells s vs >> give (given_by (shape_of u) vs)) next)
             (λ s m2 y.
             let place : PlaceOk d f u r s y.ghost m2 = y.holds in
-            let there : HaveTypes d y.ghost (flying k 0) vs (cells_type d f u) = word_kept d f w1 y.ghost (flying k 0) (flying k 0) vs u iu (grows_grown y.grows) typed in
+            let there : HaveTypes d y.ghost (flying k 0) vs (cells_type d f u) = object_kept d f w1 y.ghost (flying k 0) (flying k 0) vs u order iu (grows_grown y.grows) typed in
             (runs_write_laid d n k b 0 y.ghost m2 s (cells_type d f u) vs (give (given_by (shape_of u) vs)) (post k w m) y.inv place.1 place.0.typed there
-            (λ w3 m3 i3 g3. subst (λ (us : List Scalar). Runs n (give us) m3 (post k w m)) (sym (given_word u vs iu)) (record {
-              by = λ next2 q2. q2 vs m3 (record {
+            (λ w3 m3 i3 g3. record {
+              by = λ next2 q2. q2 (given_by (shape_of u) vs) m3 (record {
                 ghost = w3;
                 inv = i3;
                 grows = grows_trans g1 (grows_trans (grows_less y.grows) g3);
-                holds = word_kept d f y.ghost w3 (flying k 0) (flying k 0) vs u iu (grows_grown g3) there;
+                holds = given_typed u vs w3 (flying k 0) iu
+                    (object_kept d f y.ghost w3 (flying k 0) (flying k 0) vs u order iu (grows_grown g3) there);
               });
-            }))).by next q);
+            })).by next q);
       }

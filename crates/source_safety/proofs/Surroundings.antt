@@ -18,11 +18,11 @@ use Rattle.source_safety.specs.Judged.{extended}
 use Rattle.source_safety.proofs.Facts.{if_cases}
 use Rattle.source_safety.proofs.Invariant.{RunType, heap, Ghost, Laid, Inv}
 use Rattle.source_safety.proofs.Values.{laid_kept}
-use Rattle.source_safety.proofs.Arguments.{Agrees}
+use Rattle.source_safety.proofs.Layouts.{Structs}
 use Rattle.source_safety.proofs.Scopes.{block_ghost, block_memory, frame_births}
 use Rattle.source_safety.proofs.Names.{NameOf, Below, below_up, naming, names_scope}
 use Rattle.source_safety.proofs.Scenes.{AllBelow, TypeBelow, Alike, renamed_alike, Bound, bound_alike, Binds, Scene}
-use Rattle.source_safety.proofs.Entries.{IsWordType, PlainEntry, MeansPlain}
+use Rattle.source_safety.proofs.Entries.{IsObjectType, PlainEntry, MeansPlain}
 
 -- a function's result: its shape, and its type in this run
 pub record ResultIs (g : Env) (scope : Scope) (f : NameOf → Region) (gives : RunType) (t : StaticType) : Type 0 where
@@ -35,7 +35,7 @@ pub record ResultIs (g : Env) (scope : Scope) (f : NameOf → Region) (gives : R
 pub record Surrounds (d : Tables) (world : World) (tables : typing.Tables) (g : Env) (scope : Scope) (f : NameOf → Region) (gives : RunType) : Type 0 where
   pub tables_are : g.tables ≡ tables
   pub world_is : scope.world ≡ world
-  pub agrees : Agrees world d
+  pub structs : Structs d world tables
   pub binds : Binds g scope f
   pub plain : MeansPlain scope.world g
   pub functions : (x : List ℕ) (s : Signature) → meant g x ≡ Some (OfFunction s) → find g.tables x ≡ Some (OfFunction s)
@@ -54,7 +54,7 @@ pub surrounds_loop : (d : Tables) (world : World) (tables : typing.Tables) (g : 
 surrounds_loop d world tables g scope f gives h = record {
   tables_are = h.tables_are;
   world_is = h.world_is;
-  agrees = h.agrees;
+  structs = h.structs;
   binds = record { variables = h.binds.variables; live = h.binds.live; globals = h.binds.globals };
   plain = h.plain;
   functions = h.functions;
@@ -73,7 +73,7 @@ scene_loop d g scope f b k w m h = record { names = h.names; base = h.base; vari
 -- ---- a local is declared
 
 module _ (d : Tables) (world : World) (tables : typing.Tables) (g : Env) (scope : Scope) (f : NameOf → Region) (x : tree.Name) (t : StaticType) (at : Spot)
-    (gives : RunType) (h : Surrounds d world tables g scope f gives) (word : IsWordType t) (below : TypeBelow g.regions.count t) (there : at.region ≡ Frame scope.frame)
+    (gives : RunType) (h : Surrounds d world tables g scope f gives) (object : IsObjectType t) (below : TypeBelow g.regions.count t) (there : at.region ≡ Frame scope.frame)
   where
     -- the scope of the meaning with the local
     abbrev pub bound_scope : Scope
@@ -97,7 +97,7 @@ module _ (d : Tables) (world : World) (tables : typing.Tables) (g : Env) (scope 
     variable_live y u r false e = h.binds.live y u r e
 
     entry_plain : (y : List ℕ) (e : Entry) (c : Bool) → (if c then Some (OfValue (Stored t g.frame)) else meant g y) ≡ Some e → PlainEntry scope.world y e
-    entry_plain y e true z = let q : OfValue (Stored t g.frame) ≡ e = cc in subst (λ (u : Entry). PlainEntry scope.world y u) q word
+    entry_plain y e true z = let q : OfValue (Stored t g.frame) ≡ e = cc in subst (λ (u : Entry). PlainEntry scope.world y u) q object
     entry_plain y e false z = h.plain y e z
 
     function_found : (y : List ℕ) (s : Signature) (c : Bool) → (if c then Some (OfValue (Stored t g.frame)) else meant g y) ≡ Some (OfFunction s)
@@ -109,7 +109,7 @@ module _ (d : Tables) (world : World) (tables : typing.Tables) (g : Env) (scope 
     surrounds_local = record {
       tables_are = h.tables_are;
       world_is = h.world_is;
-      agrees = h.agrees;
+      structs = h.structs;
       binds = record {
         variables = λ y u r e. variable_bound y u r (bytes_eq x.text y) e;
         live = λ y u r e. variable_live y u r (bytes_eq x.text y) e;
@@ -206,7 +206,7 @@ module _ (d : Tables) (world : World) (tables : typing.Tables) (g : Env) (scope 
   surrounds_block = record {
     tables_are = h.tables_are;
     world_is = h.world_is;
-    agrees = h.agrees;
+    structs = h.structs;
     binds = record {
       variables = λ y u r e. bound_alike g.regions.count (g.regions.count + 1) f block_names (entity_of scope y) u r (below_up g.regions.count) (type_up g.regions.count)
           (naming_alike f g.regions.count (Frame a)) (h.binds.variables y u r e);

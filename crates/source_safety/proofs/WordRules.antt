@@ -1,11 +1,11 @@
--- What the rules say of words: which are tested, what is a place, and what a pointer leads to.
+-- What the rules say of words and structs: which are tested, what is a place, what an assignment gives, and what a pointer leads to.
 use Rattle.std.proofs.Common.{◌≡◌, ℕ, suc, Bool, true, false, refl, sym, ap, arith}
 use Rattle.std.specs.Prelude.{◌&&◌, ◌||◌, nat_eq}
 use Rattle.std.proofs.lemmas.Bool.{eqb-true}
 use Rattle.cyc_tree.specs.declared.expression.Operator.{Operator}
+use Rattle.source_meaning.specs.Shapes.{Shape}
 use Rattle.source_typing.specs.Verdicts.{Of, after, if_fits}
 use Rattle.source_typing.specs.Operators.{on_integers, applied_to, compared_thin, compared, if_equality, integers_joined, is_equality}
-use Rattle.source_typing.specs.Operators as rules
 use Rattle.source_typing.specs.Places as places
 use Rattle.source_typing.specs.Places.{assigned_type}
 use Rattle.source_typing.specs.Scope.{Env, Value, Nowhere, In, value, is_live}
@@ -28,10 +28,12 @@ use Rattle.source_typing.specs.Types.{
   is_null,
   is_same,
   is_testable,
+  shape_of,
 }
 use Rattle.source_typing.proofs.Inversion.{of_is, unless_is}
 use Rattle.source_safety.proofs.Names.{NameOf}
-use Rattle.source_safety.proofs.Words.{IsWordType, IsSimple}
+use Rattle.source_safety.specs.Named.{TypeBelow}
+use Rattle.source_safety.proofs.Words.{IsObjectType, IsWordType, IsSimple}
 
 pub testable_word : (t : StaticType) → IsSimple t → is_testable t ≡ true → IsWordType t
 testable_word Int p e = tt
@@ -44,7 +46,7 @@ testable_word (Fat r t) p e = absurd p
 testable_word (Unique n t) p e = absurd p
 testable_word (Handle r) p e = absurd p
 testable_word (Key r) p e = absurd p
-testable_word (Struct tag rs) p e = absurd p
+testable_word (Struct tag rs) p e = absurd cc
 testable_word (Union tag rs) p e = absurd p
 
 -- a value that is no place, and its type
@@ -82,13 +84,14 @@ compared_seat g at (Thin n r t) (Fat s u) v p q e = absurd q
 compared_seat g at (Thin n r t) (Unique m u) v p q e = absurd q
 compared_seat g at (Thin n r t) (Handle s) v p q e = absurd q
 compared_seat g at (Thin n r t) (Key s) v p q e = absurd q
-compared_seat g at (Thin n r t) (Struct tag rs) v p q e = absurd q
+compared_seat g at (Thin n r t) (Struct tag rs) v p q e = null_seat false at v e
 compared_seat g at (Thin n r t) (Union tag rs) v p q e = absurd q
 compared_seat g at (Fat r t) b v p q e = absurd p
 compared_seat g at (Unique n t) b v p q e = absurd p
 compared_seat g at (Handle r) b v p q e = absurd p
 compared_seat g at (Key r) b v p q e = absurd p
-compared_seat g at (Struct tag rs) b v p q e = absurd p
+compared_seat g at (Struct tag rs) b v p q e =
+    null_seat ((is_pointer (Struct tag rs) && is_null b) || (is_null (Struct tag rs) && is_pointer b)) at v e
 compared_seat g at (Union tag rs) b v p q e = absurd p
 
 equality_seat : (c : Bool) (g : Env) (at : ℕ) (a b : StaticType) (v : Value) → IsSimple a → IsSimple b → if_equality c g at a b ≡ Of v → v.seat ≡ Nowhere
@@ -111,7 +114,7 @@ applied_seat g o at (Fat r t) b v p q e = absurd p
 applied_seat g o at (Unique n t) b v p q e = absurd p
 applied_seat g o at (Handle r) b v p q e = absurd p
 applied_seat g o at (Key r) b v p q e = absurd p
-applied_seat g o at (Struct tag rs) b v p q e = absurd p
+applied_seat g o at (Struct tag rs) b v p q e = joined_seat (is_integer (Struct tag rs) && is_integer b) g o at (Struct tag rs) b v p q e
 applied_seat g o at (Union tag rs) b v p q e = absurd p
 
 -- what is tested, and `-e` and `~e`
@@ -119,19 +122,66 @@ pub fitted : (b : Bool) (at place : ℕ) (t : StaticType) (v : Value) → after 
 fitted true at place t v e = (refl, value_of place t v e)
 fitted false at place t v e = absurd cc
 
-pub assigned_word : (g : Env) (t : StaticType) → IsWordType t → assigned_type g t ≡ t
-assigned_word g Int e = refl
-assigned_word g Unsigned e = refl
-assigned_word g Char e = refl
-assigned_word g Void e = absurd e
-assigned_word g Null e = absurd e
-assigned_word g (Thin n r t) e = refl
-assigned_word g (Fat r t) e = absurd e
-assigned_word g (Unique n t) e = absurd e
-assigned_word g (Handle r) e = absurd e
-assigned_word g (Key r) e = absurd e
-assigned_word g (Struct tag rs) e = absurd e
-assigned_word g (Union tag rs) e = absurd e
+-- what an assignment gives: the stored value, but of a struct nothing
+abbrev pub given_type : StaticType → StaticType
+given_type (Struct tag rs) = Void
+given_type t = t
+
+pub assigned_object : (g : Env) (t : StaticType) → IsObjectType t → assigned_type g t ≡ given_type t
+assigned_object g Int e = refl
+assigned_object g Unsigned e = refl
+assigned_object g Char e = refl
+assigned_object g Void e = absurd e
+assigned_object g Null e = absurd e
+assigned_object g (Thin n r t) e = refl
+assigned_object g (Fat r t) e = absurd e
+assigned_object g (Unique n t) e = absurd e
+assigned_object g (Handle r) e = absurd e
+assigned_object g (Key r) e = absurd e
+assigned_object g (Struct tag rs) e = refl
+assigned_object g (Union tag rs) e = absurd e
+
+pub given_simple : (t : StaticType) → IsObjectType t → IsSimple (given_type t)
+given_simple Int e = tt
+given_simple Unsigned e = tt
+given_simple Char e = tt
+given_simple Void e = absurd e
+given_simple Null e = absurd e
+given_simple (Thin n r t) e = e
+given_simple (Fat r t) e = absurd e
+given_simple (Unique n t) e = absurd e
+given_simple (Handle r) e = absurd e
+given_simple (Key r) e = absurd e
+given_simple (Struct tag rs) e = tt
+given_simple (Union tag rs) e = absurd e
+
+pub given_below : (n : ℕ) (t : StaticType) → IsObjectType t → TypeBelow n t → TypeBelow n (given_type t)
+given_below n Int e h = h
+given_below n Unsigned e h = h
+given_below n Char e h = h
+given_below n Void e h = absurd e
+given_below n Null e h = absurd e
+given_below n (Thin c r t) e h = h
+given_below n (Fat r t) e h = absurd e
+given_below n (Unique c t) e h = absurd e
+given_below n (Handle r) e h = absurd e
+given_below n (Key r) e h = absurd e
+given_below n (Struct tag rs) e h = tt
+given_below n (Union tag rs) e h = absurd e
+
+pub given_shaped : (t : StaticType) (s : Shape) → IsObjectType t → s ≡ shape_of t → (given_type t ≡ Void → ⊥) → s ≡ shape_of (given_type t)
+given_shaped Int s e h n = h
+given_shaped Unsigned s e h n = h
+given_shaped Char s e h n = h
+given_shaped Void s e h n = absurd e
+given_shaped Null s e h n = absurd e
+given_shaped (Thin c r t) s e h n = h
+given_shaped (Fat r t) s e h n = absurd e
+given_shaped (Unique c t) s e h n = absurd e
+given_shaped (Handle r) s e h n = absurd e
+given_shaped (Key r) s e h n = absurd e
+given_shaped (Struct tag rs) s e h n = absurd (n refl)
+given_shaped (Union tag rs) s e h n = absurd e
 
 -- what `*e` takes: a pointer into a live region
 pub record Pointed (g : Env) (at : ℕ) (t : StaticType) (v : Value) : Type 0 where
@@ -159,7 +209,7 @@ contents_is g at (Fat r t) v p e = absurd p
 contents_is g at (Unique n t) v p e = absurd p
 contents_is g at (Handle r) v p e = absurd p
 contents_is g at (Key r) v p e = absurd p
-contents_is g at (Struct tag rs) v p e = absurd p
+contents_is g at (Struct tag rs) v p e = absurd cc
 contents_is g at (Union tag rs) v p e = absurd p
 
 -- ---- counts

@@ -1,37 +1,39 @@
--- Words are values of one cell that carry no right: they stay of their type whoever has them.
-use Rattle.std.proofs.Common.{◌≡◌, ℕ, suc, true, false, List, [], ◌∷◌, refl, ap}
+-- Words and structs of them carry no right: they stay of their type whoever has them.
+use Rattle.std.proofs.Common.{◌≡◌, ℕ, suc, true, false, List, [], ◌∷◌, refl, ap, subst}
+use Rattle.std.specs.Prelude.{map}
 use Rattle.source_meaning.specs.Shapes.{same_shape}
 use Rattle.source_meaning.specs.Memory.{Region, Scalar, Memory}
 use Rattle.source_typing.specs.Converts.{IsInteger}
 use Rattle.source_typing.specs.Types.{StaticType, Int, Unsigned, Char, Void, Null, Thin, Fat, Unique, Handle, Key, Struct, Union, renamed, shape_of}
 use Rattle.source_safety.specs.Flat.{Tables}
-pub use Rattle.source_safety.specs.Entries.{IsWordType, IsPlain}
-use Rattle.source_safety.specs.Entries.{Begins}
+pub use Rattle.source_safety.specs.Entries.{IsObjectType, IsWordType, IsPlain}
+use Rattle.source_safety.specs.Structs.{AreInOrder}
 use Rattle.source_safety.specs.Named.{TypeBelow}
 use Rattle.source_safety.proofs.Invariant.{RunType, Reached, Owner, Ghost, HasType, HaveTypes, Grows}
 use Rattle.source_safety.proofs.Values.{Grown, copied_kept}
 use Rattle.source_safety.proofs.Cells.{Copied}
 use Rattle.source_safety.proofs.Names.{NameOf}
 use Rattle.source_safety.proofs.Sound.{cells_type}
+use Rattle.source_safety.proofs.Layouts.{same_text, all_copied}
 
--- what an expression gives: a word, nothing, or `NULL`
+-- what an expression gives: a word, a struct, nothing, or `NULL`
 abbrev pub IsSimple : StaticType → Type 0
 IsSimple Null = Unit {0}
 IsSimple t = IsPlain t
 
-pub word_simple : (t : StaticType) → IsWordType t → IsSimple t
-word_simple Int e = tt
-word_simple Unsigned e = tt
-word_simple Char e = tt
-word_simple Void e = absurd e
-word_simple Null e = tt
-word_simple (Thin n r t) e = e
-word_simple (Fat r t) e = absurd e
-word_simple (Unique n t) e = absurd e
-word_simple (Handle r) e = absurd e
-word_simple (Key r) e = absurd e
-word_simple (Struct tag rs) e = absurd e
-word_simple (Union tag rs) e = absurd e
+pub object_simple : (t : StaticType) → IsObjectType t → IsSimple t
+object_simple Int e = tt
+object_simple Unsigned e = tt
+object_simple Char e = tt
+object_simple Void e = absurd e
+object_simple Null e = tt
+object_simple (Thin n r t) e = e
+object_simple (Fat r t) e = absurd e
+object_simple (Unique n t) e = absurd e
+object_simple (Handle r) e = absurd e
+object_simple (Key r) e = absurd e
+object_simple (Struct tag rs) e = e
+object_simple (Union tag rs) e = absurd e
 
 pub plain_simple : (t : StaticType) → IsPlain t → IsSimple t
 plain_simple Int e = tt
@@ -44,22 +46,40 @@ plain_simple (Fat r t) e = absurd e
 plain_simple (Unique n t) e = absurd e
 plain_simple (Handle r) e = absurd e
 plain_simple (Key r) e = absurd e
-plain_simple (Struct tag rs) e = absurd e
+plain_simple (Struct tag rs) e = e
 plain_simple (Union tag rs) e = absurd e
 
-pub integer_word : (t : StaticType) → IsInteger t → IsWordType t
-integer_word Int e = tt
-integer_word Unsigned e = tt
-integer_word Char e = tt
-integer_word Void e = absurd cc
-integer_word Null e = absurd cc
-integer_word (Thin n r t) e = absurd cc
-integer_word (Fat r t) e = absurd cc
-integer_word (Unique n t) e = absurd cc
-integer_word (Handle r) e = absurd cc
-integer_word (Key r) e = absurd cc
-integer_word (Struct tag rs) e = absurd cc
-integer_word (Union tag rs) e = absurd cc
+-- a word is an object, and an object is something
+pub word_object : (t : StaticType) → IsWordType t → IsObjectType t
+word_object Int e = tt
+word_object Unsigned e = tt
+word_object Char e = tt
+word_object Void e = absurd e
+word_object Null e = absurd e
+word_object (Thin n r t) e = e
+word_object (Fat r t) e = absurd e
+word_object (Unique n t) e = absurd e
+word_object (Handle r) e = absurd e
+word_object (Key r) e = absurd e
+word_object (Struct tag rs) e = absurd e
+word_object (Union tag rs) e = absurd e
+
+pub object_some : (t : StaticType) → IsObjectType t → t ≡ Void → ⊥
+object_some t e z = subst IsObjectType z e
+
+pub integer_object : (t : StaticType) → IsInteger t → IsObjectType t
+integer_object Int e = tt
+integer_object Unsigned e = tt
+integer_object Char e = tt
+integer_object Void e = absurd cc
+integer_object Null e = absurd cc
+integer_object (Thin n r t) e = absurd cc
+integer_object (Fat r t) e = absurd cc
+integer_object (Unique n t) e = absurd cc
+integer_object (Handle r) e = absurd cc
+integer_object (Key r) e = absurd cc
+integer_object (Struct tag rs) e = absurd cc
+integer_object (Union tag rs) e = absurd cc
 
 -- an integer's type names no region
 pub integer_below : (n : ℕ) (t : StaticType) → IsInteger t → TypeBelow n t
@@ -76,35 +96,20 @@ integer_below n (Key r) e = absurd cc
 integer_below n (Struct tag rs) e = absurd cc
 integer_below n (Union tag rs) e = absurd cc
 
--- and it begins as 0
-pub integer_begins : (t : StaticType) → IsInteger t → Begins t
-integer_begins Int e = tt
-integer_begins Unsigned e = tt
-integer_begins Char e = tt
-integer_begins Void e = absurd cc
-integer_begins Null e = absurd cc
-integer_begins (Thin n r t) e = absurd cc
-integer_begins (Fat r t) e = absurd cc
-integer_begins (Unique n t) e = absurd cc
-integer_begins (Handle r) e = absurd cc
-integer_begins (Key r) e = absurd cc
-integer_begins (Struct tag rs) e = absurd cc
-integer_begins (Union tag rs) e = absurd cc
-
--- other regions make no other word
-pub word_renamed : (h : NameOf → NameOf) (t : StaticType) → IsWordType t → IsWordType (renamed h t)
-word_renamed h Int e = tt
-word_renamed h Unsigned e = tt
-word_renamed h Char e = tt
-word_renamed h Void e = absurd e
-word_renamed h Null e = absurd e
-word_renamed h (Thin n r t) e = word_renamed h t e
-word_renamed h (Fat r t) e = absurd e
-word_renamed h (Unique n t) e = absurd e
-word_renamed h (Handle r) e = absurd e
-word_renamed h (Key r) e = absurd e
-word_renamed h (Struct tag rs) e = absurd e
-word_renamed h (Union tag rs) e = absurd e
+-- other regions make no other kind of type
+pub object_renamed : (h : NameOf → NameOf) (t : StaticType) → IsObjectType t → IsObjectType (renamed h t)
+object_renamed h Int e = tt
+object_renamed h Unsigned e = tt
+object_renamed h Char e = tt
+object_renamed h Void e = absurd e
+object_renamed h Null e = absurd e
+object_renamed h (Thin n r t) e = object_renamed h t e
+object_renamed h (Fat r t) e = absurd e
+object_renamed h (Unique n t) e = absurd e
+object_renamed h (Handle r) e = absurd e
+object_renamed h (Key r) e = absurd e
+object_renamed h (Struct tag rs) e = ap (map h) e
+object_renamed h (Union tag rs) e = absurd e
 
 pub plain_renamed : (h : NameOf → NameOf) (t : StaticType) → IsPlain t → IsPlain (renamed h t)
 plain_renamed h Int e = tt
@@ -112,28 +117,32 @@ plain_renamed h Unsigned e = tt
 plain_renamed h Char e = tt
 plain_renamed h Void e = tt
 plain_renamed h Null e = absurd e
-plain_renamed h (Thin n r t) e = word_renamed h t e
+plain_renamed h (Thin n r t) e = object_renamed h t e
 plain_renamed h (Fat r t) e = absurd e
 plain_renamed h (Unique n t) e = absurd e
 plain_renamed h (Handle r) e = absurd e
 plain_renamed h (Key r) e = absurd e
-plain_renamed h (Struct tag rs) e = absurd e
+plain_renamed h (Struct tag rs) e = ap (map h) e
 plain_renamed h (Union tag rs) e = absurd e
 
+map_twice : (f : NameOf → Region) (h : NameOf → NameOf) (rs : List NameOf) → map f (map h rs) ≡ map (λ a. f (h a)) rs
+map_twice f h [] = refl
+map_twice f h (r ∷ rs) = ap (λ (qs : List Region). f (h r) ∷ qs) (map_twice f h rs)
+
 -- a type's regions are named one after another
-pub word_twice : (f : NameOf → Region) (h : NameOf → NameOf) (t : StaticType) → IsWordType t → renamed f (renamed h t) ≡ renamed (λ a. f (h a)) t
-word_twice f h Int e = refl
-word_twice f h Unsigned e = refl
-word_twice f h Char e = refl
-word_twice f h Void e = refl
-word_twice f h Null e = refl
-word_twice f h (Thin n r t) e = ap (Thin n (f (h r))) (word_twice f h t e)
-word_twice f h (Fat r t) e = absurd e
-word_twice f h (Unique n t) e = absurd e
-word_twice f h (Handle r) e = absurd e
-word_twice f h (Key r) e = absurd e
-word_twice f h (Struct tag rs) e = absurd e
-word_twice f h (Union tag rs) e = absurd e
+pub object_twice : (f : NameOf → Region) (h : NameOf → NameOf) (t : StaticType) → IsObjectType t → renamed f (renamed h t) ≡ renamed (λ a. f (h a)) t
+object_twice f h Int e = refl
+object_twice f h Unsigned e = refl
+object_twice f h Char e = refl
+object_twice f h Void e = refl
+object_twice f h Null e = refl
+object_twice f h (Thin n r t) e = ap (Thin n (f (h r))) (object_twice f h t e)
+object_twice f h (Fat r t) e = absurd e
+object_twice f h (Unique n t) e = absurd e
+object_twice f h (Handle r) e = absurd e
+object_twice f h (Key r) e = absurd e
+object_twice f h (Struct tag rs) e = ap (Struct tag) (map_twice f h rs)
+object_twice f h (Union tag rs) e = absurd e
 
 pub plain_twice : (f : NameOf → Region) (h : NameOf → NameOf) (t : StaticType) → IsPlain t → renamed f (renamed h t) ≡ renamed (λ a. f (h a)) t
 plain_twice f h Int e = refl
@@ -141,16 +150,16 @@ plain_twice f h Unsigned e = refl
 plain_twice f h Char e = refl
 plain_twice f h Void e = refl
 plain_twice f h Null e = refl
-plain_twice f h (Thin n r t) e = word_twice f h (Thin n r t) e
+plain_twice f h (Thin n r t) e = object_twice f h (Thin n r t) e
 plain_twice f h (Fat r t) e = absurd e
 plain_twice f h (Unique n t) e = absurd e
 plain_twice f h (Handle r) e = absurd e
 plain_twice f h (Key r) e = absurd e
-plain_twice f h (Struct tag rs) e = absurd e
+plain_twice f h (Struct tag rs) e = ap (Struct tag) (map_twice f h rs)
 plain_twice f h (Union tag rs) e = absurd e
 
--- a word's shape is the same as itself
-pub shape_itself : (t : StaticType) → IsWordType t → same_shape (shape_of t) (shape_of t) ≡ true
+-- a shape is the same as itself
+pub shape_itself : (t : StaticType) → IsObjectType t → same_shape (shape_of t) (shape_of t) ≡ true
 shape_itself Int e = refl
 shape_itself Unsigned e = refl
 shape_itself Char e = refl
@@ -162,23 +171,12 @@ shape_itself (Fat r t) e = absurd e
 shape_itself (Unique n t) e = absurd e
 shape_itself (Handle r) e = absurd e
 shape_itself (Key r) e = absurd e
-shape_itself (Struct tag rs) e = absurd e
+shape_itself (Struct tag rs) e = same_text tag
 shape_itself (Union tag rs) e = absurd e
 
--- its cell is copied when it is read
-pub word_copied : (d : Tables) (f : NameOf → Region) (t : StaticType) → IsWordType t → Copied (cells_type d f t)
-word_copied d f Int e = (refl, tt)
-word_copied d f Unsigned e = (refl, tt)
-word_copied d f Char e = (refl, tt)
-word_copied d f Void e = absurd e
-word_copied d f Null e = absurd e
-word_copied d f (Thin n r t) e = (refl, tt)
-word_copied d f (Fat r t) e = absurd e
-word_copied d f (Unique n t) e = absurd e
-word_copied d f (Handle r) e = absurd e
-word_copied d f (Key r) e = absurd e
-word_copied d f (Struct tag rs) e = absurd e
-word_copied d f (Union tag rs) e = absurd e
+-- its cells are copied when they are read
+pub object_copied : (d : Tables) (f : NameOf → Region) (t : StaticType) → AreInOrder d.structs → IsObjectType t → Copied (cells_type d f t)
+object_copied d f t h e = all_copied d.structs f t h e
 
 -- values that carry no right may be of any owner
 pub values_copied : (d : Tables) (w w' : Ghost) (by to : ℕ → Owner) (vs : List Scalar) (ts : List RunType) → Grown w w' → Copied ts → HaveTypes d w by vs ts
@@ -189,9 +187,9 @@ values_copied d w w' by to (v ∷ vs) (t ∷ ts) g c h =
 values_copied d w w' by to [] (t ∷ ts) g c h = absurd h
 values_copied d w w' by to (v ∷ vs) [] g c h = absurd h
 
-pub word_kept : (d : Tables) (f : NameOf → Region) (w w' : Ghost) (by to : ℕ → Owner) (vs : List Scalar) (t : StaticType) → IsWordType t → Grown w w'
-    → HaveTypes d w by vs (cells_type d f t) → HaveTypes d w' to vs (cells_type d f t)
-word_kept d f w w' by to vs t e g h = values_copied d w w' by to vs (cells_type d f t) g (word_copied d f t e) h
+pub object_kept : (d : Tables) (f : NameOf → Region) (w w' : Ghost) (by to : ℕ → Owner) (vs : List Scalar) (t : StaticType) → AreInOrder d.structs
+    → IsObjectType t → Grown w w' → HaveTypes d w by vs (cells_type d f t) → HaveTypes d w' to vs (cells_type d f t)
+object_kept d f w w' by to vs t o e g h = values_copied d w w' by to vs (cells_type d f t) g (object_copied d f t o e) h
 
 -- types and the order of regions stay
 pub grows_grown : {k b : ℕ} {w w' : Ghost} {m m' : Memory} → Grows k b w m w' m' → Grown w w'

@@ -1,4 +1,4 @@
--- Which statements of integers and thin pointers are in order: the judgement of each of their expressions, in the scope where it stands.
+-- Which statements of integers, thin pointers and structs are in order: the judgement of each of their expressions, in the scope where it stands.
 use Rattle.std.specs.Prelude.{◌≡◌, true, ◌||◌, Some, None, ◌∷◌}
 use Rattle.cyc_tree.specs.Operands.{ExpressionHasOperands}
 use Rattle.cyc_tree.specs.Tree as tree
@@ -9,18 +9,22 @@ use Rattle.source_typing.specs.Declarations.{declare}
 use Rattle.source_typing.specs.Expressions.{judge}
 use Rattle.source_typing.specs.Scope.{Env, Value, block_entered}
 use Rattle.source_typing.specs.Statements.{in_a_loop}
-use Rattle.source_typing.specs.Tables.{Stored}
-use Rattle.source_typing.specs.Taken.{thin_pointers, taken}
+use Rattle.source_typing.specs.Tables.{Stored, has_beginning}
+use Rattle.source_typing.specs.Taken.{Taken, thin_pointers, taken}
 use Rattle.source_typing.specs.Types.{StaticType, Void, is_testable, shape_of}
 use Rattle.source_typing.specs.Verdicts.{Of}
-use Rattle.source_safety.specs.Entries.{IsWordType, Begins}
+use Rattle.source_safety.specs.Entries.{IsObjectType}
 use Rattle.source_safety.specs.Named.{TypeBelow}
+
+-- thin pointers, and structs without region parameters
+abbrev pub structures : Taken
+structures = record thin_pointers { structs = true }
 
 -- an expression of these forms that is in order, and what it is
 pub record Accepted (g : Env) (e : Expression) : Type 0 where
   pub value : Value
   pub judged : judge g e ≡ Of value
-  pub is_taken : taken thin_pointers e ≡ e
+  pub is_taken : taken structures e ≡ e
   pub operands : ExpressionHasOperands e
 
 -- a condition
@@ -37,19 +41,19 @@ pub record Fitting (g : Env) (e : Expression) (t : StaticType) : Type 0 where
   pub accepted : Accepted g e
   pub converts : Converts g.regions accepted.value.type t
 
--- A local of a word, which has its type as it is written: its region names are in scope, and it begins without an initializer.
+-- A local, which has its type as it is written: its region names are in scope, and it begins without an initializer.
 pub record LocalUnset (g : Env) (of : TypeName) (x : tree.Name) : Type 0 where
   pub type : StaticType
-  pub word : IsWordType type
+  pub object : IsObjectType type
   pub below : TypeBelow g.regions.count type
-  pub begins : Begins type
+  pub begins : has_beginning g.tables type ≡ true
   pub shape : settled (written of) ≡ shape_of type
   pub scope : (declare g (tree.Local of x Initializer.Unset)).scope ≡ extended g x type
 
 -- one with an initializer, whose value converts to its type
 pub record LocalSet (g : Env) (of : TypeName) (x : tree.Name) (e : Expression) : Type 0 where
   pub type : StaticType
-  pub word : IsWordType type
+  pub object : IsObjectType type
   pub below : TypeBelow g.regions.count type
   pub fitting : Fitting g e type
   pub shape : settled_by (written of) (shape_of fitting.accepted.value.type) ≡ shape_of type
@@ -60,11 +64,11 @@ DeclarationJudged g (tree.Local of x Initializer.Unset) = LocalUnset g of x
 DeclarationJudged g (tree.Local of x (Initializer.Value e)) = LocalSet g of x e
 DeclarationJudged g _ = ⊥
 
--- a result that converts to the word that the function gives
+-- a result that converts to the type that the function gives
 pub record Returned (g : Env) (e : Expression) : Type 0 where
   pub gives : StaticType
   pub result : g.result ≡ Some gives
-  pub word : IsWordType gives
+  pub object : IsObjectType gives
   pub fitting : Fitting g e gives
 
 -- `return` without a value stands in a function that gives none, `break` and `continue` in a loop

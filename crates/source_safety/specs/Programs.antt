@@ -1,4 +1,4 @@
--- Which programs of integers and thin pointers are in order: their globals, their functions and `main`, by what their names mean.
+-- Which programs of integers, thin pointers and structs are in order: their structs, their globals, their functions and `main`, by what their names mean.
 use Rattle.std.specs.Prelude.{◌≡◌, ℕ, true, false, ◌⊎◌, Some, List, [], ◌∷◌, codes}
 use Rattle.cyc_tree.specs.Tree as tree
 use Rattle.cyc_tree.specs.Tree.{Constant, Initial, Item, Program}
@@ -11,12 +11,13 @@ use Rattle.source_meaning.specs.Programs.{heap_spot, is_main, constant_value, wo
 use Rattle.source_typing.specs.Regions.{Region, TheHeap, entry_regions}
 use Rattle.source_typing.specs.Scope.{Env, InRegion, block_entered}
 use Rattle.source_typing.specs.Tables as typing
-use Rattle.source_typing.specs.Tables.{OfValue, OfFunction, Stored, Signature, find}
-use Rattle.source_typing.specs.Types.{StaticType, Int, Void, Thin, shape_of}
+use Rattle.source_typing.specs.Tables.{OfValue, OfFunction, Stored, Signature, find, has_beginning}
+use Rattle.source_typing.specs.Types.{StaticType, Int, Void, Thin, Struct, shape_of}
 use Rattle.source_typing.specs.Ways.{ways_of_items}
-use Rattle.source_safety.specs.Entries.{IsWordType, Begins, Function, PlainTables}
+use Rattle.source_safety.specs.Entries.{IsObjectType, Function, PlainTables}
 use Rattle.source_safety.specs.Judged.{extended, ItemsJudged}
 use Rattle.source_safety.specs.Named.{AllBelow, BoundsBelow, TypeBelow, TypesBelow}
+use Rattle.source_safety.specs.Structs.{StructsJudged}
 
 -- ---- functions
 
@@ -62,9 +63,10 @@ abbrev pub IsNullConstant : Constant → Type 0
 IsNullConstant (Constant.Null at) = Unit {0}
 IsNullConstant _ = ⊥
 
--- the first value of a global of a type: a pointer's is `NULL`, and an integer's is a number
+-- the first value of a global of a type: a pointer's is `NULL`, and an integer's is a number; there is none of a struct
 abbrev pub IsFirst : StaticType → Constant → Type 0
 IsFirst (Thin n r t) c = IsNullConstant c
+IsFirst (Struct tag rs) c = ⊥
 IsFirst t c = IsNumber c
 
 -- the initializer of a global, where there is one
@@ -73,20 +75,20 @@ InitialJudged t Initial.Unset = Unit {0}
 InitialJudged t (Initial.Elements count) = ⊥
 InitialJudged t (Initial.Given c) = IsFirst t c
 
--- a global of an integer, or of a pointer that may be NULL
-pub record GlobalJudged (x : tree.Global) : Type 0 where
+-- a global, of a type that begins without an initializer
+pub record GlobalJudged (tables : typing.Tables) (x : tree.Global) : Type 0 where
   pub type : StaticType
-  pub word : IsWordType type
-  pub begins : Begins type
+  pub object : IsObjectType type
+  pub begins : has_beginning tables type ≡ true
   pub shape : settled (written x.of) ≡ shape_of type
   pub initial : InitialJudged type x.initial
 
-abbrev pub GlobalsJudged : List Item → Type 0
-GlobalsJudged [] = Unit {0}
-GlobalsJudged (tree.GlobalItem x ∷ items) = GlobalJudged x × GlobalsJudged items
-GlobalsJudged (tree.StructItem s ∷ items) = GlobalsJudged items
-GlobalsJudged (tree.UnionItem s ∷ items) = GlobalsJudged items
-GlobalsJudged (tree.FunctionItem f ∷ items) = GlobalsJudged items
+abbrev pub GlobalsJudged : typing.Tables → List Item → Type 0
+GlobalsJudged tables [] = Unit {0}
+GlobalsJudged tables (tree.GlobalItem x ∷ items) = GlobalJudged tables x × GlobalsJudged tables items
+GlobalsJudged tables (tree.StructItem s ∷ items) = GlobalsJudged tables items
+GlobalsJudged tables (tree.UnionItem s ∷ items) = GlobalsJudged tables items
+GlobalsJudged tables (tree.FunctionItem f ∷ items) = GlobalsJudged tables items
 
 -- ---- programs
 
@@ -105,11 +107,11 @@ pub record MainFound (world : World) (tables : typing.Tables) : Type 0 where
   pub types : function.types ≡ []
   pub gives : function.gives ≡ Int
 
--- A program of integers and thin pointers in which nothing is at fault, by these tables of its names.
+-- A program of integers, thin pointers and structs in which nothing is at fault, by these tables of its names.
 pub record ProgramJudged (p : Program) (tables : typing.Tables) : Type 0 where
-  pub no_structs : (world_of p).structs ≡ []
+  pub structs : StructsJudged (world_of p) tables
   pub plain : PlainTables (world_of p) tables
-  pub globals : GlobalsJudged p
+  pub globals : GlobalsJudged tables p
   pub variables : (x : List ℕ) (t : StaticType) (r : Region) → find tables x ≡ Some (OfValue (Stored t r)) → GlobalFound (world_of p) x t r
   pub functions : (x : List ℕ) (s : Signature) (F : Function (world_of p) x s) → find tables x ≡ Some (OfFunction s)
       → FunctionJudged (world_of p) tables x s F

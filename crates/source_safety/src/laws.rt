@@ -2,8 +2,8 @@
 
 ghost use Rattle.source_safety.specs.Programs.{NeverStuck};
 
-/// A law, with nothing to run: a program of integers and thin pointers that is in order is never
-/// stuck, on any input and with any fuel.
+/// A law, with nothing to run: a program of integers, thin pointers and structs that is in order is
+/// never stuck, on any input and with any fuel.
 pub fn never_stuck()
     ensures { NeverStuck }
 {}

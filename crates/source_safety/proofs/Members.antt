@@ -1,0 +1,260 @@
+-- Members of structs are places, and structs are made of their members' values.
+use Rattle.std.proofs.Common.{◌≡◌, ℕ, suc, ◌+◌, Bool, true, false, Option, Some, None, List, [], ◌∷◌, ◌++◌, refl, sym, ◌∙◌, ap, subst, arith}
+use Rattle.std.specs.Prelude.{map, length, bytes_eq, if◌then◌else◌}
+use Rattle.std.proofs.lemmas.List.{length-map}
+use Rattle.source_meaning.specs.Shapes as shapes
+use Rattle.source_meaning.specs.Shapes.{Shape, has_tag, parts_of, part_shape, part_shapes}
+use Rattle.source_meaning.specs.Sizes.{cells_before}
+use Rattle.source_meaning.specs.Memory.{Region, Spot, Scalar, beyond}
+use Rattle.source_meaning.specs.Steps.{World, Scope, Act, give, ◌>>=◌}
+use Rattle.source_meaning.specs.Conversions.{cells_of}
+use Rattle.source_meaning.specs.Calls as calls
+use Rattle.source_typing.specs.Calls.{part_types}
+use Rattle.source_typing.specs.Regions.{TheHeap, Level}
+use Rattle.source_typing.specs.Scope.{Env}
+use Rattle.source_typing.specs.Tables as typing
+use Rattle.source_typing.specs.Tables.{Entry, OfValue, OfTag, OfFunction, OfBuiltin, OfOther, Tag, find, as_tag, parts_of_tag, parts_in, part_in, argument}
+use Rattle.source_typing.specs.Types.{StaticType, Int, Unsigned, Char, Void, Null, Thin, Fat, Unique, Handle, Key, Struct, Union, renamed, shape_of}
+use Rattle.source_safety.specs.Entries.{IsObjectType, AreObjects, Structure}
+use Rattle.source_safety.specs.Flat.{Declared, Tables, filled, flat, flat_all}
+use Rattle.source_safety.specs.Structs.{AreMemberTypes, AreMembers}
+use Rattle.source_safety.proofs.Facts.{further, not_further}
+use Rattle.source_safety.proofs.Invariant.{RunType, heap, Owner, Ghost, Laid, HaveTypes}
+use Rattle.source_safety.proofs.After.{flying}
+use Rattle.source_safety.proofs.Arguments.{Agrees, Flown}
+use Rattle.source_safety.proofs.Names.{NameOf}
+use Rattle.source_safety.proofs.Scenes.{Scene, scene_later}
+use Rattle.source_safety.proofs.Sound.{cells_type, PlaceOk, Gives, Finds}
+use Rattle.source_safety.proofs.Layouts.{member_types, member_object, members_typed, members_at, struct_is, all_copied, Structs, agrees}
+use Rattle.source_safety.proofs.Words.{object_twice, values_copied, grown_itself}
+use Rattle.source_safety.proofs.Calling.{Passes}
+
+-- ---- types in a struct without region parameters
+
+-- names that stand for the same make the same types
+all_same : (f h : NameOf → Region) → ((a : NameOf) → f a ≡ h a) → (rs : List NameOf) → map f rs ≡ map h rs
+all_same f h e [] = refl
+all_same f h e (r ∷ rs) = let a : f r ≡ h r = e r in let c : map f rs ≡ map h rs = all_same f h e rs in cc
+
+renamed_same : (f h : NameOf → Region) → ((a : NameOf) → f a ≡ h a) → (t : StaticType) → renamed f t ≡ renamed h t
+renamed_same f h e Int = refl
+renamed_same f h e Unsigned = refl
+renamed_same f h e Char = refl
+renamed_same f h e Void = refl
+renamed_same f h e Null = refl
+renamed_same f h e (Thin n r t) = let a : f r ≡ h r = e r in let c : renamed f t ≡ renamed h t = renamed_same f h e t in cc
+renamed_same f h e (Fat r t) = let a : f r ≡ h r = e r in let c : renamed f t ≡ renamed h t = renamed_same f h e t in cc
+renamed_same f h e (Unique n t) = ap (Unique n) (renamed_same f h e t)
+renamed_same f h e (Handle r) = ap (λ (q : Region). Handle q) (e r)
+renamed_same f h e (Key r) = ap (λ (q : Region). Key q) (e r)
+renamed_same f h e (Struct tag rs) = ap (λ (qs : List Region). Struct tag qs) (all_same f h e rs)
+renamed_same f h e (Union tag rs) = ap (λ (qs : List Region). Union tag qs) (all_same f h e rs)
+
+-- all region names in a member's type are the heap
+in_heap : (f : NameOf → Region) → f TheHeap ≡ heap → (a : NameOf) → f (argument [] a) ≡ filled heap [] a
+in_heap f e TheHeap = e
+in_heap f e (Level k) = e
+
+-- the type that a member has in a run
+pub member_run : (f : NameOf → Region) (t : StaticType) → f TheHeap ≡ heap → IsObjectType t → renamed f (renamed (argument []) t) ≡ renamed (filled heap []) t
+member_run f t e o =
+    object_twice f (argument []) t o ∙ renamed_same (λ a. f (argument [] a)) (filled heap []) (in_heap f e) t
+
+all_member_run : (f : NameOf → Region) (ds : List Declared) (ts : List StaticType) → f TheHeap ≡ heap → AreMemberTypes ds ts
+    → map (renamed f) (map (renamed (argument [])) ts) ≡ map (renamed (filled heap [])) ts
+all_member_run f ds [] e h = refl
+all_member_run f ds (t ∷ ts) e h =
+    let a : renamed f (renamed (argument []) t) ≡ renamed (filled heap []) t = member_run f t e (member_object ds t h.0) in
+    let c : map (renamed f) (map (renamed (argument [])) ts) ≡ map (renamed (filled heap [])) ts = all_member_run f ds ts e h.1 in
+    cc
+
+pub members_objects : (ds : List Declared) (ts : List StaticType) → AreMemberTypes ds ts → AreObjects ts
+members_objects ds [] h = tt
+members_objects ds (t ∷ ts) h = (member_object ds t h.0, members_objects ds ts h.1)
+
+-- ---- cells in a row
+
+laid_first : (w : Ghost) (s : Spot) (xs ys : List RunType) → Laid w s (xs ++ ys) → Laid w s xs
+laid_first w s [] ys h = tt
+laid_first w s (x ∷ xs) ys h = (h.0, laid_first w (beyond s 1) xs ys h.1)
+
+laid_rest : (w : Ghost) (s : Spot) (xs ys : List RunType) → Laid w s (xs ++ ys) → Laid w (beyond s (length xs)) ys
+laid_rest w s [] ys h = subst (λ (x : Spot). Laid w x ys) (sym (not_further s)) h
+laid_rest w s (x ∷ xs) ys h =
+    subst (λ (z : Spot). Laid w z ys) (further s 1 (length xs) (length (x ∷ xs)) (omega arith)) (laid_rest w (beyond s 1) xs ys h.1)
+
+-- ---- a member among the members
+
+-- the type of a member that is found is one of those of the struct
+pub record Found (ds : List Declared) (qs : List shapes.Part) (x : List ℕ) (t : StaticType) : Type 0 where
+  pub object : IsObjectType t
+  pub shape : part_shape qs x ≡ shape_of t
+
+same_type : (p q : typing.Part) (t u : StaticType) → Some p ≡ Some q → p.type ≡ Some t → q.type ≡ Some u → t ≡ u
+same_type p q t u e a c = let z : p ≡ q = cc in let y : p.type ≡ q.type = ap (λ (r : typing.Part). r.type) z in cc
+
+pub member_found : (ds : List Declared) (ps : List typing.Part) (qs : List shapes.Part) (ts : List StaticType) (x : List ℕ) (part : typing.Part) (u : StaticType)
+    → AreMembers ps qs ts → AreMemberTypes ds ts → part_in ps x ≡ Some part → part.type ≡ Some u → Found ds qs x u
+member_found ds [] [] [] x part u h o e z = absurd cc
+member_found ds (p ∷ ps) (q ∷ qs) (t ∷ ts) x part u h o e z =
+    let r = by (bytes_eq p.name x) (bytes_eq q.name x) (ap (λ (y : List ℕ). bytes_eq y x) h.0) e (λ v. member_found ds ps qs ts x part u h.3 o.1 v z) in
+    record { object = r.0; shape = r.1 }
+  where
+    by : (b c : Bool) → b ≡ c → (if b then Some p else part_in ps x) ≡ Some part → (part_in ps x ≡ Some part → Found ds qs x u)
+        → (IsObjectType u) × ((if c then q.shape else part_shape qs x) ≡ shape_of u)
+    by true true v e others =
+        let same : t ≡ u = same_type p part t u e h.1 z in
+        (subst IsObjectType same (member_object ds t o.0), h.2 ∙ ap shape_of same)
+    by false false v e others = let r : Found ds qs x u = others e in (r.object, r.shape)
+    by true false v e others = absurd cc
+    by false true v e others = absurd cc
+member_found ds [] [] (t ∷ ts) x part u h o e z = absurd h
+member_found ds [] (q ∷ qs) ts x part u h o e z = absurd h
+member_found ds (p ∷ ps) [] ts x part u h o e z = absurd h
+member_found ds (p ∷ ps) (q ∷ qs) [] x part u h o e z = absurd h
+
+-- its cells lie behind those of the members before it
+member_laid : (d : Tables) (world : World) (f : NameOf → Region) (w : Ghost) → Agrees world d → (s : Spot) (ps : List typing.Part) (qs : List shapes.Part)
+    (ts : List StaticType) (x : List ℕ) (part : typing.Part) (u : StaticType) → AreMembers ps qs ts → part_in ps x ≡ Some part → part.type ≡ Some u
+    → Laid w s (flat_all (flat heap d) (map (renamed f) ts)) → Laid w (beyond s (cells_before (cells_of world) qs x)) (flat heap d (renamed f u))
+member_laid d world f w same s [] [] [] x part u h e z l = absurd cc
+member_laid d world f w same s (p ∷ ps) (q ∷ qs) (t ∷ ts) x part u h e z l =
+    by (bytes_eq p.name x) (bytes_eq q.name x) (ap (λ (y : List ℕ). bytes_eq y x) h.0) e
+    (λ v. member_laid d world f w same (beyond s (length first)) ps qs ts x part u h.3 v z (laid_rest w s first others l))
+  where
+    first : List RunType
+    first = flat heap d (renamed f t)
+
+    others : List RunType
+    others = flat_all (flat heap d) (map (renamed f) ts)
+
+    count : length (cells_of world q.shape) ≡ length first
+    count =
+        ap (λ (y : Shape). length (cells_of world y)) (h.2 ∙ sym (Rattle.source_safety.proofs.Sound.shape_renamed f t))
+        ∙ (ap length (same (renamed f t)) ∙ length-map first shape_of)
+
+    by : (b c : Bool) → b ≡ c → (if b then Some p else part_in ps x) ≡ Some part
+        → (part_in ps x ≡ Some part → Laid w (beyond (beyond s (length first)) (cells_before (cells_of world) qs x)) (flat heap d (renamed f u)))
+        → Laid w (beyond s (if c then 0 else length (cells_of world q.shape) + cells_before (cells_of world) qs x)) (flat heap d (renamed f u))
+    by true true v e more =
+        subst (λ (y : Spot). Laid w y (flat heap d (renamed f u))) (sym (not_further s))
+        (subst (λ (y : StaticType). Laid w s (flat heap d (renamed f y))) (same_type p part t u e h.1 z) (laid_first w s first others l))
+    by false false v e more =
+        subst (λ (y : Spot). Laid w y (flat heap d (renamed f u)))
+        (further s (length first) (cells_before (cells_of world) qs x) (length (cells_of world q.shape) + cells_before (cells_of world) qs x)
+        (omega (arith, count))) (more e)
+    by true false v e more = absurd cc
+    by false true v e more = absurd cc
+member_laid d world f w same s [] [] (t ∷ ts) x part u h e z l = absurd h
+member_laid d world f w same s [] (q ∷ qs) ts x part u h e z l = absurd h
+member_laid d world f w same s (p ∷ ps) [] ts x part u h e z l = absurd h
+member_laid d world f w same s (p ∷ ps) (q ∷ qs) [] x part u h e z l = absurd h
+
+-- ---- the struct of a tag
+
+-- a struct that has a member is one of the program's
+pub struct_there : (d : Tables) (world : World) (tables : typing.Tables) (tag x : List ℕ) (part : typing.Part) → Structs d world tables
+    → part_in (parts_in tables tag) x ≡ Some part → has_tag world.structs tag ≡ true
+struct_there d world tables tag x part h e = by (find tables tag) refl e
+  where
+    by : (o : Option Entry) → find tables tag ≡ o → part_in (parts_of_tag (as_tag o)) x ≡ Some part → has_tag world.structs tag ≡ true
+    by None z e = absurd cc
+    by (Some (OfTag t)) z e = let k : Structure world tag t = h.plain tag (OfTag t) z in k.there
+    by (Some (OfValue v)) z e = absurd cc
+    by (Some (OfFunction s)) z e = absurd cc
+    by (Some (OfBuiltin n)) z e = absurd cc
+    by (Some OfOther) z e = absurd cc
+
+module _ (n : ℕ) (d : Tables) (g : Env) (scope : Scope) (f : NameOf → Region) (b : ℕ) (h : Structs d scope.world g.tables) where
+  -- a member of a struct that is a place is a place in the same region
+  pub finds_member : (tag x : List ℕ) (part : typing.Part) (u : StaticType) (r : NameOf) (place : Act Spot) → part_in (parts_in g.tables tag) x ≡ Some part
+      → part.type ≡ Some u → Finds n d g scope f b (Struct tag []) r place
+      → Finds n d g scope f b (renamed (argument []) u) r
+      (place >>= λ s. give (beyond s (cells_before (cells_of scope.world) (parts_of scope.world.structs tag) x)))
+  finds_member tag x part u r place e z finds = λ k w m i q. record {
+    by = λ next p. (finds k w m i q).by (λ s. next (beyond s (cells_before (cells_of scope.world) (parts_of scope.world.structs tag) x)))
+        (λ s m1 y.
+        let at : PlaceOk d f (Struct tag []) r s y.ghost m1 = y.holds in
+        let q1 : Scene d g scope f b k y.ghost m1 = scene_later d g scope f b k w m y.ghost m1 y.inv y.grows q in
+        p (beyond s (cells_before (cells_of scope.world) (parts_of scope.world.structs tag) x)) m1 (record {
+          ghost = y.ghost;
+          inv = y.inv;
+          grows = y.grows;
+          holds = (record { typed = laid q1.names.heap_is s y.ghost at.0.typed; above = at.0.above }, at.1);
+        }));
+  }
+    where
+      there : AreMembers (parts_in g.tables tag) (parts_of scope.world.structs tag) (member_types d.structs tag)
+      there = members_at g.tables d.structs scope.world.structs tag h.laid_out (struct_there d scope.world g.tables tag x part h e)
+
+      found : Found d.structs (parts_of scope.world.structs tag) x u
+      found = member_found d.structs (parts_in g.tables tag) (parts_of scope.world.structs tag) (member_types d.structs tag) x part u there
+          (members_typed d.structs tag h.in_order) e z
+
+      laid : f TheHeap ≡ heap → (s : Spot) (w : Ghost) → Laid w s (flat heap d (Struct tag []))
+          → Laid w (beyond s (cells_before (cells_of scope.world) (parts_of scope.world.structs tag) x)) (flat heap d (renamed f (renamed (argument []) u)))
+      laid p s w l =
+          subst (λ (t : RunType). Laid w (beyond s (cells_before (cells_of scope.world) (parts_of scope.world.structs tag) x)) (flat heap d t))
+          (sym (member_run f u p found.object))
+          (member_laid d scope.world (filled heap []) w (agrees d scope.world g.tables h) s (parts_in g.tables tag) (parts_of scope.world.structs tag)
+          (member_types d.structs tag) x part u there e z
+          (subst (λ (ts : List RunType). Laid w s ts) (struct_is d.structs tag [] h.in_order) l))
+
+  -- ---- structs are made
+
+  -- values one after another
+  joined : (w : Ghost) (by : ℕ → Owner) (xs ys : List Scalar) (ts us : List RunType) → HaveTypes d w by xs ts
+      → ((to : ℕ → Owner) → HaveTypes d w to ys us) → HaveTypes d w by (xs ++ ys) (ts ++ us)
+  joined w by [] ys [] us p q = q by
+  joined w by (x ∷ xs) ys (t ∷ ts) us p q = (p.0, joined w (λ k. by (suc k)) xs ys ts us p.1 q)
+  joined w by [] ys (t ∷ ts) us p q = absurd p
+  joined w by (x ∷ xs) ys [] us p q = absurd p
+
+  flown_joined : (w : Ghost) (k : ℕ) (vss : List (List Scalar)) (ts : List StaticType) → AreObjects ts → Flown d w k vss (map (renamed (filled heap [])) ts)
+      → (to : ℕ → Owner) → HaveTypes d w to (calls.flat vss) (flat_all (flat heap d) (map (renamed (filled heap [])) ts))
+  flown_joined w k [] [] o p to = tt
+  flown_joined w k (vs ∷ vss) (t ∷ ts) o p to =
+      joined w to vs (calls.flat vss) (flat heap d (renamed (filled heap []) t)) (flat_all (flat heap d) (map (renamed (filled heap [])) ts))
+      (values_copied d w w (flying k 0) to vs (flat heap d (renamed (filled heap []) t)) (grown_itself w)
+      (all_copied d.structs (filled heap []) t h.in_order o.0) p.0)
+      (λ to2. flown_joined w (suc k) vss ts o.1 p.1 to2)
+  flown_joined w k [] (t ∷ ts) o p to = absurd p
+  flown_joined w k (vs ∷ vss) [] o p to = absurd p
+
+  pub gives_made : (tag : List ℕ) (act : Act (List (List Scalar)))
+      → Passes n d g scope f b (map (renamed (argument [])) (member_types d.structs tag)) act
+      → Gives n d g scope f b (Struct tag []) (act >>= λ vss. give (calls.flat vss))
+  gives_made tag act passes = λ k w m i q. record {
+    by = λ next p. (passes k w m i q).by (λ vss. next (calls.flat vss)) (λ vss m1 y.
+        let q1 : Scene d g scope f b k y.ghost m1 = scene_later d g scope f b k w m y.ghost m1 y.inv y.grows q in
+        let flown : Flown d y.ghost k vss (map (renamed (filled heap [])) (member_types d.structs tag)) =
+        subst (λ (ts : List RunType). Flown d y.ghost k vss ts)
+        (all_member_run f d.structs (member_types d.structs tag) q1.names.heap_is (members_typed d.structs tag h.in_order)) y.holds in
+        p (calls.flat vss) m1 (record {
+          ghost = y.ghost;
+          inv = y.inv;
+          grows = y.grows;
+          holds = subst (λ (ts : List RunType). HaveTypes d y.ghost (flying k 0) (calls.flat vss) ts) (sym (struct_is d.structs tag [] h.in_order))
+              (flown_joined y.ghost k vss (member_types d.structs tag)
+              (members_objects d.structs (member_types d.structs tag) (members_typed d.structs tag h.in_order)) flown (flying k 0));
+        }));
+  }
+
+-- the types and the shapes of the members of a struct
+pub members_known : (ps : List typing.Part) (qs : List shapes.Part) (ts : List StaticType) → AreMembers ps qs ts → part_types ps ≡ map (λ t. Some t) ts
+members_known [] [] [] h = refl
+members_known (p ∷ ps) (q ∷ qs) (t ∷ ts) h =
+    let a : p.type ≡ Some t = h.1 in let c : part_types ps ≡ map (λ t. Some t) ts = members_known ps qs ts h.3 in cc
+members_known [] [] (t ∷ ts) h = absurd h
+members_known [] (q ∷ qs) ts h = absurd h
+members_known (p ∷ ps) [] ts h = absurd h
+members_known (p ∷ ps) (q ∷ qs) [] h = absurd h
+
+pub members_shaped : (ps : List typing.Part) (qs : List shapes.Part) (ts : List StaticType) → AreMembers ps qs ts → part_shapes qs ≡ map shape_of ts
+members_shaped [] [] [] h = refl
+members_shaped (p ∷ ps) (q ∷ qs) (t ∷ ts) h =
+    let a : q.shape ≡ shape_of t = h.2 in let c : part_shapes qs ≡ map shape_of ts = members_shaped ps qs ts h.3 in cc
+members_shaped [] [] (t ∷ ts) h = absurd h
+members_shaped [] (q ∷ qs) ts h = absurd h
+members_shaped (p ∷ ps) [] ts h = absurd h
+members_shaped (p ∷ ps) (q ∷ qs) [] h = absurd h

@@ -1,0 +1,220 @@
+-- What members of structs and makings of structs denote, from what their parts do.
+use Rattle.std.proofs.Common.{◌≡◌, ℕ, Bool, true, false, Some, List, [], refl, sym, ◌∙◌, ap, subst}
+use Rattle.std.specs.Prelude.{map, bytes_eq, codes, length, nat_eq, if◌then◌else◌}
+use Rattle.std.proofs.lemmas.Bool.{eqb-true}
+use Rattle.cyc_tree.specs.Tree as tree
+use Rattle.source_meaning.specs.Shapes as shapes
+use Rattle.source_meaning.specs.Shapes.{Shape, IntShape, StructShape, has_tag, parts_of, part_shape, part_shapes}
+use Rattle.source_meaning.specs.Sizes.{cells_before}
+use Rattle.source_meaning.specs.Memory.{Region, beyond}
+use Rattle.source_meaning.specs.Steps.{Scope, give, ◌>>=◌}
+use Rattle.source_meaning.specs.Conversions.{cells_of}
+use Rattle.source_meaning.specs.Places.{Sense, value_sense, place_sense, struct_parts, contents, member}
+use Rattle.source_meaning.specs.Calls.{call_sense, converted_all, struct_made, called, function_of, read_byte, write_byte}
+use Rattle.source_typing.specs.Verdicts.{Of}
+use Rattle.source_typing.specs.Calls.{ToStruct, arguments_fit, part_types}
+use Rattle.source_typing.specs.Calls as rules_of_calls
+use Rattle.source_typing.specs.Fixing.{all_fits, fixed_from}
+use Rattle.source_typing.specs.Places as places
+use Rattle.source_typing.specs.Scope.{Env, Value, Seat, Nowhere, In, InBlock, is_live, value}
+use Rattle.source_typing.specs.Tables.{Entry, OfTag, Part, Tag, find, as_tag, parts_of_tag, parts_in, argument}
+use Rattle.source_typing.specs.Types.{StaticType, Int, Unsigned, Char, Void, Null, Thin, Fat, Unique, Handle, Key, Struct, Union, renamed, shape_of}
+use Rattle.source_typing.proofs.Inversion.{of_is, after_is}
+use Rattle.source_typing.proofs.PlacesFit.{HasPart, MemberOf, ArrowTo, member_is, arrow_is}
+use Rattle.source_typing.proofs.CallsFit.{AllConvert, Arguments, arguments_are}
+use Rattle.source_safety.specs.Entries.{IsObjectType, Structure}
+use Rattle.source_safety.specs.Flat.{Tables}
+use Rattle.source_safety.specs.Named.{Below, TypeBelow}
+use Rattle.source_safety.specs.Structs.{AreMembers}
+use Rattle.source_safety.proofs.Names.{NameOf}
+use Rattle.source_safety.proofs.Sound.{shape_renamed, Gives, Finds}
+use Rattle.source_safety.proofs.Places.{sound_placed}
+use Rattle.source_safety.proofs.Layouts.{member_types, members_typed, members_at, Structs, agrees}
+use Rattle.source_safety.proofs.Words.{IsSimple, object_simple, object_renamed, object_copied}
+use Rattle.source_safety.proofs.Fixed.{object_below}
+use Rattle.source_safety.proofs.Calling.{AllPass, all_passed}
+use Rattle.source_safety.proofs.Members.{Found, member_found, struct_there, members_objects, members_known, members_shaped, finds_member, gives_made}
+use Rattle.source_safety.proofs.WordRules.{Valued, value_of}
+use Rattle.source_safety.proofs.Forms.{Denotes, denotes_value, denotes_contents, AllDenote, all_pass}
+
+-- ---- what has members
+
+-- a struct with a member
+pub record OfStruct (g : Env) (x : List ℕ) (t : StaticType) (s : Seat) (v : Value) : Type 0 where
+  pub tag : List ℕ
+  pub regions : List NameOf
+  pub is : t ≡ Struct tag regions
+  pub part : HasPart g tag regions x s v
+
+of_struct : (g : Env) (x : List ℕ) (t : StaticType) (s : Seat) (v : Value) → MemberOf g x t s v → OfStruct g x t s v
+of_struct g x Int s v h = absurd h
+of_struct g x Unsigned s v h = absurd h
+of_struct g x Char s v h = absurd h
+of_struct g x Void s v h = absurd h
+of_struct g x Null s v h = absurd h
+of_struct g x (Thin n r t) s v h = absurd h
+of_struct g x (Fat r t) s v h = absurd h
+of_struct g x (Unique n t) s v h = absurd h
+of_struct g x (Handle r) s v h = absurd h
+of_struct g x (Key r) s v h = absurd h
+of_struct g x (Struct tag rs) s v h = record { tag = tag; regions = rs; is = refl; part = h }
+of_struct g x (Union tag rs) s v h = absurd h
+
+-- a pointer to one, into a live region
+pub record ToMember (g : Env) (x : List ℕ) (t : StaticType) (v : Value) : Type 0 where
+  pub may_be_null : Bool
+  pub region : NameOf
+  pub tag : List ℕ
+  pub regions : List NameOf
+  pub is : t ≡ Thin may_be_null region (Struct tag regions)
+  pub live : is_live g region ≡ true
+  pub part : HasPart g tag regions x (In region) v
+
+thin_to_member : (g : Env) (x : List ℕ) (n : Bool) (r : NameOf) (t : StaticType) (v : Value) → ArrowTo g x (Thin n r t) v → ToMember g x (Thin n r t) v
+thin_to_member g x n r Int v h = absurd h
+thin_to_member g x n r Unsigned v h = absurd h
+thin_to_member g x n r Char v h = absurd h
+thin_to_member g x n r Void v h = absurd h
+thin_to_member g x n r Null v h = absurd h
+thin_to_member g x n r (Thin m q t) v h = absurd h
+thin_to_member g x n r (Fat q t) v h = absurd h
+thin_to_member g x n r (Unique m t) v h = absurd h
+thin_to_member g x n r (Handle q) v h = absurd h
+thin_to_member g x n r (Key q) v h = absurd h
+thin_to_member g x n r (Struct tag rs) v h =
+    record { may_be_null = n; region = r; tag = tag; regions = rs; is = refl; live = h.0; part = h.1 }
+thin_to_member g x n r (Union tag rs) v h = absurd h
+
+to_member : (g : Env) (x : List ℕ) (t : StaticType) (v : Value) → IsSimple t → ArrowTo g x t v → ToMember g x t v
+to_member g x Int v p h = absurd h
+to_member g x Unsigned v p h = absurd h
+to_member g x Char v p h = absurd h
+to_member g x Void v p h = absurd h
+to_member g x Null v p h = absurd h
+to_member g x (Thin n r t) v p h = thin_to_member g x n r t v h
+to_member g x (Fat r t) v p h = absurd p
+to_member g x (Unique n t) v p h = absurd p
+to_member g x (Handle r) v p h = absurd h
+to_member g x (Key r) v p h = absurd h
+to_member g x (Struct tag rs) v p h = absurd h
+to_member g x (Union tag rs) v p h = absurd h
+
+module _ (n : ℕ) (d : Tables) (g : Env) (scope : Scope) (f : NameOf → Region) (b : ℕ) (structs : Structs d scope.world g.tables) where
+  -- ---- members
+
+  -- a member of a struct in a region
+  denotes_part : (tag : List ℕ) (rs : List NameOf) (x : List ℕ) (r : NameOf) (a v : Value) (e : Sense) → Denotes n d g scope f b a e → a.type ≡ Struct tag rs
+      → a.seat ≡ In r → HasPart g tag rs x (In r) v → Denotes n d g scope f b v (member scope.world e x)
+  denotes_part tag rs x r a v e h t s p = record {
+    simple = object_simple v.type object;
+    below = subst (λ (y : StaticType). TypeBelow g.regions.count y) (sym type) (object_below g.regions.count [] p.type found.object tt);
+    outside = λ z. let y : v.seat ≡ In r = p.is.1 in cc;
+    place = λ q z. (object, subst (λ (y : NameOf). Below g.regions.count y) (same r q (sym p.is.1 ∙ z)) (h.place r s).1);
+    sound = subst (λ (ps : List shapes.Part). Sound ps) (sym parts)
+        (sound_placed n d g scope f b (agrees d scope.world g.tables structs) v (part_shape (parts_of scope.world.structs tag) x) r _
+        (found.shape ∙ (sym (shape_renamed (argument []) p.type) ∙ ap shape_of (sym type))) p.is.1 (object_copied d f v.type structs.in_order object)
+        (subst (λ (y : StaticType). Finds n d g scope f b y r (e.place >>= λ s. give (beyond s (cells_before (cells_of scope.world) (parts_of scope.world.structs tag) x))))
+        (sym type) (finds_member n d g scope f b structs tag x p.part p.type r e.place p.found p.typed place)));
+  }
+    where
+      Sound : List shapes.Part → Type 0
+      Sound ps = Rattle.source_safety.proofs.Sound.Sound n d g scope f b v
+          (place_sense scope.world (part_shape ps x) (e.place >>= λ s. give (beyond s (cells_before (cells_of scope.world) ps x))))
+
+      same : (q u : NameOf) → In q ≡ In u → q ≡ u
+      same q u z = cc
+
+      some : a.type ≡ Void → ⊥
+      some z = let y : Struct tag rs ≡ Void = sym t ∙ z in cc
+
+      none : rs ≡ []
+      none = subst (λ (y : StaticType). IsSimple y) t h.simple
+
+      parts : struct_parts scope.world e.shape ≡ parts_of scope.world.structs tag
+      parts = ap (struct_parts scope.world) (h.sound.shape some ∙ ap shape_of t)
+
+      there : AreMembers (parts_in g.tables tag) (parts_of scope.world.structs tag) (member_types d.structs tag)
+      there = members_at g.tables d.structs scope.world.structs tag structs.laid_out (struct_there d scope.world g.tables tag x p.part structs p.found)
+
+      found : Found d.structs (parts_of scope.world.structs tag) x p.type
+      found = member_found d.structs (parts_in g.tables tag) (parts_of scope.world.structs tag) (member_types d.structs tag) x p.part p.type there
+          (members_typed d.structs tag structs.in_order) p.found p.typed
+
+      type : v.type ≡ renamed (argument []) p.type
+      type = p.is.0 ∙ ap (λ (qs : List NameOf). renamed (argument qs) p.type) none
+
+      object : IsObjectType v.type
+      object = subst IsObjectType (sym type) (object_renamed (argument []) p.type found.object)
+
+      place : Finds n d g scope f b (Struct tag []) r e.place
+      place = subst (λ (y : StaticType). Finds n d g scope f b y r e.place) (t ∙ ap (Struct tag) none) (h.sound.place r s)
+
+  pub denotes_member : (x : tree.Name) (a v : Value) (e : Sense) → Denotes n d g scope f b a e → places.member g x a ≡ Of v
+      → Denotes n d g scope f b v (member scope.world e x.text)
+  denotes_member x a v e h j =
+      let z : OfStruct g x.text a.type a.seat v = of_struct g x.text a.type a.seat v (member_is g x a.at a.type a.seat v j).1 in
+      by a.seat refl z j
+    where
+      by : (s : Seat) → a.seat ≡ s → OfStruct g x.text a.type s v → places.member_of g x a.at a.type s ≡ Of v
+          → Denotes n d g scope f b v (member scope.world e x.text)
+      by Nowhere q z k = absurd cc
+      by InBlock q z k = absurd (h.outside q)
+      by (In r) q z k = denotes_part z.tag z.regions x.text r a v e h z.is q z.part
+
+  pub denotes_arrow : g.lenient ≡ false → (x : tree.Name) (a v : Value) (e : Sense) → Denotes n d g scope f b a e → places.arrow g x a ≡ Of v
+      → Denotes n d g scope f b v (member scope.world (contents scope.world e) x.text)
+  denotes_arrow strict x a v e h j =
+      let z : ToMember g x.text a.type v = to_member g x.text a.type v h.simple (arrow_is g x a.at a.type v j) in
+      let at : Value = record { at = a.at; type = Struct z.tag z.regions; seat = In z.region } in
+      let found : places.contents g a.at a ≡ Of at =
+      ap (places.contents_of g a.at) z.is ∙ ap (λ (c : Bool). places.in_live c a.at (Struct z.tag z.regions) z.region) z.live in
+      denotes_part z.tag z.regions x.text z.region at v (contents scope.world e)
+      (denotes_contents n d g scope f b strict (agrees d scope.world g.tables structs) structs.in_order a.at a at e h found) refl refl z.part
+
+  -- ---- makings
+
+  pub called_struct : (at : ℕ) (x : List ℕ) (t : Tag) (vs : List Value) (es : List Sense) (v : Value) → Structure scope.world x t
+      → find g.tables x ≡ Some (OfTag t) → AllDenote n d g scope f b vs es → rules_of_calls.called g at (ToStruct t) vs ≡ Of v
+      → Denotes n d g scope f b v (call_sense scope.world x es)
+  called_struct at x t vs es v k there h e =
+      let z : (rs : List NameOf) × (arguments_fit g at t.regions (part_types t.parts) vs ≡ Of rs) × (value at (Struct t.text rs) ≡ Of v) =
+      after_is (arguments_fit g at t.regions (part_types t.parts) vs) (λ rs. value at (Struct t.text rs)) v e in
+      let a : Arguments g (part_types t.parts) vs (fixed_from g.enclosing at (all_fits (part_types t.parts) vs) 0 t.regions) z.0 =
+      arguments_are g at t.regions (part_types t.parts) vs z.0 z.1 in
+      let none : [] ≡ z.0 =
+      of_is [] z.0 (subst (λ (c : ℕ). fixed_from g.enclosing at (all_fits (part_types t.parts) vs) 0 c ≡ Of z.0) k.no_regions a.found) in
+      let valued : Valued v (Struct x []) =
+      subst (λ (qs : List NameOf). Valued v (Struct x qs)) (sym none) (subst (λ (y : List ℕ). Valued v (Struct y z.0)) k.named (value_of at (Struct t.text z.0) v z.2)) in
+      let pass : AllPass n d g scope f b (map shape_of types) (map (renamed (argument [])) types) es =
+      all_pass n d g scope f b [] types vs es (members_objects d.structs types (members_typed d.structs x structs.in_order))
+      (eqb-true _ _ (subst (λ (ps : List (Rattle.std.specs.Prelude.Option StaticType)). nat_eq (length ps) (length vs) ≡ true) known a.count))
+      (subst (λ (qs : List NameOf). AllConvert g qs (map (λ (t : StaticType). Some t) types) vs) (sym none)
+      (subst (λ (ps : List (Rattle.std.specs.Prelude.Option StaticType)). AllConvert g z.0 ps vs) known a.convert)) h in
+      let made : Denotes n d g scope f b v (struct_made scope.world x es) =
+      denotes_value n d g scope f b v (Struct x []) (StructShape x) _ refl tt valued refl
+      (gives_made n d g scope f b structs x (converted_all scope.world (part_shapes (parts_of scope.world.structs x)) es)
+      (all_passed n d g scope f b (part_shapes (parts_of scope.world.structs x)) (map (renamed (argument [])) types) es
+      (subst (λ (ss : List Shape). AllPass n d g scope f b ss (map (renamed (argument [])) types) es) (sym shaped) pass))) in
+      subst (λ (c : Bool). Denotes n d g scope f b v (if c then value_sense IntShape (read_byte es)
+      else (if bytes_eq x (codes "putchar") then value_sense IntShape (write_byte scope.world es)
+      else (if has_tag scope.world.structs x then struct_made scope.world x es else called scope.world (function_of scope.world.functions x) es)))) (sym k.not_read)
+      (subst (λ (c : Bool). Denotes n d g scope f b v (if c then value_sense IntShape (write_byte scope.world es)
+      else (if has_tag scope.world.structs x then struct_made scope.world x es else called scope.world (function_of scope.world.functions x) es))) (sym k.not_written)
+      (subst (λ (c : Bool). Denotes n d g scope f b v (if c then struct_made scope.world x es else called scope.world (function_of scope.world.functions x) es))
+      (sym k.there) made))
+    where
+      types : List StaticType
+      types = member_types d.structs x
+
+      parts : parts_in g.tables x ≡ t.parts
+      parts = ap (λ (o : Rattle.std.specs.Prelude.Option Entry). parts_of_tag (as_tag o)) there
+
+      members : AreMembers t.parts (parts_of scope.world.structs x) types
+      members = subst (λ (ps : List Part). AreMembers ps (parts_of scope.world.structs x) types) parts
+          (members_at g.tables d.structs scope.world.structs x structs.laid_out k.there)
+
+      known : part_types t.parts ≡ map (λ (t : StaticType). Some t) types
+      known = members_known t.parts (parts_of scope.world.structs x) types members
+
+      shaped : part_shapes (parts_of scope.world.structs x) ≡ map shape_of types
+      shaped = members_shaped t.parts (parts_of scope.world.structs x) types members

@@ -3,10 +3,10 @@ use Rattle.std.proofs.Common.{◌≡◌, ℕ, ◌%◌, ◌^◌, Bool, true, fals
 use Rattle.std.specs.Prelude.{◌++◌}
 use Rattle.cyc_tree.specs.Tree.{Constant, Initial}
 use Rattle.cyc_words.specs.Words.{difference_of}
-use Rattle.source_lowering.specs.Taken.{IsIntegerShape, TakesConstant, TakesInitial}
+use Rattle.source_lowering.specs.Taken.{HasFirst, IsIntegerShape, TakesConstant, TakesInitial}
 use Rattle.source_meaning.specs.Calls.{number_type}
 use Rattle.source_meaning.specs.Memory.{AsChar, AsInt, AsUnsigned, IntegerType}
-use Rattle.source_safety.specs.Entries.{Begins, IsWordType}
+use Rattle.source_safety.specs.Entries.{IsObjectType}
 use Rattle.source_safety.specs.Programs.{InitialJudged, IsFirst, IsNumber}
 use Rattle.source_typing.specs.Conversions.{broken, conversion, if_integer}
 use Rattle.source_typing.specs.Globals.{constant, initial_faults}
@@ -14,10 +14,10 @@ use Rattle.source_typing.specs.Declarations.{converted_to}
 use Rattle.source_typing.specs.Converts.{IsInteger}
 use Rattle.source_typing.specs.Regions.{Regions}
 use Rattle.source_typing.specs.Scope.{Env}
-use Rattle.source_typing.specs.Taken.{constant_form, initial_form, takes_initial, thin_pointers}
-use Rattle.source_typing.specs.Types.{Char, Int, Null, StaticType, Thin, Unsigned, integer_type, is_integer, shape_of}
+use Rattle.source_typing.specs.Taken.{constant_form, initial_form, takes_initial}
+use Rattle.source_safety.specs.Judged.{structures}
+use Rattle.source_typing.specs.Types.{Char, Int, Null, StaticType, Struct, Thin, Unsigned, integer_type, is_integer, shape_of}
 use Rattle.source_typing.specs.Verdicts.{Of, faults_of}
-use Rattle.judged_sources.proofs.GoodLocals.{begins_first}
 
 -- what the meaning and lowering want of a first value
 pub record ConstantGood (u : StaticType) (c : Constant) : Type 0 where
@@ -50,17 +50,18 @@ integer_shape _ h = absurd cc
 
 -- ---- `NULL`
 
-null_good : (r : Regions) (at place : ℕ) (u : StaticType) → IsWordType u → broken at (conversion r Null u) ≡ [] → ConstantGood u (Constant.Null place)
+null_good : (r : Regions) (at place : ℕ) (u : StaticType) → IsObjectType u → broken at (conversion r Null u) ≡ [] → ConstantGood u (Constant.Null place)
 null_good r at place (Thin true q t) w e = record { first = tt; taken = tt }
 null_good r at place (Thin false q t) w e = absurd cc
 null_good r at place Int w e = absurd cc
 null_good r at place Unsigned w e = absurd cc
 null_good r at place Char w e = absurd cc
+null_good r at place (Struct tag rs) w e = absurd cc
 null_good r at place _ w e = absurd w
 
 -- ---- all of them
 
-constant_good : (g : Env) (c : Constant) (u : StaticType) → IsWordType u → constant_form thin_pointers c ≡ []
+constant_good : (g : Env) (c : Constant) (u : StaticType) → IsObjectType u → constant_form structures c ≡ []
     → faults_of (constant c) ++ converted_to g (constant c) (Of u) ≡ []
     → ConstantGood u c
 constant_good g (Constant.Number at n suffix) u w f e =
@@ -89,12 +90,12 @@ constant_good g (Constant.Null at) u w f e = null_good g.regions at at u w e
 
 pub record InitialGood (u : StaticType) (i : Initial) : Type 0 where
   pub first : InitialJudged u i
-  pub taken : TakesInitial (shape_of u) i
+  pub taken : HasFirst (shape_of u) → TakesInitial (shape_of u) i
 
-pub initial_good : (g : Env) (i : Initial) (u : StaticType) → IsWordType u → Begins u → takes_initial thin_pointers i ≡ true
-    → initial_form thin_pointers i ≡ [] → initial_faults g i (Of u) ≡ []
+pub initial_good : (g : Env) (i : Initial) (u : StaticType) → IsObjectType u → takes_initial structures i ≡ true
+    → initial_form structures i ≡ [] → initial_faults g i (Of u) ≡ []
     → InitialGood u i
-initial_good g Initial.Unset u w b t f e = record { first = tt; taken = begins_first u b }
-initial_good g (Initial.Elements n) u w b t f e = absurd cc
-initial_good g (Initial.Given c) u w b t f e =
-    let k : ConstantGood u c = constant_good g c u w f e in record { first = k.first; taken = k.taken }
+initial_good g Initial.Unset u w t f e = record { first = tt; taken = λ h. h }
+initial_good g (Initial.Elements n) u w t f e = absurd cc
+initial_good g (Initial.Given c) u w t f e =
+    let k : ConstantGood u c = constant_good g c u w f e in record { first = k.first; taken = λ h. k.taken }

@@ -1,84 +1,114 @@
 -- What the rules' tables have under a name is what the program declares under it first.
 use Rattle.std.proofs.Common.{◌≡◌, ℕ, suc, Bool, true, false, Option, Some, None, List, [], ◌∷◌, refl, sym, ap, ◌∙◌}
-use Rattle.std.specs.Prelude.{bytes_eq, if◌then◌else◌}
+use Rattle.std.specs.Prelude.{bytes_eq, if◌then◌else◌, length}
 use Rattle.cyc_tree.specs.Operands.{HasOperands}
 use Rattle.cyc_tree.specs.Tree as tree
 use Rattle.cyc_tree.specs.Tree.{Initial, Item}
 use Rattle.source_lowering.specs.Taken.{TakesProgram}
 use Rattle.source_meaning.specs.Calls.{function_of}
 use Rattle.source_meaning.specs.Places.{bound_to}
-use Rattle.source_meaning.specs.Programs.{functions_of, global_shape, globals_from, heap_spot, routine_of, structs_from}
-use Rattle.source_meaning.specs.Shapes.{Layout, Shape, settled, written}
+use Rattle.source_meaning.specs.Programs.{functions_of, global_shape, globals_from, heap_spot, routine_of}
+use Rattle.source_meaning.specs.Shapes.{Shape, settled, written}
 use Rattle.source_meaning.specs.Steps.{Entity, Variable}
 use Rattle.source_safety.specs.Programs.{GlobalsJudged}
 use Rattle.source_typing.specs.Functions.{Head, function_faults, head_of}
 use Rattle.source_typing.specs.Globals.{count_of, global_entry, global_faults}
-use Rattle.source_typing.specs.Programs.{Judged, entries_with, items_from}
+use Rattle.source_typing.specs.Programs.{Judged, entries_with, items_from, named}
 use Rattle.source_typing.specs.Regions.{Region, TheHeap}
 use Rattle.source_typing.specs.Scope.{at_item}
-use Rattle.source_typing.specs.Tables.{OfBuiltin, OfFunction, OfValue, Signature, Stored, Tables, find}
-use Rattle.source_typing.specs.Taken.{function_taken, only_taken, thin_pointers}
+use Rattle.source_typing.specs.Tables.{Named, OfBuiltin, OfFunction, OfOther, OfTag, OfValue, Signature, Stored, Tables, find}
+use Rattle.source_typing.specs.Taken.{function_taken, only_taken, takes_type, thin_pointers}
+use Rattle.source_safety.specs.Judged.{structures}
 use Rattle.source_typing.specs.Types.{StaticType, shape_of}
 use Rattle.source_typing.proofs.Inversion.{none_of_both}
 use Rattle.judged_sources.specs.Good.{AllGood, BodiesJudged}
-use Rattle.judged_sources.proofs.Globals.{GlobalGood, global_judged, global_takes}
-use Rattle.judged_sources.proofs.GoodFunctions.{FunctionGood, function_good, function_takes}
-use Rattle.judged_sources.proofs.GoodTables.{AreHeaded, HeadKnown, known_same}
+use Rattle.judged_sources.proofs.Globals.{GlobalGood, global_takes}
+use Rattle.judged_sources.proofs.GoodFunctions.{FunctionGood, FunctionThin, function_good, function_takes}
+use Rattle.judged_sources.proofs.GoodTables.{AreHeaded, beginning_same}
+use Rattle.judged_sources.proofs.Heads.{SameTags, head_same, tags_head}
+use Rattle.judged_sources.proofs.Named.{StructKnown}
 
 -- ---- what is known of each item
 
--- a function with its head
-pub record FunctionKnown (g : Tables) (i : ℕ) (f : tree.Function) : Type 0 where
-  pub head : HeadKnown g f
+-- a function with its head, which reads the same by the program's tables and where tags alone are known
+pub record FunctionKnown (g h : Tables) (i : ℕ) (f : tree.Function) (n : Named) : Type 0 where
+  pub is : n ≡ named f.name OfOther
+  pub same : head_of false g f ≡ head_of false h f
   pub good : FunctionGood g i f
 
-abbrev pub ItemKnown : Tables → ℕ → Item → Type 0
-ItemKnown g i (tree.GlobalItem x) = GlobalGood x
-ItemKnown g i (tree.FunctionItem f) = FunctionKnown g i f
-ItemKnown g i _ = ⊥
+abbrev pub ItemKnown : Tables → Tables → ℕ → Judged → Item → Type 0
+ItemKnown g h i j (tree.StructItem s) = StructKnown s j.entry
+ItemKnown g h i j (tree.UnionItem s) = ⊥
+ItemKnown g h i j (tree.GlobalItem x) = (j.entry ≡ named x.name OfOther) × GlobalGood h i x
+ItemKnown g h i j (tree.FunctionItem f) = FunctionKnown g h i f j.entry
 
-abbrev pub AllKnown : Tables → ℕ → List Item → Type 0
-AllKnown g i [] = Unit {0}
-AllKnown g i (item ∷ items) = ItemKnown g i item × AllKnown g (suc i) items
+abbrev pub AllKnown : Tables → Tables → ℕ → List Judged → List Item → Type 0
+AllKnown g h i [] [] = Unit {0}
+AllKnown g h i (j ∷ js) (item ∷ items) = ItemKnown g h i j item × AllKnown g h (suc i) js items
+AllKnown g h i [] (item ∷ items) = ⊥
+AllKnown g h i (j ∷ js) [] = ⊥
 
 module _ (bodies : BodiesJudged) where
-  pub all_known : (g : Tables) (i : ℕ) (is : List Item) → AllGood 0 g → AreHeaded g is → only_taken thin_pointers is ≡ is → HasOperands is
-      → items_from false g i is ≡ []
-      → AllKnown g i is
-  all_known g i [] s k t o p = tt
-  all_known g i (tree.StructItem x ∷ is) s k t o p = absurd k.0
-  all_known g i (tree.UnionItem x ∷ is) s k t o p = absurd k.0
-  all_known g i (tree.GlobalItem x ∷ is) s k t o p =
-      let b : only_taken thin_pointers is ≡ is = cc in
-      let d = none_of_both (global_faults (at_item false g i) x) (items_from false g (suc i) is) p in (k.0, all_known g (suc i) is s k.1 b o.1 d.1)
-  all_known g i (tree.FunctionItem f ∷ is) s k t o p =
-      let c : function_taken thin_pointers f ≡ f = cc in
-      let b : only_taken thin_pointers is ≡ is = cc in
-      let d = none_of_both (function_faults false g i f) (items_from false g (suc i) is) p in
-      (record { head = k.0; good = function_good bodies g i f s c o.0 d.0 }, all_known g (suc i) is s k.1 b o.1 d.1)
+  pub all_known : (g h : Tables) (i : ℕ) (js : List Judged) (is : List Item) → AllGood 0 g → SameTags g h → AreHeaded h i js is → only_taken structures is ≡ is
+      → HasOperands is → items_from false g i is ≡ []
+      → AllKnown g h i js is
+  all_known g h i [] [] a s k t o p = tt
+  all_known g h i [] (x ∷ is) a s k t o p = absurd k
+  all_known g h i (j ∷ js) [] a s k t o p = absurd k
+  all_known g h i (j ∷ js) (tree.StructItem x ∷ is) a s k t o p =
+      let b : only_taken structures is ≡ is = cc in (k.0, all_known g h (suc i) js is a s k.1 b o.1 p)
+  all_known g h i (j ∷ js) (tree.UnionItem x ∷ is) a s k t o p = absurd k.0
+  all_known g h i (j ∷ js) (tree.GlobalItem x ∷ is) a s k t o p =
+      let b : only_taken structures is ≡ is = cc in
+      let d = none_of_both (global_faults (at_item false g i) x) (items_from false g (suc i) is) p in
+      (k.0, all_known g h (suc i) js is a s k.1 b o.1 d.1)
+  all_known g h i (j ∷ js) (tree.FunctionItem f ∷ is) a s k t o p =
+      let c : function_taken structures f ≡ f = cc in
+      let b : only_taken structures is ≡ is = cc in
+      let d = none_of_both (function_faults false g i f) (items_from false g (suc i) is) p in (
+        record { is = k.0.0; same = head_same false g h f (tags_head g h f s); good = function_good bodies g i f a c o.0 d.0 },
+        all_known g h (suc i) js is a s k.1 b o.1 d.1,
+      )
 
--- ---- what lowering takes, structs, and globals in their order
+-- ---- what lowering takes, and globals in their order
 
-pub all_take : (g : Tables) (i : ℕ) (is : List Item) → AllKnown g i is → TakesProgram is
-all_take g i [] k = tt
-all_take g i (tree.StructItem x ∷ is) k = absurd k.0
-all_take g i (tree.UnionItem x ∷ is) k = absurd k.0
-all_take g i (tree.GlobalItem x ∷ is) k = (global_takes x k.0, all_take g (suc i) is k.1)
-all_take g i (tree.FunctionItem f ∷ is) k = (function_takes g i f k.0.good, all_take g (suc i) is k.1)
+-- an item without structs
+abbrev pub IsThinItem : Item → Type 0
+IsThinItem (tree.StructItem s) = ⊥
+IsThinItem (tree.UnionItem s) = ⊥
+IsThinItem (tree.GlobalItem x) = (takes_type thin_pointers x.of ≡ true)
+IsThinItem (tree.FunctionItem f) = FunctionThin f
 
-pub no_structs : (g : Tables) (i : ℕ) (is : List Item) (found : List Layout) → AllKnown g i is → structs_from is found ≡ found
-no_structs g i [] found k = refl
-no_structs g i (tree.StructItem x ∷ is) found k = absurd k.0
-no_structs g i (tree.UnionItem x ∷ is) found k = absurd k.0
-no_structs g i (tree.GlobalItem x ∷ is) found k = no_structs g (suc i) is found k.1
-no_structs g i (tree.FunctionItem f ∷ is) found k = no_structs g (suc i) is found k.1
+abbrev pub AreThinItems : List Item → Type 0
+AreThinItems [] = Unit {0}
+AreThinItems (x ∷ is) = IsThinItem x × AreThinItems is
 
-pub globals_judged : (g : Tables) (i : ℕ) (is : List Item) → AllKnown g i is → GlobalsJudged is
-globals_judged g i [] k = tt
-globals_judged g i (tree.StructItem x ∷ is) k = absurd k.0
-globals_judged g i (tree.UnionItem x ∷ is) k = absurd k.0
-globals_judged g i (tree.GlobalItem x ∷ is) k = (global_judged x k.0, globals_judged g (suc i) is k.1)
-globals_judged g i (tree.FunctionItem f ∷ is) k = globals_judged g (suc i) is k.1
+pub all_take : (g h : Tables) (i : ℕ) (js : List Judged) (is : List Item) → AllKnown g h i js is → AreThinItems is → TakesProgram is
+all_take g h i [] [] k z = tt
+all_take g h i [] (x ∷ is) k z = absurd k
+all_take g h i (j ∷ js) [] k z = tt
+all_take g h i (j ∷ js) (tree.StructItem x ∷ is) k z = absurd z.0
+all_take g h i (j ∷ js) (tree.UnionItem x ∷ is) k z = absurd z.0
+all_take g h i (j ∷ js) (tree.GlobalItem x ∷ is) k z = (global_takes h i x k.0.1 z.0, all_take g h (suc i) js is k.1 z.1)
+all_take g h i (j ∷ js) (tree.FunctionItem f ∷ is) k z = (function_takes g i f k.0.good z.0, all_take g h (suc i) js is k.1 z.1)
+
+pub globals_judged : (g h : Tables) (i : ℕ) (js : List Judged) (is : List Item) → SameTags g h → length g ≡ length h → AllKnown g h i js is → GlobalsJudged g is
+globals_judged g h i [] [] s l k = tt
+globals_judged g h i [] (x ∷ is) s l k = absurd k
+globals_judged g h i (j ∷ js) [] s l k = tt
+globals_judged g h i (j ∷ js) (tree.StructItem x ∷ is) s l k = globals_judged g h (suc i) js is s l k.1
+globals_judged g h i (j ∷ js) (tree.UnionItem x ∷ is) s l k = absurd k.0
+globals_judged g h i (j ∷ js) (tree.GlobalItem x ∷ is) s l k = (
+  record {
+    type = k.0.1.type;
+    object = k.0.1.good.object;
+    begins = beginning_same g h k.0.1.type s l k.0.1.begins;
+    shape = k.0.1.good.shape;
+    initial = k.0.1.initial.first;
+  },
+  globals_judged g h (suc i) js is s l k.1,
+)
+globals_judged g h i (j ∷ js) (tree.FunctionItem f ∷ is) s l k = globals_judged g h (suc i) js is s l k.1
 
 -- ---- a function of a name
 
@@ -104,11 +134,22 @@ function_behind g f is x s e h = record {
 }
 
 -- `g` are the program's tables, by which each function is known, and `h` those by which its heads were read
-pub find_function : (g h : Tables) (i : ℕ) (js : List Judged) (is : List Item) (x : List ℕ) (s : Signature) → AllKnown g i is
+pub find_function : (g h : Tables) (i : ℕ) (js : List Judged) (is : List Item) (x : List ℕ) (s : Signature) → AllKnown g h i js is
     → find (entries_with false h i js is) x ≡ Some (OfFunction s) → FunctionFound g is x s
 find_function g h i [] is x s k e = absurd cc
 find_function g h i (j ∷ js) [] x s k e = absurd cc
-find_function g h i (j ∷ js) (tree.StructItem y ∷ is) x s k e = absurd k.0
+find_function g h i (j ∷ js) (tree.StructItem y ∷ is) x s k e =
+    let rest : FunctionFound g is x s = by (bytes_eq y.tag.text x) (λ p. find_function g h (suc i) js is x s k.1 p) e in
+    record { number = rest.number; function = rest.function; found = rest.found; named = rest.named; signature = rest.signature; good = rest.good }
+  where
+    none : j.entry.entry ≡ OfFunction s → ⊥
+    none p = let q : OfTag k.0.tag ≡ OfFunction s = sym (ap (λ (n : Named). n.entry) k.0.is) ∙ p in cc
+
+    by : (b : Bool) → (find (entries_with false h (suc i) js is) x ≡ Some (OfFunction s) → FunctionFound g is x s)
+        → (if b then Some j.entry.entry else find (entries_with false h (suc i) js is) x) ≡ Some (OfFunction s)
+        → FunctionFound g is x s
+    by true others p = absurd (none cc)
+    by false others p = others p
 find_function g h i (j ∷ js) (tree.UnionItem y ∷ is) x s k e = absurd k.0
 find_function g h i (j ∷ js) (tree.GlobalItem y ∷ is) x s k e =
     let rest : FunctionFound g is x s = by (bytes_eq y.name.text x) (λ p. find_function g h (suc i) js is x s k.1 p) e in
@@ -133,7 +174,7 @@ find_function g h i (j ∷ js) (tree.FunctionItem f ∷ is) x s k e = by (bytes_
       function = f;
       found = ap (λ (b : Bool). if b then Some (routine_of f) else function_of (functions_of is) x) q;
       named = q;
-      signature = ap (λ (z : Head). z.signature) (known_same g h f k.0.head) ∙ signature_is cc;
+      signature = ap (λ (z : Head). z.signature) k.0.same ∙ signature_is cc;
       good = k.0.good;
     }
     by false q others p = function_behind g f is x s q (others p)
@@ -147,19 +188,30 @@ pub record VariableFound (is : List Item) (first : ℕ) (x : List ℕ) (t : Stat
   pub region : r ≡ TheHeap
 
 -- a global is no array
-shape_here : (x : tree.Global) (k : GlobalGood x) → global_shape x.initial (settled (written x.of)) ≡ shape_of k.type
-shape_here x k = by x.initial k.uncounted ∙ k.good.shape
+shape_here : (h : Tables) (i : ℕ) (x : tree.Global) (k : GlobalGood h i x) → global_shape x.initial (settled (written x.of)) ≡ shape_of k.type
+shape_here h i x k = by x.initial k.uncounted ∙ k.good.shape
   where
     by : (i : Initial) → count_of i ≡ None → global_shape i (settled (written x.of)) ≡ settled (written x.of)
     by Initial.Unset h = refl
     by (Initial.Elements n) h = absurd cc
     by (Initial.Given c) h = refl
 
-pub find_variable : (g h : Tables) (i first : ℕ) (js : List Judged) (is : List Item) (x : List ℕ) (t : StaticType) (r : Region) → AllKnown g i is
+pub find_variable : (g h : Tables) (i first : ℕ) (js : List Judged) (is : List Item) (x : List ℕ) (t : StaticType) (r : Region) → AllKnown g h i js is
     → find (entries_with false h i js is) x ≡ Some (OfValue (Stored t r)) → VariableFound is first x t r
 find_variable g h i first [] is x t r k e = absurd cc
 find_variable g h i first (j ∷ js) [] x t r k e = absurd cc
-find_variable g h i first (j ∷ js) (tree.StructItem y ∷ is) x t r k e = absurd k.0
+find_variable g h i first (j ∷ js) (tree.StructItem y ∷ is) x t r k e =
+    let rest : VariableFound is first x t r = by (bytes_eq y.tag.text x) (λ p. find_variable g h (suc i) first js is x t r k.1 p) e in
+    record { number = rest.number; is_bound = rest.is_bound; region = rest.region }
+  where
+    none : j.entry.entry ≡ OfValue (Stored t r) → ⊥
+    none p = let q : OfTag k.0.tag ≡ OfValue (Stored t r) = sym (ap (λ (n : Named). n.entry) k.0.is) ∙ p in cc
+
+    by : (b : Bool) → (find (entries_with false h (suc i) js is) x ≡ Some (OfValue (Stored t r)) → VariableFound is first x t r)
+        → (if b then Some j.entry.entry else find (entries_with false h (suc i) js is) x) ≡ Some (OfValue (Stored t r))
+        → VariableFound is first x t r
+    by true others p = absurd (none cc)
+    by false others p = others p
 find_variable g h i first (j ∷ js) (tree.UnionItem y ∷ is) x t r k e = absurd k.0
 find_variable g h i first (j ∷ js) (tree.FunctionItem f ∷ is) x t r k e =
     let rest : VariableFound is first x t r = by (bytes_eq f.name.text x) (λ p. find_variable g h (suc i) first js is x t r k.1 p) e in
@@ -180,14 +232,14 @@ find_variable g h i first (j ∷ js) (tree.GlobalItem y ∷ is) x t r k e =
     bound : {b : Bool} → bytes_eq y.name.text x ≡ b → either (bytes_eq y.name.text x) ≡ either b
     bound q = ap either q
 
-    same_type : OfValue (Stored k.0.type TheHeap) ≡ OfValue (Stored t r) → k.0.type ≡ t
+    same_type : OfValue (Stored k.0.1.type TheHeap) ≡ OfValue (Stored t r) → k.0.1.type ≡ t
     same_type p = cc
 
-    same_region : OfValue (Stored k.0.type TheHeap) ≡ OfValue (Stored t r) → r ≡ TheHeap
+    same_region : OfValue (Stored k.0.1.type TheHeap) ≡ OfValue (Stored t r) → r ≡ TheHeap
     same_region p = cc
 
-    entry : Some (global_entry (at_item false h i) y) ≡ Some (OfValue (Stored t r)) → OfValue (Stored k.0.type TheHeap) ≡ OfValue (Stored t r)
-    entry p = let q : global_entry (at_item false h i) y ≡ OfValue (Stored t r) = cc in sym (k.0.entry h i) ∙ q
+    entry : Some (global_entry (at_item false h i) y) ≡ Some (OfValue (Stored t r)) → OfValue (Stored k.0.1.type TheHeap) ≡ OfValue (Stored t r)
+    entry p = let q : global_entry (at_item false h i) y ≡ OfValue (Stored t r) = cc in sym k.0.1.entry ∙ q
 
     by : (b : Bool) → bytes_eq y.name.text x ≡ b
         → (find (entries_with false h (suc i) js is) x ≡ Some (OfValue (Stored t r)) → VariableFound is (suc first) x t r)
@@ -196,7 +248,7 @@ find_variable g h i first (j ∷ js) (tree.GlobalItem y ∷ is) x t r k e =
     by true q others p = record {
       number = first;
       is_bound = bound q
-          ∙ ap (λ (s : Shape). Some (Variable s (heap_spot first))) (shape_here y k.0 ∙ ap (λ (u : StaticType). shape_of u) (same_type (entry p)));
+          ∙ ap (λ (s : Shape). Some (Variable s (heap_spot first))) (shape_here h i y k.0.1 ∙ ap (λ (u : StaticType). shape_of u) (same_type (entry p)));
       region = same_region (entry p);
     }
     by false q others p =
@@ -205,11 +257,19 @@ find_variable g h i first (j ∷ js) (tree.GlobalItem y ∷ is) x t r k e =
 
 -- ---- the two functions that every program has are none of its items
 
-pub no_builtin : (g h : Tables) (i n : ℕ) (js : List Judged) (is : List Item) (x : List ℕ) → AllKnown g i is
+pub no_builtin : (g h : Tables) (i n : ℕ) (js : List Judged) (is : List Item) (x : List ℕ) → AllKnown g h i js is
     → find (entries_with false h i js is) x ≡ Some (OfBuiltin n) → ⊥
 no_builtin g h i n [] is x k e = cc
 no_builtin g h i n (j ∷ js) [] x k e = cc
-no_builtin g h i n (j ∷ js) (tree.StructItem y ∷ is) x k e = k.0
+no_builtin g h i n (j ∷ js) (tree.StructItem y ∷ is) x k e = by (bytes_eq y.tag.text x) (λ p. no_builtin g h (suc i) n js is x k.1 p) e
+  where
+    none : j.entry.entry ≡ OfBuiltin n → ⊥
+    none p = let q : OfTag k.0.tag ≡ OfBuiltin n = sym (ap (λ (n : Named). n.entry) k.0.is) ∙ p in cc
+
+    by : (b : Bool) → (find (entries_with false h (suc i) js is) x ≡ Some (OfBuiltin n) → ⊥)
+        → (if b then Some j.entry.entry else find (entries_with false h (suc i) js is) x) ≡ Some (OfBuiltin n) → ⊥
+    by true others p = none cc
+    by false others p = others p
 no_builtin g h i n (j ∷ js) (tree.UnionItem y ∷ is) x k e = k.0
 no_builtin g h i n (j ∷ js) (tree.GlobalItem y ∷ is) x k e =
     by (bytes_eq y.name.text x) (λ p. no_builtin g h (suc i) n js is x k.1 p) e

@@ -1,12 +1,16 @@
--- A global without fault: a word that has a beginning, whose type names no region but the heap. Lowering takes it, and tables don't matter to it.
+-- A global without fault: an object that has a beginning, whose type names no region but the heap. Where it has no structs, lowering takes it, and tables
+-- don't matter to it.
 use Rattle.std.proofs.Common.{◌≡◌, ℕ, Bool, true, false, Option, Some, None, List, [], ◌∷◌, refl, sym, subst, ap, ◌∙◌}
 use Rattle.std.specs.Prelude.{◌&&◌, ◌++◌, not}
 use Rattle.cyc_tree.specs.Tree as tree
 use Rattle.cyc_tree.specs.Tree.{Constant, Initial, TypeName}
 use Rattle.source_lowering.specs.Taken as lowering
-use Rattle.source_lowering.specs.Taken.{HasFirst, IsIntegerShape, IsNullable, TakesConstant, TakesInitial}
-use Rattle.source_safety.specs.Entries.{Begins, IsWordType}
-use Rattle.source_safety.specs.Programs.{GlobalJudged}
+use Rattle.source_lowering.specs.Taken.{TakesInitial}
+use Rattle.source_lowering.proofs.Integers.{IsWordShape}
+use Rattle.source_lowering.proofs.WrittenTypes.{type_settled}
+use Rattle.source_meaning.specs.Shapes as shapes
+use Rattle.source_safety.specs.Entries.{IsObjectType, IsWordType}
+use Rattle.source_safety.specs.Judged.{structures}
 use Rattle.source_meaning.specs.Sizes.{rounded_up}
 use Rattle.source_typing.specs.Declarations.{converted_to, what_after, what_of}
 use Rattle.source_typing.specs.Extents.{variable_size}
@@ -30,26 +34,26 @@ use Rattle.source_typing.specs.Regions.{TheHeap}
 use Rattle.source_typing.specs.Scope.{Env, Value, at_item}
 use Rattle.source_typing.specs.Tables.{OfValue, Stored, Tables, has_beginning}
 use Rattle.source_typing.specs.Tags.{settled_alone}
-use Rattle.source_typing.specs.Taken.{form_if, global_if, initial_form, initial_taken, item_forms, item_taken, takes_initial, takes_type, thin_pointers}
-use Rattle.source_typing.specs.Types.{Char, Int, PartialType, StaticType, Thin, Unsigned, Void, is_key}
+use Rattle.source_typing.specs.Taken.{Taken, form_if, global_if, initial_form, initial_taken, item_forms, item_taken, takes_initial, takes_type, thin_pointers}
+use Rattle.source_typing.specs.Types.{Char, Int, PartialType, StaticType, Struct, Thin, Unsigned, Void, is_key, shape_of}
 use Rattle.source_typing.specs.Verdicts.{Faulty, Of, Unjudged, Verdict, after, faults_of}
 use Rattle.source_typing.specs.Written.{RegionNamed, Spot, spots_of, written}
 use Rattle.source_typing.proofs.Converting.{and_is}
 use Rattle.source_typing.proofs.Inversion.{none_of_both}
 use Rattle.judged_sources.specs.Good.{NamesBelow, Surely}
 use Rattle.judged_sources.proofs.Constants.{InitialGood, initial_good}
-use Rattle.judged_sources.proofs.GoodLocals.{IsFitting, begins_word, fitting_is}
-use Rattle.judged_sources.proofs.GoodTypes.{IsWritten, in_scope_good}
-use Rattle.judged_sources.proofs.HeadTypes.{GivesNothing, GivesWord, PlainGood, WordGood, alone_good}
-use Rattle.judged_sources.proofs.Heads.{spots_same, written_same}
+use Rattle.judged_sources.proofs.GoodLocals.{IsFitting, begins_first, fitting_is}
+use Rattle.judged_sources.proofs.GoodTypes.{IsWritten, KnowsTags, in_scope_good}
+use Rattle.judged_sources.proofs.HeadTypes.{GivesNothing, GivesObject, ObjectGood, PlainGood, alone_good}
+use Rattle.judged_sources.proofs.Heads.{SameTag, spots_same, thin_same, written_same}
 use Rattle.judged_sources.proofs.Sure.{surely_after, surely_also, surely_is}
 
 -- ---- what isn't taken is at fault
 
-pub record GlobalTaken (x : tree.Global) : Type 0 where
-  pub type : takes_type thin_pointers x.of ≡ true
-  pub initial : takes_initial thin_pointers x.initial ≡ true
-  pub form : initial_form thin_pointers x.initial ≡ []
+pub record GlobalTaken (k : Taken) (x : tree.Global) : Type 0 where
+  pub type : takes_type k x.of ≡ true
+  pub initial : takes_initial k x.initial ≡ true
+  pub form : initial_form k x.initial ≡ []
 
 if_taken : (b : Bool) (g : Env) (x : tree.Global) (i : Initial) → global_if b x i ≡ x → global_faults g x ≡ [] → b ≡ true
 if_taken true g x i e p = refl
@@ -58,24 +62,24 @@ if_taken false g x i e p = absurd (by (subst (λ z. global_faults g z ≡ []) (s
     by : global_faults g (global_if false x i) ≡ [] → ⊥
     by h = cc
 
-pub global_taken : (g : Env) (x : tree.Global) → item_taken thin_pointers (tree.GlobalItem x) ≡ tree.GlobalItem x
-    → item_forms thin_pointers (tree.GlobalItem x) ≡ []
+pub global_taken : (k : Taken) (g : Env) (x : tree.Global) → item_taken k (tree.GlobalItem x) ≡ tree.GlobalItem x
+    → item_forms k (tree.GlobalItem x) ≡ []
     → global_faults g x ≡ []
-    → GlobalTaken x
-global_taken g x t f p =
-    let e : global_if (takes_type thin_pointers x.of && takes_initial thin_pointers x.initial) x (initial_taken thin_pointers x.of x.initial) ≡ x = cc in
-    let b : takes_type thin_pointers x.of && takes_initial thin_pointers x.initial ≡ true =
-    if_taken (takes_type thin_pointers x.of && takes_initial thin_pointers x.initial) g x (initial_taken thin_pointers x.of x.initial) e p in
-    let c : (takes_type thin_pointers x.of ≡ true) × (takes_initial thin_pointers x.initial ≡ true) =
-    and_is (takes_type thin_pointers x.of) (takes_initial thin_pointers x.initial) b in
-    record { type = c.0; initial = c.1; form = subst (λ z. form_if z (initial_form thin_pointers x.initial) ≡ []) b f }
+    → GlobalTaken k x
+global_taken k g x t f p =
+    let e : global_if (takes_type k x.of && takes_initial k x.initial) x (initial_taken k x.of x.initial) ≡ x = cc in
+    let b : takes_type k x.of && takes_initial k x.initial ≡ true =
+    if_taken (takes_type k x.of && takes_initial k x.initial) g x (initial_taken k x.of x.initial) e p in
+    let c : (takes_type k x.of ≡ true) × (takes_initial k x.initial ≡ true) =
+    and_is (takes_type k x.of) (takes_initial k x.initial) b in
+    record { type = c.0; initial = c.1; form = subst (λ z. form_if z (initial_form k x.initial) ≡ []) b f }
 
 -- ---- types
 
--- a word that has a beginning
-record VariableGood (t : TypeName) (u : StaticType) : Type 0 where
-  good : WordGood 0 t u
-  begins : Begins u
+-- an object that has a beginning
+record VariableGood (g : Tables) (t : TypeName) (u : StaticType) : Type 0 where
+  good : ObjectGood 0 t u
+  begins : has_beginning g u ≡ true
 
 -- other region names stand for the heap
 heap_names : (ss : List Spot) → NamesBelow 0 (foreign_names ss)
@@ -95,32 +99,32 @@ third true false c e = absurd cc
 third false b c e = absurd cc
 
 variable_fits : (g : Env) (at : ℕ) (t : TypeName) (count : Option ℕ) (native : Bool) (u : StaticType) → PlainGood 0 t u
-    → Surely (λ z. VariableGood t z) (fitting_global g at count native u)
+    → Surely (λ z. VariableGood g.tables t z) (fitting_global g at count native u)
 variable_fits g at t count native u k =
-    surely_also (λ z. IsFitting g count (native && not (is_key u) && has_beginning g.tables u) u z) (λ z. VariableGood t z)
+    surely_also (λ z. IsFitting g count (native && not (is_key u) && has_beginning g.tables u) u z) (λ z. VariableGood g.tables t z)
     (fitting_global g at count native u) (fitting_is g at count (native && not (is_key u) && has_beginning g.tables u) u)
-    (λ z f. subst (λ y. VariableGood t y) (sym f.same) (by u k (third native (not (is_key u)) (has_beginning g.tables u) f.fits_it)))
+    (λ z f. subst (λ y. VariableGood g.tables t y) (sym f.same) (by u k (third native (not (is_key u)) (has_beginning g.tables u) f.fits_it)))
   where
-    by : (u : StaticType) → PlainGood 0 t u → has_beginning g.tables u ≡ true → VariableGood t u
-    by u (GivesWord w) e = record { good = w; begins = begins_word g.tables u w.word e }
+    by : (u : StaticType) → PlainGood 0 t u → has_beginning g.tables u ≡ true → VariableGood g.tables t u
+    by u (GivesObject w) e = record { good = w; begins = e }
     by u (GivesNothing v p) e = absurd (no (subst (λ z. has_beginning g.tables z ≡ true) p e))
       where
         no : has_beginning g.tables Void ≡ true → ⊥
         no e = cc
 
 -- what is written, where region names don't matter
-plain_good : (g : Tables) (x : tree.Global) → takes_type thin_pointers x.of ≡ true
+plain_good : (g : Tables) (x : tree.Global) → KnowsTags g → takes_type structures x.of ≡ true
     → Surely (λ u. PlainGood 0 x.of u) (after (written g (foreign_names (spots_of g x.of)) x.of) (settled_alone x.of.at))
-plain_good g x e =
+plain_good g x tags e =
     let names : List RegionNamed = foreign_names (spots_of g x.of) in
     surely_after (λ p. IsWritten 0 x.of p) (λ u. PlainGood 0 x.of u) (written g names x.of) (settled_alone x.of.at)
-    (in_scope_good 0 g names x.of (heap_names (spots_of g x.of)) e) (λ p w. alone_good 0 x.of.at x.of p w)
+    (in_scope_good 0 g names x.of tags (heap_names (spots_of g x.of)) e) (λ p w. alone_good 0 x.of.at x.of p w)
 
-type_good : (g : Env) (x : tree.Global) → takes_type thin_pointers x.of ≡ true → Surely (λ u. VariableGood x.of u) (global_type g x)
-type_good g x e =
+type_good : (g : Env) (x : tree.Global) → KnowsTags g.tables → takes_type structures x.of ≡ true → Surely (λ u. VariableGood g.tables x.of u) (global_type g x)
+type_good g x tags e =
     let names : List RegionNamed = foreign_names (spots_of g.tables x.of) in
-    surely_after (λ u. PlainGood 0 x.of u) (λ u. VariableGood x.of u) (after (written g.tables names x.of) (settled_alone x.of.at))
-    (fitting_global g x.of.at (count_of x.initial) (has_none names)) (plain_good g.tables x e)
+    surely_after (λ u. PlainGood 0 x.of u) (λ u. VariableGood g.tables x.of u) (after (written g.tables names x.of) (settled_alone x.of.at))
+    (fitting_global g x.of.at (count_of x.initial) (has_none names)) (plain_good g.tables x tags e)
     (λ u k. variable_fits g x.of.at x.of (count_of x.initial) (has_none names) u k)
 
 -- ---- other tables
@@ -131,36 +135,48 @@ after_same P (Of a) rule other h k = k a h
 after_same P (Faulty f fs) rule other h k = refl
 after_same P Unjudged rule other h k = absurd h
 
-fitting_same : (g h : Env) (at : ℕ) (t : TypeName) (count : Option ℕ) (native : Bool) (u : StaticType) → PlainGood 0 t u
+-- a type without structs is no struct
+pub thin_word : (t : TypeName) (u : StaticType) → IsObjectType u → lowering.IsWordType t → shapes.settled (shapes.written t) ≡ shape_of u → IsWordType u
+thin_word t Int o w s = tt
+thin_word t Unsigned o w s = tt
+thin_word t Char o w s = tt
+thin_word t (Thin b r u) o w s = o
+thin_word t (Struct tag rs) o w s = absurd (subst (λ z. IsWordShape z) s (type_settled t w).is_word)
+thin_word t _ o w s = absurd o
+
+word_same : (g h : Env) (at : ℕ) (count : Option ℕ) (native : Bool) (u : StaticType) → IsWordType u
     → fitting_global g at count native u ≡ fitting_global h at count native u
-fitting_same g h at t count native u (GivesNothing v e) =
+word_same g h at None native Int w = refl
+word_same g h at (Some n) native Int w = refl
+word_same g h at None native Unsigned w = refl
+word_same g h at (Some n) native Unsigned w = refl
+word_same g h at None native Char w = refl
+word_same g h at (Some n) native Char w = refl
+word_same g h at None native (Thin b r t) w = refl
+word_same g h at (Some n) native (Thin b r t) w = refl
+word_same g h at count native _ w = absurd w
+
+fitting_same : (g h : Env) (at : ℕ) (t : TypeName) (count : Option ℕ) (native : Bool) (u : StaticType) → takes_type thin_pointers t ≡ true → PlainGood 0 t u
+    → fitting_global g at count native u ≡ fitting_global h at count native u
+fitting_same g h at t count native u i (GivesNothing v e) =
     subst (λ z. fitting_global g at count native z ≡ fitting_global h at count native z) (sym e) (by count)
   where
     by : (c : Option ℕ) → fitting_global g at c native Void ≡ fitting_global h at c native Void
     by None = refl
     by (Some n) = refl
-fitting_same g h at t count native u (GivesWord w) = by u count w.word
-  where
-    by : (u : StaticType) (c : Option ℕ) → IsWordType u → fitting_global g at c native u ≡ fitting_global h at c native u
-    by Int None w = refl
-    by Int (Some n) w = refl
-    by Unsigned None w = refl
-    by Unsigned (Some n) w = refl
-    by Char None w = refl
-    by Char (Some n) w = refl
-    by (Thin b r t) None w = refl
-    by (Thin b r t) (Some n) w = refl
-    by _ c w = absurd w
+fitting_same g h at t count native u i (GivesObject w) = word_same g h at count native u (thin_word t u w.object (w.taken i) w.shape)
 
-type_same : (g h : Env) (x : tree.Global) → takes_type thin_pointers x.of ≡ true → global_type g x ≡ global_type h x
-type_same g h x e =
+thin_type_same : (g h : Env) (x : tree.Global) → KnowsTags h.tables → takes_type structures x.of ≡ true → takes_type thin_pointers x.of ≡ true
+    → global_type g x ≡ global_type h x
+thin_type_same g h x tags e i =
     let names : List RegionNamed = foreign_names (spots_of h.tables x.of) in
-    ap (λ (ss : List Spot). global_type_by g x (foreign_names ss)) (spots_same g.tables h.tables x.of e)
+    let same : SameTag g.tables h.tables x.of = thin_same g.tables h.tables x.of i in
+    ap (λ (ss : List Spot). global_type_by g x (foreign_names ss)) (spots_same g.tables h.tables x.of same)
     ∙ ap (λ (v : Verdict PartialType). after (after v (settled_alone x.of.at)) (fitting_global g x.of.at (count_of x.initial) (has_none names)))
-    (written_same g.tables h.tables names x.of e)
+    (written_same g.tables h.tables names x.of same)
     ∙ after_same (λ u. PlainGood 0 x.of u) (after (written h.tables names x.of) (settled_alone x.of.at))
     (fitting_global g x.of.at (count_of x.initial) (has_none names)) (fitting_global h x.of.at (count_of x.initial) (has_none names))
-    (plain_good h.tables x e) (λ u k. fitting_same g h x.of.at x.of (count_of x.initial) (has_none names) u k)
+    (plain_good h.tables x tags e) (λ u k. fitting_same g h x.of.at x.of (count_of x.initial) (has_none names) u i k)
 
 converted_same : (g h : Tables) (i j : ℕ) (v : Verdict Value) (t : Verdict StaticType)
     → converted_to (at_item false g i) v t ≡ converted_to (at_item false h j) v t
@@ -176,61 +192,59 @@ initial_same g h i j Initial.Unset t = refl
 initial_same g h i j (Initial.Elements n) t = refl
 initial_same g h i j (Initial.Given c) t = ap (λ fs. faults_of (constant c) ++ fs) (converted_same g h i j (constant c) t)
 
-faults_same : (g h : Tables) (i j : ℕ) (x : tree.Global) → takes_type thin_pointers x.of ≡ true
+-- the tables don't matter to a global without structs
+pub thin_faults_same : (g h : Tables) (i j : ℕ) (x : tree.Global) → KnowsTags h → takes_type structures x.of ≡ true → takes_type thin_pointers x.of ≡ true
     → global_faults (at_item false g i) x ≡ global_faults (at_item false h j) x
-faults_same g h i j x e =
-    ap (λ v. faults_of v ++ initial_faults (at_item false g i) x.initial v) (type_same (at_item false g i) (at_item false h j) x e)
+thin_faults_same g h i j x tags e k =
+    ap (λ v. faults_of v ++ initial_faults (at_item false g i) x.initial v) (thin_type_same (at_item false g i) (at_item false h j) x tags e k)
     ∙ ap (λ fs. faults_of (global_type (at_item false h j) x) ++ fs) (initial_same g h i j x.initial (global_type (at_item false h j) x))
 
 -- ---- all of it
 
--- its name means a variable in the heap, by any tables
-pub record GlobalGood (x : tree.Global) : Type 0 where
+-- by these tables, its name means a variable in the heap
+pub record GlobalGood (g : Tables) (i : ℕ) (x : tree.Global) : Type 0 where
   pub type : StaticType
-  pub good : WordGood 0 x.of type
-  pub begins : Begins type
+  pub good : ObjectGood 0 x.of type
+  pub begins : has_beginning g type ≡ true
   pub initial : InitialGood type x.initial
   pub uncounted : count_of x.initial ≡ None
-  pub entry : (g : Tables) (i : ℕ) → global_entry (at_item false g i) x ≡ OfValue (Stored type TheHeap)
+  pub entry : global_entry (at_item false g i) x ≡ OfValue (Stored type TheHeap)
 
-no_count : (i : Initial) → takes_initial thin_pointers i ≡ true → count_of i ≡ None
+no_count : (i : Initial) → takes_initial structures i ≡ true → count_of i ≡ None
 no_count Initial.Unset e = refl
 no_count (Initial.Given c) e = refl
 no_count (Initial.Elements n) e = absurd cc
 
-pub global_good : (g : Tables) (i : ℕ) (x : tree.Global) → item_taken thin_pointers (tree.GlobalItem x) ≡ tree.GlobalItem x
-    → item_forms thin_pointers (tree.GlobalItem x) ≡ []
+pub global_good : (g : Tables) (i : ℕ) (x : tree.Global) → KnowsTags g → item_taken structures (tree.GlobalItem x) ≡ tree.GlobalItem x
+    → item_forms structures (tree.GlobalItem x) ≡ []
     → global_faults (at_item false g i) x ≡ []
-    → GlobalGood x
-global_good g i x t f p =
+    → GlobalGood g i x
+global_good g i x tags t f p =
     let s : Env = at_item false g i in
-    let k : GlobalTaken x = global_taken s x t f p in
+    let k : GlobalTaken structures x = global_taken structures s x t f p in
     let q : (faults_of (global_type s x) ≡ []) × (initial_faults s x.initial (global_type s x) ≡ []) =
     none_of_both (faults_of (global_type s x)) (initial_faults s x.initial (global_type s x)) p in
-    let u : (t : StaticType) × (global_type s x ≡ Of t) × VariableGood x.of t =
-    surely_is (λ t. VariableGood x.of t) (global_type s x) (type_good s x k.type) q.0 in
+    let u : (t : StaticType) × (global_type s x ≡ Of t) × VariableGood g x.of t =
+    surely_is (λ t. VariableGood g x.of t) (global_type s x) (type_good s x tags k.type) q.0 in
     let c : initial_faults s x.initial (Of u.0) ≡ [] = subst (λ v. initial_faults s x.initial v ≡ []) u.1 q.1 in
     let n : count_of x.initial ≡ None = no_count x.initial k.initial in
     record {
       type = u.0;
       good = u.2.good;
       begins = u.2.begins;
-      initial = initial_good s x.initial u.0 u.2.good.word u.2.begins k.initial k.form c;
+      initial = initial_good s x.initial u.0 u.2.good.object k.initial k.form c;
       uncounted = n;
-      entry = λ h j.
-          let y : Env = at_item false h j in
-          let z : global_faults y x ≡ [] = faults_same h g j i x k.type ∙ p in
-          let w : global_type y x ≡ Of u.0 = type_same y s x k.type ∙ u.1 in
-          ap (λ (fs : List Fault). OfValue (what_after fs (what_of TheHeap (count_of x.initial) (global_type y x)))) z
-          ∙ ap (λ (o : Option ℕ). OfValue (what_of TheHeap o (global_type y x))) n ∙ ap (λ (v : Verdict StaticType). OfValue (what_of TheHeap None v)) w;
+      entry = ap (λ (fs : List Fault). OfValue (what_after fs (what_of TheHeap (count_of x.initial) (global_type s x)))) p
+          ∙ ap (λ (o : Option ℕ). OfValue (what_of TheHeap o (global_type s x))) n ∙ ap (λ (v : Verdict StaticType). OfValue (what_of TheHeap None v)) u.1;
     }
 
--- what runs and lowering want of it
-pub global_judged : (x : tree.Global) → GlobalGood x → GlobalJudged x
-global_judged x h = record { type = h.type; word = h.good.word; begins = h.begins; shape = h.good.shape; initial = h.initial.first }
-
-pub global_takes : (x : tree.Global) → GlobalGood x → lowering.TakesItem (tree.GlobalItem x)
-global_takes x h = (h.good.taken, subst (λ s. TakesInitial s x.initial) (sym h.good.shape) h.initial.taken)
+-- what lowering wants of it, where it has no structs
+pub global_takes : (g : Tables) (i : ℕ) (x : tree.Global) → GlobalGood g i x → takes_type thin_pointers x.of ≡ true → lowering.TakesItem (tree.GlobalItem x)
+global_takes g i x h k = (
+  h.good.taken k,
+  subst (λ s. TakesInitial s x.initial) (sym h.good.shape)
+      (h.initial.taken (begins_first g x.of h.type h.good.object (h.good.taken k) h.good.shape h.begins)),
+)
 
 -- ---- sizes
 
@@ -257,9 +271,9 @@ size_by_entry g x t [] None Unjudged n e = absurd cc
 size_by_entry g x t [] (Some m) v n e = absurd cc
 size_by_entry g x t (f ∷ fs) o v n e = absurd cc
 
--- each takes 8 bytes of the data, rounded up
-pub global_eight : (g : Tables) (i : ℕ) (x : tree.Global) → GlobalGood x → rounded_up (global_size (at_item false g i) x) 8 ≡ 8
-global_eight g i x h =
+-- one of a word takes 8 bytes of the data, rounded up
+pub global_eight : (g : Tables) (i : ℕ) (x : tree.Global) (h : GlobalGood g i x) → IsWordType h.type → rounded_up (global_size (at_item false g i) x) 8 ≡ 8
+global_eight g i x h w =
     let s : Env = at_item false g i in
-    ap (λ k. rounded_up k 8) (size_by_entry s x h.type (global_faults s x) (count_of x.initial) (global_type s x) h.uncounted (h.entry g i))
-    ∙ word_eight s x h.type h.good.word h.uncounted
+    ap (λ k. rounded_up k 8) (size_by_entry s x h.type (global_faults s x) (count_of x.initial) (global_type s x) h.uncounted h.entry)
+    ∙ word_eight s x h.type w h.uncounted

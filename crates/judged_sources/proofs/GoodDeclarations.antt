@@ -5,7 +5,7 @@ use Rattle.cyc_tree.specs.Operands.{DeclarationHasOperands, ExpressionHasOperand
 use Rattle.cyc_tree.specs.Tree as tree
 use Rattle.cyc_tree.specs.Tree.{Expression, Initializer, TypeName}
 use Rattle.source_lowering.specs.Taken.{TakesDeclaration}
-use Rattle.source_safety.specs.Judged.{Accepted, DeclarationJudged, extended}
+use Rattle.source_safety.specs.Judged.{Accepted, DeclarationJudged, extended, structures}
 use Rattle.source_typing.specs.Conversions.{conversion, converts}
 use Rattle.source_typing.specs.Converts.{Converts}
 use Rattle.source_typing.specs.Declarations.{converted_to, declare, set_faults, set_type, unset_type, what_after, what_of}
@@ -41,7 +41,7 @@ pub converted_is : (g : Env) (v : Value) (t : StaticType) → converts g v t ≡
 converted_is g v t e = conversion_is g.regions v.type t (broken_is v.at (conversion g.regions v.type t) e)
 
 module _ (expressions : ExpressionsJudged) where
-  pub expression_good : (e : Expression) (g : Env) → IsGood g → taken thin_pointers e ≡ e → ExpressionHasOperands e → faults_of (judge g e) ≡ []
+  pub expression_good : (e : Expression) (g : Env) → IsGood g → taken structures e ≡ e → ExpressionHasOperands e → faults_of (judge g e) ≡ []
       → GoodExpression g e
   expression_good e g h t o p =
       let s : Surely (λ v. IsGoodValue g e v) (judge g e) = subst (λ z. Surely (λ v. IsGoodValue g z v) (judge g z)) t (expressions e g h) in
@@ -53,13 +53,39 @@ module _ (expressions : ExpressionsJudged) where
 -- a declaration that is in order, and what is known after it
 pub record GoodDeclaration (g : Env) (d : tree.Declaration) : Type 0 where
   pub judged : DeclarationJudged g d
-  pub takes : TakesDeclaration d
+  pub takes : declaration_taken thin_pointers d ≡ d → TakesDeclaration d
   pub good : IsGood (declare g d).scope
   pub result : (declare g d).scope.result ≡ g.result
 
+-- ---- what isn't taken is at fault
+
+-- a local that isn't taken would be at fault
+local_taken : (b : Bool) (g : Env) (at : ℕ) (d e : tree.Declaration) → declared_if b at d ≡ e → (declare g e).faults ≡ [] → b ≡ true
+local_taken true g at d e p q = refl
+local_taken false g at d e p q = absurd (by (subst (λ z. (declare g z).faults ≡ []) (sym p) q))
+  where
+    by : (declare g (declared_if false at d)).faults ≡ [] → ⊥
+    by h = cc
+
+-- the type of a local without structs
+local_thin : (g : Env) (t : TypeName) (x : tree.Name) (i : Initializer) → declaration_taken thin_pointers (tree.Local t x i) ≡ tree.Local t x i
+    → (declare g (tree.Local t x i)).faults ≡ [] → takes_type thin_pointers t ≡ true
+local_thin g t x i e p =
+    (and_is (takes_type thin_pointers t) (takes_initializer thin_pointers i)
+    (local_taken (takes_type thin_pointers t && takes_initializer thin_pointers i) g t.at (tree.Local t x (initializer_taken thin_pointers i)) (tree.Local t x i)
+    e p)).0
+
+value_thin : (t : TypeName) (x : tree.Name) (e : Expression) → takes_type thin_pointers t ≡ true
+    → declaration_taken thin_pointers (tree.Local t x (Initializer.Value e)) ≡ tree.Local t x (Initializer.Value e) → taken thin_pointers e ≡ e
+value_thin t x e k i =
+    let d : tree.Declaration = tree.Local t x (Initializer.Value (taken thin_pointers e)) in
+    let j : declared_if true t.at d ≡ tree.Local t x (Initializer.Value e) =
+    subst (λ b. declared_if (b && true) t.at d ≡ tree.Local t x (Initializer.Value e)) k i in
+    cc
+
 -- ---- locals
 
-unset_declared : (g : Env) (t : TypeName) (x : tree.Name) → IsGood g → takes_type thin_pointers t ≡ true
+unset_declared : (g : Env) (t : TypeName) (x : tree.Name) → IsGood g → takes_type structures t ≡ true
     → (declare g (tree.Local t x Initializer.Unset)).faults ≡ []
     → GoodDeclaration g (tree.Local t x Initializer.Unset)
 unset_declared g t x h e p =
@@ -68,18 +94,20 @@ unset_declared g t x h e p =
     let scope : (declare g (tree.Local t x Initializer.Unset)).scope ≡ extended g x z.0 =
     ap (λ v. with_local x (what_of g.frame None v) g) z.1 ∙ one_more x z.0 g f.1 in
     record {
-      judged = record { type = z.0; word = z.2.word; below = z.2.below; begins = local_begins g t z.0 z.2; shape = z.2.shape; scope = scope };
-      takes = (z.2.taken, local_first g t z.0 z.2);
-      good = subst (λ s. IsGood s) (sym scope) (good_local x z.0 g z.2.word z.2.below h);
+      judged = record { type = z.0; object = z.2.object; below = z.2.below; begins = local_begins g t z.0 z.2; shape = z.2.shape; scope = scope };
+      takes = λ i.
+          let k : takes_type thin_pointers t ≡ true = local_thin g t x Initializer.Unset i p in (z.2.taken k, local_first g t z.0 z.2 k);
+      good = subst (λ s. IsGood s) (sym scope) (good_local x z.0 g z.2.object z.2.below h);
       result = ap (λ (s : Env). s.result) scope;
     }
 
 -- a local whose initializer is in order
-set_declared : (g : Env) (t : TypeName) (x : tree.Name) (e : Expression) → IsGood g → takes_type thin_pointers t ≡ true → GoodExpression g e
+set_declared : (g : Env) (t : TypeName) (x : tree.Name) (e : Expression) → IsGood g → takes_type structures t ≡ true → GoodExpression g e
     → set_faults g (judge g e) (set_type g t (judge g e)) ≡ []
     → second g x ≡ []
+    → (declare g (tree.Local t x (Initializer.Value e))).faults ≡ []
     → GoodDeclaration g (tree.Local t x (Initializer.Value e))
-set_declared g t x e h k a p q =
+set_declared g t x e h k a p q r =
     let v : Value = a.accepted.value in
     let f : set_faults g (Of v) (set_type g t (Of v)) ≡ [] = subst (λ w. set_faults g w (set_type g t w) ≡ []) a.accepted.judged p in
     let b = none_of_both (faults_of (set_type g t (Of v)) ++ []) (converted_to g (Of v) (set_type g t (Of v))) f in
@@ -93,29 +121,24 @@ set_declared g t x e h k a p q =
     record {
       judged = record {
         type = z.0;
-        word = z.2.word;
+        object = z.2.object;
         below = z.2.below;
         fitting = record { accepted = a.accepted; converts = converted_is g v z.0 d };
         shape = local_shape g t z.0 v.type z.2 a.good.type;
         scope = scope;
       };
-      takes = (z.2.taken, a.good.takes);
-      good = subst (λ s. IsGood s) (sym scope) (good_local x z.0 g z.2.word z.2.below h);
+      takes = λ i. (
+        z.2.taken (local_thin g t x (Initializer.Value e) i r),
+        a.good.takes (value_thin t x e (local_thin g t x (Initializer.Value e) i r) i),
+      );
+      good = subst (λ s. IsGood s) (sym scope) (good_local x z.0 g z.2.object z.2.below h);
       result = ap (λ (s : Env). s.result) scope;
     }
 
 -- ---- all declarations
 
--- a local that isn't taken would be at fault
-local_taken : (b : Bool) (g : Env) (at : ℕ) (d e : tree.Declaration) → declared_if b at d ≡ e → (declare g e).faults ≡ [] → b ≡ true
-local_taken true g at d e p q = refl
-local_taken false g at d e p q = absurd (by (subst (λ z. (declare g z).faults ≡ []) (sym p) q))
-  where
-    by : (declare g (declared_if false at d)).faults ≡ [] → ⊥
-    by h = cc
-
 module _ (expressions : ExpressionsJudged) where
-  value_declared : (g : Env) (t : TypeName) (x : tree.Name) (e : Expression) → IsGood g → takes_type thin_pointers t ≡ true → taken thin_pointers e ≡ e
+  value_declared : (g : Env) (t : TypeName) (x : tree.Name) (e : Expression) → IsGood g → takes_type structures t ≡ true → taken structures e ≡ e
       → ExpressionHasOperands e
       → (declare g (tree.Local t x (Initializer.Value e))).faults ≡ []
       → GoodDeclaration g (tree.Local t x (Initializer.Value e))
@@ -124,9 +147,9 @@ module _ (expressions : ExpressionsJudged) where
       let a = none_of_both (set_faults g v (set_type g t v)) (second g x) p in
       let b = none_of_both (faults_of (set_type g t v) ++ faults_of v) (converted_to g v (set_type g t v)) a.0 in
       let c = none_of_both (faults_of (set_type g t v)) (faults_of v) b.0 in
-      set_declared g t x e h k (expression_good expressions e g h j o c.1) a.0 a.1
+      set_declared g t x e h k (expression_good expressions e g h j o c.1) a.0 a.1 p
 
-  pub declaration_good : (d : tree.Declaration) (g : Env) → IsGood g → declaration_taken thin_pointers d ≡ d → DeclarationHasOperands d
+  pub declaration_good : (d : tree.Declaration) (g : Env) → IsGood g → declaration_taken structures d ≡ d → DeclarationHasOperands d
       → (declare g d).faults ≡ []
       → GoodDeclaration g d
   declaration_good (tree.Region at r x) g h t o p = absurd cc
@@ -134,15 +157,15 @@ module _ (expressions : ExpressionsJudged) where
   declaration_good (tree.Alias at r u x y) g h t o p = absurd cc
   declaration_good (tree.NewKey at r x) g h t o p = absurd cc
   declaration_good (tree.Local u x i) g h t o p =
-      let k = thin_pointers in
+      let k = structures in
       let b = local_taken (takes_type k u && takes_initializer k i) g u.at (tree.Local u x (initializer_taken k i)) (tree.Local u x i) t p in
       let c = and_is (takes_type k u) (takes_initializer k i) b in
       by i c.0 c.1 o p (subst (λ z. declared_if z u.at (tree.Local u x (initializer_taken k i)) ≡ tree.Local u x i) b t)
     where
-      by : (i : Initializer) → takes_type thin_pointers u ≡ true → takes_initializer thin_pointers i ≡ true → DeclarationHasOperands (tree.Local u x i)
+      by : (i : Initializer) → takes_type structures u ≡ true → takes_initializer structures i ≡ true → DeclarationHasOperands (tree.Local u x i)
           → (declare g (tree.Local u x i)).faults ≡ []
-          → tree.Local u x (initializer_taken thin_pointers i) ≡ tree.Local u x i
+          → tree.Local u x (initializer_taken structures i) ≡ tree.Local u x i
           → GoodDeclaration g (tree.Local u x i)
       by Initializer.Unset k q o p t = unset_declared g u x h k p
       by (Initializer.Elements n) k q o p t = absurd cc
-      by (Initializer.Value e) k q o p t = let j : taken thin_pointers e ≡ e = cc in value_declared g u x e h k j o p
+      by (Initializer.Value e) k q o p t = let j : taken structures e ≡ e = cc in value_declared g u x e h k j o p

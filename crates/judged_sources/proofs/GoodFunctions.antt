@@ -13,9 +13,10 @@ use Rattle.source_lowering.specs.Taken.{AreThin, IsIntType, IsIntegerBase, IsThi
 use Rattle.source_meaning.specs.Calls.{function_of}
 use Rattle.source_meaning.specs.Programs.{is_main, routine_of}
 use Rattle.source_meaning.specs.Shapes as shapes
-use Rattle.source_meaning.specs.Shapes.{IntShape, Layout, Owner, Part, Shape, ThinShape, has_tag, part_of}
+use Rattle.source_meaning.specs.Shapes.{IntShape, Owner, Part, Shape, ThinShape, has_tag, part_of}
 use Rattle.source_meaning.specs.Steps.{World}
-use Rattle.source_safety.specs.Entries.{AreWords, Function}
+use Rattle.source_safety.specs.Entries.{AreObjects, Function}
+use Rattle.source_safety.specs.Judged.{structures}
 use Rattle.source_safety.specs.Judged.{extended}
 use Rattle.source_safety.specs.Named.{AllBelow, BoundsBelow, TypeBelow, TypesBelow}
 use Rattle.source_safety.specs.Programs.{FunctionJudged, name_alone, with_all}
@@ -26,14 +27,15 @@ use Rattle.source_typing.specs.Scope.{Env, at_item, is_second, with_local}
 use Rattle.source_typing.specs.Statements.{items_faults}
 use Rattle.source_typing.specs.Tables.{Arrayed, Counter, Entry, OfBuiltin, OfFunction, OfOther, OfTag, OfValue, Signature, Stored, Tables, Unknown}
 use Rattle.source_typing.specs.Tags.{is_named, repeated}
-use Rattle.source_typing.specs.Taken.{function_taken, thin_pointers}
+use Rattle.source_typing.specs.Taken.{function_taken, items_taken, takes_type, thin_pointers}
 use Rattle.source_typing.specs.Types.{Int, StaticType, Void, is_void, shape_of}
 use Rattle.source_typing.specs.Ways.{ways_of_items}
 use Rattle.source_typing.proofs.Inversion.{none_of_both, own_is, test_is}
 use Rattle.judged_sources.specs.Good.{AllGood, BodiesJudged, BodyJudged, IsGood, IsGoodEntry}
 use Rattle.judged_sources.proofs.GoodScopes.{good_local, one_more, regions_up}
-use Rattle.judged_sources.proofs.HeadTypes.{below_more, void_shape, word_more}
-use Rattle.judged_sources.proofs.Heads.{HeadGood, head_good}
+use Rattle.judged_sources.proofs.HeadTypes.{below_more, void_shape, object_more}
+use Rattle.judged_sources.proofs.GoodTypes.{good_tags}
+use Rattle.judged_sources.proofs.Heads.{AreThinTypes, HeadGood, head_good}
 use Rattle.source_safety.proofs.Surroundings.{type_up}
 
 -- ---- the scope of its parameters
@@ -64,7 +66,7 @@ same_scope (m ∷ ms) before (t ∷ ts) g r h =
     ap (λ (z : Env). with_parameters ms (map (λ t. Some t) ts) z) s
     ∙ same_scope ms (m ∷ before) ts (extended g m.name t) e.1 (with_one m before t g h)
 
-all_good : (ps : List Part) (ts : List StaticType) (g : Env) → AreWords ts → TypesBelow g.regions.count ts → IsGood g → IsGood (with_all ps ts g)
+all_good : (ps : List Part) (ts : List StaticType) (g : Env) → AreObjects ts → TypesBelow g.regions.count ts → IsGood g → IsGood (with_all ps ts g)
 all_good [] ts g w b h = h
 all_good (p ∷ ps) [] g w b h = h
 all_good (p ∷ ps) (t ∷ ts) g w b h =
@@ -79,13 +81,13 @@ all_result (p ∷ ps) (t ∷ ts) g = all_result ps ts (extended g (name_alone p.
 
 entry_more : (n : ℕ) (e : Entry) → IsGoodEntry 0 e → IsGoodEntry n e
 entry_more n (OfValue (Stored t r)) h =
-    let least : 0 ≤ n = omega arith in (h.0, word_more 0 n t least h.0 h.1, below_more 0 n r least h.2)
+    let least : 0 ≤ n = omega arith in (h.0, object_more 0 n t least h.0 h.1, below_more 0 n r least h.2)
 entry_more n (OfFunction s) h = h
 entry_more n (OfBuiltin k) h = h
 entry_more n (OfValue (Arrayed t r)) h = absurd h
 entry_more n (OfValue Counter) h = absurd h
 entry_more n (OfValue Unknown) h = absurd h
-entry_more n (OfTag t) h = absurd h
+entry_more n (OfTag t) h = h
 entry_more n OfOther h = absurd h
 
 tables_more : (n : ℕ) (g : Tables) → AllGood 0 g → AllGood n g
@@ -123,7 +125,7 @@ pub record FunctionGood (g : Tables) (i : ℕ) (f : tree.Function) : Type 0 wher
   pub end : end_reached f (head_of false g f) ≡ false
 
 module _ (bodies : BodiesJudged) where
-  pub function_good : (g : Tables) (i : ℕ) (f : tree.Function) → AllGood 0 g → function_taken thin_pointers f ≡ f → ItemsHaveOperands f.body
+  pub function_good : (g : Tables) (i : ℕ) (f : tree.Function) → AllGood 0 g → function_taken structures f ≡ f → ItemsHaveOperands f.body
       → function_faults false g i f ≡ []
       → FunctionGood g i f
   function_good g i f a t o p =
@@ -133,14 +135,14 @@ module _ (bodies : BodiesJudged) where
       none_of_both h.faults (own_after (test (not (end_reached f h)) type_rule f.end) (items_faults s true f.body)) p in
       let b : (test (not (end_reached f h)) type_rule f.end ≡ []) × (items_faults s true f.body ≡ []) =
       own_is (test (not (end_reached f h)) type_rule f.end) (items_faults s true f.body) q.1 in
-      let k : HeadGood g f = head_good g f t q.0 in
+      let k : HeadGood g f = head_good g f (good_tags 0 g a) t q.0 in
       let inside : Env = function_scope false g i h in
       let all : Env = with_all (map part_of f.parameters) k.signature.types inside in
       let same : s ≡ all =
       ap (λ ts. with_parameters f.parameters ts inside) k.signature.parameters
       ∙ same_scope f.parameters [] k.signature.types inside k.once (λ x e. refl) in
       let scope : IsGood all =
-      all_good (map part_of f.parameters) k.signature.types inside k.signature.words
+      all_good (map part_of f.parameters) k.signature.types inside k.signature.objects
       (types_up h.signature.regions k.signature.types k.signature.types_below) (outside_good g i f a k) in
       record {
         clean = q.0;
@@ -189,19 +191,25 @@ int_type t (lowering.GivesWord w) e = by t.base t.pointers w.base w.pointers e
         (thin ps (shapes.signed_shape p.sign (shapes.owner_of p.region) (shapes.base_shape b)) k.1
         (sign_thin p.sign (shapes.owner_of p.region) (shapes.base_shape b) k.0.0)) e)
 
-pub function_takes : (g : Tables) (i : ℕ) (f : tree.Function) → FunctionGood g i f → lowering.TakesFunction f
-function_takes g i f k = record {
-  result = k.head.result.taken;
-  main = λ e. int_type f.result k.head.result.taken (k.head.result.shape ∙ ap (λ (t : StaticType). shape_of t) (k.head.main_gives e));
-  parameters = k.head.parameters;
-  body = subst (λ (s : Shape). TakesItems s f.body) (sym k.head.result.shape) k.body.takes;
+-- a function without structs
+pub record FunctionThin (f : tree.Function) : Type 0 where
+  pub parameters : AreThinTypes f.parameters
+  pub result : takes_type thin_pointers f.result ≡ true
+  pub body : items_taken thin_pointers f.body ≡ f.body
+
+pub function_takes : (g : Tables) (i : ℕ) (f : tree.Function) → FunctionGood g i f → FunctionThin f → lowering.TakesFunction f
+function_takes g i f k z = record {
+  result = k.head.result.taken z.result;
+  main = λ e. int_type f.result (k.head.result.taken z.result) (k.head.result.shape ∙ ap (λ (t : StaticType). shape_of t) (k.head.main_gives e));
+  parameters = k.head.parameters z.parameters;
+  body = subst (λ (s : Shape). TakesItems s f.body) (sym k.head.result.shape) (k.body.takes z.body);
 }
 
 -- ---- what its name means
 
 -- where a name's function is found
 pub record FunctionNamed (world : World) (g : Tables) (x : List ℕ) (s : Signature) (f : tree.Function) : Type 0 where
-  pub no_structs : world.structs ≡ []
+  pub not_made : has_tag world.structs x ≡ false
   pub found : function_of world.functions x ≡ Some (routine_of f)
   pub not_read : bytes_eq x (codes "getchar") ≡ false
   pub not_written : bytes_eq x (codes "putchar") ≡ false
@@ -215,11 +223,11 @@ function_is world g i x s f n k = record {
   found = n.found;
   not_read = n.not_read;
   not_written = n.not_written;
-  not_made = ap (λ (ls : List Layout). has_tag ls x) n.no_structs;
+  not_made = n.not_made;
   types = k.head.signature.types;
   parameters = ap (λ (z : Signature). z.parameters) (sym n.signature) ∙ k.head.signature.parameters;
   shapes = k.head.shapes;
-  words = k.head.signature.words;
+  objects = k.head.signature.objects;
   gives = k.head.signature.gives;
   result = ap (λ (z : Signature). z.result) (sym n.signature) ∙ k.head.signature.result;
   shape = k.head.result.shape;

@@ -1,15 +1,16 @@
--- The type of a local that is taken, where it has no fault: a word's, whose region names are in scope, with the shape that is written. A missing region is
+-- The type of a local that is taken, where it has no fault: an object's, whose region names are in scope, with the shape that is written. A missing region is
 -- that of its initializer, or the heap.
-use Rattle.std.proofs.Common.{◌≡◌, ℕ, Bool, true, false, Option, Some, None, refl, sym, subst, ap, ◌∙◌}
+use Rattle.std.proofs.Common.{◌≡◌, ℕ, Bool, true, false, Option, Some, None, [], ◌∷◌, refl, sym, subst, ap, ◌∙◌}
 use Rattle.std.specs.Prelude.{◌&&◌, ◌||◌}
 use Rattle.cyc_tree.specs.Tree.{TypeName}
 use Rattle.source_lowering.specs.Taken as lowering
 use Rattle.source_lowering.specs.Taken.{HasFirst}
-use Rattle.source_lowering.proofs.Integers.{IsTaken}
+use Rattle.source_lowering.proofs.Integers.{IsWordShape}
 use Rattle.source_lowering.proofs.WrittenTypes.{type_settled}
 use Rattle.source_meaning.specs.Shapes as shapes
 use Rattle.source_meaning.specs.Shapes.{ThinShape}
-use Rattle.source_safety.specs.Entries.{Begins, IsWordType}
+use Rattle.source_safety.specs.Entries.{IsObjectType}
+use Rattle.source_safety.specs.Judged.{structures}
 use Rattle.source_safety.specs.Named.{TypeBelow}
 use Rattle.source_typing.specs.Declarations.{can_be, fitting, fitting_local, if_sized, local_type, misses_region, set_type, taken_from, type_in_scope}
 use Rattle.source_typing.specs.Declarations.{unset_type}
@@ -19,14 +20,16 @@ use Rattle.source_typing.specs.Regions.{Region}
 use Rattle.source_typing.specs.Scope.{Env, Value, in_scope}
 use Rattle.source_typing.specs.Tables.{Tables, has_beginning}
 use Rattle.source_typing.specs.Taken.{takes_type, thin_pointers}
-use Rattle.source_typing.specs.Types.{Char, Fat, Int, Null, PartialType, StaticType, Thin, Unique, Unsigned, Void, shape_of}
+use Rattle.source_typing.specs.Types.{Char, Fat, Int, Null, PartialType, StaticType, Struct, Thin, Unique, Unsigned, Void, shape_of}
 use Rattle.source_typing.specs.Verdicts.{Of, after, if_fits}
 use Rattle.source_typing.specs.Written.{Found, Is, IsUnique, Missing}
 use Rattle.source_typing.proofs.Converting.{and_is}
 use Rattle.judged_sources.specs.Good.{IsGood, IsValueType, Surely}
 use Rattle.judged_sources.proofs.Sure.{surely_after, surely_also}
-use Rattle.judged_sources.proofs.GoodOperators.{word_value}
-use Rattle.judged_sources.proofs.GoodTypes.{FoundBelow, IsPartialWord, IsWritten, RegionBelow, WritesNothing, WritesWord, WrittenWord, in_scope_good}
+use Rattle.judged_sources.proofs.GoodOperators.{object_value}
+use Rattle.judged_sources.proofs.GoodTypes.{FoundBelow, IsPartialObject, IsWritten, RegionBelow, WordIfThin, WritesNothing, WritesObject, WrittenObject}
+use Rattle.judged_sources.proofs.GoodTypes.{good_tags, in_scope_good}
+use Rattle.judged_sources.proofs.Settling.{IsOpen, IsSharedShape, settled_same}
 
 -- ---- missing regions
 
@@ -42,7 +45,7 @@ outer_below n (Some (Unique b t)) h = absurd h.0
 outer_below n _ h = tt
 
 pointee_below : (n : ℕ) (s : Option StaticType) → SourceBelow n s → SourceBelow n (pointee_of s)
-pointee_below n (Some (Thin b r t)) h = (word_value t h.0, h.1.1)
+pointee_below n (Some (Thin b r t)) h = (object_value t h.0, h.1.1)
 pointee_below n (Some (Fat r t)) h = absurd h.0
 pointee_below n (Some (Unique b t)) h = absurd h.0
 pointee_below n _ h = tt
@@ -51,9 +54,9 @@ or_below : (n : ℕ) (r : Option Region) (f : Found) → RegionBelow n r → Fou
 or_below n (Some r) f h k = h
 or_below n None f h k = k
 
--- a word with all its regions, of the shape that it had without
+-- an object with all its regions, of the shape that it had without
 pub record IsFilled (n : ℕ) (p : PartialType) (t : StaticType) : Type 0 where
-  pub word : IsWordType t
+  pub object : IsObjectType t
   pub below : TypeBelow n t
   pub shape : shape_of t ≡ shape_of p
 
@@ -64,23 +67,25 @@ FilledIfSome n p (Some t) = IsFilled n p t
 thin_filled : (n : ℕ) (b : Bool) (r : Option Region) (f : Found) (p : PartialType) (o : Option StaticType) → FoundBelow n f → FilledIfSome n p o
     → FilledIfSome n (Thin b r p) (thin_with b f o)
 thin_filled n b r f p None h k = absurd k
-thin_filled n b r (Is q) p (Some t) h k = record { word = k.word; below = (h, k.below); shape = ap (λ s. ThinShape b shapes.Shared s) k.shape }
+thin_filled n b r (Is q) p (Some t) h k = record { object = k.object; below = (h, k.below); shape = ap (λ s. ThinShape b shapes.Shared s) k.shape }
 thin_filled n b r IsUnique p (Some t) h k = absurd h
-thin_filled n b r Missing p (Some t) h k = record { word = k.word; below = (tt, k.below); shape = ap (λ s. ThinShape b shapes.Shared s) k.shape }
+thin_filled n b r Missing p (Some t) h k = record { object = k.object; below = (tt, k.below); shape = ap (λ s. ThinShape b shapes.Shared s) k.shape }
 
-filled_word : (n : ℕ) (p : PartialType) (s : Option StaticType) → IsPartialWord n p → SourceBelow n s → FilledIfSome n p (filled_from p s)
-filled_word n Int s h k = record { word = tt; below = tt; shape = refl }
-filled_word n Unsigned s h k = record { word = tt; below = tt; shape = refl }
-filled_word n Char s h k = record { word = tt; below = tt; shape = refl }
-filled_word n (Thin b r t) s h k =
+filled_object : (n : ℕ) (p : PartialType) (s : Option StaticType) → IsPartialObject n p → SourceBelow n s → FilledIfSome n p (filled_from p s)
+filled_object n Int s h k = record { object = tt; below = tt; shape = refl }
+filled_object n Unsigned s h k = record { object = tt; below = tt; shape = refl }
+filled_object n Char s h k = record { object = tt; below = tt; shape = refl }
+filled_object n (Thin b r t) s h k =
     thin_filled n b r (or_found r (outer_region s)) t (filled_from t (pointee_of s)) (or_below n r (outer_region s) h.0 (outer_below n s k))
-    (filled_word n t (pointee_of s) h.1 (pointee_below n s k))
-filled_word n _ s h k = absurd h
+    (filled_object n t (pointee_of s) h.1 (pointee_below n s k))
+filled_object n (Struct tag []) s h k = record { object = refl; below = tt; shape = refl }
+filled_object n (Struct tag (r ∷ rs)) s h k = absurd cc
+filled_object n _ s h k = absurd h
 
--- a word, whose missing regions are found
-pub word_settled : (n at : ℕ) (p : PartialType) (s : Option StaticType) → IsPartialWord n p → SourceBelow n s
+-- an object, whose missing regions are found
+pub object_settled : (n at : ℕ) (p : PartialType) (s : Option StaticType) → IsPartialObject n p → SourceBelow n s
     → Surely (λ t. IsFilled n p t) (settled at p s)
-word_settled n at p s h k = by (filled_from p s) (filled_word n p s h k)
+object_settled n at p s h k = by (filled_from p s) (filled_object n p s h k)
   where
     by : (o : Option StaticType) → FilledIfSome n p o → Surely (λ t. IsFilled n p t) (as_type at o)
     by None h = absurd h
@@ -104,24 +109,26 @@ fitting_is g at count fits t = by (fits && can_be g count t) refl (fits_bytes (v
 
 -- the type of a local without fault; with an initializer, or with a beginning
 pub record IsLocalType (g : Env) (of : TypeName) (set : Bool) (t : StaticType) : Type 0 where
-  pub word : IsWordType t
+  pub object : IsObjectType t
   pub below : TypeBelow g.regions.count t
-  pub taken : lowering.IsWordType of
+  pub taken : WordIfThin of
+  pub unowned : IsOpen (shapes.written of)
   pub shape : shapes.settled (shapes.written of) ≡ shape_of t
   pub begins : set || has_beginning g.tables t ≡ true
 
-word_local : (g : Env) (of : TypeName) (at : ℕ) (set : Bool) (s : Option StaticType) (p : PartialType) → WrittenWord g.regions.count of p
+object_local : (g : Env) (of : TypeName) (at : ℕ) (set : Bool) (s : Option StaticType) (p : PartialType) → WrittenObject g.regions.count of p
     → SourceBelow g.regions.count s
     → Surely (λ t. IsLocalType g of set t) (local_type g at None set s p)
-word_local g of at set s p w k =
+object_local g of at set s p w k =
     surely_after (λ t. IsFilled g.regions.count p t) (λ t. IsLocalType g of set t) (settled at p s) (fitting_local g at None set)
-    (word_settled g.regions.count at p s w.word k)
+    (object_settled g.regions.count at p s w.object k)
     (λ t f. surely_also (λ u. IsFitting g None (set || has_beginning g.tables t) t u) (λ u. IsLocalType g of set u) (fitting_local g at None set t)
     (fitting_is g at None (set || has_beginning g.tables t) t)
     (λ u h. subst (λ z. IsLocalType g of set z) (sym h.same) (record {
-      word = f.word;
+      object = f.object;
       below = f.below;
       taken = w.taken;
+      unowned = w.unowned;
       shape = w.shape ∙ sym f.shape;
       begins = h.fits_it;
     })))
@@ -138,16 +145,16 @@ nothing_local g of at set s =
 local_good : (g : Env) (of : TypeName) (at : ℕ) (set : Bool) (s : Option StaticType) (p : PartialType) → IsWritten g.regions.count of p
     → SourceBelow g.regions.count s
     → Surely (λ t. IsLocalType g of set t) (local_type g at None set s p)
-local_good g of at set s p (WritesWord w) k = word_local g of at set s p w k
+local_good g of at set s p (WritesObject w) k = object_local g of at set s p w k
 local_good g of at set s p (WritesNothing v e) k =
     subst (λ z. Surely (λ t. IsLocalType g of set t) (local_type g at None set s z)) (sym e) (nothing_local g of at set s)
 
 -- ---- types of locals
 
-pub unset_good : (g : Env) (t : TypeName) → IsGood g → takes_type thin_pointers t ≡ true → Surely (λ u. IsLocalType g t false u) (unset_type g t None)
+pub unset_good : (g : Env) (t : TypeName) → IsGood g → takes_type structures t ≡ true → Surely (λ u. IsLocalType g t false u) (unset_type g t None)
 unset_good g t h e =
     surely_after (λ p. IsWritten g.regions.count t p) (λ u. IsLocalType g t false u) (type_in_scope g t) (local_type g t.at None false None)
-    (in_scope_good g.regions.count (in_scope g) g.names t h.regions e) (λ p w. local_good g t t.at false None p w tt)
+    (in_scope_good g.regions.count (in_scope g) g.names t (good_tags g.regions.count (in_scope g) h.names) h.regions e) (λ p w. local_good g t t.at false None p w tt)
 
 from_good : (g : Env) (of : TypeName) (at : ℕ) (b : Bool) (v : Value) (p : PartialType) → SourceBelow g.regions.count (Some v.type)
     → IsWritten g.regions.count of p
@@ -155,54 +162,52 @@ from_good : (g : Env) (of : TypeName) (at : ℕ) (b : Bool) (v : Value) (p : Par
 from_good g of at true v p k w = local_good g of at true (Some v.type) p w k
 from_good g of at false v p k w = local_good g of at true None p w tt
 
-pub set_good : (g : Env) (t : TypeName) (v : Value) → IsGood g → IsValueType v.type → TypeBelow g.regions.count v.type → takes_type thin_pointers t ≡ true
+pub set_good : (g : Env) (t : TypeName) (v : Value) → IsGood g → IsValueType v.type → TypeBelow g.regions.count v.type → takes_type structures t ≡ true
     → Surely (λ u. IsLocalType g t true u) (set_type g t (Of v))
 set_good g t v h k b e =
     surely_after (λ p. IsWritten g.regions.count t p) (λ u. IsLocalType g t true u) (type_in_scope g t) (taken_from g t.at (misses_region g t) (Of v))
-    (in_scope_good g.regions.count (in_scope g) g.names t h.regions e) (λ p w. from_good g t t.at (misses_region g t) v p (k, b) w)
+    (in_scope_good g.regions.count (in_scope g) g.names t (good_tags g.regions.count (in_scope g) h.names) h.regions e) (λ p w. from_good g t t.at (misses_region g t) v p (k, b) w)
 
 -- ---- beginnings
 
-pub begins_word : (g : Tables) (t : StaticType) → IsWordType t → has_beginning g t ≡ true → Begins t
-begins_word g Int w e = tt
-begins_word g Unsigned w e = tt
-begins_word g Char w e = tt
-begins_word g (Thin b r t) w e = e
-begins_word g _ w e = absurd w
+pub local_begins : (g : Env) (of : TypeName) (t : StaticType) → IsLocalType g of false t → has_beginning g.tables t ≡ true
+local_begins g of t h = h.begins
 
-pub local_begins : (g : Env) (of : TypeName) (t : StaticType) → IsLocalType g of false t → Begins t
-local_begins g of t h = begins_word g.tables t h.word h.begins
+-- what begins has a first value in the lowering too, where there are no structs
+pub begins_first : (g : Tables) (of : TypeName) (t : StaticType) → IsObjectType t → lowering.IsWordType of → shapes.settled (shapes.written of) ≡ shape_of t
+    → has_beginning g t ≡ true → HasFirst (shape_of t)
+begins_first g of Int o w s e = tt
+begins_first g of Unsigned o w s e = tt
+begins_first g of Char o w s e = tt
+begins_first g of (Thin b r t) o w s e = subst (λ z. HasFirst (ThinShape z shapes.Shared (shape_of t))) (sym e) tt
+begins_first g of (Struct tag rs) o w s e = absurd (subst (λ z. IsWordShape z) s (type_settled of w).is_word)
+begins_first g of _ o w s e = absurd o
 
-pub begins_first : (t : StaticType) → Begins t → HasFirst (shape_of t)
-begins_first Int e = tt
-begins_first Unsigned e = tt
-begins_first Char e = tt
-begins_first (Thin b r t) e = subst (λ z. HasFirst (ThinShape z shapes.Shared (shape_of t))) (sym e) tt
-begins_first _ e = absurd e
-
--- what begins has a first value in the lowering too
-pub local_first : (g : Env) (of : TypeName) (t : StaticType) → IsLocalType g of false t → HasFirst (shapes.settled (shapes.written of))
-local_first g of t h = subst (λ z. HasFirst z) (sym h.shape) (begins_first t (local_begins g of t h))
+pub local_first : (g : Env) (of : TypeName) (t : StaticType) → IsLocalType g of false t → takes_type thin_pointers of ≡ true
+    → HasFirst (shapes.settled (shapes.written of))
+local_first g of t h i = subst (λ z. HasFirst z) (sym h.shape) (begins_first g.tables of t h.object (h.taken i) h.shape h.begins)
 
 -- ---- shapes
 
-word_shape : (t : StaticType) → IsWordType t → IsTaken (shape_of t)
-word_shape Int h = tt
-word_shape Unsigned h = tt
-word_shape Char h = tt
-word_shape (Thin b r t) h = (refl, word_shape t h)
-word_shape _ h = absurd h
+object_shape : (t : StaticType) → IsObjectType t → IsSharedShape (shape_of t)
+object_shape Int h = tt
+object_shape Unsigned h = tt
+object_shape Char h = tt
+object_shape (Thin b r t) h = (refl, object_shape t h)
+object_shape (Struct tag rs) h = tt
+object_shape _ h = absurd h
 
-value_shape : (t : StaticType) → IsValueType t → IsTaken (shape_of t)
+value_shape : (t : StaticType) → IsValueType t → IsSharedShape (shape_of t)
 value_shape Null h = (refl, tt)
 value_shape Void h = tt
 value_shape Int h = tt
 value_shape Unsigned h = tt
 value_shape Char h = tt
-value_shape (Thin b r t) h = (refl, word_shape t h)
+value_shape (Thin b r t) h = (refl, object_shape t h)
+value_shape (Struct tag rs) h = tt
 value_shape _ h = absurd h
 
--- an initializer leaves the shape that is written
+-- the shape of a local whose initializer is of a type
 pub local_shape : (g : Env) (of : TypeName) (t u : StaticType) → IsLocalType g of true t → IsValueType u
     → shapes.settled_by (shapes.written of) (shape_of u) ≡ shape_of t
-local_shape g of t u h k = (type_settled of h.taken).by (shape_of u) (value_shape u k) ∙ h.shape
+local_shape g of t u h k = settled_same (shapes.written of) (shape_of u) h.unowned (value_shape u k) ∙ h.shape

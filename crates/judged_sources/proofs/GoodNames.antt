@@ -1,7 +1,7 @@
 -- Names and calls where all is known of each name in scope.
 use Rattle.std.proofs.Common.{◌≡◌, ℕ, zero, suc, Bool, true, false, Option, Some, None, List, [], ◌∷◌, refl, sym, ap, subst}
 use Rattle.std.specs.Prelude.{bytes_eq, if◌then◌else◌, length, map, nat_eq, replicate, ◌++◌, ◌&&◌}
-use Rattle.source_safety.specs.Entries.{AreWords, IsPlain, IsWordType}
+use Rattle.source_safety.specs.Entries.{AreObjects, IsObjectType, IsPlain}
 use Rattle.source_safety.specs.Named.{AllBelow, TypeBelow}
 use Rattle.source_typing.specs.Calls.{
   Target,
@@ -19,7 +19,9 @@ use Rattle.source_typing.specs.Calls.{
   call_entered,
   called,
   if_all_known,
+  part_types,
   target,
+  target_of_tag,
   typed_result,
 }
 use Rattle.source_typing.specs.Faults.{effect_rule, outlives_rule, test}
@@ -27,13 +29,15 @@ use Rattle.source_typing.specs.Fixing.{Fit, all_fits, first_fit, fixed_from, fix
 use Rattle.source_typing.specs.Places.{variable}
 use Rattle.source_typing.specs.Regions.{Level, Region, TheHeap, same_id}
 use Rattle.source_typing.specs.Scope.{Enclosing, Env, InRegion, Nowhere, Value, value}
-use Rattle.source_typing.specs.Tables.{Arrayed, Counter, Entry, OfBuiltin, OfFunction, OfOther, OfTag, OfValue, Stored, Tables, Unknown, argument, find}
+use Rattle.source_typing.specs.Tables.{Arrayed, Counter, Entry, OfBuiltin, OfFunction, OfOther, OfTag, OfValue, Stored, Tables, Tag, Unknown, argument, find}
 use Rattle.source_typing.specs.Types.{Char, Fat, Handle, Int, Key, Null, StaticType, Struct, Thin, Union, Unique, Unsigned, Void, renamed}
 use Rattle.source_typing.specs.Verdicts.{Faulty, Of, Unjudged, Verdict}
 use Rattle.source_typing.specs.Written.{Found, Is, IsUnique, Missing, if_sound}
+use Rattle.source_typing.proofs.CallsFit.{arguments_are}
+use Rattle.source_typing.proofs.Inversion.{of_is}
 use Rattle.source_safety.proofs.Fixed.{ValuesBelow, fixed_below, plain_below}
 use Rattle.source_safety.proofs.Words.{plain_renamed}
-use Rattle.judged_sources.specs.Good.{AllGood, IsGoodEntry, IsGoodSignature, IsValueType, SeatBelow, Surely}
+use Rattle.judged_sources.specs.Good.{AllGood, IsGoodEntry, IsGoodSignature, IsGoodTag, IsValueType, SeatBelow, Surely}
 use Rattle.judged_sources.proofs.Sure.{surely_after, surely_both, surely_other, surely_since, surely_unless}
 
 -- ---- what a name means
@@ -50,9 +54,9 @@ found_good count (n ∷ ns) x h = by (bytes_eq n.name x) (found_good count ns x 
     by true k = h.0
     by false k = k
 
--- a variable is a place of a word
+-- a variable is a place of an object
 pub record IsGoodPlace (count : ℕ) (v : Value) : Type 0 where
-  pub type : IsWordType v.type
+  pub type : IsObjectType v.type
   pub below : TypeBelow count v.type
   pub seat : SeatBelow count v.seat
 
@@ -62,7 +66,7 @@ variable_judged count at (Some (OfValue (Stored t r))) h = record { type = h.0; 
 variable_judged count at (Some (OfValue (Arrayed t r))) h = absurd h
 variable_judged count at (Some (OfValue Counter)) h = absurd h
 variable_judged count at (Some (OfValue Unknown)) h = absurd h
-variable_judged count at (Some (OfTag t)) h = absurd h
+variable_judged count at (Some (OfTag t)) h = surely_other (λ v. IsGoodPlace count v) t.sound at h.sound
 variable_judged count at (Some (OfFunction s)) h = surely_other (λ v. IsGoodPlace count v) s.sound at h.sound
 variable_judged count at (Some (OfBuiltin n)) h = tt
 variable_judged count at (Some OfOther) h = absurd h
@@ -71,14 +75,16 @@ variable_judged count at (Some OfOther) h = absurd h
 
 abbrev pub IsGoodTarget : Target → Type 0
 IsGoodTarget (ToBuiltin n) = Unit {0}
-IsGoodTarget (ToStruct t) = ⊥
+IsGoodTarget (ToStruct t) = IsGoodTag t
 IsGoodTarget (ToFunction s) = IsGoodSignature s
 
 pub target_judged : (count at : ℕ) (e : Option Entry) → MeansGood count e → Surely (λ u. IsGoodTarget u) (target at e)
 target_judged count at None h = tt
 target_judged count at (Some (OfBuiltin n)) h = tt
 target_judged count at (Some (OfFunction s)) h = subst (λ b. Surely (λ u. IsGoodTarget u) (if_sound b (Of (ToFunction s)))) (sym h.sound) h
-target_judged count at (Some (OfTag t)) h = absurd h
+target_judged count at (Some (OfTag t)) h =
+    subst (λ b. Surely (λ u. IsGoodTarget u) (target_of_tag b t at)) (sym h.no_union)
+    (subst (λ b. Surely (λ u. IsGoodTarget u) (if_sound b (Of (ToStruct t)))) (sym h.sound) h)
 target_judged count at (Some (OfValue (Stored t r))) h = tt
 target_judged count at (Some (OfValue (Arrayed t r))) h = absurd h
 target_judged count at (Some (OfValue Counter)) h = absurd h
@@ -117,8 +123,8 @@ all_are_known : (ts : List StaticType) → all_known (some_types ts) ≡ true
 all_are_known [] = refl
 all_are_known (t ∷ ts) = all_are_known ts
 
--- Arguments fit parameters that are words, and the region variables then stand for regions in scope; or they are at fault.
-pub arguments_judged : (g : Env) (at n : ℕ) (ts : List StaticType) (vs : List Value) → g.enclosing ≡ InRegion TheHeap → AreWords ts
+-- Arguments fit parameters that are objects, and the region variables then stand for regions in scope; or they are at fault.
+pub arguments_judged : (g : Env) (at n : ℕ) (ts : List StaticType) (vs : List Value) → g.enclosing ≡ InRegion TheHeap → AreObjects ts
     → ValuesBelow g.regions.count vs → Surely (λ (rs : List Region). AllBelow g.regions.count rs) (arguments_fit g at n (some_types ts) vs)
 arguments_judged g at n ts vs e w h = by (nat_eq (length (some_types ts)) (length vs))
   where
@@ -162,7 +168,7 @@ plain_value (Fat r t) h = absurd h
 plain_value (Unique n t) h = absurd h
 plain_value (Handle r) h = absurd h
 plain_value (Key r) h = absurd h
-plain_value (Struct tag rs) h = absurd h
+plain_value (Struct tag rs) h = h
 plain_value (Union tag rs) h = absurd h
 
 -- the functions that every program has take integers
@@ -170,9 +176,9 @@ builtins_are : (n : ℕ) → some_types (replicate n Int) ≡ builtin_parameters
 builtins_are zero = refl
 builtins_are (suc n) = ap (λ (ps : List (Option StaticType)). Some Int ∷ ps) (builtins_are n)
 
-builtins_words : (n : ℕ) → AreWords (replicate n Int)
-builtins_words zero = tt
-builtins_words (suc n) = (tt, builtins_words n)
+builtins_objects : (n : ℕ) → AreObjects (replicate n Int)
+builtins_objects zero = tt
+builtins_objects (suc n) = (tt, builtins_objects n)
 
 -- the result's type speaks of regions where the call is
 result_judged : (count at : ℕ) (rs : List Region) (t : StaticType) → IsPlain t → AllBelow count rs
@@ -185,17 +191,30 @@ result_judged count at rs t p h = record {
 
 pub called_judged : (g : Env) (at : ℕ) (u : Target) (vs : List Value) → g.enclosing ≡ InRegion TheHeap → IsGoodTarget u
     → ValuesBelow g.regions.count vs → Surely (λ v. IsGoodResult g.regions.count v) (called g at u vs)
-called_judged g at (ToStruct t) vs e h below = absurd h
+called_judged g at (ToStruct t) vs e h below =
+    surely_after (λ (rs : List Region). rs ≡ []) (λ v. IsGoodResult g.regions.count v) (arguments_fit g at t.regions (part_types t.parts) vs)
+    (λ rs. value at (Struct t.text rs))
+    (surely_since (λ (rs : List Region). AllBelow g.regions.count rs) (λ (rs : List Region). rs ≡ []) (arguments_fit g at t.regions (part_types t.parts) vs)
+    (subst (λ (ps : List (Option StaticType)). Surely (λ (rs : List Region). AllBelow g.regions.count rs) (arguments_fit g at t.regions ps vs))
+    (sym h.parts) (arguments_judged g at t.regions h.types vs e h.objects below))
+    (λ rs is k. no_variables g at t vs rs h.no_regions is))
+    (λ rs k. record { type = k; below = subst (λ (qs : List Region). AllBelow g.regions.count qs) (sym k) tt; nowhere = refl })
+  where
+    no_variables : (g : Env) (at : ℕ) (t : Tag) (vs : List Value) (rs : List Region) → t.regions ≡ 0 → arguments_fit g at t.regions (part_types t.parts) vs ≡ Of rs
+        → rs ≡ []
+    no_variables g at t vs rs none is =
+        sym (of_is [] rs (subst (λ (n : ℕ). fixed_from g.enclosing at (all_fits (part_types t.parts) vs) 0 n ≡ Of rs) none
+        (arguments_are g at t.regions (part_types t.parts) vs rs is).found))
 called_judged g at (ToBuiltin n) vs e h below =
     surely_after (λ (rs : List Region). AllBelow g.regions.count rs) (λ v. IsGoodResult g.regions.count v) (arguments_fit g at 0 (builtin_parameters n) vs)
     (λ rs. value at Int)
     (subst (λ (ps : List (Option StaticType)). Surely (λ (rs : List Region). AllBelow g.regions.count rs) (arguments_fit g at 0 ps vs)) (builtins_are n)
-    (arguments_judged g at 0 (replicate n Int) vs e (builtins_words n) below)) (λ rs k. record { type = tt; below = tt; nowhere = refl })
+    (arguments_judged g at 0 (replicate n Int) vs e (builtins_objects n) below)) (λ rs k. record { type = tt; below = tt; nowhere = refl })
 called_judged g at (ToFunction s) vs e h below =
     surely_after (λ (rs : List Region). AllBelow g.regions.count rs) (λ v. IsGoodResult g.regions.count v) (arguments_fit g at s.regions s.parameters vs)
     (call_entered g at s)
     (subst (λ (ps : List (Option StaticType)). Surely (λ (rs : List Region). AllBelow g.regions.count rs) (arguments_fit g at s.regions ps vs))
-    (sym h.parameters) (arguments_judged g at s.regions h.types vs e h.words below))
+    (sym h.parameters) (arguments_judged g at s.regions h.types vs e h.objects below))
     (λ rs k. surely_unless (λ v. IsGoodResult g.regions.count v)
     (test (all_live g rs s.effect) effect_rule at ++ test (all_ordered g rs s.bounds) outlives_rule at) (typed_result at rs s.result)
     (λ none. subst (λ (t : Option StaticType). Surely (λ v. IsGoodResult g.regions.count v) (typed_result at rs t)) (sym h.result)

@@ -1,10 +1,10 @@
--- Operators on words, `NULL` and nothing: what they give is a word and no place, or they are at fault.
+-- Operators on objects, `NULL` and nothing: what they give is a word and no place, or they are at fault.
 use Rattle.std.proofs.Common.{◌≡◌, ℕ, Bool, true, false, refl, sym, subst}
 use Rattle.std.specs.Prelude.{◌&&◌, ◌||◌, ◌++◌}
 use Rattle.cyc_tree.specs.declared.expression.Operator.{Operator}
 use Rattle.cyc_tree.specs.declared.expression.Operator.TheVariants.{ShiftLeft}
 use Rattle.source_meaning.specs.Memory.{IntegerType}
-use Rattle.source_safety.specs.Entries.{IsWordType}
+use Rattle.source_safety.specs.Entries.{IsObjectType}
 use Rattle.source_typing.specs.Converts.{IsInteger}
 use Rattle.source_typing.specs.Faults.{outlives_rule, region_rule, test}
 use Rattle.source_typing.specs.Operators.{
@@ -45,20 +45,20 @@ use Rattle.source_typing.specs.Types.{
 }
 use Rattle.source_typing.specs.Verdicts.{after, if_fits}
 use Rattle.source_typing.proofs.Converting.{and_is}
-use Rattle.source_safety.proofs.Entries.{word_plain}
+use Rattle.source_safety.proofs.Entries.{object_plain}
 use Rattle.source_safety.proofs.Integers.{integer_is, on_integers_is}
-use Rattle.source_safety.proofs.Words.{integer_below, integer_word}
+use Rattle.source_safety.proofs.Words.{integer_below, integer_object}
 use Rattle.judged_sources.specs.Good.{IsValueType, Surely}
 use Rattle.judged_sources.proofs.GoodNames.{IsGoodResult, plain_value}
 use Rattle.judged_sources.proofs.Sure.{surely_fits, surely_unless}
 
-pub word_value : (t : StaticType) → IsWordType t → IsValueType t
-word_value t h = plain_value t (word_plain t h)
+pub object_value : (t : StaticType) → IsObjectType t → IsValueType t
+object_value t h = plain_value t (object_plain t h)
 
 -- ---- integers
 
 pub integer_judged : (count at : ℕ) (t : StaticType) → IsInteger t → Surely (λ v. IsGoodResult count v) (value at t)
-integer_judged count at t h = record { type = word_value t (integer_word t h); below = integer_below count t h; nowhere = refl }
+integer_judged count at t h = record { type = object_value t (integer_object t h); below = integer_below count t h; nowhere = refl }
 
 -- a test, and then an integer
 fitting_judged : (count : ℕ) (b : Bool) (at place : ℕ) (t : StaticType) → (b ≡ true → IsInteger t)
@@ -115,13 +115,14 @@ module _ (count : ℕ) (g : Env) where
   compared_judged at (Thin n r t) (Unique m u) h k = absurd k
   compared_judged at (Thin n r t) (Handle q) h k = absurd k
   compared_judged at (Thin n r t) (Key q) h k = absurd k
-  compared_judged at (Thin n r t) (Struct tag qs) h k = absurd k
+  compared_judged at (Thin n r t) (Struct tag qs) h k = tt
   compared_judged at (Thin n r t) (Union tag qs) h k = absurd k
   compared_judged at (Fat r t) u h k = absurd h
   compared_judged at (Unique n t) u h k = absurd h
   compared_judged at (Handle r) u h k = absurd h
   compared_judged at (Key r) u h k = absurd h
-  compared_judged at (Struct tag rs) u h k = absurd h
+  compared_judged at (Struct tag rs) u h k =
+      null_judged ((is_pointer (Struct tag rs) && is_null u) || (is_null (Struct tag rs) && is_pointer u)) at
   compared_judged at (Union tag rs) u h k = absurd h
 
   equality_judged : (b : Bool) (at : ℕ) (t u : StaticType) → IsValueType t → IsValueType u → Surely (λ v. IsGoodResult count v) (if_equality b g at t u)
@@ -148,5 +149,5 @@ module _ (count : ℕ) (g : Env) where
   applied_judged o at (Unique n t) u h k = absurd h
   applied_judged o at (Handle r) u h k = absurd h
   applied_judged o at (Key r) u h k = absurd h
-  applied_judged o at (Struct tag rs) u h k = absurd h
+  applied_judged o at (Struct tag rs) u h k = joined_judged (is_integer (Struct tag rs) && is_integer u) o at (Struct tag rs) u refl h k
   applied_judged o at (Union tag rs) u h k = absurd h

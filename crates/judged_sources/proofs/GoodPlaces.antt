@@ -1,21 +1,29 @@
--- Places and what leads to them: `*e`, `&e` and assignments, where all is known of each name in scope.
-use Rattle.std.proofs.Common.{◌≡◌, ℕ, Bool, true, false, refl, sym, subst}
+-- Places and what leads to them: `*e`, `&e`, members and assignments, where all is known of each name in scope.
+use Rattle.std.proofs.Common.{◌≡◌, ℕ, Bool, true, false, Option, Some, None, List, [], ◌∷◌, refl, sym, subst}
+use Rattle.std.specs.Prelude.{bytes_eq, if◌then◌else◌, map}
 use Rattle.cyc_tree.specs.declared.expression.Prefix.{Prefix}
 use Rattle.cyc_tree.specs.declared.expression.Prefix.TheVariants as prefix
+use Rattle.cyc_tree.specs.Tree as tree
 use Rattle.cyc_tree.specs.Tree.{Expression}
 use Rattle.source_lowering.specs.Taken.{Takes, TakesPlace}
-use Rattle.source_safety.specs.Entries.{IsWordType}
+use Rattle.source_safety.specs.Entries.{AreObjects, IsObjectType}
 use Rattle.source_safety.specs.Named.{Below, TypeBelow}
 use Rattle.source_typing.specs.Conversions.{converts}
 use Rattle.source_typing.specs.Operators.{prefixed}
-use Rattle.source_typing.specs.Places.{address_of, assigned, assigned_in, assigned_type, contents_of, in_live}
+use Rattle.source_typing.specs.Calls.{part_types}
+use Rattle.source_typing.specs.Places.{address_of, arrow_live, arrow_of, assigned, assigned_in, assigned_type, contents_of, in_live, member_of, part_found, part_of}
+use Rattle.source_typing.specs.Places.{part_typed}
+use Rattle.source_typing.specs.Tables.{Entry, OfBuiltin, OfFunction, OfOther, OfTag, OfValue, Part, argument, as_tag, find, part_in, parts_of_tag}
+use Rattle.source_typing.specs.Taken.{if_taken, taken, takes_prefix, thin_pointers}
 use Rattle.source_typing.specs.Regions.{Region}
 use Rattle.source_typing.specs.Scope.{Env, In, InBlock, Nowhere, Seat, Value, is_live, is_place, value}
-use Rattle.source_typing.specs.Types.{Char, Fat, Handle, Int, Key, Null, StaticType, Struct, Thin, Union, Unique, Unsigned, Void}
-use Rattle.source_safety.proofs.WordRules.{assigned_word}
-use Rattle.judged_sources.specs.Good.{IsGoodValue, IsValueType, SeatBelow, Surely}
-use Rattle.judged_sources.proofs.GoodNames.{IsGoodPlace, IsGoodResult}
-use Rattle.judged_sources.proofs.GoodOperators.{signed_judged, tested_judged, word_value}
+use Rattle.source_typing.specs.Types.{Char, Fat, Handle, Int, Key, Null, StaticType, Struct, Thin, Union, Unique, Unsigned, Void, renamed}
+use Rattle.source_safety.proofs.WordRules.{assigned_object, given_below, given_type}
+use Rattle.source_safety.proofs.Words.{object_renamed}
+use Rattle.source_safety.proofs.Fixed.{object_below}
+use Rattle.judged_sources.specs.Good.{AllGood, IsGoodValue, IsValueType, SeatBelow, Surely}
+use Rattle.judged_sources.proofs.GoodNames.{IsGoodPlace, IsGoodResult, MeansGood, found_good}
+use Rattle.judged_sources.proofs.GoodOperators.{signed_judged, tested_judged, object_value}
 use Rattle.judged_sources.proofs.Sure.{surely_also, surely_unless}
 
 nowhere_place : {A : Type 0} (s : Seat) → s ≡ Nowhere → is_place s ≡ true → A
@@ -23,24 +31,31 @@ nowhere_place Nowhere n e = absurd cc
 nowhere_place (In r) n e = absurd cc
 nowhere_place InBlock n e = absurd cc
 
+-- where there are no structs, lowering takes the expression
+abbrev pub TakesThin : Expression → Type 0
+TakesThin e = taken thin_pointers e ≡ e → Takes e
+
+abbrev pub TakesThinPlace : Expression → Type 0
+TakesThinPlace e = taken thin_pointers e ≡ e → TakesPlace e
+
 -- a value that is no place
-pub valued : (g : Env) (e : Expression) (v : Value) → Takes e → IsGoodResult g.regions.count v → IsGoodValue g e v
+pub valued : (g : Env) (e : Expression) (v : Value) → TakesThin e → IsGoodResult g.regions.count v → IsGoodValue g e v
 valued g e v t h = record {
   type = h.type;
   below = h.below;
   seat = subst (λ (s : Seat). SeatBelow g.regions.count s) (sym h.nowhere) tt;
-  word = λ p. nowhere_place v.seat h.nowhere p;
+  object = λ p. nowhere_place v.seat h.nowhere p;
   takes = t;
-  place = λ p. nowhere_place v.seat h.nowhere p;
+  place = λ i p. nowhere_place v.seat h.nowhere p;
 }
 
 -- a place
-pub placed : (g : Env) (e : Expression) (v : Value) → Takes e → TakesPlace e → IsGoodPlace g.regions.count v → IsGoodValue g e v
-placed g e v t q h = record { type = word_value v.type h.type; below = h.below; seat = h.seat; word = λ p. h.type; takes = t; place = λ p. q }
+pub placed : (g : Env) (e : Expression) (v : Value) → TakesThin e → TakesThinPlace e → IsGoodPlace g.regions.count v → IsGoodValue g e v
+placed g e v t q h = record { type = object_value v.type h.type; below = h.below; seat = h.seat; object = λ p. h.type; takes = t; place = λ i p. q i }
 
 -- ---- what a pointer leads to
 
-live_judged : (count : ℕ) (b : Bool) (at : ℕ) (t : StaticType) (r : Region) → IsWordType t → TypeBelow count t → Below count r
+live_judged : (count : ℕ) (b : Bool) (at : ℕ) (t : StaticType) (r : Region) → IsObjectType t → TypeBelow count t → Below count r
     → Surely (λ v. IsGoodPlace count v) (in_live b at t r)
 live_judged count true at t r w h k = record { type = w; below = h; seat = k }
 live_judged count false at t r w h k = tt
@@ -57,18 +72,27 @@ contents_judged g at (Fat r t) w h = absurd w
 contents_judged g at (Unique n t) w h = absurd w
 contents_judged g at (Handle r) w h = absurd w
 contents_judged g at (Key r) w h = absurd w
-contents_judged g at (Struct tag rs) w h = absurd w
+contents_judged g at (Struct tag rs) w h = tt
 contents_judged g at (Union tag rs) w h = absurd w
+
+-- the operand of an expression without structs has none
+operand_taken : (at : ℕ) (o : Prefix) (e : Expression) → if_taken (takes_prefix thin_pointers o) at (Expression.Prefixed at o (taken thin_pointers e)) ≡ Expression.Prefixed at o e
+    → taken thin_pointers e ≡ e
+operand_taken at prefix.Negate e p = cc
+operand_taken at prefix.Not e p = cc
+operand_taken at prefix.Complement e p = cc
+operand_taken at prefix.Dereference e p = cc
+operand_taken at prefix.AddressOf e p = cc
 
 -- ---- addresses
 
 -- a pointer into the place's region
-address_judged : (g : Env) (e : Expression) (at : ℕ) (t : StaticType) (s : Seat) → (is_place s ≡ true → IsWordType t) → TypeBelow g.regions.count t
-    → SeatBelow g.regions.count s → (is_place s ≡ true → TakesPlace e)
+address_judged : (g : Env) (e : Expression) (at : ℕ) (t : StaticType) (s : Seat) → (is_place s ≡ true → IsObjectType t) → TypeBelow g.regions.count t
+    → SeatBelow g.regions.count s → (taken thin_pointers e ≡ e → is_place s ≡ true → TakesPlace e)
     → Surely (λ v. IsGoodValue g (Expression.Prefixed at prefix.AddressOf e) v) (address_of at t s)
 address_judged g e at t Nowhere w h k p = tt
 address_judged g e at t (In r) w h k p =
-    valued g (Expression.Prefixed at prefix.AddressOf e) (record { at = at; type = Thin false r t; seat = Nowhere }) (p refl)
+    valued g (Expression.Prefixed at prefix.AddressOf e) (record { at = at; type = Thin false r t; seat = Nowhere }) (λ i. p (operand_taken at prefix.AddressOf e i) refl)
     (record { type = w refl; below = (k, h); nowhere = refl })
 address_judged g e at t InBlock w h k p = absurd k
 
@@ -78,34 +102,144 @@ pub prefixed_judged : (g : Env) (e : Expression) (at : ℕ) (o : Prefix) (a : Va
     → Surely (λ v. IsGoodValue g (Expression.Prefixed at o e) v) (prefixed g at o a)
 prefixed_judged g e at prefix.Negate a h =
     surely_also (λ v. IsGoodResult g.regions.count v) (λ v. IsGoodValue g (Expression.Prefixed at prefix.Negate e) v) (prefixed g at prefix.Negate a)
-    (signed_judged g.regions.count at a) (λ v k. valued g (Expression.Prefixed at prefix.Negate e) v h.takes k)
+    (signed_judged g.regions.count at a)
+    (λ v k. valued g (Expression.Prefixed at prefix.Negate e) v (λ i. h.takes (operand_taken at prefix.Negate e i)) k)
 prefixed_judged g e at prefix.Complement a h =
     surely_also (λ v. IsGoodResult g.regions.count v) (λ v. IsGoodValue g (Expression.Prefixed at prefix.Complement e) v)
-    (prefixed g at prefix.Complement a) (signed_judged g.regions.count at a) (λ v k. valued g (Expression.Prefixed at prefix.Complement e) v h.takes k)
+    (prefixed g at prefix.Complement a) (signed_judged g.regions.count at a)
+    (λ v k. valued g (Expression.Prefixed at prefix.Complement e) v (λ i. h.takes (operand_taken at prefix.Complement e i)) k)
 prefixed_judged g e at prefix.Not a h =
     surely_also (λ v. IsGoodResult g.regions.count v) (λ v. IsGoodValue g (Expression.Prefixed at prefix.Not e) v) (prefixed g at prefix.Not a)
-    (tested_judged g.regions.count at a) (λ v k. valued g (Expression.Prefixed at prefix.Not e) v h.takes k)
+    (tested_judged g.regions.count at a)
+    (λ v k. valued g (Expression.Prefixed at prefix.Not e) v (λ i. h.takes (operand_taken at prefix.Not e i)) k)
 prefixed_judged g e at prefix.Dereference a h =
     surely_also (λ v. IsGoodPlace g.regions.count v) (λ v. IsGoodValue g (Expression.Prefixed at prefix.Dereference e) v)
     (prefixed g at prefix.Dereference a) (contents_judged g at a.type h.type h.below)
-    (λ v k. placed g (Expression.Prefixed at prefix.Dereference e) v h.takes h.takes k)
-prefixed_judged g e at prefix.AddressOf a h = address_judged g e at a.type a.seat h.word h.below h.seat h.place
+    (λ v k. placed g (Expression.Prefixed at prefix.Dereference e) v (λ i. h.takes (operand_taken at prefix.Dereference e i))
+    (λ i. h.takes (operand_taken at prefix.Dereference e i)) k)
+prefixed_judged g e at prefix.AddressOf a h = address_judged g e at a.type a.seat h.object h.below h.seat h.place
+
+-- ---- members
+
+-- a struct's member is a place of an object, where the struct is
+part_judged : (g : Env) (at : ℕ) (s : Seat) (tag : List ℕ) (rs : List Region) (x : tree.Name) → AllGood g.regions.count g.tables → rs ≡ []
+    → SeatBelow g.regions.count s → Surely (λ v. IsGoodPlace g.regions.count v) (part_of g at s tag rs x)
+part_judged g at s tag rs x h none k = by (find g.tables tag) (found_good g.regions.count g.tables tag h)
+  where
+    typed : (u : StaticType) → IsObjectType u → IsGoodPlace g.regions.count (record { at = at; type = renamed (argument rs) u; seat = s })
+    typed u o = subst (λ (qs : List Region). IsGoodPlace g.regions.count (record { at = at; type = renamed (argument qs) u; seat = s })) (sym none)
+        (record { type = object_renamed (argument []) u o; below = object_below g.regions.count [] u o tt; seat = k })
+
+    parts : (ps : List Part) (ts : List StaticType) → part_types ps ≡ map (λ (t : StaticType). Some t) ts → AreObjects ts
+        → Surely (λ v. IsGoodPlace g.regions.count v) (part_found at s rs x.at (part_in ps x.text))
+    parts [] ts e o = tt
+    parts (p ∷ ps) [] e o = absurd cc
+    parts (p ∷ ps) (t ∷ ts) e o =
+        let a : p.type ≡ Some t = cc in
+        let c : part_types ps ≡ map (λ (t : StaticType). Some t) ts = cc in
+        either (bytes_eq p.name x.text) a (parts ps ts c o.1)
+      where
+        either : (b : Bool) → p.type ≡ Some t → Surely (λ v. IsGoodPlace g.regions.count v) (part_found at s rs x.at (part_in ps x.text))
+            → Surely (λ v. IsGoodPlace g.regions.count v) (part_found at s rs x.at (if b then Some p else part_in ps x.text))
+        either true a others = subst (λ (z : Option StaticType). Surely (λ v. IsGoodPlace g.regions.count v) (part_typed at s rs z)) (sym a) (typed t o.0)
+        either false a others = others
+
+    by : (z : Option Entry) → MeansGood g.regions.count z
+        → Surely (λ v. IsGoodPlace g.regions.count v) (part_found at s rs x.at (part_in (parts_of_tag (as_tag z)) x.text))
+    by None h = tt
+    by (Some (OfTag t)) h = parts t.parts h.types h.parts h.objects
+    by (Some (OfValue v)) h = tt
+    by (Some (OfFunction f)) h = tt
+    by (Some (OfBuiltin n)) h = tt
+    by (Some OfOther) h = tt
+
+pub member_judged : (g : Env) (x : tree.Name) (at : ℕ) (t : StaticType) (s : Seat) → AllGood g.regions.count g.tables → IsValueType t
+    → SeatBelow g.regions.count s → Surely (λ v. IsGoodPlace g.regions.count v) (member_of g x at t s)
+member_judged g x at t Nowhere h w k = tt
+member_judged g x at t InBlock h w k = absurd k
+member_judged g x at Int (In r) h w k = tt
+member_judged g x at Unsigned (In r) h w k = tt
+member_judged g x at Char (In r) h w k = tt
+member_judged g x at Void (In r) h w k = tt
+member_judged g x at Null (In r) h w k = tt
+member_judged g x at (Thin n q t) (In r) h w k = tt
+member_judged g x at (Fat q t) (In r) h w k = absurd w
+member_judged g x at (Unique n t) (In r) h w k = absurd w
+member_judged g x at (Handle q) (In r) h w k = absurd w
+member_judged g x at (Key q) (In r) h w k = absurd w
+member_judged g x at (Struct tag rs) (In r) h w k = part_judged g at (In r) tag rs x h w k
+member_judged g x at (Union tag rs) (In r) h w k = absurd w
+
+arrow_live_judged : (g : Env) (x : tree.Name) (at : ℕ) (b : Bool) (r : Region) (tag : List ℕ) (rs : List Region) → AllGood g.regions.count g.tables → rs ≡ []
+    → Below g.regions.count r → Surely (λ v. IsGoodPlace g.regions.count v) (arrow_live b g x at r tag rs)
+arrow_live_judged g x at true r tag rs h none k = part_judged g at (In r) tag rs x h none k
+arrow_live_judged g x at false r tag rs h none k = tt
+
+thin_arrow : (g : Env) (x : tree.Name) (at : ℕ) (n : Bool) (r : Region) (t : StaticType) → AllGood g.regions.count g.tables → IsObjectType t
+    → Below g.regions.count r → Surely (λ v. IsGoodPlace g.regions.count v) (arrow_of g x at (Thin n r t))
+thin_arrow g x at n r Int h w k = tt
+thin_arrow g x at n r Unsigned h w k = tt
+thin_arrow g x at n r Char h w k = tt
+thin_arrow g x at n r (Thin m q t) h w k = tt
+thin_arrow g x at n r (Struct tag rs) h w k = arrow_live_judged g x at (is_live g r) r tag rs h w k
+thin_arrow g x at n r Void h w k = absurd w
+thin_arrow g x at n r Null h w k = absurd w
+thin_arrow g x at n r (Fat q t) h w k = absurd w
+thin_arrow g x at n r (Unique m t) h w k = absurd w
+thin_arrow g x at n r (Handle q) h w k = absurd w
+thin_arrow g x at n r (Key q) h w k = absurd w
+thin_arrow g x at n r (Union tag rs) h w k = absurd w
+
+pub arrow_judged : (g : Env) (x : tree.Name) (at : ℕ) (t : StaticType) → AllGood g.regions.count g.tables → IsValueType t
+    → TypeBelow g.regions.count t → Surely (λ v. IsGoodPlace g.regions.count v) (arrow_of g x at t)
+arrow_judged g x at Int h w b = tt
+arrow_judged g x at Unsigned h w b = tt
+arrow_judged g x at Char h w b = tt
+arrow_judged g x at Void h w b = tt
+arrow_judged g x at Null h w b = tt
+arrow_judged g x at (Thin n r t) h w b = thin_arrow g x at n r t h w b.0
+arrow_judged g x at (Fat r t) h w b = absurd w
+arrow_judged g x at (Unique n t) h w b = absurd w
+arrow_judged g x at (Handle r) h w b = absurd w
+arrow_judged g x at (Key r) h w b = absurd w
+arrow_judged g x at (Struct tag rs) h w b = tt
+arrow_judged g x at (Union tag rs) h w b = absurd w
 
 -- ---- assignments
 
--- what is stored in a place is a word
-pub assigned_judged : (g : Env) (x y : Expression) (to from : Value) → IsGoodValue g x to → Takes y
+-- what is stored in a place is an object
+assigned_value : (t : StaticType) → IsObjectType t → IsValueType (given_type t)
+assigned_value t o = by t o
+  where
+    by : (t : StaticType) → IsObjectType t → IsValueType (given_type t)
+    by Int o = tt
+    by Unsigned o = tt
+    by Char o = tt
+    by (Thin n r t) o = o
+    by (Struct tag rs) o = tt
+    by Void o = absurd o
+    by Null o = absurd o
+    by (Fat r t) o = absurd o
+    by (Unique n t) o = absurd o
+    by (Handle r) o = absurd o
+    by (Key r) o = absurd o
+    by (Union tag rs) o = absurd o
+
+pub assigned_judged : (g : Env) (x y : Expression) (to from : Value) → IsGoodValue g x to → TakesThin y
     → Surely (λ v. IsGoodValue g (Expression.Assign x y) v) (assigned g to from)
 assigned_judged g x y to from h k = by (is_place to.seat) refl
   where
-    stored : is_place to.seat ≡ true → Surely (λ v. IsGoodValue g (Expression.Assign x y) v) (value to.at to.type)
+    takes : is_place to.seat ≡ true → TakesThin (Expression.Assign x y)
+    takes e i = let a : taken thin_pointers x ≡ x = cc in let b : taken thin_pointers y ≡ y = cc in (h.place a e, k b)
+
+    stored : is_place to.seat ≡ true → Surely (λ v. IsGoodValue g (Expression.Assign x y) v) (value to.at (given_type to.type))
     stored e =
-        valued g (Expression.Assign x y) (record { at = to.at; type = to.type; seat = Nowhere }) (h.place e, k)
-        (record { type = h.type; below = h.below; nowhere = refl })
+        valued g (Expression.Assign x y) (record { at = to.at; type = given_type to.type; seat = Nowhere }) (takes e)
+        (record { type = assigned_value to.type (h.object e); below = given_below g.regions.count to.type (h.object e) h.below; nowhere = refl })
 
     by : (b : Bool) → is_place to.seat ≡ b → Surely (λ v. IsGoodValue g (Expression.Assign x y) v) (assigned_in b g to from)
     by true e =
         surely_unless (λ v. IsGoodValue g (Expression.Assign x y) v) (converts g from to.type) (value to.at (assigned_type g to.type))
         (λ none. subst (λ (t : StaticType). Surely (λ v. IsGoodValue g (Expression.Assign x y) v) (value to.at t))
-        (sym (assigned_word g to.type (h.word e))) (stored e))
+        (sym (assigned_object g to.type (h.object e))) (stored e))
     by false e = tt

@@ -1,8 +1,8 @@
--- A scope in which all is known of each name stays one: where a block or a loop begins, and after a local of a word.
+-- A scope in which all is known of each name stays one: where a block or a loop begins, and after a local.
 use Rattle.std.proofs.Common.{◌≡◌, ℕ, Bool, true, false, List, [], ◌∷◌, arith, refl}
 use Rattle.std.specs.Prelude.{◌+◌, if◌then◌else◌, not}
 use Rattle.cyc_tree.specs.Tree as tree
-use Rattle.source_safety.specs.Entries.{IsWordType}
+use Rattle.source_safety.specs.Entries.{IsObjectType}
 use Rattle.source_safety.specs.Judged.{extended}
 use Rattle.source_safety.specs.Named.{TypeBelow}
 use Rattle.source_safety.proofs.Names.{below_up}
@@ -22,7 +22,7 @@ entry_up n (OfValue (Stored t r)) h = (h.0, type_up n t h.1, below_up n r h.2)
 entry_up n (OfValue (Arrayed t r)) h = absurd h
 entry_up n (OfValue Counter) h = absurd h
 entry_up n (OfValue Unknown) h = absurd h
-entry_up n (OfTag t) h = absurd h
+entry_up n (OfTag t) h = h
 entry_up n (OfFunction s) h = h
 entry_up n (OfBuiltin k) h = h
 entry_up n OfOther h = absurd h
@@ -49,7 +49,7 @@ good_block g h = record {
 pub good_loop : (g : Env) → IsGood g → IsGood (in_a_loop g)
 good_loop g h = record { names = h.names; regions = h.regions; frame = h.frame; enclosing = h.enclosing }
 
-pub good_local : (x : tree.Name) (t : StaticType) (g : Env) → IsWordType t → TypeBelow g.regions.count t → IsGood g → IsGood (extended g x t)
+pub good_local : (x : tree.Name) (t : StaticType) (g : Env) → IsObjectType t → TypeBelow g.regions.count t → IsGood g → IsGood (extended g x t)
 good_local x t g w b h = record { names = ((w, b, h.frame), h.names); regions = h.regions; frame = h.frame; enclosing = h.enclosing }
 
 -- a name that isn't declared twice is one more local

@@ -1,30 +1,31 @@
--- The types of a function's parameters and of its result, where they are taken: words whose regions are the heap, a region variable that was there before,
--- or a fresh one.
+-- The types of a function's parameters and of its result, where they are taken: objects whose regions are the heap, a region variable that was there
+-- before, or a fresh one.
 use Rattle.std.proofs.Common.{◌≡◌, ℕ, suc, ◌<◌, ◌≤◌, Bool, true, false, Option, Some, None, List, [], ◌∷◌, refl, sym, subst, ◌∙◌, arith}
-use Rattle.std.specs.Prelude.{bytes_eq, if◌then◌else◌, map, ◌||◌}
+use Rattle.std.specs.Prelude.{bytes_eq, if◌then◌else◌, map, ◌||◌, ◌++◌}
 use Rattle.cyc_tree.specs.Tree as tree
 use Rattle.cyc_tree.specs.Tree.{Pointer, TypeName}
 use Rattle.source_lowering.specs.Taken as lowering
 use Rattle.source_lowering.specs.Taken.{AreThin, IsSharedRegion, IsVoidBase, IsVoidType}
 use Rattle.source_meaning.specs.Shapes as shapes
 use Rattle.source_meaning.specs.Shapes.{Shared, ThinShape, VoidShape}
-use Rattle.source_safety.specs.Entries.{IsPlain, IsWordType}
+use Rattle.source_safety.specs.Entries.{IsObjectType, IsPlain}
+use Rattle.source_safety.specs.Judged.{structures}
 use Rattle.source_safety.specs.Named.{Below, TypeBelow}
-use Rattle.source_safety.proofs.Entries.{word_plain}
+use Rattle.source_safety.proofs.Entries.{object_plain}
 use Rattle.source_typing.specs.Functions.{AllSpotted, Spotted, Variables, fits_parameter, if_parameter, if_result, parameter_type, result_type, take_named}
 use Rattle.source_typing.specs.Functions.{take_spot, take_spots}
 use Rattle.source_typing.specs.Regions.{Level, Region, TheHeap}
 use Rattle.source_typing.specs.Tables.{Tables}
 use Rattle.source_typing.specs.Tags.{settled_alone}
 use Rattle.source_typing.specs.Taken.{takes_base, takes_pointers, takes_type, thin_pointers}
-use Rattle.source_typing.specs.Types.{Char, Int, PartialType, StaticType, Thin, Unsigned, Void, is_void, shape_of}
+use Rattle.source_typing.specs.Types.{Char, Int, PartialType, StaticType, Struct, Thin, Unsigned, Void, is_void, shape_of}
 use Rattle.source_typing.specs.Verdicts.{after, if_fits}
-use Rattle.source_typing.specs.Written.{Found, Is, IsUnique, Missing, RegionNamed, find_region, spot, spots_of, written, written_with}
+use Rattle.source_typing.specs.Written.{Found, Is, IsUnique, Missing, RegionNamed, Spot, find_region, spot, spots_of, written, written_with}
 use Rattle.source_typing.proofs.Converting.{and_is}
 use Rattle.judged_sources.specs.Good.{NamesBelow, Surely}
-use Rattle.judged_sources.proofs.GoodTypes.{AreFound, FoundBelow, IsWritten, RegionBelow, WritesNothing, WritesWord, in_scope_good}
-use Rattle.judged_sources.proofs.GoodTypes.{thin_pointers_are, written_good}
-use Rattle.judged_sources.proofs.GoodLocals.{IsFilled, word_settled}
+use Rattle.judged_sources.proofs.GoodTypes.{AreFound, FoundBelow, IsWritten, KnowsTags, RegionBelow, WordIfThin, WritesNothing, WritesObject, in_scope_good}
+use Rattle.judged_sources.proofs.GoodTypes.{no_spots, thin_pointers_are, written_good}
+use Rattle.judged_sources.proofs.GoodLocals.{IsFilled, object_settled}
 use Rattle.judged_sources.proofs.Sure.{surely_after, surely_also}
 
 -- ---- more region names
@@ -33,12 +34,14 @@ pub below_more : (n m : ℕ) (r : Region) → n ≤ m → Below n r → Below m 
 below_more n m TheHeap l h = tt
 below_more n m (Level k) l h = omega arith
 
-pub word_more : (n m : ℕ) (t : StaticType) → n ≤ m → IsWordType t → TypeBelow n t → TypeBelow m t
-word_more n m Int l w h = tt
-word_more n m Unsigned l w h = tt
-word_more n m Char l w h = tt
-word_more n m (Thin b r t) l w h = (below_more n m r l h.0, word_more n m t l w h.1)
-word_more n m _ l w h = absurd w
+pub object_more : (n m : ℕ) (t : StaticType) → n ≤ m → IsObjectType t → TypeBelow n t → TypeBelow m t
+object_more n m Int l w h = tt
+object_more n m Unsigned l w h = tt
+object_more n m Char l w h = tt
+object_more n m (Thin b r t) l w h = (below_more n m r l h.0, object_more n m t l w h.1)
+object_more n m (Struct tag []) l w h = tt
+object_more n m (Struct tag (r ∷ rs)) l w h = absurd cc
+object_more n m _ l w h = absurd w
 
 found_more : (n m : ℕ) (f : Found) → n ≤ m → FoundBelow n f → FoundBelow m f
 found_more n m (Is r) l h = below_more n m r l h
@@ -101,18 +104,21 @@ spots_good vs (p ∷ ps) k h =
     record { found = (found_more one.after_it.count last one.found b first.found, others.found); names = others.names; more = omega (arith, a, b) }
 
 -- and of a type that is taken
-pub type_spots_good : (g : Tables) (vs : Variables) (t : TypeName) → takes_type thin_pointers t ≡ true → NamesBelow vs.count vs.names
+pub type_spots_good : (g : Tables) (vs : Variables) (t : TypeName) → KnowsTags g → takes_type structures t ≡ true → NamesBelow vs.count vs.names
     → SpotsGood vs t.pointers (take_spots vs (spots_of g t))
-type_spots_good g vs t e h =
-    let a = and_is (takes_base thin_pointers t.base) (takes_pointers thin_pointers t.pointers) e in by t.base a.0 (thin_pointers_are t.pointers a.1)
+type_spots_good g vs t tags e h =
+    let a = and_is (takes_base structures t.base) (takes_pointers structures t.pointers) e in by t.base a.0 (thin_pointers_are t.pointers a.1)
   where
-    by : (b : tree.Base) → takes_base thin_pointers b ≡ true → AreThin t.pointers
+    by : (b : tree.Base) → takes_base structures b ≡ true → AreThin t.pointers
         → SpotsGood vs t.pointers (take_spots vs (spots_of g (record { at = t.at; base = b; pointers = t.pointers })))
     by tree.Int q k = spots_good vs t.pointers k h
     by tree.Unsigned q k = spots_good vs t.pointers k h
     by tree.Char q k = spots_good vs t.pointers k h
     by tree.Void q k = spots_good vs t.pointers k h
-    by (tree.Struct tag rs) q k = absurd cc
+    by (tree.Struct tag []) q k =
+        subst (λ (ss : List Spot). SpotsGood vs t.pointers (take_spots vs (ss ++ map (λ (p : Pointer). spot true p.region) t.pointers)))
+        (sym (no_spots g tag (tags tag.text))) (spots_good vs t.pointers k h)
+    by (tree.Struct tag (r ∷ rs)) q k = absurd cc
     by (tree.Union tag rs) q k = absurd cc
     by (tree.Handle r) q k = absurd cc
     by (tree.Key r) q k = absurd cc
@@ -120,21 +126,21 @@ type_spots_good g vs t e h =
 -- ---- a type that takes no missing regions from another one
 
 -- the type of a variable or of a result, with what is written
-pub record WordGood (n : ℕ) (t : TypeName) (u : StaticType) : Type 0 where
-  pub word : IsWordType u
+pub record ObjectGood (n : ℕ) (t : TypeName) (u : StaticType) : Type 0 where
+  pub object : IsObjectType u
   pub below : TypeBelow n u
-  pub taken : lowering.IsWordType t
+  pub taken : WordIfThin t
   pub shape : shapes.settled (shapes.written t) ≡ shape_of u
 
 pub data PlainGood (n : ℕ) (t : TypeName) (u : StaticType) : Type 0 where
-  GivesWord : WordGood n t u → PlainGood n t u
+  GivesObject : ObjectGood n t u → PlainGood n t u
   GivesNothing : IsVoidType t → u ≡ Void → PlainGood n t u
 
 pub alone_good : (n at : ℕ) (t : TypeName) (p : PartialType) → IsWritten n t p → Surely (λ u. PlainGood n t u) (settled_alone at p)
 alone_good n at t p (WritesNothing v e) = subst (λ z. Surely (λ u. PlainGood n t u) (settled_alone at z)) (sym e) (GivesNothing v refl)
-alone_good n at t p (WritesWord w) =
-    surely_also (λ u. IsFilled n p u) (λ u. PlainGood n t u) (settled_alone at p) (word_settled n at p None w.word tt) (λ u f. GivesWord (record {
-      word = f.word;
+alone_good n at t p (WritesObject w) =
+    surely_also (λ u. IsFilled n p u) (λ u. PlainGood n t u) (settled_alone at p) (object_settled n at p None w.object tt) (λ u f. GivesObject (record {
+      object = f.object;
       below = f.below;
       taken = w.taken;
       shape = w.shape ∙ sym f.shape;
@@ -142,51 +148,47 @@ alone_good n at t p (WritesWord w) =
 
 -- ---- parameters
 
--- a word is a scalar, and no union
-pub word_fits : (u : StaticType) → IsWordType u → fits_parameter u ≡ true
-word_fits Int w = refl
-word_fits Unsigned w = refl
-word_fits Char w = refl
-word_fits (Thin b r t) w = refl
-word_fits _ w = absurd w
+parameter_fits : (n at : ℕ) (t : TypeName) (u : StaticType) → PlainGood n t u → Surely (λ z. ObjectGood n t z) (if_parameter at u)
+parameter_fits n at t u (GivesNothing v e) = subst (λ z. Surely (λ y. ObjectGood n t y) (if_parameter at z)) (sym e) tt
+parameter_fits n at t u (GivesObject w) = by (fits_parameter u)
+  where
+    by : (b : Bool) → Surely (λ z. ObjectGood n t z) (if_fits b at u)
+    by true = w
+    by false = tt
 
-parameter_fits : (n at : ℕ) (t : TypeName) (u : StaticType) → PlainGood n t u → Surely (λ z. WordGood n t z) (if_parameter at u)
-parameter_fits n at t u (GivesNothing v e) = subst (λ z. Surely (λ y. WordGood n t y) (if_parameter at z)) (sym e) tt
-parameter_fits n at t u (GivesWord w) = subst (λ b. Surely (λ z. WordGood n t z) (if_fits b at u)) (sym (word_fits u w.word)) w
-
-pub parameter_good : (g : Tables) (vs : Variables) (t : TypeName) → takes_type thin_pointers t ≡ true → NamesBelow vs.count vs.names
-    → Surely (λ u. WordGood (take_spots vs (spots_of g t)).after_all.count t u) (parameter_type g t (take_spots vs (spots_of g t)))
-parameter_good g vs t e h =
+pub parameter_good : (g : Tables) (vs : Variables) (t : TypeName) → KnowsTags g → takes_type structures t ≡ true → NamesBelow vs.count vs.names
+    → Surely (λ u. ObjectGood (take_spots vs (spots_of g t)).after_all.count t u) (parameter_type g t (take_spots vs (spots_of g t)))
+parameter_good g vs t tags e h =
     let s : AllSpotted = take_spots vs (spots_of g t) in
     let n : ℕ = s.after_all.count in
-    surely_after (λ u. PlainGood n t u) (λ u. WordGood n t u) (after (written_with g t (s.found, s.faults)) (settled_alone t.at)) (if_parameter t.at)
+    surely_after (λ u. PlainGood n t u) (λ u. ObjectGood n t u) (after (written_with g t (s.found, s.faults)) (settled_alone t.at)) (if_parameter t.at)
     (surely_after (λ p. IsWritten n t p) (λ u. PlainGood n t u) (written_with g t (s.found, s.faults)) (settled_alone t.at)
-    (written_good n g t s.found s.faults e (type_spots_good g vs t e h).found) (λ p w. alone_good n t.at t p w))
+    (written_good n g t s.found s.faults tags e (type_spots_good g vs t tags e h).found) (λ p w. alone_good n t.at t p w))
     (λ u w. parameter_fits n t.at t u w)
 
 -- ---- results
 
 result_fits : (n at : ℕ) (t : TypeName) (u : StaticType) → PlainGood n t u → Surely (λ z. PlainGood n t z) (if_result at u)
 result_fits n at t u (GivesNothing v e) = subst (λ z. Surely (λ y. PlainGood n t y) (if_result at z)) (sym e) (GivesNothing v refl)
-result_fits n at t u (GivesWord w) = by (is_void u || fits_parameter u)
+result_fits n at t u (GivesObject w) = by (is_void u || fits_parameter u)
   where
     by : (b : Bool) → Surely (λ z. PlainGood n t z) (if_fits b at u)
-    by true = GivesWord w
+    by true = GivesObject w
     by false = tt
 
-pub result_good : (n : ℕ) (g : Tables) (names : List RegionNamed) (t : TypeName) → takes_type thin_pointers t ≡ true → NamesBelow n names
+pub result_good : (n : ℕ) (g : Tables) (names : List RegionNamed) (t : TypeName) → KnowsTags g → takes_type structures t ≡ true → NamesBelow n names
     → Surely (λ u. PlainGood n t u) (result_type g names t)
-result_good n g names t e h =
+result_good n g names t tags e h =
     surely_after (λ u. PlainGood n t u) (λ u. PlainGood n t u) (after (written g names t) (settled_alone t.at)) (if_result t.at)
-    (surely_after (λ p. IsWritten n t p) (λ u. PlainGood n t u) (written g names t) (settled_alone t.at) (in_scope_good n g names t h e)
+    (surely_after (λ p. IsWritten n t p) (λ u. PlainGood n t u) (written g names t) (settled_alone t.at) (in_scope_good n g names t tags h e)
     (λ p w. alone_good n t.at t p w))
     (λ u w. result_fits n t.at t u w)
 
--- what is known of a result, a word or nothing
+-- what is known of a result, an object or nothing
 pub record ResultGood (n : ℕ) (t : TypeName) (u : StaticType) : Type 0 where
   pub plain : IsPlain u
   pub below : TypeBelow n u
-  pub taken : lowering.TakesResult t
+  pub taken : takes_type thin_pointers t ≡ true → lowering.TakesResult t
   pub shape : shapes.settled (shapes.written t) ≡ shape_of u
 
 pub void_shape : (t : TypeName) → IsVoidType t → shapes.settled (shapes.written t) ≡ VoidShape
@@ -197,11 +199,11 @@ void_shape t h = subst (λ ps. shapes.settled (shapes.pointed ps (shapes.base_sh
     by _ i = absurd i
 
 pub result_facts : (n : ℕ) (t : TypeName) (u : StaticType) → PlainGood n t u → ResultGood n t u
-result_facts n t u (GivesWord w) =
-    record { plain = word_plain u w.word; below = w.below; taken = lowering.GivesWord w.taken; shape = w.shape }
+result_facts n t u (GivesObject w) =
+    record { plain = object_plain u w.object; below = w.below; taken = λ i. lowering.GivesWord (w.taken i); shape = w.shape }
 result_facts n t u (GivesNothing v e) = subst (λ z. ResultGood n t z) (sym e) (record {
   plain = tt;
   below = tt;
-  taken = lowering.GivesNothing v;
+  taken = λ i. lowering.GivesNothing v;
   shape = void_shape t v;
 })

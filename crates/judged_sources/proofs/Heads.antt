@@ -1,43 +1,46 @@
--- The head of a function without fault: it takes words and gives a word or nothing, its types, effect and bounds speak of its region variables and the heap
--- alone, and it is read alike by any tables.
+-- The head of a function without fault: it takes objects and gives one or nothing, its types, effect and bounds speak of its region variables and the heap
+-- alone, and it is read alike by tables that have the same tags.
 use Rattle.std.proofs.Common.{◌≡◌, ℕ, zero, suc, ◌<◌, ◌≤◌, Bool, true, false, Option, Some, None, List, [], ◌∷◌, refl, sym, subst, ap, ap₂, ◌∙◌, arith}
-use Rattle.std.specs.Prelude.{◌||◌, ◌++◌, if◌then◌else◌, map, not}
+use Rattle.std.specs.Prelude.{◌||◌, ◌++◌, if◌then◌else◌, map, not, replicate}
 use Rattle.cyc_tree.specs.Tree as tree
 use Rattle.cyc_tree.specs.Tree.{TypeName}
 use Rattle.source_lowering.specs.Taken as lowering
 use Rattle.source_meaning.specs.Shapes.{part_of, part_shapes}
 use Rattle.source_meaning.specs.Shapes as shapes
-use Rattle.source_safety.specs.Entries.{AreWords}
+use Rattle.source_safety.specs.Entries.{AreObjects}
+use Rattle.source_safety.specs.Judged.{structures}
 use Rattle.source_safety.specs.Named.{AllBelow, BoundsBelow, TypesBelow}
 use Rattle.source_typing.specs.Faults.{Fault, is_clean, type_rule}
 use Rattle.source_typing.specs.Functions.{AllSpotted, Parameters, Reading, Variables, all_faults, all_of, and_parameter, bounds_of, effect_of, head_after}
 use Rattle.source_typing.specs.Functions.{head_judged, head_of, if_parameter, if_result, is_main, key_regions, levels_but, main_faults, main_form}
 use Rattle.source_typing.specs.Functions.{parameter_type, read_parameters, result_type, take_spots, variables}
 use Rattle.source_typing.specs.Regions.{Level, Region, is_among}
-use Rattle.source_typing.specs.Tables.{Tables}
+use Rattle.source_typing.specs.Tables.{Tables, Tag, find, tag_in}
 use Rattle.source_typing.specs.Tags.{repeated, settled_alone}
-use Rattle.source_typing.specs.Taken.{bounds_form, effect_form, effect_if, function_taken, member_taken, members_taken, refused_type}
+use Rattle.source_typing.specs.Taken.{Taken, bounds_form, bounds_if, effect_form, effect_if, function_taken, member_taken, members_taken, refused_type}
 use Rattle.source_typing.specs.Taken.{takes_base, takes_pointers, takes_type, thin_pointers, type_taken}
 use Rattle.source_typing.specs.Types.{Int, PartialType, StaticType, shape_of}
 use Rattle.source_typing.specs.Verdicts.{Of, Verdict, after, faults_of, known}
-use Rattle.source_typing.specs.Written.{Found, RegionNamed, Spot, all_found, spots_of, written, written_with}
+use Rattle.source_typing.specs.Written.{Found, RegionNamed, Spot, all_found, argument_spots, base_of, base_spots, regions_of_tag, spot, spots_of, tag_of, written}
+use Rattle.source_typing.specs.Written.{written_on, written_with}
 use Rattle.source_typing.proofs.Converting.{and_is}
 use Rattle.source_typing.proofs.Inversion.{none_of_both, of_is, own_is, test_is}
 use Rattle.judged_sources.specs.Good.{IsGoodSignature, NamesBelow}
-use Rattle.judged_sources.proofs.HeadTypes.{PlainGood, ResultGood, SpotsGood, WordGood, parameter_good, result_facts, result_good}
-use Rattle.judged_sources.proofs.HeadTypes.{type_spots_good, word_more}
+use Rattle.judged_sources.proofs.HeadTypes.{PlainGood, ResultGood, SpotsGood, ObjectGood, parameter_good, result_facts, result_good}
+use Rattle.judged_sources.proofs.HeadTypes.{type_spots_good, object_more}
+use Rattle.judged_sources.proofs.GoodTypes.{KnowsTags}
 use Rattle.judged_sources.proofs.Sure.{surely_is}
 
 -- ---- what isn't taken is at fault
 
-abbrev pub AreTaken : List tree.Member → Type 0
-AreTaken [] = Unit {0}
-AreTaken (m ∷ ms) = (takes_type thin_pointers m.of ≡ true) × AreTaken ms
+abbrev pub AreTaken : Taken → List tree.Member → Type 0
+AreTaken k [] = Unit {0}
+AreTaken k (m ∷ ms) = (takes_type k m.of ≡ true) × AreTaken k ms
 
 -- a head whose types are taken, with no region names in its effect, and no bounds
-pub record HeadTaken (f : tree.Function) : Type 0 where
-  pub parameters : AreTaken f.parameters
-  pub result : takes_type thin_pointers f.result ≡ true
+pub record HeadTaken (k : Taken) (f : tree.Function) : Type 0 where
+  pub parameters : AreTaken k f.parameters
+  pub result : takes_type k f.result ≡ true
   pub effect : effect_if false f.effect ≡ f.effect
   pub bounds : [] ≡ f.bounds
 
@@ -50,18 +53,18 @@ parameter_taken false g vs t e p = absurd (by (subst (λ z. faults_of (parameter
     by : faults_of (parameter_type g (refused_type t.at) (take_spots vs (spots_of g (refused_type t.at)))) ≡ [] → ⊥
     by h = cc
 
-parameters_taken : (g : Tables) (vs : Variables) (ms : List tree.Member) → members_taken thin_pointers ms ++ [] ≡ ms
+parameters_taken : (k : Taken) (g : Tables) (vs : Variables) (ms : List tree.Member) → members_taken k ms ++ [] ≡ ms
     → all_faults (read_parameters g vs ms).types ≡ []
-    → AreTaken ms
-parameters_taken g vs [] e p = tt
-parameters_taken g vs (m ∷ ms) e p =
-    let f : member_taken thin_pointers m ≡ m = cc in
-    let i : type_taken thin_pointers m.of ≡ m.of = ap (λ (z : tree.Member). z.of) f in
-    let j : members_taken thin_pointers ms ++ [] ≡ ms = cc in
+    → AreTaken k ms
+parameters_taken k g vs [] e p = tt
+parameters_taken k g vs (m ∷ ms) e p =
+    let f : member_taken k m ≡ m = cc in
+    let i : type_taken k m.of ≡ m.of = ap (λ (z : tree.Member). z.of) f in
+    let j : members_taken k ms ++ [] ≡ ms = cc in
     let ws : Variables = (take_spots vs (spots_of g m.of)).after_all in
     let z : (faults_of (parameter_type g m.of (take_spots vs (spots_of g m.of))) ≡ []) × (all_faults (read_parameters g ws ms).types ≡ []) =
     none_of_both (faults_of (parameter_type g m.of (take_spots vs (spots_of g m.of)))) (all_faults (read_parameters g ws ms).types) p in
-    (parameter_taken (takes_type thin_pointers m.of) g vs m.of i z.0, parameters_taken g ws ms j z.1)
+    (parameter_taken (takes_type k m.of) g vs m.of i z.0, parameters_taken k g ws ms j z.1)
 
 result_taken : (b : Bool) (g : Tables) (names : List RegionNamed) (t : TypeName) → (if b then t else refused_type t.at) ≡ t
     → faults_of (result_type g names t) ≡ []
@@ -73,12 +76,12 @@ result_taken false g names t e p = absurd (by (subst (λ z. faults_of (result_ty
     by h = cc
 
 -- what stands where an effect and bounds would
-no_effect : (e : Option (List tree.RegionName)) → effect_if false e ≡ e → effect_form false e ≡ []
+pub no_effect : (e : Option (List tree.RegionName)) → effect_if false e ≡ e → effect_form false e ≡ []
 no_effect None p = refl
 no_effect (Some []) p = refl
 no_effect (Some (r ∷ rs)) p = absurd cc
 
-no_forms : (f : tree.Function) → effect_if false f.effect ≡ f.effect → [] ≡ f.bounds → effect_form false f.effect ++ bounds_form false f.bounds ≡ []
+pub no_forms : (f : tree.Function) → effect_if false f.effect ≡ f.effect → [] ≡ f.bounds → effect_form false f.effect ++ bounds_form false f.bounds ≡ []
 no_forms f a b =
     subst (λ es. es ++ bounds_form false f.bounds ≡ []) (sym (no_effect f.effect a)) (subst (λ bs. bounds_form false bs ≡ []) b refl)
 
@@ -109,58 +112,65 @@ head_clean g f p =
     let q4 : (all_faults ps.types ≡ []) × (repeated [] f.parameters ≡ []) = none_of_both (all_faults ps.types) (repeated [] f.parameters) q3.0 in
     record { main = o.0; parameters = q4.0; once = q4.1; result = q3.1 }
 
-pub head_taken : (g : Tables) (f : tree.Function) → function_taken thin_pointers f ≡ f → (head_of false g f).faults ≡ [] → HeadTaken f
-head_taken g f t p =
+pub head_taken : (k : Taken) (g : Tables) (f : tree.Function) → k.regions ≡ false → function_taken k f ≡ f → (head_of false g f).faults ≡ [] → HeadTaken k f
+head_taken k g f none t p =
     let ps : Parameters = read_parameters g (variables [] 0) f.parameters in
     let r : Verdict StaticType = result_type g ps.variables_after.names f.result in
     let c : HeadClean g f ps r = head_clean g f p in
-    let a : type_taken thin_pointers f.result ≡ f.result = ap (λ (z : tree.Function). z.result) t in
-    let e : effect_if false f.effect ≡ f.effect = ap (λ (z : tree.Function). z.effect) t in
-    let b : [] ≡ f.bounds = ap (λ (z : tree.Function). z.bounds) t in
-    let m : members_taken thin_pointers f.parameters ++ [] ≡ f.parameters =
-    subst (λ zs. members_taken thin_pointers f.parameters ++ zs ≡ f.parameters) (no_forms f e b) (ap (λ (z : tree.Function). z.parameters) t) in
+    let a : type_taken k f.result ≡ f.result = ap (λ (z : tree.Function). z.result) t in
+    let e : effect_if false f.effect ≡ f.effect =
+    subst (λ b. effect_if b f.effect ≡ f.effect) none (ap (λ (z : tree.Function). z.effect) t) in
+    let b : [] ≡ f.bounds = subst (λ b. bounds_if b f.bounds ≡ f.bounds) none (ap (λ (z : tree.Function). z.bounds) t) in
+    let m : members_taken k f.parameters ++ [] ≡ f.parameters =
+    subst (λ zs. members_taken k f.parameters ++ zs ≡ f.parameters) (no_forms f e b)
+    (subst (λ c. members_taken k f.parameters ++ (effect_form c f.effect ++ bounds_form c f.bounds) ≡ f.parameters) none
+    (ap (λ (z : tree.Function). z.parameters) t)) in
     record {
-      parameters = parameters_taken g (variables [] 0) f.parameters m c.parameters;
-      result = result_taken (takes_type thin_pointers f.result) g ps.variables_after.names f.result a c.result;
+      parameters = parameters_taken k g (variables [] 0) f.parameters m c.parameters;
+      result = result_taken (takes_type k f.result) g ps.variables_after.names f.result a c.result;
       effect = e;
       bounds = b;
     }
 
 -- ---- parameters
 
+-- types without structs
+abbrev pub AreThinTypes : List tree.Member → Type 0
+AreThinTypes ms = AreTaken thin_pointers ms
+
 pub record ParametersGood (vs : Variables) (ms : List tree.Member) (ps : Parameters) : Type 0 where
   pub types : List StaticType
   pub known : map known ps.types ≡ map (λ t. Some t) types
-  pub words : AreWords types
+  pub objects : AreObjects types
   pub below : TypesBelow ps.variables_after.count types
-  pub taken : lowering.AreWords ms
+  pub taken : AreThinTypes ms → lowering.AreWords ms
   pub shapes : part_shapes (map part_of ms) ≡ map shape_of types
   pub names : NamesBelow ps.variables_after.count ps.variables_after.names
   pub more : vs.count ≤ ps.variables_after.count
 
-parameters_good : (g : Tables) (vs : Variables) (ms : List tree.Member) → AreTaken ms → NamesBelow vs.count vs.names
+parameters_good : (g : Tables) (vs : Variables) (ms : List tree.Member) → KnowsTags g → AreTaken structures ms → NamesBelow vs.count vs.names
     → all_faults (read_parameters g vs ms).types ≡ []
     → ParametersGood vs ms (read_parameters g vs ms)
-parameters_good g vs [] t h p =
-    record { types = []; known = refl; words = tt; below = tt; taken = tt; shapes = refl; names = h; more = omega arith }
-parameters_good g vs (m ∷ ms) t h p =
+parameters_good g vs [] tags t h p =
+    record { types = []; known = refl; objects = tt; below = tt; taken = λ i. tt; shapes = refl; names = h; more = omega arith }
+parameters_good g vs (m ∷ ms) tags t h p =
     let s : AllSpotted = take_spots vs (spots_of g m.of) in
     let v : Verdict StaticType = parameter_type g m.of s in
     let z : (faults_of v ≡ []) × (all_faults (read_parameters g s.after_all ms).types ≡ []) =
     none_of_both (faults_of v) (all_faults (read_parameters g s.after_all ms).types) p in
-    let k : SpotsGood vs m.of.pointers s = type_spots_good g vs m.of t.0 h in
-    let first : (u : StaticType) × (v ≡ Of u) × WordGood s.after_all.count m.of u =
-    surely_is (λ u. WordGood s.after_all.count m.of u) v (parameter_good g vs m.of t.0 h) z.0 in
-    let rest : ParametersGood s.after_all ms (read_parameters g s.after_all ms) = parameters_good g s.after_all ms t.1 k.names z.1 in
+    let k : SpotsGood vs m.of.pointers s = type_spots_good g vs m.of tags t.0 h in
+    let first : (u : StaticType) × (v ≡ Of u) × ObjectGood s.after_all.count m.of u =
+    surely_is (λ u. ObjectGood s.after_all.count m.of u) v (parameter_good g vs m.of tags t.0 h) z.0 in
+    let rest : ParametersGood s.after_all ms (read_parameters g s.after_all ms) = parameters_good g s.after_all ms tags t.1 k.names z.1 in
     let n : ℕ = (read_parameters g s.after_all ms).variables_after.count in
     let a : vs.count ≤ s.after_all.count = k.more in
     let b : s.after_all.count ≤ n = rest.more in
     record {
       types = first.0 ∷ rest.types;
       known = ap₂ (λ (o : Option StaticType) (os : List (Option StaticType)). o ∷ os) (ap (λ (w : Verdict StaticType). known w) first.1) rest.known;
-      words = (first.2.word, rest.words);
-      below = (word_more s.after_all.count n first.0 b first.2.word first.2.below, rest.below);
-      taken = (first.2.taken, rest.taken);
+      objects = (first.2.object, rest.objects);
+      below = (object_more s.after_all.count n first.0 b first.2.object first.2.below, rest.below);
+      taken = λ i. (first.2.taken i.0, rest.taken i.1);
       shapes = ap₂ (λ (x : shapes.Shape) (xs : List shapes.Shape). x ∷ xs) first.2.shape rest.shapes;
       names = rest.names;
       more = omega (arith, a, b);
@@ -205,7 +215,7 @@ main_is false v ms e p = absurd cc
 
 pub record HeadGood (g : Tables) (f : tree.Function) : Type 0 where
   pub signature : IsGoodSignature (head_of false g f).signature
-  pub parameters : lowering.AreWords f.parameters
+  pub parameters : AreThinTypes f.parameters → lowering.AreWords f.parameters
   pub shapes : part_shapes (map part_of f.parameters) ≡ map shape_of signature.types
   pub result : ResultGood (head_of false g f).signature.regions f.result signature.gives
   pub main_takes : is_main f ≡ true → f.parameters ≡ []
@@ -215,16 +225,16 @@ pub record HeadGood (g : Tables) (f : tree.Function) : Type 0 where
   pub bounds : BoundsBelow (head_of false g f).signature.regions (head_of false g f).signature.bounds
   pub names : NamesBelow (head_of false g f).signature.regions (head_of false g f).names
 
-pub head_good : (g : Tables) (f : tree.Function) → function_taken thin_pointers f ≡ f → (head_of false g f).faults ≡ [] → HeadGood g f
-head_good g f t p =
+pub head_good : (g : Tables) (f : tree.Function) → KnowsTags g → function_taken structures f ≡ f → (head_of false g f).faults ≡ [] → HeadGood g f
+head_good g f tags t p =
     let ps : Parameters = read_parameters g (variables [] 0) f.parameters in
     let n : ℕ = ps.variables_after.count in
     let r : Verdict StaticType = result_type g ps.variables_after.names f.result in
     let c : HeadClean g f ps r = head_clean g f p in
-    let k : HeadTaken f = head_taken g f t p in
-    let q : ParametersGood (variables [] 0) f.parameters ps = parameters_good g (variables [] 0) f.parameters k.parameters tt c.parameters in
+    let k : HeadTaken structures f = head_taken structures g f refl t p in
+    let q : ParametersGood (variables [] 0) f.parameters ps = parameters_good g (variables [] 0) f.parameters tags k.parameters tt c.parameters in
     let u : (t : StaticType) × (r ≡ Of t) × PlainGood n f.result t =
-    surely_is (λ u. PlainGood n f.result u) r (result_good n g ps.variables_after.names f.result k.result q.names) c.result in
+    surely_is (λ u. PlainGood n f.result u) r (result_good n g ps.variables_after.names f.result tags k.result q.names) c.result in
     let known_result : ResultGood n f.result u.0 = result_facts n f.result u.0 u.2 in
     let main : is_main f ≡ true → (r ≡ Of Int) × (f.parameters ≡ []) =
     main_is (is_main f) r f.parameters (test_is (not (is_main f) || main_form r f.parameters) type_rule f.name.at c.main) in
@@ -233,7 +243,7 @@ head_good g f t p =
         sound = ap (λ fs. is_clean fs) p;
         types = q.types;
         parameters = q.known;
-        words = q.words;
+        objects = q.objects;
         types_below = q.below;
         gives = u.0;
         result = ap (λ (v : Verdict StaticType). known v) u.1;
@@ -253,41 +263,62 @@ head_good g f t p =
 
 -- ---- other tables
 
+-- a type whose tag means the same in both tables
+pub record SameTag (g h : Tables) (t : TypeName) : Type 0 where
+  pub base : base_of g t.base ≡ base_of h t.base
+  pub spots : base_spots g t.base ≡ base_spots h t.base
+
 -- the tables don't matter to a type without structs and unions
-pub spots_same : (g h : Tables) (t : TypeName) → takes_type thin_pointers t ≡ true → spots_of g t ≡ spots_of h t
-spots_same g h t e = by t.base (and_is (takes_base thin_pointers t.base) (takes_pointers thin_pointers t.pointers) e).0
+pub thin_same : (g h : Tables) (t : TypeName) → takes_type thin_pointers t ≡ true → SameTag g h t
+thin_same g h t e = by t.base (and_is (takes_base thin_pointers t.base) (takes_pointers thin_pointers t.pointers) e).0
   where
-    by : (b : tree.Base) → takes_base thin_pointers b ≡ true
-        → spots_of g (record { at = t.at; base = b; pointers = t.pointers }) ≡ spots_of h (record { at = t.at; base = b; pointers = t.pointers })
-    by tree.Int q = refl
-    by tree.Unsigned q = refl
-    by tree.Char q = refl
-    by tree.Void q = refl
+    by : (b : tree.Base) → takes_base thin_pointers b ≡ true → SameTag g h (record { at = t.at; base = b; pointers = t.pointers })
+    by tree.Int q = record { base = refl; spots = refl }
+    by tree.Unsigned q = record { base = refl; spots = refl }
+    by tree.Char q = record { base = refl; spots = refl }
+    by tree.Void q = record { base = refl; spots = refl }
     by (tree.Struct tag rs) q = absurd cc
     by (tree.Union tag rs) q = absurd cc
     by (tree.Handle r) q = absurd cc
     by (tree.Key r) q = absurd cc
 
-built_same : (g h : Tables) (t : TypeName) (fs : List Found × List Fault) → takes_type thin_pointers t ≡ true → written_with g t fs ≡ written_with h t fs
-built_same g h t (fs, bad) e = by t.base (and_is (takes_base thin_pointers t.base) (takes_pointers thin_pointers t.pointers) e).0
+-- tables in which each name in a type means the same
+pub record SameTags (g h : Tables) : Type 0 where
+  pub tags : (x : List ℕ) (union : Bool) (at : ℕ) → tag_of (find g x) union at ≡ tag_of (find h x) union at
+  pub regions : (x : List ℕ) → tag_in g x ≡ tag_in h x
+
+arguments_same : (g h : Tables) (tag : tree.Name) (rs : List tree.RegionName) → SameTags g h → argument_spots g tag rs ≡ argument_spots h tag rs
+arguments_same g h tag [] k = ap (λ (o : Option Tag). replicate (regions_of_tag o) (spot false None)) (k.regions tag.text)
+arguments_same g h tag (r ∷ rs) k = refl
+
+pub type_same : (g h : Tables) (t : TypeName) → SameTags g h → SameTag g h t
+type_same g h t k = by t.base
   where
-    by : (b : tree.Base) → takes_base thin_pointers b ≡ true
-        → written_with g (record { at = t.at; base = b; pointers = t.pointers }) (fs, bad)
-        ≡ written_with h (record { at = t.at; base = b; pointers = t.pointers }) (fs, bad)
-    by tree.Int q = refl
-    by tree.Unsigned q = refl
-    by tree.Char q = refl
-    by tree.Void q = refl
-    by (tree.Struct tag rs) q = absurd cc
-    by (tree.Union tag rs) q = absurd cc
-    by (tree.Handle r) q = absurd cc
-    by (tree.Key r) q = absurd cc
+    by : (b : tree.Base) → SameTag g h (record { at = t.at; base = b; pointers = t.pointers })
+    by tree.Int = record { base = refl; spots = refl }
+    by tree.Unsigned = record { base = refl; spots = refl }
+    by tree.Char = record { base = refl; spots = refl }
+    by tree.Void = record { base = refl; spots = refl }
+    by (tree.Struct tag rs) = record { base = k.tags tag.text false tag.at; spots = arguments_same g h tag rs k }
+    by (tree.Union tag rs) = record { base = k.tags tag.text true tag.at; spots = arguments_same g h tag rs k }
+    by (tree.Handle r) = record { base = refl; spots = refl }
+    by (tree.Key r) = record { base = refl; spots = refl }
 
-pub written_same : (g h : Tables) (names : List RegionNamed) (t : TypeName) → takes_type thin_pointers t ≡ true → written g names t ≡ written h names t
-written_same g h names t e =
-    ap (λ (ss : List Spot). written_with g t (all_found names ss)) (spots_same g h t e) ∙ built_same g h t (all_found names (spots_of h t)) e
+pub spots_same : (g h : Tables) (t : TypeName) → SameTag g h t → spots_of g t ≡ spots_of h t
+spots_same g h t k = ap (λ (ss : List Spot). ss ++ map (λ (p : tree.Pointer). spot true p.region) t.pointers) k.spots
 
-parameters_same : (g h : Tables) (vs : Variables) (ms : List tree.Member) → AreTaken ms → read_parameters g vs ms ≡ read_parameters h vs ms
+built_same : (g h : Tables) (t : TypeName) (fs : List Found × List Fault) → SameTag g h t → written_with g t fs ≡ written_with h t fs
+built_same g h t (fs, bad) k = ap (λ (v : Verdict ℕ). written_on t fs bad v) k.base
+
+pub written_same : (g h : Tables) (names : List RegionNamed) (t : TypeName) → SameTag g h t → written g names t ≡ written h names t
+written_same g h names t k =
+    ap (λ (ss : List Spot). written_with g t (all_found names ss)) (spots_same g h t k) ∙ built_same g h t (all_found names (spots_of h t)) k
+
+abbrev pub AreSame : Tables → Tables → List tree.Member → Type 0
+AreSame g h [] = Unit {0}
+AreSame g h (m ∷ ms) = SameTag g h m.of × AreSame g h ms
+
+parameters_same : (g h : Tables) (vs : Variables) (ms : List tree.Member) → AreSame g h ms → read_parameters g vs ms ≡ read_parameters h vs ms
 parameters_same g h vs [] t = refl
 parameters_same g h vs (m ∷ ms) t =
     let s : AllSpotted = take_spots vs (spots_of h m.of) in
@@ -307,9 +338,28 @@ reading l f ps r = record {
   bounds = bounds_of ps.variables_after.names f.bounds;
 }
 
-pub head_same : (l : Bool) (g h : Tables) (f : tree.Function) → HeadTaken f → head_of l g f ≡ head_of l h f
+-- a head whose types are the same in both tables
+pub record SameHead (g h : Tables) (f : tree.Function) : Type 0 where
+  pub parameters : AreSame g h f.parameters
+  pub result : SameTag g h f.result
+
+pub head_same : (l : Bool) (g h : Tables) (f : tree.Function) → SameHead g h f → head_of l g f ≡ head_of l h f
 head_same l g h f k =
     let ps : Parameters = read_parameters h (variables [] 0) f.parameters in
     ap (λ (z : Parameters). head_after l g f z) (parameters_same g h (variables [] 0) f.parameters k.parameters)
     ∙ ap (λ (v : Verdict PartialType). head_judged f (reading l f ps (after (after v (settled_alone f.result.at)) (if_result f.result.at))))
     (written_same g h ps.variables_after.names f.result k.result)
+
+all_types_same : (g h : Tables) (ms : List tree.Member) → SameTags g h → AreSame g h ms
+all_types_same g h [] k = tt
+all_types_same g h (m ∷ ms) k = (type_same g h m.of k, all_types_same g h ms k)
+
+pub tags_head : (g h : Tables) (f : tree.Function) → SameTags g h → SameHead g h f
+tags_head g h f k = record { parameters = all_types_same g h f.parameters k; result = type_same g h f.result k }
+
+all_thin_same : (g h : Tables) (ms : List tree.Member) → AreThinTypes ms → AreSame g h ms
+all_thin_same g h [] k = tt
+all_thin_same g h (m ∷ ms) k = (thin_same g h m.of k.0, all_thin_same g h ms k.1)
+
+pub thin_head : (g h : Tables) (f : tree.Function) → AreThinTypes f.parameters → takes_type thin_pointers f.result ≡ true → SameHead g h f
+thin_head g h f k r = record { parameters = all_thin_same g h f.parameters k; result = thin_same g h f.result r }

@@ -1,10 +1,14 @@
 pub mod Sure
 pub mod GoodScopes
+pub mod Settling
 pub mod GoodTypes
 pub mod GoodLocals
+pub mod Named
 pub mod HeadTypes
 pub mod NoTags
+pub mod Tags
 pub mod Heads
+pub mod TakenMore
 pub mod Constants
 pub mod Globals
 pub mod LoweredStrings

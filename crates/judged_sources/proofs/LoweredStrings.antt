@@ -23,6 +23,7 @@ use Rattle.cyc_tree.specs.Tree.{
 }
 use Rattle.source_meaning.specs.Shapes.{Shape, settled, written}
 use Rattle.source_meaning.specs.Strings.{
+  Literal,
   constant_strings,
   declaration_strings,
   expression_strings,

@@ -1,6 +1,6 @@
 -- Where the rules find `main`, it is a function of the program, and one of the functions of its Core.
 use Rattle.std.specs.Prelude.{bytes_eq, codes, if◌then◌else◌, length}
-use Rattle.std.proofs.Common.{◌≡◌, ℕ, suc, ◌+◌, ◌<◌, Bool, true, false, Option, Some, List, [], ◌∷◌, ◌++◌, refl, ap, ◌∙◌, arith, length-append}
+use Rattle.std.proofs.Common.{◌≡◌, ℕ, suc, ◌<◌, Bool, true, false, Option, Some, List, [], ◌∷◌, refl, ap, ◌∙◌, arith}
 use Rattle.cyc_tree.specs.Tree as tree
 use Rattle.cyc_tree.specs.Tree.{Item, Program}
 use Rattle.source_meaning.specs.Calls.{function_of}
@@ -8,36 +8,10 @@ use Rattle.source_meaning.specs.Steps.{Routine}
 use Rattle.source_lowering.specs.Lowered.{number_of}
 use Rattle.source_typing.specs.Functions.{head_of}
 use Rattle.source_typing.specs.Globals.{global_entry}
-use Rattle.source_typing.specs.Programs.{
-  Judged,
-  bare_from,
-  builtins,
-  entries,
-  entries_with,
-  first_from,
-  judged_tag,
-  judged_tags,
-  main_found,
-  main_is,
-  tags_from,
-}
+use Rattle.source_typing.specs.Programs.{Judged, entries_with, main_found, main_is}
 use Rattle.source_typing.specs.Scope.{at_item}
 use Rattle.source_typing.specs.Tables.{Entry, OfFunction, Tables, find}
 use Rattle.judged_sources.proofs.Found.{AllKnown}
-
--- ---- each item has an entry
-
-tags_length : (g : Tables) (i : ℕ) (done : List Judged) (is : List Item) → length (tags_from i done is (first_from g i is)) ≡ length done + length is
-tags_length g i done [] = omega arith
-tags_length g i done (x ∷ is) =
-    let j : Judged = judged_tag (builtins (entries done ++ first_from g i (x ∷ is))) i x in
-    let a : length (tags_from (suc i) (done ++ j ∷ []) is (first_from g (suc i) is)) ≡ length (done ++ j ∷ []) + length is =
-    tags_length g (suc i) (done ++ j ∷ []) is in
-    let b : length (done ++ j ∷ []) ≡ length done + length (j ∷ []) = length-append done (j ∷ []) in
-    omega (arith, a, b)
-
-pub judged_length : (p : Program) → length (judged_tags p) ≡ length p
-judged_length p = tags_length (builtins (bare_from 0 p)) 0 [] p ∙ omega arith
 
 -- ---- `main` among them
 
@@ -46,13 +20,24 @@ pub record MainHere (h : Tables) (i : ℕ) (js : List Judged) (is : List Item) :
   pub function : tree.Function
   pub found : find (entries_with false h i js is) (codes "main") ≡ Some (OfFunction (head_of false h function).signature)
 
-pub find_main : (g h : Tables) (i : ℕ) (js : List Judged) (is : List Item) → length js ≡ length is → AllKnown g i is → main_found is ≡ [] → MainHere h i js is
-find_main g h i js [] l k e = absurd cc
-find_main g h i [] (x ∷ is) l k e = absurd (omega (arith, l))
-find_main g h i (j ∷ js) (tree.StructItem y ∷ is) l k e = absurd k.0
-find_main g h i (j ∷ js) (tree.UnionItem y ∷ is) l k e = absurd k.0
-find_main g h i (j ∷ js) (tree.GlobalItem y ∷ is) l k e =
-    by (bytes_eq y.name.text (codes "main")) refl (λ p. find_main g h (suc i) js is (omega (arith, l)) k.1 p) e
+pub find_main : (g h : Tables) (i : ℕ) (js : List Judged) (is : List Item) → AllKnown g h i js is → main_found is ≡ [] → MainHere h i js is
+find_main g h i js [] k e = absurd cc
+find_main g h i [] (x ∷ is) k e = absurd k
+find_main g h i (j ∷ js) (tree.StructItem y ∷ is) k e =
+    by (bytes_eq y.tag.text (codes "main")) refl (λ p. find_main g h (suc i) js is k.1 p) e
+  where
+    by : (b : Bool) → bytes_eq y.tag.text (codes "main") ≡ b → (main_found is ≡ [] → MainHere h (suc i) js is)
+        → (if b then main_is (tree.StructItem y) y.tag.at else main_found is) ≡ [] → MainHere h i (j ∷ js) (tree.StructItem y ∷ is)
+    by true q others p = absurd cc
+    by false q others p =
+        let rest : MainHere h (suc i) js is = others p in
+        record {
+          function = rest.function;
+          found = ap (λ (b : Bool). if b then Some j.entry.entry else find (entries_with false h (suc i) js is) (codes "main")) q ∙ rest.found;
+        }
+find_main g h i (j ∷ js) (tree.UnionItem y ∷ is) k e = absurd k.0
+find_main g h i (j ∷ js) (tree.GlobalItem y ∷ is) k e =
+    by (bytes_eq y.name.text (codes "main")) refl (λ p. find_main g h (suc i) js is k.1 p) e
   where
     by : (b : Bool) → bytes_eq y.name.text (codes "main") ≡ b → (main_found is ≡ [] → MainHere h (suc i) js is)
         → (if b then main_is (tree.GlobalItem y) y.name.at else main_found is) ≡ [] → MainHere h i (j ∷ js) (tree.GlobalItem y ∷ is)
@@ -64,8 +49,8 @@ find_main g h i (j ∷ js) (tree.GlobalItem y ∷ is) l k e =
           found = ap (λ (b : Bool). if b then Some (global_entry (at_item false h i) y) else find (entries_with false h (suc i) js is) (codes "main")) q
               ∙ rest.found;
         }
-find_main g h i (j ∷ js) (tree.FunctionItem f ∷ is) l k e =
-    by (bytes_eq f.name.text (codes "main")) refl (λ p. find_main g h (suc i) js is (omega (arith, l)) k.1 p) e
+find_main g h i (j ∷ js) (tree.FunctionItem f ∷ is) k e =
+    by (bytes_eq f.name.text (codes "main")) refl (λ p. find_main g h (suc i) js is k.1 p) e
   where
     either : Bool → Option Entry
     either b = (if b then Some (OfFunction (head_of false h f).signature) else find (entries_with false h (suc i) js is) (codes "main"))

@@ -1,21 +1,26 @@
--- A program of integers and thin pointers in which the rules find no fault is in order by the rules' own tables: so lowering takes it, it is never stuck, and
--- it has its `main`.
-use Rattle.std.specs.Prelude.{bytes_eq, codes, if◌then◌else◌, length, map}
-use Rattle.std.proofs.Common.{◌≡◌, ℕ, ◌<◌, Bool, true, false, inl, inr, Option, Some, List, [], ◌∷◌, refl, sym, subst, ap, ◌∙◌}
+-- A program of integers, thin pointers and structs in which the rules find no fault is in order by the rules' own tables: so it is never stuck, and it has its
+-- `main`; and where it has no structs, lowering takes it.
+use Rattle.std.specs.Prelude.{◌++◌, bytes_eq, codes, if◌then◌else◌, length, map, not}
+use Rattle.std.proofs.Common.{◌≡◌, ℕ, suc, ◌<◌, Bool, true, false, inl, inr, Option, Some, List, [], ◌∷◌, refl, sym, subst, ap, ◌∙◌}
 use Rattle.std.proofs.lemmas.List.{length-map}
 use Rattle.std.proofs.lemmas.Slice.Eq.{bytes_eq-Decides}
 use Rattle.cyc_tree.specs.Tree as tree
-use Rattle.cyc_tree.specs.Tree.{Program}
+use Rattle.cyc_tree.specs.Tree.{Item, Program}
 use Rattle.source_lowering.specs.Programs.{function_code, program_code}
 use Rattle.source_lowering.specs.Taken.{TakesProgram}
 use Rattle.source_meaning.specs.Programs.{routine_of, world_of}
 use Rattle.source_meaning.specs.Shapes.{part_of, part_shapes}
 use Rattle.source_meaning.specs.Steps.{World}
-use Rattle.source_safety.specs.Entries.{Builtin, Function, PlainEntry}
+use Rattle.source_safety.specs.Entries.{Builtin, Function, PlainEntry, Structure}
+use Rattle.source_safety.specs.Judged.{structures}
 use Rattle.source_safety.specs.Programs.{FunctionJudged, GlobalFound, MainFound, ProgramJudged}
 use Rattle.source_typing.specs.Answers.{program_faults}
-use Rattle.source_typing.specs.Functions.{head_of}
-use Rattle.source_typing.specs.Programs.{builtins, entries, entries_with, judged_tags, tables_of}
+use Rattle.source_typing.specs.Faults.{Fault, own_after, test, type_rule}
+use Rattle.source_typing.specs.Functions.{Head, body_scope, end_reached, function_faults, head_of}
+use Rattle.source_typing.specs.Globals.{global_faults}
+use Rattle.source_typing.specs.Programs.{builtins, entries, entries_with, items_from, judged_tags, tables_of}
+use Rattle.source_typing.specs.Scope.{at_item}
+use Rattle.source_typing.specs.Statements.{items_faults}
 use Rattle.source_typing.specs.Regions.{Region}
 use Rattle.source_typing.specs.Tables.{
   Arrayed,
@@ -29,23 +34,32 @@ use Rattle.source_typing.specs.Tables.{
   Signature,
   Stored,
   Tables,
+  Tag,
   Unknown,
   find,
 }
-use Rattle.source_typing.specs.Taken.{thin_pointers}
+use Rattle.source_typing.specs.Taken.{constant_forms, function_taken, item_forms, item_taken, only_taken, thin_pointers}
 use Rattle.source_typing.specs.Types.{StaticType, shape_of}
+use Rattle.source_typing.proofs.Inversion.{none_of_both}
 use Rattle.source_typing.proofs.TakenOperands.{taken_has_operands}
 use Rattle.source_safety.proofs.Never.{never_stuck}
 use Rattle.source_safety.proofs.Same.{judged_same}
-use Rattle.judged_sources.specs.Good.{AllGood, BodiesJudged, IsGoodEntry}
-use Rattle.judged_sources.specs.Laws.{AcceptedAreJudged, AcceptedAreLowerable, AcceptedAreNeverStuck, AcceptedHaveMain}
-use Rattle.judged_sources.proofs.Found.{AllKnown, FunctionFound, VariableFound, all_known, all_take, find_function, find_variable, globals_judged, no_builtin}
-use Rattle.judged_sources.proofs.Found.{no_structs}
+use Rattle.judged_sources.specs.Good.{AllGood, BodiesJudged, IsGoodEntry, IsGoodTag}
+use Rattle.judged_sources.specs.Laws.{AcceptedAreJudged, AcceptedAreLowerable, AcceptedAreNeverStuck, AcceptedHaveMain, head_faults_from, heads_faults}
+use Rattle.judged_sources.proofs.Found.{AllKnown, AreThinItems, FunctionFound, VariableFound, all_known, all_take, find_function, find_variable, globals_judged}
+use Rattle.judged_sources.proofs.Found.{no_builtin}
 use Rattle.judged_sources.proofs.GoodNames.{MeansGood, found_good}
 use Rattle.judged_sources.proofs.GoodFunctions.{FunctionNamed, function_is, function_judged}
-use Rattle.judged_sources.proofs.GoodTables.{IsClean, is_clean_program, program_headed, tables_good}
+use Rattle.judged_sources.proofs.GoodTables.{AreHeaded, IsClean, all_headed, entries_length, is_clean_program, tables_good, tables_same}
+use Rattle.judged_sources.proofs.GoodTypes.{KnowsTags}
+use Rattle.judged_sources.proofs.Globals.{GlobalTaken, global_taken, thin_faults_same}
+use Rattle.judged_sources.proofs.Heads.{HeadTaken, SameTags, head_same, head_taken, thin_head}
+use Rattle.judged_sources.proofs.Named.{builtins_known, entries_known}
+use Rattle.judged_sources.proofs.NoTags.{AreNoTags, no_tags}
+use Rattle.judged_sources.proofs.Tags.{StructsFound, none_structs}
+use Rattle.judged_sources.proofs.TakenMore.{faults_more, type_more}
 use Rattle.judged_sources.proofs.LoweredStrings.{program_silent}
-use Rattle.judged_sources.proofs.Main.{MainHere, find_main, judged_length, number_below}
+use Rattle.judged_sources.proofs.Main.{MainHere, find_main, number_below}
 
 -- ---- names
 
@@ -73,7 +87,7 @@ entry_by es x a c = (if a then Some (OfBuiltin 0) else (if c then Some (OfBuilti
 
 -- ---- a program in order, by its own tables
 
-module _ (bodies : BodiesJudged) (p : Program) (e : program_faults thin_pointers p ≡ []) where
+module _ (bodies : BodiesJudged) (p : Program) (e : program_faults structures p ≡ []) (c : heads_faults p ≡ []) (found : StructsFound p) where
   abbrev tables : Tables
   tables = tables_of false p
 
@@ -86,17 +100,27 @@ module _ (bodies : BodiesJudged) (p : Program) (e : program_faults thin_pointers
   abbrev world : World
   world = world_of p
 
-  clean : IsClean p
-  clean = is_clean_program p e
+  clean : IsClean structures p
+  clean = is_clean_program structures p e
+
+  tags : KnowsTags heads
+  tags = builtins_known (entries (judged_tags p)) (entries_known (judged_tags p) p found.named)
+
+  headed : AreHeaded heads 0 (judged_tags p) p
+  headed = all_headed heads 0 (judged_tags p) p tags found.named clean.taken clean.forms c
 
   good : AllGood 0 tables
-  good = tables_good p (program_headed p clean)
+  good = tables_good heads (judged_tags p) p tags headed
 
-  known : AllKnown tables 0 p
-  known = all_known bodies tables 0 p good (program_headed p clean) clean.taken (taken_has_operands thin_pointers p clean.taken) clean.items
+  same : SameTags tables heads
+  same = tables_same heads (judged_tags p) p tags headed
 
-  structs : world.structs ≡ []
-  structs = no_structs tables 0 p [] known
+  -- as many names
+  count : length tables ≡ length heads
+  count = ap (λ n. suc (suc n)) (entries_length heads 0 (judged_tags p) p headed)
+
+  known : AllKnown tables heads 0 (judged_tags p) p
+  known = all_known bodies tables heads 0 (judged_tags p) p good same headed clean.taken (taken_has_operands structures p clean.taken) clean.items
 
   -- ---- names
 
@@ -115,8 +139,8 @@ module _ (bodies : BodiesJudged) (p : Program) (e : program_faults thin_pointers
   function_named : (x : List ℕ) (s : Signature) (h : find tables x ≡ Some (OfFunction s)) → FunctionNamed world tables x s (function_found x s h).function
   function_named x s h =
       let own : IsOwn items x (OfFunction s) = function_own x s h in
-      let found : FunctionFound tables p x s = function_found x s h in
-      record { no_structs = structs; found = found.found; not_read = own.not_read; not_written = own.not_written; signature = found.signature }
+      let f : FunctionFound tables p x s = function_found x s h in
+      record { not_made = found.not_made x s h; found = f.found; not_read = own.not_read; not_written = own.not_written; signature = f.signature }
 
   abbrev its_function : (x : List ℕ) (s : Signature) → find tables x ≡ Some (OfFunction s) → Function world x s
   its_function x s h =
@@ -134,8 +158,8 @@ module _ (bodies : BodiesJudged) (p : Program) (e : program_faults thin_pointers
       by true c k = absurd cc
       by false true k = absurd cc
       by false false k =
-          let found : VariableFound p 0 x t r = find_variable tables heads 0 0 (judged_tags p) p x t r known k in
-          record { number = found.number; is = found.is_bound; region = found.region; below = (entry_good 0 tables x (OfValue (Stored t r)) good h).1 }
+          let v : VariableFound p 0 x t r = find_variable tables heads 0 0 (judged_tags p) p x t r known k in
+          record { number = v.number; is = v.is_bound; region = v.region; below = (entry_good 0 tables x (OfValue (Stored t r)) good h).1 }
 
   builtin_is : (x : List ℕ) (n : ℕ) → find tables x ≡ Some (OfBuiltin n) → Builtin x n
   builtin_is x n h = by (bytes_eq (codes "getchar") x) (bytes_eq (codes "putchar") x) refl refl h
@@ -148,6 +172,22 @@ module _ (bodies : BodiesJudged) (p : Program) (e : program_faults thin_pointers
       by false true q r k = inr (swapped (codes "getchar") x false q, swapped (codes "putchar") x true r, number 1 k)
       by false false q r k = absurd (no_builtin tables heads 0 n (judged_tags p) p x known k)
 
+  -- a struct
+  structure_is : (x : List ℕ) (t : Tag) → find tables x ≡ Some (OfTag t) → IsGoodTag t → Structure world x t
+  structure_is x t h s = by (bytes_eq (codes "getchar") x) (bytes_eq (codes "putchar") x) refl refl h
+    where
+      by : (a c : Bool) → bytes_eq (codes "getchar") x ≡ a → bytes_eq (codes "putchar") x ≡ c → entry_by items x a c ≡ Some (OfTag t) → Structure world x t
+      by true c q r k = absurd cc
+      by false true q r k = absurd cc
+      by false false q r k = record {
+        named = found.texts x t h;
+        no_union = s.no_union;
+        no_regions = s.no_regions;
+        not_read = swapped (codes "getchar") x false q;
+        not_written = swapped (codes "putchar") x false r;
+        there = found.there x t h;
+      }
+
   plain : (x : List ℕ) (y : Entry) → find tables x ≡ Some y → PlainEntry world x y
   plain x y h = by y h (entry_good 0 tables x y good h)
     where
@@ -156,7 +196,7 @@ module _ (bodies : BodiesJudged) (p : Program) (e : program_faults thin_pointers
       by (OfValue (Arrayed t r)) h s = absurd s
       by (OfValue Counter) h s = absurd s
       by (OfValue Unknown) h s = absurd s
-      by (OfTag t) h s = absurd s
+      by (OfTag t) h s = structure_is x t h s
       by (OfFunction s) h k = its_function x s h
       by (OfBuiltin n) h s = builtin_is x n h
       by OfOther h s = absurd s
@@ -164,7 +204,7 @@ module _ (bodies : BodiesJudged) (p : Program) (e : program_faults thin_pointers
   -- ---- `main`
 
   main_here : MainHere heads 0 (judged_tags p) p
-  main_here = find_main tables heads 0 (judged_tags p) p (judged_length p) known clean.main
+  main_here = find_main tables heads 0 (judged_tags p) p known clean.main
 
   abbrev main_signature : Signature
   main_signature = (head_of false heads main_here.function).signature
@@ -182,21 +222,21 @@ module _ (bodies : BodiesJudged) (p : Program) (e : program_faults thin_pointers
 
   main_judged : MainFound world tables
   main_judged =
-      let found : FunctionFound tables p (codes "main") main_signature = main_function in
+      let f : FunctionFound tables p (codes "main") main_signature = main_function in
       record {
         signature = main_signature;
         function = its_function (codes "main") main_signature main_found_there;
         found = main_found_there;
-        types = no_types found.good.head.signature.types
-            (ap (λ (ms : List tree.Member). part_shapes (map part_of ms)) (sym (found.good.head.main_takes found.named)) ∙ found.good.head.shapes);
-        gives = found.good.head.main_gives found.named;
+        types = no_types f.good.head.signature.types
+            (ap (λ (ms : List tree.Member). part_shapes (map part_of ms)) (sym (f.good.head.main_takes f.named)) ∙ f.good.head.shapes);
+        gives = f.good.head.main_gives f.named;
       }
 
   judged : ProgramJudged p tables
   judged = record {
-    no_structs = structs;
+    structs = found.structs;
     plain = plain;
-    globals = globals_judged tables 0 p known;
+    globals = globals_judged tables heads 0 (judged_tags p) p same count known;
     variables = variables;
     functions = functions;
     main = main_judged;
@@ -204,24 +244,85 @@ module _ (bodies : BodiesJudged) (p : Program) (e : program_faults thin_pointers
 
   main_below : (program_code p).main < length (program_code p).functions
   main_below =
-      let found : FunctionFound tables p (codes "main") main_signature = main_function in
-      let less = number_below world.functions (codes "main") (routine_of found.function) found.found in
+      let f : FunctionFound tables p (codes "main") main_signature = main_function in
+      let less = number_below world.functions (codes "main") (routine_of f.function) f.found in
       subst (λ (n : ℕ). (program_code p).main < n) (sym (length-map world.functions (function_code world))) less
 
-  takes : TakesProgram p
-  takes = all_take tables 0 p known
+  takes : AreThinItems p → TakesProgram p
+  takes z = all_take tables heads 0 (judged_tags p) p known z
+
+-- ---- programs without structs
+
+-- heads and globals have no fault where tags alone are known either, and are of thin pointers
+record ThinClean (h : Tables) (i : ℕ) (is : List Item) : Type 0 where
+  heads : head_faults_from h i is ≡ []
+  thin : AreThinItems is
+
+none_and : (fs gs : List Fault) → fs ≡ [] → gs ≡ [] → fs ++ gs ≡ []
+none_and [] gs a b = b
+none_and (f ∷ fs) gs a b = absurd cc
+
+thin_clean : (g h : Tables) (i : ℕ) (is : List Item) → KnowsTags h → AreNoTags is → only_taken thin_pointers is ≡ is → constant_forms thin_pointers is ≡ []
+    → items_from false g i is ≡ [] → ThinClean h i is
+thin_clean g h i [] tags n t f p = record { heads = refl; thin = tt }
+thin_clean g h i (tree.StructItem s ∷ is) tags n t f p = absurd n.0
+thin_clean g h i (tree.UnionItem s ∷ is) tags n t f p = absurd n.0
+thin_clean g h i (tree.GlobalItem x ∷ is) tags n t f p =
+    let a : item_taken thin_pointers (tree.GlobalItem x) ≡ tree.GlobalItem x = cc in
+    let b : only_taken thin_pointers is ≡ is = cc in
+    let c : (item_forms thin_pointers (tree.GlobalItem x) ≡ []) × (constant_forms thin_pointers is ≡ []) =
+    none_of_both (item_forms thin_pointers (tree.GlobalItem x)) (constant_forms thin_pointers is) f in
+    let d : (global_faults (at_item false g i) x ≡ []) × (items_from false g (suc i) is ≡ []) =
+    none_of_both (global_faults (at_item false g i) x) (items_from false g (suc i) is) p in
+    let k : GlobalTaken thin_pointers x = global_taken thin_pointers (at_item false g i) x a c.0 d.0 in
+    let r : ThinClean h (suc i) is = thin_clean g h (suc i) is tags n.1 b c.1 d.1 in
+    record {
+      heads = none_and (global_faults (at_item false h i) x) (head_faults_from h (suc i) is)
+          (sym (thin_faults_same g h i i x tags (type_more x.of k.type) k.type) ∙ d.0) r.heads;
+      thin = (k.type, r.thin);
+    }
+thin_clean g h i (tree.FunctionItem x ∷ is) tags n t f p =
+    let a : function_taken thin_pointers x ≡ x = cc in
+    let b : only_taken thin_pointers is ≡ is = cc in
+    let d : (function_faults false g i x ≡ []) × (items_from false g (suc i) is ≡ []) =
+    none_of_both (function_faults false g i x) (items_from false g (suc i) is) p in
+    let z : Head = head_of false g x in
+    let q : (z.faults ≡ []) × (own_after (test (not (end_reached x z)) type_rule x.end) (items_faults (body_scope false g i x z) true x.body) ≡ []) =
+    none_of_both z.faults (own_after (test (not (end_reached x z)) type_rule x.end) (items_faults (body_scope false g i x z) true x.body)) d.0 in
+    let k : HeadTaken thin_pointers x = head_taken thin_pointers g x refl a q.0 in
+    let r : ThinClean h (suc i) is = thin_clean g h (suc i) is tags n.1 b f d.1 in
+    record {
+      heads = none_and (head_of false h x).faults (head_faults_from h (suc i) is)
+          (subst (λ (y : Head). y.faults ≡ []) (head_same false g h x (thin_head g h x k.parameters k.result)) q.0) r.heads;
+      thin = (record { parameters = k.parameters; result = k.result; body = ap (λ (y : tree.Function). y.body) a }, r.thin);
+    }
 
 -- ---- the laws
 
+module _ (bodies : BodiesJudged) (p : Program) (e : program_faults thin_pointers p ≡ []) where
+  none : AreNoTags p
+  none = let c : IsClean thin_pointers p = is_clean_program thin_pointers p e in no_tags p c.taken c.tags
+
+  thin_tags : StructsFound p
+  thin_tags = none_structs p none
+
+  thin : ThinClean (builtins (entries (judged_tags p))) 0 p
+  thin =
+      let c : IsClean thin_pointers p = is_clean_program thin_pointers p e in
+      thin_clean (tables_of false p) (builtins (entries (judged_tags p))) 0 p
+      (builtins_known (entries (judged_tags p)) (entries_known (judged_tags p) p thin_tags.named)) none c.taken c.forms c.items
+
 module _ (bodies : BodiesJudged) where
   pub accepted_are_judged : AcceptedAreJudged
-  accepted_are_judged p e = judged bodies p e
+  accepted_are_judged p e = judged bodies p (faults_more p e) (thin bodies p e).heads (thin_tags bodies p e)
 
   pub accepted_are_lowerable : AcceptedAreLowerable
-  accepted_are_lowerable p e = record { items = takes bodies p e; strings = program_silent p (takes bodies p e) }
+  accepted_are_lowerable p e =
+      let t : TakesProgram p = takes bodies p (faults_more p e) (thin bodies p e).heads (thin_tags bodies p e) (thin bodies p e).thin in
+      record { items = t; strings = program_silent p t }
 
   pub accepted_are_never_stuck : AcceptedAreNeverStuck
-  accepted_are_never_stuck p e = never_stuck p (tables_of false p) (judged bodies p e)
+  accepted_are_never_stuck p e = never_stuck p (tables_of false p) (accepted_are_judged p e)
 
   pub accepted_have_main : AcceptedHaveMain
-  accepted_have_main p e = main_below bodies p e
+  accepted_have_main p e = main_below bodies p (faults_more p e) (thin bodies p e).heads (thin_tags bodies p e)

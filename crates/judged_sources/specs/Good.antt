@@ -1,16 +1,17 @@
--- What is known of the names in scope where a phrase of integers and thin pointers is judged, and what is then known of the phrase.
-use Rattle.std.specs.Prelude.{◌≡◌, ℕ, true, Some, List, [], ◌∷◌, map}
+-- What is known of the names in scope where a phrase of integers, thin pointers and structs is judged, and what is then known of the phrase.
+use Rattle.std.specs.Prelude.{◌≡◌, ℕ, true, false, Some, List, [], ◌∷◌, map}
 use Rattle.cyc_tree.specs.Operands.{ItemsHaveOperands}
 use Rattle.cyc_tree.specs.Tree.{BlockItems, Expression}
 use Rattle.source_lowering.specs.Taken.{Takes, TakesItems, TakesPlace}
-use Rattle.source_safety.specs.Entries.{AreWords, IsPlain, IsWordType}
-use Rattle.source_safety.specs.Judged.{ItemsJudged}
+use Rattle.source_safety.specs.Entries.{AreObjects, IsObjectType, IsPlain}
+use Rattle.source_safety.specs.Judged.{ItemsJudged, structures}
 use Rattle.source_safety.specs.Named.{Below, TypeBelow, TypesBelow}
 use Rattle.source_typing.specs.Expressions.{judge}
 use Rattle.source_typing.specs.Regions.{TheHeap}
 use Rattle.source_typing.specs.Scope.{Env, In, InBlock, InRegion, Nowhere, Seat, Value, in_scope, is_place}
 use Rattle.source_typing.specs.Statements.{items_faults}
-use Rattle.source_typing.specs.Tables.{Entry, OfBuiltin, OfFunction, OfValue, Signature, Stored, Tables}
+use Rattle.source_typing.specs.Calls.{part_types}
+use Rattle.source_typing.specs.Tables.{Entry, OfBuiltin, OfFunction, OfTag, OfValue, Signature, Stored, Tables, Tag}
 use Rattle.source_typing.specs.Taken.{items_taken, taken, thin_pointers}
 use Rattle.source_typing.specs.Types.{Null, StaticType, Void, shape_of}
 use Rattle.source_typing.specs.Verdicts.{Faulty, Of, Unjudged, Verdict}
@@ -18,21 +19,31 @@ use Rattle.source_typing.specs.Written.{RegionNamed}
 
 -- ---- names
 
--- A function whose head has no fault: it takes words and gives a word or nothing, and its types speak of its region variables and the heap alone.
+-- A function whose head has no fault: it takes objects and gives one or nothing, and its types speak of its region variables and the heap alone.
 pub record IsGoodSignature (s : Signature) : Type 0 where
   pub sound : s.sound ≡ true
   pub types : List StaticType
   pub parameters : s.parameters ≡ map (λ t. Some t) types
-  pub words : AreWords types
+  pub objects : AreObjects types
   pub types_below : TypesBelow s.regions types
   pub gives : StaticType
   pub result : s.result ≡ Some gives
   pub plain : IsPlain gives
   pub gives_below : TypeBelow s.regions gives
 
--- a variable of a word, whose type and place speak of region names in scope alone; or a function
+-- A struct without fault: it has no region parameters, and its members are objects.
+pub record IsGoodTag (t : Tag) : Type 0 where
+  pub sound : t.sound ≡ true
+  pub no_union : t.is_union ≡ false
+  pub no_regions : t.regions ≡ 0
+  pub types : List StaticType
+  pub parts : part_types t.parts ≡ map (λ t. Some t) types
+  pub objects : AreObjects types
+
+-- a variable, whose type and place speak of region names in scope alone; a struct; or a function
 abbrev pub IsGoodEntry : ℕ → Entry → Type 0
-IsGoodEntry count (OfValue (Stored t r)) = IsWordType t × TypeBelow count t × Below count r
+IsGoodEntry count (OfValue (Stored t r)) = IsObjectType t × TypeBelow count t × Below count r
+IsGoodEntry count (OfTag t) = IsGoodTag t
 IsGoodEntry count (OfFunction s) = IsGoodSignature s
 IsGoodEntry count (OfBuiltin n) = Unit {0}
 IsGoodEntry count _ = ⊥
@@ -61,11 +72,11 @@ Surely P (Of a) = P a
 Surely P (Faulty f fs) = Unit {0}
 Surely P Unjudged = ⊥
 
--- what an expression may be: a word, `NULL`, or nothing
+-- what an expression may be: an object, `NULL`, or nothing
 abbrev pub IsValueType : StaticType → Type 0
 IsValueType Null = Unit {0}
 IsValueType Void = Unit {0}
-IsValueType t = IsWordType t
+IsValueType t = IsObjectType t
 
 -- a place lies in a region that is in scope, and not in a block of its own
 abbrev pub SeatBelow : ℕ → Seat → Type 0
@@ -73,27 +84,27 @@ SeatBelow count Nowhere = Unit {0}
 SeatBelow count (In r) = Below count r
 SeatBelow count InBlock = ⊥
 
--- what is known of an expression without fault; lowering takes it, and takes it as a place where it is one
+-- What is known of an expression without fault. Where it has no structs, lowering takes it, and takes it as a place where it is one.
 pub record IsGoodValue (g : Env) (e : Expression) (v : Value) : Type 0 where
   pub type : IsValueType v.type
   pub below : TypeBelow g.regions.count v.type
   pub seat : SeatBelow g.regions.count v.seat
-  pub word : is_place v.seat ≡ true → IsWordType v.type
-  pub takes : Takes e
-  pub place : is_place v.seat ≡ true → TakesPlace e
+  pub object : is_place v.seat ≡ true → IsObjectType v.type
+  pub takes : taken thin_pointers e ≡ e → Takes e
+  pub place : taken thin_pointers e ≡ e → is_place v.seat ≡ true → TakesPlace e
 
 -- each expression of these forms is at fault, or it is in order
 abbrev pub ExpressionsJudged : Type 0
 ExpressionsJudged = (e : Expression) (g : Env) → IsGood g
-    → (let given = taken thin_pointers e in Surely (λ v. IsGoodValue g given v) (judge g given))
+    → (let given = taken structures e in Surely (λ v. IsGoodValue g given v) (judge g given))
 
 -- ---- the body of a function that gives a type
 
 pub record BodyJudged (g : Env) (gives : StaticType) (items : BlockItems) : Type 0 where
   pub judged : ItemsJudged g items
-  pub takes : TakesItems (shape_of gives) items
+  pub takes : items_taken thin_pointers items ≡ items → TakesItems (shape_of gives) items
 
 -- a body of these forms in which the rules find no fault is in order
 abbrev pub BodiesJudged : Type 0
 BodiesJudged = (items : BlockItems) (g : Env) (gives : StaticType) → IsGood g → g.result ≡ Some gives → IsPlain gives
-    → items_taken thin_pointers items ≡ items → ItemsHaveOperands items → items_faults g true items ≡ [] → BodyJudged g gives items
+    → items_taken structures items ≡ items → ItemsHaveOperands items → items_faults g true items ≡ [] → BodyJudged g gives items

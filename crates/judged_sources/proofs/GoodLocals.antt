@@ -60,7 +60,7 @@ pub record IsFilled (n : ℕ) (p : PartialType) (t : StaticType) : Type 0 where
   pub below : TypeBelow n t
   pub shape : shape_of t ≡ shape_of p
 
-abbrev FilledIfSome : ℕ → PartialType → Option StaticType → Type 0
+abbrev pub FilledIfSome : ℕ → PartialType → Option StaticType → Type 0
 FilledIfSome n p None = ⊥
 FilledIfSome n p (Some t) = IsFilled n p t
 
@@ -71,7 +71,7 @@ thin_filled n b r (Is q) p (Some t) h k = record { object = k.object; below = (h
 thin_filled n b r IsUnique p (Some t) h k = absurd h
 thin_filled n b r Missing p (Some t) h k = record { object = k.object; below = (tt, k.below); shape = ap (λ s. ThinShape b shapes.Shared s) k.shape }
 
-filled_object : (n : ℕ) (p : PartialType) (s : Option StaticType) → IsPartialObject n p → SourceBelow n s → FilledIfSome n p (filled_from p s)
+pub filled_object : (n : ℕ) (p : PartialType) (s : Option StaticType) → IsPartialObject n p → SourceBelow n s → FilledIfSome n p (filled_from p s)
 filled_object n Int s h k = record { object = tt; below = tt; shape = refl }
 filled_object n Unsigned s h k = record { object = tt; below = tt; shape = refl }
 filled_object n Char s h k = record { object = tt; below = tt; shape = refl }

@@ -79,7 +79,7 @@ region_below n names (Some (tree.Heap at)) h s = tt
 region_below n names (Some (tree.Unique at)) h s = absurd s
 region_below n names (Some (tree.Named x)) h s = named_below n names x.at x.text h
 
-pointers_found : (n : ℕ) (names : List RegionNamed) (ps : List Pointer) → NamesBelow n names → AreThin ps
+pub pointers_found : (n : ℕ) (names : List RegionNamed) (ps : List Pointer) → NamesBelow n names → AreThin ps
     → AreFound n ps (all_found names (map (λ (p : Pointer). spot true p.region) ps)).0
 pointers_found n names [] h s = tt
 pointers_found n names (p ∷ ps) h s = (region_below n names p.region h s.0.1, pointers_found n names ps h s.1)
@@ -187,7 +187,7 @@ pub record IsPointed (n : ℕ) (s : Shape) (p : PartialType) : Type 0 where
   pub unowned : IsOpen s
   pub shape : shapes.settled s ≡ shape_of p
 
-abbrev PointedIfSome : ℕ → Shape → Option PartialType → Type 0
+abbrev pub PointedIfSome : ℕ → Shape → Option PartialType → Type 0
 PointedIfSome n s None = ⊥
 PointedIfSome n s (Some p) = IsPointed n s p
 
@@ -236,7 +236,7 @@ signed_shared sign.NotNull r s t k h e = thin_shape false r s t h e
 signed_shared sign.Fat r s t k h e = absurd k
 
 -- pointers to an object make an object, one after another
-all_pointed : (n : ℕ) (ps : List Pointer) (fs : List Found) (p : PartialType) (s : Shape) → AreThin ps → AreFound n ps fs → IsPointed n s p
+pub all_pointed : (n : ℕ) (ps : List Pointer) (fs : List Found) (p : PartialType) (s : Shape) → AreThin ps → AreFound n ps fs → IsPointed n s p
     → PointedIfSome n (pointed ps s) (pointers_to ps fs (Some p))
 all_pointed n [] fs p s k b h = h
 all_pointed n (x ∷ ps) [] p s k b h = absurd b

@@ -1,6 +1,7 @@
--- The four laws, by what is proved of expressions and of bodies.
+-- The six laws, by what is proved of expressions and of bodies.
 use Rattle.judged_sources.specs.Good.{BodiesJudged}
 use Rattle.judged_sources.specs.Laws.{AcceptedAreJudged, AcceptedAreLowerable, AcceptedAreNeverStuck, AcceptedHaveMain}
+use Rattle.judged_sources.specs.Laws.{AcceptedStructsAreJudged, AcceptedStructsAreNeverStuck}
 use Rattle.judged_sources.proofs.GoodBodies.{bodies_judged}
 use Rattle.judged_sources.proofs.GoodExpressions.{expressions_judged}
 use Rattle.judged_sources.proofs.Programs as programs
@@ -19,3 +20,9 @@ never_stuck = programs.accepted_are_never_stuck bodies
 
 pub have_main : AcceptedHaveMain
 have_main = programs.accepted_have_main bodies
+
+pub structs_judged : AcceptedStructsAreJudged
+structs_judged = programs.structs_judged bodies
+
+pub structs_never_stuck : AcceptedStructsAreNeverStuck
+structs_never_stuck = programs.structs_never_stuck bodies

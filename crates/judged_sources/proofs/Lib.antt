@@ -6,9 +6,15 @@ pub mod GoodLocals
 pub mod Named
 pub mod HeadTypes
 pub mod NoTags
+pub mod MemberTypes
+pub mod HeadTags
 pub mod Tags
+pub mod TagOrder
+pub mod StructTags
+pub mod StructsFound
 pub mod Heads
 pub mod TakenMore
+pub mod ProgramsMore
 pub mod Constants
 pub mod Globals
 pub mod LoweredStrings
@@ -24,3 +30,4 @@ pub mod GoodExpressions
 pub mod GoodDeclarations
 pub mod GoodBodies
 pub mod Joined
+pub mod StructSamples

@@ -29,7 +29,7 @@ AreNamed (j ∷ js) [] = ⊥
 
 -- ---- tags are known
 
-named_known : (n : Named) (g : Tables) → IsKnownEntry n.entry → KnowsTags g → KnowsTags (n ∷ g)
+pub named_known : (n : Named) (g : Tables) → IsKnownEntry n.entry → KnowsTags g → KnowsTags (n ∷ g)
 named_known n g h k x = by (bytes_eq n.name x) (k x)
   where
     by : (b : Bool) → MeansKnown (find g x) → MeansKnown (if b then Some n.entry else find g x)

@@ -22,7 +22,7 @@ AreNoTags [] = Unit {0}
 AreNoTags (x ∷ is) = IsNoTag x × AreNoTags is
 
 -- a struct or union that isn't taken is at fault
-refused_clean : (g : Tables) (i : ℕ) (u : Bool) (s t : tree.Structure) → refused_structure t ≡ s → tag_faults g i u s ≡ [] → ⊥
+pub refused_clean : (g : Tables) (i : ℕ) (u : Bool) (s t : tree.Structure) → refused_structure t ≡ s → tag_faults g i u s ≡ [] → ⊥
 refused_clean g i u s t e p = by (subst (λ z. tag_faults g i u z ≡ []) (sym e) p)
   where
     by : tag_faults g i u (refused_structure t) ≡ [] → ⊥
@@ -41,7 +41,7 @@ tag_clean g i (tree.FunctionItem f) e p = tt
 
 -- ---- in the order of the text
 
-tags_split : (ds js : List Judged) → all_tag_faults (ds ++ js) ≡ [] → (all_tag_faults ds ≡ []) × (all_tag_faults js ≡ [])
+pub tags_split : (ds js : List Judged) → all_tag_faults (ds ++ js) ≡ [] → (all_tag_faults ds ≡ []) × (all_tag_faults js ≡ [])
 tags_split [] js p = (refl, p)
 tags_split (d ∷ ds) js p =
     let z : (d.faults ≡ []) × (all_tag_faults (ds ++ js) ≡ []) = none_of_both d.faults (all_tag_faults (ds ++ js)) p in

@@ -46,6 +46,8 @@ use Rattle.source_safety.proofs.Never.{never_stuck}
 use Rattle.source_safety.proofs.Same.{judged_same}
 use Rattle.judged_sources.specs.Good.{AllGood, BodiesJudged, IsGoodEntry, IsGoodTag}
 use Rattle.judged_sources.specs.Laws.{AcceptedAreJudged, AcceptedAreLowerable, AcceptedAreNeverStuck, AcceptedHaveMain, head_faults_from, heads_faults}
+use Rattle.judged_sources.specs.Laws.{AcceptedStructsAreJudged, AcceptedStructsAreNeverStuck}
+use Rattle.judged_sources.proofs.StructsFound.{structs_found}
 use Rattle.judged_sources.proofs.Found.{AllKnown, AreThinItems, FunctionFound, VariableFound, all_known, all_take, find_function, find_variable, globals_judged}
 use Rattle.judged_sources.proofs.Found.{no_builtin}
 use Rattle.judged_sources.proofs.GoodNames.{MeansGood, found_good}
@@ -57,7 +59,8 @@ use Rattle.judged_sources.proofs.Heads.{HeadTaken, SameTags, head_same, head_tak
 use Rattle.judged_sources.proofs.Named.{builtins_known, entries_known}
 use Rattle.judged_sources.proofs.NoTags.{AreNoTags, no_tags}
 use Rattle.judged_sources.proofs.Tags.{StructsFound, none_structs}
-use Rattle.judged_sources.proofs.TakenMore.{faults_more, type_more}
+use Rattle.judged_sources.proofs.ProgramsMore.{faults_more}
+use Rattle.judged_sources.proofs.TakenMore.{type_more}
 use Rattle.judged_sources.proofs.LoweredStrings.{program_silent}
 use Rattle.judged_sources.proofs.Main.{MainHere, find_main, number_below}
 
@@ -326,3 +329,11 @@ module _ (bodies : BodiesJudged) where
 
   pub accepted_have_main : AcceptedHaveMain
   accepted_have_main p e = main_below bodies p (faults_more p e) (thin bodies p e).heads (thin_tags bodies p e)
+
+-- with structs
+pub structs_judged : BodiesJudged → AcceptedStructsAreJudged
+structs_judged bodies p e c =
+    let k : IsClean structures p = is_clean_program structures p e in judged bodies p e c (structs_found p k.taken k.tags k.names)
+
+pub structs_never_stuck : BodiesJudged → AcceptedStructsAreNeverStuck
+structs_never_stuck bodies p e c = never_stuck p (tables_of false p) (structs_judged bodies p e c)

@@ -6,6 +6,7 @@ use Rattle.cyc_words.specs.Events.{SourceEnding}
 use Rattle.source_lowering.specs.Programs.{program_code}
 use Rattle.source_lowering.specs.Taken.{IsLowerable}
 use Rattle.source_meaning.specs.Programs.{source}
+use Rattle.source_safety.specs.Judged.{structures}
 use Rattle.source_safety.specs.Programs.{ProgramJudged}
 use Rattle.source_typing.specs.Answers.{program_faults}
 use Rattle.source_typing.specs.Faults.{Fault}
@@ -52,3 +53,15 @@ AcceptedAreNeverStuck = (p : Program) → program_faults thin_pointers p ≡ []
 abbrev pub AcceptedHaveMain : Type 0
 AcceptedHaveMain = (p : Program) → program_faults thin_pointers p ≡ []
     → (program_code p).main < length (program_code p).functions
+
+-- ---- structs too
+
+-- Each phrase of each is judged, where heads and globals have no fault by the tags alone either: by the tables that know globals and functions, a type that
+-- names one which is at fault itself isn't judged, so that a global or a function whose own type names it would have no fault.
+abbrev pub AcceptedStructsAreJudged : Type 0
+AcceptedStructsAreJudged = (p : Program) → program_faults structures p ≡ [] → heads_faults p ≡ [] → ProgramJudged p (tables_of false p)
+
+-- none of these is ever stuck, on any input, with any fuel
+abbrev pub AcceptedStructsAreNeverStuck : Type 0
+AcceptedStructsAreNeverStuck = (p : Program) → program_faults structures p ≡ [] → heads_faults p ≡ []
+    → (input : List ℕ) (n : ℕ) → (source p input n).ending ≡ SourceEnding.Stuck → ⊥

@@ -1,0 +1,90 @@
+-- A program of structs that is in order: it copies one, stores through members and pointers to them, and makes one.
+use Rattle.std.proofs.Common.{◌≡◌, ℕ, false, None, Some, [], ◌∷◌, refl}
+use Rattle.std.specs.Prelude.{codes}
+use Rattle.cyc_tree.specs.declared.expression.Prefix.TheVariants.{AddressOf, Dereference}
+use Rattle.cyc_tree.specs.declared.name.Sign.TheVariants as sign
+use Rattle.cyc_tree.specs.Tree as tree
+use Rattle.cyc_tree.specs.Tree.{Arrow, Declare, Dot, Execute, Expression, Initializer, MoreExpressions, NoExpressions, NoItems, NoSuffixes, Program, Statement}
+use Rattle.cyc_words.specs.Events.{SourceEnding}
+use Rattle.source_meaning.specs.Programs.{source}
+use Rattle.source_safety.specs.Judged.{structures}
+use Rattle.source_typing.specs.Answers.{program_faults}
+use Rattle.judged_sources.specs.Laws.{heads_faults}
+
+abbrev name_at : ℕ → tree.Name → tree.Name
+name_at at x = record x { at = at }
+
+abbrev a_name : tree.Name
+a_name = record { at = 0; text = codes "a" }
+
+abbrev next_name : tree.Name
+next_name = record { at = 0; text = codes "next" }
+
+abbrev s_name : tree.Name
+s_name = record { at = 0; text = codes "s" }
+
+abbrev x_name : tree.Name
+x_name = record { at = 0; text = codes "x" }
+
+abbrev y_name : tree.Name
+y_name = record { at = 0; text = codes "y" }
+
+abbrev int_type : ℕ → tree.TypeName
+int_type at = record { at = at; base = tree.Int; pointers = [] }
+
+abbrev struct_type : ℕ → tree.TypeName
+struct_type at = record { at = at; base = tree.Struct (name_at at s_name) []; pointers = [] }
+
+abbrev to_struct : ℕ → tree.TypeName
+to_struct at = record (struct_type at) { pointers = record { sign = sign.Nullable; region = None } ∷ [] }
+
+abbrev named_x : ℕ → Expression
+named_x at = Expression.Variable (name_at at x_name)
+
+abbrev named_y : ℕ → Expression
+named_y at = Expression.Variable (name_at at y_name)
+
+-- struct s { int a; struct s *next; };
+-- struct s x;
+-- int main() { struct s y = s(7, &x); y.next->a = 5; *y.next = y; return x.next->a; }
+abbrev copied : Program
+copied =
+    tree.StructItem (record {
+      at = 0;
+      tag = name_at 7 s_name;
+      regions = [];
+      members = record { of = int_type 11; name = name_at 15 a_name } ∷ record { of = to_struct 18; name = name_at 28 next_name } ∷ [];
+    })
+    ∷ tree.GlobalItem (record { of = struct_type 40; name = name_at 49 x_name; initial = tree.Initial.Unset })
+    ∷ tree.FunctionItem (record {
+      result = int_type 60;
+      name = record { at = 64; text = codes "main" };
+      parameters = [];
+      effect = None;
+      bounds = [];
+      body = Declare
+          (tree.Local (struct_type 70) (name_at 80 y_name)
+          (Initializer.Value (Expression.Call (name_at 84 s_name)
+          (MoreExpressions (Expression.Number 86 7 false) (MoreExpressions (Expression.Prefixed 89 AddressOf (named_x 90)) NoExpressions)))))
+          (Execute
+          (Statement.Run (Expression.Assign (Expression.Suffixed (named_y 100) (Dot (name_at 102 next_name) (Arrow (name_at 108 a_name) NoSuffixes)))
+          (Expression.Number 112 5 false)))
+          (Execute
+          (Statement.Run (Expression.Assign (Expression.Prefixed 120 Dereference (Expression.Suffixed (named_y 121) (Dot (name_at 123 next_name) NoSuffixes)))
+          (named_y 130)))
+          (Execute
+          (Statement.Return 140 (Some (Expression.Suffixed (named_x 147) (Dot (name_at 149 next_name) (Arrow (name_at 155 a_name) NoSuffixes)))))
+          NoItems)));
+      end = 170;
+    })
+    ∷ []
+
+no_faults : program_faults structures copied ≡ []
+no_faults = refl
+
+no_head_faults : heads_faults copied ≡ []
+no_head_faults = refl
+
+-- it ends with 7: what x points to is x, which has become y
+its_ending : (source copied [] 5).ending ≡ SourceEnding.Ended 7
+its_ending = refl

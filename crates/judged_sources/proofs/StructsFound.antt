@@ -1,0 +1,140 @@
+-- The structs of a program in which no tag is at fault: its tables have each of them under its name, and nothing else under it.
+use Rattle.std.proofs.Common.{◌≡◌, ◌≤◌, ℕ, suc, Bool, true, false, Some, List, [], ◌∷◌, refl, sym, subst, ap, ◌∙◌, arith}
+use Rattle.std.specs.Prelude.{◌+◌, ◌||◌, bytes_eq, codes, if◌then◌else◌, length}
+use Rattle.std.proofs.lemmas.Bool.{false≢true}
+use Rattle.std.proofs.lemmas.Slice.Eq.{bytes_eq-Decides}
+use Rattle.cyc_tree.specs.Tree as tree
+use Rattle.cyc_tree.specs.Tree.{Item, Program}
+use Rattle.source_meaning.specs.Programs.{layout_of, structs_from, world_of}
+use Rattle.source_meaning.specs.Shapes.{Layout, has_tag}
+use Rattle.source_safety.specs.Judged.{structures}
+use Rattle.source_typing.specs.Functions.{head_of}
+use Rattle.source_typing.specs.Globals.{global_entry}
+use Rattle.source_typing.specs.Programs.{Judged, all_tag_faults, bare_from, builtins, entries, entries_with, judged_tags}
+use Rattle.source_typing.specs.Programs.{second_names, tables_of}
+use Rattle.source_typing.specs.Scope.{at_item}
+use Rattle.source_typing.specs.Tables.{Named, OfBuiltin, OfFunction, OfTag, Signature, Tables, Tag, find}
+use Rattle.source_typing.specs.Taken.{only_taken}
+use Rattle.judged_sources.proofs.Named.{AreNamed, builtins_known}
+use Rattle.judged_sources.proofs.TagOrder.{AreSorted, all_sorted, bare_known, first_alike}
+use Rattle.judged_sources.proofs.Tags.{StructsFound, behind_builtins, first_tables, judged_list, tags_are}
+use Rattle.judged_sources.proofs.StructTags.{Outcome, Unseen, all_steps, in_tables}
+
+-- tags that are found among the items
+record TagHere (x : List ℕ) (t : Tag) (is : List Item) : Type 0 where
+  text : t.text ≡ x
+  laid_out : (found : List Layout) → has_tag (structs_from is found) x ≡ true
+
+tag_stays : (is : List Item) (found : List Layout) (x : List ℕ) → has_tag found x ≡ true → has_tag (structs_from is found) x ≡ true
+tag_stays [] found x e = e
+tag_stays (tree.StructItem s ∷ is) found x e = tag_stays is (layout_of s ∷ found) x (by (bytes_eq s.tag.text x))
+  where
+    by : (c : Bool) → (if c then true else has_tag found x) ≡ true
+    by true = refl
+    by false = e
+tag_stays (tree.UnionItem s ∷ is) found x e = tag_stays is found x e
+tag_stays (tree.GlobalItem y ∷ is) found x e = tag_stays is found x e
+tag_stays (tree.FunctionItem f ∷ is) found x e = tag_stays is found x e
+
+tag_here : (hs : Tables) (i : ℕ) (js : List Judged) (is : List Item) (x : List ℕ) (t : Tag) → AreNamed js is
+    → find (entries_with false hs i js is) x ≡ Some (OfTag t) → TagHere x t is
+tag_here hs i [] is x t n e = absurd cc
+tag_here hs i (j ∷ js) [] x t n e = absurd cc
+tag_here hs i (j ∷ js) (tree.StructItem s ∷ is) x t n e = by (bytes_eq s.tag.text x) refl (λ q. tag_here hs (suc i) js is x t n.1 q) e
+  where
+    same : j.entry.entry ≡ OfTag t → n.0.tag ≡ t
+    same q = let z : OfTag n.0.tag ≡ OfTag t = sym (ap (λ (m : Named). m.entry) n.0.is) ∙ q in cc
+
+    by : (c : Bool) → bytes_eq s.tag.text x ≡ c → (find (entries_with false hs (suc i) js is) x ≡ Some (OfTag t) → TagHere x t is)
+        → (if c then Some j.entry.entry else find (entries_with false hs (suc i) js is) x) ≡ Some (OfTag t) → TagHere x t (tree.StructItem s ∷ is)
+    by true q others p = record {
+      text = sym (ap (λ (z : Tag). z.text) (same cc)) ∙ (n.0.text ∙ (bytes_eq-Decides s.tag.text x).0 q);
+      laid_out = λ found. tag_stays is (layout_of s ∷ found) x (ap (λ (c : Bool). if c then true else has_tag found x) q);
+    }
+    by false q others p = let r : TagHere x t is = others p in record { text = r.text; laid_out = λ found. r.laid_out (layout_of s ∷ found) }
+tag_here hs i (j ∷ js) (tree.UnionItem s ∷ is) x t n e = absurd n.0
+tag_here hs i (j ∷ js) (tree.GlobalItem y ∷ is) x t n e =
+    let r : TagHere x t is = by (bytes_eq y.name.text x) (λ q. tag_here hs (suc i) js is x t n.1 q) e in record { text = r.text; laid_out = r.laid_out }
+  where
+    by : (c : Bool) → (find (entries_with false hs (suc i) js is) x ≡ Some (OfTag t) → TagHere x t is)
+        → (if c then Some (global_entry (at_item false hs i) y) else find (entries_with false hs (suc i) js is) x) ≡ Some (OfTag t) → TagHere x t is
+    by true others p = absurd cc
+    by false others p = others p
+tag_here hs i (j ∷ js) (tree.FunctionItem f ∷ is) x t n e =
+    let r : TagHere x t is = by (bytes_eq f.name.text x) (λ q. tag_here hs (suc i) js is x t n.1 q) e in record { text = r.text; laid_out = r.laid_out }
+  where
+    by : (c : Bool) → (find (entries_with false hs (suc i) js is) x ≡ Some (OfTag t) → TagHere x t is)
+        → (if c then Some (OfFunction (head_of false hs f).signature) else find (entries_with false hs (suc i) js is) x) ≡ Some (OfTag t) → TagHere x t is
+    by true others p = absurd cc
+    by false others p = others p
+
+entries_count : (hs : Tables) (i : ℕ) (js : List Judged) (is : List Item) → AreNamed js is → length (entries_with false hs i js is) ≡ length is
+entries_count hs i [] [] n = refl
+entries_count hs i [] (x ∷ is) n = absurd n
+entries_count hs i (j ∷ js) [] n = absurd n
+entries_count hs i (j ∷ js) (x ∷ is) n = ap (λ c. suc c) (entries_count hs (suc i) js is n.1)
+
+-- the two functions that every program has are seen from the start
+builtins_unseen : (g : Tables) → Unseen (builtins g) (codes "getchar" ∷ codes "putchar" ∷ []) g
+builtins_unseen g x e = by (bytes_eq (codes "getchar") x) (bytes_eq (codes "putchar") x) e
+  where
+    by : (a c : Bool) → a || (c || false) ≡ false → (if a then Some (OfBuiltin 0) else (if c then Some (OfBuiltin 1) else find g x)) ≡ find g x
+    by true c p = absurd cc
+    by false true p = absurd cc
+    by false false p = refl
+
+module _ (p : Program) (t : only_taken structures p ≡ p) (clean : all_tag_faults (judged_tags p) ≡ [])
+    (names : second_names (codes "getchar" ∷ codes "putchar" ∷ []) p ≡ [])
+  where
+    abbrev heads_tables : Tables
+    heads_tables = builtins (entries (judged_tags p))
+
+    list_clean : all_tag_faults (judged_list (first_tables p) 0 [] p) ≡ []
+    list_clean = subst (λ (js : List Judged). all_tag_faults js ≡ []) (tags_are p) clean
+
+    sorted : AreSorted p
+    sorted = all_sorted (first_tables p) 0 [] p t list_clean
+
+    outcome : Outcome (tables_of false p) (judged_list (first_tables p) 0 [] p) p [] (0 + length p)
+    outcome =
+        all_steps (tables_of false p) (bare_from 0 p) heads_tables (builtins_known (bare_from 0 p) (bare_known 0 p sorted)) 0 [] p [] []
+        (codes "getchar" ∷ codes "putchar" ∷ []) sorted (first_alike (first_tables p) 0 p) tt list_clean names
+        (subst (λ (js : List Judged). Unseen (tables_of false p) (codes "getchar" ∷ codes "putchar" ∷ []) (entries_with false heads_tables 0 js p)) (tags_are p)
+        (builtins_unseen (entries_with false heads_tables 0 (judged_tags p) p))) (record {
+          known = λ x. tt;
+          declared = λ x u e. absurd cc;
+          in_order = tt;
+          laid_out = tt;
+          in_tables = tt;
+          seen_all = λ x e. absurd (false≢true e);
+          few = omega arith;
+        })
+
+    its_names : AreNamed (judged_tags p) p
+    its_names = subst (λ (js : List Judged). AreNamed js p) (sym (tags_are p)) outcome.named
+
+    here : (x : List ℕ) (u : Tag) → find (tables_of false p) x ≡ Some (OfTag u) → TagHere x u p
+    here x u e =
+        tag_here heads_tables 0 (judged_tags p) p x u its_names (behind_builtins (entries_with false heads_tables 0 (judged_tags p) p) x u e)
+
+    -- what its tables have under the names of its structs
+    pub structs_found : StructsFound p
+    structs_found = record {
+      named = its_names;
+      structs = record {
+        types = outcome.types;
+        in_order = outcome.in_order;
+        laid_out = outcome.laid_out;
+        few = let l : length outcome.types ≤ 0 + length p = outcome.few in
+            let c : length (entries_with false heads_tables 0 (judged_tags p) p) ≡ length p = entries_count heads_tables 0 (judged_tags p) p its_names in
+            omega (arith, l, c);
+      };
+      there = λ x u e. (here x u e).laid_out [];
+      texts = λ x u e. (here x u e).text;
+      not_made = λ x s e. by x s e (has_tag (world_of p).structs x) (λ q. in_tables (tables_of false p) (world_of p).structs x outcome.in_tables q);
+    }
+      where
+        by : (x : List ℕ) (s : Signature) → find (tables_of false p) x ≡ Some (OfFunction s) → (c : Bool)
+            → (c ≡ true → (u : Tag) × (find (tables_of false p) x ≡ Some (OfTag u))) → c ≡ false
+        by x s e true k = absurd (let z : (u : Tag) × (find (tables_of false p) x ≡ Some (OfTag u)) = k refl in let y : Some (OfFunction s) ≡ Some (OfTag z.0) = sym e ∙ z.1 in cc)
+        by x s e false k = refl

@@ -71,7 +71,7 @@ fault_same as_is (variant.Wrong f) = refl
 fault_same as_is variant.NotJudged = refl
 fault_same as_is (variant.Of v) = refl
 
-wrong_same : {T A : Type 0} (as_is : T → A) (o : Option found.Fault) → short_of as_is (wrong_if o) ≡ short_wrong (faults_of o)
+pub wrong_same : {T A : Type 0} (as_is : T → A) (o : Option found.Fault) → short_of as_is (wrong_if o) ≡ short_wrong (faults_of o)
 wrong_same as_is None = refl
 wrong_same as_is (Some f) = refl
 

@@ -2,7 +2,9 @@
 #![tactic(auto)]
 
 mod fault;
+mod taken;
 mod verdict;
 
 pub use fault::{Fault, FaultKind, sooner};
+pub use taken::Taken;
 pub use verdict::Verdict;

@@ -1,3 +1,4 @@
 pub mod MissingRegions
 pub mod Pointers
 pub mod Parameters
+pub mod Structs

@@ -34,6 +34,7 @@ use Rattle.type_verdicts.specs.Faults.{fault_of, faults_of, first_of, sooner_fou
 use Rattle.type_verdicts.specs.Verdicts.{Wrong, shortened}
 use Rattle.type_verdicts.specs.declared.fault.Fault.{Fault}
 use Rattle.written_types.specs.Reading.{can_lead, found_of, led, listed, made, plain_of, pointer_spots, pointer_taken, pointer_trees, taken_base}
+use Rattle.written_types.specs.Tagged.{pointed_on, pointers_found}
 use Rattle.written_types.specs.Written.{partial_to, partial_under}
 use Rattle.written_types.specs.declared.layer.WrittenLayer.{WrittenLayer}
 use Rattle.written_types.specs.declared.layer.WrittenLayer.TheVariants as code
@@ -247,25 +248,22 @@ module _ (g : Tables) (names : List RegionNamed) (t : TypeName) where
   written_refused e = sym (ap (λ u. shortened (written g names u)) (not_taken t e))
 
   module _ (b : PartialType) (e : taken_base t ≡ Some b) where
-    abbrev found_all : List Found × List rules.Fault
-    found_all = all_found names (map (λ q. spot true q.region) t.pointers)
-
-    written_is : unless_faulty found_all.1 (type_built t.at (pointers_to t.pointers found_all.0 (Some b))) ≡ written g names (type_taken thin_pointers t)
+    pub written_is : pointed_on names t b ≡ written g names (type_taken thin_pointers t)
     written_is =
-        sym (taken_built g t b found_all (base_taken t b e))
+        sym (taken_built g t b (pointers_found names t) (base_taken t b e))
         ∙ ap (λ ss. written_with g t (all_found names ss)) (sym (spots_taken g t b (base_taken t b e)))
         ∙ sym (ap (λ u. written g names u) (is_taken t b e))
 
-    pub written_wrong : (f : rules.Fault) → earliest found_all.1 ≡ Some f → Wrong f ≡ shortened (written g names (type_taken thin_pointers t))
-    written_wrong f h =
-        sym (shortened_faulty found_all.1 (type_built t.at (pointers_to t.pointers found_all.0 (Some b))) f h) ∙ ap (λ v. shortened v) written_is
+module _ (names : List RegionNamed) (t : TypeName) (b : PartialType) where
+  pub pointed_wrong : (f : rules.Fault) → earliest (pointers_found names t).1 ≡ Some f → Wrong f ≡ shortened (pointed_on names t b)
+  pointed_wrong f h = sym (shortened_faulty (pointers_found names t).1 (type_built t.at (pointers_to t.pointers (pointers_found names t).0 (Some b))) f h)
 
-    pub written_right : (ls : List WrittenLayer) → earliest found_all.1 ≡ None → pointers_to t.pointers found_all.0 (Some b) ≡ led (can_lead b) b ls
-        → shortened (type_built t.at (led (can_lead b) b ls)) ≡ shortened (written g names (type_taken thin_pointers t))
-    written_right ls h k =
-        ap (λ o. shortened (type_built t.at o)) (sym k)
-        ∙ sym (shortened_unless found_all.1 (type_built t.at (pointers_to t.pointers found_all.0 (Some b))) h)
-        ∙ ap (λ v. shortened v) written_is
+  pub pointed_right : (ls : List WrittenLayer) → earliest (pointers_found names t).1 ≡ None
+      → pointers_to t.pointers (pointers_found names t).0 (Some b) ≡ led (can_lead b) b ls
+      → shortened (type_built t.at (led (can_lead b) b ls)) ≡ shortened (pointed_on names t b)
+  pointed_right ls h k =
+      ap (λ o. shortened (type_built t.at o)) (sym k)
+      ∙ sym (shortened_unless (pointers_found names t).1 (type_built t.at (pointers_to t.pointers (pointers_found names t).0 (Some b))) h)
 
 -- ---- missing regions
 

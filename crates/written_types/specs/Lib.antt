@@ -2,3 +2,4 @@ pub mod Settling
 pub mod Reading
 pub mod Written
 pub mod Parameters
+pub mod Tagged

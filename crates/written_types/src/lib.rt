@@ -1,17 +1,21 @@
 //! Types as a text writes them, and what they are once their missing regions are found.
 //!
-//! What is said of them are the definitions of `source_typing`, on which it stands, where integers and thin pointers are taken:
-//! a function here answers the verdict that the rules have.
+//! What is said of them are the definitions of `source_typing`, on which it stands, where integers and thin pointers are taken,
+//! and structs without region parameters where they may be (`Taken`): a function here answers the verdict that the rules have.
 #![tactic(auto)]
 
 mod heading;
 mod layer;
 mod reading;
 mod settling;
+mod tagged;
 mod variables;
 
 pub use heading::{result_type, settled_alone};
 pub use layer::WrittenLayer;
 pub use reading::{misses_region, takes_type, written};
 pub use settling::{WrittenLayers, WrittenType, settled};
+pub use tagged::{
+    TagName, misses_region_in, result_type_in, struct_tag, takes_type_in, written_in,
+};
 pub use variables::RegionVariables;

@@ -12,6 +12,7 @@ ghost use Rattle.source_typing.specs.Written.{all_found, any_missing, found_by, 
 ghost use Rattle.type_verdicts.specs.Faults.{faults_of};
 ghost use Rattle.type_verdicts.specs.Verdicts.{short_of, shortened};
 ghost use Rattle.written_types.specs.Reading.{can_lead, found_of, led, listed, made, plain_of, pointer_spots, pointer_taken, pointer_trees, taken_base};
+ghost use Rattle.written_types.specs.Tagged.{pointed_on};
 ghost use Rattle.written_types.specs.Written.{partial_base, partial_to, partial_type};
 
 use crate::layer::WrittenLayer;
@@ -45,7 +46,7 @@ fn takes_pointer(pointer: &Pointer) -> bool
 
 /// Whether each pointer is taken.
 #[tactic(auto, using(crate::proofs::Pointers::all_taken))]
-fn takes_pointers(pointers: &[Pointer]) -> bool
+pub(crate) fn takes_pointers(pointers: &[Pointer]) -> bool
     ensures { result ≡ takes_pointers thin_pointers (pointer_trees pointers.now) }
 {
     takes_each(pointers)
@@ -141,7 +142,7 @@ fn region_fault(names: &RegionNames<'_>, region: &Option<RegionName>) -> Option<
 }
 
 /// The earliest fault of the pointers' regions.
-fn regions_fault(names: &RegionNames<'_>, pointers: &[Pointer]) -> Option<Fault>
+pub(crate) fn regions_fault(names: &RegionNames<'_>, pointers: &[Pointer]) -> Option<Fault>
     ensures { faults_of result ≡ earliest (all_found names.now (pointer_spots pointers.now)).1 }
 {
     let mut found = None;
@@ -183,7 +184,7 @@ pub fn takes_type(of: &TypeName) -> bool
 }
 
 /// Whether a region is missing in one of the pointers.
-fn any_misses(pointers: &[Pointer]) -> bool
+pub(crate) fn any_misses(pointers: &[Pointer]) -> bool
     ensures { result ≡ list_any (λ p. is_none (pointer_tree p).region) pointers.now }
 {
     pointers.iter().any(|pointer| pointer.region.is_none())
@@ -200,6 +201,25 @@ pub fn misses_region(of: &TypeName) -> bool
     }
 }
 
+/// The pointers of a type on a base.
+pub(crate) fn pointers_on<'p>(
+    alloc: Global,
+    names: &RegionNames<'_>,
+    of: &TypeName,
+    base: BaseType<'p>,
+) -> Result<Verdict<WrittenType<'p>>, AllocError>
+    ensures { takes_pointers thin_pointers (type_tree of.now).pointers ≡ true → IfOk result (λ v. short_of partial_type v
+        ≡ shortened (pointed_on names.now (type_tree of.now) (partial_base base.entry))) }
+{
+    match regions_fault(names, &of.pointers) {
+        Some(fault) => Ok(Verdict::Wrong(fault)),
+        None => {
+            let layers = named_layers(alloc, names, &of.pointers)?;
+            Ok(built(of.at, base, layers))
+        }
+    }
+}
+
 /// A type of this base, which is taken.
 fn on_base<'p>(
     alloc: Global,
@@ -210,13 +230,8 @@ fn on_base<'p>(
     ensures { (g : Tables) → taken_base (type_tree of.now) ≡ Some (partial_base base.entry) → IfOk result (λ v. short_of partial_type v
         ≡ shortened (written g names.now (type_taken thin_pointers (type_tree of.now)))) }
 {
-    match regions_fault(names, &of.pointers) {
-        Some(fault) => Ok(Verdict::Wrong(fault)),
-        None => {
-            let layers = named_layers(alloc, names, &of.pointers)?;
-            Ok(built(of.at, base, layers))
-        }
-    }
+    let pointed = pointers_on(alloc, names, of, base)?;
+    Ok(pointed)
 }
 
 /// A type as a text writes it. One that isn't taken is at fault at its first token; an unknown region name is at fault at the name,

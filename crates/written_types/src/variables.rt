@@ -1,7 +1,7 @@
 // The region variables of a function's head.
 
 ghost use Rattle.std.specs.Prelude.{◌≡◌, IfOk, None, OnErr, OnOk, Some, [], is_none, option_map, suc, true};
-ghost use Rattle.cyc_tree.specs.Tree.{Named};
+ghost use Rattle.cyc_tree.specs.Tree.{Named, Struct};
 ghost use Rattle.cyc_tree.specs.View.{name_tree, region_tree, type_tree};
 ghost use Rattle.cyc_types.specs.Regions.{region_of};
 ghost use Rattle.cyc_types.specs.Types.{static_type};
@@ -11,21 +11,24 @@ ghost use Rattle.source_typing.specs.Tables.{Tables};
 ghost use Rattle.source_typing.specs.Taken.{refused_type, takes_pointers, takes_region, thin_pointers};
 ghost use Rattle.source_typing.specs.Types.{PartialType};
 ghost use Rattle.source_typing.specs.Written.{Is, find_region, pointers_to, spots_of, type_built};
+ghost use Rattle.type_verdicts.specs.Taken.{taken_of};
 ghost use Rattle.type_verdicts.specs.Verdicts.{short_of, shortened};
 ghost use Rattle.written_types.specs.Parameters.{as_parameter, parameter_in, refused_at, spotted_in};
 ghost use Rattle.written_types.specs.Reading.{can_lead, led, pointer_spots, pointer_trees, taken_base};
+ghost use Rattle.written_types.specs.Tagged.{IsNamed, TagIs, parameter_by, spotted_by};
 ghost use Rattle.written_types.specs.Written.{partial_base};
 
 use crate::heading::{fitting, settled_alone};
 use crate::reading::{built, layer_of, taken_base};
 use crate::settling::WrittenLayers;
+use crate::tagged::{TagName, named_struct, struct_tag};
 use cyc_tree::{Name, Pointer, RegionName, TypeName};
 use cyc_types::{BaseType, CType, RegionId};
 use scoped_types::RegionNames;
 use smallvec::SmallVec;
 use std::alloc::{AllocError, Global};
 use std::marker::Model;
-use type_verdicts::{Fault, FaultKind, Verdict};
+use type_verdicts::{Fault, FaultKind, Taken, Verdict};
 
 /// The region variables of a head while its parameters are read: those with names, and how many there are.
 #[derive(Drop)]
@@ -195,6 +198,59 @@ impl<'p> RegionVariables<'p> {
         match taken_base(of) {
             Some(base) => self.on_base(alloc, of, base),
             None => self.refused(of.at),
+        }
+    }
+
+    /// The type of a parameter of pointers to a struct, which is taken, by what its tag means.
+    fn on_struct(
+        &mut self,
+        alloc: Global,
+        tag: TagName,
+        of: &'p TypeName,
+        name: &'p Name,
+    ) -> Result<Verdict<CType<'p>>, AllocError>
+        ensures found { (g : Tables) → IsNamed g name.entry.now.text.items tag → (type_tree of.entry.now).base ≡ Struct (name_tree name.entry.now) []
+            → takes_pointers thin_pointers (type_tree of.entry.now).pointers ≡ true
+            → IfOk result (λ v. short_of static_type v
+            ≡ shortened (parameter_type g (type_tree of.entry.now) (take_spots self.old (spots_of g (type_tree of.entry.now))))) }
+        ensures after { (g : Tables) → IsNamed g name.entry.now.text.items tag → (type_tree of.entry.now).base ≡ Struct (name_tree name.entry.now) []
+            → takes_pointers thin_pointers (type_tree of.entry.now).pointers ≡ true
+            → OnOk result (self.new ≡ (take_spots self.old (spots_of g (type_tree of.entry.now))).after_all) }
+    {
+        let layers = self.take_layers(alloc, &of.pointers)?;
+        match named_struct(tag, name.at) {
+            Verdict::Of(_) => {
+                let base = BaseType::Struct(&name.text, SmallVec::new(alloc));
+                let parameter = parameter_of(of.at, base, layers)?;
+                Ok(parameter)
+            }
+            Verdict::Wrong(fault) => Ok(Verdict::Wrong(fault)),
+            Verdict::NotJudged => Ok(Verdict::NotJudged),
+        }
+    }
+
+    /// The type of a parameter, where structs may be taken: the tag of a struct means this. Fails only where no host memory is left.
+    pub fn parameter_in(
+        &mut self,
+        alloc: Global,
+        taken: Taken,
+        tag: TagName,
+        of: &'p TypeName,
+    ) -> Result<Verdict<CType<'p>>, AllocError>
+        ensures found { (g : Tables) → TagIs (taken_of taken) g (type_tree of.entry.now) tag → IfOk result (λ v. short_of static_type v
+            ≡ shortened (parameter_by (taken_of taken) g self.old (type_tree of.entry.now))) }
+        ensures after { (g : Tables) → TagIs (taken_of taken) g (type_tree of.entry.now) tag
+            → OnOk result (self.new ≡ (spotted_by (taken_of taken) g self.old (type_tree of.entry.now)).after_all) }
+    {
+        match struct_tag(taken, of) {
+            Some(name) => {
+                let parameter = self.on_struct(alloc, tag, of, name)?;
+                Ok(parameter)
+            }
+            None => {
+                let parameter = self.parameter(alloc, of)?;
+                Ok(parameter)
+            }
         }
     }
 

@@ -1,27 +1,12 @@
-use Rattle.std.proofs.Common.{◌≡◌, ap, sym, true, ◌∙◌}
-use Rattle.std.specs.Prelude.{None, Option, Some}
+use Rattle.std.proofs.Common.{ap, ◌∙◌}
 use Rattle.cyc_tree.specs.View.{type_tree}
-use Rattle.source_typing.specs.Faults.{earliest}
-use Rattle.source_typing.specs.Taken.{takes_pointers, thin_pointers}
-use Rattle.source_typing.specs.Written.{all_found, pointers_to}
-use Rattle.type_verdicts.specs.Faults.{faults_of}
-use Rattle.written_types.specs.Reading.{pointer_spots, pointer_trees}
+use Rattle.type_verdicts.specs.Verdicts.{shortened}
 use Rattle.written_types.specs.Written.{partial_base}
-use Rattle.written_types.proofs.Pointers.{pointers_taken, written_right}
-use Rattle.source_typing.specs.Faults as rules
+use Rattle.written_types.proofs.Pointers.{pointers_taken, written_is}
 use Rattle.written_types.proofs.reading.on_base.Goals as goal
 
 pub returns : goal.returns
 returns c g h =
-    let names = c.args.names.now in
     let t = type_tree c.args.of.now in
     let b = partial_base c.args.base in
-    let none : Option rules.Fault = None in
-    let clean : earliest (all_found names (pointer_spots c.args.of.now.pointers.items)).1 ≡ none =
-    sym (c.regions_fault.ensures ∙ ap (λ ps. earliest (all_found names (pointer_spots ps)).1) c.deref.ensures.value) ∙ ap faults_of c.in-None.is in
-    let taken : takes_pointers thin_pointers (pointer_trees c.deref-in-None.result.now) ≡ true =
-    ap (λ ps. takes_pointers thin_pointers (pointer_trees ps)) c.deref-in-None.ensures.value ∙ pointers_taken t b h in
-    c.built.ensures
-    ∙ written_right g names t b h c.in_ok-layers-in-None.layers.items clean
-    (sym (ap (λ ps. pointers_to (pointer_trees ps) (all_found names (pointer_spots ps)).0 (Some b)) c.deref-in-None.ensures.value)
-    ∙ c.in_ok-layers-in-None.ensures b taken)
+    c.in_ok-pointed.ensures (pointers_taken t b h) ∙ ap (λ v. shortened v) (written_is g c.args.names.now t b h)

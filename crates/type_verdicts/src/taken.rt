@@ -1,0 +1,21 @@
+// Which forms are taken.
+
+ghost use Rattle.std.specs.Prelude.{◌≡◌};
+ghost use Rattle.source_typing.specs.Taken.{thin_pointers};
+ghost use Rattle.type_verdicts.specs.Taken.{taken_of};
+
+/// Which forms of the language are taken beside integers and thin pointers.
+#[derive(Clone, Copy, Debug)]
+pub struct Taken {
+    /// Structs without region parameters, and their members.
+    pub structs: bool,
+}
+
+impl Taken {
+    /// Integers and thin pointers alone.
+    pub fn thin_pointers() -> Taken
+        ensures { taken_of result ≡ thin_pointers }
+    {
+        Taken { structs: false }
+    }
+}

@@ -6,4 +6,3 @@ pub mod Found
 pub mod Holding
 pub mod Paired
 pub mod Places
-pub mod Renamed

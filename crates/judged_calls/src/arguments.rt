@@ -16,9 +16,8 @@ ghost use Rattle.judged_calls.specs.Fixings.{fixings_of, which_are_known};
 
 use crate::fixing::{Fixing, fixings_fault, fixings_for, regions_by};
 use crate::known::is_known_type;
-use crate::renaming::renamed_type;
 use cyc_types::{CType, RegionId};
-use judged_values::{Value, converted};
+use judged_values::{Value, converted, renamed_type};
 use scoped_names::Scope;
 use std::alloc::{AllocError, Global};
 use type_verdicts::{Fault, FaultKind, Verdict, sooner};

@@ -20,10 +20,9 @@ ghost use Rattle.judged_calls.specs.Targets.{target_of};
 ghost use Rattle.source_typing.specs.Verdicts as verdict;
 
 use crate::arguments::arguments_fit;
-use crate::renaming::{argument, renamed_type};
 use crate::target::Target;
 use cyc_types::{BaseType, CType, RegionId};
-use judged_values::{Seat, Value};
+use judged_values::{Seat, Value, argument, renamed_type};
 use scoped_names::{Scope, Signature};
 use std::alloc::{AllocError, Global};
 use type_verdicts::{Fault, FaultKind, Verdict};

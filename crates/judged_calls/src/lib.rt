@@ -7,7 +7,6 @@ mod arguments;
 mod call;
 mod fixing;
 mod known;
-mod renaming;
 mod target;
 
 pub use call::called;

@@ -1,4 +1,5 @@
 pub mod Operating
 pub mod Pointers
+pub mod StructMembers
 pub mod TypeKinds
 pub mod Values

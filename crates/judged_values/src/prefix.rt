@@ -19,7 +19,7 @@ use std::alloc::{AllocError, Global};
 use type_verdicts::{FaultKind, Verdict};
 
 /// Whether the region of a pointer is live; a unique pointer's is judged by flow.
-fn is_reached(scope: &Scope, pointer: Layer) -> bool
+pub(crate) fn is_reached(scope: &Scope, pointer: Layer) -> bool
     ensures { (g : Env) → Knows scope.now g → result ≡ is_reached g pointer }
 {
     match pointer {
@@ -29,7 +29,7 @@ fn is_reached(scope: &Scope, pointer: Layer) -> bool
 }
 
 /// Where that is to which a pointer leads.
-fn seat_behind(pointer: Layer) -> Seat
+pub(crate) fn seat_behind(pointer: Layer) -> Seat
     ensures { seat_of result ≡ seat_behind pointer }
 {
     match pointer {

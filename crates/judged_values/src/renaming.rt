@@ -1,4 +1,4 @@
-// Types of a signature with regions in place of its variables.
+// Types with regions in place of variables: those of a signature, or of the parameters of a struct.
 
 ghost use Rattle.std.specs.Prelude.{◌≡◌, IfOk, map};
 ghost use Rattle.cyc_types.specs.Bases.{base_type};
@@ -12,9 +12,9 @@ use cyc_types::{BaseType, CType, Layer, Layers, RegionArguments, RegionId};
 use smallvec::SmallVec;
 use std::alloc::AllocError;
 
-/// A region of a signature, where its variables stand for these.
+/// A region of a signature, where its variables stand for these; and of a struct, whose arguments these are.
 #[tactic(auto, using(crate::proofs::Renamed::argument_some, crate::proofs::Renamed::argument_none))]
-pub(crate) fn argument(regions: &[RegionId], region: RegionId) -> RegionId
+pub fn argument(regions: &[RegionId], region: RegionId) -> RegionId
     ensures { region_of result ≡ argument (regions_of regions.now) (region_of region) }
 {
     match region {
@@ -83,11 +83,8 @@ fn renamed_pointers(regions: &[RegionId], of: &Layers) -> Result<Layers, AllocEr
     Ok(all)
 }
 
-/// A type of a signature, where its variables stand for these regions. Fails only where no host memory is left.
-pub(crate) fn renamed_type<'p>(
-    regions: &[RegionId],
-    of: &CType<'p>,
-) -> Result<CType<'p>, AllocError>
+/// A type of a signature, where its variables stand for these regions, or of a struct, whose arguments these are. Fails only where no host memory is left.
+pub fn renamed_type<'p>(regions: &[RegionId], of: &CType<'p>) -> Result<CType<'p>, AllocError>
     ensures { IfOk result (λ t. static_type t ≡ renamed (argument (regions_of regions.now)) (static_type of.now)) }
 {
     let base = renamed_base(regions, &of.base)?;

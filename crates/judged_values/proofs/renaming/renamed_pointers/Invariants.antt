@@ -3,7 +3,7 @@ use Rattle.cyc_types.specs.Layers.{pointed}
 use Rattle.cyc_types.specs.Regions.{regions_of}
 use Rattle.source_typing.specs.Tables.{argument}
 use Rattle.source_typing.specs.Types.{StaticType, renamed}
-use Rattle.judged_calls.proofs.renaming.renamed_pointers.Given as goal
+use Rattle.judged_values.proofs.renaming.renamed_pointers.Given as goal
 
 -- those so far
 abbrev pub invariant-each : goal.invariant-each

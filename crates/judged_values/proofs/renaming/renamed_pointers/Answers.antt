@@ -3,8 +3,8 @@ use Rattle.cyc_types.specs.Layers.{pointed}
 use Rattle.cyc_types.specs.Regions.{regions_of}
 use Rattle.source_typing.specs.Tables.{argument}
 use Rattle.source_typing.specs.Types.{renamed}
-use Rattle.judged_calls.proofs.Renamed.{more_pointers}
-use Rattle.judged_calls.proofs.renaming.renamed_pointers.Goals as goal
+use Rattle.judged_values.proofs.Renamed.{more_pointers}
+use Rattle.judged_values.proofs.renaming.renamed_pointers.Goals as goal
 
 pub each-preserved : goal.each-preserved
 each-preserved c t =

@@ -1,6 +1,7 @@
 -- All that is promised of a program in which the rules find no fault.
 use Rattle.std.specs.Prelude.{false}
 use Rattle.compiled_sources.specs.Laws.{AllAcceptedDo}
+use Rattle.source_typing.specs.Taken.{thin_pointers}
 use Rattle.judged_sources.proofs.GoodTables.{no_typing_faults}
 use Rattle.judged_sources.proofs.Joined.{lowerable}
 use Rattle.compiled_sources.proofs.LowerableDo.{lowerable_do}
@@ -9,6 +10,6 @@ use Rattle.compiled_sources.proofs.DataWithin.{data_within}
 
 pub accepted_do : AllAcceptedDo
 accepted_do p e = record {
-  promised = lowerable_do p (lowerable p e) (named_apart false p (no_typing_faults p e));
+  promised = lowerable_do p (lowerable p e) (named_apart false p (no_typing_faults thin_pointers p e));
   data_within = data_within p e;
 }

@@ -1,6 +1,6 @@
 -- The data of a program without fault are within the limit on globals and strings: each global takes no more bytes than the rule on sizes counts.
 use Rattle.std.specs.Prelude.{nat_le, not, ◌||◌, bytes_eq, codes, map}
-use Rattle.std.proofs.Common.{◌≡◌, ℕ, suc, ◌+◌, ◌*◌, ◌/◌, ◌%◌, ◌^◌, ◌≤◌, Bool, true, false, List, [], ◌∷◌, ◌++◌, refl, sym, ap, subst, ◌∙◌, arith}
+use Rattle.std.proofs.Common.{◌≡◌, ℕ, suc, ◌+◌, ◌^◌, ◌≤◌, Bool, true, false, List, [], ◌∷◌, ◌++◌, refl, sym, ap, subst, ◌∙◌, arith}
 use Rattle.std.proofs.lemmas.Bool.{leb-true}
 use Rattle.cyc_tree.specs.Tree as tree
 use Rattle.cyc_tree.specs.Tree.{Item, Program}
@@ -9,13 +9,12 @@ use Rattle.source_meaning.specs.Sizes.{rounded_up}
 use Rattle.source_meaning.specs.Programs.{world_of}
 use Rattle.source_meaning.specs.Steps.{World}
 use Rattle.source_meaning.specs.Strings.{item_strings}
-use Rattle.core_meaning.specs.Core.{Datum}
 use Rattle.core_meaning.specs.Memory.{Content}
 use Rattle.core_frames.specs.Selected.{rounded, bytes_of, end_from, datum_local, datum_locals}
 use Rattle.core_frames.specs.Running.{data_end}
 use Rattle.source_lowering.specs.Programs.{data_of, datum_of, initial_content, program_code}
 use Rattle.source_typing.specs.Answers.{program_faults}
-use Rattle.source_typing.specs.Faults.{Fault, name_rule, test}
+use Rattle.source_typing.specs.Faults.{name_rule, test}
 use Rattle.source_typing.specs.Globals.{Static, global_size, if_passed, item_statics, static_string, total_faults}
 use Rattle.source_typing.specs.Programs.{if_first, is_seen, second_names, statics_from, tables_of}
 use Rattle.source_typing.specs.Scope.{at_item}
@@ -24,8 +23,9 @@ use Rattle.source_typing.specs.Taken.{thin_pointers}
 use Rattle.source_typing.specs.Types.{Char, Int, StaticType, Thin, Unsigned, shape_of}
 use Rattle.source_typing.proofs.Inversion.{test_is, none_of_both}
 use Rattle.source_safety.specs.Entries.{IsWordType}
-use Rattle.judged_sources.proofs.Globals.{GlobalGood, global_eight}
-use Rattle.judged_sources.proofs.GoodTables.{AreHeaded, IsClean, is_clean_program, program_headed}
+use Rattle.judged_sources.proofs.GoodTables.{IsClean, is_clean_program}
+use Rattle.judged_sources.proofs.Joined.{globals_are_words}
+use Rattle.judged_sources.proofs.WordGlobals.{AreWordGlobals, WordGlobal}
 
 -- ---- the rule on sizes
 
@@ -77,8 +77,9 @@ word_small w Char c h = omega arith
 word_small w (Thin n r t) c h = omega arith
 word_small w _ c h = absurd h
 
-global_small : (w : World) (x : tree.Global) (c : Content) → GlobalGood x → bytes_of (datum_local (datum_of w (settled (written x.of)) c)) ≤ 4
-global_small w x c h = subst (λ (s : Shape). bytes_of (datum_local (datum_of w s c)) ≤ 4) (sym h.good.shape) (word_small w h.type c h.good.word)
+global_small : (w : World) (g : Tables) (i : ℕ) (x : tree.Global) (c : Content) → WordGlobal g i x
+    → bytes_of (datum_local (datum_of w (settled (written x.of)) c)) ≤ 4
+global_small w g i x c h = subst (λ (s : Shape). bytes_of (datum_local (datum_of w s c)) ≤ 4) (sym h.shape) (word_small w h.type c h.word)
 
 -- an object of at most 4 bytes behind a multiple of 4
 next_rounded : (low so_far bytes : ℕ) → rounded low ≤ so_far → bytes ≤ 4 → rounded (rounded low + bytes) ≤ so_far + 8
@@ -89,7 +90,7 @@ low_rounded low = omega arith
 
 module _ (g : Tables) (w : World) where
   -- from an offset on, where so much was counted before
-  within : (items : List Item) (i low so_far : ℕ) (some seen : List (List ℕ)) → AreSeen some seen → second_names seen items ≡ [] → AreHeaded g items
+  within : (items : List Item) (i low so_far : ℕ) (some seen : List (List ℕ)) → AreSeen some seen → second_names seen items ≡ [] → AreWordGlobals g i items
       → rounded low ≤ so_far → so_far ≤ 1048576 → total_faults so_far (statics_from false g i some items) ≡ []
       → end_from low (datum_locals (data_of w items)) ≤ 1048576
   within [] i low so_far some seen s n a h l e = omega (arith, low_rounded low, h, l)
@@ -107,18 +108,18 @@ module _ (g : Tables) (w : World) where
       let first : not (is_seen some x.name.text) ≡ true = unseen some seen x.name.text s (test_is (not (is_seen seen x.name.text)) name_rule x.name.at names.0) in
       let counted : total_faults so_far (statics ++ rest) ≡ [] = subst (λ b. total_faults so_far (if_first b statics ++ rest) ≡ []) first e in
       let one = first_within so_far x.of.at (rounded_up (global_size (at_item false g i) x) 8) (map static_string (item_strings (tree.GlobalItem x)) ++ rest) counted in
-      let bytes : rounded_up (global_size (at_item false g i) x) 8 ≡ 8 = global_eight g i x a.0 in
+      let bytes : rounded_up (global_size (at_item false g i) x) 8 ≡ 8 = a.0.eight in
       let (next, above, below, none) = skipped (map static_string (item_strings (tree.GlobalItem x))) rest
       (so_far + rounded_up (global_size (at_item false g i) x) 8) one.0 one.1 in
       let c : Content = initial_content x.initial (settled (written x.of)) in
       let size : ℕ = bytes_of (datum_local (datum_of w (settled (written x.of)) c)) in
-      let room = next_rounded low so_far size h (global_small w x c a.0) in
+      let room = next_rounded low so_far size h (global_small w g i x c a.0) in
       within items (suc i) (rounded low + size) next (x.name.text ∷ some) (x.name.text ∷ seen) (one_more some seen x.name.text s) names.1 a.1
       (omega (arith, room, bytes, above)) below none
 
 -- where the rules find no fault, the data end within the limit
 pub data_within : (p : Program) → program_faults thin_pointers p ≡ [] → data_end (program_code p).data_objects ≤ 2 ^ 20
 data_within p e =
-    let clean : IsClean p = is_clean_program p e in
-    within (tables_of false p) (world_of p) p 0 0 0 [] (codes "getchar" ∷ codes "putchar" ∷ []) (λ x f. absurd cc) clean.names (program_headed p clean) (omega arith)
+    let clean : IsClean thin_pointers p = is_clean_program thin_pointers p e in
+    within (tables_of false p) (world_of p) p 0 0 0 [] (codes "getchar" ∷ codes "putchar" ∷ []) (λ x f. absurd cc) clean.names (globals_are_words p e) (omega arith)
     (omega arith) clean.sizes

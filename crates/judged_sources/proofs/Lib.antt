@@ -21,6 +21,7 @@ pub mod LoweredStrings
 pub mod GoodFunctions
 pub mod GoodTables
 pub mod Found
+pub mod WordGlobals
 pub mod Main
 pub mod Programs
 pub mod GoodNames

@@ -53,7 +53,7 @@ use Rattle.judged_sources.proofs.Found.{no_builtin}
 use Rattle.judged_sources.proofs.GoodNames.{MeansGood, found_good}
 use Rattle.judged_sources.proofs.GoodFunctions.{FunctionNamed, function_is, function_judged}
 use Rattle.judged_sources.proofs.GoodTables.{AreHeaded, IsClean, all_headed, entries_length, is_clean_program, tables_good, tables_same}
-use Rattle.judged_sources.proofs.GoodTypes.{KnowsTags}
+use Rattle.judged_sources.proofs.GoodTypes.{KnowsTags, good_tags}
 use Rattle.judged_sources.proofs.Globals.{GlobalTaken, global_taken, thin_faults_same}
 use Rattle.judged_sources.proofs.Heads.{HeadTaken, SameTags, head_same, head_taken, thin_head}
 use Rattle.judged_sources.proofs.Named.{builtins_known, entries_known}
@@ -62,6 +62,7 @@ use Rattle.judged_sources.proofs.Tags.{StructsFound, none_structs}
 use Rattle.judged_sources.proofs.ProgramsMore.{faults_more}
 use Rattle.judged_sources.proofs.TakenMore.{type_more}
 use Rattle.judged_sources.proofs.LoweredStrings.{program_silent}
+use Rattle.judged_sources.proofs.WordGlobals.{AreWordGlobals, word_globals}
 use Rattle.judged_sources.proofs.Main.{MainHere, find_main, number_below}
 
 -- ---- names
@@ -251,6 +252,9 @@ module _ (bodies : BodiesJudged) (p : Program) (e : program_faults structures p 
       let less = number_below world.functions (codes "main") (routine_of f.function) f.found in
       subst (λ (n : ℕ). (program_code p).main < n) (sym (length-map world.functions (function_code world))) less
 
+  words : AreThinItems p → AreWordGlobals tables 0 p
+  words z = word_globals tables 0 p (good_tags 0 tables good) z clean.taken clean.forms clean.items
+
   takes : AreThinItems p → TakesProgram p
   takes z = all_take tables heads 0 (judged_tags p) p known z
 
@@ -329,6 +333,10 @@ module _ (bodies : BodiesJudged) where
 
   pub accepted_have_main : AcceptedHaveMain
   accepted_have_main p e = main_below bodies p (faults_more p e) (thin bodies p e).heads (thin_tags bodies p e)
+
+  pub accepted_globals_are_words : (p : Program) → program_faults thin_pointers p ≡ [] → AreWordGlobals (tables_of false p) 0 p
+  accepted_globals_are_words p e =
+      words bodies p (faults_more p e) (thin bodies p e).heads (thin_tags bodies p e) (thin bodies p e).thin
 
 -- with structs
 pub structs_judged : BodiesJudged → AcceptedStructsAreJudged

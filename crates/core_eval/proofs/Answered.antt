@@ -5,6 +5,7 @@ use Rattle.std.proofs.Common.{
   ℕ,
   zero,
   suc,
+  ◌+◌,
   ◌<◌,
   Bool,
   true,
@@ -29,28 +30,28 @@ use Rattle.std.proofs.Common.{
   subst,
   arith,
 }
-use Rattle.std.specs.declared.vec.Vec.{Vec}
-use Rattle.std.specs.declared.alloc.Global.{Global}
 use Rattle.core_meaning.specs.Memory.{Content}
 use Rattle.core_meaning.specs.Core as core
 use Rattle.core_meaning.specs.Steps as steps
 use Rattle.cyc_core.specs.declared.operation.Operation.{Operation}
 use Rattle.cyc_core.specs.declared.operation.Width.{Width}
-use Rattle.cyc_core.specs.Trees.{operation_tree, bytes_of}
-use Rattle.cyc_core.specs.Trees as trees
+use Rattle.cyc_core.specs.declared.operation.Distance.{Distance}
+use Rattle.cyc_core.specs.Trees.{operation_tree, bytes_of, distance_tree}
 use Rattle.core_eval.specs.declared.value.Value.{Value}
 use Rattle.core_eval.specs.declared.value.Value.TheVariants as value
-use Rattle.core_eval.specs.declared.value.Object.{Object}
+use Rattle.core_eval.specs.declared.value.Place.{Place}
 use Rattle.core_eval.specs.declared.frame.Frame.{Frame}
 use Rattle.core_eval.specs.declared.pending.Due.{Due}
 use Rattle.core_eval.specs.declared.memory.Memory.{Memory}
-use Rattle.core_eval.specs.Values.{content_of, temp_of, put_in}
-use Rattle.core_eval.specs.Blocks.{Activation, Descends, activation_of, position_of, put_through, put_local}
+use Rattle.core_eval.specs.declared.value.Slot.{Slot}
+use Rattle.core_eval.specs.Values.{content_of, temp_of, cells_of, value_of}
+use Rattle.core_eval.specs.Blocks.{Activation, Descends, activation_of, slot_in, put_local, stored_of, put_to}
 use Rattle.core_eval.specs.Pendings.{Task, Execute, Leave, Wait, Next, Go, Wrong, next_of}
 use Rattle.core_eval.specs.Standing.{Known, Gives, known_of}
 use Rattle.core_eval.specs.Costs.{IsMove}
 use Rattle.core_eval.proofs.OperationMoves.{given}
-use Rattle.core_eval.proofs.StoreMoves.{put_moves, put_wrong, store_moves, store_wrong, store_local_moves, store_local_wrong}
+use Rattle.core_eval.proofs.Changes.{with_stored}
+use Rattle.core_eval.proofs.StoreMoves.{put_moves, put_wrong, store_moves, store_wrong}
 
 -- a move to what is said in another way
 pub move_as : (task : Task) (ws : List Wait) (known : Known) (next next' : Next) (ws' : List Wait) (known' known2 : Known) → next' ≡ next → known2 ≡ known'
@@ -110,72 +111,76 @@ set_same [] k x h e = absurd (omega (arith, h))
 set_same (y ∷ xs) zero x h e = ap (λ z. z ∷ xs) e
 set_same (y ∷ xs) (suc k) x h e = ap (λ l. y ∷ l) (set_same xs k x (omega (arith, h)) e)
 
+-- what is read at a distance
+pub value_there : (m : Memory) (p : Place) (d : Distance) (cell byte : ℕ) (slot : Option Slot) (r o : Option Value) → cell ≡ p.cell + d.cells
+    → byte ≡ p.byte + d.bytes
+    → slot ≡ slot_in (map activation_of m.blocks.items) (map cells_of m.globals.items) p.area p.object cell → r ≡ value_of byte d.width slot → r ≡ o
+    → value_of (p.byte + d.bytes) d.width
+    (slot_in (map activation_of m.blocks.items) (map cells_of m.globals.items) p.area p.object (p.cell + d.cells)) ≡ o
+value_there m p d cell byte slot r o further later there read is =
+    ap (λ b. value_of b d.width (slot_in (map activation_of m.blocks.items) (map cells_of m.globals.items) p.area p.object (p.cell + d.cells))) (sym later)
+    ∙ ap (λ k. value_of byte d.width (slot_in (map activation_of m.blocks.items) (map cells_of m.globals.items) p.area p.object k)) (sym further)
+    ∙ ap (value_of byte d.width) (sym there) ∙ sym read ∙ is
+
 -- ---- stores
 
--- what is known after a store to a local
-stored_known : (f : Frame) (m m' : Memory) → m'.entered ≡ m.entered → m'.globals ≡ m.globals
-    → known_of f m' ≡ record (known_of f m) { blocks = map activation_of m'.blocks.items }
-stored_known f m m' entered globals =
-    ap (λ n. record (known_of f m) { blocks = map activation_of m'.blocks.items; entered = n; globals = m'.globals.items }) entered
-    ∙ ap (λ gs. record (known_of f m) { blocks = map activation_of m'.blocks.items; globals = gs.items }) globals
+-- what is known after a store
+stored_known : (f : Frame) (m m' : Memory) → m'.entered ≡ m.entered → known_of f m' ≡ with_stored (known_of f m) (stored_of m')
+stored_known f m m' entered = ap (λ n. record (with_stored (known_of f m) (stored_of m')) { entered = n }) entered
 
-unstored_known : (f : Frame) (m m' : Memory) → m'.blocks.items ≡ m.blocks.items → m'.entered ≡ m.entered → m'.globals ≡ m.globals
-    → known_of f m' ≡ known_of f m
-unstored_known f m m' blocks entered globals =
-    stored_known f m m' entered globals ∙ ap (λ bs. record (known_of f m) { blocks = map activation_of bs }) blocks
+unstored_known : (f : Frame) (m m' : Memory) → stored_of m' ≡ stored_of m → m'.entered ≡ m.entered → known_of f m' ≡ known_of f m
+unstored_known f m m' same entered = stored_known f m m' entered ∙ ap (with_stored (known_of f m)) same
+
+-- what is stored where a block's locals alone changed
+blocks_known : (f : Frame) (m m' : Memory) → m'.entered ≡ m.entered → m'.globals ≡ m.globals
+    → known_of f m' ≡ record (known_of f m) { blocks = map activation_of m'.blocks.items }
+blocks_known f m m' entered globals =
+    stored_known f m m' entered
+    ∙ ap (λ gs. record (known_of f m) { blocks = map activation_of m'.blocks.items; globals = map cells_of gs.items }) globals
 
 -- what a store answers
-abbrev stored_if : Bool → List Activation → Option (List Activation)
-stored_if is_there blocks = (if is_there then Some blocks else None)
+abbrev stored_if : {A : Type 0} → Bool → A → Option A
+stored_if is_there x = (if is_there then Some x else None)
 
-module _ (f : Frame) (m m' : Memory) (x : ℕ) (v : Value) (is_there : Bool) (read : content_of v ≡ temp_of f.temps.items x)
-    (entered : m'.entered ≡ m.entered) (globals : m'.globals ≡ m.globals) (ws : List Wait) where
+module _ (f : Frame) (m m' : Memory) (x : ℕ) (v : Value) (is_there : Bool) (read : content_of v ≡ temp_of f.temps.items x) (entered : m'.entered ≡ m.entered)
+    (ws : List Wait) where
   abbrev blocks_of : Memory → List Activation
   blocks_of m = map activation_of m.blocks.items
 
-  module _ (out i : ℕ) (w : Width) (put : put_local f.base (blocks_of m) out i w v ≡ stored_if is_there (blocks_of m')) where
+  module _ (globals : m'.globals ≡ m.globals) (out i : ℕ) (w : Width)
+      (put : put_local f.base (blocks_of m) out i w v ≡ stored_if is_there (blocks_of m')) where
     pub put_answer : is_there ≡ true
         → IsMove (Execute (core.Do (core.Put out i (bytes_of w) x))) ws (known_of f m) (Go (Leave steps.Falls)) ws (known_of f m')
     put_answer stored =
         move_as _ ws (known_of f m) (Go (Leave steps.Falls)) _ ws (record (known_of f m) { blocks = blocks_of m' }) (known_of f m')
-        refl (stored_known f m m' entered globals)
+        refl (blocks_known f m m' entered globals)
         (put_moves (known_of f m) ws x v read out i w (blocks_of m') (put ∙ ap (λ b. stored_if b (blocks_of m')) stored))
 
-    pub unput_answer : is_there ≡ false → m'.blocks.items ≡ m.blocks.items
+    pub unput_answer : is_there ≡ false → blocks_of m' ≡ blocks_of m
         → IsMove (Execute (core.Do (core.Put out i (bytes_of w) x))) ws (known_of f m) Wrong ws (known_of f m')
     unput_answer missing same =
-        move_as _ ws (known_of f m) Wrong _ ws (known_of f m) (known_of f m') refl (unstored_known f m m' same entered globals)
+        move_as _ ws (known_of f m) Wrong _ ws (known_of f m) (known_of f m') refl
+        (blocks_known f m m' entered globals ∙ ap (λ bs. record (known_of f m) { blocks = bs }) same)
         (put_wrong (known_of f m) ws x v read out i w (put ∙ ap (λ b. stored_if b (blocks_of m')) missing))
 
-  module _ (p k i : ℕ) (w : Width) (place : content_of (value.Local k i) ≡ temp_of f.temps.items p)
-      (put : Descends m.entered (blocks_of m) → put_through (blocks_of m) (position_of (blocks_of m) k) i w v ≡ stored_if is_there (blocks_of m')) where
-    pub store_local_answer : is_there ≡ true
-        → IsMove (Execute (core.Do (core.Store p (trees.at_once w) x))) ws (known_of f m) (Go (Leave steps.Falls)) ws (known_of f m')
-    store_local_answer stored =
-        move_as _ ws (known_of f m) (Go (Leave steps.Falls)) _ ws (record (known_of f m) { blocks = blocks_of m' }) (known_of f m')
-        refl (stored_known f m m' entered globals)
-        (store_local_moves (known_of f m) ws x v read p k i place w (blocks_of m') (λ d. put d ∙ ap (λ b. stored_if b (blocks_of m')) stored))
+  module _ (y : ℕ) (u : Value) (place : content_of u ≡ temp_of f.temps.items y) (p : Place) (is_place : u ≡ value.Pointer p) (d : Distance) (cell byte : ℕ)
+      (further : cell ≡ p.cell + d.cells) (later : byte ≡ p.byte + d.bytes)
+      (put : Descends m.entered (blocks_of m) → put_to (stored_of m) p.area p.object cell byte d.width v ≡ stored_if is_there (stored_of m')) where
+    at_distance : Descends m.entered (blocks_of m)
+        → put_to (stored_of m) p.area p.object (p.cell + d.cells) (p.byte + d.bytes) d.width v ≡ stored_if is_there (stored_of m')
+    at_distance h =
+        ap (λ k. put_to (stored_of m) p.area p.object k (p.byte + d.bytes) d.width v) (sym further)
+        ∙ ap (λ b. put_to (stored_of m) p.area p.object cell b d.width v) (sym later) ∙ put h
 
-    pub unstore_local_answer : is_there ≡ false → m'.blocks.items ≡ m.blocks.items
-        → IsMove (Execute (core.Do (core.Store p (trees.at_once w) x))) ws (known_of f m) Wrong ws (known_of f m')
-    unstore_local_answer missing same =
-        move_as _ ws (known_of f m) Wrong _ ws (known_of f m) (known_of f m') refl (unstored_known f m m' same entered globals)
-        (store_local_wrong (known_of f m) ws x v read p k i place w (λ d. put d ∙ ap (λ b. stored_if b (blocks_of m')) missing))
+    pub store_answer : is_there ≡ true
+        → IsMove (Execute (core.Do (core.Store y (distance_tree d) x))) ws (known_of f m) (Go (Leave steps.Falls)) ws (known_of f m')
+    store_answer stored =
+        move_as _ ws (known_of f m) (Go (Leave steps.Falls)) _ ws (with_stored (known_of f m) (stored_of m')) (known_of f m')
+        refl (stored_known f m m' entered)
+        (store_moves (known_of f m) ws x v read y u place p is_place d (stored_of m') (λ h. at_distance h ∙ ap (λ b. stored_if b (stored_of m')) stored))
 
--- a store to a global
-abbrev with_globals : Memory → Vec Object Global → Memory
-with_globals m globals = record m { globals = globals }
-
-module _ (f : Frame) (m : Memory) (globals : Vec Object Global) (p x g : ℕ) (w : Width) (v : Value) (is_there : Bool)
-    (place : content_of (value.Global g) ≡ temp_of f.temps.items p) (read : content_of v ≡ temp_of f.temps.items x)
-    (put : put_in m.globals.items g w v ≡ (if is_there then Some globals.items else None)) (ws : List Wait) where
-  pub store_answer : is_there ≡ true
-      → IsMove (Execute (core.Do (core.Store p (trees.at_once w) x))) ws (known_of f m) (Go (Leave steps.Falls)) ws (known_of f (with_globals m globals))
-  store_answer stored =
-      store_moves (known_of f m) ws x v read p g (value.Global g) place refl w globals.items (put ∙ ap (λ b. if b then Some globals.items else None) stored)
-
-  pub unstore_answer : is_there ≡ false → globals ≡ m.globals
-      → IsMove (Execute (core.Do (core.Store p (trees.at_once w) x))) ws (known_of f m) Wrong ws (known_of f (with_globals m globals))
-  unstore_answer missing same =
-      move_as _ ws (known_of f m) Wrong _ ws (known_of f m) (known_of f (with_globals m globals)) refl (ap (λ gs. known_of f (with_globals m gs)) same)
-      (store_wrong (known_of f m) ws x v read p g (value.Global g) place refl w (put ∙ ap (λ b. if b then Some globals.items else None) missing))
+    pub unstore_answer : is_there ≡ false → stored_of m' ≡ stored_of m
+        → IsMove (Execute (core.Do (core.Store y (distance_tree d) x))) ws (known_of f m) Wrong ws (known_of f m')
+    unstore_answer missing same =
+        move_as _ ws (known_of f m) Wrong _ ws (known_of f m) (known_of f m') refl (unstored_known f m m' same entered)
+        (store_wrong (known_of f m) ws x v read y u place p is_place d (λ h. at_distance h ∙ ap (λ b. stored_if b (stored_of m')) missing))

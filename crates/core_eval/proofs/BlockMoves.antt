@@ -33,9 +33,9 @@ use Rattle.core_meaning.specs.Core as core
 use Rattle.core_meaning.specs.Core.{Local, Statements}
 use Rattle.core_meaning.specs.Steps.{Config, Exit}
 use Rattle.core_meaning.specs.Meaning.{with_objects, in_block, out_of_block}
-use Rattle.cyc_core.specs.declared.operation.Cell.{Cell}
-use Rattle.cyc_core.specs.Trees.{local_tree, part_layout}
-use Rattle.core_eval.specs.declared.value.Object.{Object}
+use Rattle.cyc_core.specs.declared.layout.Local as code
+use Rattle.cyc_core.specs.Trees.{local_tree, local_layout}
+use Rattle.core_eval.specs.declared.value.Slot.{Slot}
 use Rattle.core_eval.specs.Values.{spot_of, Shows, blank_object}
 use Rattle.core_eval.specs.Blocks.{Activation, position_of}
 use Rattle.core_eval.specs.Pendings.{Execute, Follow, Leave, Wait, Block, Go, Mark, rest_of}
@@ -54,11 +54,11 @@ module _ (q r : Region) (other : same_region q r ≡ false) where
   objects_other (l ∷ ls) m =
       objects_other ls (with_object m r (blanks l.layout l.count)) ∙ ap (λ b. if b then m.objects r + 1 else m.objects q) other
 
-  parts_other : (i : ℕ) (ls : List Local) (m : Memory) → (with_objects r ls m).parts (spot_of q i) 0 ≡ m.parts (spot_of q i) 0
-  parts_other i [] m = refl
-  parts_other i (l ∷ ls) m =
-      parts_other i ls (with_object m r (blanks l.layout l.count))
-      ∙ ap (λ b. if b && nat_eq i (m.objects r) then blanks l.layout l.count 0 0 else m.parts (spot_of q i) 0) other
+  parts_other : (i k j : ℕ) (ls : List Local) (m : Memory) → (with_objects r ls m).parts (spot_of q i k) j ≡ m.parts (spot_of q i k) j
+  parts_other i k j [] m = refl
+  parts_other i k j (l ∷ ls) m =
+      parts_other i k j ls (with_object m r (blanks l.layout l.count))
+      ∙ ap (λ b. if b && nat_eq i (m.objects r) then blanks l.layout l.count k j else m.parts (spot_of q i k) j) other
 
 -- no activation
 activations_same : (r : Region) (ls : List Local) (m : Memory) → (with_objects r ls m).activations ≡ m.activations
@@ -91,14 +91,14 @@ not_later n k (Some p) h = by (nat_eq n k) h
     by false e = cc
 
 -- one object for each local
-all_shown : (r : Region) (locals : List Cell) (m : Memory) (objects : List Object) → Shows m r objects → m.objects r ≡ length objects
+all_shown : (r : Region) (locals : List code.Local) (m : Memory) (objects : List (List Slot)) → Shows m r objects → m.objects r ≡ length objects
     → Shows (with_objects r (map local_tree locals) m) r (objects ++ map blank_object locals)
-all_shown r [] m objects shows counted = subst (λ (os : List Object). Shows m r os) (sym (append-nil objects)) shows
+all_shown r [] m objects shows counted = subst (λ (os : List (List Slot)). Shows m r os) (sym (append-nil objects)) shows
 all_shown r (w ∷ locals) m objects shows counted =
-    let m1 = with_object m r (blanks (part_layout w) 1) in
+    let m1 = with_object m r (blanks (local_layout w) 1) in
     let more : m1.objects r ≡ length (objects ++ blank_object w ∷ []) =
     ap (λ b. if b then m.objects r + 1 else m.objects r) (itself r) ∙ ap (λ n. n + 1) counted ∙ length_more objects (blank_object w) in
-    subst (λ (os : List Object). Shows (with_objects r (map local_tree locals) m1) r os) (append_assoc objects (blank_object w ∷ []) (map blank_object locals))
+    subst (λ (os : List (List Slot)). Shows (with_objects r (map local_tree locals) m1) r os) (append_assoc objects (blank_object w ∷ []) (map blank_object locals))
     (all_shown r locals m1 (objects ++ blank_object w ∷ []) (shows_grown shows counted w) more)
 
 -- ---- a block is entered
@@ -107,11 +107,11 @@ all_shown r (w ∷ locals) m objects shows counted =
 abbrev begun : Memory → Memory
 begun m = record (with_standing m (Frame m.activations) Live) { activations = m.activations + 1 }
 
-shows_begun : (m : Memory) (q : Region) (objects : List Object) → same_region q (Frame m.activations) ≡ false → Shows m q objects → Shows (begun m) q objects
+shows_begun : (m : Memory) (q : Region) (objects : List (List Slot)) → same_region q (Frame m.activations) ≡ false → Shows m q objects → Shows (begun m) q objects
 shows_begun m q objects other shows =
     let s = shows_standing shows (Frame m.activations) other Live in record { live = s.live; holds = s.holds }
 
-module _ (known : Known) (ws : List Wait) (locals : List Cell) where
+module _ (known : Known) (ws : List Wait) (locals : List code.Local) where
   -- what is known in the block
   abbrev pub inside : Known
   inside = record known {
@@ -127,15 +127,15 @@ module _ (known : Known) (ws : List Wait) (locals : List Cell) where
       let a = m.activations in
       let m' = with_objects (Frame a) ls (begun m) in
       let counted : m'.activations ≡ a + 1 = activations_same (Frame a) ls (begun m) in
-      let still : (q : Region) (objects : List Object) → same_region q (Frame a) ≡ false → Shows m q objects → Shows m' q objects =
+      let still : (q : Region) (objects : List (List Slot)) → same_region q (Frame a) ≡ false → Shows m q objects → Shows m' q objects =
       λ q objects other shows. shows_objects q (Frame a) objects other ls (begun m) (shows_begun m q objects other shows) in
       record {
         temps = h.temps;
         fresh = record {
           empty = λ k le. objects_other (Frame k) (Frame a) (other_number k a (omega (arith, le, counted))) ls (begun m)
               ∙ h.fresh.empty k (omega (arith, le, counted));
-          missing = λ k i le. parts_other (Frame k) (Frame a) (other_number k a (omega (arith, le, counted))) i ls (begun m)
-              ∙ h.fresh.missing k i (omega (arith, le, counted));
+          missing = λ k i cell j le. parts_other (Frame k) (Frame a) (other_number k a (omega (arith, le, counted))) i cell j ls (begun m)
+              ∙ h.fresh.missing k i cell j (omega (arith, le, counted));
         };
         globals = still (Born 0) known.globals refl h.globals;
         nested = (
@@ -143,7 +143,7 @@ module _ (known : Known) (ws : List Wait) (locals : List Cell) where
           sym h.entered,
           omega (arith, counted),
           all_shown (Frame a) locals (begun m) []
-              (record { live = ap (λ b. if b then Live else m.standing (Frame a)) (itself (Frame a)); holds = λ i. h.fresh.missing a i (omega arith) })
+              (record { live = ap (λ b. if b then Live else m.standing (Frame a)) (itself (Frame a)); holds = λ i k j. h.fresh.missing a i k j (omega arith) })
               (h.fresh.empty a (omega arith)),
           nested_still m m' a a c.blocks known.base known.blocks ws marks (omega arith)
               (λ k objects below shows. still (Frame k) objects (other_number k a (omega (arith, below))) shows) h.nested,

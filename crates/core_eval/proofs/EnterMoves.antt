@@ -31,8 +31,7 @@ branch_is : (v : Value) (these those : Step) → branch (content_of v) these tho
 branch_is value.Blank these those = refl
 branch_is (value.Word n) these those = word_choice (nat_eq n 0) these those
 branch_is value.Null these those = refl
-branch_is (value.Global g) these those = refl
-branch_is (value.Local k i) these those = refl
+branch_is (value.Pointer p) these those = refl
 
 pub branches : (x : Content) (v : Value) (b : Option Bool) (these those : Step) → x ≡ content_of v → truth_of v ≡ b → branch x these those
     ≡ choice_step these those b

@@ -4,7 +4,7 @@ use Rattle.std.specs.declared.vec.Vec.{Vec}
 use Rattle.std.specs.declared.alloc.Global.{Global}
 use Rattle.core_meaning.specs.Core as core
 use Rattle.core_meaning.specs.Core.{Statements}
-use Rattle.cyc_core.specs.declared.operation.Cell.{Cell}
+use Rattle.cyc_core.specs.declared.layout.Local.{Local}
 use Rattle.cyc_core.specs.declared.statement.Statement as code
 use Rattle.cyc_core.specs.declared.statement.Statement.TheVariants as form
 use Rattle.cyc_core.specs.declared.statement.Statement.TheOpen.{Statement-F}
@@ -13,7 +13,7 @@ use Rattle.cyc_core.specs.Trees.{local_tree, statement_step, statement_tree, bod
 use Rattle.core_eval.specs.declared.frame.Frame.{Frame}
 use Rattle.core_eval.specs.declared.memory.Memory.{Memory}
 use Rattle.core_eval.specs.declared.pending.Due.{Due}
-use Rattle.core_eval.specs.Values.{blank_object}
+use Rattle.core_eval.specs.Values.{cells_of, blank_object}
 use Rattle.core_eval.specs.Blocks.{activation_of}
 use Rattle.core_eval.specs.Pendings as specs
 use Rattle.core_eval.specs.Pendings.{Execute, Follow, Wait, Block, Go, next_of}
@@ -22,12 +22,12 @@ use Rattle.core_eval.specs.Standing.{known_of}
 use Rattle.core_eval.specs.Costs.{IsMove}
 use Rattle.core_eval.proofs.BlockMoves.{inside, block_enters}
 
-pub block_tree : (locals : Vec Cell Global) (body : Vec code.Statement Global)
+pub block_tree : (locals : Vec Local Global) (body : Vec code.Statement Global)
     → statement_tree (form.Block locals body) ≡ core.Block (map local_tree locals.items) (body_tree body.items)
 block_tree locals body = ap statement_tree (sym (form.rolls-Block locals body))
     ∙ fold-roll-Statement core.Statement statement_step (Statement-F.Block locals body)
 
-pub block_answer : {E : Type 0} (r : Result Due E) (f : Frame) (m m' : Memory) (s : core.Statement) (locals locals' : List Cell)
+pub block_answer : {E : Type 0} (r : Result Due E) (f : Frame) (m m' : Memory) (s : core.Statement) (locals locals' : List Local)
     (body body' : Statements) (ws ws' : List Wait)
     → s ≡ core.Block (map local_tree locals) body → locals' ≡ locals → body' ≡ body
     → IfOk r (λ due. next_of due ≡ Go (Follow body')) → OnOk r (ws' ≡ Block ∷ ws)
@@ -38,9 +38,9 @@ block_answer (Ok due) f m m' s locals locals' body body' ws ws' is same_locals s
     let all : map activation_of m'.blocks.items ≡ record { number = m.entered; objects = map blank_object locals } ∷ map activation_of m.blocks.items =
     blocks ∙ ap (λ l. record { number = m.entered; objects = map blank_object l } ∷ map activation_of m.blocks.items) same_locals in
     let known : known_of f m' ≡ inside (known_of f m) ws locals =
-    ap (λ bs. record { temps = f.temps.items; base = f.base; blocks = bs; entered = m'.entered; globals = m'.globals.items }) all
-    ∙ ap (λ n. record (inside (known_of f m) ws locals) { entered = n; globals = m'.globals.items }) entered
-    ∙ ap (λ gs. record (inside (known_of f m) ws locals) { globals = gs.items }) globals in
+    ap (λ bs. record { temps = f.temps.items; base = f.base; blocks = bs; entered = m'.entered; globals = map cells_of m'.globals.items }) all
+    ∙ ap (λ n. record (inside (known_of f m) ws locals) { entered = n; globals = map cells_of m'.globals.items }) entered
+    ∙ ap (λ gs. record (inside (known_of f m) ws locals) { globals = map cells_of gs.items }) globals in
     subst (λ (t : core.Statement). IsMove (Execute t) ws (known_of f m) (next_of due) ws' (known_of f m')) (sym is)
     (subst (λ (n : specs.Next). IsMove (Execute (core.Block (map local_tree locals) body)) ws (known_of f m) n ws' (known_of f m'))
     (sym (next ∙ ap (λ b. Go (Follow b)) same_body))

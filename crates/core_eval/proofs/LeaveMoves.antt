@@ -6,6 +6,7 @@ use Rattle.core_meaning.specs.Memory.{Own, Born, Dead, Content, with_standing}
 use Rattle.core_meaning.specs.Core.{Statements}
 use Rattle.core_meaning.specs.Steps as steps
 use Rattle.core_meaning.specs.Steps.{Config, with_temp, with_memory, Exit, Returned, stuck}
+use Rattle.core_eval.specs.declared.value.Place.{Place}
 use Rattle.core_eval.specs.declared.value.Value.{Value}
 use Rattle.core_eval.specs.declared.value.Value.TheVariants as value
 use Rattle.core_eval.specs.Values.{content_of, temp_of, truth_of}
@@ -296,22 +297,9 @@ module _ (known : Known) where
     fewer = omega arith;
   }
 
-  pub main_place : (g : ℕ) → IsMove (Leave (steps.Returns (content_of (value.Global g) ∷ []))) [] known Wrong [] known
-  main_place g = record {
-    still = all_stand (Go (Leave (steps.Returns (content_of (value.Global g) ∷ [])))) [] known Wrong [] known (λ main marks c h. record {
-      said = Returned main ∷ [];
-      unseen = tt;
-      marks = marks;
-      config = c;
-      agrees = h;
-      same = refl;
-    });
-    fewer = omega arith;
-  }
-
-  pub main_local : (k i : ℕ) → IsMove (Leave (steps.Returns (content_of (value.Local k i) ∷ []))) [] known Wrong [] known
-  main_local k i = record {
-    still = all_stand (Go (Leave (steps.Returns (content_of (value.Local k i) ∷ [])))) [] known Wrong [] known (λ main marks c h. record {
+  pub main_place : (p : Place) → IsMove (Leave (steps.Returns (content_of (value.Pointer p) ∷ []))) [] known Wrong [] known
+  main_place p = record {
+    still = all_stand (Go (Leave (steps.Returns (content_of (value.Pointer p) ∷ [])))) [] known Wrong [] known (λ main marks c h. record {
       said = Returned main ∷ [];
       unseen = tt;
       marks = marks;

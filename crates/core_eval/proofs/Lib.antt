@@ -3,6 +3,7 @@ mod Positions
 mod Memories
 mod Nested
 mod Moves
+mod Changes
 mod OperationMoves
 mod MemoryMoves
 mod StoreMoves

@@ -1,6 +1,7 @@
 -- What lists of temporaries, objects and blocks hold at an index.
-use Rattle.std.specs.Prelude.{if◌then◌else◌, slice_index_or, slice_get, slice_set, nat_eq, drop, option_to_list, Option}
+use Rattle.std.specs.Prelude.{if◌then◌else◌, slice_index_or, slice_get, slice_set, nat_eq, drop, option_to_list, option_map, Option}
 use Rattle.std.proofs.Common.{◌≡◌, ℕ, zero, suc, ◌<◌, ◌≤◌, Bool, true, false, Some, None, List, [], ◌∷◌, ◌++◌, length, map, refl, ap, ◌∙◌, sym, arith}
+use Rattle.std.proofs.lemmas.List.{length-map}
 use Rattle.std.proofs.Math.Dec.{eqb-suc-suc, eqb-zero-suc, eqb-suc-zero}
 use Rattle.core_meaning.specs.Memory.{Blank}
 use Rattle.core_meaning.specs.Steps.{set_temp}
@@ -9,7 +10,8 @@ use Rattle.cyc_core.specs.declared.operation.Width.{Width}
 use Rattle.core_eval.specs.declared.value.Value.{Value}
 use Rattle.core_eval.specs.declared.value.Value.TheVariants as value
 use Rattle.core_eval.specs.declared.memory.Block.{Block}
-use Rattle.core_eval.specs.Values.{content_of, temp_of, put_in}
+use Rattle.core_eval.specs.declared.value.Object.{Object}
+use Rattle.core_eval.specs.Values.{content_of, temp_of, cells_of, put_cell, put_object, put_in}
 use Rattle.core_eval.specs.Blocks.{activation_of, put_block, put_among, put_through}
 
 -- ---- temporaries
@@ -83,20 +85,56 @@ set_block [] k b = refl
 set_block (c ∷ bs) zero b = refl
 set_block (c ∷ bs) (suc k) b = ap (λ l. activation_of c ∷ l) (set_block bs k b)
 
--- a store to an object of one of the blocks
-module _ (bs : List Block) (k i : ℕ) (w : Width) (v : Value) where
-  pub put_some : (b new : Block) (is_there : Bool) → k < length bs → b ≡ slice_index_or bs k b → new.number ≡ b.number
-      → put_in b.objects.items i w v ≡ (if is_there then Some new.objects.items else None)
-      → put_through (map activation_of bs) (Some k) i w v ≡ (if is_there then Some (map activation_of (slice_set bs k new)) else None)
+-- a store to a cell of an object of one of the blocks
+module _ (bs : List Block) (n i k byte : ℕ) (w : Width) (v : Value) where
+  pub put_some : (b new : Block) (is_there : Bool) → n < length bs → b ≡ slice_index_or bs n b → new.number ≡ b.number
+      → put_in (map cells_of b.objects.items) i k byte w v ≡ (if is_there then Some (map cells_of new.objects.items) else None)
+      → put_through (map activation_of bs) (Some n) i k byte w v ≡ (if is_there then Some (map activation_of (slice_set bs n new)) else None)
   put_some b new true h e same put =
-      ap (put_among (map activation_of bs) k i w v) (get_block bs k b h e) ∙ ap (put_block (map activation_of bs) k (activation_of b)) put
-      ∙ ap (λ n. Some (slice_set (map activation_of bs) k (record { number = n; objects = new.objects.items }))) (sym same)
-      ∙ ap Some (sym (set_block bs k new))
+      ap (put_among (map activation_of bs) n i k byte w v) (get_block bs n b h e)
+      ∙ ap (option_map (put_block (map activation_of bs) n (activation_of b))) put
+      ∙ ap (λ x. Some (slice_set (map activation_of bs) n (record { number = x; objects = map cells_of new.objects.items }))) (sym same)
+      ∙ ap Some (sym (set_block bs n new))
   put_some b new false h e same put =
-      ap (put_among (map activation_of bs) k i w v) (get_block bs k b h e) ∙ ap (put_block (map activation_of bs) k (activation_of b)) put
+      ap (put_among (map activation_of bs) n i k byte w v) (get_block bs n b h e)
+      ∙ ap (option_map (put_block (map activation_of bs) n (activation_of b))) put
 
-  pub put_none : length bs ≤ k → put_through (map activation_of bs) (Some k) i w v ≡ None
-  put_none h = ap (put_among (map activation_of bs) k i w v) (no_block bs k h)
+  pub put_none : length bs ≤ n → put_through (map activation_of bs) (Some n) i k byte w v ≡ None
+  put_none h = ap (put_among (map activation_of bs) n i k byte w v) (no_block bs n h)
+
+-- no store
+pub kept_block : (bs : List Block) (n : ℕ) (b new : Block) → n < length bs → b ≡ slice_index_or bs n b → new.number ≡ b.number
+    → new.objects.items ≡ b.objects.items → map activation_of (slice_set bs n new) ≡ map activation_of bs
+kept_block [] n b new h e same kept = absurd (omega (arith, h))
+kept_block (c ∷ bs) zero b new h e same kept =
+    ap (λ k. record { number = k; objects = map cells_of new.objects.items } ∷ map activation_of bs) same
+    ∙ ap (λ os. record { number = b.number; objects = map cells_of os } ∷ map activation_of bs) kept ∙ ap (λ x. activation_of x ∷ map activation_of bs) e
+kept_block (c ∷ bs) (suc n) b new h e same kept = ap (λ l. activation_of c ∷ l) (kept_block bs n b new (omega (arith, h)) e same kept)
+
+-- ---- objects, as the code has them
+
+get_object : (os : List Object) (i : ℕ) (o : Object) → i < length os → o ≡ slice_index_or os i o → slice_get (map cells_of os) i ≡ Some (cells_of o)
+get_object [] i o h e = absurd (omega (arith, h))
+get_object (p ∷ os) zero o h e = ap (λ o. Some (cells_of o)) (sym e)
+get_object (p ∷ os) (suc i) o h e = get_object os i o (omega (arith, h)) e
+
+set_object : (os : List Object) (i : ℕ) (o : Object) → map cells_of (slice_set os i o) ≡ slice_set (map cells_of os) i (cells_of o)
+set_object [] i o = refl
+set_object (p ∷ os) zero o = refl
+set_object (p ∷ os) (suc i) o = ap (λ l. cells_of p ∷ l) (set_object os i o)
+
+module _ (os : List Object) (i k byte : ℕ) (w : Width) (v : Value) where
+  pub put_object_some : (o new : Object) (is_there : Bool) → i < length os → o ≡ slice_index_or os i o
+      → put_cell (cells_of o) k byte w v ≡ (if is_there then Some (cells_of new) else None)
+      → put_in (map cells_of os) i k byte w v ≡ (if is_there then Some (map cells_of (slice_set os i new)) else None)
+  put_object_some o new true h e put =
+      ap (put_object (map cells_of os) i k byte w v) (get_object os i o h e) ∙ ap (option_map (slice_set (map cells_of os) i)) put
+      ∙ ap Some (sym (set_object os i new))
+  put_object_some o new false h e put =
+      ap (put_object (map cells_of os) i k byte w v) (get_object os i o h e) ∙ ap (option_map (slice_set (map cells_of os) i)) put
+
+  pub put_object_none : length os ≤ i → put_in (map cells_of os) i k byte w v ≡ None
+  put_object_none h = ap (put_object (map cells_of os) i k byte w v) (get_past (map cells_of os) i (let e = length-map os cells_of in omega (arith, h, e)))
 
 -- all but the first block
 pub first_left : (gone : Option Block) (bs rest : List Block) → bs ≡ option_to_list gone ++ rest → (gone ≡ None → length bs ≡ 0)

@@ -28,7 +28,7 @@ use Rattle.std.proofs.Common.{
 }
 use Rattle.std.proofs.lemmas.Bool.Decides.{nat_tests}
 use Rattle.core_meaning.specs.Memory.{Frame, Memory}
-use Rattle.core_eval.specs.declared.value.Object.{Object}
+use Rattle.core_eval.specs.declared.value.Slot.{Slot}
 use Rattle.core_eval.specs.Values.{Shows}
 use Rattle.core_eval.specs.Blocks.{Activation, Descends, own_position, position_of, number_through}
 use Rattle.core_eval.specs.Pendings.{Wait, Then, Test, Body, Block, Caller, Mark}
@@ -37,7 +37,7 @@ use Rattle.core_eval.proofs.Lists.{get_past}
 
 -- what is shown of frames below a bound in one memory is shown in another
 abbrev pub Still : Memory → Memory → ℕ → Type 0
-Still m m' bound = (k : ℕ) (objects : List Object) → k < bound → Shows m (Frame k) objects → Shows m' (Frame k) objects
+Still m m' bound = (k : ℕ) (objects : List (List Slot)) → k < bound → Shows m (Frame k) objects → Shows m' (Frame k) objects
 
 module _ (m m' : Memory) where
   pub nested_still : (low high : ℕ) (numbers : List ℕ) (base : ℕ) (blocks : List Activation) (ws : List Wait) (marks : List Mark) → low ≤ high → Still m m' low
@@ -180,8 +180,8 @@ set_length [] p x = refl
 set_length (y ∷ xs) zero x = refl
 set_length (y ∷ xs) (suc p) x = ap suc (set_length xs p x)
 
-module _ (m m' : Memory) (k : ℕ) (objects' : List Object) (shows' : Shows m' (Frame k) objects')
-    (others : (q : ℕ) (objects : List Object) → q ≢ k → Shows m (Frame q) objects → Shows m' (Frame q) objects) where
+module _ (m m' : Memory) (k : ℕ) (objects' : List (List Slot)) (shows' : Shows m' (Frame k) objects')
+    (others : (q : ℕ) (objects : List (List Slot)) → q ≢ k → Shows m (Frame q) objects → Shows m' (Frame q) objects) where
   -- its block with other locals
   abbrev changed : Activation
   changed = record { number = k; objects = objects' }
@@ -229,3 +229,22 @@ position_put (a ∷ blocks) zero j b c at same =
     let e : a ≡ b = cc in
     ap (λ n. if nat_eq n j then Some 0 else option_map suc (position_of blocks j)) (same ∙ ap (λ x. x.number) (sym e))
 position_put (a ∷ blocks) (suc p) j b c at same = ap (λ o. if nat_eq a.number j then Some 0 else option_map suc o) (position_put blocks p j b c at same)
+
+-- a block stands where its number is found, for the numbers fall
+later_number : (bound : ℕ) (blocks : List Activation) (p : ℕ) (b : Activation) → Descends bound blocks → slice_get blocks p ≡ Some b → b.number < bound
+later_number bound [] p b d at = cc
+later_number bound (a ∷ blocks) zero b (below, rest) at =
+    let e : a ≡ b = cc in subst (λ (x : Activation). x.number < bound) e below
+later_number bound (a ∷ blocks) (suc p) b (below, rest) at = let less = later_number a.number blocks p b rest at in omega (arith, less, below)
+
+pub position_is : (bound : ℕ) (blocks : List Activation) (p : ℕ) (b : Activation) → Descends bound blocks → slice_get blocks p ≡ Some b
+    → position_of blocks b.number ≡ Some p
+position_is bound [] p b d at = cc
+position_is bound (a ∷ blocks) zero b (below, rest) at =
+    let e : a ≡ b = cc in
+    let same : nat_eq a.number b.number ≡ true = let n : a.number ≡ b.number = ap (λ x. x.number) e in grind (arith, nat_tests, n) in
+    ap (λ t. if t then Some 0 else option_map suc (position_of blocks b.number)) same
+position_is bound (a ∷ blocks) (suc p) b (below, rest) at =
+    let less = later_number a.number blocks p b rest at in
+    let other : nat_eq a.number b.number ≡ false = grind (arith, nat_tests, less) in
+    ap (λ t. if t then Some 0 else option_map suc (position_of blocks b.number)) other ∙ ap (option_map suc) (position_is a.number blocks p b rest at)

@@ -1,18 +1,21 @@
 -- Each operation, as the evaluator does it.
-use Rattle.std.specs.Prelude.{if◌then◌else◌, nat_eq}
-use Rattle.std.proofs.Common.{◌≡◌, ℕ, ◌%◌, ◌^◌, ◌<◌, Bool, Option, Some, None, List, refl, ap, ◌∙◌, sym, arith}
+use Rattle.std.specs.Prelude.{if◌then◌else◌, nat_eq, nat_lt}
+use Rattle.std.proofs.lemmas.Bool.Decides.{nat_tests}
+use Rattle.std.proofs.Common.{◌≡◌, ℕ, ◌+◌, ◌%◌, ◌^◌, ◌<◌, ◌≤◌, Bool, true, false, Option, Some, None, List, refl, ap, ◌∙◌, sym, arith}
 use Rattle.cyc_words.specs.Events as events
 use Rattle.step_trees.specs.Trees.{Pays}
 use Rattle.core_meaning.specs.Memory as memory
-use Rattle.core_meaning.specs.Memory.{Content, Born, Spot, Part, Pointer, with_part}
+use Rattle.core_meaning.specs.Memory.{Content, Born, Spot, Part, Pointer, with_part, beyond}
 use Rattle.core_meaning.specs.Core as core
 use Rattle.core_meaning.specs.Words.{truth, two}
 use Rattle.core_meaning.specs.Steps as steps
-use Rattle.core_meaning.specs.Steps.{Config, with_temp, with_memory, Step, stuck, word_of, pointer_of, needed}
-use Rattle.core_meaning.specs.Operations.{does, is_null, says}
+use Rattle.core_meaning.specs.Steps.{Config, with_temp, with_memory, Step, stuck, word_of, pointer_of, needed, checked}
+use Rattle.core_meaning.specs.Operations.{does, is_null, says, too_far}
 use Rattle.core_eval.specs.declared.value.Value.{Value}
 use Rattle.core_eval.specs.declared.value.Value.TheVariants as value
-use Rattle.core_eval.specs.Values.{content_of, temp_of, null_of}
+use Rattle.core_eval.specs.declared.value.Place.{Place}
+use Rattle.core_eval.specs.Values.{content_of, place_spot, temp_of, null_of}
+use Rattle.core_eval.specs.Blocks.{global_place}
 use Rattle.core_eval.specs.Pendings.{Execute, Leave, Wait, Go, GetcharDue, PutcharDue, Wrong, Mark}
 use Rattle.core_eval.specs.Standing.{Known, Agrees, Gives}
 use Rattle.core_eval.specs.Costs.{IsMove}
@@ -27,8 +30,7 @@ pub null_is : (v : Value) (next : ℕ → Step) → is_null (content_of v) next 
 null_is value.Blank next = refl
 null_is (value.Word n) next = refl
 null_is value.Null next = refl
-null_is (value.Global g) next = refl
-null_is (value.Local k i) next = refl
+null_is (value.Pointer p) next = refl
 
 -- a state whose temporary was given a content
 abbrev pub given : Known → List Value → Known
@@ -60,9 +62,9 @@ module _ (known : Known) (temps : List Value) (ws : List Wait) where
       → IsMove (Execute (core.Do (core.NullPointer t))) ws known (Go (Leave steps.Falls)) ws (given known temps)
   null_moves t gives = given_moves (core.NullPointer t) t memory.Null gives (λ marks c h next. refl)
 
-  pub address_moves : (t object : ℕ) → Gives t (content_of (value.Global object)) known.temps temps
+  pub address_moves : (t object : ℕ) → Gives t (content_of (value.Pointer (global_place object))) known.temps temps
       → IsMove (Execute (core.Do (core.DataAddress t object))) ws known (Go (Leave steps.Falls)) ws (given known temps)
-  address_moves t object gives = given_moves (core.DataAddress t object) t (content_of (value.Global object)) gives (λ marks c h next. refl)
+  address_moves t object gives = given_moves (core.DataAddress t object) t (content_of (value.Pointer (global_place object))) gives (λ marks c h next. refl)
 
   -- what is read of a temporary
   module _ (x : ℕ) (v : Value) (read : content_of v ≡ temp_of known.temps x) where
@@ -79,6 +81,21 @@ module _ (known : Known) (temps : List Value) (ws : List Wait) where
     narrow_moves t n is gives =
         given_moves (core.Narrow t x) t (memory.Word (n % 256)) gives
         (λ marks c h next. ap (λ (u : Content). word_of u (λ k. next (with_temp t (memory.Word (k % 256)) c))) (holds_it marks c h ∙ ap content_of is))
+
+    -- a pointer that leads further
+    pub offset_moves : (t cells bytes : ℕ) (p q : Place) → v ≡ value.Pointer p → content_of (value.Pointer q)
+        ≡ Pointer (beyond (place_spot p) cells) (p.byte + bytes)
+        → p.byte + bytes < too_far
+        → Gives t (content_of (value.Pointer q)) known.temps temps
+        → IsMove (Execute (core.Do (core.Offset t x cells bytes))) ws known (Go (Leave steps.Falls)) ws (given known temps)
+    offset_moves t cells bytes p q is leads near gives =
+        let within : nat_lt (p.byte + bytes) too_far ≡ true = grind (arith, nat_tests, near) in
+        given_moves (core.Offset t x cells bytes) t (content_of (value.Pointer q)) gives
+        (λ marks c h next.
+        ap (λ (u : Content). pointer_of u (λ s b. checked (nat_lt (b + bytes) too_far) (next (with_temp t (Pointer (beyond s cells) (b + bytes)) c))))
+        (holds_it marks c h ∙ ap content_of is)
+        ∙ ap (λ b. checked b (next (with_temp t (Pointer (beyond (place_spot p) cells) (p.byte + bytes)) c))) within
+        ∙ ap (λ (u : Content). next (with_temp t u c)) (sym leads))
 
     pub test_moves : (t : ℕ) (b : Bool) → null_of v ≡ Some b → Gives t (memory.Word (truth b)) known.temps temps
         → IsMove (Execute (core.Do (core.IsNull t x))) ws known (Go (Leave steps.Falls)) ws (given known temps)
@@ -101,30 +118,26 @@ abbrev pub IsNoWord : Value → Type 0
 IsNoWord value.Blank = Unit {0}
 IsNoWord (value.Word n) = ⊥
 IsNoWord value.Null = Unit {0}
-IsNoWord (value.Global g) = Unit {0}
-IsNoWord (value.Local k i) = Unit {0}
+IsNoWord (value.Pointer p) = Unit {0}
 
 -- what is no pointer
 abbrev pub IsNoPlace : Value → Type 0
 IsNoPlace value.Blank = Unit {0}
 IsNoPlace (value.Word n) = Unit {0}
 IsNoPlace value.Null = Unit {0}
-IsNoPlace (value.Global g) = ⊥
-IsNoPlace (value.Local k i) = ⊥
+IsNoPlace (value.Pointer p) = ⊥
 
 no_word : (v : Value) (next : ℕ → Step) → IsNoWord v → word_of (content_of v) next ≡ stuck
 no_word value.Blank next h = refl
 no_word (value.Word n) next h = absurd h
 no_word value.Null next h = refl
-no_word (value.Global g) next h = refl
-no_word (value.Local k i) next h = refl
+no_word (value.Pointer p) next h = refl
 
 pub no_place : (v : Value) (next : Spot → ℕ → Step) → IsNoPlace v → pointer_of (content_of v) next ≡ stuck
 no_place value.Blank next h = refl
 no_place (value.Word n) next h = refl
 no_place value.Null next h = refl
-no_place (value.Global g) next h = absurd h
-no_place (value.Local k i) next h = absurd h
+no_place (value.Pointer p) next h = absurd h
 
 module _ (known : Known) (ws : List Wait) (x : ℕ) (v : Value) (read : content_of v ≡ temp_of known.temps x) where
   pub no_word_wrong : (o : core.Operation) (next' : Config → (Config → Step) → ℕ → Step)
@@ -133,6 +146,31 @@ module _ (known : Known) (ws : List Wait) (x : ℕ) (v : Value) (read : content_
   no_word_wrong o next' is none =
       goes_wrong o ws known (λ marks c h next. is c next ∙ ap (λ (u : Content). word_of u (next' c next)) (h.temps x ∙ sym read)
       ∙ no_word v (next' c next) none)
+
+  pub no_place_wrong : (o : core.Operation) (next' : Config → (Config → Step) → Spot → ℕ → Step)
+      → ((c : Config) (next : Config → Step) → does o next c ≡ pointer_of (c.temps x) (next' c next)) → IsNoPlace v
+      → IsMove (Execute (core.Do o)) ws known Wrong ws known
+  no_place_wrong o next' is none =
+      goes_wrong o ws known (λ marks c h next. is c next ∙ ap (λ (u : Content). pointer_of u (next' c next)) (h.temps x ∙ sym read)
+      ∙ no_place v (next' c next) none)
+
+  pub offset_wrong : (t cells bytes : ℕ) → IsNoPlace v → IsMove (Execute (core.Do (core.Offset t x cells bytes))) ws known Wrong ws known
+  offset_wrong t cells bytes none = no_place_wrong (core.Offset t x cells bytes) _ (λ c next. refl) none
+
+  pub offset_far : (t cells bytes : ℕ) (p : Place) → v ≡ value.Pointer p → too_far ≤ p.byte + bytes
+      → IsMove (Execute (core.Do (core.Offset t x cells bytes))) ws known Wrong ws known
+  offset_far t cells bytes p is far =
+      let over : nat_lt (p.byte + bytes) too_far ≡ false = grind (arith, nat_tests, far) in
+      goes_wrong (core.Offset t x cells bytes) ws known (λ marks c h next.
+      ap (λ (u : Content). pointer_of u (λ s b. checked (nat_lt (b + bytes) too_far) (next (with_temp t (Pointer (beyond s cells) (b + bytes)) c))))
+      (h.temps x ∙ sym read ∙ ap content_of is)
+      ∙ ap (λ b. checked b (next (with_temp t (Pointer (beyond (place_spot p) cells) (p.byte + bytes)) c))) over)
+
+  pub load_nowhere : (t : ℕ) (d : core.Distance) → IsNoPlace v → IsMove (Execute (core.Do (core.Load t x d))) ws known Wrong ws known
+  load_nowhere t d none = no_place_wrong (core.Load t x d) _ (λ c next. refl) none
+
+  pub store_nowhere : (d : core.Distance) (y : ℕ) → IsNoPlace v → IsMove (Execute (core.Do (core.Store x d y))) ws known Wrong ws known
+  store_nowhere d y none = no_place_wrong (core.Store x d y) _ (λ c next. refl) none
 
   pub narrow_wrong : (t : ℕ) → IsNoWord v → IsMove (Execute (core.Do (core.Narrow t x))) ws known Wrong ws known
   narrow_wrong t none = no_word_wrong (core.Narrow t x) _ (λ c next. refl) none

@@ -1,193 +1,230 @@
 -- What the evaluator stores to locals and globals, as Core does it.
 use Rattle.std.specs.Prelude.{if◌then◌else◌, slice_get, slice_set, ◌&&◌, nat_eq, option_map}
-use Rattle.std.proofs.Common.{◌≡◌, ℕ, true, Option, Some, None, List, refl, ap, ◌∙◌, sym, subst, arith}
-use Rattle.core_meaning.specs.Memory.{Region, Frame, Born, Content, Part, Memory, with_part}
+use Rattle.std.proofs.Common.{◌≡◌, ℕ, ◌+◌, Bool, true, false, Option, Some, None, List, refl, ap, ◌∙◌, sym, subst, arith}
+use Rattle.core_meaning.specs.Memory.{Region, Frame, Born, Content, Spot, Part, Memory, same_region, with_part}
 use Rattle.core_meaning.specs.Core as core
 use Rattle.core_meaning.specs.Steps as steps
 use Rattle.core_meaning.specs.Steps.{Config, with_memory, Step, stuck, needed, pointer_of}
 use Rattle.core_meaning.specs.Operations.{reached, at_once, local_spot, fitting}
 use Rattle.cyc_core.specs.declared.operation.Width.{Width}
 use Rattle.cyc_core.specs.declared.operation.Width.TheVariants as width
-use Rattle.cyc_core.specs.Trees.{bytes_of}
-use Rattle.cyc_core.specs.Trees as trees
+use Rattle.cyc_core.specs.declared.operation.Distance.{Distance}
+use Rattle.cyc_core.specs.Trees.{bytes_of, distance_tree}
+use Rattle.core_eval.specs.declared.value.Area.{Area}
+use Rattle.core_eval.specs.declared.value.Area.TheVariants as area
+use Rattle.core_eval.specs.declared.value.Place.{Place}
 use Rattle.core_eval.specs.declared.value.Value.{Value}
 use Rattle.core_eval.specs.declared.value.Value.TheVariants as value
-use Rattle.core_eval.specs.declared.value.Object.{Object}
-use Rattle.core_eval.specs.Values.{spot_of, content_of, temp_of, same_width, part_of, Shows, fitted, put_in}
+use Rattle.core_eval.specs.declared.value.Slot.{Slot}
+use Rattle.core_eval.specs.Values.{region_of, spot_of, content_of, temp_of, part_in, cell_in, slot_at, Shows, is_fit, fitted, with_value, put_in}
 use Rattle.core_eval.specs.Blocks.{
   Activation,
   Descends,
+  Stored,
   own_position,
   position_of,
   number_through,
-  object_among,
-  object_through,
-  local_object,
+  slot_among,
+  slot_through,
+  slot_in,
+  local_slot,
   put_block,
   put_among,
   put_through,
   put_local,
+  put_to,
 }
 use Rattle.core_eval.specs.Pendings.{Execute, Leave, Wait, Go, Wrong, Mark, rest_of}
 use Rattle.core_eval.specs.Standing.{Known, Agrees, Stands}
 use Rattle.core_eval.specs.Costs.{IsMove}
-use Rattle.core_eval.proofs.Memories.{found, reached_is, IsPut, put_is, unput_is, other_number, shows_part, shows_put}
-use Rattle.core_eval.proofs.Nested.{nested_still, nested_shows, nested_put, position_there, position_put}
-use Rattle.core_eval.proofs.MemoryMoves.{descends, shown, own_number, own_is, number_is}
+use Rattle.core_eval.proofs.Memories.{first_part, found, reached_at, part_there, IsPut, put_is, unput_is, parts_put}
+use Rattle.core_eval.proofs.Nested.{position_is}
+use Rattle.core_eval.proofs.Changes.{stored_in, with_stored, Replaces, replaced_shows, replaced_agrees, part_elsewhere}
+use Rattle.core_eval.proofs.MemoryMoves.{descends, own_number, own_is, placed}
 use Rattle.core_eval.proofs.Moves.{all_stand, goes_here, goes_wrong}
 
--- ---- a store to one object
-
--- the object that gets a value
-abbrev put_object : Width → Value → Object
-put_object w v = record { width = w; value = fitted w v }
+-- ---- a store to one cell
 
 fits : (w : Width) (v : Value) → fitting (bytes_of w) (content_of v) ≡ content_of (fitted w v)
 fits width.Byte value.Blank = refl
 fits width.Byte (value.Word n) = refl
 fits width.Byte value.Null = refl
-fits width.Byte (value.Global g) = refl
-fits width.Byte (value.Local k i) = refl
+fits width.Byte (value.Pointer p) = refl
 fits width.Word v = refl
 
-same_width_is : (a w : Width) → same_width a w ≡ true → a ≡ w
-same_width_is width.Byte width.Byte h = refl
-same_width_is width.Byte width.Word h = cc
-same_width_is width.Word width.Byte h = cc
-same_width_is width.Word width.Word h = refl
-
-found_put : (w : Width) (o : Object) (v : Value) (u : Content) (next : Part → Step) → same_width o.width w ≡ true → u ≡ content_of v
-    → found w (λ p. next (record p { content = fitting (bytes_of w) u })) (Some o) ≡ next (part_of (put_object w v))
-found_put w o v u next wide is =
-    ap (λ b. if b then next (record { offset = 0; width = bytes_of o.width; content = fitting (bytes_of w) u }) else stuck) wide
-    ∙ ap (λ a. next (record { offset = 0; width = bytes_of a; content = fitting (bytes_of w) u })) (same_width_is o.width w wide)
-    ∙ ap (λ z. next (record { offset = 0; width = bytes_of w; content = fitting (bytes_of w) z })) is
-    ∙ ap (λ z. next (record { offset = 0; width = bytes_of w; content = z })) (fits w v)
+found_put : (byte : ℕ) (w : Width) (s : Slot) (v : Value) (u : Content) (next : Part → Step) → is_fit byte w s ≡ true → u ≡ content_of v
+    → found byte w (λ p. next (record p { content = fitting (bytes_of w) u })) (Some s) ≡ next (first_part (with_value s (fitted w v)))
+found_put byte w s v u next fit is =
+    ap (λ b. if b then next (record { offset = s.offset; width = bytes_of s.width; content = fitting (bytes_of w) u }) else stuck) fit
+    ∙ ap (λ z. next (record { offset = s.offset; width = bytes_of s.width; content = fitting (bytes_of w) z })) is
+    ∙ ap (λ z. next (record { offset = s.offset; width = bytes_of s.width; content = z })) (fits w v)
 
 -- Core's memory after a store
-abbrev stored : Memory → Region → ℕ → Object → Memory
-stored m r i o = with_part m (spot_of r i) 0 (part_of o)
+abbrev stored : Memory → Region → (i k : ℕ) → Slot → Memory
+stored m r i k s = with_part m (spot_of r i k) 0 (first_part s)
 
--- what a store does where the region shows the object
-store_is : {m : Memory} {r : Region} {objects objects' : List Object} (shows : Shows m r objects) (i : ℕ) (w : Width) (v : Value)
-    → (put : IsPut objects i w v objects')
+-- what a store does where the region shows the cell
+store_is : {m : Memory} {r : Region} {objects objects' : List (List Slot)} (shows : Shows m r objects) (i k b cells bytes : ℕ) (w : Width) (v : Value)
+    → (put : IsPut objects i (k + cells) (b + bytes) w v objects')
     → (u : Content) → u ≡ content_of v → (next : Memory → Step)
-    → reached m (at_once (bytes_of w)) (spot_of r i) 0 (λ there p. next (with_part m there 0 (record p { content = fitting (bytes_of w) u })))
-    ≡ next (stored m r i (put_object w v))
-store_is {m} {r} {objects} {objects'} shows i w v put u is next =
-    reached_is shows i w (λ there p. next (with_part m there 0 (record p { content = fitting (bytes_of w) u })))
-    ∙ ap (found w (λ p. next (with_part m (spot_of r i) 0 (record p { content = fitting (bytes_of w) u })))) put.there
-    ∙ found_put w put.old v u (λ p. next (with_part m (spot_of r i) 0 p)) put.wide is
+    → reached m (record { cells = cells; bytes = bytes; part = 0; width = bytes_of w }) (spot_of r i k) b
+    (λ there p. next (with_part m there 0 (record p { content = fitting (bytes_of w) u })))
+    ≡ next (stored m r i (k + cells) (with_value put.old (fitted w v)))
+store_is {m} {r} {objects} {objects'} shows i k b cells bytes w v put u is next =
+    reached_at m r i k b cells bytes (slot_at objects i (k + cells)) w (λ there p. next (with_part m there 0 (record p { content = fitting (bytes_of w) u })))
+    (part_there shows i (k + cells) 0)
+    ∙ ap (found (b + bytes) w (λ p. next (with_part m (spot_of r i (k + cells)) 0 (record p { content = fitting (bytes_of w) u }))))
+    (ap (λ o. cell_in o (k + cells)) put.object ∙ put.there)
+    ∙ found_put (b + bytes) w put.old v u (λ p. next (with_part m (spot_of r i (k + cells)) 0 p)) put.fits is
 
 -- ---- a store to a local
 
--- a store to a local of the block that stands there
-record IsBlockPut (blocks : List Activation) (p i : ℕ) (w : Width) (v : Value) (blocks' : List Activation) : Type 0 where
+-- a store to a cell of a local of the block that stands there
+record IsBlockPut (blocks : List Activation) (p i k byte : ℕ) (w : Width) (v : Value) (blocks' : List Activation) : Type 0 where
   pub block : Activation
-  pub objects' : List Object
+  pub objects' : List (List Slot)
   pub there : slice_get blocks p ≡ Some block
-  pub put : IsPut block.objects i w v objects'
+  pub put : IsPut block.objects i k byte w v objects'
   pub after : blocks' ≡ slice_set blocks p (record { number = block.number; objects = objects' })
 
-module _ (blocks : List Activation) (i : ℕ) (w : Width) (v : Value) where
-  put_there : (p : ℕ) (blocks' : List Activation) (b : Activation) (o : Option (List Object)) → slice_get blocks p ≡ Some b → put_in b.objects i w v ≡ o
-      → put_block blocks p b o ≡ Some blocks' → IsBlockPut blocks p i w v blocks'
+module _ (blocks : List Activation) (i k byte : ℕ) (w : Width) (v : Value) where
+  put_there : (p : ℕ) (blocks' : List Activation) (b : Activation) (o : Option (List (List Slot))) → slice_get blocks p ≡ Some b
+      → put_in b.objects i k byte w v ≡ o
+      → option_map (put_block blocks p b) o ≡ Some blocks' → IsBlockPut blocks p i k byte w v blocks'
   put_there p blocks' b None at put e = cc
   put_there p blocks' b (Some objects') at put e =
-      record { block = b; objects' = objects'; there = at; put = put_is b.objects i w v objects' put; after = cc }
+      record { block = b; objects' = objects'; there = at; put = put_is b.objects i k byte w v objects' put; after = cc }
 
-  put_case : (p : ℕ) (blocks' : List Activation) (o : Option Activation) → slice_get blocks p ≡ o → put_among blocks p i w v o ≡ Some blocks'
-      → IsBlockPut blocks p i w v blocks'
+  put_case : (p : ℕ) (blocks' : List Activation) (o : Option Activation) → slice_get blocks p ≡ o → put_among blocks p i k byte w v o ≡ Some blocks'
+      → IsBlockPut blocks p i k byte w v blocks'
   put_case p blocks' None at e = cc
-  put_case p blocks' (Some b) at e = put_there p blocks' b (put_in b.objects i w v) at refl e
+  put_case p blocks' (Some b) at e = put_there p blocks' b (put_in b.objects i k byte w v) at refl e
 
-  block_put_is : (p : ℕ) (blocks' : List Activation) → put_through blocks (Some p) i w v ≡ Some blocks' → IsBlockPut blocks p i w v blocks'
+  block_put_is : (p : ℕ) (blocks' : List Activation) → put_through blocks (Some p) i k byte w v ≡ Some blocks' → IsBlockPut blocks p i k byte w v blocks'
   block_put_is p blocks' e = put_case p blocks' (slice_get blocks p) refl e
 
-  no_put_block : (p : ℕ) (b : Activation) (o : Option (List Object)) → put_block blocks p b o ≡ None → o ≡ None
+  no_put_block : (p : ℕ) (b : Activation) (o : Option (List (List Slot))) → option_map (put_block blocks p b) o ≡ None → o ≡ None
   no_put_block p b None e = refl
   no_put_block p b (Some objects) e = cc
 
-  unput_among : (p : ℕ) (o : Option Activation) (next : Part → Step) → put_among blocks p i w v o ≡ None → found w next (object_among o i) ≡ stuck
+  unput_among : (p : ℕ) (o : Option Activation) (next : Part → Step) → put_among blocks p i k byte w v o ≡ None → found byte w next (slot_among o i k) ≡ stuck
   unput_among p None next e = refl
-  unput_among p (Some b) next e = unput_is b.objects i w v next (no_put_block p b (put_in b.objects i w v) e)
+  unput_among p (Some b) next e = unput_is b.objects i k byte w v next (no_put_block p b (put_in b.objects i k byte w v) e)
 
   -- where nothing is stored nothing is found
-  unput_found : (o : Option ℕ) (next : Part → Step) → put_through blocks o i w v ≡ None → found w next (object_through blocks o i) ≡ stuck
+  unput_found : (o : Option ℕ) (next : Part → Step) → put_through blocks o i k byte w v ≡ None → found byte w next (slot_through blocks o i k) ≡ stuck
   unput_found None next e = refl
   unput_found (Some p) next e = unput_among p (slice_get blocks p) next e
 
-module _ (known : Known) (ws : List Wait) (marks : List Mark) (c : Config) (h : Agrees known ws marks c) where
-  block_agrees : (p i : ℕ) (b : Activation) (o old : Object) → slice_get known.blocks p ≡ Some b → slice_get b.objects i ≡ Some old
-      → Agrees (record known { blocks = slice_set known.blocks p (record { number = b.number; objects = slice_set b.objects i o }) }) ws marks
-      (with_memory (stored c.memory (Frame b.number) i o) c)
-  block_agrees p i b o old at there =
-      let (below, shows) = nested_shows c.memory c.memory.activations c.blocks known.base known.blocks ws marks p b h.nested at in record {
-        temps = h.temps;
-        fresh = record {
-          empty = h.fresh.empty;
-          missing = λ k j le.
-              ap (λ t. if (t && (nat_eq j i && true)) && true then Some (part_of o) else c.memory.parts (spot_of (Frame k) j) 0)
-              (other_number k b.number (omega (arith, below, le)))
-              ∙ h.fresh.missing k j le;
-        };
-        globals = shows_part h.globals (Frame b.number) refl i (part_of o);
-        nested = nested_put c.memory (stored c.memory (Frame b.number) i o) b.number (slice_set b.objects i o) (shows_put shows i o old there)
-            (λ q os other s. shows_part s (Frame b.number) (other_number q b.number other) i (part_of o))
-            c.memory.activations c.blocks known.base known.blocks ws marks p b at refl h.nested;
-        entered = h.entered;
-        live = λ k gone. h.live k (sym (position_put known.blocks p k b (record { number = b.number; objects = slice_set b.objects i o }) at refl) ∙ gone);
+-- ---- a store to an object of an area
+
+pub record IsStored (known : Known) (a : Area) (i k byte : ℕ) (w : Width) (v : Value) (after : Stored) : Type 0 where
+  pub objects : List (List Slot)
+  pub objects' : List (List Slot)
+  pub put : IsPut objects i k byte w v objects'
+  pub replaces : Replaces known a objects objects' after
+
+module _ (known : Known) (i k byte : ℕ) (w : Width) (v : Value) where
+  global_stored : (after : Stored) (o : Option (List (List Slot))) → put_in known.globals i k byte w v ≡ o
+      → option_map (λ globals. record (stored_in known) { globals = globals }) o ≡ Some after → IsStored known area.Globals i k byte w v after
+  global_stored after None put e = cc
+  global_stored after (Some globals) put e = record {
+    objects = known.globals;
+    objects' = globals;
+    put = put_is known.globals i k byte w v globals put;
+    replaces = (refl, cc);
+  }
+
+  block_stored : (n : ℕ) (after : Stored) (p : Option ℕ) (o : Option (List Activation)) → position_of known.blocks n ≡ p
+      → put_through known.blocks p i k byte w v ≡ o
+      → option_map (λ blocks. record (stored_in known) { blocks = blocks }) o ≡ Some after → IsStored known (area.Block n) i k byte w v after
+  block_stored n after None o at put e = cc
+  block_stored n after (Some p) None at put e = cc
+  block_stored n after (Some p) (Some blocks) at put e =
+      let is = block_put_is known.blocks i k byte w v p blocks put in record {
+        objects = is.block.objects;
+        objects' = is.objects';
+        put = is.put;
+        replaces = (
+          p,
+          is.block,
+          at,
+          is.there,
+          refl,
+          (let same : record (stored_in known) { blocks = blocks } ≡ after = cc in
+              sym same ∙ ap (λ bs. record (stored_in known) { blocks = bs }) is.after),
+        );
       }
 
-  global_agrees : (g : ℕ) (o old : Object) → slice_get known.globals g ≡ Some old
-      → Agrees (record known { globals = slice_set known.globals g o }) ws marks (with_memory (stored c.memory (Born 0) g o) c)
-  global_agrees g o old at = record {
-    temps = h.temps;
-    fresh = record { empty = h.fresh.empty; missing = h.fresh.missing };
-    globals = shows_put h.globals g o old at;
-    nested = nested_still c.memory (stored c.memory (Born 0) g o) c.memory.activations c.memory.activations c.blocks known.base known.blocks ws marks
-        (omega arith)
-        (λ k os below s. shows_part s (Born 0) refl g (part_of o)) h.nested;
-    entered = h.entered;
-    live = h.live;
-  }
+  pub put_stored : (a : Area) (after : Stored) → put_to (stored_in known) a i k byte w v ≡ Some after → IsStored known a i k byte w v after
+  put_stored area.Globals after e = global_stored after (put_in known.globals i k byte w v) refl e
+  put_stored (area.Block n) after e =
+      block_stored n after (position_of known.blocks n) (put_through known.blocks (position_of known.blocks n) i k byte w v) refl refl e
+
+  none_mapped : {A B : Type 0} (f : A → B) (o : Option A) → option_map f o ≡ None → o ≡ None
+  none_mapped f None e = refl
+  none_mapped f (Some x) e = cc
+
+  pub unput_stored : (a : Area) (next : Part → Step) → put_to (stored_in known) a i k byte w v ≡ None
+      → found byte w next (slot_in known.blocks known.globals a i k) ≡ stuck
+  unput_stored area.Globals next e =
+      unput_is known.globals i k byte w v next (none_mapped (λ globals. record (stored_in known) { globals = globals }) (put_in known.globals i k byte w v) e)
+  unput_stored (area.Block n) next e =
+      unput_found known.blocks i k byte w v (position_of known.blocks n) next
+      (none_mapped (λ blocks. record (stored_in known) { blocks = blocks }) (put_through known.blocks (position_of known.blocks n) i k byte w v) e)
 
 -- ---- moves
 
 module _ (known : Known) (ws : List Wait) (x : ℕ) (v : Value) (read : content_of v ≡ temp_of known.temps x) where
-  -- the memory after a store to a local of a block
-  abbrev after_put : Config → ℕ → ℕ → Width → Config
-  after_put c k i w = with_memory (stored c.memory (Frame k) i (put_object w v)) c
+  -- the memory after a store to an object of an area
+  abbrev after_put : Config → Region → (i k : ℕ) → Slot → Config
+  after_put c r i k s = with_memory (stored c.memory r i k s) c
 
-  put_agrees : (p i : ℕ) (w : Width) (blocks : List Activation) (is : IsBlockPut known.blocks p i w v blocks) (marks : List Mark) (c : Config)
-      → Agrees known ws marks c → Agrees (record known { blocks = blocks }) ws marks (after_put c is.block.number i w)
-  put_agrees p i w blocks is marks c h =
-      subst (λ (bs : List Activation). Agrees (record known { blocks = bs }) ws marks (after_put c is.block.number i w))
-      (sym (is.after ∙ ap (λ os. slice_set known.blocks p (record { number = is.block.number; objects = os })) is.put.after))
-      (block_agrees known ws marks c h p i is.block (put_object w v) is.put.old is.there is.put.there)
+  stored_agrees : (a : Area) (i k byte : ℕ) (w : Width) (after : Stored) (is : IsStored known a i k byte w v after) (marks : List Mark) (c : Config)
+      → Agrees known ws marks c
+      → Agrees (with_stored known after) ws marks (after_put c (region_of a) i k (with_value is.put.old (fitted w v)))
+  stored_agrees a i k byte w after is marks c h =
+      replaced_agrees known ws marks c h (stored c.memory (region_of a) i k (with_value is.put.old (fitted w v))).parts a is.objects is.objects' after is.replaces
+      (λ t j other. part_elsewhere c.memory (region_of a) i k 0 (first_part (with_value is.put.old (fitted w v))) t j other)
+      (λ y z j.
+      parts_put (replaced_shows known ws marks c h a is.objects is.objects' after is.replaces) i k is.put.cells is.put.old (fitted w v) is.put.object is.put.there y
+      z j
+      ∙ ap (λ os. part_in (slot_at os y z) j) (sym is.put.after))
 
-  put_step : (p i : ℕ) (w : Width) (blocks : List Activation) (is : IsBlockPut known.blocks p i w v blocks) (marks : List Mark) (c : Config)
+  stored_step : (a : Area) (i k b cells bytes : ℕ) (w : Width) (after : Stored) (is : IsStored known a i (k + cells) (b + bytes) w v after) (marks : List Mark)
+      (c : Config)
       → Agrees known ws marks c → (next : Memory → Step)
-      → reached c.memory (at_once (bytes_of w)) (spot_of (Frame is.block.number) i) 0 (λ at q.
-      next (with_part c.memory at 0 (record q { content = fitting (bytes_of w) (c.temps x) })))
-      ≡ next (stored c.memory (Frame is.block.number) i (put_object w v))
-  put_step p i w blocks is marks c h next =
-      store_is (shown known ws marks c h p is.block is.there) i w v is.put (c.temps x) (h.temps x ∙ sym read) next
+      → reached c.memory (record { cells = cells; bytes = bytes; part = 0; width = bytes_of w }) (spot_of (region_of a) i k) b
+      (λ at q. next (with_part c.memory at 0 (record q { content = fitting (bytes_of w) (c.temps x) })))
+      ≡ next (stored c.memory (region_of a) i (k + cells) (with_value is.put.old (fitted w v)))
+  stored_step a i k b cells bytes w after is marks c h next =
+      store_is (replaced_shows known ws marks c h a is.objects is.objects' after is.replaces) i k b cells bytes w v is.put (c.temps x) (h.temps x ∙ sym read) next
+
+  -- a store to a local, as a store to an object of its block
+  own_stored : (p i : ℕ) (w : Width) (blocks : List Activation) (b : Activation) → slice_get known.blocks p ≡ Some b
+      → position_of known.blocks b.number ≡ Some p
+      → put_through known.blocks (Some p) i 0 0 w v ≡ Some blocks
+      → IsStored known (area.Block b.number) i 0 0 w v (record (stored_in known) { blocks = blocks })
+  own_stored p i w blocks b there at e =
+      block_stored known i 0 0 w v b.number (record (stored_in known) { blocks = blocks }) (Some p) (Some blocks) at e refl
 
   own_put : (out i : ℕ) (w : Width) (blocks : List Activation) (o : Option ℕ) → own_position known.base known.blocks out ≡ o
-      → put_through known.blocks o i w v ≡ Some blocks
+      → put_through known.blocks o i 0 0 w v ≡ Some blocks
       → IsMove (Execute (core.Do (core.Put out i (bytes_of w) x))) ws known (Go (Leave steps.Falls)) ws (record known { blocks = blocks })
   own_put out i w blocks None own e = cc
   own_put out i w blocks (Some p) own e =
-      let is = block_put_is known.blocks i w v p blocks e in
+      let is = block_put_is known.blocks i 0 0 w v p blocks e in
       record {
         still = all_stand _ ws known _ ws (record known { blocks = blocks }) (λ main marks c h.
-            goes_here main marks (after_put c is.block.number i w) _ _ ws (record known { blocks = blocks })
-            (put_agrees p i w blocks is marks c h)
+            let at = position_is known.entered known.blocks p is.block (descends known ws marks c h) is.there in
+            let s = own_stored p i w blocks is.block is.there at e in
+            goes_here main marks (after_put c (Frame is.block.number) i 0 (with_value s.put.old (fitted w v))) _ _ ws (record known { blocks = blocks })
+            (stored_agrees (area.Block is.block.number) i 0 0 w (record (stored_in known) { blocks = blocks }) s marks c h)
             (ap (λ n. needed n (λ k. reached c.memory (at_once (bytes_of w)) (local_spot k i) 0 (λ at q.
             rest_of main ws marks steps.Falls (with_memory (with_part c.memory at 0 (record q { content = fitting (bytes_of w) (c.temps x) })) c))))
             (own_number known ws marks c h out ∙ ap (number_through known.blocks) own ∙ ap (option_map (λ b. b.number)) is.there)
-            ∙ put_step p i w blocks is marks c h (λ m. rest_of main ws marks steps.Falls (with_memory m c))));
+            ∙ stored_step (area.Block is.block.number) i 0 0 0 0 w (record (stored_in known) { blocks = blocks }) s marks c h
+            (λ m. rest_of main ws marks steps.Falls (with_memory m c))));
         fewer = omega arith;
       }
 
@@ -205,79 +242,41 @@ module _ (known : Known) (ws : List Wait) (x : ℕ) (v : Value) (read : content_
       goes_wrong (core.Put out i (bytes_of w) x) ws known (λ marks c h next.
       own_is known ws marks c h out i w (λ at q. next (with_memory (with_part c.memory at 0 (record q { content = fitting (bytes_of w) (c.temps x) })) c))
       ∙ stuck_found (number_through known.blocks (own_position known.base known.blocks out))
-      (λ k. found w (λ q. next (with_memory (with_part c.memory (local_spot k i) 0 (record q { content = fitting (bytes_of w) (c.temps x) })) c))
-      (local_object known.base known.blocks out i))
-      (λ k. unput_found known.blocks i w v (own_position known.base known.blocks out)
+      (λ k. found 0 w (λ q. next (with_memory (with_part c.memory (local_spot k i) 0 (record q { content = fitting (bytes_of w) (c.temps x) })) c))
+      (local_slot known.base known.blocks out i))
+      (λ k. unput_found known.blocks i 0 0 w v (own_position known.base known.blocks out)
       (λ q. next (with_memory (with_part c.memory (local_spot k i) 0 (record q { content = fitting (bytes_of w) (c.temps x) })) c)) e))
 
-  -- ---- through a pointer to a local
+  -- ---- through a pointer
 
-  module _ (p k i : ℕ) (read_place : content_of (value.Local k i) ≡ temp_of known.temps p) where
+  module _ (y : ℕ) (u : Value) (read_place : content_of u ≡ temp_of known.temps y) (p : Place) (is_place : u ≡ value.Pointer p) (d : Distance) where
     -- what a store does to each state
-    abbrev stores : (w : Width) (c : Config) → (Config → Step) → Content → Step
-    stores w c next z = pointer_of z (λ s b. reached c.memory (trees.at_once w) s b (λ at q.
-        next (with_memory (with_part c.memory at 0 (record q { content = fitting (bytes_of w) (c.temps x) })) c)))
+    abbrev stores : (c : Config) → (Config → Step) → Content → Step
+    stores c next z = pointer_of z (λ s b. reached c.memory (distance_tree d) s b (λ at q.
+        next (with_memory (with_part c.memory at 0 (record q { content = fitting (bytes_of d.width) (c.temps x) })) c)))
 
-    stored_there : (w : Width) (blocks : List Activation) (main : ℕ) (marks : List Mark) (c : Config) → Agrees known ws marks c → (o : Option ℕ)
-        → position_of known.blocks k ≡ o → put_through known.blocks o i w v ≡ Some blocks
-        → Stands main (stores w c (rest_of main ws marks steps.Falls) (content_of (value.Local k i))) (Go (Leave steps.Falls)) ws
-        (record known { blocks = blocks })
-    stored_there w blocks main marks c h None at e = cc
-    stored_there w blocks main marks c h (Some q) at e =
-        let is = block_put_is known.blocks i w v q blocks e in
-        let same : Some is.block.number ≡ Some k = sym (ap (option_map (λ b. b.number)) is.there) ∙ position_there known.blocks k q at in
-        let number : is.block.number ≡ k = cc in
-        subst (λ (n : ℕ). Stands main (stores w c (rest_of main ws marks steps.Falls) (content_of (value.Local n i))) (Go (Leave steps.Falls)) ws
-        (record known { blocks = blocks })) number
-        (goes_here main marks (after_put c is.block.number i w) _ _ ws (record known { blocks = blocks }) (put_agrees q i w blocks is marks c h)
-        (put_step q i w blocks is marks c h (λ m. rest_of main ws marks steps.Falls (with_memory m c))))
-
-    pub store_local_moves : (w : Width) (blocks : List Activation)
-        → (Descends known.entered known.blocks → put_through known.blocks (position_of known.blocks k) i w v ≡ Some blocks)
-        → IsMove (Execute (core.Do (core.Store p (trees.at_once w) x))) ws known (Go (Leave steps.Falls)) ws (record known { blocks = blocks })
-    store_local_moves w blocks e = record {
-      still = all_stand _ ws known _ ws (record known { blocks = blocks }) (λ main marks c h.
-          subst (λ (z : Content). Stands main (stores w c (rest_of main ws marks steps.Falls) z) (Go (Leave steps.Falls)) ws (record known { blocks = blocks }))
-          (read_place ∙ sym (h.temps p))
-          (stored_there w blocks main marks c h (position_of known.blocks k) refl (e (descends known ws marks c h))));
+    pub store_moves : (after : Stored)
+        → (Descends known.entered known.blocks → put_to (stored_in known) p.area p.object (p.cell + d.cells) (p.byte + d.bytes) d.width v ≡ Some after)
+        → IsMove (Execute (core.Do (core.Store y (distance_tree d) x))) ws known (Go (Leave steps.Falls)) ws (with_stored known after)
+    store_moves after e = record {
+      still = all_stand _ ws known _ ws (with_stored known after) (λ main marks c h.
+          let is = put_stored known p.object (p.cell + d.cells) (p.byte + d.bytes) d.width v p.area after (e (descends known ws marks c h)) in
+          goes_here main marks (after_put c (region_of p.area) p.object (p.cell + d.cells) (with_value is.put.old (fitted d.width v))) _ _ ws
+          (with_stored known after)
+          (stored_agrees p.area p.object (p.cell + d.cells) (p.byte + d.bytes) d.width after is marks c h)
+          (ap (stores c (rest_of main ws marks steps.Falls)) (h.temps y ∙ sym read_place ∙ ap content_of is_place)
+          ∙ stored_step p.area p.object p.cell p.byte d.cells d.bytes d.width after is marks c h (λ m. rest_of main ws marks steps.Falls (with_memory m c))));
       fewer = omega arith;
     }
 
-    pub store_local_wrong : (w : Width) → (Descends known.entered known.blocks → put_through known.blocks (position_of known.blocks k) i w v ≡ None)
-        → IsMove (Execute (core.Do (core.Store p (trees.at_once w) x))) ws known Wrong ws known
-    store_local_wrong w e =
-        goes_wrong (core.Store p (trees.at_once w) x) ws known (λ marks c h next.
-        ap (stores w c next) (h.temps p ∙ sym read_place)
-        ∙ number_is known ws marks c h k i w (λ at q. next (with_memory (with_part c.memory at 0 (record q { content = fitting (bytes_of w) (c.temps x) })) c))
-        ∙ unput_found known.blocks i w v (position_of known.blocks k)
-        (λ q. next (with_memory (with_part c.memory (spot_of (Frame k) i) 0 (record q { content = fitting (bytes_of w) (c.temps x) })) c))
+    pub store_wrong : (Descends known.entered known.blocks → put_to (stored_in known) p.area p.object (p.cell + d.cells) (p.byte + d.bytes) d.width v ≡ None)
+        → IsMove (Execute (core.Do (core.Store y (distance_tree d) x))) ws known Wrong ws known
+    store_wrong e =
+        goes_wrong (core.Store y (distance_tree d) x) ws known (λ marks c h next.
+        ap (stores c next) (h.temps y ∙ sym read_place ∙ ap content_of is_place)
+        ∙ placed known ws marks c h p d
+        (λ at q. next (with_memory (with_part c.memory at 0 (record q { content = fitting (bytes_of d.width) (c.temps x) })) c))
+        ∙ unput_stored known p.object (p.cell + d.cells) (p.byte + d.bytes) d.width v p.area
+        (λ q. next (with_memory (with_part c.memory (spot_of (region_of p.area) p.object (p.cell + d.cells)) 0
+        (record q { content = fitting (bytes_of d.width) (c.temps x) })) c))
         (e (descends known ws marks c h)))
-
-  -- through a pointer to a global
-  module _ (p g : ℕ) (u : Value) (read_place : content_of u ≡ temp_of known.temps p) (is_place : u ≡ value.Global g) where
-    pub store_moves : (w : Width) (globals : List Object) → put_in known.globals g w v ≡ Some globals
-        → IsMove (Execute (core.Do (core.Store p (trees.at_once w) x))) ws known (Go (Leave steps.Falls)) ws (record known { globals = globals })
-    store_moves w globals e =
-        let put = put_is known.globals g w v globals e in
-        record {
-          still = all_stand _ ws known _ ws (record known { globals = globals }) (λ main marks c h.
-              goes_here main marks (with_memory (stored c.memory (Born 0) g (put_object w v)) c) _ _ ws (record known { globals = globals })
-              (subst (λ (os : List Object). Agrees (record known { globals = os }) ws marks (with_memory (stored c.memory (Born 0) g (put_object w v)) c))
-              (sym put.after)
-              (global_agrees known ws marks c h g (put_object w v) put.old put.there))
-              (ap (λ (z : Content). pointer_of z (λ s b. reached c.memory (trees.at_once w) s b (λ at part.
-              rest_of main ws marks steps.Falls (with_memory (with_part c.memory at 0 (record part { content = fitting (bytes_of w) (c.temps x) })) c))))
-              (h.temps p ∙ sym read_place ∙ ap content_of is_place)
-              ∙ store_is h.globals g w v put (c.temps x) (h.temps x ∙ sym read) (λ m. rest_of main ws marks steps.Falls (with_memory m c))));
-          fewer = omega arith;
-        }
-
-    pub store_wrong : (w : Width) → put_in known.globals g w v ≡ None → IsMove (Execute (core.Do (core.Store p (trees.at_once w) x))) ws known Wrong ws known
-    store_wrong w e =
-        goes_wrong (core.Store p (trees.at_once w) x) ws known (λ marks c h next.
-        ap (λ (z : Content). pointer_of z (λ s b. reached c.memory (trees.at_once w) s b (λ at part.
-        next (with_memory (with_part c.memory at 0 (record part { content = fitting (bytes_of w) (c.temps x) })) c))))
-        (h.temps p ∙ sym read_place ∙ ap content_of is_place)
-        ∙ reached_is h.globals g w (λ at part. next (with_memory (with_part c.memory at 0 (record part { content = fitting (bytes_of w) (c.temps x) })) c))
-        ∙ unput_is known.globals g w v
-        (λ part. next (with_memory (with_part c.memory (spot_of (Born 0) g) 0 (record part { content = fitting (bytes_of w) (c.temps x) })) c)) e)

@@ -6,7 +6,7 @@ use Rattle.core_eval.specs.declared.value.Value.{Value}
 use Rattle.core_eval.specs.declared.frame.Frame.{Frame}
 use Rattle.core_eval.specs.declared.memory.Memory.{Memory}
 use Rattle.core_eval.specs.declared.pending.Due.{Due}
-use Rattle.core_eval.specs.Values.{content_of}
+use Rattle.core_eval.specs.Values.{content_of, cells_of}
 use Rattle.core_eval.specs.Blocks.{activation_of}
 use Rattle.core_eval.specs.Pendings.{Task, Leave, Wait, Block, Caller, Next, Go, next_of, saved_of}
 use Rattle.core_eval.specs.Standing.{Known, Gives, known_of}
@@ -41,9 +41,9 @@ pub block_left : (exit : Exit) (ws : List Wait) (f : Frame) (m m' : Memory) → 
     → IsMove (Leave exit) (Block ∷ ws) (known_of f m) (Go (Leave exit)) ws (known_of f m')
 block_left exit ws f m m' blocks entered globals =
     subst (λ (k : Known). IsMove (Leave exit) (Block ∷ ws) (known_of f m) (Go (Leave exit)) ws k)
-    (sym (ap (λ bs. record { temps = f.temps.items; base = f.base; blocks = bs; entered = m'.entered; globals = m'.globals.items }) blocks
-    ∙ ap (λ n. record (outside_of (known_of f m)) { entered = n; globals = m'.globals.items }) entered
-    ∙ ap (λ gs. record (outside_of (known_of f m)) { globals = gs.items }) globals))
+    (sym (ap (λ bs. record { temps = f.temps.items; base = f.base; blocks = bs; entered = m'.entered; globals = map cells_of m'.globals.items }) blocks
+    ∙ ap (λ n. record (outside_of (known_of f m)) { entered = n; globals = map cells_of m'.globals.items }) entered
+    ∙ ap (λ gs. record (outside_of (known_of f m)) { globals = map cells_of gs.items }) globals))
     (block_leaves exit ws (known_of f m))
 
 -- a temporary of the caller gets the result

@@ -4,6 +4,7 @@ use Rattle.std.specs.Prelude.{
   suc,
   ◌+◌,
   ◌<◌,
+  ◌&&◌,
   Bool,
   false,
   Option,
@@ -13,6 +14,7 @@ use Rattle.std.specs.Prelude.{
   [],
   ◌∷◌,
   length,
+  map,
   slice_get,
   slice_set,
   nat_eq,
@@ -21,19 +23,23 @@ use Rattle.std.specs.Prelude.{
   if◌then◌else◌,
 }
 use Rattle.cyc_core.specs.declared.operation.Width.{Width}
+use Rattle.core_eval.specs.declared.value.Area.{Area}
+use Rattle.core_eval.specs.declared.value.Area.TheVariants as area
+use Rattle.core_eval.specs.declared.value.Place.{Place}
 use Rattle.core_eval.specs.declared.value.Value.{Value}
 use Rattle.core_eval.specs.declared.value.Value.TheVariants as value
-use Rattle.core_eval.specs.declared.value.Object.{Object}
+use Rattle.core_eval.specs.declared.value.Slot.{Slot}
 use Rattle.core_eval.specs.declared.memory.Block.{Block}
-use Rattle.core_eval.specs.Values.{null_of, put_in, same_pointer}
+use Rattle.core_eval.specs.declared.memory.Memory.{Memory}
+use Rattle.core_eval.specs.Values.{cells_of, slot_at, null_of, put_in, same_cell}
 
 -- the locals of a block that isn't left yet, and how many blocks were entered before it
 pub record Activation : Type 0 where
   pub number : ℕ
-  pub objects : List Object
+  pub objects : List (List Slot)
 
 abbrev pub activation_of : Block → Activation
-activation_of b = record { number = b.number; objects = b.objects.items }
+activation_of b = record { number = b.number; objects = map cells_of b.objects.items }
 
 -- their numbers fall from the innermost one on, below a bound
 abbrev pub Descends : ℕ → List Activation → Type 0
@@ -51,26 +57,25 @@ abbrev pub position_of : List Activation → ℕ → Option ℕ
 position_of [] k = None
 position_of (b ∷ bs) k = (if nat_eq b.number k then Some 0 else option_map suc (position_of bs k))
 
--- ---- objects
+-- ---- cells
 
-abbrev pub object_among : Option Activation → ℕ → Option Object
-object_among None i = None
-object_among (Some b) i = slice_get b.objects i
+abbrev pub slot_among : Option Activation → (i k : ℕ) → Option Slot
+slot_among None i k = None
+slot_among (Some b) i k = slot_at b.objects i k
 
--- a local of the block that stands there
-abbrev pub object_through : List Activation → Option ℕ → ℕ → Option Object
-object_through blocks None i = None
-object_through blocks (Some position) i = object_among (slice_get blocks position) i
+-- the cell k of the local i of the block that stands there
+abbrev pub slot_through : List Activation → Option ℕ → (i k : ℕ) → Option Slot
+slot_through blocks None i k = None
+slot_through blocks (Some position) i k = slot_among (slice_get blocks position) i k
 
--- the local of the block so many out
-abbrev pub local_object : ℕ → List Activation → (out index : ℕ) → Option Object
-local_object base blocks out index = object_through blocks (own_position base blocks out) index
+-- the first cell of a local of the block so many out
+abbrev pub local_slot : ℕ → List Activation → (out index : ℕ) → Option Slot
+local_slot base blocks out index = slot_through blocks (own_position base blocks out) index 0
 
--- what a pointer leads to
-abbrev pub object_to : List Activation → List Object → Value → Option Object
-object_to blocks globals (value.Global g) = slice_get globals g
-object_to blocks globals (value.Local k i) = object_through blocks (position_of blocks k) i
-object_to blocks globals _ = None
+-- the cell k of an object of an area
+abbrev pub slot_in : List Activation → List (List Slot) → Area → (i k : ℕ) → Option Slot
+slot_in blocks globals area.Globals i k = slot_at globals i k
+slot_in blocks globals (area.Block n) i k = slot_through blocks (position_of blocks n) i k
 
 -- ---- pointers
 
@@ -78,42 +83,70 @@ abbrev pub number_through : List Activation → Option ℕ → Option ℕ
 number_through blocks None = None
 number_through blocks (Some position) = option_map (λ b. b.number) (slice_get blocks position)
 
+-- the beginning of a local
+abbrev pub local_place : ℕ → ℕ → Place
+local_place k index = record { area = area.Block k; object = index; byte = 0; cell = 0 }
+
 -- a pointer to the local of the block so many out
 abbrev pub local_address : ℕ → List Activation → (out index : ℕ) → Option Value
-local_address base blocks out index = option_map (λ k. value.Local k index) (number_through blocks (own_position base blocks out))
+local_address base blocks out index = option_map (λ k. value.Pointer (local_place k index)) (number_through blocks (own_position base blocks out))
 
--- where both are there
-abbrev pub both_there : Option Object → Option Object → Bool → Option Bool
-both_there (Some o) (Some p) same = Some same
-both_there _ _ same = None
+-- the beginning of a global
+abbrev pub global_place : ℕ → Place
+global_place index = record { area = area.Globals; object = index; byte = 0; cell = 0 }
+
+-- whether there is a cell, and it lies so many bytes on
+abbrev pub is_there : ℕ → Option Slot → Bool
+is_there byte None = false
+is_there byte (Some s) = nat_eq s.offset byte
+
+-- whether two places are one, where each leads to what is there
+abbrev pub same_places : List Activation → List (List Slot) → Place → Place → Option Bool
+same_places blocks globals p q =
+    (if is_there p.byte (slot_in blocks globals p.area p.object p.cell) && is_there q.byte (slot_in blocks globals q.area q.object q.cell)
+    then Some (same_cell p q) else None)
 
 -- a pointer that isn't NULL, and another value
-abbrev pub same_with : List Activation → List Object → Value → Value → Option Bool
-same_with blocks globals u value.Null = Some false
-same_with blocks globals u v = both_there (object_to blocks globals u) (object_to blocks globals v) (same_pointer u v)
+abbrev pub same_with : List Activation → List (List Slot) → Place → Value → Option Bool
+same_with blocks globals p value.Null = Some false
+same_with blocks globals p (value.Pointer q) = same_places blocks globals p q
+same_with blocks globals p _ = None
 
 -- whether two values are one pointer, where each is NULL or leads to what is there
-abbrev pub same_values : List Activation → List Object → Value → Value → Option Bool
+abbrev pub same_values : List Activation → List (List Slot) → Value → Value → Option Bool
 same_values blocks globals value.Null v = null_of v
-same_values blocks globals (value.Global g) v = same_with blocks globals (value.Global g) v
-same_values blocks globals (value.Local k i) v = same_with blocks globals (value.Local k i) v
+same_values blocks globals (value.Pointer p) v = same_with blocks globals p v
 same_values blocks globals _ v = None
 
 -- ---- stores
 
-abbrev pub put_block : List Activation → ℕ → Activation → Option (List Object) → Option (List Activation)
-put_block blocks position b None = None
-put_block blocks position b (Some objects) = Some (slice_set blocks position (record { number = b.number; objects = objects }))
+-- the block that stands there with other locals
+abbrev pub put_block : List Activation → ℕ → Activation → List (List Slot) → List Activation
+put_block blocks position b objects = slice_set blocks position (record { number = b.number; objects = objects })
 
-abbrev pub put_among : List Activation → (position index : ℕ) → Width → Value → Option Activation → Option (List Activation)
-put_among blocks position index w v None = None
-put_among blocks position index w v (Some b) = put_block blocks position b (put_in b.objects index w v)
+abbrev pub put_among : List Activation → (position i k byte : ℕ) → Width → Value → Option Activation → Option (List Activation)
+put_among blocks position i k byte w v None = None
+put_among blocks position i k byte w v (Some b) = option_map (put_block blocks position b) (put_in b.objects i k byte w v)
 
--- the blocks after a store to a local of the block that stands there, where there is one, and so wide
-abbrev pub put_through : List Activation → Option ℕ → ℕ → Width → Value → Option (List Activation)
-put_through blocks None index w v = None
-put_through blocks (Some position) index w v = put_among blocks position index w v (slice_get blocks position)
+-- the blocks after a store to a cell of a local of the block that stands there, where there is one, and it lies there and is so wide
+abbrev pub put_through : List Activation → Option ℕ → (i k byte : ℕ) → Width → Value → Option (List Activation)
+put_through blocks None i k byte w v = None
+put_through blocks (Some position) i k byte w v = put_among blocks position i k byte w v (slice_get blocks position)
 
--- the same for the block so many out
+-- the same for the first cell of a local of the block so many out
 abbrev pub put_local : ℕ → List Activation → (out index : ℕ) → Width → Value → Option (List Activation)
-put_local base blocks out index w v = put_through blocks (own_position base blocks out) index w v
+put_local base blocks out index w v = put_through blocks (own_position base blocks out) index 0 0 w v
+
+-- what is stored: the locals of all blocks, and the globals
+pub record Stored : Type 0 where
+  pub blocks : List Activation
+  pub globals : List (List Slot)
+
+abbrev pub stored_of : Memory → Stored
+stored_of m = record { blocks = map activation_of m.blocks.items; globals = map cells_of m.globals.items }
+
+-- what is stored after a store to a cell of an object of an area, where there is one, and it lies there and is so wide
+abbrev pub put_to : Stored → Area → (i k byte : ℕ) → Width → Value → Option Stored
+put_to stored area.Globals i k byte w v = option_map (λ globals. record stored { globals = globals }) (put_in stored.globals i k byte w v)
+put_to stored (area.Block n) i k byte w v =
+    option_map (λ blocks. record stored { blocks = blocks }) (put_through stored.blocks (position_of stored.blocks n) i k byte w v)

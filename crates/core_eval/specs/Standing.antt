@@ -8,13 +8,16 @@ use Rattle.core_meaning.specs.Core.{Function}
 use Rattle.core_meaning.specs.Meaning.{called}
 use Rattle.cyc_core.specs.declared.program.Datum.{Datum}
 use Rattle.cyc_core.specs.declared.program.Datum.TheVariants as datum
-use Rattle.cyc_core.specs.Trees.{cell_width, datum_cell}
+use Rattle.cyc_core.specs.declared.operation.Cell.{Cell}
+use Rattle.cyc_core.specs.declared.operation.Cell.TheVariants as cell
+use Rattle.cyc_core.specs.declared.layout.CellLayout.{CellLayout}
+use Rattle.cyc_core.specs.Trees.{cell_width}
 use Rattle.core_eval.specs.declared.value.Value.{Value}
 use Rattle.core_eval.specs.declared.value.Value.TheVariants as value
-use Rattle.core_eval.specs.declared.value.Object.{Object}
+use Rattle.core_eval.specs.declared.value.Slot.{Slot}
 use Rattle.core_eval.specs.declared.frame.Frame.{Frame}
 use Rattle.core_eval.specs.declared.memory.Memory as code
-use Rattle.core_eval.specs.Values.{spot_of, temp_of, Shows}
+use Rattle.core_eval.specs.Values.{spot_of, temp_of, cells_of, Shows, with_value, blank_slot}
 use Rattle.core_eval.specs.Blocks.{Activation, activation_of, position_of}
 use Rattle.core_eval.specs.Pendings.{Wait, Block, Caller, Next, Mark, rest_of, returned_to, coming}
 
@@ -25,7 +28,7 @@ Holds temps values = (k : ℕ) → temps k ≡ temp_of values k
 -- blocks that were not entered as yet have no objects
 pub record IsFresh (m : Memory) : Type 0 where
   pub empty : (k : ℕ) → m.activations ≤ k → m.objects (memory.Frame k) ≡ 0
-  pub missing : (k i : ℕ) → m.activations ≤ k → m.parts (spot_of (memory.Frame k) i) 0 ≡ None
+  pub missing : (k i cell j : ℕ) → m.activations ≤ k → m.parts (spot_of (memory.Frame k) i cell) j ≡ None
 
 -- Each block that is to be left shows its locals, and has a number below those of the blocks inside of it; outside of each function there are so many blocks as
 -- it knows of; and each caller's temporaries hold what was saved.
@@ -48,7 +51,7 @@ pub record Known : Type 0 where
   pub base : ℕ
   pub blocks : List Activation
   pub entered : ℕ
-  pub globals : List Object
+  pub globals : List (List Slot)
 
 -- a block that isn't among these is over, or was not entered as yet
 abbrev pub AreAllLive : Memory → List Activation → Type 0
@@ -101,7 +104,7 @@ known_of frame m = record {
   base = frame.base;
   blocks = map activation_of m.blocks.items;
   entered = m.entered;
-  globals = m.globals.items;
+  globals = map cells_of m.globals.items;
 }
 
 -- A call whose unit is paid: each state that is known so goes on thus.
@@ -112,14 +115,25 @@ IsCall functions results f arguments ws known next ws' known' =
 
 -- ---- the beginning
 
+-- what a cell begins as
+abbrev pub first_value : Cell → Value
+first_value cell.Byte = value.Word 0
+first_value cell.Word = value.Word 0
+first_value cell.Pointer = value.Null
+
+abbrev pub first_slot : CellLayout → Slot
+first_slot c = with_value (blank_slot c) (first_value c.cell)
+
+-- an object of one cell
+abbrev pub scalar : Cell → Value → List Slot
+scalar c v = record { offset = 0; width = cell_width c; padding = 0; value = v } ∷ []
+
 -- what a global begins as
-abbrev pub first_object : Datum → Object
-first_object d = record { width = cell_width (datum_cell d); value = first_value d }
-  where
-    first_value : Datum → Value
-    first_value (datum.Byte b) = value.Word b
-    first_value (datum.Word w) = value.Word w
-    first_value datum.Null = value.Null
+abbrev pub first_object : Datum → List Slot
+first_object (datum.Byte b) = scalar cell.Byte (value.Word b)
+first_object (datum.Word w) = scalar cell.Word (value.Word w)
+first_object datum.Null = scalar cell.Pointer value.Null
+first_object (datum.Whole l) = map first_slot l.value.cells.items
 
 -- what is known at first
 abbrev pub first_known : List Datum → Known

@@ -1,33 +1,78 @@
 -- The values and objects that an evaluator has, as those of Core's memory.
-use Rattle.std.specs.Prelude.{◌≡◌, ℕ, ◌%◌, ◌&&◌, Bool, true, false, Option, Some, None, List, map, slice_get, slice_set, nat_eq, not, if◌then◌else◌}
+use Rattle.std.specs.Prelude.{
+  ◌≡◌,
+  ℕ,
+  zero,
+  suc,
+  ◌+◌,
+  ◌%◌,
+  ◌&&◌,
+  Bool,
+  true,
+  false,
+  Option,
+  Some,
+  None,
+  List,
+  [],
+  ◌∷◌,
+  map,
+  slice_get,
+  slice_set,
+  nat_eq,
+  nat_lt,
+  not,
+  option_map,
+  if◌then◌else◌,
+}
 use Rattle.core_meaning.specs.Memory as memory
 use Rattle.core_meaning.specs.Memory.{Region, Frame, Born, Live, Spot, Content, Pointer, Part, Memory}
 use Rattle.core_meaning.specs.Meaning.{passed_in, values_of}
 use Rattle.cyc_core.specs.declared.operation.Cell.{Cell}
 use Rattle.cyc_core.specs.declared.operation.Width.{Width}
 use Rattle.cyc_core.specs.declared.operation.Width.TheVariants as width
+use Rattle.cyc_core.specs.declared.layout.CellLayout.{CellLayout}
+use Rattle.cyc_core.specs.declared.layout.Local.{Local}
+use Rattle.cyc_core.specs.declared.layout.Local.TheVariants as local
 use Rattle.cyc_core.specs.Trees.{bytes_of, cell_width}
+use Rattle.core_eval.specs.declared.value.Area.{Area}
+use Rattle.core_eval.specs.declared.value.Area.TheVariants as area
+use Rattle.core_eval.specs.declared.value.Place.{Place}
 use Rattle.core_eval.specs.declared.value.Value.{Value}
 use Rattle.core_eval.specs.declared.value.Value.TheVariants as value
+use Rattle.core_eval.specs.declared.value.Slot.{Slot}
 use Rattle.core_eval.specs.declared.value.Object.{Object}
+use Rattle.core_eval.specs.declared.value.Object.TheVariants as object
 
--- the first part of an object of one cell
-abbrev pub spot_of : Region → ℕ → Spot
-spot_of r object = record { region = r; object = object; cell = 0 }
+-- ---- places
 
--- locals and globals are pointed to, each at its one part
+abbrev pub region_of : Area → Region
+region_of area.Globals = Born 0
+region_of (area.Block k) = Frame k
+
+-- a cell of an object
+abbrev pub spot_of : Region → (object cell : ℕ) → Spot
+spot_of r object cell = record { region = r; object = object; cell = cell }
+
+abbrev pub place_spot : Place → Spot
+place_spot p = spot_of (region_of p.area) p.object p.cell
+
+-- a pointer leads to a cell of a global or a local
 abbrev pub content_of : Value → Content
 content_of value.Blank = memory.Blank
 content_of (value.Word n) = memory.Word n
 content_of value.Null = memory.Null
-content_of (value.Global object) = Pointer (spot_of (Born 0) object) 0
-content_of (value.Local activation object) = Pointer (spot_of (Frame activation) object) 0
+content_of (value.Pointer p) = Pointer (place_spot p) p.byte
 
 -- what a temporary holds: those that got nothing as yet are blank
 abbrev pub temp_of : List Value → ℕ → Content
 temp_of vs = passed_in (map content_of vs)
 
--- ---- objects of one part
+-- ---- objects: the cells of each
+
+abbrev pub cells_of : Object → List Slot
+cells_of (object.Scalar s) = s ∷ []
+cells_of (object.Whole slots) = slots.items
 
 abbrev pub same_width : Width → Width → Bool
 same_width width.Byte width.Byte = true
@@ -35,19 +80,30 @@ same_width width.Byte width.Word = false
 same_width width.Word width.Byte = false
 same_width width.Word width.Word = true
 
-abbrev pub part_of : Object → Part
-part_of o = record { offset = 0; width = bytes_of o.width; content = content_of o.value }
+-- a cell has the part that it is made for, and behind it the bytes that hold nothing
+abbrev pub part_of : Slot → ℕ → Option Part
+part_of s zero = Some (record { offset = s.offset; width = bytes_of s.width; content = content_of s.value })
+part_of s (suc j) =
+    (if nat_lt j s.padding then Some (record { offset = s.offset + bytes_of s.width + j; width = 1; content = memory.Blank }) else None)
 
-abbrev pub part_in : Option Object → Option Part
-part_in None = None
-part_in (Some o) = Some (part_of o)
+abbrev pub part_in : Option Slot → ℕ → Option Part
+part_in None j = None
+part_in (Some s) j = part_of s j
 
--- a live region has these objects, each of one part
-pub record Shows (m : Memory) (r : Region) (objects : List Object) : Type 0 where
+abbrev pub cell_in : Option (List Slot) → ℕ → Option Slot
+cell_in None k = None
+cell_in (Some slots) k = slice_get slots k
+
+-- the cell k of the object i
+abbrev pub slot_at : List (List Slot) → (i k : ℕ) → Option Slot
+slot_at objects i k = cell_in (slice_get objects i) k
+
+-- a live region has these objects
+pub record Shows (m : Memory) (r : Region) (objects : List (List Slot)) : Type 0 where
   pub live : m.standing r ≡ Live
-  pub holds : (i : ℕ) → m.parts (spot_of r i) 0 ≡ part_in (slice_get objects i)
+  pub holds : (i k j : ℕ) → m.parts (spot_of r i k) j ≡ part_in (slot_at objects i k) j
 
--- what an object of a width can hold: a byte has the low bits of a word, and nothing else
+-- what a cell of a width can hold: a byte has the low bits of a word, and nothing else
 abbrev pub low_byte : Value → Value
 low_byte (value.Word n) = value.Word (n % 256)
 low_byte _ = value.Blank
@@ -56,22 +112,48 @@ abbrev pub fitted : Width → Value → Value
 fitted width.Byte v = low_byte v
 fitted width.Word v = v
 
--- what an object holds, where there is one, and so wide
-abbrev pub value_of : Width → Option Object → Option Value
-value_of w None = None
-value_of w (Some o) = (if same_width o.width w then Some o.value else None)
+-- whether a cell lies so many bytes on, and is so wide
+abbrev pub is_fit : ℕ → Width → Slot → Bool
+is_fit byte w s = nat_eq s.offset byte && same_width s.width w
 
--- the objects after a store to one of them, where there is one, and so wide
-abbrev pub put_at : List Object → ℕ → Width → Value → Option Object → Option (List Object)
-put_at objects i w v None = None
-put_at objects i w v (Some o) = (if same_width o.width w then Some (slice_set objects i (record { width = w; value = fitted w v })) else None)
+-- what a cell holds, where there is one, and it lies there and is so wide
+abbrev pub value_of : ℕ → Width → Option Slot → Option Value
+value_of byte w None = None
+value_of byte w (Some s) = (if is_fit byte w s then Some s.value else None)
 
-abbrev pub put_in : List Object → ℕ → Width → Value → Option (List Object)
-put_in objects i w v = put_at objects i w v (slice_get objects i)
+-- the cell with another value
+abbrev pub with_value : Slot → Value → Slot
+with_value s v = record s { value = v }
 
--- a local that holds nothing as yet
-abbrev pub blank_object : Cell → Object
-blank_object c = record { width = cell_width c; value = value.Blank }
+-- the cells after a store to one of them, where there is one, and it lies there and is so wide
+abbrev pub put_slot : List Slot → (k byte : ℕ) → Width → Value → Option Slot → Option (List Slot)
+put_slot cells k byte w v None = None
+put_slot cells k byte w v (Some s) = (if is_fit byte w s then Some (slice_set cells k (with_value s (fitted w v))) else None)
+
+abbrev pub put_cell : List Slot → (k byte : ℕ) → Width → Value → Option (List Slot)
+put_cell cells k byte w v = put_slot cells k byte w v (slice_get cells k)
+
+-- the objects after a store to one of their cells
+abbrev pub put_object : List (List Slot) → (i k byte : ℕ) → Width → Value → Option (List Slot) → Option (List (List Slot))
+put_object objects i k byte w v None = None
+put_object objects i k byte w v (Some cells) = option_map (slice_set objects i) (put_cell cells k byte w v)
+
+abbrev pub put_in : List (List Slot) → (i k byte : ℕ) → Width → Value → Option (List (List Slot))
+put_in objects i k byte w v = put_object objects i k byte w v (slice_get objects i)
+
+-- ---- what a local begins as
+
+-- the cells of a local
+abbrev pub local_cells : Local → List CellLayout
+local_cells (local.Scalar c) = record { offset = 0; cell = c; padding = 0 } ∷ []
+local_cells (local.Whole l) = l.value.cells.items
+
+-- a cell that holds nothing as yet
+abbrev pub blank_slot : CellLayout → Slot
+blank_slot c = record { offset = c.offset; width = cell_width c.cell; padding = c.padding; value = value.Blank }
+
+abbrev pub blank_object : Local → List Slot
+blank_object l = map blank_slot (local_cells l)
 
 -- ---- what a condition and a call read
 
@@ -80,21 +162,23 @@ abbrev pub truth_of : Value → Option Bool
 truth_of value.Blank = None
 truth_of (value.Word n) = Some (not (nat_eq n 0))
 truth_of value.Null = Some false
-truth_of (value.Global object) = Some true
-truth_of (value.Local activation object) = Some true
+truth_of (value.Pointer p) = Some true
 
 -- whether a pointer is NULL; what is no pointer is neither
 abbrev pub null_of : Value → Option Bool
 null_of value.Null = Some true
-null_of (value.Global object) = Some false
-null_of (value.Local activation object) = Some false
+null_of (value.Pointer p) = Some false
 null_of _ = None
 
--- whether two pointers lead to one place
-abbrev pub same_pointer : Value → Value → Bool
-same_pointer (value.Global g) (value.Global h) = nat_eq g h
-same_pointer (value.Local k i) (value.Local l j) = nat_eq k l && nat_eq i j
-same_pointer _ _ = false
+abbrev pub same_area : Area → Area → Bool
+same_area area.Globals area.Globals = true
+same_area area.Globals (area.Block l) = false
+same_area (area.Block k) area.Globals = false
+same_area (area.Block k) (area.Block l) = nat_eq k l
+
+-- whether two places are the same cell
+abbrev pub same_cell : Place → Place → Bool
+same_cell p q = same_area p.area q.area && (nat_eq p.object q.object && nat_eq p.cell q.cell)
 
 -- values that are what some temporaries hold
 abbrev pub AreRead : List Value → List ℕ → List Value → Type 0

@@ -2,7 +2,7 @@
 
 ghost use Rattle.std.specs.Prelude.{◌≡◌, ◌∷◌, ◌+◌, IfOk, OnOk, map};
 ghost use Rattle.cyc_core.specs.Trees.{body_tree, statement_tree, temporary_tree};
-ghost use Rattle.core_eval.specs.Values.{AreRead, blank_object, truth_of};
+ghost use Rattle.core_eval.specs.Values.{AreRead, blank_object, blank_slot, cells_of, truth_of};
 ghost use Rattle.core_eval.specs.Blocks.{activation_of};
 ghost use Rattle.core_eval.specs.Pendings.{Block, Execute, Follow, Go, Test, next_of, wait_of, waits_of};
 ghost use Rattle.core_eval.specs.Standing.{Known, known_of};
@@ -12,8 +12,8 @@ use crate::frame::Frame;
 use crate::memory::Memory;
 use crate::operation::operate;
 use crate::pending::{Due, Flow, Now, Pending};
-use crate::value::{Object, Value};
-use cyc_core::{Cell, Statement, Temporary};
+use crate::value::{Object, Slot, Value};
+use cyc_core::{CellLayout, Local, Statement, Temporary};
 use std::alloc::{AllocError, Global};
 
 /// Puts what waits on top of the stack.
@@ -32,20 +32,54 @@ pub fn truth(value: Value) -> Option<bool>
         Value::Blank => None,
         Value::Word(word) => Some(word != 0),
         Value::Null => Some(false),
-        Value::Global(_) | Value::Local(..) => Some(true),
+        Value::Pointer(_) => Some(true),
+    }
+}
+
+/// A cell that holds nothing as yet.
+fn blank_slot(cell: CellLayout) -> Slot
+    ensures { result ≡ blank_slot cell }
+{
+    Slot {
+        offset: cell.offset,
+        width: cell.cell.width(),
+        padding: cell.padding,
+        value: Value::Blank,
+    }
+}
+
+/// Cells that hold nothing as yet.
+fn blank_slots(alloc: Global, cells: &[CellLayout]) -> Result<Vec<Slot>, AllocError>
+    ensures { IfOk result (λ slots. slots.items ≡ map blank_slot cells.now) }
+{
+    let mut slots = Vec::new(alloc);
+    'each: for cell in cells {
+        slots.push(blank_slot(*cell))?;
+    }
+    Ok(slots)
+}
+
+/// A local, which holds nothing as yet.
+fn blank_object(alloc: Global, local: &Local) -> Result<Object, AllocError>
+    ensures { IfOk result (λ object. cells_of object ≡ blank_object local.now) }
+{
+    match local {
+        Local::Scalar(cell) => Ok(Object::Scalar(blank_slot(CellLayout {
+            offset: 0,
+            cell: *cell,
+            padding: 0,
+        }))),
+        Local::Whole(layout) => Ok(Object::Whole(blank_slots(alloc, &layout.as_ref().cells)?)),
     }
 }
 
 /// These locals, which hold nothing as yet.
-fn blank_objects(alloc: Global, locals: &[Cell]) -> Result<Vec<Object>, AllocError>
-    ensures { IfOk result (λ objects. objects.items ≡ map blank_object locals.now) }
+fn blank_objects(alloc: Global, locals: &[Local]) -> Result<Vec<Object>, AllocError>
+    ensures { IfOk result (λ objects. map cells_of objects.items ≡ map blank_object locals.now) }
 {
     let mut objects = Vec::new(alloc);
     'each: for local in locals {
-        objects.push(Object {
-            width: local.width(),
-            value: Value::Blank,
-        })?;
+        objects.push(blank_object(alloc, local)?)?;
     }
     Ok(objects)
 }
@@ -83,7 +117,7 @@ pub fn enter_loop<'p>(
 /// The first move of a block: its locals hold nothing, and its statements are next.
 fn enter_block<'p>(
     alloc: Global,
-    locals: &[Cell],
+    locals: &[Local],
     body: &'p [Statement],
     stack: &mut Vec<Pending<'p>>,
     memory: &mut Memory,

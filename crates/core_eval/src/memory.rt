@@ -1,22 +1,26 @@
 // What is stored: the globals, and the locals of all blocks that aren't left yet.
 
 ghost use Rattle.std.specs.Prelude.{◌≡◌, ◌∷◌, ◌+◌, [], Some, None, false, if◌then◌else◌, drop, map, OnOk};
-ghost use Rattle.core_eval.specs.Values.{value_of};
+ghost use Rattle.core_eval.specs.Values.{cells_of, value_of};
 ghost use Rattle.core_eval.specs.Blocks.{
   Descends,
   activation_of,
+  is_there,
   local_address,
-  local_object,
-  object_through,
-  object_to,
+  local_slot,
   own_position,
   position_of,
   put_local,
   put_through,
+  same_places,
   same_values,
+  slot_in,
+  slot_through,
 };
 
-use crate::value::{Object, Value, is_null, is_same_pointer, object_in, put_in, value_of};
+use crate::value::{
+    Area, Object, Place, Slot, Value, is_null, is_same_cell, put_in, slot_in, value_of,
+};
 use cyc_core::{Variable, Width};
 use std::alloc::{AllocError, Global};
 use std::collections::VecDeque;
@@ -58,7 +62,7 @@ impl Memory {
     /// A block with these locals is entered. Fails only where no host memory is left, or 2^64 - 1 blocks were entered.
     pub fn enter_block(&mut self, objects: Vec<Object>) -> Result<(), AllocError>
         ensures blocks { OnOk result (map activation_of self.new.blocks.items
-            ≡ record { number = self.old.entered; objects = objects.items } ∷ map activation_of self.old.blocks.items) }
+            ≡ record { number = self.old.entered; objects = map cells_of objects.items } ∷ map activation_of self.old.blocks.items) }
         ensures entered { OnOk result (self.new.entered ≡ self.old.entered + 1) }
         ensures globals { OnOk result (self.new.globals ≡ self.old.globals) }
     {
@@ -104,22 +108,22 @@ impl Memory {
         }
     }
 
-    /// A local of the block that stands there among the blocks.
-    fn object_at(&self, position: usize, index: u32) -> Option<Object>
-        ensures { result ≡ object_through (map activation_of self.now.blocks.items) (Some position) index }
+    /// A cell of a local of the block that stands there among the blocks.
+    fn slot_at(&self, position: usize, index: u32, cell: u64) -> Option<Slot>
+        ensures { result ≡ slot_through (map activation_of self.now.blocks.items) (Some position) index cell }
     {
         match self.blocks.get(position) {
-            Some(block) => object_in(&block.objects, index),
+            Some(block) => slot_in(&block.objects, index, cell),
             None => None,
         }
     }
 
-    /// What a local holds, for a function outside of which there are so many blocks, if there is one that is so wide.
+    /// What a local holds, for a function outside of which there are so many blocks, if there is one whose first cell is so wide.
     pub fn local(&self, base: usize, variable: Variable, width: Width) -> Option<Value>
-        ensures { result ≡ value_of width (local_object base (map activation_of self.now.blocks.items) variable.out variable.index) }
+        ensures { result ≡ value_of 0 width (local_slot base (map activation_of self.now.blocks.items) variable.out variable.index) }
     {
         match self.own_position(base, variable.out) {
-            Some(position) => value_of(self.object_at(position, variable.index), width),
+            Some(position) => value_of(self.slot_at(position, variable.index, 0), 0, width),
             None => None,
         }
     }
@@ -130,88 +134,126 @@ impl Memory {
     {
         match self.own_position(base, variable.out) {
             Some(position) => match self.blocks.get(position) {
-                Some(block) => Some(Value::Local(block.number, variable.index)),
+                Some(block) => Some(Value::Pointer(Place {
+                    area: Area::Block(block.number),
+                    object: variable.index,
+                    byte: 0,
+                    cell: 0,
+                })),
                 None => None,
             },
             None => None,
         }
     }
 
-    /// What a value points to, if it is a pointer to what there is.
-    pub fn object_to(&self, place: Value) -> Option<Object>
+    /// A cell of an object of an area, if there is one.
+    pub fn slot(&self, area: Area, object: u32, cell: u64) -> Option<Slot>
         ensures { Descends self.now.entered (map activation_of self.now.blocks.items)
-            → result ≡ object_to (map activation_of self.now.blocks.items) self.now.globals.items place }
+            → result ≡ slot_in (map activation_of self.now.blocks.items) (map cells_of self.now.globals.items) area object cell }
     {
-        match place {
-            Value::Global(object) => object_in(&self.globals, object),
-            Value::Local(block, index) => match self.position_of(block) {
-                Some(position) => self.object_at(position, index),
+        match area {
+            Area::Globals => slot_in(&self.globals, object, cell),
+            Area::Block(block) => match self.position_of(block) {
+                Some(position) => self.slot_at(position, object, cell),
                 None => None,
             },
-            Value::Blank | Value::Word(_) | Value::Null => None,
+        }
+    }
+
+    /// Whether a place leads to a cell that is there.
+    fn is_there(&self, place: Place) -> bool
+        ensures { Descends self.now.entered (map activation_of self.now.blocks.items)
+            → result ≡ is_there place.byte (slot_in (map activation_of self.now.blocks.items) (map cells_of self.now.globals.items) place.area place.object place.cell) }
+    {
+        match self.slot(place.area, place.object, place.cell) {
+            Some(slot) => slot.offset == place.byte,
+            None => false,
+        }
+    }
+
+    /// Whether two places are the same cell, if both are there.
+    fn same_places(&self, first: Place, second: Place) -> Option<bool>
+        ensures { Descends self.now.entered (map activation_of self.now.blocks.items)
+            → result ≡ same_places (map activation_of self.now.blocks.items) (map cells_of self.now.globals.items) first second }
+    {
+        if self.is_there(first) && self.is_there(second) {
+            Some(is_same_cell(first, second))
+        } else {
+            None
         }
     }
 
     /// Whether two values are the same pointer, if both are pointers, each NULL or to what there is.
     pub fn same_place(&self, first: Value, second: Value) -> Option<bool>
         ensures { Descends self.now.entered (map activation_of self.now.blocks.items)
-            → result ≡ same_values (map activation_of self.now.blocks.items) self.now.globals.items first second }
+            → result ≡ same_values (map activation_of self.now.blocks.items) (map cells_of self.now.globals.items) first second }
     {
-        match first {
-            Value::Null => return is_null(second),
-            Value::Blank | Value::Word(_) => return None,
-            Value::Global(_) | Value::Local(..) => {}
-        }
-        if let Value::Null = second {
-            return Some(false);
-        }
-        match (self.object_to(first), self.object_to(second)) {
-            (Some(_), Some(_)) => Some(is_same_pointer(first, second)),
+        match (first, second) {
+            (Value::Null, _) => is_null(second),
+            (Value::Pointer(_), Value::Null) => Some(false),
+            (Value::Pointer(place), Value::Pointer(other)) => self.same_places(place, other),
             _ => None,
         }
     }
 
-    /// Stores a value to a local of the block that stands there among the blocks, if there is one that is so wide, and answers whether there is.
-    fn set_at(&mut self, position: usize, index: u32, width: Width, value: Value) -> bool
-        ensures blocks { put_through (map activation_of self.old.blocks.items) (Some position) index width value
+    /// Stores a value to a cell of a local of the block that stands there among the blocks, if there is one that lies so many bytes
+    /// on and is so wide, and answers whether there is.
+    fn set_at(
+        &mut self,
+        position: usize,
+        index: u32,
+        cell: u64,
+        byte: u64,
+        width: Width,
+        value: Value,
+    ) -> bool
+        ensures blocks { put_through (map activation_of self.old.blocks.items) (Some position) index cell byte width value
             ≡ (if result then Some (map activation_of self.new.blocks.items) else None) }
-        ensures kept { result ≡ false → self.new.blocks.items ≡ self.old.blocks.items }
+        ensures kept { result ≡ false → map activation_of self.new.blocks.items ≡ map activation_of self.old.blocks.items }
         ensures entered { self.new.entered ≡ self.old.entered }
         ensures globals { self.new.globals ≡ self.old.globals }
     {
         match self.blocks.get_mut(position) {
-            Some(block) => put_in(&mut block.objects, index, width, value),
+            Some(block) => put_in(&mut block.objects, index, cell, byte, width, value),
             None => false,
         }
     }
 
-    /// Stores a value to a local, for a function outside of which there are so many blocks, if there is one that is so wide, and
-    /// answers whether there is.
+    /// Stores a value to a local, for a function outside of which there are so many blocks, if there is one whose first cell is so
+    /// wide, and answers whether there is.
     pub fn set_local(&mut self, base: usize, variable: Variable, width: Width, value: Value) -> bool
         ensures blocks { put_local base (map activation_of self.old.blocks.items) variable.out variable.index width value
             ≡ (if result then Some (map activation_of self.new.blocks.items) else None) }
-        ensures kept { result ≡ false → self.new.blocks.items ≡ self.old.blocks.items }
+        ensures kept { result ≡ false → map activation_of self.new.blocks.items ≡ map activation_of self.old.blocks.items }
         ensures entered { self.new.entered ≡ self.old.entered }
         ensures globals { self.new.globals ≡ self.old.globals }
     {
         match self.own_position(base, variable.out) {
-            Some(position) => self.set_at(position, variable.index, width, value),
+            Some(position) => self.set_at(position, variable.index, 0, 0, width, value),
             None => false,
         }
     }
 
-    /// Stores a value to a local of the block that was entered after so many, if it isn't left yet and there is one that is so wide,
-    /// and answers whether there is.
-    pub fn set_in_block(&mut self, number: u64, index: u32, width: Width, value: Value) -> bool
+    /// Stores a value to a cell of a local of the block that was entered after so many, if it isn't left yet and there is one that
+    /// lies so many bytes on and is so wide, and answers whether there is.
+    pub fn set_in_block(
+        &mut self,
+        number: u64,
+        index: u32,
+        cell: u64,
+        byte: u64,
+        width: Width,
+        value: Value,
+    ) -> bool
         ensures blocks { Descends self.old.entered (map activation_of self.old.blocks.items)
-            → put_through (map activation_of self.old.blocks.items) (position_of (map activation_of self.old.blocks.items) number) index width value
+            → put_through (map activation_of self.old.blocks.items) (position_of (map activation_of self.old.blocks.items) number) index cell byte width value
             ≡ (if result then Some (map activation_of self.new.blocks.items) else None) }
-        ensures kept { result ≡ false → self.new.blocks.items ≡ self.old.blocks.items }
+        ensures kept { result ≡ false → map activation_of self.new.blocks.items ≡ map activation_of self.old.blocks.items }
         ensures entered { self.new.entered ≡ self.old.entered }
         ensures globals { self.new.globals ≡ self.old.globals }
     {
         match self.position_of(number) {
-            Some(position) => self.set_at(position, index, width, value),
+            Some(position) => self.set_at(position, index, cell, byte, width, value),
             None => false,
         }
     }

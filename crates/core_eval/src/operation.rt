@@ -1,12 +1,12 @@
 // What each operation does to what is known.
 
-ghost use Rattle.std.specs.Prelude.{◌≡◌, ℕ, List, IfOk, OnOk};
+ghost use Rattle.std.specs.Prelude.{◌≡◌, ◌+◌, ℕ, List, Some, None, false, if◌then◌else◌, map, IfOk, OnOk};
 ghost use Rattle.core_meaning.specs.Core as core;
 ghost use Rattle.core_meaning.specs.Steps.{Falls};
-ghost use Rattle.cyc_core.specs.Trees.{at_once, binary_tree, bytes_of, operation_tree};
+ghost use Rattle.cyc_core.specs.Trees.{binary_tree, bytes_of, distance_tree, operation_tree};
 ghost use Rattle.core_eval.specs.declared.memory.Memory.{Memory as TheMemory};
-ghost use Rattle.core_eval.specs.declared.value.Value.TheVariants as form;
-ghost use Rattle.core_eval.specs.Values.{content_of, temp_of};
+ghost use Rattle.core_eval.specs.Values.{content_of};
+ghost use Rattle.core_eval.specs.Blocks.{Descends, activation_of, put_to, stored_of};
 ghost use Rattle.core_eval.specs.Pendings.{Execute, Go, Leave, Wait, next_of};
 ghost use Rattle.core_eval.specs.Standing.{Gives, known_of};
 ghost use Rattle.core_eval.specs.Costs.{IsMove};
@@ -15,9 +15,12 @@ use crate::arithmetic::{apply, truth};
 use crate::frame::Frame;
 use crate::memory::Memory;
 use crate::pending::{Due, Flow, Now};
-use crate::value::{Value, is_null, put_in, value_of};
-use cyc_core::{Binary, Operation, Temporary, Variable, Width};
+use crate::value::{Area, Place, Value, is_null, put_in, value_of};
+use cyc_core::{Binary, Distance, Operation, Temporary, Variable, Width};
 use std::alloc::AllocError;
+
+/// No object has so many bytes.
+const TOO_FAR: u64 = 0x0200_0000;
 
 /// Gives a temporary a value, which is all that the operation does. Fails only where no host memory is left.
 pub fn give<'p>(frame: &mut Frame, to: Temporary, value: Value) -> Result<Due<'p>, AllocError>
@@ -59,6 +62,20 @@ fn compute<'p>(
         return Ok(Due::Wrong);
     };
     give(frame, to, Value::Word(apply(operation, x, y)))
+}
+
+/// Gives a temporary a pointer to a global.
+fn global_address<'p>(frame: &mut Frame, to: Temporary, object: u32) -> Result<Due<'p>, AllocError>
+    ensures { IfOk result (λ due. (ws : List Wait) (memory : TheMemory) →
+        IsMove (Execute (core.Do (core.DataAddress to.0 object))) ws (known_of frame.old memory) (next_of due) ws (known_of frame.new memory)) }
+{
+    let place = Place {
+        area: Area::Globals,
+        object,
+        byte: 0,
+        cell: 0,
+    };
+    give(frame, to, Value::Pointer(place))
 }
 
 /// Gives a temporary a pointer to a local.
@@ -116,85 +133,113 @@ fn put<'p>(
     }
 }
 
-/// Gives a temporary what lies where another one points.
+/// The number of a cell so many cells further on. Fails only where that is over 2^64 - 1.
+fn further(cell: u64, cells: u32) -> Result<u64, AllocError>
+    ensures { IfOk result (λ n. n ≡ cell + cells) }
+{
+    match cell.checked_add(u64::from(cells)) {
+        Some(sum) => Ok(sum),
+        None => Err(AllocError),
+    }
+}
+
+/// Gives a temporary a pointer that leads so many cells and bytes further than another one's.
+fn offset<'p>(
+    frame: &mut Frame,
+    to: Temporary,
+    from: Temporary,
+    cells: u32,
+    bytes: u32,
+) -> Result<Due<'p>, AllocError>
+    ensures { IfOk result (λ due. (ws : List Wait) (memory : TheMemory) →
+        IsMove (Execute (core.Do (core.Offset to.0 from.0 cells bytes))) ws (known_of frame.old memory) (next_of due) ws (known_of frame.new memory)) }
+{
+    let Value::Pointer(place) = frame.temp(from) else {
+        return Ok(Due::Wrong);
+    };
+    let byte = u64::from(place.byte) + u64::from(bytes);
+    if byte >= TOO_FAR {
+        return Ok(Due::Wrong);
+    }
+    let there = Place {
+        area: place.area,
+        object: place.object,
+        byte: byte as u32,
+        cell: further(place.cell, cells)?,
+    };
+    give(frame, to, Value::Pointer(there))
+}
+
+/// Gives a temporary the part at a distance from where another one points.
 fn load<'p>(
     frame: &mut Frame,
     memory: &Memory,
     to: Temporary,
     place: Temporary,
-    width: Width,
+    distance: Distance,
 ) -> Result<Due<'p>, AllocError>
     ensures { IfOk result (λ due. (ws : List Wait) →
-        IsMove (Execute (core.Do (core.Load to.0 place.0 (at_once width)))) ws (known_of frame.old memory.now) (next_of due) ws
+        IsMove (Execute (core.Do (core.Load to.0 place.0 (distance_tree distance)))) ws (known_of frame.old memory.now) (next_of due) ws
         (known_of frame.new memory.now)) }
 {
-    let pointer = frame.temp(place);
-    match value_of(memory.object_to(pointer), width) {
+    let Value::Pointer(place) = frame.temp(place) else {
+        return Ok(Due::Wrong);
+    };
+    let cell = further(place.cell, distance.cells)?;
+    let byte = u64::from(place.byte) + u64::from(distance.bytes);
+    match value_of(
+        memory.slot(place.area, place.object, cell),
+        byte,
+        distance.width,
+    ) {
         Some(value) => give(frame, to, value),
         None => Ok(Due::Wrong),
     }
 }
 
-/// Stores a value to a global, for all temporaries that hold a pointer to it and that value.
-fn store_global<'p>(
-    frame: &Frame,
+/// Stores a value to the cell so many cells from a place on, if there is one that lies so many bytes on and is so wide, and answers
+/// whether there is.
+fn put_to(
     memory: &mut Memory,
-    object: u32,
+    place: Place,
+    cell: u64,
+    byte: u64,
     width: Width,
     value: Value,
-) -> Due<'p>
-    ensures { (ws : List Wait) (p x : ℕ) → content_of (form.Global object) ≡ temp_of frame.now.temps.items p
-        → content_of value ≡ temp_of frame.now.temps.items x
-        → IsMove (Execute (core.Do (core.Store p (at_once width) x))) ws (known_of frame.now memory.old) (next_of result) ws
-        (known_of frame.now memory.new) }
+) -> bool
+    ensures put { Descends memory.old.entered (map activation_of memory.old.blocks.items)
+        → put_to (stored_of memory.old) place.area place.object cell byte width value ≡ (if result then Some (stored_of memory.new) else None) }
+    ensures kept { result ≡ false → stored_of memory.new ≡ stored_of memory.old }
+    ensures entered { memory.new.entered ≡ memory.old.entered }
 {
-    if put_in(&mut memory.globals, object, width, value) {
-        Due::Go(Now::Leave(Flow::Falls))
-    } else {
-        Due::Wrong
+    match place.area {
+        Area::Globals => put_in(&mut memory.globals, place.object, cell, byte, width, value),
+        Area::Block(block) => memory.set_in_block(block, place.object, cell, byte, width, value),
     }
 }
 
-/// Stores a value to a local of a block, for all temporaries that hold a pointer to it and that value.
-fn store_local<'p>(
-    frame: &Frame,
-    memory: &mut Memory,
-    block: u64,
-    index: u32,
-    width: Width,
-    value: Value,
-) -> Due<'p>
-    ensures { (ws : List Wait) (p x : ℕ) → content_of (form.Local block index) ≡ temp_of frame.now.temps.items p
-        → content_of value ≡ temp_of frame.now.temps.items x
-        → IsMove (Execute (core.Do (core.Store p (at_once width) x))) ws (known_of frame.now memory.old) (next_of result) ws
-        (known_of frame.now memory.new) }
-{
-    if memory.set_in_block(block, index, width, value) {
-        Due::Go(Now::Leave(Flow::Falls))
-    } else {
-        Due::Wrong
-    }
-}
-
-/// Stores what a temporary holds to where another one points.
+/// Stores what a temporary holds to the part at a distance from where another one points.
 fn store<'p>(
     frame: &Frame,
     memory: &mut Memory,
     place: Temporary,
-    width: Width,
+    distance: Distance,
     from: Temporary,
-) -> Due<'p>
-    ensures { (ws : List Wait) →
-        IsMove (Execute (core.Do (core.Store place.0 (at_once width) from.0))) ws (known_of frame.now memory.old) (next_of result) ws
-        (known_of frame.now memory.new) }
+) -> Result<Due<'p>, AllocError>
+    ensures { IfOk result (λ due. (ws : List Wait) →
+        IsMove (Execute (core.Do (core.Store place.0 (distance_tree distance) from.0))) ws (known_of frame.now memory.old) (next_of due) ws
+        (known_of frame.now memory.new)) }
 {
     let value = frame.temp(from);
-    match frame.temp(place) {
-        Value::Global(object) => store_global(frame, memory, object, width, value),
-        Value::Local(block, index) => store_local(frame, memory, block, index, width, value),
-        Value::Blank => Due::Wrong,
-        Value::Word(_) => Due::Wrong,
-        Value::Null => Due::Wrong,
+    let Value::Pointer(place) = frame.temp(place) else {
+        return Ok(Due::Wrong);
+    };
+    let cell = further(place.cell, distance.cells)?;
+    let byte = u64::from(place.byte) + u64::from(distance.bytes);
+    if put_to(memory, place, cell, byte, distance.width, value) {
+        Ok(Due::Go(Now::Leave(Flow::Falls)))
+    } else {
+        Ok(Due::Wrong)
     }
 }
 
@@ -259,11 +304,12 @@ pub fn operate<'p>(
         Operation::Narrow(to, from) => narrow(frame, to, from),
         Operation::Apply(operation, to, left, right) => compute(frame, operation, to, left, right),
         Operation::LocalAddress(to, of) => address(frame, memory, to, of),
-        Operation::DataAddress(to, object) => give(frame, to, Value::Global(object)),
+        Operation::DataAddress(to, object) => global_address(frame, to, object),
+        Operation::Offset(to, from, cells, bytes) => offset(frame, to, from, cells, bytes),
         Operation::Get(to, from, width) => get(frame, memory, to, from, width),
         Operation::Put(to, width, from) => Ok(put(frame, memory, to, width, from)),
-        Operation::Load(to, place, width) => load(frame, memory, to, place, width),
-        Operation::Store(place, width, from) => Ok(store(frame, memory, place, width, from)),
+        Operation::Load(to, place, distance) => load(frame, memory, to, place, distance),
+        Operation::Store(place, distance, from) => store(frame, memory, place, distance, from),
         Operation::IsNull(to, from) => test_null(frame, to, from),
         Operation::SamePlace(to, left, right) => test_same(frame, memory, to, left, right),
         Operation::Getchar(to) => Ok(Due::Getchar(to)),

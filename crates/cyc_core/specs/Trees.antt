@@ -1,6 +1,6 @@
 -- The code's programs as programs of Core.
-use Rattle.std.specs.Prelude.{ℕ, Option, Some, None, List, [], ◌∷◌, map}
-use Rattle.core_meaning.specs.Memory.{Layout, Content}
+use Rattle.std.specs.Prelude.{ℕ, zero, suc, ◌+◌, Option, Some, None, List, [], ◌∷◌, map, slice_get}
+use Rattle.core_meaning.specs.Memory.{PartShape, Layout, Content, shape_in}
 use Rattle.core_meaning.specs.Memory as memory
 use Rattle.core_meaning.specs.Core as core
 use Rattle.cyc_core.specs.declared.operation.Temporary.{Temporary}
@@ -8,6 +8,11 @@ use Rattle.cyc_core.specs.declared.operation.Width.{Width}
 use Rattle.cyc_core.specs.declared.operation.Width.TheVariants as width
 use Rattle.cyc_core.specs.declared.operation.Cell.{Cell}
 use Rattle.cyc_core.specs.declared.operation.Cell.TheVariants as cell
+use Rattle.cyc_core.specs.declared.operation.Distance.{Distance}
+use Rattle.cyc_core.specs.declared.layout.CellLayout.{CellLayout}
+use Rattle.cyc_core.specs.declared.layout.Layout as code_layout
+use Rattle.cyc_core.specs.declared.layout.Local.{Local}
+use Rattle.cyc_core.specs.declared.layout.Local.TheVariants as local
 use Rattle.cyc_core.specs.declared.operation.Binary.{Binary}
 use Rattle.cyc_core.specs.declared.operation.Binary.TheVariants as binary
 use Rattle.cyc_core.specs.declared.operation.Operation.{Operation}
@@ -44,12 +49,29 @@ part_layout c = record {
   bytes = bytes_of (cell_width c);
 }
 
-abbrev pub local_tree : Cell → core.Local
-local_tree c = record { layout = part_layout c; count = 1 }
+-- parts of one byte that hold nothing, from a byte on
+abbrev pub padding_parts : ℕ → ℕ → List PartShape
+padding_parts at zero = []
+padding_parts at (suc n) = record { offset = at; width = 1; first = memory.Blank } ∷ padding_parts (at + 1) n
 
--- right where a pointer leads
-abbrev pub at_once : Width → core.Distance
-at_once w = record { cells = 0; bytes = 0; part = 0; width = bytes_of w }
+-- a cell has the part that it is made for, and the bytes behind that
+abbrev pub cell_parts : CellLayout → List PartShape
+cell_parts c =
+    record { offset = c.offset; width = bytes_of (cell_width c.cell); first = cell_first c.cell }
+    ∷ padding_parts (c.offset + bytes_of (cell_width c.cell)) c.padding
+
+abbrev pub layout_tree : code_layout.Layout → Layout
+layout_tree l = record { cells = map cell_parts l.cells.items; bytes = l.bytes }
+
+abbrev pub local_layout : Local → Layout
+local_layout (local.Scalar c) = part_layout c
+local_layout (local.Whole l) = layout_tree l.value
+
+abbrev pub local_tree : Local → core.Local
+local_tree l = record { layout = local_layout l; count = 1 }
+
+abbrev pub distance_tree : Distance → core.Distance
+distance_tree d = record { cells = d.cells; bytes = d.bytes; part = 0; width = bytes_of d.width }
 
 abbrev pub temporary_tree : Temporary → ℕ
 temporary_tree t = t.0
@@ -90,8 +112,9 @@ operation_tree (operation.LocalAddress t v) = core.LocalAddress t.0 v.out v.inde
 operation_tree (operation.DataAddress t object) = core.DataAddress t.0 object
 operation_tree (operation.Get t v w) = core.Get t.0 v.out v.index (bytes_of w)
 operation_tree (operation.Put v w x) = core.Put v.out v.index (bytes_of w) x.0
-operation_tree (operation.Load t p w) = core.Load t.0 p.0 (at_once w)
-operation_tree (operation.Store p w x) = core.Store p.0 (at_once w) x.0
+operation_tree (operation.Offset t p cells bytes) = core.Offset t.0 p.0 cells bytes
+operation_tree (operation.Load t p d) = core.Load t.0 p.0 (distance_tree d)
+operation_tree (operation.Store p d x) = core.Store p.0 (distance_tree d) x.0
 operation_tree (operation.IsNull t p) = core.IsNull t.0 p.0
 operation_tree (operation.SamePlace t p q) = core.SamePlace t.0 p.0 q.0
 operation_tree (operation.Getchar t) = core.Getchar t.0
@@ -122,19 +145,26 @@ body_tree ss = statements_of (map statement_tree ss)
 abbrev pub function_tree : Function → core.Function
 function_tree f = record { parameters = f.parameters; temporaries = f.temporaries; passed = f.passed; own = []; body = body_tree f.body.items }
 
-abbrev pub datum_cell : Datum → Cell
-datum_cell (datum.Byte b) = cell.Byte
-datum_cell (datum.Word w) = cell.Word
-datum_cell datum.Null = cell.Pointer
+abbrev pub datum_layout : Datum → Layout
+datum_layout (datum.Byte b) = part_layout cell.Byte
+datum_layout (datum.Word w) = part_layout cell.Word
+datum_layout datum.Null = part_layout cell.Pointer
+datum_layout (datum.Whole l) = layout_tree l.value
 
--- what a global holds at the start
-abbrev pub datum_content : Datum → Content
-datum_content (datum.Byte b) = memory.Word b
-datum_content (datum.Word w) = memory.Word w
-datum_content datum.Null = memory.Null
+-- what a part begins as
+abbrev pub part_first : Option PartShape → Content
+part_first None = memory.Blank
+part_first (Some s) = s.first
+
+-- what a cell's part of a global holds at the start
+abbrev pub datum_first : Datum → ℕ → ℕ → Content
+datum_first (datum.Byte b) k j = memory.Word b
+datum_first (datum.Word w) k j = memory.Word w
+datum_first datum.Null k j = memory.Null
+datum_first (datum.Whole l) k j = part_first (shape_in (slice_get (layout_tree l.value).cells k) j)
 
 abbrev pub datum_tree : Datum → core.Datum
-datum_tree d = record { layout = part_layout (datum_cell d); count = 1; first = λ cell part. datum_content d }
+datum_tree d = record { layout = datum_layout d; count = 1; first = datum_first d }
 
 abbrev pub program_tree : Program → core.Program
 program_tree p = record {

@@ -5,10 +5,12 @@
 //! the definitions of `core_meaning`.
 #![tactic(auto)]
 
+mod layout;
 mod operation;
 mod program;
 mod statement;
 
-pub use operation::{Binary, Cell, Operation, Temporary, Variable, Width};
+pub use layout::{CellLayout, Layout, Local};
+pub use operation::{Binary, Cell, Distance, Operation, Temporary, Variable, Width};
 pub use program::{Datum, Function, Program};
 pub use statement::Statement;

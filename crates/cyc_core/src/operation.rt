@@ -48,6 +48,30 @@ impl Cell {
     }
 }
 
+/// Where a part lies from a pointer on.
+#[derive(Clone, Copy, PartialEq, Eq, Debug)]
+pub struct Distance {
+    /// How many cells of its object lie between.
+    pub cells: u32,
+    /// How many bytes of its object lie between.
+    pub bytes: u32,
+    /// How wide the part is, which is the first of its cell.
+    pub width: Width,
+}
+
+impl Distance {
+    /// Right where a pointer leads.
+    pub fn at_once(width: Width) -> Self
+        ensures { result ≡ record { cells = 0; bytes = 0; width = width } }
+    {
+        Distance {
+            cells: 0,
+            bytes: 0,
+            width,
+        }
+    }
+}
+
 /// An operation on two words.
 #[derive(Clone, Copy, PartialEq, Eq, Debug)]
 pub enum Binary {
@@ -112,10 +136,12 @@ pub enum Operation {
     Get(Temporary, Variable, Width),
     /// The local gets what the temporary holds, or the lowest byte of its word.
     Put(Variable, Width, Temporary),
-    /// The first temporary gets what lies where the second points.
-    Load(Temporary, Temporary, Width),
-    /// Where the first temporary points gets what the second holds, or the lowest byte of its word.
-    Store(Temporary, Width, Temporary),
+    /// The first temporary gets a pointer that leads so many cells and so many bytes further than the second one's.
+    Offset(Temporary, Temporary, u32, u32),
+    /// The first temporary gets the part at the distance from where the second points.
+    Load(Temporary, Temporary, Distance),
+    /// The part at the distance from where the first temporary points gets what the second holds, or the lowest byte of its word.
+    Store(Temporary, Distance, Temporary),
     /// The first temporary gets 1 where the second holds NULL, and 0 where it holds another pointer.
     IsNull(Temporary, Temporary),
     /// The first temporary gets 1 where the two others hold the same pointer, and 0 where they hold two.

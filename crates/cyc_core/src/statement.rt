@@ -1,6 +1,7 @@
 // Statements of a function.
 
-use crate::operation::{Cell, Operation, Temporary};
+use crate::layout::Local;
+use crate::operation::{Operation, Temporary};
 use cyc_words::Kind;
 
 /// A statement of a function.
@@ -14,7 +15,7 @@ pub enum Statement {
     /// The first statements are done, and where the temporary is neither 0 nor NULL then, the second and the loop again.
     While(Vec<Statement>, Temporary, Vec<Statement>),
     /// The statements are done with these locals, which hold nothing at first.
-    Block(Vec<Cell>, Vec<Statement>),
+    Block(Vec<Local>, Vec<Statement>),
     /// The innermost loop is left.
     Break,
     /// The innermost loop goes on with its test.

@@ -1,10 +1,9 @@
 use Rattle.std.proofs.Common.{rules}
 use Rattle.core_meaning.specs.Memory as memory
 use Rattle.cyc_core.specs.declared.operation.Operation.TheVariants as operation
-use Rattle.core_eval.specs.declared.value.Value.TheVariants as value
 use Rattle.core_eval.specs.Values.{content_of}
 use Rattle.core_eval.specs.Standing.{known_of}
-use Rattle.core_eval.proofs.OperationMoves.{constant_moves, null_moves, address_moves, move_moves}
+use Rattle.core_eval.proofs.OperationMoves.{constant_moves, null_moves, move_moves}
 use Rattle.core_eval.proofs.Answered.{given_here, with_memory, for_operation, for_operation_ok}
 use Rattle.core_eval.proofs.operation.operate.Goals as goal
 
@@ -30,14 +29,20 @@ returns-in-Move c =
 pub returns-in-DataAddress : goal.returns-in-DataAddress
 returns-in-DataAddress c =
     let f = c.args.frame.now in
-    let f' = c.give-in-DataAddress.new.frame in
+    let f' = c.global_address.new.frame in
     let m = c.args.memory.now in
-    for_operation c.give-in-DataAddress.result c.args.operation (operation.DataAddress c.in-DataAddress.to c.in-DataAddress.object) (known_of f m)
-    (known_of f' m) c.in-DataAddress.is
-    (given_here c.give-in-DataAddress.result f f' c.in-DataAddress.to.0
-    (content_of (value.Global c.in-DataAddress.object)) _ m c.give-in-DataAddress.ensures.next c.give-in-DataAddress.ensures.gives
-    c.give-in-DataAddress.ensures.base
-    (λ ws gives. address_moves (known_of f m) f'.temps.items ws c.in-DataAddress.to.0 c.in-DataAddress.object gives))
+    for_operation c.global_address.result c.args.operation (operation.DataAddress c.in-DataAddress.to c.in-DataAddress.object) (known_of f m) (known_of f' m)
+    c.in-DataAddress.is
+    (with_memory c.global_address.result f f' _ m c.global_address.ensures)
+
+pub returns-in-Offset : goal.returns-in-Offset
+returns-in-Offset c =
+    let f = c.args.frame.now in
+    let f' = c.offset.new.frame in
+    let m = c.args.memory.now in
+    for_operation c.offset.result c.args.operation (operation.Offset c.in-Offset.to c.in-Offset.from c.in-Offset.cells c.in-Offset.bytes) (known_of f m)
+    (known_of f' m) c.in-Offset.is
+    (with_memory c.offset.result f f' _ m c.offset.ensures)
 
 pub returns-in-Narrow : goal.returns-in-Narrow
 returns-in-Narrow c =
@@ -69,7 +74,7 @@ returns-in-Load c =
     let f = c.args.frame.now in
     let f' = c.load.new.frame in
     let m = c.args.memory.now in
-    for_operation c.load.result c.args.operation (operation.Load c.in-Load.to c.in-Load.place c.in-Load.width) (known_of f m) (known_of f' m)
+    for_operation c.load.result c.args.operation (operation.Load c.in-Load.to c.in-Load.place c.in-Load.distance) (known_of f m) (known_of f' m)
     c.in-Load.is c.load.ensures
 
 pub returns-in-LocalAddress : goal.returns-in-LocalAddress
@@ -116,7 +121,7 @@ returns-in-Put c =
 pub returns-in-Store : goal.returns-in-Store
 returns-in-Store c =
     let f = c.args.frame.now in
-    for_operation_ok c.store.result c.args.operation (operation.Store c.in-Store.place c.in-Store.width c.in-Store.from) (known_of f c.args.memory.now)
+    for_operation c.store.result c.args.operation (operation.Store c.in-Store.place c.in-Store.distance c.in-Store.from) (known_of f c.args.memory.now)
     (known_of f c.store.new.memory) c.in-Store.is c.store.ensures
 
 pub returns-in-Putchar : goal.returns-in-Putchar

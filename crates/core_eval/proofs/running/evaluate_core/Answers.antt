@@ -5,6 +5,7 @@ use Rattle.core_meaning.specs.Steps as steps
 use Rattle.cyc_core.specs.declared.program.Function.{Function}
 use Rattle.cyc_core.specs.Trees.{program_tree, function_tree, optional_tree, body_tree}
 use Rattle.core_eval.specs.Values.{content_of}
+use Rattle.core_eval.specs.Values.{cells_of}
 use Rattle.core_eval.specs.Blocks.{activation_of}
 use Rattle.core_eval.specs.declared.pending.Due.{Due}
 use Rattle.core_eval.specs.declared.ending.EvalEnding.TheVariants as ending
@@ -38,10 +39,10 @@ units-init g c =
             base = 0;
             blocks = map activation_of bs;
             entered = c.new-memory.result.entered;
-            globals = c.new-memory.result.globals.items;
+            globals = map cells_of c.new-memory.result.globals.items;
           }) c.new-memory.ensures.blocks
-          ∙ ap (λ n. record { temps = []; base = 0; blocks = []; entered = n; globals = c.new-memory.result.globals.items }) c.new-memory.ensures.entered
-          ∙ ap (λ gs. record { temps = []; base = 0; blocks = []; entered = 0; globals = gs.items }) c.new-memory.ensures.globals
+          ∙ ap (λ n. record { temps = []; base = 0; blocks = []; entered = n; globals = map cells_of c.new-memory.result.globals.items }) c.new-memory.ensures.entered
+          ∙ ap (λ gs. record { temps = []; base = 0; blocks = []; entered = 0; globals = map cells_of gs.items }) c.new-memory.ensures.globals
           ∙ ap (λ gs. record { temps = []; base = 0; blocks = []; entered = 0; globals = gs }) (c.in-Ok.ensures ∙ ap (map first_object) c.deref.ensures.value))
           c.new-gathered.ensures;
     }

@@ -2,7 +2,7 @@ use Rattle.std.proofs.Common.{◌≡◌, [], Some, None, refl, ap, rules}
 use Rattle.core_eval.specs.declared.value.Value.TheVariants as value
 use Rattle.core_eval.specs.declared.pending.Flow.TheVariants as flow
 use Rattle.core_eval.specs.Pendings.{Wrong, Over, exit_of}
-use Rattle.core_eval.proofs.LeaveMoves.{main_ends, main_none, main_blank, main_null, main_place, main_local}
+use Rattle.core_eval.proofs.LeaveMoves.{main_ends, main_none, main_blank, main_null, main_place}
 use Rattle.core_eval.proofs.Taken.{left_as}
 use Rattle.core_eval.proofs.take.status.Goals as goal
 
@@ -22,17 +22,12 @@ returns-in-Null c =
     let e : c.args.flow ≡ flow.Returns (Some value.Null) = search rules in
     λ known. left_as (exit_of (flow.Returns (Some value.Null))) (exit_of c.args.flow) [] [] known Wrong [] known (ap exit_of e) refl (main_null known)
 
-pub returns-in-Global : goal.returns-in-Global
-returns-in-Global c =
-    let e : c.args.flow ≡ flow.Returns (Some (value.Global c.in-Global.field-0)) = search rules in
-    λ known. left_as (exit_of (flow.Returns (Some (value.Global c.in-Global.field-0)))) (exit_of c.args.flow) [] [] known Wrong [] known (ap exit_of e) refl
-    (main_place known c.in-Global.field-0)
-
-pub returns-in-Local : goal.returns-in-Local
-returns-in-Local c =
-    let e : c.args.flow ≡ flow.Returns (Some (value.Local c.in-Local.field-0 c.in-Local.field-1)) = search rules in
-    λ known. left_as (exit_of (flow.Returns (Some (value.Local c.in-Local.field-0 c.in-Local.field-1)))) (exit_of c.args.flow) [] [] known Wrong [] known
-    (ap exit_of e) refl (main_local known c.in-Local.field-0 c.in-Local.field-1)
+pub returns-in-Pointer : goal.returns-in-Pointer
+returns-in-Pointer c =
+    let e : c.args.flow ≡ flow.Returns (Some (value.Pointer c.in-Pointer.field-0)) = search rules in
+    λ known. left_as (exit_of (flow.Returns (Some (value.Pointer c.in-Pointer.field-0)))) (exit_of c.args.flow) [] [] known Wrong [] known (ap exit_of e)
+    refl
+    (main_place known c.in-Pointer.field-0)
 
 pub returns-in-Returns-None : goal.returns-in-Returns-None
 returns-in-Returns-None c =

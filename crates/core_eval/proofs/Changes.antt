@@ -1,0 +1,109 @@
+-- A change of one area's objects, and what is known after it.
+use Rattle.std.specs.Prelude.{if◌then◌else◌, slice_get, slice_set, ◌&&◌, nat_eq}
+use Rattle.std.proofs.Common.{◌≡◌, ℕ, false, Option, Some, None, List, refl, ap, ◌∙◌, sym, subst, arith}
+use Rattle.core_meaning.specs.Memory.{Region, Frame, Born, Spot, Part, Memory, same_region, with_part}
+use Rattle.core_meaning.specs.Steps.{Config, with_memory}
+use Rattle.core_eval.specs.declared.value.Area.{Area}
+use Rattle.core_eval.specs.declared.value.Area.TheVariants as area
+use Rattle.core_eval.specs.declared.value.Slot.{Slot}
+use Rattle.core_eval.specs.Values.{region_of, spot_of, part_in, slot_at, Shows}
+use Rattle.core_eval.specs.Blocks.{Activation, Stored, position_of}
+use Rattle.core_eval.specs.Pendings.{Wait, Mark}
+use Rattle.core_eval.specs.Standing.{Known, Agrees}
+use Rattle.core_eval.proofs.Memories.{other_number}
+use Rattle.core_eval.proofs.Nested.{nested_still, nested_shows, nested_put, position_there, position_put}
+
+-- what is stored, of what is known
+abbrev pub stored_in : Known → Stored
+stored_in known = record { blocks = known.blocks; globals = known.globals }
+
+abbrev pub with_stored : Known → Stored → Known
+with_stored known after = record known { blocks = after.blocks; globals = after.globals }
+
+-- an area's objects are these, and afterwards those, and nothing else is stored in another way
+abbrev pub Replaces : Known → Area → (objects objects' : List (List Slot)) → Stored → Type 0
+Replaces known area.Globals objects objects' after = (objects ≡ known.globals) × (after ≡ record { blocks = known.blocks; globals = objects' })
+Replaces known (area.Block n) objects objects' after =
+    (p : ℕ) × (b : Activation) × (position_of known.blocks n ≡ Some p) × (slice_get known.blocks p ≡ Some b) × (objects ≡ b.objects)
+    × (after ≡ record { blocks = slice_set known.blocks p (record { number = b.number; objects = objects' }); globals = known.globals })
+
+-- in another region a store changes nothing
+pub part_elsewhere : (m : Memory) (r : Region) (i k j : ℕ) (p : Part) (t : Spot) (x : ℕ) → same_region t.region r ≡ false
+    → (with_part m (spot_of r i k) j p).parts t x ≡ m.parts t x
+part_elsewhere m r i k j p t x other =
+    ap (λ b. if (b && (nat_eq t.object i && nat_eq t.cell k)) && nat_eq x j then Some p else m.parts t x) other
+
+-- the number of the block that stands there
+block_number : (blocks : List Activation) (n p : ℕ) (b : Activation) → position_of blocks n ≡ Some p → slice_get blocks p ≡ Some b → b.number ≡ n
+block_number blocks n p b at there = let e = position_there blocks n p at in cc
+
+module _ (known : Known) (ws : List Wait) (marks : List Mark) (c : Config) (h : Agrees known ws marks c) where
+  -- the area's region shows its objects
+  pub replaced_shows : (a : Area) (objects objects' : List (List Slot)) (after : Stored) → Replaces known a objects objects' after
+      → Shows c.memory (region_of a) objects
+  replaced_shows area.Globals objects objects' after (same, is) = subst (λ (os : List (List Slot)). Shows c.memory (Born 0) os) (sym same) h.globals
+  replaced_shows (area.Block n) objects objects' after (p, b, at, there, same, is) =
+      let (below, shows) = nested_shows c.memory c.memory.activations c.blocks known.base known.blocks ws marks p b h.nested there in
+      subst (λ (os : List (List Slot)). Shows c.memory (Frame n) os) (sym same)
+      (subst (λ (k : ℕ). Shows c.memory (Frame k) b.objects) (block_number known.blocks n p b at there) shows)
+
+  module _ (parts' : Spot → ℕ → Option Part) where
+    -- the memory with other parts
+    abbrev changed : Memory
+    changed = record c.memory { parts = parts' }
+
+    shows_other : (r q : Region) (objects : List (List Slot)) → ((t : Spot) (j : ℕ) → same_region t.region r ≡ false → parts' t j ≡ c.memory.parts t j)
+        → same_region q r ≡ false → Shows c.memory q objects → Shows changed q objects
+    shows_other r q objects others other s =
+        record { live = s.live; holds = λ x y z. others (spot_of q x y) z other ∙ s.holds x y z }
+
+    globals_agree : (objects' : List (List Slot))
+        → ((t : Spot) (j : ℕ) → same_region t.region (Born 0) ≡ false → parts' t j ≡ c.memory.parts t j)
+        → ((i k j : ℕ) → parts' (spot_of (Born 0) i k) j ≡ part_in (slot_at objects' i k) j)
+        → Agrees (record known { globals = objects' }) ws marks (with_memory changed c)
+    globals_agree objects' others shows = record {
+      temps = h.temps;
+      fresh = record {
+        empty = h.fresh.empty;
+        missing = λ k i cell j le. others (spot_of (Frame k) i cell) j refl ∙ h.fresh.missing k i cell j le;
+      };
+      globals = record { live = h.globals.live; holds = shows };
+      nested = nested_still c.memory changed c.memory.activations c.memory.activations c.blocks known.base known.blocks ws marks (omega arith)
+          (λ k os below s. shows_other (Born 0) (Frame k) os others refl s) h.nested;
+      entered = h.entered;
+      live = h.live;
+    }
+
+    block_agrees : (p : ℕ) (b : Activation) (objects' : List (List Slot)) → slice_get known.blocks p ≡ Some b
+        → ((t : Spot) (j : ℕ) → same_region t.region (Frame b.number) ≡ false → parts' t j ≡ c.memory.parts t j)
+        → ((i k j : ℕ) → parts' (spot_of (Frame b.number) i k) j ≡ part_in (slot_at objects' i k) j)
+        → Agrees (record known { blocks = slice_set known.blocks p (record { number = b.number; objects = objects' }) }) ws marks (with_memory changed c)
+    block_agrees p b objects' at others shows =
+        let (below, was) = nested_shows c.memory c.memory.activations c.blocks known.base known.blocks ws marks p b h.nested at in record {
+          temps = h.temps;
+          fresh = record {
+            empty = h.fresh.empty;
+            missing = λ k i cell j le.
+                others (spot_of (Frame k) i cell) j (other_number k b.number (omega (arith, below, le))) ∙ h.fresh.missing k i cell j le;
+          };
+          globals = shows_other (Frame b.number) (Born 0) known.globals others refl h.globals;
+          nested = nested_put c.memory changed b.number objects' (record { live = was.live; holds = shows })
+              (λ q os other s. shows_other (Frame b.number) (Frame q) os others (other_number q b.number other) s)
+              c.memory.activations c.blocks known.base known.blocks ws marks p b at refl h.nested;
+          entered = h.entered;
+          live = λ k gone. h.live k (sym (position_put known.blocks p k b (record { number = b.number; objects = objects' }) at refl) ∙ gone);
+        }
+
+    -- after a change of the area's objects all is known as it is stored
+    pub replaced_agrees : (a : Area) (objects objects' : List (List Slot)) (after : Stored) → Replaces known a objects objects' after
+        → ((t : Spot) (j : ℕ) → same_region t.region (region_of a) ≡ false → parts' t j ≡ c.memory.parts t j)
+        → ((i k j : ℕ) → parts' (spot_of (region_of a) i k) j ≡ part_in (slot_at objects' i k) j)
+        → Agrees (with_stored known after) ws marks (with_memory changed c)
+    replaced_agrees area.Globals objects objects' after (same, is) others shows =
+        subst (λ (s : Stored). Agrees (with_stored known s) ws marks (with_memory changed c)) (sym is) (globals_agree objects' others shows)
+    replaced_agrees (area.Block n) objects objects' after (p, b, at, there, same, is) others shows =
+        let number = block_number known.blocks n p b at there in
+        subst (λ (s : Stored). Agrees (with_stored known s) ws marks (with_memory changed c)) (sym is)
+        (block_agrees p b objects' there
+        (λ t j other. others t j (ap (λ k. same_region t.region (Frame k)) (sym number) ∙ other))
+        (λ i k j. ap (λ x. parts' (spot_of (Frame x) i k) j) number ∙ shows i k j))

@@ -1,0 +1,16 @@
+use Rattle.std.proofs.Common.{◌<◌, ◌≤◌, length, rules}
+use Rattle.core_eval.proofs.Lists.{put_object_some, put_object_none}
+use Rattle.core_eval.proofs.value.put_in.Goals as goal
+
+pub returns-in-Some-clause-put : goal.returns-in-Some-clause-put
+returns-in-Some-clause-put c =
+    let os = c.args.objects.now.items in
+    let within : c.args.index < length os = search rules in
+    put_object_some os c.args.index c.args.cell c.args.byte c.args.width c.args.value c.in-Some.object.now c.put.new.self c.put.result within
+    c.in-Some.ensures.value c.put.ensures.put
+
+pub returns-in-None-clause-put : goal.returns-in-None-clause-put
+returns-in-None-clause-put c =
+    let os = c.args.objects.now.items in
+    let past : length os ≤ c.args.index = search rules in
+    put_object_none os c.args.index c.args.cell c.args.byte c.args.width c.args.value past

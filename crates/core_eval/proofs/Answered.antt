@@ -125,7 +125,7 @@ value_there m p d cell byte slot r o further later there read is =
 -- ---- stores
 
 -- what is known after a store
-stored_known : (f : Frame) (m m' : Memory) → m'.entered ≡ m.entered → known_of f m' ≡ with_stored (known_of f m) (stored_of m')
+pub stored_known : (f : Frame) (m m' : Memory) → m'.entered ≡ m.entered → known_of f m' ≡ with_stored (known_of f m) (stored_of m')
 stored_known f m m' entered = ap (λ n. record (with_stored (known_of f m) (stored_of m')) { entered = n }) entered
 
 unstored_known : (f : Frame) (m m' : Memory) → stored_of m' ≡ stored_of m → m'.entered ≡ m.entered → known_of f m' ≡ known_of f m

@@ -36,7 +36,7 @@ use Rattle.core_eval.specs.declared.value.Value.TheVariants as value
 use Rattle.core_eval.specs.Values.{spot_of, content_of, part_of, part_in, slot_at, blank_slot, blank_object}
 use Rattle.core_eval.specs.Pendings.{Follow, Wait, Caller, Next, Go, Wrong, Mark, rest_of, coming, returned_to}
 use Rattle.core_eval.specs.Standing.{Known, Agrees, Stands, IsCall, first_value, first_slot, scalar, first_object, first_known}
-use Rattle.core_eval.proofs.Memories.{padding_part, blank_part}
+use Rattle.core_eval.proofs.Memories.{padding_part, blank_part, cell_begins}
 use Rattle.core_eval.proofs.Nested.{nested_still}
 use Rattle.core_eval.proofs.Moves.{goes_here}
 
@@ -138,16 +138,8 @@ begun_if : (b : Bool) (at : ℕ) (first : Option PartShape) → first ≡ (if b 
 begun_if true at first is = ap (λ f. Some (record { offset = at; width = 1; content = part_first f })) is
 begun_if false at first is = refl
 
-first_of : (c : CellLayout) → cell_first c.cell ≡ content_of (first_value c.cell)
-first_of c = by c.cell
-  where
-    by : (k : Cell) → cell_first k ≡ content_of (first_value k)
-    by cell.Byte = refl
-    by cell.Word = refl
-    by cell.Pointer = refl
-
 begun_cell : (c : CellLayout) (j : ℕ) → filled (part_of (blank_slot c) j) (part_first (slice_get (cell_parts c) j)) ≡ part_of (first_slot c) j
-begun_cell c zero = ap (λ v. Some (record { offset = c.offset; width = bytes_of (blank_slot c).width; content = v })) (first_of c)
+begun_cell c zero = ap (λ v. Some (record { offset = c.offset; width = bytes_of (blank_slot c).width; content = v })) (cell_begins c)
 begun_cell c (suc j) =
     begun_if (nat_lt j c.padding) (c.offset + bytes_of (blank_slot c).width + j) (slice_get (padding_parts (c.offset + bytes_of (blank_slot c).width) c.padding) j)
     (padding_part (c.offset + bytes_of (blank_slot c).width) c.padding j)

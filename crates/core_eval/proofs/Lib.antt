@@ -7,6 +7,10 @@ mod Changes
 mod OperationMoves
 mod MemoryMoves
 mod StoreMoves
+mod Laid
+mod Filled
+mod WholeParts
+mod WholeMoves
 mod Answered
 mod EnterMoves
 mod BlockMoves

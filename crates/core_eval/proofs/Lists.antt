@@ -1,6 +1,6 @@
 -- What lists of temporaries, objects and blocks hold at an index.
 use Rattle.std.specs.Prelude.{if◌then◌else◌, slice_index_or, slice_get, slice_set, nat_eq, drop, option_to_list, option_map, Option}
-use Rattle.std.proofs.Common.{◌≡◌, ℕ, zero, suc, ◌<◌, ◌≤◌, Bool, true, false, Some, None, List, [], ◌∷◌, ◌++◌, length, map, refl, ap, ◌∙◌, sym, arith}
+use Rattle.std.proofs.Common.{◌≡◌, ℕ, zero, suc, ◌<◌, ◌≤◌, Bool, true, false, Some, None, List, [], ◌∷◌, ◌++◌, length, map, Result, Ok, Err, OnOk, refl, ap, ◌∙◌, sym, arith}
 use Rattle.std.proofs.lemmas.List.{length-map}
 use Rattle.std.proofs.Math.Dec.{eqb-suc-suc, eqb-zero-suc, eqb-suc-zero}
 use Rattle.core_meaning.specs.Memory.{Blank}
@@ -13,6 +13,7 @@ use Rattle.core_eval.specs.declared.memory.Block.{Block}
 use Rattle.core_eval.specs.declared.value.Object.{Object}
 use Rattle.core_eval.specs.Values.{content_of, temp_of, cells_of, put_cell, put_object, put_in}
 use Rattle.core_eval.specs.Blocks.{activation_of, put_block, put_among, put_through}
+use Rattle.core_eval.specs.Whole.{fill_cells, fill_object, fill_in, fill_among, fill_through}
 
 -- ---- temporaries
 
@@ -135,6 +136,36 @@ module _ (os : List Object) (i k byte : ℕ) (w : Width) (v : Value) where
 
   pub put_object_none : length os ≤ i → put_in (map cells_of os) i k byte w v ≡ None
   put_object_none h = ap (put_object (map cells_of os) i k byte w v) (get_past (map cells_of os) i (let e = length-map os cells_of in omega (arith, h, e)))
+
+-- ---- cells that get other values
+
+module _ (os : List Object) (i k : ℕ) (vs : List Value) where
+  pub fill_object_some : (o new : Object) → i < length os → o ≡ slice_index_or os i o → cells_of new ≡ fill_cells (cells_of o) k vs
+      → map cells_of (slice_set os i new) ≡ fill_in (map cells_of os) i k vs
+  fill_object_some o new h e filled =
+      set_object os i new ∙ ap (slice_set (map cells_of os) i) filled ∙ sym (ap (fill_object (map cells_of os) i k vs) (get_object os i o h e))
+
+  pub fill_object_none : length os ≤ i → map cells_of os ≡ fill_in (map cells_of os) i k vs
+  fill_object_none h =
+      sym (ap (fill_object (map cells_of os) i k vs) (get_past (map cells_of os) i (let e = length-map os cells_of in omega (arith, h, e))))
+
+module _ (bs : List Block) (n i k : ℕ) (vs : List Value) where
+  pub fill_some : (b new : Block) → n < length bs → b ≡ slice_index_or bs n b → new.number ≡ b.number
+      → map cells_of new.objects.items ≡ fill_in (map cells_of b.objects.items) i k vs
+      → map activation_of (slice_set bs n new) ≡ fill_through (map activation_of bs) (Some n) i k vs
+  fill_some b new h e same filled =
+      set_block bs n new
+      ∙ ap (λ x. slice_set (map activation_of bs) n (record { number = x; objects = map cells_of new.objects.items })) same
+      ∙ ap (λ os. slice_set (map activation_of bs) n (record { number = b.number; objects = os })) filled
+      ∙ sym (ap (fill_among (map activation_of bs) n i k vs) (get_block bs n b h e))
+
+  pub fill_none : length bs ≤ n → map activation_of bs ≡ fill_through (map activation_of bs) (Some n) i k vs
+  fill_none h = sym (ap (fill_among (map activation_of bs) n i k vs) (no_block bs n h))
+
+-- what follows from a fact on what is right
+pub ok_then : {T E P Q : Type 0} (r : Result T E) → OnOk r P → (P → Q) → OnOk r Q
+ok_then (Ok x) h f = f h
+ok_then (Err e) h f = tt
 
 -- all but the first block
 pub first_left : (gone : Option Block) (bs rest : List Block) → bs ≡ option_to_list gone ++ rest → (gone ≡ None → length bs ≡ 0)

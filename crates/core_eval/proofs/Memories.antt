@@ -60,11 +60,12 @@ use Rattle.core_meaning.specs.Operations.{reached}
 use Rattle.core_meaning.specs.Meaning.{with_objects}
 use Rattle.cyc_core.specs.declared.operation.Width.{Width}
 use Rattle.cyc_core.specs.declared.operation.Width.TheVariants as width
-use Rattle.cyc_core.specs.declared.operation.Distance.{Distance}
+use Rattle.cyc_core.specs.declared.operation.Cell.{Cell}
+use Rattle.cyc_core.specs.declared.operation.Cell.TheVariants as cell
 use Rattle.cyc_core.specs.declared.layout.CellLayout.{CellLayout}
 use Rattle.cyc_core.specs.declared.layout.Local as code
 use Rattle.cyc_core.specs.declared.layout.Local.TheVariants as local
-use Rattle.cyc_core.specs.Trees.{bytes_of, cell_parts, padding_parts, local_tree, local_layout}
+use Rattle.cyc_core.specs.Trees.{bytes_of, cell_first, cell_parts, padding_parts, local_tree, local_layout}
 use Rattle.core_eval.specs.declared.value.Value.{Value}
 use Rattle.core_eval.specs.declared.value.Slot.{Slot}
 use Rattle.core_eval.specs.Values.{
@@ -87,6 +88,7 @@ use Rattle.core_eval.specs.Values.{
   blank_object,
   local_cells,
 }
+use Rattle.core_eval.specs.Standing.{first_value}
 use Rattle.core_eval.proofs.Lists.{get_set, get_grown}
 
 -- ---- reading
@@ -292,6 +294,15 @@ pub blank_part : (l : code.Local) (k j : ℕ) → blanks (local_layout l) 1 k j 
 blank_part l k j =
     one_element (local_layout l) k j ∙ ap (λ cells. blank_of 0 (shape_in (slice_get cells k) j)) (local_parts l)
     ∙ blank_cells (local_cells l) 0 k j refl
+
+-- what a cell begins as
+pub cell_begins : (c : CellLayout) → cell_first c.cell ≡ content_of (first_value c.cell)
+cell_begins c = by c.cell
+  where
+    by : (k : Cell) → cell_first k ≡ content_of (first_value k)
+    by cell.Byte = refl
+    by cell.Word = refl
+    by cell.Pointer = refl
 
 -- ---- a store to an object
 

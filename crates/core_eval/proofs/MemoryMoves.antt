@@ -164,7 +164,7 @@ both_is b e None p same next = refl
 both_is b e (Some x) None same next = none_there (nat_eq x.offset b) same next
 both_is b e (Some x) (Some y) same next = checked_both (nat_eq x.offset b && nat_eq y.offset e) same next
 
-same_regions : (a e : Area) → same_region (region_of a) (region_of e) ≡ same_area a e
+pub same_regions : (a e : Area) → same_region (region_of a) (region_of e) ≡ same_area a e
 same_regions area.Globals area.Globals = refl
 same_regions area.Globals (area.Block k) = refl
 same_regions (area.Block k) area.Globals = refl

@@ -1,5 +1,6 @@
 pub mod Values
 pub mod Blocks
+pub mod Whole
 pub mod Pendings
 pub mod Standing
 pub mod Costs

@@ -121,8 +121,11 @@ first_value cell.Byte = value.Word 0
 first_value cell.Word = value.Word 0
 first_value cell.Pointer = value.Null
 
+abbrev pub first_held : CellLayout → Value
+first_held c = first_value c.cell
+
 abbrev pub first_slot : CellLayout → Slot
-first_slot c = with_value (blank_slot c) (first_value c.cell)
+first_slot c = with_value (blank_slot c) (first_held c)
 
 -- an object of one cell
 abbrev pub scalar : Cell → Value → List Slot

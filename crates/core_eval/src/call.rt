@@ -11,7 +11,7 @@ use crate::enter::wait;
 use crate::frame::Frame;
 use crate::memory::Memory;
 use crate::pending::{Due, Now, Pending};
-use crate::value::{Object, Slot, Value};
+use crate::value::{Object, Slot, Value, first_value};
 use cyc_core::{Cell, CellLayout, Datum, Function, Program, Temporary};
 use std::alloc::{AllocError, Global};
 use std::mem;
@@ -32,15 +32,11 @@ fn scalar(cell: Cell, value: Value) -> Object
 fn first_slot(cell: CellLayout) -> Slot
     ensures { result ≡ first_slot cell }
 {
-    let value = match cell.cell {
-        Cell::Byte | Cell::Word => Value::Word(0),
-        Cell::Pointer => Value::Null,
-    };
     Slot {
         offset: cell.offset,
         width: cell.cell.width(),
         padding: cell.padding,
-        value,
+        value: first_value(cell.cell),
     }
 }
 

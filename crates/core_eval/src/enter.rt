@@ -13,6 +13,7 @@ use crate::memory::Memory;
 use crate::operation::operate;
 use crate::pending::{Due, Flow, Now, Pending};
 use crate::value::{Object, Slot, Value};
+use crate::whole::{clear, copy};
 use cyc_core::{CellLayout, Local, Statement, Temporary};
 use std::alloc::{AllocError, Global};
 
@@ -148,6 +149,10 @@ pub fn enter_statement<'p>(
 {
     match statement {
         Statement::Do(operation) => operate(*operation, frame, memory),
+        Statement::Copy(to, from, layout) => {
+            copy(alloc, frame, memory, *to, *from, layout.as_ref())
+        }
+        Statement::Clear(place, layout) => clear(alloc, frame, memory, *place, layout.as_ref()),
         Statement::If(test, these, those) => match truth(frame.temp(*test)) {
             Some(is_true) => Ok(Due::Go(Now::Follow(if is_true { these } else { those }))),
             None => Ok(Due::Wrong),

@@ -17,6 +17,7 @@ mod pending;
 mod running;
 mod take;
 mod value;
+mod whole;
 
 pub use ending::EvalEnding;
 pub use running::evaluate_core;

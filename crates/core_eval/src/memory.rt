@@ -2,6 +2,7 @@
 
 ghost use Rattle.std.specs.Prelude.{◌≡◌, ◌∷◌, ◌+◌, [], Some, None, false, if◌then◌else◌, drop, map, OnOk};
 ghost use Rattle.core_eval.specs.Values.{cells_of, value_of};
+ghost use Rattle.core_eval.specs.Whole.{fill_through, is_held};
 ghost use Rattle.core_eval.specs.Blocks.{
   Descends,
   activation_of,
@@ -19,7 +20,7 @@ ghost use Rattle.core_eval.specs.Blocks.{
 };
 
 use crate::value::{
-    Area, Object, Place, Slot, Value, is_null, is_same_cell, put_in, slot_in, value_of,
+    Area, Object, Place, Slot, Value, fill_in, is_null, is_same_cell, put_in, slot_in, value_of,
 };
 use cyc_core::{Variable, Width};
 use std::alloc::{AllocError, Global};
@@ -160,6 +161,16 @@ impl Memory {
         }
     }
 
+    /// Whether an area isn't left yet.
+    pub fn is_held(&self, area: Area) -> bool
+        ensures { Descends self.now.entered (map activation_of self.now.blocks.items) → result ≡ is_held (map activation_of self.now.blocks.items) area }
+    {
+        match area {
+            Area::Globals => true,
+            Area::Block(block) => self.position_of(block).is_some(),
+        }
+    }
+
     /// Whether a place leads to a cell that is there.
     fn is_there(&self, place: Place) -> bool
         ensures { Descends self.now.entered (map activation_of self.now.blocks.items)
@@ -255,6 +266,47 @@ impl Memory {
         match self.position_of(number) {
             Some(position) => self.set_at(position, index, cell, byte, width, value),
             None => false,
+        }
+    }
+
+    /// The cells of a local of the block that stands there among the blocks get these values, from one on. Fails only where there would
+    /// be a cell with a number over 2^64 - 1.
+    fn fill_at(
+        &mut self,
+        position: usize,
+        index: u32,
+        cell: u64,
+        values: &[Value],
+    ) -> Result<(), AllocError>
+        ensures blocks { OnOk result (map activation_of self.new.blocks.items
+            ≡ fill_through (map activation_of self.old.blocks.items) (Some position) index cell values.now) }
+        ensures entered { OnOk result (self.new.entered ≡ self.old.entered) }
+        ensures globals { OnOk result (self.new.globals ≡ self.old.globals) }
+    {
+        match self.blocks.get_mut(position) {
+            Some(block) => fill_in(&mut block.objects, index, cell, values),
+            None => Ok(()),
+        }
+    }
+
+    /// The cells of a local of the block that was entered after so many get these values, from one on, if it isn't left yet. Fails only
+    /// where there would be a cell with a number over 2^64 - 1.
+    pub fn fill_in_block(
+        &mut self,
+        number: u64,
+        index: u32,
+        cell: u64,
+        values: &[Value],
+    ) -> Result<(), AllocError>
+        ensures blocks { OnOk result (Descends self.old.entered (map activation_of self.old.blocks.items)
+            → map activation_of self.new.blocks.items
+            ≡ fill_through (map activation_of self.old.blocks.items) (position_of (map activation_of self.old.blocks.items) number) index cell values.now) }
+        ensures entered { OnOk result (self.new.entered ≡ self.old.entered) }
+        ensures globals { OnOk result (self.new.globals ≡ self.old.globals) }
+    {
+        match self.position_of(number) {
+            Some(position) => self.fill_at(position, index, cell, values),
+            None => Ok(()),
         }
     }
 }

@@ -15,7 +15,7 @@ use crate::arithmetic::{apply, truth};
 use crate::frame::Frame;
 use crate::memory::Memory;
 use crate::pending::{Due, Flow, Now};
-use crate::value::{Area, Place, Value, is_null, put_in, value_of};
+use crate::value::{Area, Place, Value, further, is_null, put_in, value_of};
 use cyc_core::{Binary, Distance, Operation, Temporary, Variable, Width};
 use std::alloc::AllocError;
 
@@ -130,16 +130,6 @@ fn put<'p>(
         Due::Go(Now::Leave(Flow::Falls))
     } else {
         Due::Wrong
-    }
-}
-
-/// The number of a cell so many cells further on. Fails only where that is over 2^64 - 1.
-fn further(cell: u64, cells: u32) -> Result<u64, AllocError>
-    ensures { IfOk result (λ n. n ≡ cell + cells) }
-{
-    match cell.checked_add(u64::from(cells)) {
-        Some(sum) => Ok(sum),
-        None => Err(AllocError),
     }
 }
 

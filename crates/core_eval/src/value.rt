@@ -1,9 +1,11 @@
 // What temporaries and objects hold.
 
-ghost use Rattle.std.specs.Prelude.{◌≡◌, Some, None, false, if◌then◌else◌, map, slice_get, slice_set};
+ghost use Rattle.std.specs.Prelude.{◌≡◌, ◌+◌, IfOk, OnOk, Some, None, false, if◌then◌else◌, map, slice_get, slice_set};
 ghost use Rattle.core_eval.specs.Values.{cells_of, fitted, is_fit, null_of, put_cell, put_in, same_area, same_cell, same_width, slot_at, value_of};
+ghost use Rattle.core_eval.specs.Standing.{first_value};
+ghost use Rattle.core_eval.specs.Whole.{fill_cells, fill_in, fill_slot};
 
-use cyc_core::Width;
+use cyc_core::{Cell, Width};
 use std::alloc::{AllocError, Global};
 
 /// What has objects.
@@ -95,6 +97,27 @@ impl Object {
         }
     }
 
+    /// The cell with this number gets a value, if there is one.
+    fn fill_one(&mut self, cell: u64, value: Value)
+        ensures { cells_of self.new ≡ fill_slot (cells_of self.old) cell value (slice_get (cells_of self.old) cell) }
+    {
+        if let Some(slot) = self.slot(cell) {
+            self.set(cell, Slot { value, ..slot });
+        }
+    }
+
+    /// The cells from one on get these values. Fails only where there would be a cell with a number over 2^64 - 1.
+    fn fill(&mut self, cell: u64, values: &[Value]) -> Result<(), AllocError>
+        ensures { OnOk result (cells_of self.new ≡ fill_cells (cells_of self.old) cell values.now) }
+    {
+        let mut at = cell;
+        'each: for value in values {
+            self.fill_one(at, *value);
+            at = further(at, 1)?;
+        }
+        Ok(())
+    }
+
     /// Stores a value to the cell with this number, if there is one that lies so many bytes on and is so wide, and answers whether there is.
     fn put(&mut self, cell: u64, byte: u64, width: Width, value: Value) -> bool
         ensures put { put_cell (cells_of self.old) cell byte width value ≡ (if result then Some (cells_of self.new) else None) }
@@ -112,7 +135,7 @@ impl Object {
 }
 
 /// Whether two widths are the same.
-fn is_same(first: Width, second: Width) -> bool
+pub fn is_same(first: Width, second: Width) -> bool
     ensures { result ≡ same_width first second }
 {
     match (first, second) {
@@ -179,6 +202,42 @@ pub fn put_in(
     }
 }
 
+/// The cells of the object with this number get these values, from one on. Fails only where there would be a cell with a number over
+/// 2^64 - 1.
+pub fn fill_in(
+    objects: &mut Vec<Object>,
+    index: u32,
+    cell: u64,
+    values: &[Value],
+) -> Result<(), AllocError>
+    ensures { OnOk result (map cells_of objects.new.items ≡ fill_in (map cells_of objects.old.items) index cell values.now) }
+{
+    match objects.get_mut(index as usize) {
+        Some(object) => object.fill(cell, values),
+        None => Ok(()),
+    }
+}
+
+/// What a cell begins as.
+pub fn first_value(cell: Cell) -> Value
+    ensures { result ≡ first_value cell }
+{
+    match cell {
+        Cell::Byte | Cell::Word => Value::Word(0),
+        Cell::Pointer => Value::Null,
+    }
+}
+
+/// The number of a cell so many cells further on. Fails only where that is over 2^64 - 1.
+pub fn further(cell: u64, cells: u32) -> Result<u64, AllocError>
+    ensures { IfOk result (λ n. n ≡ cell + cells) }
+{
+    match cell.checked_add(u64::from(cells)) {
+        Some(sum) => Ok(sum),
+        None => Err(AllocError),
+    }
+}
+
 /// Whether a value is NULL, if it is a pointer.
 pub fn is_null(value: Value) -> Option<bool>
     ensures { result ≡ null_of value }
@@ -191,7 +250,7 @@ pub fn is_null(value: Value) -> Option<bool>
 }
 
 /// Whether two areas are the same.
-fn is_same_area(first: Area, second: Area) -> bool
+pub fn is_same_area(first: Area, second: Area) -> bool
     ensures { result ≡ same_area first second }
 {
     match (first, second) {

@@ -126,6 +126,8 @@ statements_of (s ∷ ss) = core.MoreStatements s (statements_of ss)
 
 abbrev pub statement_step : Statement-F core.Statement → core.Statement
 statement_step (Statement-F.Do o) = core.Do (operation_tree o)
+statement_step (Statement-F.Copy to from l) = core.Do (core.Copy to.0 from.0 (layout_tree l.value))
+statement_step (Statement-F.Clear p l) = core.Do (core.Clear p.0 (layout_tree l.value) 1)
 statement_step (Statement-F.If t these those) = core.If t.0 (statements_of these.items) (statements_of those.items)
 statement_step (Statement-F.While test t body) = core.While (statements_of test.items) t.0 (statements_of body.items)
 statement_step (Statement-F.Block locals body) = core.Block (map local_tree locals.items) (statements_of body.items)

@@ -1,8 +1,9 @@
 // Statements of a function.
 
-use crate::layout::Local;
+use crate::layout::{Layout, Local};
 use crate::operation::{Operation, Temporary};
 use cyc_words::Kind;
+use std::rc::Rc;
 
 /// A statement of a function.
 #[cycle(statement)]
@@ -10,6 +11,10 @@ use cyc_words::Kind;
 pub enum Statement {
     /// The operation is done.
     Do(Operation),
+    /// The object of this layout that the first temporary points to gets what that holds which the second points to.
+    Copy(Temporary, Temporary, Rc<Layout>),
+    /// The object of this layout that the temporary points to gets what it begins as: numbers 0, and pointers NULL.
+    Clear(Temporary, Rc<Layout>),
     /// Where the temporary is neither 0 nor NULL, the first statements are done, else the second.
     If(Temporary, Vec<Statement>, Vec<Statement>),
     /// The first statements are done, and where the temporary is neither 0 nor NULL then, the second and the loop again.

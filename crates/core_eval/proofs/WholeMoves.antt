@@ -1,0 +1,324 @@
+-- Whole objects copied and cleared, as Core does it.
+use Rattle.std.specs.Prelude.{if◌then◌else◌, not, ◌&&◌, nat_eq, nat_le, nat_lt, map, slice_get, option_map}
+use Rattle.std.proofs.Common.{
+  ◌≡◌,
+  ℕ,
+  zero,
+  suc,
+  ◌+◌,
+  ◌-◌,
+  ◌*◌,
+  ◌%◌,
+  ◌<◌,
+  Bool,
+  true,
+  false,
+  Option,
+  Some,
+  None,
+  List,
+  [],
+  ◌∷◌,
+  length,
+  refl,
+  ap,
+  ◌∙◌,
+  sym,
+  subst,
+  arith,
+}
+use Rattle.std.proofs.lemmas.List.{length-map}
+use Rattle.std.proofs.Math.Nat.{mod-eq_of_lt}
+use Rattle.core_meaning.specs.Memory as memory
+use Rattle.core_meaning.specs.Memory.{Region, Frame, Content, Pointer, Spot, Part, PartShape, Layout, Memory, is_live, same_region, shape_in}
+use Rattle.core_meaning.specs.Core as core
+use Rattle.core_meaning.specs.Steps as steps
+use Rattle.core_meaning.specs.Steps.{Config, with_memory, Step, checked, pointer_of}
+use Rattle.core_meaning.specs.Operations as operations
+use Rattle.core_meaning.specs.Operations.{
+  is_there,
+  are_elements,
+  cells_on,
+  part_of,
+  content_from,
+  on_from,
+  copied,
+  in_element,
+  begun,
+  cleared,
+}
+use Rattle.cyc_core.specs.declared.layout.CellLayout.{CellLayout}
+use Rattle.cyc_core.specs.declared.layout.Layout as code
+use Rattle.cyc_core.specs.Trees.{bytes_of, cell_width, cell_first, cell_parts, padding_parts, layout_tree}
+use Rattle.core_eval.specs.declared.value.Area.{Area}
+use Rattle.core_eval.specs.declared.value.Area.TheVariants as area
+use Rattle.core_eval.specs.declared.value.Place.{Place}
+use Rattle.core_eval.specs.declared.value.Value.{Value}
+use Rattle.core_eval.specs.declared.value.Value.TheVariants as value
+use Rattle.core_eval.specs.declared.value.Slot.{Slot}
+use Rattle.core_eval.specs.Values as values
+use Rattle.core_eval.specs.Values.{region_of, spot_of, place_spot, content_of, temp_of, part_in, slot_at}
+use Rattle.core_eval.specs.Blocks.{Activation, Descends, Stored, position_of, slot_in}
+use Rattle.core_eval.specs.Whole.{
+  is_cell,
+  are_cells,
+  slots_of,
+  is_found,
+  is_held,
+  are_laid,
+  same_object,
+  held_by,
+  values_from,
+  fill_in,
+  fill_among,
+  fill_through,
+  fill_to,
+}
+use Rattle.core_eval.specs.Pendings.{Execute, Leave, Wait, Go, Wrong, Mark, rest_of}
+use Rattle.core_eval.specs.Standing.{Known, Agrees, first_held}
+use Rattle.core_eval.specs.Costs.{IsMove}
+use Rattle.core_eval.proofs.Nested.{position_there}
+use Rattle.core_eval.proofs.Changes.{stored_in, with_stored, Replaces, replaced_shows, replaced_agrees}
+use Rattle.core_eval.proofs.MemoryMoves.{descends, same_regions}
+use Rattle.core_eval.proofs.Laid.{live_is, held_part, laid_is}
+use Rattle.core_eval.proofs.Filled.{filled_slot, object_changed}
+use Rattle.core_eval.proofs.WholeParts.{
+  copied_by,
+  cleared_by,
+  copied_part,
+  cleared_part,
+  values_at,
+  values_long,
+  cell_there,
+  cell_at,
+  cell_copied,
+  cell_cleared,
+  held_first,
+  get_less,
+}
+use Rattle.core_eval.proofs.Moves.{all_stand, goes_here, goes_wrong}
+
+-- ---- an area whose cells get other values
+
+module _ (known : Known) (i k : ℕ) (vs : List Value) where
+  block_filled : (n p : ℕ) (o : Option Activation) → position_of known.blocks n ≡ Some p → slice_get known.blocks p ≡ o
+      → (objects : List (List Slot))
+      × Replaces known (area.Block n) objects (fill_in objects i k vs) (record (stored_in known) { blocks = fill_among known.blocks p i k vs o })
+  block_filled n p None at e =
+      absurd (let number = position_there known.blocks n p at in
+      let none : option_map (λ (b : Activation). b.number) None ≡ Some n = ap (option_map (λ b. b.number)) (sym e) ∙ number in cc)
+  block_filled n p (Some b) at e = (b.objects, (p, b, at, e, refl, refl))
+
+  pub replaced : (a : Area) → is_held known.blocks a ≡ true
+      → (objects : List (List Slot)) × Replaces known a objects (fill_in objects i k vs) (fill_to (stored_in known) a i k vs)
+  replaced area.Globals held = (known.globals, (refl, refl))
+  replaced (area.Block n) held = by (position_of known.blocks n) refl held
+    where
+      by : (o : Option ℕ) → position_of known.blocks n ≡ o → is_found o ≡ true
+          → (objects : List (List Slot))
+          × Replaces known (area.Block n) objects (fill_in objects i k vs) (record (stored_in known) { blocks = fill_through known.blocks o i k vs })
+      by None e held = absurd (cc)
+      by (Some p) e held = block_filled n p (slice_get known.blocks p) e refl
+
+-- after a change of the parts of as many cells as there are values, which gives each its value, all is known as it is stored
+module _ (known : Known) (ws : List Wait) (marks : List Mark) (c : Config) (h : Agrees known ws marks c) (p : Place) (vs : List Value)
+    (held : is_held known.blocks p.area ≡ true)
+    (change : Option ℕ → ℕ → Option Part → Option Part) (n : ℕ) (long : length vs ≡ n)
+    (none : (j : ℕ) (o : Option Part) → change None j o ≡ o)
+    (some : (q j : ℕ) (o : Option Slot) (v : Value) → slice_get vs q ≡ Some v → change (Some q) j (part_in o j) ≡ part_in (filled_slot (Some v) o) j) where
+  change_agrees : (parts' : Spot → ℕ → Option Part) → ((t : Spot) (j : ℕ) → parts' t j ≡ change (cells_on n (place_spot p) t) j (c.memory.parts t j))
+      → Agrees (with_stored known (fill_to (stored_in known) p.area p.object p.cell vs)) ws marks (with_memory (record c.memory { parts = parts' }) c)
+  change_agrees parts' is =
+      let (objects, replaces) = replaced known p.object p.cell vs p.area held in
+      let shows = replaced_shows known ws marks c h p.area objects (fill_in objects p.object p.cell vs) (fill_to (stored_in known) p.area p.object p.cell vs)
+      replaces in
+      replaced_agrees known ws marks c h parts' p.area objects (fill_in objects p.object p.cell vs) (fill_to (stored_in known) p.area p.object p.cell vs) replaces
+      (λ t j other.
+      is t j
+      ∙ ap (λ b. change (if (b && nat_eq t.object p.object)
+      && (nat_le p.cell t.cell && nat_lt t.cell (p.cell + n)) then Some (t.cell - p.cell) else None) j
+      (c.memory.parts t j)) other
+      ∙ none j (c.memory.parts t j))
+      (λ x y j.
+      is (spot_of (region_of p.area) x y) j
+      ∙ ap (change (cells_on n (place_spot p) (spot_of (region_of p.area) x y)) j) (shows.holds x y j)
+      ∙ object_changed change n vs long none some objects (region_of p.area) p.object p.cell x y j)
+
+-- ---- moves
+
+-- both tests of two
+and_both : (a b : Bool) → a && b ≡ true → (a ≡ true) × (b ≡ true)
+and_both true b e = (refl, e)
+and_both false b e = absurd (cc)
+
+and_one : (a : Bool) → (a && true) ≡ a
+and_one true = refl
+and_one false = refl
+
+-- whether all three hold that a copy needs
+pub all_hold : (a b s : Bool) → a ≡ true → b ≡ true → s ≡ false → (a && (b && not s)) ≡ true
+all_hold a b s e f g = rw (e, f, g) refl
+
+pub first_fails : (a b s : Bool) → a ≡ false → (a && (b && not s)) ≡ false
+first_fails a b s e = rw e refl
+
+and_none : (a : Bool) → (a && false) ≡ false
+and_none true = refl
+and_none false = refl
+
+pub second_fails : (a b s : Bool) → b ≡ false → (a && (b && not s)) ≡ false
+second_fails a b s e = ap (λ t. a && (t && not s)) e ∙ and_none a
+
+pub third_fails : (a b s : Bool) → s ≡ true → (a && (b && not s)) ≡ false
+third_fails a b s e = ap (λ t. a && (b && not t)) e ∙ ap (λ t. a && t) (and_none b) ∙ and_none a
+
+module _ (known : Known) (ws : List Wait) (x : ℕ) (u : Value) (read : content_of u ≡ temp_of known.temps x) (p : Place) (is : u ≡ value.Pointer p)
+    (l : code.Layout) where
+  abbrev cs : List CellLayout
+  cs = l.cells.items
+
+  abbrev tree : Layout
+  tree = layout_tree l
+
+  -- ---- a copy
+
+  module _ (y : ℕ) (v : Value) (read_from : content_of v ≡ temp_of known.temps y) (q : Place) (is_from : v ≡ value.Pointer q) where
+    abbrev copies : Memory → Config → (Config → Step) → Content → Content → Step
+    copies m c next z w = pointer_of z (λ s b. pointer_of w (λ t e.
+        checked (is_there m tree s b && (is_there m tree t e && not (operations.same_object s t))) (next (with_memory (copied tree s t m) c))))
+
+    -- whether a copy is done
+    abbrev pub can_copy : Bool
+    can_copy = are_laid (stored_in known) p cs && (are_laid (stored_in known) q cs && not (same_object p q))
+
+    copies_is : (marks : List Mark) (c : Config) → Agrees known ws marks c → (next : Config → Step)
+        → copies c.memory c next (c.temps x) (c.temps y)
+        ≡ checked can_copy (next (with_memory (copied tree (place_spot p) (place_spot q) c.memory) c))
+    copies_is marks c h next =
+        ap (λ z. copies c.memory c next z (c.temps y)) (h.temps x ∙ sym read ∙ ap content_of is)
+        ∙ ap (copies c.memory c next (content_of (value.Pointer p))) (h.temps y ∙ sym read_from ∙ ap content_of is_from)
+        ∙ ap (λ b. checked (b && (is_there c.memory tree (place_spot q) q.byte && not (operations.same_object (place_spot p) (place_spot q))))
+        (next (with_memory (copied tree (place_spot p) (place_spot q) c.memory) c)))
+        (laid_is known ws marks c h p cs l.bytes)
+        ∙ ap (λ b. checked (are_laid (stored_in known) p cs && (b && not (operations.same_object (place_spot p) (place_spot q))))
+        (next (with_memory (copied tree (place_spot p) (place_spot q) c.memory) c)))
+        (laid_is known ws marks c h q cs l.bytes)
+        ∙ ap (λ b. checked (are_laid (stored_in known) p cs && (are_laid (stored_in known) q cs && not (b && nat_eq p.object q.object)))
+        (next (with_memory (copied tree (place_spot p) (place_spot q) c.memory) c)))
+        (same_regions p.area q.area)
+
+    abbrev pub copied_values : List Value
+    copied_values = values_from (slots_of (stored_in known) q) q.cell cs
+
+    copied_agrees : (marks : List Mark) (c : Config) → Agrees known ws marks c → are_laid (stored_in known) p cs ≡ true
+        → are_laid (stored_in known) q cs ≡ true
+        → Agrees (with_stored known (fill_to (stored_in known) p.area p.object p.cell copied_values)) ws marks
+        (with_memory (copied tree (place_spot p) (place_spot q) c.memory) c)
+    copied_agrees marks c h laid laid_from =
+        change_agrees known ws marks c h p copied_values (and_both _ _ laid).0
+        (λ k j o. copied_by o (part_of tree k j) (c.memory.parts (on_from (place_spot q) k) j))
+        (length tree.cells) (values_long (slots_of (stored_in known) q) cs q.cell)
+        (λ j o. unchanged o (c.memory.parts (place_spot q) j))
+        one
+        (copied tree (place_spot p) (place_spot q) c.memory).parts
+        (λ t j. copied_part tree c.memory (place_spot p) (place_spot q) t j (c.memory.parts t j) (part_of tree (cells_on (length tree.cells) (place_spot p) t) j)
+        refl refl)
+      where
+        unchanged : (o : Option Part) (w : Option Part) → copied_by o None w ≡ o
+        unchanged None w = refl
+        unchanged (Some z) w = refl
+
+        one : (n j : ℕ) (o : Option Slot) (w : Value) → slice_get copied_values n ≡ Some w
+            → copied_by (part_in o j) (part_of tree (Some n) j) (c.memory.parts (on_from (place_spot q) (Some n)) j) ≡ part_in (filled_slot (Some w) o) j
+        one n j o w e =
+            let (d, at, same) = values_at (slots_of (stored_in known) q) cs q.cell n w e in
+            let (held, cells) = and_both _ _ laid_from in
+            ap (λ (z : Option PartShape). copied_by (part_in o j) z (c.memory.parts (on_from (place_spot q) (Some n)) j))
+            (ap (λ z. shape_in z j) (cell_at cs n d at))
+            ∙ ap (copied_by (part_in o j) (slice_get (cell_parts d) j)) (held_part known ws marks c h q.area q.object (q.cell + n) j held)
+            ∙ cell_copied o d (slots_of (stored_in known) q (q.cell + n)) q.byte j (cell_there (slots_of (stored_in known) q) q.byte cs q.cell n d cells at)
+            ∙ ap (λ z. part_in (filled_slot (Some z) o) j) (sym same)
+
+    pub copy_moves : (after : Stored) → (Descends known.entered known.blocks → can_copy ≡ true)
+        → (Descends known.entered known.blocks → after ≡ fill_to (stored_in known) p.area p.object p.cell copied_values)
+        → IsMove (Execute (core.Do (core.Copy x y tree))) ws known (Go (Leave steps.Falls)) ws (with_stored known after)
+    copy_moves after can gives = record {
+      still = all_stand _ ws known _ ws (with_stored known after) (λ main marks c h.
+          let ok = can (descends known ws marks c h) in
+          let (laid, others) = and_both _ _ ok in
+          let (laid_from, apart) = and_both _ _ others in
+          goes_here main marks (with_memory (copied tree (place_spot p) (place_spot q) c.memory) c) _ _ ws (with_stored known after)
+          (subst
+          (λ (s : Stored). Agrees (with_stored known s) ws marks (with_memory (copied tree (place_spot p) (place_spot q) c.memory) c))
+          (sym (gives (descends known ws marks c h))) (copied_agrees marks c h laid laid_from))
+          (copies_is marks c h (rest_of main ws marks steps.Falls)
+          ∙ ap (λ b. checked b (rest_of main ws marks steps.Falls (with_memory (copied tree (place_spot p) (place_spot q) c.memory) c))) ok));
+      fewer = omega arith;
+    }
+
+    pub copy_wrong : (Descends known.entered known.blocks → can_copy ≡ false) → IsMove (Execute (core.Do (core.Copy x y tree))) ws known Wrong ws known
+    copy_wrong cannot =
+        goes_wrong (core.Copy x y tree) ws known (λ marks c h next.
+        copies_is marks c h next
+        ∙ ap (λ b. checked b (next (with_memory (copied tree (place_spot p) (place_spot q) c.memory) c))) (cannot (descends known ws marks c h)))
+
+  -- ---- a clearing
+
+  abbrev clears : Memory → Config → (Config → Step) → Content → Step
+  clears m c next z = pointer_of z (λ s b.
+      checked (is_live (m.standing s.region) && are_elements m s b tree 1) (next (with_memory (cleared tree 1 s m) c)))
+
+  clears_is : (marks : List Mark) (c : Config) → Agrees known ws marks c → (next : Config → Step)
+      → clears c.memory c next (c.temps x) ≡ checked (are_laid (stored_in known) p cs) (next (with_memory (cleared tree 1 (place_spot p) c.memory) c))
+  clears_is marks c h next =
+      ap (clears c.memory c next) (h.temps x ∙ sym read ∙ ap content_of is)
+      ∙ ap (λ b. checked (is_live (c.memory.standing (region_of p.area)) && b) (next (with_memory (cleared tree 1 (place_spot p) c.memory) c)))
+      (and_one (operations.are_laid c.memory (place_spot p) p.byte tree.cells))
+      ∙ ap (λ b. checked b (next (with_memory (cleared tree 1 (place_spot p) c.memory) c))) (laid_is known ws marks c h p cs l.bytes)
+
+  cleared_agrees : (marks : List Mark) (c : Config) → Agrees known ws marks c → are_laid (stored_in known) p cs ≡ true
+      → Agrees (with_stored known (fill_to (stored_in known) p.area p.object p.cell (map first_held cs))) ws marks
+      (with_memory (cleared tree 1 (place_spot p) c.memory) c)
+  cleared_agrees marks c h laid =
+      change_agrees known ws marks c h p (map first_held cs) (and_both _ _ laid).0
+      (λ k j o. cleared_by o (part_of tree (in_element tree k) j))
+      (1 * length tree.cells)
+      (let a = length-map cs first_held in let b = length-map cs cell_parts in omega (arith, a, b))
+      (λ j o. unchanged o)
+      one
+      (cleared tree 1 (place_spot p) c.memory).parts
+      (λ t j. cleared_part tree c.memory (place_spot p) t j (c.memory.parts t j) refl)
+    where
+      unchanged : (o : Option Part) → cleared_by o None ≡ o
+      unchanged None = refl
+      unchanged (Some z) = refl
+
+      one : (n j : ℕ) (o : Option Slot) (w : Value) → slice_get (map first_held cs) n ≡ Some w
+          → cleared_by (part_in o j) (part_of tree (in_element tree (Some n)) j) ≡ part_in (filled_slot (Some w) o) j
+      one n j o w e =
+          let (d, at, same) = held_first cs n w e in
+          let less : n < length (map cell_parts cs) = get_less (map cell_parts cs) n (cell_parts d) (cell_at cs n d at) in
+          ap (λ k. cleared_by (part_in o j) (shape_in (slice_get tree.cells k) j)) (mod-eq_of_lt less)
+          ∙ ap (λ (z : Option (List PartShape)). cleared_by (part_in o j) (shape_in z j)) (cell_at cs n d at)
+          ∙ cell_cleared o d j ∙ ap (λ z. part_in (filled_slot (Some z) o) j) (sym same)
+
+  pub clear_moves : (after : Stored) → (Descends known.entered known.blocks → are_laid (stored_in known) p cs ≡ true)
+      → (Descends known.entered known.blocks → after ≡ fill_to (stored_in known) p.area p.object p.cell (map first_held cs))
+      → IsMove (Execute (core.Do (core.Clear x tree 1))) ws known (Go (Leave steps.Falls)) ws (with_stored known after)
+  clear_moves after laid gives = record {
+    still = all_stand _ ws known _ ws (with_stored known after) (λ main marks c h.
+        goes_here main marks (with_memory (cleared tree 1 (place_spot p) c.memory) c) _ _ ws (with_stored known after)
+        (subst (λ (s : Stored). Agrees (with_stored known s) ws marks (with_memory (cleared tree 1 (place_spot p) c.memory) c))
+        (sym (gives (descends known ws marks c h))) (cleared_agrees marks c h (laid (descends known ws marks c h))))
+        (clears_is marks c h (rest_of main ws marks steps.Falls)
+        ∙ ap (λ b. checked b (rest_of main ws marks steps.Falls (with_memory (cleared tree 1 (place_spot p) c.memory) c)))
+        (laid (descends known ws marks c h))));
+    fewer = omega arith;
+  }
+
+  pub clear_wrong : (Descends known.entered known.blocks → are_laid (stored_in known) p cs ≡ false)
+      → IsMove (Execute (core.Do (core.Clear x tree 1))) ws known Wrong ws known
+  clear_wrong unlaid =
+      goes_wrong (core.Clear x tree 1) ws known (λ marks c h next.
+      clears_is marks c h next
+      ∙ ap (λ b. checked b (next (with_memory (cleared tree 1 (place_spot p) c.memory) c))) (unlaid (descends known ws marks c h)))

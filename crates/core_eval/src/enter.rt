@@ -136,7 +136,8 @@ fn enter_block<'p>(
     Ok(Due::Go(Now::Follow(body)))
 }
 
-/// The first move of a statement. Fails only where no host memory is left, or 2^64 - 1 blocks were entered.
+/// The first move of a statement. Fails only where no host memory is left, 2^64 - 1 blocks were entered, or there would be a cell with a
+/// number over 2^64 - 1.
 pub fn enter_statement<'p>(
     alloc: Global,
     statement: &'p Statement,

@@ -274,7 +274,7 @@ fn putchar<'p>(frame: &Frame, to: Temporary, from: Temporary) -> Due<'p>
     }
 }
 
-/// The move of an operation. Fails only where no host memory is left.
+/// The move of an operation. Fails only where no host memory is left, or there would be a cell with a number over 2^64 - 1.
 pub fn operate<'p>(
     operation: Operation,
     frame: &mut Frame,

@@ -26,7 +26,7 @@ use cyc_host::{Gathered, read};
 use cyc_words::{Input, Output};
 use std::alloc::{AllocError, Global};
 
-/// One move. Fails only where no host memory is left.
+/// One move. Fails only where no host memory is left, 2^64 - 1 blocks were entered, or there would be a cell with a number over 2^64 - 1.
 fn step<'p>(
     alloc: Global,
     now: Now<'p>,
@@ -44,7 +44,7 @@ fn step<'p>(
     }
 }
 
-/// Moves until a unit is due or the run is over. Fails only where no host memory is left.
+/// Moves until a unit is due or the run is over. Fails only where a move does.
 fn advance<'p>(
     alloc: Global,
     start: Due<'p>,
@@ -151,7 +151,8 @@ fn finish<W: Output>(gathered: &mut Gathered, writer: &mut W, ending: EvalEnding
 ///
 /// Ends as the definition does: with the program's status, with `Running` where a unit is due and none is left, or
 /// `Stuck`. `WriteFault` comes in place of any other ending, where a write failed or took no byte; `ReadFault` where a
-/// read failed; `HostMemory` where the host has no memory for what is still to be done, or 2^64 - 1 blocks were entered. After a failed call neither
+/// read failed; `HostMemory` where the host has no memory for what is still to be done, 2^64 - 1 blocks were entered, or a pointer would lead
+/// to a cell with a number over 2^64 - 1. After a failed call neither
 /// device is called again. Output is written when 4,096 bytes are gathered, before each read and at each ending. Each
 /// byte that is taken from the reader was asked for.
 pub fn evaluate_core<R: Input, W: Output>(

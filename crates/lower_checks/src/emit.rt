@@ -7,7 +7,7 @@ ghost use Rattle.source_lowering.specs.Lowered.{all_of};
 ghost use Rattle.lower_checks.specs.Refusals.{NeverRefused};
 
 use crate::fault::LowerFault;
-use cyc_core::{Cell, Operation, Statement, Temporary};
+use cyc_core::{Local, Operation, Statement, Temporary};
 
 /// Appends a statement.
 pub fn emit(body: &mut Vec<Statement>, statement: Statement) -> Result<(), LowerFault>
@@ -107,27 +107,27 @@ pub fn emit_while(
 // a block, as the tree of its parts
 fn push_block(
     body: &mut Vec<Statement>,
-    cells: Vec<Cell>,
+    locals: Vec<Local>,
     inside: Vec<Statement>,
 ) -> Result<(), LowerFault>
     ensures code { OnOk result
         (map statement_tree body.new.items ≡
-        map statement_tree body.old.items ++ core.Block (map local_tree cells.items) (statements_of (map statement_tree inside.items)) ∷ []) }
+        map statement_tree body.old.items ++ core.Block (map local_tree locals.items) (statements_of (map statement_tree inside.items)) ∷ []) }
     ensures taken { NeverRefused result }
 {
-    emit(body, Statement::Block(cells, inside))
+    emit(body, Statement::Block(locals, inside))
 }
 
 /// Appends a block with these locals.
 pub fn emit_block(
     body: &mut Vec<Statement>,
-    cells: Vec<Cell>,
+    locals: Vec<Local>,
     inside: Vec<Statement>,
 ) -> Result<(), LowerFault>
     ensures code { OnOk result
         (map statement_tree body.new.items ≡
-        map statement_tree body.old.items ++ core.Block (map local_tree cells.items) (all_of (map statement_tree inside.items)) ∷ []) }
+        map statement_tree body.old.items ++ core.Block (map local_tree locals.items) (all_of (map statement_tree inside.items)) ∷ []) }
     ensures taken { NeverRefused result }
 {
-    push_block(body, cells, inside)
+    push_block(body, locals, inside)
 }

@@ -24,7 +24,7 @@ use crate::values::{
     lower_check, lower_conversion, lower_not, lower_operator, lower_truth, lower_word,
 };
 use crate::variable::{lower_address, lower_get, lower_named};
-use cyc_core::{Operation, Statement, Temporary};
+use cyc_core::{Distance, Operation, Statement, Temporary};
 use cyc_tree::{Expression, Link, Operator, Prefix};
 use std::alloc::Global;
 
@@ -121,7 +121,10 @@ fn lower_put<'p>(
             let at = Temporary(after(from.0)?);
             let of = lower_pointer(alloc, program, locals, operand, body, at)?;
             let shape = of.shape();
-            emit_operation(body, Operation::Store(at, shape.width(), from))?;
+            emit_operation(
+                body,
+                Operation::Store(at, Distance::at_once(shape.width()), from),
+            )?;
             Ok(shape)
         }
         _ => Err(LowerFault::NotTaken),
@@ -250,7 +253,10 @@ fn lower_prefixed<'p>(
         Prefix::Dereference => {
             let of = lower_pointer(alloc, program, locals, operand, body, to)?;
             let shape = of.shape();
-            emit_operation(body, Operation::Load(to, to, shape.width()))?;
+            emit_operation(
+                body,
+                Operation::Load(to, to, Distance::at_once(shape.width())),
+            )?;
             Ok(shape)
         }
         Prefix::AddressOf => {

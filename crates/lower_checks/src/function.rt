@@ -16,7 +16,7 @@ use crate::emit::{emit, emit_block, emit_operation};
 use crate::fault::LowerFault;
 use crate::locals::Locals;
 use crate::names::{after, number};
-use crate::shape::{Shape, Target, cells_of};
+use crate::shape::{Shape, Target, locals_of};
 use crate::statement::lower_items;
 use crate::table::Table;
 use crate::usage::{passed, temporaries};
@@ -88,7 +88,7 @@ fn lower_body<'p>(
         &mut inside,
     )?;
     let mut body = Vec::new(alloc);
-    emit_block(&mut body, cells_of(alloc, &shapes)?, inside)?;
+    emit_block(&mut body, locals_of(alloc, &shapes)?, inside)?;
     lower_end(&mut body, shape)?;
     Ok(body)
 }

@@ -13,7 +13,7 @@ ghost use Rattle.lower_checks.specs.Views.{owner_tree, shape_tree, target_shape,
 ghost use Rattle.lower_checks.specs.Refusals.{IsLocal, AreLocals, NeverRefused};
 
 use crate::fault::LowerFault;
-use cyc_core::{Cell, Temporary, Width};
+use cyc_core::{Cell, Local, Temporary, Width};
 use cyc_tree::{Base, Pointer, RegionName, Sign, TypeName};
 use std::alloc::Global;
 
@@ -169,15 +169,15 @@ impl<'p> Shape<'p> {
         }
     }
 
-    /// What a local of the shape is made for. Refuses what is no integer and no thin pointer.
-    pub fn local_cell(self) -> Result<Cell, LowerFault>
-        ensures cell { (w : World) → IfOk result (λ cell. local_tree cell ≡ local_of w (shape_tree self.entry)) }
+    /// A local of the shape. Refuses what is no integer and no thin pointer.
+    pub fn local(self) -> Result<Local, LowerFault>
+        ensures local { (w : World) → IfOk result (λ local. local_tree local ≡ local_of w (shape_tree self.entry)) }
         ensures taken { IsLocal (shape_tree self.entry) → NeverRefused result }
     {
         match self {
-            Shape::Char => Ok(Cell::Byte),
-            Shape::Int | Shape::Unsigned => Ok(Cell::Word),
-            Shape::Thin(_, _, _) => Ok(Cell::Pointer),
+            Shape::Char => Ok(Local::Scalar(Cell::Byte)),
+            Shape::Int | Shape::Unsigned => Ok(Local::Scalar(Cell::Word)),
+            Shape::Thin(_, _, _) => Ok(Local::Scalar(Cell::Pointer)),
             _ => Err(LowerFault::NotTaken),
         }
     }
@@ -205,17 +205,17 @@ pub fn add_shape<'p>(shapes: &mut Vec<Shape<'p>>, shape: Shape<'p>) -> Result<()
     }
 }
 
-/// What locals of these shapes are made for. Refuses what is no integer and no thin pointer.
-pub fn cells_of(alloc: Global, shapes: &[Shape<'_>]) -> Result<Vec<Cell>, LowerFault>
-    ensures cells { (w : World) → IfOk result (λ cells. map local_tree cells.items ≡ locals_of w (map shape_tree shapes.now)) }
+/// Locals of these shapes. Refuses what is no integer and no thin pointer.
+pub fn locals_of(alloc: Global, shapes: &[Shape<'_>]) -> Result<Vec<Local>, LowerFault>
+    ensures locals { (w : World) → IfOk result (λ locals. map local_tree locals.items ≡ locals_of w (map shape_tree shapes.now)) }
     ensures taken { AreLocals (map shape_tree shapes.now) → NeverRefused result }
 {
-    let mut cells = Vec::new(alloc);
+    let mut locals = Vec::new(alloc);
     'each: for shape in shapes {
-        let cell = shape.local_cell()?;
-        if let Err(_) = cells.push(cell) {
+        let local = shape.local()?;
+        if let Err(_) = locals.push(local) {
             return Err(LowerFault::Memory);
         }
     }
-    Ok(cells)
+    Ok(locals)
 }

@@ -17,7 +17,7 @@ use crate::expression::lower_expression;
 use crate::fault::LowerFault;
 use crate::locals::Locals;
 use crate::names::number;
-use crate::shape::{Shape, Target, add_shape, cells_of};
+use crate::shape::{Shape, Target, add_shape, locals_of};
 use crate::table::Table;
 use crate::values::{first_value, lower_conversion};
 use cyc_core::{Operation, Statement, Temporary, Variable};
@@ -129,7 +129,7 @@ fn lower_statement<'p>(
                 &mut inside,
             )?;
             locals.leave();
-            emit_block(body, cells_of(alloc, &shapes)?, inside)
+            emit_block(body, locals_of(alloc, &shapes)?, inside)
         }
         Source::Run(value) => {
             lower_expression(alloc, program, locals, value, body, VALUE)?;

@@ -54,7 +54,7 @@ fn of_operation(operation: Operation) -> u64
         Operation::Apply(_, t, x, y) | Operation::SamePlace(t, x, y) => {
             u64::max(up_to(t), u64::max(up_to(x), up_to(y)))
         }
-        Operation::Move(_, _) => 0,
+        Operation::Move(_, _) | Operation::Offset(..) => 0,
     }
 }
 
@@ -72,7 +72,11 @@ fn of_statement(statement: &Statement) -> u64
             u64::max(up_to(*t), u64::max(temporaries(test), temporaries(body)))
         }
         Statement::Block(_, body) => temporaries(body),
-        Statement::Break | Statement::Continue | Statement::Raise(_) => 0,
+        Statement::Copy(..)
+        | Statement::Clear(..)
+        | Statement::Break
+        | Statement::Continue
+        | Statement::Raise(_) => 0,
         Statement::Call(result, _, arguments) => {
             u64::max(up_to_optional(*result), last(arguments))
         }
@@ -103,6 +107,8 @@ fn passed_in(statement: &Statement) -> usize
         Statement::Block(_, body) => passed(body),
         Statement::Call(_, _, arguments) => arguments.len(),
         Statement::Do(_)
+        | Statement::Copy(..)
+        | Statement::Clear(..)
         | Statement::Break
         | Statement::Continue
         | Statement::Return(_)

@@ -15,7 +15,7 @@ use crate::locals::Locals;
 use crate::names::{Named, after};
 use crate::shape::{Shape, Target};
 use crate::table::Table;
-use cyc_core::{Operation, Statement, Temporary, Variable};
+use cyc_core::{Distance, Operation, Statement, Temporary, Variable};
 
 /// The place of a local among those of the blocks.
 fn place_of(local: Named<'_>) -> Variable
@@ -52,7 +52,10 @@ pub fn lower_get<'p>(
     };
     let shape = global.of.shape();
     emit_operation(body, Operation::DataAddress(to, global.object))?;
-    emit_operation(body, Operation::Load(to, to, shape.width()))?;
+    emit_operation(
+        body,
+        Operation::Load(to, to, Distance::at_once(shape.width())),
+    )?;
     Ok(shape)
 }
 
@@ -82,7 +85,10 @@ pub fn lower_named<'p>(
     let shape = global.of.shape();
     let address = Temporary(after(from.0)?);
     emit_operation(body, Operation::DataAddress(address, global.object))?;
-    emit_operation(body, Operation::Store(address, shape.width(), from))?;
+    emit_operation(
+        body,
+        Operation::Store(address, Distance::at_once(shape.width()), from),
+    )?;
     Ok(shape)
 }
 

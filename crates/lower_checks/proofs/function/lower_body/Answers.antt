@@ -25,7 +25,7 @@ returns-clause-code c =
     let names = names_of c.lower_parameters.new.locals in
     let first = map statement_tree c.lower_parameters.new.body.items in
     let inside = map statement_tree c.lower_items.new.body.items in
-    let locals = map local_tree c.in_ok-cells_of.field-0.items in
+    let locals = map local_tree c.in_ok-locals_of.field-0.items in
     let none = map statement_tree c.new-body.result.items in
     let blocked = map statement_tree c.emit_block.new.body.items in
     let body = map statement_tree c.lower_end.new.body.items in
@@ -48,7 +48,7 @@ returns-clause-code c =
     let shapes_are : shapes ≡ taken ++ block_shapes f.body =
     c.in_ok-lower_items.ensures.shapes ∙ ap (λ bs. taken ++ block_shapes (items_of (map item_tree bs))) c.deref-3.ensures.value in
     let locals_are : locals ≡ locals_of w shapes =
-    c.in_ok-cells_of.ensures.cells w ∙ ap (λ ss. locals_of w (map shape_tree ss)) c.deref-4.ensures.value in
+    c.in_ok-locals_of.ensures.locals w ∙ ap (λ ss. locals_of w (map shape_tree ss)) c.deref-4.ensures.value in
     let none_is : none ≡ [] = ap (map statement_tree) c.new-body.ensures.items in
     let blocked_is : blocked ≡ none ++ Block locals (all_of inside) ∷ [] = c.in_ok-emit_block.ensures.code in
     let body_is : body ≡ blocked ++ end_code f.result = c.in_ok-lower_end.ensures.code ∙ ap (λ (s : Shape). blocked ++ end_code s) result_is in
@@ -56,8 +56,8 @@ returns-clause-code c =
     body_of w f locals inside none blocked body within none_is blocked_is body_is
 
 -- the locals of a function that is taken are of integers
-pub returns-in_err-cells_of-clause-taken : goal.returns-in_err-cells_of-clause-taken
-returns-in_err-cells_of-clause-taken c =
+pub returns-in_err-locals_of-clause-taken : goal.returns-in_err-locals_of-clause-taken
+returns-in_err-locals_of-clause-taken c =
     λ h.
     let f = source_tree c.args.function.now in
     let taken = map shape_tree c.in_ok-shapes.shapes.items in

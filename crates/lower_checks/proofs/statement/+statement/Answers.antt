@@ -16,8 +16,8 @@ use Rattle.lower_checks.proofs.Taken.{block_locals}
 use Rattle.lower_checks.proofs.statement.+statement.Goals as goal
 
 -- the locals of a block that is taken are of integers
-pub lower_statement-returns-in_err-cells_of-in-Block-clause-taken : goal.lower_statement-returns-in_err-cells_of-in-Block-clause-taken
-lower_statement-returns-in_err-cells_of-in-Block-clause-taken t c =
+pub lower_statement-returns-in_err-locals_of-in-Block-clause-taken : goal.lower_statement-returns-in_err-locals_of-in-Block-clause-taken
+lower_statement-returns-in_err-locals_of-in-Block-clause-taken t c =
     λ h.
     let result = shape_tree c.args.shape in
     let items = items_of (map item_tree c.in-Block.items.items) in

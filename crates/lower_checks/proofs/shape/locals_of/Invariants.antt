@@ -4,10 +4,10 @@ use Rattle.source_lowering.specs.Programs.{locals_of}
 use Rattle.cyc_core.specs.Trees.{local_tree}
 use Rattle.lower_checks.specs.Views.{shape_tree}
 use Rattle.lower_checks.specs.Refusals.{AreLocals}
-use Rattle.lower_checks.proofs.shape.cells_of.Given as goal
+use Rattle.lower_checks.proofs.shape.locals_of.Given as goal
 
 abbrev pub invariant-each : goal.invariant-each
 invariant-each l = record {
-  cells : (w : World) → map local_tree l.cells.items ++ locals_of w (map shape_tree (drop l.shape-index l.shapes)) ≡ locals_of w (map shape_tree l.shapes);
+  locals : (w : World) → map local_tree l.locals.items ++ locals_of w (map shape_tree (drop l.shape-index l.shapes)) ≡ locals_of w (map shape_tree l.shapes);
   taken : AreLocals (map shape_tree l.shapes) → AreLocals (map shape_tree (drop l.shape-index l.shapes));
 }

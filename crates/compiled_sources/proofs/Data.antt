@@ -24,8 +24,10 @@ use Rattle.core_meaning.specs.Memory.{Word, Null}
 use Rattle.core_frames.specs.Statics.{IsPlain, IsPlainDatum, ArePlainData}
 use Rattle.source_lowering.specs.Programs.{word_in, constant_word, constant_content, initial_content, datum_of, data_of}
 use Rattle.source_lowering.specs.Taken.{IsIntegerShape, TakesConstant, TakesInitial, TakesProgram}
+use Rattle.source_lowering.proofs.OfWords.{word_type}
+use Rattle.source_lowering.proofs.Heap.{word_datum}
 use Rattle.source_lowering.proofs.Integers.{IsWordShape}
-use Rattle.source_lowering.proofs.WrittenTypes.{type_settled}
+use Rattle.source_lowering.proofs.WrittenTypes.{word_settled}
 
 constant_plain : (c : tree.Constant) (s : Shape) → IsIntegerShape s → TakesConstant s c → word_in s (constant_word c) ≡ constant_word c
     → IsPlain 4 (constant_content c s)
@@ -91,6 +93,7 @@ data_plain w (tree.StructItem s ∷ items) h = absurd h.0
 data_plain w (tree.UnionItem u ∷ items) h = absurd h.0
 data_plain w (tree.FunctionItem g ∷ items) h = data_plain w items h.1
 data_plain w (tree.GlobalItem g ∷ items) h = (
-  datum_plain w g.initial (settled (written g.of)) (type_settled g.of h.0.0).is_word h.0.1,
+  subst IsPlainDatum (sym (word_datum w g.initial (settled (written g.of)) (word_settled g.of (word_type g.of h.0.0))))
+      (datum_plain w g.initial (settled (written g.of)) (word_settled g.of (word_type g.of h.0.0)) h.0.1),
   data_plain w items h.1,
 )

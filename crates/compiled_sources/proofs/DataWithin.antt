@@ -3,16 +3,15 @@ use Rattle.std.specs.Prelude.{nat_le, not, ◌||◌, bytes_eq, codes, map}
 use Rattle.std.proofs.Common.{◌≡◌, ℕ, suc, ◌+◌, ◌^◌, ◌≤◌, Bool, true, false, List, [], ◌∷◌, ◌++◌, refl, sym, ap, subst, ◌∙◌, arith}
 use Rattle.std.proofs.lemmas.Bool.{leb-true}
 use Rattle.cyc_tree.specs.Tree as tree
-use Rattle.cyc_tree.specs.Tree.{Item, Program}
+use Rattle.cyc_tree.specs.Tree.{Initial, Item, Program}
 use Rattle.source_meaning.specs.Shapes.{Shape, written, settled}
 use Rattle.source_meaning.specs.Sizes.{rounded_up}
 use Rattle.source_meaning.specs.Programs.{world_of}
 use Rattle.source_meaning.specs.Steps.{World}
 use Rattle.source_meaning.specs.Strings.{item_strings}
-use Rattle.core_meaning.specs.Memory.{Content}
 use Rattle.core_frames.specs.Selected.{rounded, bytes_of, end_from, datum_local, datum_locals}
 use Rattle.core_frames.specs.Running.{data_end}
-use Rattle.source_lowering.specs.Programs.{data_of, datum_of, initial_content, program_code}
+use Rattle.source_lowering.specs.Programs.{data_of, global_datum, program_code}
 use Rattle.source_typing.specs.Answers.{program_faults}
 use Rattle.source_typing.specs.Faults.{name_rule, test}
 use Rattle.source_typing.specs.Globals.{Static, global_size, if_passed, item_statics, static_string, total_faults}
@@ -70,16 +69,16 @@ unseen some seen x h e = by (is_seen some x) refl
 -- ---- globals
 
 -- the bytes of an object that begins as a word
-word_small : (w : World) (t : StaticType) (c : Content) → IsWordType t → bytes_of (datum_local (datum_of w (shape_of t) c)) ≤ 4
-word_small w Int c h = omega arith
-word_small w Unsigned c h = omega arith
-word_small w Char c h = omega arith
-word_small w (Thin n r t) c h = omega arith
-word_small w _ c h = absurd h
+word_global : (w : World) (t : StaticType) (i : Initial) → IsWordType t → bytes_of (datum_local (global_datum w i (shape_of t))) ≤ 4
+word_global w Int i h = omega arith
+word_global w Unsigned i h = omega arith
+word_global w Char i h = omega arith
+word_global w (Thin n r t) i h = omega arith
+word_global w _ i h = absurd h
 
-global_small : (w : World) (g : Tables) (i : ℕ) (x : tree.Global) (c : Content) → WordGlobal g i x
-    → bytes_of (datum_local (datum_of w (settled (written x.of)) c)) ≤ 4
-global_small w g i x c h = subst (λ (s : Shape). bytes_of (datum_local (datum_of w s c)) ≤ 4) (sym h.shape) (word_small w h.type c h.word)
+global_small : (w : World) (g : Tables) (i : ℕ) (x : tree.Global) → WordGlobal g i x
+    → bytes_of (datum_local (global_datum w x.initial (settled (written x.of)))) ≤ 4
+global_small w g i x h = subst (λ (s : Shape). bytes_of (datum_local (global_datum w x.initial s)) ≤ 4) (sym h.shape) (word_global w h.type x.initial h.word)
 
 -- an object of at most 4 bytes behind a multiple of 4
 next_rounded : (low so_far bytes : ℕ) → rounded low ≤ so_far → bytes ≤ 4 → rounded (rounded low + bytes) ≤ so_far + 8
@@ -111,9 +110,8 @@ module _ (g : Tables) (w : World) where
       let bytes : rounded_up (global_size (at_item false g i) x) 8 ≡ 8 = a.0.eight in
       let (next, above, below, none) = skipped (map static_string (item_strings (tree.GlobalItem x))) rest
       (so_far + rounded_up (global_size (at_item false g i) x) 8) one.0 one.1 in
-      let c : Content = initial_content x.initial (settled (written x.of)) in
-      let size : ℕ = bytes_of (datum_local (datum_of w (settled (written x.of)) c)) in
-      let room = next_rounded low so_far size h (global_small w g i x c a.0) in
+      let size : ℕ = bytes_of (datum_local (global_datum w x.initial (settled (written x.of)))) in
+      let room = next_rounded low so_far size h (global_small w g i x a.0) in
       within items (suc i) (rounded low + size) next (x.name.text ∷ some) (x.name.text ∷ seen) (one_more some seen x.name.text s) names.1 a.1
       (omega (arith, room, bytes, above)) below none
 

@@ -14,7 +14,7 @@ use Rattle.rv32_machine.specs.Implements.{Meaning, Implements, AgreesIn, Reaches
 use Rattle.core_frames.specs.Running.{named, core_meaning, IsNeverStuck}
 use Rattle.core_frames.proofs.DoesAsCore.{does_as_core}
 use Rattle.source_lowering.specs.Programs.{program_code}
-use Rattle.source_lowering.specs.Taken.{IsLowerable}
+use Rattle.source_lowering.specs.Lowerable.{IsLowerable}
 use Rattle.source_lowering.proofs.Relations as lowering
 use Rattle.source_lowering.proofs.Relations.{SameEvent, BothVisible, BothCalled, BothReturned, SameEvents, SameOutcome}
 use Rattle.source_lowering.proofs.Programs.{programs_same}
@@ -98,7 +98,7 @@ module _ (p : Program) (lowerable : IsLowerable p) (input : List ℕ) (bytes : r
 pub does_as_source : (p : Program) → IsLowerable p → AreNamedApart (world_of p).functions → DoesAsSource p
 does_as_source p lowerable named_apart n places s input bytes begins sound =
     let names = names_of (world_of p).functions in
-    let bound = frame_bound_of (world_of p).functions in
+    let bound = frame_bound_of (world_of p) in
     implements_same bound n s input (core_meaning names (program_code p) input) (meaning_of p input) (core_is_source p lowerable input bytes sound)
     (does_as_core (program_code p) (selectable p lowerable) names bound n places s input bytes (frames_bounded p lowerable named_apart) begins
     (core_sound p lowerable input bytes sound))

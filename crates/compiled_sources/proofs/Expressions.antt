@@ -1,6 +1,6 @@
 -- The code of an expression names locals of the blocks around it and globals, where its names and the program's globals lie there.
-use Rattle.std.proofs.Common.{ℕ, ◌+◌, List, [], ◌∷◌}
-use Rattle.cyc_tree.specs.Tree.{Expression, Expressions, NoExpressions, MoreExpressions, Links, NoLinks, MoreLinks}
+use Rattle.std.proofs.Common.{ℕ, zero, suc, ◌+◌, List, [], ◌∷◌}
+use Rattle.cyc_tree.specs.Tree.{Expression, Expressions, NoExpressions, MoreExpressions, Links, NoLinks, MoreLinks, Suffixes, NoSuffixes, Index, Dot, Arrow}
 use Rattle.source_meaning.specs.Shapes.{Shape}
 use Rattle.source_meaning.specs.Steps.{World}
 use Rattle.source_meaning.specs.Operators.{operator_shape}
@@ -9,6 +9,10 @@ use Rattle.source_lowering.specs.Lowered.{
   Named,
   local_named,
   static_shape,
+  Left,
+  left_of,
+  suffixed_code,
+  offset_code,
   put_code,
   place_code,
   operator_code,
@@ -31,6 +35,7 @@ use Rattle.compiled_sources.proofs.Parts.{
   get_names,
   put_names,
   address_names,
+  check_names,
   conversion_names,
   operator_names,
   word_names,
@@ -38,6 +43,27 @@ use Rattle.compiled_sources.proofs.Parts.{
   pointed_names,
   call_names,
 }
+
+-- ---- members
+
+record LeftNames (blocks : List ℕ) (n : ℕ) (left : Left) : Type 0 where
+  value : CodeNames blocks n left.value
+  pointer : CodeNames blocks n left.pointer
+
+suffixes_names : (blocks : List ℕ) (n : ℕ) (w : World) (suffixes : Suffixes) (d : ℕ) (left : Left) → LeftNames blocks n left
+    → LeftNames blocks n (suffixed_code w suffixes d left)
+suffixes_names blocks n w NoSuffixes d left h = h
+suffixes_names blocks n w (Index index others) d left h = record { value = tt; pointer = tt }
+suffixes_names blocks n w (Dot f others) d left h =
+    suffixes_names blocks n w others d _ (record { value = both_name blocks n _ _ h.pointer (tt, tt); pointer = h.pointer })
+suffixes_names blocks n w (Arrow f others) d left h =
+    let checked = both_name blocks n _ _ h.value (check_names blocks n d left.shape) in
+    suffixes_names blocks n w others d _ (record { value = both_name blocks n _ _ checked (tt, tt); pointer = checked })
+
+offset_names : (blocks : List ℕ) (n d cells bytes : ℕ) → CodeNames blocks n (offset_code d cells bytes)
+offset_names blocks n d zero zero = tt
+offset_names blocks n d zero (suc bytes) = (tt, tt)
+offset_names blocks n d (suc cells) bytes = (tt, tt)
 
 -- ---- expressions
 
@@ -61,7 +87,11 @@ mutual
   stored_names blocks n w names a (Expression.Call name arguments) d = tt
   stored_names blocks n w names a (Expression.MakeUnion tag member value) d = tt
   stored_names blocks n w names a (Expression.NumElts at operand) d = tt
-  stored_names blocks n w names a (Expression.Suffixed primary _) d = tt
+  stored_names blocks n w names a (Expression.Suffixed primary others) d =
+      let left = suffixes_names blocks n w others (d + 1)
+      (left_of (static_shape w names primary) (expression_code w names primary (d + 1)) (place_code w names primary (d + 1)))
+      (record { value = expression_names blocks n w names a primary (d + 1); pointer = place_names blocks n w names a primary (d + 1) }) in
+      both_name blocks n _ _ left.pointer (tt, tt)
   stored_names blocks n w names a (Expression.New at made) d = tt
   stored_names blocks n w names a (Expression.NewIn at handle made) d = tt
   stored_names blocks n w names a (Expression.Chain first others) d = tt
@@ -86,7 +116,11 @@ mutual
   place_names blocks n w names a (Expression.Call name arguments) d = tt
   place_names blocks n w names a (Expression.MakeUnion tag member value) d = tt
   place_names blocks n w names a (Expression.NumElts at operand) d = tt
-  place_names blocks n w names a (Expression.Suffixed primary _) d = tt
+  place_names blocks n w names a (Expression.Suffixed primary others) d =
+      let left = suffixes_names blocks n w others d
+      (left_of (static_shape w names primary) (expression_code w names primary d) (place_code w names primary d))
+      (record { value = expression_names blocks n w names a primary d; pointer = place_names blocks n w names a primary d }) in
+      both_name blocks n _ _ left.pointer (offset_names blocks n d _ _)
   place_names blocks n w names a (Expression.New at made) d = tt
   place_names blocks n w names a (Expression.NewIn at handle made) d = tt
   place_names blocks n w names a (Expression.Chain first others) d = tt
@@ -127,7 +161,9 @@ mutual
   expression_names blocks n w names a (Expression.UniqueRegion at) d = tt
   expression_names blocks n w names a (Expression.MakeUnion tag member value) d = tt
   expression_names blocks n w names a (Expression.NumElts at operand) d = tt
-  expression_names blocks n w names a (Expression.Suffixed primary _) d = tt
+  expression_names blocks n w names a (Expression.Suffixed primary others) d = (suffixes_names blocks n w others d
+      (left_of (static_shape w names primary) (expression_code w names primary d) (place_code w names primary d))
+      (record { value = expression_names blocks n w names a primary d; pointer = place_names blocks n w names a primary d })).value
   expression_names blocks n w names a (Expression.New at made) d = tt
   expression_names blocks n w names a (Expression.NewIn at handle made) d = tt
 

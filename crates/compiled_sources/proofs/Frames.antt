@@ -31,7 +31,7 @@ use Rattle.core_frames.specs.Running.{AreBounded}
 use Rattle.core_frames.proofs.Locals.{frame_spares}
 use Rattle.core_frames.proofs.Fitting.{none_some, some_same}
 use Rattle.source_lowering.specs.Programs.{function_code, program_code}
-use Rattle.source_lowering.specs.Taken.{IsLowerable}
+use Rattle.source_lowering.specs.Lowerable.{IsLowerable}
 use Rattle.source_lowering.specs.Bounds as source
 use Rattle.source_lowering.specs.Bounds.{frame_bound}
 use Rattle.source_lowering.proofs.Names.{IsRoutine}
@@ -62,7 +62,7 @@ mutual
   statements_same NoStatements = refl
   statements_same (MoreStatements s ss) = let h = statement_same s in let g = statements_same ss in omega (arith, h, g)
 
-frame_within : (w : World) (f : Routine) → IsRoutine f → frame_bytes (function_code w f) ≤ frame_bound f
+frame_within : (w : World) (f : Routine) → IsRoutine w f → frame_bytes (function_code w f) ≤ frame_bound w f
 frame_within w f is =
     let spare = frame_spares (function_code w f) in
     let own = words_same (function_code w f).own in
@@ -94,17 +94,18 @@ named_one (g ∷ gs) (suc number) f apart is =
 name_is : (fs : List Routine) (number : ℕ) (f : Routine) → slice_get fs number ≡ Some f → names_of fs number ≡ f.name
 name_is fs number f is = ap (λ (z : Option Routine). name_in z) is
 
-bound_is : (fs : List Routine) (number : ℕ) (f : Routine) → AreNamedApart fs → slice_get fs number ≡ Some f
-    → frame_bound_of fs (names_of fs number) ≡ frame_bound f
-bound_is fs number f apart is =
-    ap (λ name. frame_bound_of fs name) (name_is fs number f is) ∙ ap (λ (z : Option Routine). bound_in z) (named_one fs number f apart is)
+bound_is : (w : World) (number : ℕ) (f : Routine) → AreNamedApart w.functions → slice_get w.functions number ≡ Some f
+    → frame_bound_of w (names_of w.functions number) ≡ frame_bound w f
+bound_is w number f apart is =
+    ap (λ name. frame_bound_of w name) (name_is w.functions number f is) ∙
+    ap (λ (z : Option Routine). bound_in w z) (named_one w.functions number f apart is)
 
 -- the functions that a program is lowered to, where no two have one name
 pub frames_bounded : (p : Program) → IsLowerable p → AreNamedApart (world_of p).functions
-    → AreBounded (names_of (world_of p).functions) (frame_bound_of (world_of p).functions) (program_code p).functions
+    → AreBounded (names_of (world_of p).functions) (frame_bound_of (world_of p)) (program_code p).functions
 frames_bounded p h apart number f is =
     let w : World = world_of p in
-    let c = code_of w w.functions number f (routines_are p h.items) is in
-    let within = subst (λ (g : Function). frame_bytes g ≤ frame_bound c.routine) c.same (frame_within w c.routine c.is) in
-    let bound = bound_is w.functions number c.routine apart c.there in
+    let c = code_of w w.functions number f (routines_are (world_of p) p h.items) is in
+    let within = subst (λ (g : Function). frame_bytes g ≤ frame_bound w c.routine) c.same (frame_within w c.routine c.is) in
+    let bound = bound_is w number c.routine apart c.there in
     omega (arith, within, bound)

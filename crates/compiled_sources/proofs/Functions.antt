@@ -1,5 +1,5 @@
 -- The code of statements, functions and globals of a program of integers names what there is: the program can be selected.
-use Rattle.std.proofs.Common.{◌≡◌, ℕ, suc, ◌+◌, ◌<◌, ◌≤◌, List, [], ◌∷◌, ◌++◌, length, Some, None, inl, inr, refl, ap, arith}
+use Rattle.std.proofs.Common.{◌≡◌, ℕ, suc, ◌+◌, ◌<◌, ◌≤◌, List, [], ◌∷◌, ◌++◌, length, Some, None, refl, sym, ap, subst, arith}
 use Rattle.cyc_tree.specs.Tree as tree
 use Rattle.cyc_tree.specs.Tree.{Initializer, Declaration, Statement, BlockItems, NoItems, Declare, Execute, Item}
 use Rattle.source_meaning.specs.Shapes.{
@@ -24,12 +24,8 @@ use Rattle.source_meaning.specs.Steps.{World, Routine}
 use Rattle.source_meaning.specs.Programs.{globals_from}
 use Rattle.core_meaning.specs.Core as core
 use Rattle.core_meaning.specs.Core.{Do, Put}
-use Rattle.core_meaning.specs.Memory.{Word, Null}
 use Rattle.core_frames.specs.Layouts.{IsLayout}
 use Rattle.core_frames.specs.Selectable.{AreLayouts, HaveLayouts}
-use Rattle.core_frames.proofs.Fitting.{none_some}
-use Rattle.core_frames.proofs.DataBytes.{one_part_is_layout}
-use Rattle.source_lowering.specs.Layouts.{layout_of}
 use Rattle.source_lowering.specs.Lowered.{Named, static_shape}
 use Rattle.source_lowering.specs.Programs.{
   local_shape,
@@ -37,7 +33,7 @@ use Rattle.source_lowering.specs.Programs.{
   locals_of,
   outward,
   named_here,
-  first_code,
+  unset_code,
   declaration_code,
   statement_code,
   items_code,
@@ -47,42 +43,39 @@ use Rattle.source_lowering.specs.Programs.{
   body_code,
   data_of,
 }
-use Rattle.source_lowering.specs.Taken.{TakesStatement, TakesItems, TakesProgram}
-use Rattle.source_lowering.proofs.Integers.{IsTaken, word_taken}
-use Rattle.source_lowering.proofs.Names.{IsRoutine}
-use Rattle.source_lowering.proofs.Entering.{AreTaken}
-use Rattle.source_lowering.proofs.EachStatement.{shapes_taken}
-use Rattle.source_lowering.proofs.WrittenTypes.{type_settled}
-use Rattle.source_lowering.proofs.Functions.{parameters_taken}
+use Rattle.source_lowering.specs.Lowerable.{IsObject, AreObjects, AreStructs, TakesDeclaration, TakesStatement, TakesItems, TakesProgram}
+use Rattle.source_lowering.proofs.Integers.{word_object}
+use Rattle.source_lowering.proofs.Names.{AreParameters, IsRoutine}
+use Rattle.source_lowering.proofs.EachStatement.{shape_object}
+use Rattle.source_lowering.proofs.WrittenTypes.{object_settled}
+use Rattle.source_lowering.proofs.Heap.{laid_out_as}
 use Rattle.source_lowering.proofs.PartCosts.{results_many}
-use Rattle.source_lowering.proofs.Bounded.{all_shapes}
-use Rattle.compiled_sources.specs.Naming.{NamesIn, AreNaming, CodeNames}
+use Rattle.compiled_sources.specs.Naming.{AreNaming, CodeNames}
 use Rattle.compiled_sources.proofs.Naming.{both_name, all_name}
+use Rattle.compiled_sources.proofs.Layouts.{object_layout}
 use Rattle.compiled_sources.proofs.Parts.{LocalsLie, GlobalsLie, Around, conversion_names}
 use Rattle.compiled_sources.proofs.Expressions.{expression_names}
 
 -- ---- layouts
 
-pub taken_layout : (w : World) (s : Shape) → IsTaken s → IsLayout (layout_of w s)
-taken_layout w IntShape h = one_part_is_layout 4 (Word 0) (inr refl)
-taken_layout w UnsignedShape h = one_part_is_layout 4 (Word 0) (inr refl)
-taken_layout w CharShape h = one_part_is_layout 1 (Word 0) (inl refl)
-taken_layout w VoidShape h = record {
-  within = λ cell part s has. absurd (none_some s has.is);
-  even = λ cell part s has. absurd (none_some s has.is);
-  apart = λ cell part cell' part' s s' other has has'. absurd (none_some s has.is);
-}
-taken_layout w (ThinShape may_be_null owner to) h = one_part_is_layout 4 Null (inr refl)
-taken_layout w (FatShape to) h = absurd h
-taken_layout w HandleShape h = absurd h
-taken_layout w KeyShape h = absurd h
-taken_layout w (StructShape tag) h = absurd h
-taken_layout w (UnionShape tag) h = absurd h
-taken_layout w (ArrayShape count of) h = absurd h
+layouts_taken : (w : World) (ss : List Shape) → AreStructs w.unions w.structs → AreObjects w.structs ss → AreLayouts (locals_of w ss)
+layouts_taken w [] structs h = tt
+layouts_taken w (s ∷ ss) structs h = ((object_layout w s structs h.0).lies, layouts_taken w ss structs h.1)
 
-layouts_taken : (w : World) (ss : List Shape) → AreTaken ss → AreLayouts (locals_of w ss)
-layouts_taken w [] h = tt
-layouts_taken w (s ∷ ss) h = (taken_layout w s h.0, layouts_taken w ss h.1)
+-- the locals of a block and the parameters are objects
+items_objects : (w : World) (result : Shape) (names : List Named) (index : ℕ) (items : BlockItems) → TakesItems w result names index items
+    → AreObjects w.structs (block_shapes items)
+items_objects w result names index NoItems h = tt
+items_objects w result names index (Declare d others) h = (
+  shape_object w names d h.0,
+  items_objects w result (named_here (tree.local_of d).text (local_shape d) index ∷ names) (suc index) others h.1,
+)
+items_objects w result names index (Execute s others) h = items_objects w result names index others h.1
+
+parameters_objects : (w : World) (ps : List Part) (ss : List Shape) → AreParameters ps → AreObjects w.structs ss
+    → AreObjects w.structs (part_shapes ps ++ ss)
+parameters_objects w [] ss h more = more
+parameters_objects w (p ∷ ps) ss h more = (word_object w.structs p.shape h.0, parameters_objects w ps ss h.1 more)
 
 as_many : (w : World) (ss : List Shape) → length (locals_of w ss) ≡ length ss
 as_many w [] = refl
@@ -103,88 +96,90 @@ one_more k blocks n w names name s index h a = record { locals = (h, a.locals); 
 
 -- ---- statements
 
-first_names : (blocks : List ℕ) (n : ℕ) (s : Shape) → NamesIn blocks n (first_code s)
-first_names blocks n (ThinShape may_be_null owner to) = tt
-first_names blocks n IntShape = tt
-first_names blocks n UnsignedShape = tt
-first_names blocks n CharShape = tt
-first_names blocks n VoidShape = tt
-first_names blocks n (FatShape to) = tt
-first_names blocks n HandleShape = tt
-first_names blocks n KeyShape = tt
-first_names blocks n (StructShape tag) = tt
-first_names blocks n (UnionShape tag) = tt
-first_names blocks n (ArrayShape count of) = tt
+unset_names : (k : ℕ) (blocks : List ℕ) (n : ℕ) (w : World) (s : Shape) (index : ℕ) → AreStructs w.unions w.structs → IsObject w.structs s → index < k
+    → CodeNames (k ∷ blocks) n (unset_code w s index)
+unset_names k blocks n w (StructShape tag) index structs object h =
+    let l = object_layout w (StructShape tag) structs object in (h, ((l.lies, l.full, l.nothing), tt))
+unset_names k blocks n w IntShape index structs object h = (tt, (h, tt))
+unset_names k blocks n w UnsignedShape index structs object h = (tt, (h, tt))
+unset_names k blocks n w CharShape index structs object h = (tt, (h, tt))
+unset_names k blocks n w (ThinShape b owner to) index structs object h = (tt, (h, tt))
+unset_names k blocks n w VoidShape index structs object h = absurd object
+unset_names k blocks n w (FatShape to) index structs object h = absurd object
+unset_names k blocks n w HandleShape index structs object h = absurd object
+unset_names k blocks n w KeyShape index structs object h = absurd object
+unset_names k blocks n w (UnionShape tag) index structs object h = absurd object
+unset_names k blocks n w (ArrayShape count of) index structs object h = absurd object
 
-declaration_names : (k : ℕ) (blocks : List ℕ) (n : ℕ) (w : World) (names : List Named) → Around (k ∷ blocks) n w names → (d : Declaration) (index : ℕ)
-    → index < k → CodeNames (k ∷ blocks) n (declaration_code w names d index)
-declaration_names k blocks n w names a (tree.Local of name Initializer.Unset) index h =
-    (first_names (k ∷ blocks) n (settled (written of)), (h, tt))
-declaration_names k blocks n w names a (tree.Local of name (Initializer.Elements count)) index h = tt
-declaration_names k blocks n w names a (tree.Local of name (Initializer.Value e)) index h =
+declaration_names : (k : ℕ) (blocks : List ℕ) (n : ℕ) (w : World) (names : List Named) → AreStructs w.unions w.structs → Around (k ∷ blocks) n w names
+    → (d : Declaration) (index : ℕ) → TakesDeclaration w names d → index < k → CodeNames (k ∷ blocks) n (declaration_code w names d index)
+declaration_names k blocks n w names structs a (tree.Local of name Initializer.Unset) index takes h =
+    unset_names k blocks n w (settled (written of)) index structs (object_settled w.structs of takes.0) h
+declaration_names k blocks n w names structs a (tree.Local of name (Initializer.Elements count)) index takes h = tt
+declaration_names k blocks n w names structs a (tree.Local of name (Initializer.Value e)) index takes h =
     both_name (k ∷ blocks) n _ _ (expression_names (k ∷ blocks) n w names a e 0)
     (both_name (k ∷ blocks) n _ _ (conversion_names (k ∷ blocks) n 0 (settled (written of)) (static_shape w names e)) (h, tt))
-declaration_names k blocks n w names a (tree.Region at region handle) index h = tt
-declaration_names k blocks n w names a (tree.Open at region handle key) index h = tt
-declaration_names k blocks n w names a (tree.Alias at region of alias pointer) index h = tt
-declaration_names k blocks n w names a (tree.NewKey at region key) index h = tt
+declaration_names k blocks n w names structs a (tree.Region at region handle) index takes h = tt
+declaration_names k blocks n w names structs a (tree.Open at region handle key) index takes h = tt
+declaration_names k blocks n w names structs a (tree.Alias at region of alias pointer) index takes h = tt
+declaration_names k blocks n w names structs a (tree.NewKey at region key) index takes h = tt
 
 mutual
-  statement_names : (blocks : List ℕ) (n : ℕ) (w : World) (result : Shape) (names : List Named) → Around blocks n w names → (s : Statement)
-      → TakesStatement result s → CodeNames blocks n (statement_code w result names s)
-  statement_names blocks n w result names a (Statement.Empty at) h = tt
-  statement_names blocks n w result names a (Statement.Block at items) h =
+  statement_names : (blocks : List ℕ) (n : ℕ) (w : World) (result : Shape) (names : List Named) → AreStructs w.unions w.structs → Around blocks n w names
+      → (s : Statement) → TakesStatement w result names s → CodeNames blocks n (statement_code w result names s)
+  statement_names blocks n w result names structs a (Statement.Empty at) h = tt
+  statement_names blocks n w result names structs a (Statement.Block at items) h =
       let shapes = block_shapes items in
       let k = length (locals_of w shapes) in
       let many = as_many w shapes in (
         (
-          layouts_taken w shapes (shapes_taken result items h),
-          all_name (k ∷ blocks) n _ (items_names k blocks n w result (outward names) (further_in blocks n k w names a) 0 items h (omega (arith, many))),
+          layouts_taken w shapes structs (items_objects w result (outward names) 0 items h),
+          all_name (k ∷ blocks) n _ (items_names k blocks n w result (outward names) structs (further_in blocks n k w names a) 0 items h (omega (arith, many))),
         ),
         tt,
       )
-  statement_names blocks n w result names a (Statement.Run e) h = expression_names blocks n w names a e 0
-  statement_names blocks n w result names a (Statement.If at condition body) h =
+  statement_names blocks n w result names structs a (Statement.Run e) h = expression_names blocks n w names a e 0
+  statement_names blocks n w result names structs a (Statement.If at condition body) h =
       both_name blocks n _ _ (expression_names blocks n w names a condition 0)
-      ((all_name blocks n _ (statement_names blocks n w result names a body h.1), tt), tt)
-  statement_names blocks n w result names a (Statement.IfElse at condition body otherwise) h =
+      ((all_name blocks n _ (statement_names blocks n w result names structs a body h.1), tt), tt)
+  statement_names blocks n w result names structs a (Statement.IfElse at condition body otherwise) h =
       both_name blocks n _ _ (expression_names blocks n w names a condition 0) (
         (
-          all_name blocks n _ (statement_names blocks n w result names a body h.1.0),
-          all_name blocks n _ (statement_names blocks n w result names a otherwise h.1.1),
+          all_name blocks n _ (statement_names blocks n w result names structs a body h.1.0),
+          all_name blocks n _ (statement_names blocks n w result names structs a otherwise h.1.1),
         ),
         tt,
       )
-  statement_names blocks n w result names a (Statement.While at condition body) h = (
+  statement_names blocks n w result names structs a (Statement.While at condition body) h = (
     (
       all_name blocks n _ (expression_names blocks n w names a condition 0),
-      all_name blocks n _ (statement_names blocks n w result names a body h.1),
+      all_name blocks n _ (statement_names blocks n w result names structs a body h.1),
     ),
     tt,
   )
-  statement_names blocks n w result names a (Statement.Break at) h = (tt, tt)
-  statement_names blocks n w result names a (Statement.Continue at) h = (tt, tt)
-  statement_names blocks n w result names a (Statement.Return at None) h = (omega arith, tt)
-  statement_names blocks n w result names a (Statement.Return at (Some e)) h =
+  statement_names blocks n w result names structs a (Statement.Break at) h = (tt, tt)
+  statement_names blocks n w result names structs a (Statement.Continue at) h = (tt, tt)
+  statement_names blocks n w result names structs a (Statement.Return at None) h = (omega arith, tt)
+  statement_names blocks n w result names structs a (Statement.Return at (Some e)) h =
       both_name blocks n _ _ (expression_names blocks n w names a e 0)
       (both_name blocks n _ _ (conversion_names blocks n 0 result (static_shape w names e)) (let few = results_many result 0 in omega (arith, few), tt))
-  statement_names blocks n w result names a (Statement.Exchange left right) h = absurd h
-  statement_names blocks n w result names a (Statement.Switch at place _) h = absurd h
-  statement_names blocks n w result names a (Statement.FreeUnique at pointer) h = absurd h
-  statement_names blocks n w result names a (Statement.FreeKey at key) h = absurd h
+  statement_names blocks n w result names structs a (Statement.Exchange left right) h = absurd h
+  statement_names blocks n w result names structs a (Statement.Switch at place _) h = absurd h
+  statement_names blocks n w result names structs a (Statement.FreeUnique at pointer) h = absurd h
+  statement_names blocks n w result names structs a (Statement.FreeKey at key) h = absurd h
 
   -- the locals that the items declare are the block's next ones
-  items_names : (k : ℕ) (blocks : List ℕ) (n : ℕ) (w : World) (result : Shape) (names : List Named) → Around (k ∷ blocks) n w names → (index : ℕ)
-      → (items : BlockItems) → TakesItems result items → index + length (block_shapes items) ≤ k
+  items_names : (k : ℕ) (blocks : List ℕ) (n : ℕ) (w : World) (result : Shape) (names : List Named) → AreStructs w.unions w.structs
+      → Around (k ∷ blocks) n w names → (index : ℕ) (items : BlockItems) → TakesItems w result names index items → index + length (block_shapes items) ≤ k
       → CodeNames (k ∷ blocks) n (items_code w result names index items)
-  items_names k blocks n w result names a index NoItems h f = tt
-  items_names k blocks n w result names a index (Declare d others) h f =
+  items_names k blocks n w result names structs a index NoItems h f = tt
+  items_names k blocks n w result names structs a index (Declare d others) h f =
       let less : index < k = omega (arith, f) in
-      both_name (k ∷ blocks) n _ _ (declaration_names k blocks n w names a d index less)
-      (items_names k blocks n w result (named_here (tree.local_of d).text (local_shape d) index ∷ names)
+      both_name (k ∷ blocks) n _ _ (declaration_names k blocks n w names structs a d index h.0 less)
+      (items_names k blocks n w result (named_here (tree.local_of d).text (local_shape d) index ∷ names) structs
       (one_more k blocks n w names (tree.local_of d).text (local_shape d) index less a) (suc index) others h.1 (omega (arith, f)))
-  items_names k blocks n w result names a index (Execute s others) h f =
-      both_name (k ∷ blocks) n _ _ (statement_names (k ∷ blocks) n w result names a s h.0) (items_names k blocks n w result names a index others h.1 f)
+  items_names k blocks n w result names structs a index (Execute s others) h f =
+      both_name (k ∷ blocks) n _ _ (statement_names (k ∷ blocks) n w result names structs a s h.0) (items_names k blocks n w result names structs a index others h.1 f)
 
 -- ---- functions
 
@@ -217,40 +212,47 @@ end_names s n = by s
     by (UnionShape tag) = zero_names
     by (ArrayShape count of) = zero_names
 
-pub body_names : (n : ℕ) (w : World) (f : Routine) → GlobalsLie n w.globals → IsRoutine f → AreNaming [] n (body_code w f)
-body_names n w f globals is =
+many_shapes : (ps : List Part) (items : BlockItems) → length (part_shapes ps ++ block_shapes items) ≡ length ps + length (block_shapes items)
+many_shapes [] items = omega arith
+many_shapes (p ∷ ps) items = let h = many_shapes ps items in omega (arith, h)
+
+pub body_names : (n : ℕ) (w : World) (f : Routine) → GlobalsLie n w.globals → AreStructs w.unions w.structs → IsRoutine w f → AreNaming [] n (body_code w f)
+body_names n w f globals structs is =
     let shapes = part_shapes f.parameters ++ block_shapes f.body in
     let k = length (locals_of w shapes) in
     let many = as_many w shapes in
-    let all = all_shapes f.parameters f.body in
+    let objects = parameters_objects w f.parameters (block_shapes f.body) is.parameters
+    (items_objects w f.result (parameter_names f.parameters 0 []) (length f.parameters) f.body is.body) in
+    let all = many_shapes f.parameters f.body in
     let names = parameter_names f.parameters 0 [] in
     let a : Around (k ∷ []) n w names =
     record { locals = parameters_lie k f.parameters 0 [] (omega (arith, many, all)) tt; globals = globals } in (
       (
-        layouts_taken w shapes (parameters_taken f.parameters (block_shapes f.body) is.parameters (shapes_taken f.result f.body is.body)),
+        layouts_taken w shapes structs objects,
         all_name (k ∷ []) n _
             (both_name (k ∷ []) n (parameters_code f.parameters 0) (items_code w f.result names (length f.parameters) f.body)
             (parameters_name k n f.parameters 0 (omega (arith, many, all)))
-            (items_names k [] n w f.result names a (length f.parameters) f.body is.body (omega (arith, many, all)))),
+            (items_names k [] n w f.result names structs a (length f.parameters) f.body is.body (omega (arith, many, all)))),
       ),
       all_name [] n (end_code f.result) (end_names f.result n),
     )
 
 -- ---- globals
 
-pub globals_lie : (w : World) (items : List Item) (k n : ℕ) → TakesProgram items → k + length (data_of w items) ≤ n → GlobalsLie n (globals_from items k)
+pub globals_lie : (w : World) (items : List Item) (k n : ℕ) → TakesProgram w items → k + length (data_of w items) ≤ n → GlobalsLie n (globals_from items k)
 globals_lie w [] k n h f = tt
-globals_lie w (tree.StructItem s ∷ items) k n h f = absurd h.0
+globals_lie w (tree.StructItem s ∷ items) k n h f = globals_lie w items k n h.1 f
 globals_lie w (tree.UnionItem u ∷ items) k n h f = absurd h.0
 globals_lie w (tree.FunctionItem g ∷ items) k n h f = globals_lie w items k n h.1 f
 globals_lie w (tree.GlobalItem g ∷ items) k n h f = (omega (arith, f), globals_lie w items (suc k) n h.1 (omega (arith, f)))
 
-pub data_layouts : (w : World) (items : List Item) → TakesProgram items → HaveLayouts (data_of w items)
-data_layouts w [] h = tt
-data_layouts w (tree.StructItem s ∷ items) h = absurd h.0
-data_layouts w (tree.UnionItem u ∷ items) h = absurd h.0
-data_layouts w (tree.FunctionItem g ∷ items) h = data_layouts w items h.1
-data_layouts w (tree.GlobalItem g ∷ items) h = (
-  taken_layout w (settled (written g.of)) (word_taken (settled (written g.of)) (type_settled g.of h.0.0).is_word),
-  data_layouts w items h.1,
+pub data_layouts : (w : World) (items : List Item) → AreStructs w.unions w.structs → TakesProgram w items → HaveLayouts (data_of w items)
+data_layouts w [] structs h = tt
+data_layouts w (tree.StructItem s ∷ items) structs h = data_layouts w items structs h.1
+data_layouts w (tree.UnionItem u ∷ items) structs h = absurd h.0
+data_layouts w (tree.FunctionItem g ∷ items) structs h = data_layouts w items structs h.1
+data_layouts w (tree.GlobalItem g ∷ items) structs h = (
+  subst IsLayout (sym (laid_out_as w g.initial (settled (written g.of))).layout)
+      (object_layout w (settled (written g.of)) structs (object_settled w.structs g.of h.0.0)).lies,
+  data_layouts w items structs h.1,
 )

@@ -107,6 +107,11 @@ use Rattle.core_frames.specs.Selected.{
   binary_code,
   address_code,
   bytes_code,
+  further_code,
+  are_words,
+  copy_loop,
+  bytes_in,
+  clear_loop,
   operation_code,
   labels_in,
   labels_of,
@@ -215,6 +220,17 @@ from_within u register t = load_within register (slot_of u.passed t)
 two_within : (u : Surroundings) (r t q v : ℕ) → IsWithin 24 (from_temp u r t ++ from_temp u q v)
 two_within u r t q v = both_within 12 12 (from_temp u r t) (from_temp u q v) (from_within u r t) (from_within u q v)
 
+further_within : (to bytes : ℕ) → IsWithin 12 (further_code to bytes)
+further_within to bytes = if_within 12 (is_short bytes) _ _ (record { is = omega arith }) (record { is = omega arith })
+
+copy_within : (b : Bool) → IsWithin 20 (copy_loop b)
+copy_within true = record { is = omega arith }
+copy_within false = record { is = omega arith }
+
+clear_within : (b : Bool) → IsWithin 12 (clear_loop b)
+clear_within true = record { is = omega arith }
+clear_within false = record { is = omega arith }
+
 -- a request for a block takes the most
 block_within : (u : Surroundings) (t h n bytes : ℕ)
     → IsWithin 128 (from_temp u 10 h ++ from_temp u 5 n ++ bytes_code bytes ++ environment_code 5 ++ to_temp u 10 t)
@@ -240,7 +256,9 @@ operation_within u (LocalAddress t out local) =
 operation_within u (OwnAddress t object) = to_within 12 u 5 t (address_code (nth u.own object)) (omega arith) (address_within (nth u.own object))
 operation_within u (DataAddress t object) =
     to_within 8 u 5 t (constant_code (data_base + nth u.statics object)) (omega arith) (constant_within (data_base + nth u.statics object))
-operation_within u (Offset t p cells bytes) = nothing_within 64
+operation_within u (Offset t p cells bytes) =
+    to_within 24 u 5 t (from_temp u 5 p ++ further_code 5 bytes) (omega arith)
+    (both_within 12 12 (from_temp u 5 p) (further_code 5 bytes) (from_within u 5 p) (further_within 5 bytes))
 operation_within u (Element t p i cells bytes) = nothing_within 64
 operation_within u (Get t out local width) =
     to_within 12 u 5 t (read_code width 2 (local_offset u out local)) (omega arith) (read_within width 2 (local_offset u out local))
@@ -253,8 +271,18 @@ operation_within u (Load t p d) =
 operation_within u (Store p d x) =
     less_within (24 + 12) 64 _ (omega arith)
     (both_within 24 12 (from_temp u 5 p ++ from_temp u 6 x) (write_code d.width 5 d.bytes) (two_within u 5 p 6 x) (write_within d.width 5 d.bytes))
-operation_within u (Copy to from layout) = nothing_within 64
-operation_within u (Clear p layout count) = nothing_within 64
+operation_within u (Copy to from layout) =
+    if_within 64 (nat_eq layout.bytes 0) _ _ (nothing_within 64)
+    (less_within (36 + 20) 64 _ (omega arith)
+    (both_within 36 20 (from_temp u 5 to ++ from_temp u 6 from ++ further_code 7 layout.bytes) (copy_loop (are_words layout))
+    (both_within 24 12 (from_temp u 5 to ++ from_temp u 6 from) (further_code 7 layout.bytes) (two_within u 5 to 6 from) (further_within 7 layout.bytes))
+    (copy_within (are_words layout))))
+operation_within u (Clear p layout count) =
+    if_within 64 (nat_eq (bytes_in layout count) 0) _ _ (nothing_within 64)
+    (less_within (24 + 12) 64 _ (omega arith)
+    (both_within 24 12 (from_temp u 5 p ++ further_code 7 (bytes_in layout count)) (clear_loop (are_words layout))
+    (both_within 12 12 (from_temp u 5 p) (further_code 7 (bytes_in layout count)) (from_within u 5 p) (further_within 7 (bytes_in layout count)))
+    (clear_within (are_words layout))))
 operation_within u (IsNull t p) =
     to_within 16 u 5 t (from_temp u 5 p ++ (Plain (instr.Sltiu 5 5 (pos 1)) ∷ [])) (omega arith)
     (both_within 12 4 (from_temp u 5 p) (Plain (instr.Sltiu 5 5 (pos 1)) ∷ []) (from_within u 5 p) (record { is = omega arith }))

@@ -1,4 +1,5 @@
 pub mod Naming
+pub mod Layouts
 pub mod Parts
 pub mod Expressions
 pub mod Functions

@@ -114,7 +114,7 @@ address_names blocks n d None (Some (Variable s at)) h g = (g, tt)
 address_names blocks n d None (Some (Fixed s v)) h g = tt
 address_names blocks n d None None h g = tt
 
-check_names : (blocks : List ℕ) (n d : ℕ) (s : Shape) → CodeNames blocks n (check_code s d)
+pub check_names : (blocks : List ℕ) (n d : ℕ) (s : Shape) → CodeNames blocks n (check_code s d)
 check_names blocks n d (ThinShape true owner to) = ((tt, (tt, tt)), tt)
 check_names blocks n d (ThinShape false owner to) = tt
 check_names blocks n d IntShape = tt

@@ -8,7 +8,7 @@ use Rattle.core_meaning.specs.Core.{Function}
 use Rattle.core_frames.specs.Selectable.{IsSelectableIn, IsSelectable, scope_of}
 use Rattle.core_frames.proofs.Fitting.{none_some, some_same}
 use Rattle.source_lowering.specs.Programs.{body_code, function_code, data_of, program_code}
-use Rattle.source_lowering.specs.Taken.{IsLowerable}
+use Rattle.source_lowering.specs.Lowerable.{AreStructs, IsLowerable}
 use Rattle.source_lowering.proofs.Names.{IsRoutine, AreRoutines}
 use Rattle.source_lowering.proofs.Programs.{routines_are}
 use Rattle.compiled_sources.proofs.Naming.{have_lines}
@@ -19,21 +19,21 @@ use Rattle.compiled_sources.proofs.Functions.{body_names, globals_lie, data_layo
 pub record IsCodeOf (w : World) (fs : List Routine) (number : ℕ) (f : Function) : Type 0 where
   pub routine : Routine
   pub there : slice_get fs number ≡ Some routine
-  pub is : IsRoutine routine
+  pub is : IsRoutine w routine
   pub same : function_code w routine ≡ f
 
-pub code_of : (w : World) (fs : List Routine) (number : ℕ) (f : Function) → AreRoutines fs → slice_get (map (function_code w) fs) number ≡ Some f
+pub code_of : (w : World) (fs : List Routine) (number : ℕ) (f : Function) → AreRoutines w fs → slice_get (map (function_code w) fs) number ≡ Some f
     → IsCodeOf w fs number f
 code_of w [] number f all e = absurd (none_some f e)
 code_of w (r ∷ rs) zero f all e = record { routine = r; there = refl; is = all.0; same = some_same (function_code w r) f e }
 code_of w (r ∷ rs) (suc number) f all e =
     let h = code_of w rs number f all.1 e in record { routine = h.routine; there = h.there; is = h.is; same = h.same }
 
-function_selectable : (n : ℕ) (w : World) (f : Routine) → GlobalsLie n w.globals → IsRoutine f → IsSelectableIn n (function_code w f)
-function_selectable n w f globals is = record {
+function_selectable : (n : ℕ) (w : World) (f : Routine) → GlobalsLie n w.globals → AreStructs w.unions w.structs → IsRoutine w f → IsSelectableIn n (function_code w f)
+function_selectable n w f globals structs is = record {
   own_layouts = tt;
   few = omega arith;
-  body = have_lines (scope_of n (function_code w f)) (body_code w f) (body_names n w f globals is) (omega arith) (omega arith);
+  body = have_lines (scope_of n (function_code w f)) (body_code w f) (body_names n w f globals structs is) (omega arith) (omega arith);
 }
 
 -- A program that is lowered can be selected: each operation names temporaries, locals, arguments and data that its function and program have.
@@ -42,9 +42,9 @@ selectable p h =
     let w : World = world_of p in
     let n = length (data_of w p) in
     record {
-      data_layouts = data_layouts w p h.items;
+      data_layouts = data_layouts w p h.structs h.items;
       functions = λ number f is.
-          let c = code_of w w.functions number f (routines_are p h.items) is in
+          let c = code_of w w.functions number f (routines_are (world_of p) p h.items) is in
           subst (λ (g : Function). IsSelectableIn n g) c.same
-          (function_selectable n w c.routine (globals_lie w p 0 n h.items (omega arith)) c.is);
+          (function_selectable n w c.routine (globals_lie w p 0 n h.items (omega arith)) h.structs c.is);
     }

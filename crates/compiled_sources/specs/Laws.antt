@@ -2,20 +2,22 @@
 use Rattle.std.specs.Prelude.{◌≡◌, ◌≤◌, ◌^◌, []}
 use Rattle.cyc_tree.specs.Tree.{Program}
 use Rattle.source_meaning.specs.Programs.{world_of}
-use Rattle.source_lowering.specs.Taken.{IsLowerable}
+use Rattle.core_frames.specs.Statics.{ArePlainData}
+use Rattle.source_lowering.specs.Lowerable.{IsLowerable}
 use Rattle.source_lowering.specs.Programs.{program_code}
 use Rattle.source_typing.specs.Answers.{program_faults}
 use Rattle.source_typing.specs.Taken.{thin_pointers}
 use Rattle.core_frames.specs.Running.{data_end}
 use Rattle.compiled_sources.specs.Promise.{AreNamedApart, LowerableDoes}
 
--- what is promised of a program of integers and thin pointers holds of each in which no two functions have one name
+-- what is promised of a program that is lowered holds of each in which no two functions have one name
 abbrev pub AllLowerableDo : Type 0
 AllLowerableDo = (p : Program) → IsLowerable p → AreNamedApart (world_of p).functions → LowerableDoes p
 
--- a program in which the rules find no fault: what is promised, and its data are no longer than those of an image
+-- a program in which the rules find no fault: what is promised, its data are numbers that fit their places, and are no longer than those of an image
 pub record AcceptedDoes (p : Program) : Type 0 where
   pub promised : LowerableDoes p
+  pub plain : ArePlainData (program_code p).data_objects
   pub data_within : data_end (program_code p).data_objects ≤ 2 ^ 20
 
 -- that holds of each such program

@@ -12,6 +12,8 @@ use Rattle.core_meaning.specs.Core.{
   Put,
   Load,
   Store,
+  Offset,
+  Clear,
   IsNull,
   SamePlace,
   Getchar,
@@ -30,6 +32,7 @@ use Rattle.core_meaning.specs.Core.{
   NoStatements,
   MoreStatements,
 }
+use Rattle.core_frames.specs.Layouts.{IsLayout, IsFull, IsZero}
 use Rattle.core_frames.specs.Selectable.{AreLayouts, IsLocal}
 
 -- An operation within blocks that have so many locals each, the innermost first, over so many objects of the data. Only these are used.
@@ -44,6 +47,8 @@ NamesIn blocks objects (Get t out local width) = IsLocal blocks out local
 NamesIn blocks objects (Put out local width x) = IsLocal blocks out local
 NamesIn blocks objects (Load t p d) = Unit {0}
 NamesIn blocks objects (Store p d x) = Unit {0}
+NamesIn blocks objects (Offset t p cells bytes) = Unit {0}
+NamesIn blocks objects (Clear p layout count) = IsLayout layout × IsFull layout × IsZero layout
 NamesIn blocks objects (IsNull t p) = Unit {0}
 NamesIn blocks objects (SamePlace t p q) = Unit {0}
 NamesIn blocks objects (Getchar t) = Unit {0}

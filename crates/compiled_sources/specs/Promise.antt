@@ -2,7 +2,7 @@
 use Rattle.std.specs.Prelude.{◌≡◌, ℕ, ◌≤◌, false, List, [], ◌∷◌, Option, Some, None, slice_get, bytes_eq}
 use Rattle.std.specs.List.{All}
 use Rattle.cyc_tree.specs.Tree.{Program}
-use Rattle.source_meaning.specs.Steps.{Routine}
+use Rattle.source_meaning.specs.Steps.{World, Routine}
 use Rattle.source_meaning.specs.Calls.{function_of}
 use Rattle.source_meaning.specs.Programs.{world_of, source}
 use Rattle.rv32_machine.specs.State.{Areas, State}
@@ -11,7 +11,6 @@ use Rattle.rv32_machine.specs.Implements.{Meaning, Implements}
 use Rattle.core_frames.specs.declared.line.Line.{Line}
 use Rattle.core_frames.specs.Lines.{code_length}
 use Rattle.core_frames.specs.Selected as select
-use Rattle.core_frames.specs.Statics.{ArePlainData}
 use Rattle.core_frames.specs.Running.{Begins, IsNeverStuck}
 use Rattle.source_lowering.specs.Programs as lower
 use Rattle.source_lowering.specs.Bounds.{frame_bound, code_bound}
@@ -37,13 +36,13 @@ abbrev pub AreNamedApart : List Routine → Type 0
 AreNamedApart [] = Unit {0}
 AreNamedApart (f ∷ fs) = All (λ (g : Routine). bytes_eq f.name g.name ≡ false) fs × AreNamedApart fs
 
-abbrev pub bound_in : Option Routine → ℕ
-bound_in None = 0
-bound_in (Some f) = frame_bound f
+abbrev pub bound_in : World → Option Routine → ℕ
+bound_in w None = 0
+bound_in w (Some f) = frame_bound w f
 
 -- how many bytes the frame of the function of a name may take
-abbrev pub frame_bound_of : List Routine → List ℕ → ℕ
-frame_bound_of fs name = bound_in (function_of fs name)
+abbrev pub frame_bound_of : World → List ℕ → ℕ
+frame_bound_of w name = bound_in w (function_of w.functions name)
 
 -- ---- the promise
 
@@ -56,11 +55,9 @@ lines_of p = select.program_code (lower.program_code p)
 abbrev pub DoesAsSource : Program → Type 0
 DoesAsSource p =
     (n : Areas) (places : ℕ → ℕ) (s : State) (input : List ℕ) → AreBytes input → Begins n places (lines_of p) (lower.program_code p).data_objects s
-    → IsNeverStuck (meaning_of p input) → Implements (frame_bound_of (world_of p).functions) n s input (meaning_of p input)
+    → IsNeverStuck (meaning_of p input) → Implements (frame_bound_of (world_of p)) n s input (meaning_of p input)
 
--- What holds of a program of integers and thin pointers where no two functions have one name: its lines do what it does and take no more
--- bytes than its text allows, and its data are numbers that fit their places.
+-- What holds of a program that is lowered where no two functions have one name: its lines do what it does and take no more bytes than its text allows.
 pub record LowerableDoes (p : Program) : Type 0 where
   pub does : DoesAsSource p
   pub code : code_length (lines_of p) ≤ code_bound (world_of p).functions
-  pub plain : ArePlainData (lower.program_code p).data_objects

@@ -1,9 +1,9 @@
-// What holds of all programs of integers and thin pointers.
+// What holds of all programs that lowering takes.
 
 ghost use Rattle.compiled_sources.specs.Laws.{AllLowerableDo, AllAcceptedDo};
 
-/// A law, with nothing to run: of each program of functions, globals and locals of integers and of thin pointers
-/// to them in which no two functions have one name, a machine that begins with the lines of its lowered Core and its data does what
+/// A law, with nothing to run: of each program of functions, globals and locals of integers, of structs and of thin
+/// pointers to these that lowering takes and in which no two functions have one name, a machine that begins with the lines of its lowered Core and its data does what
 /// the source does, on each input of bytes on which the source is never stuck, and whatever the machine's
 /// store answers; and the lines take no more bytes than the bound on the text's code.
 pub fn lowerable_do()
@@ -11,7 +11,8 @@ pub fn lowerable_do()
 {}
 
 /// A law, with nothing to run: of each program in which the rules on functions and globals of integers and of thin pointers
-/// find no fault, `lowerable_do` holds, and its data take no more bytes than the data of an image may.
+/// find no fault, `lowerable_do` holds, its data are numbers that fit their places, and they take no more bytes than the data of
+/// an image may.
 pub fn accepted_do()
     ensures { AllAcceptedDo }
 {}

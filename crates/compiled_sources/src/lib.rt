@@ -1,6 +1,6 @@
 //! From a program's tree to a machine: the lines of its lowered Core do what the source does.
 //!
-//! specs/Promise has what is promised. `lowerable_do` says it of all programs of integers and thin pointers:
+//! specs/Promise has what is promised. `lowerable_do` says it of all programs that lowering takes:
 //! the laws of the passes put together, with the bounds on frames and on code. `accepted_do` says it of all programs
 //! in which the rules find no fault. There is no code but these laws. Stands on `source_lowering`, from
 //! the tree to Core, `core_frames`, from Core to lines, on the rules of `source_typing`, and on

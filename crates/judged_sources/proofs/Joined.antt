@@ -4,6 +4,7 @@ use Rattle.cyc_tree.specs.Tree.{Program}
 use Rattle.source_typing.specs.Answers.{program_faults}
 use Rattle.source_typing.specs.Programs.{tables_of}
 use Rattle.source_typing.specs.Taken.{thin_pointers}
+use Rattle.source_lowering.specs.Taken.{IsOfWords}
 use Rattle.judged_sources.specs.Good.{BodiesJudged}
 use Rattle.judged_sources.specs.Laws.{AcceptedAreJudged, AcceptedAreLowerable, AcceptedAreNeverStuck, AcceptedHaveMain}
 use Rattle.judged_sources.specs.Laws.{AcceptedStructsAreJudged, AcceptedStructsAreNeverStuck}
@@ -17,6 +18,9 @@ bodies = bodies_judged expressions_judged
 
 pub judged : AcceptedAreJudged
 judged = programs.accepted_are_judged bodies
+
+pub of_words : (p : Program) → program_faults thin_pointers p ≡ [] → IsOfWords p
+of_words = programs.accepted_are_of_words bodies
 
 pub lowerable : AcceptedAreLowerable
 lowerable = programs.accepted_are_lowerable bodies

@@ -7,7 +7,8 @@ use Rattle.std.proofs.lemmas.Slice.Eq.{bytes_eq-Decides}
 use Rattle.cyc_tree.specs.Tree as tree
 use Rattle.cyc_tree.specs.Tree.{Item, Program}
 use Rattle.source_lowering.specs.Programs.{function_code, program_code}
-use Rattle.source_lowering.specs.Taken.{TakesProgram}
+use Rattle.source_lowering.specs.Taken.{TakesProgram, IsOfWords}
+use Rattle.source_lowering.proofs.OfWords.{words_lowerable}
 use Rattle.source_meaning.specs.Programs.{routine_of, world_of}
 use Rattle.source_meaning.specs.Shapes.{part_of, part_shapes}
 use Rattle.source_meaning.specs.Steps.{World}
@@ -323,10 +324,13 @@ module _ (bodies : BodiesJudged) where
   pub accepted_are_judged : AcceptedAreJudged
   accepted_are_judged p e = judged bodies p (faults_more p e) (thin bodies p e).heads (thin_tags bodies p e)
 
-  pub accepted_are_lowerable : AcceptedAreLowerable
-  accepted_are_lowerable p e =
+  pub accepted_are_of_words : (p : Program) → program_faults thin_pointers p ≡ [] → IsOfWords p
+  accepted_are_of_words p e =
       let t : TakesProgram p = takes bodies p (faults_more p e) (thin bodies p e).heads (thin_tags bodies p e) (thin bodies p e).thin in
       record { items = t; strings = program_silent p t }
+
+  pub accepted_are_lowerable : AcceptedAreLowerable
+  accepted_are_lowerable p e = words_lowerable p (accepted_are_of_words p e)
 
   pub accepted_are_never_stuck : AcceptedAreNeverStuck
   accepted_are_never_stuck p e = never_stuck p (tables_of false p) (accepted_are_judged p e)

@@ -4,7 +4,7 @@ use Rattle.cyc_tree.specs.Tree as tree
 use Rattle.cyc_tree.specs.Tree.{Item, Program}
 use Rattle.cyc_words.specs.Events.{SourceEnding}
 use Rattle.source_lowering.specs.Programs.{program_code}
-use Rattle.source_lowering.specs.Taken.{IsLowerable}
+use Rattle.source_lowering.specs.Lowerable.{IsLowerable}
 use Rattle.source_meaning.specs.Programs.{source}
 use Rattle.source_safety.specs.Judged.{structures}
 use Rattle.source_safety.specs.Programs.{ProgramJudged}

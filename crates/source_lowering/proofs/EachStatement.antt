@@ -158,7 +158,7 @@ declaration_same n (tree.Alias at region of alias pointer) scope k result shapes
 declaration_same n (tree.NewKey at region key) scope k result shapes then_act others h known calls pending more = absurd h
 
 -- a local is an object
-shape_object : (w : World) (names : List Named) (d : Declaration) → TakesDeclaration w names d → IsObject w.structs (local_shape d)
+pub shape_object : (w : World) (names : List Named) (d : Declaration) → TakesDeclaration w names d → IsObject w.structs (local_shape d)
 shape_object w names (tree.Local of name initializer) h = object_settled w.structs of h.0
 shape_object w names (tree.Region at region handle) h = absurd h
 shape_object w names (tree.Open at region handle key) h = absurd h

@@ -261,11 +261,11 @@ datum_filled : (d : Datum) (ds : List Datum) (cell j : ℕ) (p : Part) → blank
     → datum_parts (d ∷ ds) 0 cell j ≡ Some (record p { content = d.first cell j })
 datum_filled d ds cell j p e = rw e refl
 
-record IsLaidOut (w : World) (s : Shape) (d : Datum) : Type 0 where
-  layout : d.layout ≡ layout_of w s
-  one : d.count ≡ 1
+pub record IsLaidOut (w : World) (s : Shape) (d : Datum) : Type 0 where
+  pub layout : d.layout ≡ layout_of w s
+  pub one : d.count ≡ 1
 
-laid_out_as : (w : World) (initial : Initial) (s : Shape) → IsLaidOut w s (global_datum w initial s)
+pub laid_out_as : (w : World) (initial : Initial) (s : Shape) → IsLaidOut w s (global_datum w initial s)
 laid_out_as w initial (StructShape tag) = record { layout = refl; one = refl }
 laid_out_as w initial IntShape = record { layout = refl; one = refl }
 laid_out_as w initial UnsignedShape = record { layout = refl; one = refl }
@@ -321,7 +321,7 @@ no_more k = omega arith
 none_on : (i : ℕ) → 0 + i ≡ i
 none_on i = omega arith
 
-word_datum : (w : World) (initial : Initial) (s : Shape) → IsWordShape s → global_datum w initial s ≡ datum_of w s (initial_content initial s)
+pub word_datum : (w : World) (initial : Initial) (s : Shape) → IsWordShape s → global_datum w initial s ≡ datum_of w s (initial_content initial s)
 word_datum w initial (StructShape tag) h = absurd h
 word_datum w initial _ h = refl
 

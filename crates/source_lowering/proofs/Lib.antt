@@ -8,6 +8,7 @@ pub mod Operators
 pub mod Entering
 pub mod Cells
 pub mod Members
+pub mod Ordered
 pub mod Making
 pub mod Values
 pub mod Names

@@ -182,7 +182,7 @@ pieces_moved : (a : ℕ) (p : Placed) (qs : List Piece) (ys xs : List core.PartS
 pieces_moved a p [] ys xs h = h
 pieces_moved a p (q ∷ qs) ys xs h = (omega arith, (refl, pieces_moved a p qs ys xs h))
 
-next_moved : (size bytes a : ℕ) (ps qs : List Placed) → a + size ≤ next_at bytes qs → a + next_at size ps ≤ next_at bytes (map (moved a) ps ++ qs)
+pub next_moved : (size bytes a : ℕ) (ps qs : List Placed) → a + size ≤ next_at bytes qs → a + next_at size ps ≤ next_at bytes (map (moved a) ps ++ qs)
 next_moved size bytes a [] qs h = h
 next_moved size bytes a (p ∷ ps) qs h = omega arith
 
@@ -206,7 +206,7 @@ made_after c t b bytes extent (p ∷ ps) qs h =
     subst (λ z. AreMade c z b (padded extent bytes qs)) (core_beyond_on t 1 (length ps) (suc (length ps)) (omega arith))
     (made_after c (core.beyond t 1) b bytes extent ps qs h.1)
 
-laid_above : (extent : Shape → Extent) (s : Extent) (ps : List Part) → s.size ≤ (laid_out extent s ps).size
+pub laid_above : (extent : Shape → Extent) (s : Extent) (ps : List Part) → s.size ≤ (laid_out extent s ps).size
 laid_above extent s [] = rounded_above s.size s.align
 laid_above extent s (p ∷ ps) =
     let e = extent p.shape in
@@ -215,16 +215,16 @@ laid_above extent s (p ∷ ps) =
     omega (arith, rounded_above s.size e.align, further)
 
 -- each of these has cells
-abbrev HaveCells : List Layout → List Layout → List Part → Type 0
+abbrev pub HaveCells : List Layout → List Layout → List Part → Type 0
 HaveCells unions structs [] = Unit {0}
 HaveCells unions structs (p ∷ ps) = HasCells unions structs p.shape × HaveCells unions structs ps
 
-have_cells : (unions structs : List Layout) (ps : List Part) → AreStructs unions structs → AreObjects structs (part_shapes ps) → HaveCells unions structs ps
+pub have_cells : (unions structs : List Layout) (ps : List Part) → AreStructs unions structs → AreObjects structs (part_shapes ps) → HaveCells unions structs ps
 have_cells unions structs [] h o = tt
 have_cells unions structs (p ∷ ps) h o = (object_cells unions structs p.shape h o.0, have_cells unions structs ps h o.1)
 
 -- what comes after so many bytes begins no earlier
-next_after : (unions structs : List Layout) (bytes : ℕ) (so_far : Extent) (ps : List Part) → HaveCells unions structs ps
+pub next_after : (unions structs : List Layout) (bytes : ℕ) (so_far : Extent) (ps : List Part) → HaveCells unions structs ps
     → (laid_out (extent_in unions structs) so_far ps).size ≤ bytes
     → so_far.size ≤ next_at bytes (all_placed (placed_in unions structs) (extent_in unions structs) so_far.size ps)
 next_after unions structs bytes so_far [] h room = let more = laid_above (extent_in unions structs) so_far [] in omega (arith, more, room)

@@ -133,14 +133,14 @@ base_object _ h = absurd h
 type_plain : (t : TypeName) → words.IsWordType t → IsPlain (settled (written t))
 type_plain t h = settled_plain (written t) (pointed_plain t.pointers (base_shape t.base) h.pointers (base_plain t.base h.base))
 
-object_type : (structs : List Layout) (t : TypeName) → words.IsWordType t → IsObjectType structs t
+pub object_type : (structs : List Layout) (t : TypeName) → words.IsWordType t → IsObjectType structs t
 object_type structs t h = record {
   pointers = h.pointers;
   base = base_object t.base h.base;
   known = plain_known (settled (written t)) structs (type_plain t h);
 }
 
-word_type : (t : TypeName) → words.IsWordType t → IsWordType t
+pub word_type : (t : TypeName) → words.IsWordType t → IsWordType t
 word_type t h = record { pointers = h.pointers; base = base_object t.base h.base; word = plain_single (settled (written t)) (type_plain t h) }
 
 void_plain : (b : Base) (ps : List Pointer) (at : ℕ) → ps ≡ [] → IsVoidBase b → IsPlain (settled (written (record { at = at; base = b; pointers = ps })))

@@ -5,7 +5,7 @@ use Rattle.cyc_tree.specs.Tree.{Expression, Expressions, NoExpressions, MoreExpr
 use Rattle.cyc_tree.specs.Tree.{Made, One, Array}
 use Rattle.cyc_parser.specs.Phrases.{Tokens, InParentheses}
 use Rattle.cyc_parser.specs.ExpressionGrammar.{level_of, IsExpression, AreArguments, AreOperands, AreLinks, AreSuffixes, IsMade}
-use Rattle.source_lowering.specs.Bounds.{nodes_of, all_nodes, joined_nodes, link_nodes}
+use Rattle.source_lowering.specs.Bounds.{nodes_of, all_nodes, joined_nodes, link_nodes, suffix_nodes}
 use Rattle.spelled_programs.proofs.Shorter.{one_taken, keyword_taken, sign_taken, name_taken, string_taken, none_taken}
 
 -- a phrase takes at least so many tokens
@@ -59,12 +59,12 @@ mutual
         sign_taken opened,
         expression_size index b c is,
         sign_taken closed,
-        suffixes_shorter others d to are,
+        suffixes_size others d to are,
       )
   expression_size (Expression.Suffixed primary (Dot member others)) from to (a, level, first, (b, c, sign, name, are)) =
-      omega (arith, expression_size primary from a first, sign_taken sign, name_taken name, suffixes_shorter others c to are)
+      omega (arith, expression_size primary from a first, sign_taken sign, name_taken name, suffixes_size others c to are)
   expression_size (Expression.Suffixed primary (Arrow member others)) from to (a, level, first, (b, c, sign, name, are)) =
-      omega (arith, expression_size primary from a first, sign_taken sign, name_taken name, suffixes_shorter others c to are)
+      omega (arith, expression_size primary from a first, sign_taken sign, name_taken name, suffixes_size others c to are)
   expression_size (Expression.Prefixed at operator operand) from to (a, level, sign, is) = omega (arith, one_taken sign, expression_size operand a to is)
   expression_size (Expression.New at made) from to (a, word, is) = omega (arith, one_taken word, made_shorter made a to is)
   expression_size (Expression.NewIn at handle made) from to (a, b, word, is, of) =
@@ -101,12 +101,12 @@ mutual
   links_size (MoreLinks operator operand others) level from to (a, b, same, above, sign, is, are) =
       omega (arith, sign_taken sign, expression_size operand a b is, links_size others level b to are)
 
-  suffixes_shorter : (suffixes : Suffixes) (from to : Tokens) → AreSuffixes suffixes from to → length to ≤ length from
-  suffixes_shorter NoSuffixes from to is = none_taken is
-  suffixes_shorter (Index index others) from to (a, b, c, opened, is, closed, are) =
-      omega (arith, sign_taken opened, expression_size index a b is, sign_taken closed, suffixes_shorter others c to are)
-  suffixes_shorter (Dot member others) from to (a, b, sign, name, are) = omega (arith, sign_taken sign, name_taken name, suffixes_shorter others b to are)
-  suffixes_shorter (Arrow member others) from to (a, b, sign, name, are) = omega (arith, sign_taken sign, name_taken name, suffixes_shorter others b to are)
+  suffixes_size : (suffixes : Suffixes) (from to : Tokens) → AreSuffixes suffixes from to → Takes (suffix_nodes suffixes) from to
+  suffixes_size NoSuffixes from to is = omega (arith, none_taken is)
+  suffixes_size (Index index others) from to (a, b, c, opened, is, closed, are) =
+      omega (arith, sign_taken opened, expression_size index a b is, sign_taken closed, suffixes_size others c to are)
+  suffixes_size (Dot member others) from to (a, b, sign, name, are) = omega (arith, sign_taken sign, name_taken name, suffixes_size others b to are)
+  suffixes_size (Arrow member others) from to (a, b, sign, name, are) = omega (arith, sign_taken sign, name_taken name, suffixes_size others b to are)
 
   made_shorter : (made : Made) (from to : Tokens) → IsMade made from to → length to ≤ length from
   made_shorter (One value) from to (level, is) = omega (arith, expression_size value from to is)

@@ -7,7 +7,8 @@ use Rattle.cyc_tree.specs.Tree.{Constant, Initial, TypeName}
 use Rattle.source_lowering.specs.Taken as lowering
 use Rattle.source_lowering.specs.Taken.{TakesInitial}
 use Rattle.source_lowering.proofs.Integers.{IsWordShape}
-use Rattle.source_lowering.proofs.WrittenTypes.{type_settled}
+use Rattle.source_lowering.proofs.OfWords.{word_type}
+use Rattle.source_lowering.proofs.WrittenTypes.{word_settled}
 use Rattle.source_meaning.specs.Shapes as shapes
 use Rattle.source_safety.specs.Entries.{IsObjectType, IsWordType}
 use Rattle.source_safety.specs.Judged.{structures}
@@ -141,7 +142,7 @@ thin_word t Int o w s = tt
 thin_word t Unsigned o w s = tt
 thin_word t Char o w s = tt
 thin_word t (Thin b r u) o w s = o
-thin_word t (Struct tag rs) o w s = absurd (subst (λ z. IsWordShape z) s (type_settled t w).is_word)
+thin_word t (Struct tag rs) o w s = absurd (subst (λ z. IsWordShape z) s (word_settled t (word_type t w)))
 thin_word t _ o w s = absurd o
 
 word_same : (g h : Env) (at : ℕ) (count : Option ℕ) (native : Bool) (u : StaticType) → IsWordType u

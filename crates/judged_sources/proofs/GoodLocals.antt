@@ -6,7 +6,8 @@ use Rattle.cyc_tree.specs.Tree.{TypeName}
 use Rattle.source_lowering.specs.Taken as lowering
 use Rattle.source_lowering.specs.Taken.{HasFirst}
 use Rattle.source_lowering.proofs.Integers.{IsWordShape}
-use Rattle.source_lowering.proofs.WrittenTypes.{type_settled}
+use Rattle.source_lowering.proofs.OfWords.{word_type}
+use Rattle.source_lowering.proofs.WrittenTypes.{word_settled}
 use Rattle.source_meaning.specs.Shapes as shapes
 use Rattle.source_meaning.specs.Shapes.{ThinShape}
 use Rattle.source_safety.specs.Entries.{IsObjectType}
@@ -180,7 +181,7 @@ begins_first g of Int o w s e = tt
 begins_first g of Unsigned o w s e = tt
 begins_first g of Char o w s e = tt
 begins_first g of (Thin b r t) o w s e = subst (λ z. HasFirst (ThinShape z shapes.Shared (shape_of t))) (sym e) tt
-begins_first g of (Struct tag rs) o w s e = absurd (subst (λ z. IsWordShape z) s (type_settled of w).is_word)
+begins_first g of (Struct tag rs) o w s e = absurd (subst (λ z. IsWordShape z) s (word_settled of (word_type of w)))
 begins_first g of _ o w s e = absurd o
 
 pub local_first : (g : Env) (of : TypeName) (t : StaticType) → IsLocalType g of false t → takes_type thin_pointers of ≡ true

@@ -31,7 +31,7 @@ takes_two binary.LessEqual = true
 takes_two binary.LessUnsigned = false
 takes_two binary.LessEqualUnsigned = true
 
--- the operations on words alone, those on pointers, and those on memory
+-- the operations on words alone, those on pointers, those on locals, and those on memory
 abbrev pub is_on_words : Operation → Bool
 is_on_words (operation.Constant t word) = true
 is_on_words (operation.NullPointer t) = false
@@ -42,8 +42,9 @@ is_on_words (operation.LocalAddress t v) = false
 is_on_words (operation.DataAddress t object) = false
 is_on_words (operation.Get t v w) = false
 is_on_words (operation.Put v w x) = false
-is_on_words (operation.Load t p w) = false
-is_on_words (operation.Store p w x) = false
+is_on_words (operation.Offset t p cells bytes) = false
+is_on_words (operation.Load t p d) = false
+is_on_words (operation.Store p d x) = false
 is_on_words (operation.IsNull t p) = false
 is_on_words (operation.SamePlace t p q) = false
 is_on_words (operation.Getchar t) = false
@@ -55,16 +56,35 @@ is_on_pointers (operation.NullPointer t) = true
 is_on_pointers (operation.Move t x) = false
 is_on_pointers (operation.Narrow t x) = false
 is_on_pointers (operation.Apply o t x y) = false
-is_on_pointers (operation.LocalAddress t v) = true
+is_on_pointers (operation.LocalAddress t v) = false
 is_on_pointers (operation.DataAddress t object) = false
 is_on_pointers (operation.Get t v w) = false
 is_on_pointers (operation.Put v w x) = false
-is_on_pointers (operation.Load t p w) = false
-is_on_pointers (operation.Store p w x) = false
+is_on_pointers (operation.Offset t p cells bytes) = true
+is_on_pointers (operation.Load t p d) = false
+is_on_pointers (operation.Store p d x) = false
 is_on_pointers (operation.IsNull t p) = true
 is_on_pointers (operation.SamePlace t p q) = true
 is_on_pointers (operation.Getchar t) = false
 is_on_pointers (operation.Putchar t x) = false
+
+abbrev pub is_on_locals : Operation → Bool
+is_on_locals (operation.Constant t word) = false
+is_on_locals (operation.NullPointer t) = false
+is_on_locals (operation.Move t x) = false
+is_on_locals (operation.Narrow t x) = false
+is_on_locals (operation.Apply o t x y) = false
+is_on_locals (operation.LocalAddress t v) = true
+is_on_locals (operation.DataAddress t object) = false
+is_on_locals (operation.Get t v w) = true
+is_on_locals (operation.Put v w x) = true
+is_on_locals (operation.Offset t p cells bytes) = false
+is_on_locals (operation.Load t p d) = false
+is_on_locals (operation.Store p d x) = false
+is_on_locals (operation.IsNull t p) = false
+is_on_locals (operation.SamePlace t p q) = false
+is_on_locals (operation.Getchar t) = false
+is_on_locals (operation.Putchar t x) = false
 
 abbrev pub is_on_memory : Operation → Bool
 is_on_memory (operation.Constant t word) = false
@@ -74,10 +94,11 @@ is_on_memory (operation.Narrow t x) = false
 is_on_memory (operation.Apply o t x y) = false
 is_on_memory (operation.LocalAddress t v) = false
 is_on_memory (operation.DataAddress t object) = true
-is_on_memory (operation.Get t v w) = true
-is_on_memory (operation.Put v w x) = true
-is_on_memory (operation.Load t p w) = true
-is_on_memory (operation.Store p w x) = true
+is_on_memory (operation.Get t v w) = false
+is_on_memory (operation.Put v w x) = false
+is_on_memory (operation.Offset t p cells bytes) = false
+is_on_memory (operation.Load t p d) = true
+is_on_memory (operation.Store p d x) = true
 is_on_memory (operation.IsNull t p) = false
 is_on_memory (operation.SamePlace t p q) = false
 is_on_memory (operation.Getchar t) = false

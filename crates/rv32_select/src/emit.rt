@@ -3,7 +3,7 @@
 ghost use Rattle.std.specs.Prelude.{◌≡◌, ◌+◌, ◌*◌, ◌<◌, ◌^◌, [], ◌∷◌, ◌++◌, length, vec_len, IfOk, OnOk};
 ghost use Rattle.core_frames.specs.declared.line.Line.TheVariants.{Plain};
 ghost use Rattle.core_frames.specs.Frames.{upper_of, lower_of, is_short, word_code, load_code, save_code, environment_code};
-ghost use Rattle.core_frames.specs.Selected.{constant_code, address_code, far_code, read_line, read_code, write_line, write_code};
+ghost use Rattle.core_frames.specs.Selected.{constant_code, address_code, further_code, far_code, read_line, read_code, write_line, write_code};
 ghost use Rattle.cyc_core.specs.Trees.{bytes_of};
 
 use core_frames::Line;
@@ -87,6 +87,18 @@ pub fn put_address(lines: &mut Vec<Line>, distance: u64) -> Result<(), AllocErro
     } else {
         put_word(lines, RESULT, distance)?;
         put(lines, Instr::Add(RESULT, RESULT, pointer))
+    }
+}
+
+/// Appends what puts into a register the address so many bytes further than that in the register of results.
+pub fn put_further(lines: &mut Vec<Line>, to: Register, bytes: u64) -> Result<(), AllocError>
+    ensures { OnOk result (lines.new.items ≡ lines.old.items ++ further_code to bytes) }
+{
+    if is_short(bytes) {
+        put(lines, Instr::Addi(to, RESULT, lower(bytes)))
+    } else {
+        put_word(lines, ADDRESS, bytes)?;
+        put(lines, Instr::Add(to, ADDRESS, RESULT))
     }
 }
 

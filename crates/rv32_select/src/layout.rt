@@ -1,10 +1,11 @@
 // Where the locals of blocks and the globals lie.
 
 ghost use Rattle.std.specs.Prelude.{◌≡◌, ◌+◌, ◌<◌, ◌^◌, ◌≤◌, IfOk, OnOk, map, true};
+ghost use Rattle.core_frames.specs.Selected as selected;
 ghost use Rattle.core_frames.specs.Selected.{slots_of, rounded, offsets_from, end_from, greater, highest, highest_of, datum_locals};
 ghost use Rattle.cyc_core.specs.Trees.{bytes_of, local_tree, datum_tree, statement_tree, body_tree, function_tree};
 
-use cyc_core::{Cell, Datum, Function, Statement, Width};
+use cyc_core::{Datum, Function, Local, Statement, Width};
 use std::alloc::{AllocError, Global};
 
 /// The bytes of a width.
@@ -14,6 +15,16 @@ fn bytes(width: Width) -> u64
     match width {
         Width::Byte => 1,
         Width::Word => 4,
+    }
+}
+
+/// The bytes of a local.
+fn local_bytes(local: &Local) -> u64
+    ensures { result ≡ selected.bytes_of (local_tree local.now) }
+{
+    match local {
+        Local::Scalar(cell) => bytes(cell.width()),
+        Local::Whole(layout) => u64::from(layout.bytes),
     }
 }
 
@@ -35,26 +46,26 @@ fn rounded(offset: u64) -> Result<u64, AllocError>
 }
 
 /// Where locals end that lie one behind the other from an offset on, each at a multiple of 4.
-pub fn end_from(low: u64, cells: &[Cell]) -> Result<u64, AllocError>
-    ensures { IfOk result (λ n. n ≡ end_from low (map local_tree cells.now)) }
+pub fn end_from(low: u64, locals: &[Local]) -> Result<u64, AllocError>
+    ensures { IfOk result (λ n. n ≡ end_from low (map local_tree locals.now)) }
 {
     let mut at = low;
-    'each: for cell in cells {
-        at = sum(rounded(at)?, bytes(cell.width()))?;
+    'each: for local in locals {
+        at = sum(rounded(at)?, local_bytes(local))?;
     }
     Ok(at)
 }
 
 /// Where each of these locals begins.
-pub fn offsets_from(alloc: Global, low: u64, cells: &[Cell]) -> Result<Vec<u64>, AllocError>
-    ensures { IfOk result (λ offsets. offsets.items ≡ offsets_from low (map local_tree cells.now)) }
+pub fn offsets_from(alloc: Global, low: u64, locals: &[Local]) -> Result<Vec<u64>, AllocError>
+    ensures { IfOk result (λ offsets. offsets.items ≡ offsets_from low (map local_tree locals.now)) }
 {
     let mut offsets = Vec::new(alloc);
     let mut at = low;
-    'each: for cell in cells {
+    'each: for local in locals {
         let offset = rounded(at)?;
         offsets.push(offset)?;
-        at = sum(offset, bytes(cell.width()))?;
+        at = sum(offset, local_bytes(local))?;
     }
     Ok(offsets)
 }
@@ -96,7 +107,7 @@ fn highest(low: u64, statement: &Statement) -> Result<u64, AllocError>
             let second = highest_of(low, body)?;
             Ok(greater(first, second))
         }
-        Statement::Block(cells, body) => highest_of(end_from(low, cells)?, body),
+        Statement::Block(locals, body) => highest_of(end_from(low, locals)?, body),
         _ => Ok(low),
     }
 }

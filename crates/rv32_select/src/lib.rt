@@ -14,5 +14,6 @@ mod layout;
 mod operation;
 mod place;
 mod statement;
+mod whole;
 
 pub use function::{Labelled, select};

@@ -4,12 +4,12 @@ ghost use Rattle.std.specs.Prelude.{◌≡◌, ◌+◌, true, ◌++◌, OnOk, If
 ghost use Rattle.core_frames.specs.Frames.{load_code, save_code, slot_of};
 ghost use Rattle.core_frames.specs.Selected.{binary_code, operation_code, from_temp, to_temp, nth};
 ghost use Rattle.cyc_core.specs.Trees.{binary_tree, operation_tree};
-ghost use Rattle.rv32_select.specs.Places.{surroundings, takes_two, is_on_words, is_on_pointers, is_on_memory};
+ghost use Rattle.rv32_select.specs.Places.{surroundings, takes_two, is_on_words, is_on_pointers, is_on_locals, is_on_memory};
 ghost use Rattle.rv32_machine.specs.State.{data_base};
 
 use crate::emit::{
-    OPERAND, RESULT, put, put_address, put_constant, put_environment, put_load, put_read, put_save,
-    put_write,
+    OPERAND, RESULT, put, put_address, put_constant, put_environment, put_further, put_load,
+    put_read, put_save, put_write,
 };
 use crate::layout::sum;
 use crate::place::Place;
@@ -142,8 +142,9 @@ fn put_pointer_operation(
 {
     match operation {
         Operation::NullPointer(to) => put_to(lines, place, Register::ZERO, to),
-        Operation::LocalAddress(to, variable) => {
-            put_address(lines, place.offset(variable))?;
+        Operation::Offset(to, pointer, _, bytes) => {
+            put_from(lines, place, RESULT, pointer)?;
+            put_further(lines, RESULT, u64::from(bytes))?;
             put_to(lines, place, RESULT, to)
         }
         Operation::IsNull(to, pointer) => {
@@ -156,6 +157,33 @@ fn put_pointer_operation(
             put_from(lines, place, OPERAND, second)?;
             put_applied(lines, Binary::Equal)?;
             put_to(lines, place, RESULT, to)
+        }
+        _ => Ok(()),
+    }
+}
+
+/// Appends the instructions of an operation on a local.
+fn put_local_operation(
+    lines: &mut Vec<Line>,
+    place: &Place,
+    operation: Operation,
+) -> Result<(), AllocError>
+    requires { is_on_locals operation ≡ true }
+    ensures { OnOk result (lines.new.items ≡ lines.old.items ++ operation_code (surroundings place.now) (operation_tree operation)) }
+{
+    let stack = Register::STACK_POINTER;
+    match operation {
+        Operation::LocalAddress(to, variable) => {
+            put_address(lines, place.offset(variable))?;
+            put_to(lines, place, RESULT, to)
+        }
+        Operation::Get(to, variable, width) => {
+            put_read(lines, width, stack, place.offset(variable))?;
+            put_to(lines, place, RESULT, to)
+        }
+        Operation::Put(variable, width, from) => {
+            put_from(lines, place, OPERAND, from)?;
+            put_write(lines, width, stack, place.offset(variable))
         }
         _ => Ok(()),
     }
@@ -175,33 +203,15 @@ fn put_memory_operation(
             put_constant(lines, sum(DATA_BASE, place.data_offset(object))?)?;
             put_to(lines, place, RESULT, to)
         }
-        Operation::Get(to, variable, width) => {
-            put_read(
-                lines,
-                width,
-                Register::STACK_POINTER,
-                place.offset(variable),
-            )?;
+        Operation::Load(to, pointer, distance) => {
+            put_from(lines, place, RESULT, pointer)?;
+            put_read(lines, distance.width, RESULT, u64::from(distance.bytes))?;
             put_to(lines, place, RESULT, to)
         }
-        Operation::Put(variable, width, from) => {
-            put_from(lines, place, OPERAND, from)?;
-            put_write(
-                lines,
-                width,
-                Register::STACK_POINTER,
-                place.offset(variable),
-            )
-        }
-        Operation::Load(to, pointer, width) => {
-            put_from(lines, place, RESULT, pointer)?;
-            put_read(lines, width, RESULT, 0)?;
-            put_to(lines, place, RESULT, to)
-        }
-        Operation::Store(pointer, width, from) => {
+        Operation::Store(pointer, distance, from) => {
             put_from(lines, place, RESULT, pointer)?;
             put_from(lines, place, OPERAND, from)?;
-            put_write(lines, width, RESULT, 0)
+            put_write(lines, distance.width, RESULT, u64::from(distance.bytes))
         }
         _ => Ok(()),
     }
@@ -230,9 +240,12 @@ pub fn put_operation(
         | Operation::Narrow(..)
         | Operation::Apply(..) => { put_word_operation(lines, place, operation) }
         Operation::NullPointer(..)
-        | Operation::LocalAddress(..)
+        | Operation::Offset(..)
         | Operation::IsNull(..)
         | Operation::SamePlace(..) => { put_pointer_operation(lines, place, operation) }
+        Operation::LocalAddress(..) | Operation::Get(..) | Operation::Put(..) => {
+            put_local_operation(lines, place, operation)
+        }
         _ => put_memory_operation(lines, place, operation),
     }
 }

@@ -4,11 +4,11 @@ ghost use Rattle.std.specs.Prelude.{◌≡◌, ◌<◌, ◌^◌, [], ◌∷◌, 
 ghost use Rattle.core_frames.specs.Frames.{slot_of};
 ghost use Rattle.core_frames.specs.Selected.{Surroundings, local_offset, nth, within_block, around};
 ghost use Rattle.cyc_core.specs.Trees.{local_tree, function_tree};
-ghost use Rattle.core_meaning.specs.Core.{Local};
+ghost use Rattle.core_meaning.specs.Core as core;
 ghost use Rattle.rv32_select.specs.Places.{surroundings};
 
 use crate::layout::{end_from, offsets_from, slots};
-use cyc_core::{Cell, Function, Temporary, Variable};
+use cyc_core::{Function, Local, Temporary, Variable};
 use std::alloc::{AllocError, Global};
 
 /// Where code stands.
@@ -75,12 +75,12 @@ impl Place {
     }
 
     /// Enters a block with these locals. Answers where its locals begin.
-    pub fn enter(&mut self, cells: &[Cell]) -> Result<u64, AllocError>
-        ensures { IfOk result (λ low. low ≡ self.old.low × (surroundings self.new ≡ within_block (map local_tree cells.now) (surroundings self.old))) }
+    pub fn enter(&mut self, locals: &[Local]) -> Result<u64, AllocError>
+        ensures { IfOk result (λ low. low ≡ self.old.low × (surroundings self.new ≡ within_block (map local_tree locals.now) (surroundings self.old))) }
     {
         let low = self.low;
-        let offsets = offsets_from(self.alloc, low, cells)?;
-        let end = end_from(low, cells)?;
+        let offsets = offsets_from(self.alloc, low, locals)?;
+        let end = end_from(low, locals)?;
         self.blocks.insert(0, offsets)?;
         self.low = end;
         Ok(low)
@@ -89,7 +89,7 @@ impl Place {
     /// Leaves the innermost block, whose locals began at `low`.
     #[tactic(auto, using(crate::proofs::Leaving::left_is))]
     pub fn leave(&mut self, low: u64)
-        ensures { (locals : List Local) (outer : Surroundings) → surroundings self.old ≡ within_block locals outer → low ≡ outer.low → surroundings self.new ≡ outer }
+        ensures { (locals : List core.Local) (outer : Surroundings) → surroundings self.old ≡ within_block locals outer → low ≡ outer.low → surroundings self.new ≡ outer }
     {
         if !self.blocks.is_empty() {
             self.blocks.remove(0);

@@ -11,8 +11,9 @@ use crate::emit::{ADDRESS, RESULT, put, put_environment, put_lines, put_load, pu
 use crate::layout::sum;
 use crate::operation::{put_from, put_operation, put_to};
 use crate::place::Place;
+use crate::whole::{put_clear, put_copy};
 use core_frames::Line;
-use cyc_core::{Cell, Statement, Temporary};
+use cyc_core::{Local, Statement, Temporary};
 use cyc_words::Kind;
 use rv32_isa::{Instr, Register, Signed12};
 use rv32_machine::RAISE;
@@ -152,14 +153,16 @@ fn put_statement(
 {
     match statement {
         Statement::Do(operation) => put_operation(lines, place, *operation)?,
+        Statement::Copy(to, from, layout) => put_copy(lines, place, *to, *from, layout.as_ref())?,
+        Statement::Clear(pointer, layout) => put_clear(lines, place, *pointer, layout.as_ref())?,
         Statement::If(test, these, those) => {
             return put_if(lines, place, next, ways, *test, these, those);
         }
         Statement::While(test, flag, body) => {
             return put_while(lines, place, next, ways, test, *flag, body);
         }
-        Statement::Block(cells, body) => {
-            return put_block(lines, place, next, ways, cells, body);
+        Statement::Block(locals, body) => {
+            return put_block(lines, place, next, ways, locals, body);
         }
         Statement::Break => put_lines(lines, &[Line::Jump(ways.out)])?,
         Statement::Continue => put_lines(lines, &[Line::Jump(ways.again)])?,
@@ -252,14 +255,14 @@ fn put_block(
     place: &mut Place,
     next: usize,
     ways: Ways,
-    cells: &[Cell],
+    locals: &[Local],
     body: &[Statement],
 ) -> Result<usize, AllocError>
-    ensures code { OnOk result (lines.new.items ≡ lines.old.items ++ statement_code ways.bytes (surroundings place.old) next ways.out ways.again (core.Block (map local_tree cells.now) (body_tree body.now))) }
-    ensures free { IfOk result (λ n. n ≡ next + labels_in (core.Block (map local_tree cells.now) (body_tree body.now))) }
+    ensures code { OnOk result (lines.new.items ≡ lines.old.items ++ statement_code ways.bytes (surroundings place.old) next ways.out ways.again (core.Block (map local_tree locals.now) (body_tree body.now))) }
+    ensures free { IfOk result (λ n. n ≡ next + labels_in (core.Block (map local_tree locals.now) (body_tree body.now))) }
     ensures same { OnOk result (surroundings place.new ≡ surroundings place.old) }
 {
-    let low = place.enter(cells)?;
+    let low = place.enter(locals)?;
     let free = put_statements(lines, place, next, ways, body)?;
     place.leave(low);
     Ok(free)

@@ -5,5 +5,5 @@ use Rattle.rv32_select.proofs.layout.end_from.Given as goal
 
 abbrev pub invariant-each : goal.invariant-each
 invariant-each l = record {
-  whole : end_from l.at (map local_tree (drop l.cell-index l.cells)) ≡ end_from l.low (map local_tree l.cells);
+  whole : end_from l.at (map local_tree (drop l.local-index l.locals)) ≡ end_from l.low (map local_tree l.locals);
 }

@@ -5,5 +5,5 @@ use Rattle.rv32_select.proofs.layout.offsets_from.Given as goal
 
 abbrev pub invariant-each : goal.invariant-each
 invariant-each l = record {
-  whole : l.offsets.items ++ offsets_from l.at (map local_tree (drop l.cell-index l.cells)) ≡ offsets_from l.low (map local_tree l.cells);
+  whole : l.offsets.items ++ offsets_from l.at (map local_tree (drop l.local-index l.locals)) ≡ offsets_from l.low (map local_tree l.locals);
 }

@@ -1,0 +1,127 @@
+// Instructions that copy and clear whole objects.
+
+ghost use Rattle.std.specs.Prelude.{◌≡◌, ◌++◌, OnOk};
+ghost use Rattle.core_meaning.specs.Core as core;
+ghost use Rattle.core_frames.specs.Selected.{are_word_parts, are_words, further_code, copy_loop, clear_loop, operation_code};
+ghost use Rattle.cyc_core.specs.Trees.{cell_parts, layout_tree};
+ghost use Rattle.rv32_select.specs.Places.{surroundings};
+
+use crate::emit::{ADDRESS, OPERAND, RESULT, put_further, put_lines};
+use crate::operation::put_from;
+use crate::place::Place;
+use core_frames::Line;
+use cyc_core::{CellLayout, Layout, Temporary, Width};
+use rv32_isa::{BranchOffset, Instr, Register, Signed12};
+use std::alloc::AllocError;
+
+/// The register by way of which each unit is copied.
+const UNIT: Register = Register::TEMPORARY_3;
+
+/// Whether a cell is a word and no bytes more.
+fn is_word(cell: CellLayout) -> bool
+    ensures { result ≡ are_word_parts (cell_parts cell) }
+{
+    match cell.cell.width() {
+        Width::Byte => false,
+        Width::Word => cell.padding == 0,
+    }
+}
+
+/// Whether all cells of a layout are words, so that its objects are copied and cleared word by word.
+fn are_words(layout: &Layout) -> bool
+    ensures { result ≡ are_words (layout_tree layout.now) }
+{
+    let cells: &[CellLayout] = &layout.cells;
+    'each: for cell in cells {
+        if !is_word(*cell) {
+            return false;
+        }
+    }
+    true
+}
+
+/// Appends what puts the end of an object, which begins where the register of results says, into the register that ends are compared with.
+fn put_end(lines: &mut Vec<Line>, layout: &Layout) -> Result<(), AllocError>
+    ensures { OnOk result (lines.new.items ≡ lines.old.items ++ further_code 7 (layout_tree layout.now).bytes) }
+{
+    put_further(lines, ADDRESS, u64::from(layout.bytes))
+}
+
+/// Appends the loop that copies an object, from its first word or byte on to its last.
+fn put_copy_loop(lines: &mut Vec<Line>, words: bool) -> Result<(), AllocError>
+    ensures { OnOk result (lines.new.items ≡ lines.old.items ++ copy_loop words) }
+{
+    let (to, from) = (RESULT, OPERAND);
+    let (here, back) = (Signed12::new(0), BranchOffset::new(-16));
+    if words {
+        let unit = Signed12::new(4);
+        let load = Line::Plain(Instr::Lw(UNIT, from, here));
+        let store = Line::Plain(Instr::Sw(to, UNIT, here));
+        let to_next = Line::Plain(Instr::Addi(to, to, unit));
+        let from_next = Line::Plain(Instr::Addi(from, from, unit));
+        let again = Line::Plain(Instr::Bne(to, ADDRESS, back));
+        put_lines(lines, &[load, store, to_next, from_next, again])
+    } else {
+        let unit = Signed12::new(1);
+        let load = Line::Plain(Instr::Lbu(UNIT, from, here));
+        let store = Line::Plain(Instr::Sb(to, UNIT, here));
+        let to_next = Line::Plain(Instr::Addi(to, to, unit));
+        let from_next = Line::Plain(Instr::Addi(from, from, unit));
+        let again = Line::Plain(Instr::Bne(to, ADDRESS, back));
+        put_lines(lines, &[load, store, to_next, from_next, again])
+    }
+}
+
+/// Appends the loop that clears an object, from its first word or byte on to its last.
+fn put_clear_loop(lines: &mut Vec<Line>, words: bool) -> Result<(), AllocError>
+    ensures { OnOk result (lines.new.items ≡ lines.old.items ++ clear_loop words) }
+{
+    let (here, back) = (Signed12::new(0), BranchOffset::new(-8));
+    if words {
+        let store = Line::Plain(Instr::Sw(RESULT, Register::ZERO, here));
+        let next = Line::Plain(Instr::Addi(RESULT, RESULT, Signed12::new(4)));
+        let again = Line::Plain(Instr::Bne(RESULT, ADDRESS, back));
+        put_lines(lines, &[store, next, again])
+    } else {
+        let store = Line::Plain(Instr::Sb(RESULT, Register::ZERO, here));
+        let next = Line::Plain(Instr::Addi(RESULT, RESULT, Signed12::new(1)));
+        let again = Line::Plain(Instr::Bne(RESULT, ADDRESS, back));
+        put_lines(lines, &[store, next, again])
+    }
+}
+
+/// Appends what gives the object of a layout that a temporary points to what another's holds: nothing for an object of no bytes.
+pub fn put_copy(
+    lines: &mut Vec<Line>,
+    place: &Place,
+    to: Temporary,
+    from: Temporary,
+    layout: &Layout,
+) -> Result<(), AllocError>
+    ensures { OnOk result (lines.new.items ≡ lines.old.items ++ operation_code (surroundings place.now) (core.Copy to.0 from.0 (layout_tree layout.now))) }
+{
+    if layout.bytes == 0 {
+        return Ok(());
+    }
+    put_from(lines, place, RESULT, to)?;
+    put_from(lines, place, OPERAND, from)?;
+    put_end(lines, layout)?;
+    put_copy_loop(lines, are_words(layout))
+}
+
+/// Appends what gives the object of a layout that a temporary points to what it begins as: nothing for an object of no bytes.
+pub fn put_clear(
+    lines: &mut Vec<Line>,
+    place: &Place,
+    pointer: Temporary,
+    layout: &Layout,
+) -> Result<(), AllocError>
+    ensures { OnOk result (lines.new.items ≡ lines.old.items ++ operation_code (surroundings place.now) (core.Clear pointer.0 (layout_tree layout.now) 1)) }
+{
+    if layout.bytes == 0 {
+        return Ok(());
+    }
+    put_from(lines, place, RESULT, pointer)?;
+    put_end(lines, layout)?;
+    put_clear_loop(lines, are_words(layout))
+}

@@ -7,7 +7,7 @@ use Rattle.judged_sources.proofs.Joined.{lowerable, never_stuck}
 use Rattle.source_lowering.proofs.Programs.{programs_same}
 use Rattle.source_lowering.specs.Agreeing.{AreBytes, SameOutcome}
 use Rattle.source_lowering.specs.Programs.{program_code}
-use Rattle.source_lowering.specs.Taken.{IsLowerable}
+use Rattle.source_lowering.specs.Lowerable.{IsLowerable}
 use Rattle.source_meaning.specs.Programs.{source, world_of}
 use Rattle.unique_flow.proofs.Accepted.{no_faults}
 use Rattle.unique_flow.specs.Accepted.{IsAccepted}

@@ -53,7 +53,7 @@ module _ (bound : List ℕ → ℕ) (n : Areas) where
 
 module _ (n : Areas) (program : Program) (input : List ℕ) (r : Run) (fuel : ℕ) (old new : Option (List ℕ)) where
   abbrev bound : List ℕ → ℕ
-  bound = frame_bound_of (world_of program).functions
+  bound = frame_bound_of (world_of program)
 
   abbrev meant : List SourceEvent
   meant = (source program input fuel).events

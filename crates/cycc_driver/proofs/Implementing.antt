@@ -57,9 +57,10 @@ module _ (program : Program) (code statics : List ℕ) (parts : Contents) (layer
   pub implemented : IsAccepted program → IsImplementedBy program parts
   implemented accepted arena start small starts input are_bytes =
       let faultless : program_faults thin_pointers program ≡ [] = no_faults program accepted in
-      let does = (accepted_do program faultless).promised in
+      let all = accepted_do program faultless in
+      let does = all.promised in
       let begun : Begins (areas_of start) (place_of (lines_of program)) (lines_of program) (program_code program).data_objects (state_of start) =
-      begins_as start (place_of (lines_of program)) (lines_of program) (program_code program).data_objects (first_machine arena start small starts) does.plain
+      begins_as start (place_of (lines_of program)) (lines_of program) (program_code program).data_objects (first_machine arena start small starts) all.plain
       (starts.statics ∙ is_statics ∙ layers.statics_are) layers.places (layers.has start (starts.code ∙ is_code)) in
       does.does (areas_of start) (place_of (lines_of program)) (state_of start) input are_bytes begun
       (λ fuel. never_stuck program faultless input fuel)
@@ -81,7 +82,7 @@ pub data_fit : (program : Program) → IsAccepted program → data_limit < lengt
 data_fit program accepted large =
     let does = accepted_do program (no_faults program accepted) in
     let within = does.data_within in
-    let long = data_length 0 (program_code program).data_objects does.promised.plain in
+    let long = data_length 0 (program_code program).data_objects does.plain in
     omega (arith, within, long, large)
 
 -- the image of an accepted text

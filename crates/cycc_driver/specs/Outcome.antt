@@ -25,7 +25,7 @@ use Rattle.cycc_driver.specs.Texts.{IsAcceptedAs}
 abbrev pub IsImplementedBy : Program → Contents → Type 0
 IsImplementedBy program parts =
     (arena : ℕ → ℕ) (start : Arrays) → ((at : ℕ) → arena at < 256) → IsStart parts (fresh parts.pages) arena start → (input : List ℕ) → AreBytes input
-    → Implements (frame_bound_of (world_of program).functions) (areas_of start) (state_of start) input (meaning_of program input)
+    → Implements (frame_bound_of (world_of program)) (areas_of start) (state_of start) input (meaning_of program input)
 
 -- The image of an accepted text, with so many pages: it implements the program that the text spells.
 pub record IsTextImage (text : List ℕ) (pages : ℕ) (bytes : List ℕ) : Type 0 where
@@ -61,7 +61,7 @@ pub record WritesAll (program : Program) (input : List ℕ) (end : SourceEnding)
 -- of an event holds that it wants room: a request of the store, or a call whose frame, with those of the active functions, may take more bytes than the stack has
 abbrev pub WantsRoom : Program → Areas → List SourceEvent → SourceEvent → Type 0
 WantsRoom program n before next =
-    ((q : Request) × IsRefused q next) ⊎ HasNoFrame (frame_bound_of (world_of program).functions) n.stack (active_after [] before) next
+    ((q : Request) × IsRefused q next) ⊎ HasNoFrame (frame_bound_of (world_of program)) n.stack (active_after [] before) next
 
 -- what the program writes up to an event that wants room was written
 pub record WritesToCut (n : Areas) (program : Program) (input : List ℕ) (old new : Option (List ℕ)) : Type 0 where

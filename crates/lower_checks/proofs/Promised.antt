@@ -17,12 +17,12 @@ use Rattle.lower_checks.proofs.Lowerable.{is_lowerable}
 
 -- a frame is within its bound where all are
 frame_fits : (w : World) (fs : List Routine) (number : ℕ) (f : Routine) (g : Function) → FramesFit w fs → slice_get fs number ≡ Some f
-    → slice_get (map (function_code w) fs) number ≡ Some g → core_bound g ≤ frame_bound f
+    → slice_get (map (function_code w) fs) number ≡ Some g → core_bound g ≤ frame_bound w f
 frame_fits w [] number f g fit is_source is_core = absurd cc is_source
 frame_fits w (r ∷ rs) zero f g fit is_source is_core =
     let same : r ≡ f = cc is_source in
     let made : function_code w r ≡ g = cc is_core in
-    subst (λ (z : Function). core_bound z ≤ frame_bound f) made (subst (λ (z : Routine). core_bound (function_code w r) ≤ frame_bound z) same fit.0)
+    subst (λ (z : Function). core_bound z ≤ frame_bound w f) made (subst (λ (z : Routine). core_bound (function_code w r) ≤ frame_bound w z) same fit.0)
 frame_fits w (r ∷ rs) (suc number) f g fit is_source is_core = frame_fits w rs number f g fit.1 is_source is_core
 
 promised : (p : Program) → IsAccepted p → IsLoweringOf p (program_code p)

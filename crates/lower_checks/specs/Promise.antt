@@ -21,6 +21,6 @@ pub record IsLoweringOf (p : Program) (c : core.Program) : Type 0 where
   pub does : (input : List ℕ) → AreBytes input → IsNeverStuckOn p input → (n : ℕ) → SameOutcome (world_of p) (source p input n) (meaning.core c input n)
   -- the frame of each of its functions is within the bound on that of the source's function of the same number
   pub frames : (number : ℕ) (f : Routine) (g : core.Function) → slice_get (world_of p).functions number ≡ Some f → slice_get c.functions number ≡ Some g
-      → core_bound g ≤ frame_bound f
+      → core_bound g ≤ frame_bound (world_of p) f
   -- its code is within 4,096 bytes and 512 for each token, whatever tokens spell the program
   pub code : (tokens : Tokens) → IsProgram p tokens → core_code c ≤ 4096 + 512 * length tokens

@@ -1,7 +1,7 @@
 -- Values are converted: integers to each other, `NULL` to pointers, pointers to pointers into regions that theirs outlive, and structs to their own type.
 use Rattle.std.proofs.Common.{◌≡◌, ℕ, Bool, true, false, inl, inr, Some, None, List, [], ◌∷◌, refl, sym, ◌∙◌, ap, subst}
 use Rattle.cyc_words.specs.declared.faults.Kind.TheVariants.{NullException}
-use Rattle.source_meaning.specs.Shapes.{Shared, Shape, ThinShape, StructShape}
+use Rattle.source_meaning.specs.Shapes.{Shared, Shape, ThinShape, HandleShape, StructShape}
 use Rattle.source_meaning.specs.Memory as memory
 use Rattle.source_meaning.specs.Memory.{Region, Spot, Scalar, Memory}
 use Rattle.source_meaning.specs.Steps.{World, Act, ◌>>=◌, ◌>>◌, give, check}
@@ -97,6 +97,17 @@ module _ {B : Type 0} (n : ℕ) (d : Tables) (world : World) (f : NameOf → Reg
     by = λ next p. subst (λ (b : Bool). Safe n ((check b >> give (v ∷ u ∷ us) >>= h) next m)) (sym (same_text tag)) ((go (v ∷ u ∷ us) x).by next p);
   }
 
+  -- a handle stays as it is
+  handle_goes : (r : NameOf) (vs : List Scalar) → HaveTypes d w holder vs (cells_type d f (Handle r)) → Going (Handle r)
+      → Runs n (converted world HandleShape HandleShape vs >>= h) m Q
+  handle_goes r [] x go = absurd x
+  handle_goes r (v ∷ u ∷ us) x go = absurd x.1
+  handle_goes r (v ∷ []) x go =
+      let typed : HaveTypes d w holder (memory.HandleOf x.0.birth ∷ []) (cells_type d f (Handle r)) =
+      subst (λ (y : Scalar). HaveTypes d w holder (y ∷ []) (cells_type d f (Handle r))) x.0.is x in
+      subst (λ (y : Scalar). Runs n (converted world HandleShape HandleShape (y ∷ []) >>= h) m Q) (sym x.0.is)
+      (record { by = λ next p. (go (memory.HandleOf x.0.birth ∷ []) typed).by next p })
+
   same_goes : (t : StaticType) (vs : List Scalar) → IsObjectType t → HaveTypes d w holder vs (cells_type d f t) → Going t
       → Runs n (converted world (shape_of t) (shape_of t) vs >>= h) m Q
   same_goes Int vs e x go = integer_goes Int Int vs refl refl x go
@@ -107,7 +118,7 @@ module _ {B : Type 0} (n : ℕ) (d : Tables) (world : World) (f : NameOf → Reg
   same_goes (Thin a r t) vs e x go = thin_goes a a r r t vs e (λ at z. z) x go
   same_goes (Fat r t) vs e x go = absurd e
   same_goes (Unique a t) vs e x go = absurd e
-  same_goes (Handle r) vs e x go = absurd e
+  same_goes (Handle r) vs e x go = handle_goes r vs x go
   same_goes (Key r) vs e x go = absurd e
   same_goes (Struct tag rs) vs e x go = struct_goes tag rs vs x go
   same_goes (Union tag rs) vs e x go = absurd e

@@ -34,7 +34,7 @@ object_below n rs Null e h = tt
 object_below n rs (Thin c r t) e h = (argument_below n rs r h, object_below n rs t e h)
 object_below n rs (Fat r t) e h = absurd e
 object_below n rs (Unique c t) e h = absurd e
-object_below n rs (Handle r) e h = absurd e
+object_below n rs (Handle r) e h = argument_below n rs r h
 object_below n rs (Key r) e h = absurd e
 object_below n rs (Struct tag qs) e h = subst (λ (xs : List NameOf). AllBelow n (map (argument rs) xs)) (sym e) tt
 object_below n rs (Union tag qs) e h = absurd e
@@ -48,7 +48,7 @@ plain_below n rs Null e h = tt
 plain_below n rs (Thin c r t) e h = object_below n rs (Thin c r t) e h
 plain_below n rs (Fat r t) e h = absurd e
 plain_below n rs (Unique c t) e h = absurd e
-plain_below n rs (Handle r) e h = absurd e
+plain_below n rs (Handle r) e h = object_below n rs (Handle r) e h
 plain_below n rs (Key r) e h = absurd e
 plain_below n rs (Struct tag qs) e h = object_below n rs (Struct tag qs) e h
 plain_below n rs (Union tag qs) e h = absurd e
@@ -106,6 +106,22 @@ outer_below n (Some (Key r)) h = tt
 outer_below n (Some (Struct tag rs)) h = tt
 outer_below n (Some (Union tag rs)) h = tt
 
+-- a handle's region fixes its parameter's
+handle_below : (n at : ℕ) (r : NameOf) (u : Option StaticType) → PartBelow n u → FitsBelow n (fits_of at (Handle r) u)
+handle_below n at r None h = tt
+handle_below n at r (Some Int) h = tt
+handle_below n at r (Some Unsigned) h = tt
+handle_below n at r (Some Char) h = tt
+handle_below n at r (Some Void) h = tt
+handle_below n at r (Some Null) h = tt
+handle_below n at r (Some (Thin c q t)) h = tt
+handle_below n at r (Some (Fat q t)) h = tt
+handle_below n at r (Some (Unique c t)) h = tt
+handle_below n at r (Some (Handle q)) h = (h, tt)
+handle_below n at r (Some (Key q)) h = tt
+handle_below n at r (Some (Struct tag rs)) h = tt
+handle_below n at r (Some (Union tag rs)) h = tt
+
 fits_below : (n at : ℕ) (t : StaticType) (u : Option StaticType) → IsObjectType t → PartBelow n u → FitsBelow n (fits_of at t u)
 fits_below n at Int u e h = tt
 fits_below n at Unsigned u e h = tt
@@ -116,7 +132,7 @@ fits_below n at (Thin c r t) u e h =
     both_below n (fits_of at t (pointee_of u)) (fit at r (outer_region u) ∷ []) (fits_below n at t (pointee_of u) e (pointee_below n u h)) (outer_below n u h, tt)
 fits_below n at (Fat r t) u e h = absurd e
 fits_below n at (Unique c t) u e h = absurd e
-fits_below n at (Handle r) u e h = absurd e
+fits_below n at (Handle r) u e h = handle_below n at r u h
 fits_below n at (Key r) u e h = absurd e
 fits_below n at (Struct tag rs) u e h = subst (λ (qs : List NameOf). FitsBelow n (fit_all at qs (arguments_of false tag u))) (sym e) tt
 fits_below n at (Union tag rs) u e h = absurd e

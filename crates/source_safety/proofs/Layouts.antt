@@ -207,7 +207,7 @@ copied_member ds each f Null e = absurd e
 copied_member ds each f (Thin n r t) e = (refl, tt)
 copied_member ds each f (Fat r t) e = absurd e
 copied_member ds each f (Unique n t) e = absurd e
-copied_member ds each f (Handle r) e = absurd e
+copied_member ds each f (Handle r) e = (refl, tt)
 copied_member ds each f (Key r) e = absurd e
 copied_member ds each f (Struct tag rs) e = each tag (map f rs)
 copied_member ds each f (Union tag rs) e = absurd e
@@ -271,7 +271,7 @@ module _ (tables : typing.Tables) where
   type_begins ds each n f (Thin c r t) o l e = (pointer_begins c (f r) (renamed f t) e, tt)
   type_begins ds each n f (Fat r t) o l e = absurd o
   type_begins ds each n f (Unique c t) o l e = absurd o
-  type_begins ds each n f (Handle r) o l e = absurd o
+  type_begins ds each n f (Handle r) o l e = absurd (false≢true e)
   type_begins ds each n f (Key r) o l e = absurd o
   type_begins ds each zero f (Struct tag rs) o l e = no_cells ds tag (map f rs) l
   type_begins ds each (suc n) f (Struct tag rs) o l e = each n tag (map f rs) l e

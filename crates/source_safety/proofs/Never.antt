@@ -5,7 +5,7 @@ use Rattle.std.proofs.lemmas.Option.{slice_get_within}
 use Rattle.cyc_tree.specs.Tree as tree
 use Rattle.cyc_tree.specs.Tree.{Item, Program}
 use Rattle.cyc_words.specs.Events.{SourceEnding}
-use Rattle.source_meaning.specs.Shapes.{Shape, IntShape, UnsignedShape, CharShape, ThinShape, StructShape, settled, written}
+use Rattle.source_meaning.specs.Shapes.{Shape, IntShape, UnsignedShape, CharShape, ThinShape, HandleShape, StructShape, settled, written}
 use Rattle.source_meaning.specs.Memory.{Spot, Scalar, Object, Memory}
 use Rattle.source_meaning.specs.Steps.{Entity, Variable, Binding, World, Routine, Stops, ◌>>=◌, need}
 use Rattle.source_meaning.specs.Conversions.{one, integer}
@@ -57,6 +57,7 @@ run_shaped IntShape = Int
 run_shaped UnsignedShape = Unsigned
 run_shaped CharShape = Char
 run_shaped (ThinShape n owner to) = Thin n heap (run_shaped to)
+run_shaped HandleShape = Handle heap
 run_shaped (StructShape tag) = Struct tag []
 run_shaped _ = Void
 
@@ -69,7 +70,7 @@ run_by_shape Null e = absurd e
 run_by_shape (Thin n r t) e = ap (Thin n heap) (run_by_shape t e)
 run_by_shape (Fat r t) e = absurd e
 run_by_shape (Unique n t) e = absurd e
-run_by_shape (Handle r) e = absurd e
+run_by_shape (Handle r) e = refl
 run_by_shape (Key r) e = absurd e
 run_by_shape (Struct tag rs) e = ap (λ (qs : List NameOf). Struct tag (map (λ (a : NameOf). heap) qs)) e
 run_by_shape (Union tag rs) e = absurd e

@@ -199,7 +199,7 @@ module _ {B : Type 0} (d : Tables) (n : ℕ) (world : World) (tables : typing.Ta
       by (Thin z r t) e x there go b = pointer z r t e b x there go
       by (Fat r t) e x there go b = absurd e
       by (Unique z t) e x there go b = absurd e
-      by (Handle r) e x there go b = absurd e
+      by (Handle r) e x there go b = absurd x
       by (Key r) e x there go b = absurd e
       by (Struct tag rs) e x there go b = absurd x
       by (Union tag rs) e x there go b = absurd e

@@ -51,7 +51,7 @@ module _ (n : ℕ) (d : Tables) (g : Env) (scope : Scope) (f : NameOf → Region
   variable_sense (Thin c r t) at e = refl
   variable_sense (Fat r t) at e = absurd e
   variable_sense (Unique c t) at e = absurd e
-  variable_sense (Handle r) at e = absurd e
+  variable_sense (Handle r) at e = refl
   variable_sense (Key r) at e = absurd e
   variable_sense (Struct tag rs) at e = refl
   variable_sense (Union tag rs) at e = absurd e
@@ -94,7 +94,7 @@ module _ (n : ℕ) (d : Tables) (g : Env) (scope : Scope) (f : NameOf → Region
   given_typed (Thin c r t) vs w by e h = h
   given_typed (Fat r t) vs w by e h = absurd e
   given_typed (Unique c t) vs w by e h = absurd e
-  given_typed (Handle r) vs w by e h = absurd e
+  given_typed (Handle r) vs w by e h = h
   given_typed (Key r) vs w by e h = absurd e
   given_typed (Struct tag rs) vs w by e h = tt
   given_typed (Union tag rs) vs w by e h = absurd e

@@ -6,19 +6,21 @@ use Rattle.source_meaning.specs.Steps.{Routine, World}
 use Rattle.source_meaning.specs.Calls.{function_of}
 use Rattle.source_typing.specs.Tables as typing
 use Rattle.source_typing.specs.Tables.{Entry, OfValue, OfTag, OfFunction, OfBuiltin, Stored, Signature, Tag, find}
-use Rattle.source_typing.specs.Types.{StaticType, Int, Unsigned, Char, Void, Thin, Struct, shape_of}
+use Rattle.source_typing.specs.Types.{StaticType, Int, Unsigned, Char, Void, Thin, Handle, Struct, shape_of}
 
--- What a variable may be of: an integer, a thin pointer to what a variable may be of, or a struct without region parameters.
+-- What a variable may be of: an integer, a thin pointer to what a variable may be of, a handle, or a struct without region parameters.
 abbrev pub IsObjectType : StaticType → Type 0
 IsObjectType Int = Unit {0}
 IsObjectType Unsigned = Unit {0}
 IsObjectType Char = Unit {0}
 IsObjectType (Thin n r t) = IsObjectType t
+IsObjectType (Handle r) = Unit {0}
 IsObjectType (Struct tag rs) = (rs ≡ [])
 IsObjectType _ = ⊥
 
--- a word's type: each of these but a struct's
+-- a word's type: that of an integer or a pointer
 abbrev pub IsWordType : StaticType → Type 0
+IsWordType (Handle r) = ⊥
 IsWordType (Struct tag rs) = ⊥
 IsWordType t = IsObjectType t
 

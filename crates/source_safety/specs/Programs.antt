@@ -12,7 +12,7 @@ use Rattle.source_typing.specs.Regions.{Region, TheHeap, entry_regions}
 use Rattle.source_typing.specs.Scope.{Env, InRegion, block_entered}
 use Rattle.source_typing.specs.Tables as typing
 use Rattle.source_typing.specs.Tables.{OfValue, OfFunction, Stored, Signature, find, has_beginning}
-use Rattle.source_typing.specs.Types.{StaticType, Int, Void, Thin, Struct, shape_of}
+use Rattle.source_typing.specs.Types.{StaticType, Int, Void, Thin, Handle, Struct, shape_of}
 use Rattle.source_typing.specs.Ways.{ways_of_items}
 use Rattle.source_safety.specs.Entries.{IsObjectType, Function, PlainTables}
 use Rattle.source_safety.specs.Judged.{extended, ItemsJudged}
@@ -63,9 +63,10 @@ abbrev pub IsNullConstant : Constant → Type 0
 IsNullConstant (Constant.Null at) = Unit {0}
 IsNullConstant _ = ⊥
 
--- the first value of a global of a type: a pointer's is `NULL`, and an integer's is a number; there is none of a struct
+-- the first value of a global of a type: a pointer's is `NULL`, and an integer's is a number; there is none of a handle or a struct
 abbrev pub IsFirst : StaticType → Constant → Type 0
 IsFirst (Thin n r t) c = IsNullConstant c
+IsFirst (Handle r) c = ⊥
 IsFirst (Struct tag rs) c = ⊥
 IsFirst t c = IsNumber c
 

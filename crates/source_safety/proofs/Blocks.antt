@@ -1,21 +1,23 @@
 -- Declarations, and all statements together.
-use Rattle.std.proofs.Common.{◌≡◌, ℕ, true, false, Some, None, List, [], refl, sym, ◌∙◌, ap, subst}
+use Rattle.std.proofs.Common.{◌≡◌, ℕ, true, false, Some, None, List, [], ◌∷◌, refl, sym, ◌∙◌, ap, subst, arith}
 use Rattle.std.specs.Prelude.{map}
 use Rattle.cyc_tree.specs.Tree as tree
 use Rattle.cyc_tree.specs.Tree.{Expression, Initializer, Declaration, Statement, BlockItems, NoItems, Declare, Execute, TypeName}
-use Rattle.source_meaning.specs.Shapes.{Shape, written, settled, settled_by}
-use Rattle.source_meaning.specs.Memory.{Region, Frame, Spot, Live, Memory, object_of, first_cell, blank_object}
+use Rattle.source_meaning.specs.Shapes.{Shape, HandleShape, written, settled, settled_by}
+use Rattle.source_meaning.specs.Memory.{Region, Frame, Born, Spot, HandleOf, Live, Memory, object_of, first_cell, blank_object}
 use Rattle.source_meaning.specs.Steps.{Variable, World, Scope, Flow, Falls, Breaks, Continues, Returns, Act, give, ◌>>=◌, ◌>>◌, take_turn}
 use Rattle.source_meaning.specs.Conversions.{cells_of, converted}
 use Rattle.source_meaning.specs.Values.{write_cells}
 use Rattle.source_meaning.specs.Making.{make_object}
 use Rattle.source_meaning.specs.Places.{with_binding}
 use Rattle.source_meaning.specs.Calls.{truth}
+use Rattle.source_meaning.specs.Regions.{local_with, lexical_region}
 use Rattle.source_meaning.specs.Expressions.{sense}
 use Rattle.source_meaning.specs.Statements.{statement, block_items, falls_to}
-use Rattle.source_typing.specs.Scope.{Env, block_entered}
+use Rattle.source_typing.specs.Scope.{Env, block_entered, next_region}
 use Rattle.source_typing.specs.Tables as typing
-use Rattle.source_typing.specs.Types.{StaticType, Void, renamed, shape_of}
+use Rattle.source_typing.specs.Written.{RegionNamed}
+use Rattle.source_typing.specs.Types.{StaticType, Void, Handle, renamed, shape_of}
 use Rattle.source_typing.specs.Ways.{Ways, ways, then_ways, ways_of, ways_of_items}
 use Rattle.source_safety.specs.Flat.{Tables}
 use Rattle.source_safety.specs.Entries.{IsObjectType}
@@ -25,20 +27,22 @@ use Rattle.source_safety.proofs.Invariant.{RunType, Reached, Ghost, Laid, Inv, G
 use Rattle.source_safety.proofs.Growth.{grows_trans}
 use Rattle.source_safety.proofs.Runs.{Safe, Runs}
 use Rattle.source_safety.proofs.After.{After}
-use Rattle.source_safety.proofs.Objects.{runs_made}
+use Rattle.source_safety.proofs.Objects.{runs_made, full_laid}
+use Rattle.source_safety.proofs.Scopes.{region_ghost, region_memory, runs_region}
 use Rattle.source_safety.proofs.Names.{NameOf, naming}
 use Rattle.source_safety.proofs.Scenes.{Scene, scene_later}
 use Rattle.source_safety.proofs.Sound.{shape_renamed, cells_type}
 use Rattle.source_safety.proofs.Storing.{runs_converted}
 use Rattle.source_safety.proofs.Entries.{Invokes}
 use Rattle.source_safety.proofs.Forms.{Denotes}
-use Rattle.source_safety.proofs.Surroundings.{Surrounds, bound_scope, surrounds_local, scene_local, surrounds_block}
+use Rattle.source_safety.proofs.Surroundings.{Surrounds, bound_scope, surrounds_local, scene_local, surrounds_block, naming_itself}
+use Rattle.source_safety.proofs.Lexical.{lexical, names_with, with_region_is, surrounds_region, scene_region}
 use Rattle.source_safety.proofs.Begun.{runs_begun}
 use Rattle.source_safety.proofs.Layouts.{agrees, cells_begin}
 use Rattle.source_safety.proofs.Converting.{converts_some}
 use Rattle.source_typing.specs.Tables.{has_beginning}
 use Rattle.source_safety.proofs.Flows.{ReturnOk, FlowOk, Leaves, Turning, flow_as, flow_then, flow_breaks}
-use Rattle.source_safety.proofs.Statements.{full_laid, denotes, leaves_at_once, after_leaves, leaves_choice, condition_tells, leaves_block, leaves_return}
+use Rattle.source_safety.proofs.Statements.{denotes, leaves_at_once, after_leaves, leaves_choice, condition_tells, leaves_block, leaves_return}
 
 module _ (n : ℕ) (d : Tables) (world : World) (tables : typing.Tables) (invokes : Invokes n d world tables) (turns : Turning n d world tables) (b : ℕ)
     (gives : RunType)
@@ -127,6 +131,37 @@ module _ (n : ℕ) (d : Tables) (world : World) (tables : typing.Tables) (invoke
         follows g scope f x l.type s rest h l.object l.below go at there k w m w2 m2 i2 (grows_trans g1 g2) (scene_later d g scope f b k w1 m1 w2 m2 i2 g2 q1)
         (full_laid w2 m2 at (cells_type d f l.type) vs full))))))
 
+    -- ---- lexical regions
+
+    -- a region that was born, whose handle is a local of the block
+    leaves_region : (g : Env) (scope : Scope) (f : NameOf → Region) (names : List RegionNamed) (x : tree.Name) (s : Ways) (rest : Scope → Act Flow)
+        → Surrounds d world tables g scope f gives
+        → ((a : ℕ) → Follows (lexical g names) scope (naming f g.regions.count (Born a)) x (Handle (next_region g)) s rest)
+        → Leaves n d gives g scope f b s (lexical_region scope x.text rest)
+    leaves_region g scope f names x s rest h go = λ k w m i q.
+        runs_region d n k b w m (λ r. local_with scope x.text HandleShape (HandleOf r ∷ []) rest) (λ flow w' m'. FlowOk d gives (lexical g names) s flow w')
+        (λ flow w' m'. FlowOk d gives g s flow w') i
+        (λ i1. opened k w m i1 (scene_region d world tables g scope f gives names b k w m h i q)
+        (surrounds_region d world tables g scope f gives names m.births h))
+        (λ flow w2 m2 i2 g2 y. flow_as d gives g (lexical g names) s flow w2 refl refl y)
+      where
+        opened : (k : ℕ) (w : Ghost) (m : Memory) → Inv d (region_ghost w m) (region_memory m)
+            → Scene d (lexical g names) scope (naming f g.regions.count (Born m.births)) b k (region_ghost w m) (region_memory m)
+            → Surrounds d world tables (lexical g names) scope (naming f g.regions.count (Born m.births)) gives
+            → Runs n (local_with scope x.text HandleShape (HandleOf m.births ∷ []) rest) (region_memory m)
+            (λ flow. After d k b (region_ghost w m) (region_memory m) (λ w' m'. FlowOk d gives (lexical g names) s flow w'))
+        opened k w m i1 q1 h1 =
+            runs_made d n k b (λ t. Reached t) (region_ghost w m) (region_memory m) (Frame scope.frame)
+            (cells_type d (naming f g.regions.count (Born m.births)) (Handle (next_region g))) (HandleOf m.births ∷ [])
+            (λ at. rest (with_binding scope x.text (Variable HandleShape at))) _ (λ t. refl) i1
+            (frame_live (lexical g names) scope (naming f g.regions.count (Born m.births)) k (region_ghost w m) (region_memory m) h1 q1)
+            (record { birth = m.births; is = refl; region = naming_itself f g.regions.count (Born m.births) }, tt)
+            (λ at w2 m2 i2 g2 there full st settles.
+            follows (lexical g names) scope (naming f g.regions.count (Born m.births)) x (Handle (next_region g)) s rest h1 tt (omega arith) (go m.births) at there k
+            (region_ghost w m) (region_memory m) w2 m2 i2 g2
+            (scene_later d (lexical g names) scope (naming f g.regions.count (Born m.births)) b k (region_ghost w m) (region_memory m) w2 m2 i2 g2 q1)
+            (full_laid w2 m2 at (cells_type d (naming f g.regions.count (Born m.births)) (Handle (next_region g))) (HandleOf m.births ∷ []) full))
+
     -- ---- a statement and what follows it
 
     leaves_then : (g : Env) (scope : Scope) (f : NameOf → Region) (s t : Ways) (act rest : Act Flow) → Leaves n d gives g scope f b s act → Leaves n d gives g scope f b t rest
@@ -195,7 +230,17 @@ module _ (n : ℕ) (d : Tables) (world : World) (tables : typing.Tables) (invoke
           (λ at there. items_leave others (extended g x l.type) (bound_scope d world tables g scope f x l.type at gives h l.object l.below there) f
           (surrounds_local d world tables g scope f x l.type at gives h l.object l.below there) (subst (λ (y : Env). ItemsJudged y others) l.scope j.1))
       items_leave (Declare (tree.Local of x (Initializer.Elements c)) others) g scope f h j = absurd j.0
-      items_leave (Declare (tree.Region at r x) others) g scope f h j = absurd j.0
+      items_leave (Declare (tree.Region at r x) others) g scope f h j =
+          let t : StaticType = Handle (next_region g) in
+          leaves_region g scope f (names_with r g) x (ways_of_items others) (block_items others) h
+          (λ a at there.
+          let h1 : Surrounds d world tables (lexical g (names_with r g)) scope (naming f g.regions.count (Born a)) gives =
+          surrounds_region d world tables g scope f gives (names_with r g) a h in
+          items_leave others (extended (lexical g (names_with r g)) x t)
+          (bound_scope d world tables (lexical g (names_with r g)) scope (naming f g.regions.count (Born a)) x t at gives h1 tt (omega arith) there)
+          (naming f g.regions.count (Born a))
+          (surrounds_local d world tables (lexical g (names_with r g)) scope (naming f g.regions.count (Born a)) x t at gives h1 tt (omega arith) there)
+          (subst (λ (y : Env). ItemsJudged y others) (j.0 ∙ ap (λ (y : Env). extended y x t) (with_region_is r g)) j.1))
       items_leave (Declare (tree.Open at r x y) others) g scope f h j = absurd j.0
       items_leave (Declare (tree.Alias at r t x p) others) g scope f h j = absurd j.0
       items_leave (Declare (tree.NewKey at r x) others) g scope f h j = absurd j.0

@@ -2,7 +2,7 @@
 use Rattle.std.proofs.Common.{◌≡◌, ℕ, zero, suc, Bool, true, false, Option, Some, None, List, [], ◌∷◌, sym, subst}
 use Rattle.std.specs.Prelude.{map, ◌++◌, ◌&&◌, slice_get, if◌then◌else◌}
 use Rattle.source_typing.specs.Regions.{TheHeap, Level, same_id}
-use Rattle.source_typing.specs.Scope.{Enclosing, InRegion, Value}
+use Rattle.source_typing.specs.Scope.{Env, Enclosing, InRegion, InUnique, NotKnown, Value}
 use Rattle.source_typing.specs.Fixing.{Fit, fit, fit_all, fits_of, all_fits, first_fit, fixed_by, fixed_one, fixed_from, is_found, more}
 use Rattle.source_typing.specs.Missing.{arguments_of, pointee_of, outer_region}
 use Rattle.source_typing.specs.Tables.{argument, or_heap}
@@ -161,21 +161,38 @@ by_below n at (Is q) r h e = subst (λ (a : NameOf). Below n a) (of_is q r e) h
 by_below n at IsUnique r h e = absurd cc
 by_below n at Missing r h e = absurd cc
 
-one_below : (n at : ℕ) (o : Option Fit) (r : NameOf) → FitBelow n o → fixed_one (InRegion TheHeap) at o ≡ Of r → Below n r
-one_below n at (Some f) r h e = by_below n f.at f.is r h e
-one_below n at None r h e = subst (λ (a : NameOf). Below n a) (of_is TheHeap r e) tt
+-- the region of the `rnew` around is in scope, where there is one
+abbrev pub EnclosingBelow : ℕ → Enclosing → Type 0
+EnclosingBelow n (InRegion r) = Below n r
+EnclosingBelow n InUnique = Unit {0}
+EnclosingBelow n NotKnown = Unit {0}
 
-from_below : (n at : ℕ) (fs : List Fit) (k c : ℕ) (rs : List NameOf) → FitsBelow n fs → fixed_from (InRegion TheHeap) at fs k c ≡ Of rs → AllBelow n rs
-from_below n at fs k zero rs h e = subst (λ (qs : List NameOf). AllBelow n qs) (of_is [] rs e) tt
-from_below n at fs k (suc c) rs h e =
-    let z : (r : NameOf) × (qs : List NameOf) × (fixed_one (InRegion TheHeap) at (first_fit fs k) ≡ Of r) × (fixed_from (InRegion TheHeap) at fs (suc k) c ≡ Of qs)
-    × (more r qs ≡ Of rs) = both_is (fixed_one (InRegion TheHeap) at (first_fit fs k)) (fixed_from (InRegion TheHeap) at fs (suc k) c) more rs e in
+-- a scope inside an `rnew` of a region
+abbrev pub within : Enclosing → Env → Env
+within i g = record g { enclosing = i }
+
+one_below : (n at : ℕ) (i : Enclosing) (o : Option Fit) (r : NameOf) → EnclosingBelow n i → FitBelow n o → fixed_one i at o ≡ Of r → Below n r
+one_below n at i (Some f) r l h e = by_below n f.at f.is r h e
+one_below n at (InRegion q) None r l h e = subst (λ (a : NameOf). Below n a) (of_is q r e) l
+one_below n at InUnique None r l h e = absurd cc
+one_below n at NotKnown None r l h e = absurd cc
+
+from_below : (n at : ℕ) (i : Enclosing) (fs : List Fit) (k c : ℕ) (rs : List NameOf) → EnclosingBelow n i → FitsBelow n fs → fixed_from i at fs k c ≡ Of rs
+    → AllBelow n rs
+from_below n at i fs k zero rs l h e = subst (λ (qs : List NameOf). AllBelow n qs) (of_is [] rs e) tt
+from_below n at i fs k (suc c) rs l h e =
+    let z : (r : NameOf) × (qs : List NameOf) × (fixed_one i at (first_fit fs k) ≡ Of r) × (fixed_from i at fs (suc k) c ≡ Of qs) × (more r qs ≡ Of rs) =
+    both_is (fixed_one i at (first_fit fs k)) (fixed_from i at fs (suc k) c) more rs e in
     subst (λ (qs : List NameOf). AllBelow n qs) (of_is (z.0 ∷ z.1) rs z.4)
-    (one_below n at (first_fit fs k) z.0 (first_below n fs k h) z.2, from_below n at fs (suc k) c z.1 h z.3)
+    (one_below n at i (first_fit fs k) z.0 l (first_below n fs k h) z.2, from_below n at i fs (suc k) c z.1 l h z.3)
 
 -- All that region variables stand for is in scope.
+pub fixed_within : (n at c : ℕ) (i : Enclosing) (ts : List StaticType) (vs : List Value) (rs : List NameOf) → EnclosingBelow n i → AreObjects ts
+    → ValuesBelow n vs → fixed_from i at (all_fits (map (λ (t : StaticType). Some t) ts) vs) 0 c ≡ Of rs → AllBelow n rs
+fixed_within n at c i ts vs rs l e h p =
+    from_below n at i (all_fits (map (λ (t : StaticType). Some t) ts) vs) 0 c rs l (all_below n ts vs e h) p
+
 pub fixed_below : (n at c : ℕ) (inside : Enclosing) (ts : List StaticType) (vs : List Value) (rs : List NameOf) → inside ≡ InRegion TheHeap → AreObjects ts
     → ValuesBelow n vs → fixed_from inside at (all_fits (map (λ (t : StaticType). Some t) ts) vs) 0 c ≡ Of rs → AllBelow n rs
 fixed_below n at c inside ts vs rs heap_here e h p =
-    from_below n at (all_fits (map (λ (t : StaticType). Some t) ts) vs) 0 c rs (all_below n ts vs e h)
-    (subst (λ (i : Enclosing). fixed_from i at (all_fits (map (λ (t : StaticType). Some t) ts) vs) 0 c ≡ Of rs) heap_here p)
+    fixed_within n at c inside ts vs rs (subst (λ (i : Enclosing). EnclosingBelow n i) (sym heap_here) tt) e h p

@@ -17,7 +17,7 @@ use Rattle.source_typing.specs.Operators.{on_integers, applied_to, is_equality}
 use Rattle.source_typing.specs.Operators as rules
 use Rattle.source_typing.specs.Places as places
 use Rattle.source_typing.specs.Places.{assigned_type, variable}
-use Rattle.source_typing.specs.Scope.{Env, Value, Seat, Nowhere, In, InBlock, value, meant, is_place}
+use Rattle.source_typing.specs.Scope.{Env, Enclosing, Value, Seat, Nowhere, In, InBlock, value, meant, is_place}
 use Rattle.source_typing.specs.Tables.{Entry, OfValue, OfTag, OfFunction, OfBuiltin, OfOther, Stored, Arrayed, Counter, Unknown, argument}
 use Rattle.source_typing.specs.Types.{
   StaticType,
@@ -73,7 +73,7 @@ use Rattle.source_safety.proofs.Pointers.{
 use Rattle.source_safety.proofs.Operands.{gives_applied, Tells, tells_truth, gives_tested}
 use Rattle.source_safety.proofs.Storing.{runs_converted, sound_variable, gives_assigned}
 use Rattle.source_safety.proofs.Calling.{AllPass}
-use Rattle.source_safety.proofs.Fixed.{ValuesBelow}
+use Rattle.source_safety.proofs.Fixed.{ValuesBelow, within}
 use Rattle.source_safety.proofs.Entries.{AreObjects, MeansPlain, strictly}
 
 -- ---- forms
@@ -215,38 +215,38 @@ module _ (n : ℕ) (d : Tables) (g : Env) (scope : Scope) (f : NameOf → Region
         gives = gives_applied n d g scope f b o a c x.look y.look ia ic hx hy;
       }
 
-  joins : g.lenient ≡ false → (o : Operator) (x y : Sense) (a c t : StaticType) → IsSimple a → IsSimple c → ((a ≡ Void → ⊥) → x.shape ≡ shape_of a)
-      → ((c ≡ Void → ⊥) → y.shape ≡ shape_of c) → Shows n d g scope f b a x.look → Shows n d g scope f b c y.look → Operates g o a c t → Joins o x y t
-  joins strict o x y a c t p q ex ey hx hy (OnIntegers ia ic) =
+  joins : (i : Enclosing) → g.lenient ≡ false → (o : Operator) (x y : Sense) (a c t : StaticType) → IsSimple a → IsSimple c → ((a ≡ Void → ⊥) → x.shape ≡ shape_of a)
+      → ((c ≡ Void → ⊥) → y.shape ≡ shape_of c) → Shows n d g scope f b a x.look → Shows n d g scope f b c y.look → Operates (within i g) o a c t → Joins o x y t
+  joins i strict o x y a c t p q ex ey hx hy (OnIntegers ia ic) =
       joins_integers o x y a c ia ic (ex (object_some a (integer_object a ia))) (ey (object_some c (integer_object c ic))) hx hy
-  joins strict o x y a c t p q ex ey hx hy (OnFat u v) = absurd p
-  joins strict o x y a c t p q ex ey hx hy (WithNull {a = s} e k) =
+  joins i strict o x y a c t p q ex ey hx hy (OnFat u v) = absurd p
+  joins i strict o x y a c t p q ex ey hx hy (WithNull {a = s} e k) =
       let z : IsValue s × Compares n d g scope f b s Null × Compares n d g scope f b Null s = compares_pointer s p k in
       joins_compared o x y s Null e z.0 tt z.1 hx hy
-  joins strict o x y a c t p q ex ey hx hy (NullWith {b = s} e k) =
+  joins i strict o x y a c t p q ex ey hx hy (NullWith {b = s} e k) =
       let z : IsValue s × Compares n d g scope f b s Null × Compares n d g scope f b Null s = compares_pointer s q k in
       joins_compared o x y Null s e tt z.0 z.2 hx hy
-  joins strict o x y a c t p q ex ey hx hy (OnThin {n = n1} {m = n2} {r = r1} {q = r2} {t = u} e lr lq z) =
+  joins i strict o x y a c t p q ex ey hx hy (OnThin {n = n1} {m = n2} {r = r1} {q = r2} {t = u} e lr lq z) =
       joins_compared o x y (Thin n1 r1 u) (Thin n2 r2 u) e p q
       (compares_thins n d g scope f b n1 n2 r1 r2 u (strictly g r1 strict lr) (strictly g r2 strict lq)) hx hy
 
-  pub denotes_applied : g.lenient ≡ false → (o : Operator) (at : ℕ) (a c v : Value) (x y : Sense) → Denotes a x → Denotes c y → applied_to g o at a.type c.type ≡ Of v
+  pub denotes_applied : (i : Enclosing) → g.lenient ≡ false → (o : Operator) (at : ℕ) (a c v : Value) (x y : Sense) → Denotes a x → Denotes c y → applied_to (within i g) o at a.type c.type ≡ Of v
       → Denotes v (applied o x y)
-  denotes_applied strict o at a c v x y ha hc e =
+  denotes_applied i strict o at a c v x y ha hc e =
       let z : Joins o x y v.type =
-      joins strict o x y a.type c.type v.type ha.simple hc.simple ha.sound.shape hc.sound.shape ha.sound.look hc.sound.look (applied_to_is g o at a.type c.type v e) in
+      joins i strict o x y a.type c.type v.type ha.simple hc.simple ha.sound.shape hc.sound.shape ha.sound.look hc.sound.look (applied_to_is (within i g) o at a.type c.type v e) in
       denotes_value v v.type (operator_shape o x.shape y.shape) _ z.simple z.below
-      (record { type = refl; seat = applied_seat g o at a.type c.type v ha.simple hc.simple e }) z.shape z.gives
+      (record { type = refl; seat = applied_seat (within i g) o at a.type c.type v ha.simple hc.simple e }) z.shape z.gives
 
   -- ---- `*e` and `&e`
 
-  pub denotes_contents : g.lenient ≡ false → Agrees scope.world d → AreInOrder d.structs → (at : ℕ) (a v : Value) (e : Sense) → Denotes a e → places.contents g at a ≡ Of v
+  pub denotes_contents : (i : Enclosing) → g.lenient ≡ false → Agrees scope.world d → AreInOrder d.structs → (at : ℕ) (a v : Value) (e : Sense) → Denotes a e → places.contents (within i g) at a ≡ Of v
       → Denotes v (contents scope.world e)
-  denotes_contents strict agrees order at a v e h j =
-      let z : Pointed g at a.type v = contents_is g at a.type v h.simple j in
+  denotes_contents i strict agrees order at a v e h j =
+      let z : Pointed (within i g) at a.type v = contents_is (within i g) at a.type v h.simple j in
       subst (λ (y : Value). Denotes y (contents scope.world e)) z.value_is (pointed z)
     where
-      pointed : (z : Pointed g at a.type v) → Denotes (record { at = at; type = z.to; seat = In z.region }) (contents scope.world e)
+      pointed : (z : Pointed (within i g) at a.type v) → Denotes (record { at = at; type = z.to; seat = In z.region }) (contents scope.world e)
       pointed z =
           let below : TypeBelow g.regions.count (Thin z.may_be_null z.region z.to) = subst (λ (y : StaticType). TypeBelow g.regions.count y) z.is h.below in
           let word : IsObjectType z.to = subst (λ (y : StaticType). IsSimple y) z.is h.simple in
@@ -264,7 +264,7 @@ module _ (n : ℕ) (d : Tables) (g : Env) (scope : Scope) (f : NameOf → Region
           same : (r q : NameOf) → In r ≡ In q → r ≡ q
           same r q e = cc
 
-          some : (z : Pointed g at a.type v) → a.type ≡ Void → ⊥
+          some : (z : Pointed (within i g) at a.type v) → a.type ≡ Void → ⊥
           some z q = let y : Thin z.may_be_null z.region z.to ≡ Void = sym z.is ∙ q in cc
 
   pub denotes_address : (at : ℕ) (a v : Value) (e : Sense) → Denotes a e → places.address at a ≡ Of v → Denotes v (address_of e)
@@ -287,29 +287,29 @@ module _ (n : ℕ) (d : Tables) (g : Env) (scope : Scope) (f : NameOf → Region
   denotes_tells a e h t = tells_truth n d g scope f b a.type e (testable_word a.type h.simple t) h.sound.look
 
   -- `-e` and `~e`, as operators on a constant
-  pub denotes_signed : g.lenient ≡ false → (o : Operator) (at c : ℕ) (a v : Value) (e : Sense)
-      → ((s : IntegerType) → applied_to g o at Int (integer_type s) ≡ after (if_fits (is_integer (integer_type s)) at (rules.promoted (integer_type s))) (value at))
+  pub denotes_signed : (i : Enclosing) → g.lenient ≡ false → (o : Operator) (at c : ℕ) (a v : Value) (e : Sense)
+      → ((s : IntegerType) → applied_to (within i g) o at Int (integer_type s) ≡ after (if_fits (is_integer (integer_type s)) at (rules.promoted (integer_type s))) (value at))
       → Denotes a e → rules.signed at a ≡ Of v → Denotes v (applied o (constant AsInt c) e)
-  denotes_signed strict o at c a v e same h j =
+  denotes_signed i strict o at c a v e same h j =
       let r : (is_integer a.type ≡ true) × Valued v (rules.promoted a.type) = fitted (is_integer a.type) at at (rules.promoted a.type) v j in
       let s : (s : IntegerType) × (a.type ≡ integer_type s) = integer_is a.type r.0 in
-      let k : applied_to g o at Int a.type ≡ after (if_fits (is_integer a.type) at (rules.promoted a.type)) (value at) =
-      subst (λ (t : StaticType). applied_to g o at Int t ≡ after (if_fits (is_integer t) at (rules.promoted t)) (value at)) (sym s.1) (same s.0) in
+      let k : applied_to (within i g) o at Int a.type ≡ after (if_fits (is_integer a.type) at (rules.promoted a.type)) (value at) =
+      subst (λ (t : StaticType). applied_to (within i g) o at Int t ≡ after (if_fits (is_integer t) at (rules.promoted t)) (value at)) (sym s.1) (same s.0) in
       let zero_value : Value = record { at = at; type = Int; seat = Nowhere } in
-      denotes_applied strict o at zero_value a v (constant AsInt c) e (denotes_constant AsInt c zero_value (record { type = refl; seat = refl })) h (k ∙ j)
+      denotes_applied i strict o at zero_value a v (constant AsInt c) e (denotes_constant AsInt c zero_value (record { type = refl; seat = refl })) h (k ∙ j)
 
   -- ---- assignments
 
-  pub denotes_assigned : AreInOrder d.structs → (to from v : Value) (x y : Sense) → Denotes to x → Denotes from y → places.assigned g to from ≡ Of v
+  pub denotes_assigned : (i : Enclosing) → AreInOrder d.structs → (to from v : Value) (x y : Sense) → Denotes to x → Denotes from y → places.assigned (within i g) to from ≡ Of v
       → Denotes v (assigned scope.world x y)
-  denotes_assigned order to from v x y ht hf e = by to.seat refl
+  denotes_assigned i order to from v x y ht hf e = by to.seat refl
     where
-      valued : (c : Bool) → places.assigned_in c g to from ≡ Of v → v.seat ≡ Nowhere
-      valued true z = (value_of to.at (assigned_type g to.type) v (Rattle.source_typing.proofs.Inversion.unless_is _ _ v z).1).seat
+      valued : (c : Bool) → places.assigned_in c (within i g) to from ≡ Of v → v.seat ≡ Nowhere
+      valued true z = (value_of to.at (assigned_type (within i g) to.type) v (Rattle.source_typing.proofs.Inversion.unless_is _ _ v z).1).seat
       valued false z = absurd cc
 
-      rules_say : (is_place to.seat ≡ true) × Converts g.regions from.type to.type × (v.type ≡ assigned_type g to.type)
-      rules_say = assigned_is g to from v e
+      rules_say : (is_place to.seat ≡ true) × Converts g.regions from.type to.type × (v.type ≡ assigned_type (within i g) to.type)
+      rules_say = assigned_is (within i g) to from v e
 
       by : (s : Seat) → to.seat ≡ s → Denotes v (assigned scope.world x y)
       by Nowhere z = absurd (let q : is_place to.seat ≡ true = rules_say.0 in let u = ap is_place z in cc)
@@ -318,7 +318,7 @@ module _ (n : ℕ) (d : Tables) (g : Env) (scope : Scope) (f : NameOf → Region
           let it : IsObjectType to.type = (ht.place r z).0 in
           let shape : x.shape ≡ shape_of to.type = ht.sound.shape (object_some to.type it) in
           denotes_given v (given_type to.type) x.shape _ (given_simple to.type it) (given_below g.regions.count to.type it ht.below)
-          (record { type = rules_say.2 ∙ assigned_object g to.type it; seat = valued (is_place to.seat) e }) (given_shaped to.type x.shape it shape)
+          (record { type = rules_say.2 ∙ assigned_object (within i g) to.type it; seat = valued (is_place to.seat) e }) (given_shaped to.type x.shape it shape)
           (gives_assigned n d g scope f b from.type to.type r x y order hf.simple it rules_say.1
           (hf.sound.shape (converts_some g.regions from.type to.type rules_say.1 it)) shape hf.sound.value (ht.sound.place r z))
 

@@ -28,8 +28,11 @@ pub mod Entries
 pub mod WordRules
 pub mod Forms
 pub mod StructForms
+pub mod Makings
+pub mod CallForms
 pub mod Expressions
 pub mod Surroundings
+pub mod Lexical
 pub mod Begun
 pub mod Flows
 pub mod Statements
@@ -41,4 +44,5 @@ pub mod First
 pub mod Started
 pub mod Never
 pub mod Same
+pub mod WithRegions
 pub mod Sample

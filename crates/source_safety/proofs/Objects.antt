@@ -11,7 +11,7 @@ use Rattle.source_typing.specs.Types.{shape_of}
 use Rattle.source_meaning.proofs.Cases.{region_is, region_itself}
 use Rattle.source_safety.specs.Flat.{Tables}
 use Rattle.source_safety.proofs.Facts.{if_cases, at_region, at_spot, same_at}
-use Rattle.source_safety.proofs.Invariant.{RunType, Flying, InCell, Kept, Reached, Private, type_of, Ghost, HasType, HaveTypes, CellOk, Known, Inv, Grows}
+use Rattle.source_safety.proofs.Invariant.{RunType, Flying, InCell, Kept, Reached, Private, type_of, Ghost, Laid, HasType, HaveTypes, CellOk, Known, Inv, Grows}
 use Rattle.source_safety.proofs.Values.{value_kept, values_kept}
 use Rattle.source_safety.proofs.Moves.{passing, Class, cell_kept, into, into_class}
 use Rattle.source_safety.proofs.Births.{known_live}
@@ -258,3 +258,10 @@ runs_made d n k b K w m r ts vs rest Q same i l hv go =
     let there : at.object < m1.objects at.region = at_region m.objects r (m.objects r + 1) r (λ x. m.objects r < x) (λ e. omega arith) (λ e. absurd (e refl)) in
     let fill = runs_fill d n k b 0 K w w m m1 at ts vs (rest at) Q same i1 l (omega arith) there (blank_from d w m r o 0 ts i (λ j. ap o (omega arith))) hv (grows_object d k b w m r o i) (λ w' m' i' g' full st older types z. go at w' m' i' g' refl full st (record { flights = z.flights; keyed = z.keyed; cells = λ y q e. z.cells y q e ∙ old_cells m r o y (i.counted y q e) })) in
     record { by = λ next q. (runs_check n (is_live m r) (λ next2 m2. (write_cells at vs >> rest at) next2 m1) m Q (ap state_is_live l) (record { by = λ next2 q2. fill.by next2 q2 })).by next q }
+
+-- cells that hold a value are there
+pub full_laid : (w : Ghost) (m : Memory) (s : Spot) (ts : List RunType) (vs : List Scalar) → FullAt (λ t. Reached t) w m s ts vs → Laid w s ts
+full_laid w m s [] [] h = tt
+full_laid w m s (t ∷ ts) (v ∷ vs) h = (h.0, full_laid w m (beyond s 1) ts vs h.2)
+full_laid w m s [] (v ∷ vs) h = absurd h
+full_laid w m s (t ∷ ts) [] h = absurd h

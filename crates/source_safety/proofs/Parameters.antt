@@ -24,7 +24,7 @@ use Rattle.source_safety.proofs.Scenes.{Alike, renamed_alike, Scene}
 use Rattle.source_safety.proofs.Sound.{shape_renamed}
 use Rattle.source_safety.proofs.Entries.{AreObjects}
 use Rattle.source_safety.proofs.Surroundings.{Surrounds, surrounds_local, scene_local, type_up}
-use Rattle.source_safety.proofs.Statements.{full_laid}
+use Rattle.source_safety.proofs.Objects.{full_laid}
 
 -- a result is on its way again once all blocks of the function were left
 abbrev pub landing : ℕ → Owner → Owner

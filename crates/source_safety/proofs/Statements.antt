@@ -1,15 +1,15 @@
 -- Each statement that is in order runs safely, and is left in one of its ways.
-use Rattle.std.proofs.Common.{ℕ, Bool, true, false, List, [], ◌∷◌, refl, sym, subst}
+use Rattle.std.proofs.Common.{ℕ, Bool, true, false, refl, sym, subst}
 use Rattle.cyc_tree.specs.Tree.{Expression, BlockItems}
 use Rattle.source_meaning.specs.Shapes.{Shape}
-use Rattle.source_meaning.specs.Memory.{Region, Frame, Spot, Scalar, Memory, beyond}
+use Rattle.source_meaning.specs.Memory.{Region, Frame, Memory}
 use Rattle.source_meaning.specs.Steps.{World, Scope, Flow, Returns, Act, give, ◌>>=◌, choose}
 use Rattle.source_meaning.specs.Conversions.{converted}
 use Rattle.source_meaning.specs.Calls.{truth}
 use Rattle.source_meaning.specs.Expressions.{sense}
 use Rattle.source_meaning.specs.Regions.{in_block}
 use Rattle.source_meaning.specs.Statements.{block_items}
-use Rattle.source_typing.specs.Scope.{Env, block_entered}
+use Rattle.source_typing.specs.Scope.{Env, Enclosing, block_entered}
 use Rattle.source_typing.specs.Tables as typing
 use Rattle.source_typing.specs.Types.{shape_of}
 use Rattle.source_typing.specs.Ways.{Ways, either_way, ways_of_items}
@@ -19,7 +19,6 @@ use Rattle.source_safety.proofs.Invariant.{RunType, heap, Reached, Ghost, Laid, 
 use Rattle.source_safety.proofs.Growth.{grows_refl, grows_trans}
 use Rattle.source_safety.proofs.Runs.{Runs}
 use Rattle.source_safety.proofs.After.{After, flying}
-use Rattle.source_safety.proofs.Objects.{FullAt}
 use Rattle.source_safety.proofs.Scopes.{block_ghost, block_memory, runs_block}
 use Rattle.source_safety.proofs.Names.{NameOf, naming}
 use Rattle.source_safety.proofs.Scenes.{Scene}
@@ -31,15 +30,9 @@ use Rattle.source_safety.proofs.Converting.{converts_some}
 use Rattle.source_safety.proofs.Entries.{Invokes}
 use Rattle.source_safety.proofs.Forms.{Denotes, denotes_tells}
 use Rattle.source_safety.proofs.Expressions.{expression_sound}
+use Rattle.source_safety.proofs.Fixed.{EnclosingBelow}
 use Rattle.source_safety.proofs.Surroundings.{ResultIs, Surrounds, scene_block}
 use Rattle.source_safety.proofs.Flows.{FlowOk, Leaves, flow_as, flow_left, flow_right}
-
--- cells that hold a value are there
-pub full_laid : (w : Ghost) (m : Memory) (s : Spot) (ts : List RunType) (vs : List Scalar) → FullAt (λ t. Reached t) w m s ts vs → Laid w s ts
-full_laid w m s [] [] h = tt
-full_laid w m s (t ∷ ts) (v ∷ vs) h = (h.0, full_laid w m (beyond s 1) ts vs h.2)
-full_laid w m s [] (v ∷ vs) h = absurd h
-full_laid w m s (t ∷ ts) [] h = absurd h
 
 -- a call of a function gives what any act that is given gives
 module _ (n : ℕ) (d : Tables) (world : World) (tables : typing.Tables) (invokes : Invokes n d world tables) (b : ℕ) (gives : RunType) where
@@ -48,7 +41,7 @@ module _ (n : ℕ) (d : Tables) (world : World) (tables : typing.Tables) (invoke
       → Denotes n d g scope f b a.value (sense e scope)
   denotes g scope f e h a = expression_sound n d g scope f b
       (subst (λ (y : World). Invokes n d y g.tables) (sym h.world_is) (subst (λ (y : typing.Tables). Invokes n d world y) (sym h.tables_are) invokes))
-      (subst (λ (y : World). Structs d y g.tables) (sym h.world_is) (subst (λ (y : typing.Tables). Structs d world y) (sym h.tables_are) h.structs)) h.binds h.plain h.functions h.strict h.inside e a.value a.is_taken a.operands a.judged
+      (subst (λ (y : World). Structs d y g.tables) (sym h.world_is) (subst (λ (y : typing.Tables). Structs d world y) (sym h.tables_are) h.structs)) h.binds h.plain h.functions h.strict e g.enclosing a.value (subst (λ (i : Enclosing). EnclosingBelow g.regions.count i) (sym h.inside) tt) a.is_taken a.operands a.judged
 
   -- an act of a block after which the rest is done
   pub after_leaves : (g : Env) (scope : Scope) (f : NameOf → Region) (s : Ways) (act : Act Flow) (k : ℕ) (w : Ghost) (m : Memory) (w1 : Ghost) (m1 : Memory)

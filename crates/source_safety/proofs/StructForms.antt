@@ -16,7 +16,7 @@ use Rattle.source_typing.specs.Calls.{ToStruct, arguments_fit, part_types}
 use Rattle.source_typing.specs.Calls as rules_of_calls
 use Rattle.source_typing.specs.Fixing.{all_fits, fixed_from}
 use Rattle.source_typing.specs.Places as places
-use Rattle.source_typing.specs.Scope.{Env, Value, Seat, Nowhere, In, InBlock, is_live, value}
+use Rattle.source_typing.specs.Scope.{Env, Enclosing, Value, Seat, Nowhere, In, InBlock, is_live, value}
 use Rattle.source_typing.specs.Tables.{Entry, OfTag, Part, Tag, find, as_tag, parts_of_tag, parts_in, argument}
 use Rattle.source_typing.specs.Types.{StaticType, Int, Unsigned, Char, Void, Null, Thin, Fat, Unique, Handle, Key, Struct, Union, renamed, shape_of}
 use Rattle.source_typing.proofs.Inversion.{of_is, after_is}
@@ -31,7 +31,7 @@ use Rattle.source_safety.proofs.Sound.{shape_renamed, Gives, Finds}
 use Rattle.source_safety.proofs.Places.{sound_placed}
 use Rattle.source_safety.proofs.Layouts.{member_types, members_typed, members_at, Structs, agrees}
 use Rattle.source_safety.proofs.Words.{IsSimple, object_simple, object_renamed, object_copied}
-use Rattle.source_safety.proofs.Fixed.{object_below}
+use Rattle.source_safety.proofs.Fixed.{object_below, within}
 use Rattle.source_safety.proofs.Calling.{AllPass, all_passed}
 use Rattle.source_safety.proofs.Members.{Found, member_found, struct_there, members_objects, members_known, members_shaped, finds_member, gives_made}
 use Rattle.source_safety.proofs.WordRules.{Valued, value_of}
@@ -103,9 +103,9 @@ module _ (n : ℕ) (d : Tables) (g : Env) (scope : Scope) (f : NameOf → Region
   -- ---- members
 
   -- a member of a struct in a region
-  denotes_part : (tag : List ℕ) (rs : List NameOf) (x : List ℕ) (r : NameOf) (a v : Value) (e : Sense) → Denotes n d g scope f b a e → a.type ≡ Struct tag rs
-      → a.seat ≡ In r → HasPart g tag rs x (In r) v → Denotes n d g scope f b v (member scope.world e x)
-  denotes_part tag rs x r a v e h t s p = record {
+  denotes_part : (i : Enclosing) (tag : List ℕ) (rs : List NameOf) (x : List ℕ) (r : NameOf) (a v : Value) (e : Sense) → Denotes n d g scope f b a e → a.type ≡ Struct tag rs
+      → a.seat ≡ In r → HasPart (within i g) tag rs x (In r) v → Denotes n d g scope f b v (member scope.world e x)
+  denotes_part i tag rs x r a v e h t s p = record {
     simple = object_simple v.type object;
     below = subst (λ (y : StaticType). TypeBelow g.regions.count y) (sym type) (object_below g.regions.count [] p.type found.object tt);
     outside = λ z. let y : v.seat ≡ In r = p.is.1 in cc;
@@ -149,40 +149,40 @@ module _ (n : ℕ) (d : Tables) (g : Env) (scope : Scope) (f : NameOf → Region
       place : Finds n d g scope f b (Struct tag []) r e.place
       place = subst (λ (y : StaticType). Finds n d g scope f b y r e.place) (t ∙ ap (Struct tag) none) (h.sound.place r s)
 
-  pub denotes_member : (x : tree.Name) (a v : Value) (e : Sense) → Denotes n d g scope f b a e → places.member g x a ≡ Of v
+  pub denotes_member : (i : Enclosing) (x : tree.Name) (a v : Value) (e : Sense) → Denotes n d g scope f b a e → places.member (within i g) x a ≡ Of v
       → Denotes n d g scope f b v (member scope.world e x.text)
-  denotes_member x a v e h j =
-      let z : OfStruct g x.text a.type a.seat v = of_struct g x.text a.type a.seat v (member_is g x a.at a.type a.seat v j).1 in
+  denotes_member i x a v e h j =
+      let z : OfStruct (within i g) x.text a.type a.seat v = of_struct (within i g) x.text a.type a.seat v (member_is (within i g) x a.at a.type a.seat v j).1 in
       by a.seat refl z j
     where
-      by : (s : Seat) → a.seat ≡ s → OfStruct g x.text a.type s v → places.member_of g x a.at a.type s ≡ Of v
+      by : (s : Seat) → a.seat ≡ s → OfStruct (within i g) x.text a.type s v → places.member_of (within i g) x a.at a.type s ≡ Of v
           → Denotes n d g scope f b v (member scope.world e x.text)
       by Nowhere q z k = absurd cc
       by InBlock q z k = absurd (h.outside q)
-      by (In r) q z k = denotes_part z.tag z.regions x.text r a v e h z.is q z.part
+      by (In r) q z k = denotes_part i z.tag z.regions x.text r a v e h z.is q z.part
 
-  pub denotes_arrow : g.lenient ≡ false → (x : tree.Name) (a v : Value) (e : Sense) → Denotes n d g scope f b a e → places.arrow g x a ≡ Of v
+  pub denotes_arrow : (i : Enclosing) → g.lenient ≡ false → (x : tree.Name) (a v : Value) (e : Sense) → Denotes n d g scope f b a e → places.arrow (within i g) x a ≡ Of v
       → Denotes n d g scope f b v (member scope.world (contents scope.world e) x.text)
-  denotes_arrow strict x a v e h j =
-      let z : ToMember g x.text a.type v = to_member g x.text a.type v h.simple (arrow_is g x a.at a.type v j) in
+  denotes_arrow i strict x a v e h j =
+      let z : ToMember (within i g) x.text a.type v = to_member (within i g) x.text a.type v h.simple (arrow_is (within i g) x a.at a.type v j) in
       let at : Value = record { at = a.at; type = Struct z.tag z.regions; seat = In z.region } in
-      let found : places.contents g a.at a ≡ Of at =
-      ap (places.contents_of g a.at) z.is ∙ ap (λ (c : Bool). places.in_live c a.at (Struct z.tag z.regions) z.region) z.live in
-      denotes_part z.tag z.regions x.text z.region at v (contents scope.world e)
-      (denotes_contents n d g scope f b strict (agrees d scope.world g.tables structs) structs.in_order a.at a at e h found) refl refl z.part
+      let found : places.contents (within i g) a.at a ≡ Of at =
+      ap (places.contents_of (within i g) a.at) z.is ∙ ap (λ (c : Bool). places.in_live c a.at (Struct z.tag z.regions) z.region) z.live in
+      denotes_part i z.tag z.regions x.text z.region at v (contents scope.world e)
+      (denotes_contents n d g scope f b i strict (agrees d scope.world g.tables structs) structs.in_order a.at a at e h found) refl refl z.part
 
   -- ---- makings
 
-  pub called_struct : (at : ℕ) (x : List ℕ) (t : Tag) (vs : List Value) (es : List Sense) (v : Value) → Structure scope.world x t
-      → find g.tables x ≡ Some (OfTag t) → AllDenote n d g scope f b vs es → rules_of_calls.called g at (ToStruct t) vs ≡ Of v
+  pub called_struct : (i : Enclosing) (at : ℕ) (x : List ℕ) (t : Tag) (vs : List Value) (es : List Sense) (v : Value) → Structure scope.world x t
+      → find g.tables x ≡ Some (OfTag t) → AllDenote n d g scope f b vs es → rules_of_calls.called (within i g) at (ToStruct t) vs ≡ Of v
       → Denotes n d g scope f b v (call_sense scope.world x es)
-  called_struct at x t vs es v k there h e =
-      let z : (rs : List NameOf) × (arguments_fit g at t.regions (part_types t.parts) vs ≡ Of rs) × (value at (Struct t.text rs) ≡ Of v) =
-      after_is (arguments_fit g at t.regions (part_types t.parts) vs) (λ rs. value at (Struct t.text rs)) v e in
-      let a : Arguments g (part_types t.parts) vs (fixed_from g.enclosing at (all_fits (part_types t.parts) vs) 0 t.regions) z.0 =
-      arguments_are g at t.regions (part_types t.parts) vs z.0 z.1 in
+  called_struct i at x t vs es v k there h e =
+      let z : (rs : List NameOf) × (arguments_fit (within i g) at t.regions (part_types t.parts) vs ≡ Of rs) × (value at (Struct t.text rs) ≡ Of v) =
+      after_is (arguments_fit (within i g) at t.regions (part_types t.parts) vs) (λ rs. value at (Struct t.text rs)) v e in
+      let a : Arguments (within i g) (part_types t.parts) vs (fixed_from i at (all_fits (part_types t.parts) vs) 0 t.regions) z.0 =
+      arguments_are (within i g) at t.regions (part_types t.parts) vs z.0 z.1 in
       let none : [] ≡ z.0 =
-      of_is [] z.0 (subst (λ (c : ℕ). fixed_from g.enclosing at (all_fits (part_types t.parts) vs) 0 c ≡ Of z.0) k.no_regions a.found) in
+      of_is [] z.0 (subst (λ (c : ℕ). fixed_from i at (all_fits (part_types t.parts) vs) 0 c ≡ Of z.0) k.no_regions a.found) in
       let valued : Valued v (Struct x []) =
       subst (λ (qs : List NameOf). Valued v (Struct x qs)) (sym none) (subst (λ (y : List ℕ). Valued v (Struct y z.0)) k.named (value_of at (Struct t.text z.0) v z.2)) in
       let pass : AllPass n d g scope f b (map shape_of types) (map (renamed (argument [])) types) es =

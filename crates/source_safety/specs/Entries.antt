@@ -1,4 +1,4 @@
--- What the names of a program of integers, thin pointers and structs mean: variables, functions that take such values, structs, and the two functions that
+-- What the names of a program of integers, thin pointers, structs and regions mean: variables, functions that take such values, structs, and the two functions that
 -- every program has.
 use Rattle.std.specs.Prelude.{◌≡◌, ℕ, true, false, ◌⊎◌, Some, List, [], ◌∷◌, map, bytes_eq, codes}
 use Rattle.source_meaning.specs.Shapes.{part_shapes, has_tag}

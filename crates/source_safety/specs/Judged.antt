@@ -1,17 +1,18 @@
--- Which statements of integers, thin pointers and structs are in order: the judgement of each of their expressions, in the scope where it stands.
-use Rattle.std.specs.Prelude.{◌≡◌, true, ◌||◌, Some, None, ◌∷◌}
+-- Which statements of integers, thin pointers, structs and lexical regions are in order: the judgement of each of their expressions, in the scope where it stands.
+use Rattle.std.specs.Prelude.{◌≡◌, ℕ, true, ◌||◌, Some, None, ◌∷◌}
 use Rattle.cyc_tree.specs.Operands.{ExpressionHasOperands}
 use Rattle.cyc_tree.specs.Tree as tree
 use Rattle.cyc_tree.specs.Tree.{Expression, Initializer, Statement, BlockItems, NoItems, Declare, Execute, TypeName}
 use Rattle.source_meaning.specs.Shapes.{written, settled, settled_by}
 use Rattle.source_typing.specs.Converts.{Converts}
-use Rattle.source_typing.specs.Declarations.{declare}
+use Rattle.source_typing.specs.Declarations.{declare, with_region}
 use Rattle.source_typing.specs.Expressions.{judge}
-use Rattle.source_typing.specs.Scope.{Env, Value, block_entered}
+use Rattle.source_typing.specs.Regions.{with_scope}
+use Rattle.source_typing.specs.Scope.{Env, Value, block_entered, next_region}
 use Rattle.source_typing.specs.Statements.{in_a_loop}
 use Rattle.source_typing.specs.Tables.{Stored, has_beginning}
 use Rattle.source_typing.specs.Taken.{Taken, thin_pointers, taken}
-use Rattle.source_typing.specs.Types.{StaticType, Void, is_testable, shape_of}
+use Rattle.source_typing.specs.Types.{StaticType, Void, Handle, is_testable, shape_of}
 use Rattle.source_typing.specs.Verdicts.{Of}
 use Rattle.source_safety.specs.Entries.{IsObjectType}
 use Rattle.source_safety.specs.Named.{TypeBelow}
@@ -20,11 +21,15 @@ use Rattle.source_safety.specs.Named.{TypeBelow}
 abbrev pub structures : Taken
 structures = record thin_pointers { structs = true }
 
+-- and the heap and lexical regions: handles, makings, effects and bounds
+abbrev pub with_regions : Taken
+with_regions = record structures { regions = true }
+
 -- an expression of these forms that is in order, and what it is
 pub record Accepted (g : Env) (e : Expression) : Type 0 where
   pub value : Value
   pub judged : judge g e ≡ Of value
-  pub is_taken : taken structures e ≡ e
+  pub is_taken : taken with_regions e ≡ e
   pub operands : ExpressionHasOperands e
 
 -- a condition
@@ -59,9 +64,14 @@ pub record LocalSet (g : Env) (of : TypeName) (x : tree.Name) (e : Expression) :
   pub shape : settled_by (written of) (shape_of fitting.accepted.value.type) ≡ shape_of type
   pub scope : (declare g (tree.Local of x (Initializer.Value e))).scope ≡ extended g x type
 
+-- a lexical region, whose name and handle are in scope from here on
+abbrev pub RegionOpened : Env → ℕ → tree.RegionName → tree.Name → Type 0
+RegionOpened g at r x = ((declare g (tree.Region at r x)).scope ≡ extended (with_region r with_scope g) x (Handle (next_region g)))
+
 abbrev pub DeclarationJudged : Env → tree.Declaration → Type 0
 DeclarationJudged g (tree.Local of x Initializer.Unset) = LocalUnset g of x
 DeclarationJudged g (tree.Local of x (Initializer.Value e)) = LocalSet g of x e
+DeclarationJudged g (tree.Region at r x) = RegionOpened g at r x
 DeclarationJudged g _ = ⊥
 
 -- a result that converts to the type that the function gives

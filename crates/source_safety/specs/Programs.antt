@@ -1,4 +1,4 @@
--- Which programs of integers, thin pointers and structs are in order: their structs, their globals, their functions and `main`, by what their names mean.
+-- Which programs of integers, thin pointers, structs and regions are in order: their structs, their globals, their functions and `main`, by what their names mean.
 use Rattle.std.specs.Prelude.{◌≡◌, ℕ, true, false, ◌⊎◌, Some, List, [], ◌∷◌, codes}
 use Rattle.cyc_tree.specs.Tree as tree
 use Rattle.cyc_tree.specs.Tree.{Constant, Initial, Item, Program}
@@ -108,7 +108,7 @@ pub record MainFound (world : World) (tables : typing.Tables) : Type 0 where
   pub types : function.types ≡ []
   pub gives : function.gives ≡ Int
 
--- A program of integers, thin pointers and structs in which nothing is at fault, by these tables of its names.
+-- A program of integers, thin pointers, structs and regions in which nothing is at fault, by these tables of its names.
 pub record ProgramJudged (p : Program) (tables : typing.Tables) : Type 0 where
   pub structs : StructsJudged (world_of p) tables
   pub plain : PlainTables (world_of p) tables

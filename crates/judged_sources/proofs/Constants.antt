@@ -16,7 +16,7 @@ use Rattle.source_typing.specs.Regions.{Regions}
 use Rattle.source_typing.specs.Scope.{Env}
 use Rattle.source_typing.specs.Taken.{constant_form, initial_form, takes_initial}
 use Rattle.source_safety.specs.Judged.{structures}
-use Rattle.source_typing.specs.Types.{Char, Int, Null, StaticType, Struct, Thin, Unsigned, integer_type, is_integer, shape_of}
+use Rattle.source_typing.specs.Types.{Handle, Char, Int, Null, StaticType, Struct, Thin, Unsigned, integer_type, is_integer, shape_of}
 use Rattle.source_typing.specs.Verdicts.{Of, faults_of}
 
 -- what the meaning and lowering want of a first value
@@ -57,6 +57,7 @@ null_good r at place Int w e = absurd cc
 null_good r at place Unsigned w e = absurd cc
 null_good r at place Char w e = absurd cc
 null_good r at place (Struct tag rs) w e = absurd cc
+null_good r at place (Handle q) w e = absurd cc
 null_good r at place _ w e = absurd w
 
 -- ---- all of them

@@ -36,7 +36,7 @@ use Rattle.source_typing.specs.Scope.{Env, Value, at_item}
 use Rattle.source_typing.specs.Tables.{OfValue, Stored, Tables, has_beginning}
 use Rattle.source_typing.specs.Tags.{settled_alone}
 use Rattle.source_typing.specs.Taken.{Taken, form_if, global_if, initial_form, initial_taken, item_forms, item_taken, takes_initial, takes_type, thin_pointers}
-use Rattle.source_typing.specs.Types.{Char, Int, PartialType, StaticType, Struct, Thin, Unsigned, Void, is_key, shape_of}
+use Rattle.source_typing.specs.Types.{Handle, Char, Int, PartialType, StaticType, Struct, Thin, Unsigned, Void, is_key, shape_of}
 use Rattle.source_typing.specs.Verdicts.{Faulty, Of, Unjudged, Verdict, after, faults_of}
 use Rattle.source_typing.specs.Written.{RegionNamed, Spot, spots_of, written}
 use Rattle.source_typing.proofs.Converting.{and_is}
@@ -143,6 +143,7 @@ thin_word t Unsigned o w s = tt
 thin_word t Char o w s = tt
 thin_word t (Thin b r u) o w s = o
 thin_word t (Struct tag rs) o w s = absurd (subst (λ z. IsWordShape z) s (word_settled t (word_type t w)))
+thin_word t (Handle q) o w s = absurd (subst (λ z. IsWordShape z) s (word_settled t (word_type t w)))
 thin_word t _ o w s = absurd o
 
 word_same : (g h : Env) (at : ℕ) (count : Option ℕ) (native : Bool) (u : StaticType) → IsWordType u

@@ -14,7 +14,7 @@ use Rattle.source_typing.specs.Faults.{type_rule}
 use Rattle.source_typing.specs.Scope.{Env, Value, block_entered}
 use Rattle.source_typing.specs.Statements.{condition, condition_faults, in_a_loop, items_faults, returned, statement_faults}
 use Rattle.source_typing.specs.Taken.{declaration_taken, items_taken, statement_taken, taken, thin_pointers}
-use Rattle.source_typing.specs.Types.{Char, Int, StaticType, Struct, Thin, Unsigned, Void, is_testable, shape_of}
+use Rattle.source_typing.specs.Types.{Handle, Char, Int, StaticType, Struct, Thin, Unsigned, Void, is_testable, shape_of}
 use Rattle.source_typing.specs.Verdicts.{Faulty, Of, Unjudged, Verdict, after, faults_of, if_fits}
 use Rattle.source_typing.specs.Ways.{ways_of}
 use Rattle.source_typing.proofs.Inversion.{none_of_both, test_is}
@@ -44,6 +44,7 @@ returned_clean g at Char (Faulty f fs) h e = absurd cc
 returned_clean g at Void (Faulty f fs) h e = absurd cc
 returned_clean g at (Thin b r t) (Faulty f fs) h e = absurd cc
 returned_clean g at (Struct tag rs) (Faulty f fs) h e = absurd cc
+returned_clean g at (Handle r) (Faulty f fs) h e = absurd cc
 returned_clean g at _ (Faulty f fs) h e = absurd h
 
 -- the function gives an object then, and the result converts to it
@@ -55,6 +56,7 @@ returned_object g at Char v h e = (h, e)
 returned_object g at Void v h e = absurd cc
 returned_object g at (Thin b r t) v h e = (h, e)
 returned_object g at (Struct tag rs) v h e = (h, e)
+returned_object g at (Handle r) v h e = (h, e)
 returned_object g at _ v h e = absurd h
 
 -- `return` alone
@@ -65,6 +67,7 @@ nothing_returned g at Unsigned h e = absurd cc
 nothing_returned g at Char h e = absurd cc
 nothing_returned g at (Thin b r t) h e = absurd cc
 nothing_returned g at (Struct tag rs) h e = absurd cc
+nothing_returned g at (Handle r) h e = absurd cc
 nothing_returned g at _ h e = absurd h
 
 -- a result, and lowering takes it

@@ -5,6 +5,7 @@ use Rattle.cyc_tree.specs.Operands.{DeclarationHasOperands, ExpressionHasOperand
 use Rattle.cyc_tree.specs.Tree as tree
 use Rattle.cyc_tree.specs.Tree.{Expression, Initializer, TypeName}
 use Rattle.source_lowering.specs.Taken.{TakesDeclaration}
+use Rattle.source_safety.proofs.WithRegions.{regions_more}
 use Rattle.source_safety.specs.Judged.{Accepted, DeclarationJudged, extended, structures}
 use Rattle.source_typing.specs.Conversions.{conversion, converts}
 use Rattle.source_typing.specs.Converts.{Converts}
@@ -46,7 +47,7 @@ module _ (expressions : ExpressionsJudged) where
   expression_good e g h t o p =
       let s : Surely (λ v. IsGoodValue g e v) (judge g e) = subst (λ z. Surely (λ v. IsGoodValue g z v) (judge g z)) t (expressions e g h) in
       let z = surely_is (λ v. IsGoodValue g e v) (judge g e) s p in
-      record { accepted = record { value = z.0; judged = z.1; is_taken = t; operands = o }; good = z.2 }
+      record { accepted = record { value = z.0; judged = z.1; is_taken = regions_more e t; operands = o }; good = z.2 }
 
 -- ---- what is in scope after a declaration
 

@@ -21,7 +21,7 @@ use Rattle.source_typing.specs.Regions.{Region}
 use Rattle.source_typing.specs.Scope.{Env, Value, in_scope}
 use Rattle.source_typing.specs.Tables.{Tables, has_beginning}
 use Rattle.source_typing.specs.Taken.{takes_type, thin_pointers}
-use Rattle.source_typing.specs.Types.{Char, Fat, Int, Null, PartialType, StaticType, Struct, Thin, Unique, Unsigned, Void, shape_of}
+use Rattle.source_typing.specs.Types.{Handle, Char, Fat, Int, Null, PartialType, StaticType, Struct, Thin, Unique, Unsigned, Void, shape_of}
 use Rattle.source_typing.specs.Verdicts.{Of, after, if_fits}
 use Rattle.source_typing.specs.Written.{Found, Is, IsUnique, Missing}
 use Rattle.source_typing.proofs.Converting.{and_is}
@@ -182,6 +182,7 @@ begins_first g of Unsigned o w s e = tt
 begins_first g of Char o w s e = tt
 begins_first g of (Thin b r t) o w s e = subst (λ z. HasFirst (ThinShape z shapes.Shared (shape_of t))) (sym e) tt
 begins_first g of (Struct tag rs) o w s e = absurd (subst (λ z. IsWordShape z) s (word_settled of (word_type of w)))
+begins_first g of (Handle q) o w s e = absurd cc
 begins_first g of _ o w s e = absurd o
 
 pub local_first : (g : Env) (of : TypeName) (t : StaticType) → IsLocalType g of false t → takes_type thin_pointers of ≡ true
@@ -196,6 +197,7 @@ object_shape Unsigned h = tt
 object_shape Char h = tt
 object_shape (Thin b r t) h = (refl, object_shape t h)
 object_shape (Struct tag rs) h = tt
+object_shape (Handle r) h = tt
 object_shape _ h = absurd h
 
 value_shape : (t : StaticType) → IsValueType t → IsSharedShape (shape_of t)
@@ -206,6 +208,7 @@ value_shape Unsigned h = tt
 value_shape Char h = tt
 value_shape (Thin b r t) h = (refl, object_shape t h)
 value_shape (Struct tag rs) h = tt
+value_shape (Handle r) h = tt
 value_shape _ h = absurd h
 
 -- the shape of a local whose initializer is of a type

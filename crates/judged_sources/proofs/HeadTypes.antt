@@ -18,7 +18,7 @@ use Rattle.source_typing.specs.Regions.{Level, Region, TheHeap}
 use Rattle.source_typing.specs.Tables.{Tables}
 use Rattle.source_typing.specs.Tags.{settled_alone}
 use Rattle.source_typing.specs.Taken.{takes_base, takes_pointers, takes_type, thin_pointers}
-use Rattle.source_typing.specs.Types.{Char, Int, PartialType, StaticType, Struct, Thin, Unsigned, Void, is_void, shape_of}
+use Rattle.source_typing.specs.Types.{Handle, Char, Int, PartialType, StaticType, Struct, Thin, Unsigned, Void, is_void, shape_of}
 use Rattle.source_typing.specs.Verdicts.{after, if_fits}
 use Rattle.source_typing.specs.Written.{Found, Is, IsUnique, Missing, RegionNamed, Spot, find_region, spot, spots_of, written, written_with}
 use Rattle.source_typing.proofs.Converting.{and_is}
@@ -41,6 +41,7 @@ object_more n m Char l w h = tt
 object_more n m (Thin b r t) l w h = (below_more n m r l h.0, object_more n m t l w h.1)
 object_more n m (Struct tag []) l w h = tt
 object_more n m (Struct tag (r ∷ rs)) l w h = absurd cc
+object_more n m (Handle r) l w h = below_more n m r l h
 object_more n m _ l w h = absurd w
 
 found_more : (n m : ℕ) (f : Found) → n ≤ m → FoundBelow n f → FoundBelow m f

@@ -6,6 +6,8 @@
 #[cfg(test)]
 mod evaluations;
 #[cfg(test)]
+mod objects;
+#[cfg(test)]
 mod pointers;
 #[cfg(test)]
 mod programs;

@@ -2,19 +2,21 @@
 
 use crate::programs::{constant, function, give, program};
 use core_eval::{EvalEnding, evaluate_core};
-use cyc_core::{Binary, Cell, Datum, Operation, Program, Statement, Temporary, Variable, Width};
+use cyc_core::{
+    Binary, Cell, Datum, Distance, Local, Operation, Program, Statement, Temporary, Variable, Width,
+};
 use cyc_words::{Counted, Kind};
 use std::alloc::{AllocError, Global};
 use std::test::Fail;
 
 // how a program ends with some units of fuel and no input
-fn ending_of(alloc: Global, program: &Program) -> EvalEnding {
+pub fn ending_of(alloc: Global, program: &Program) -> EvalEnding {
     let mut reader = Counted::new(b"".as_slice());
     let mut writer = Counted::new(Vec::new(alloc));
     evaluate_core(alloc, program, &mut reader, &mut writer, 10)
 }
 
-fn run(operation: Operation) -> Statement {
+pub fn run(operation: Operation) -> Statement {
     Statement::Do(operation)
 }
 
@@ -22,7 +24,7 @@ fn local(index: u32) -> Variable {
     Variable { out: 0, index }
 }
 
-fn address(to: u32, index: u32) -> Statement {
+pub fn address(to: u32, index: u32) -> Statement {
     run(Operation::LocalAddress(Temporary(to), local(index)))
 }
 
@@ -35,11 +37,19 @@ fn get(to: u32, index: u32) -> Statement {
 }
 
 fn load(to: u32, from: u32) -> Statement {
-    run(Operation::Load(Temporary(to), Temporary(from), Width::Word))
+    run(Operation::Load(
+        Temporary(to),
+        Temporary(from),
+        Distance::at_once(Width::Word),
+    ))
 }
 
 fn store(to: u32, from: u32) -> Statement {
-    run(Operation::Store(Temporary(to), Width::Word, Temporary(from)))
+    run(Operation::Store(
+        Temporary(to),
+        Distance::at_once(Width::Word),
+        Temporary(from),
+    ))
 }
 
 fn null(to: u32) -> Statement {
@@ -56,7 +66,7 @@ fn same(to: u32, left: u32, right: u32) -> Statement {
 
 // `main` alone, within a block of two words
 fn in_block(alloc: Global, body: Vec<Statement>) -> Result<Program, AllocError> {
-    let locals = vec![in alloc; Cell::Word, Cell::Word]?;
+    let locals = vec![in alloc; Local::Scalar(Cell::Word), Local::Scalar(Cell::Word)]?;
     let main = vec![in alloc; Statement::Block(locals, body)]?;
     Ok(program(alloc, vec![in alloc; function(0, main)]?))
 }
@@ -94,8 +104,8 @@ fn a_local_is_gone_with_its_block(rt: HostRuntime) -> Result<(), Fail> {
         (store(0, 1), EvalEnding::Stuck),
         (same(1, 0, 0), EvalEnding::Stuck),
     ] {
-        let locals = vec![in alloc; Cell::Word]?;
-        let again = vec![in alloc; Cell::Word]?;
+        let locals = vec![in alloc; Local::Scalar(Cell::Word)]?;
+        let again = vec![in alloc; Local::Scalar(Cell::Word)]?;
         let first = vec![in alloc; constant(1, 5), put(0, 1), address(0, 0)]?;
         let second = vec![in alloc; put(0, 1), operation, give(1)]?;
         let main = vec![in alloc;

@@ -1,6 +1,8 @@
 // Programs of Core, made by hand.
 
-use cyc_core::{Binary, Datum, Function, Operation, Program, Statement, Temporary, Width};
+use cyc_core::{
+    Binary, Datum, Distance, Function, Operation, Program, Statement, Temporary, Width,
+};
 use std::alloc::{AllocError, Global};
 
 /// A function with four temporaries.
@@ -79,8 +81,8 @@ pub fn echo(alloc: Global) -> Result<Program, AllocError> {
     ]?;
     let body = vec![in alloc;
         Statement::Do(Operation::DataAddress(Temporary(2), 0)),
-        Statement::Do(Operation::Store(Temporary(2), Width::Byte, Temporary(0))),
-        Statement::Do(Operation::Load(Temporary(3), Temporary(2), Width::Byte)),
+        Statement::Do(Operation::Store(Temporary(2), Distance::at_once(Width::Byte), Temporary(0))),
+        Statement::Do(Operation::Load(Temporary(3), Temporary(2), Distance::at_once(Width::Byte))),
         Statement::Do(Operation::Putchar(Temporary(3), Temporary(3))),
     ]?;
     let main = vec![in alloc; Statement::While(test, Temporary(1), body), give(3)]?;

@@ -91,6 +91,7 @@ filled_fits at n p (Some u) h = by u h.object
     by Unsigned o = refl
     by Char o = refl
     by (Rattle.source_typing.specs.Types.Thin b r t) o = refl
+    by (Rattle.source_typing.specs.Types.Handle r) o = refl
     by (Struct tag rs) o = refl
     by _ o = absurd o
 

@@ -24,7 +24,7 @@ use Rattle.core_meaning.specs.Memory.{Word, Null}
 use Rattle.core_frames.specs.Statics.{IsPlain, IsPlainDatum, ArePlainData}
 use Rattle.source_lowering.specs.Programs.{word_in, constant_word, constant_content, initial_content, datum_of, data_of}
 use Rattle.source_lowering.specs.Taken.{IsIntegerShape, TakesConstant, TakesInitial, TakesProgram}
-use Rattle.source_lowering.proofs.OfWords.{word_type}
+use Rattle.source_lowering.proofs.PlainShapes.{word_type}
 use Rattle.source_lowering.proofs.Heap.{word_datum}
 use Rattle.source_lowering.proofs.Integers.{IsWordShape}
 use Rattle.source_lowering.proofs.WrittenTypes.{word_settled}

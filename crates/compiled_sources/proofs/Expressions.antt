@@ -99,7 +99,7 @@ mutual
   stored_names blocks n w names a (Expression.AnyOf first others) d = tt
   stored_names blocks n w names a (Expression.Assign place value) d = tt
 
-  place_names : (blocks : List ℕ) (n : ℕ) (w : World) (names : List Named) → Around blocks n w names → (e : Expression) (d : ℕ)
+  pub place_names : (blocks : List ℕ) (n : ℕ) (w : World) (names : List Named) → Around blocks n w names → (e : Expression) (d : ℕ)
       → CodeNames blocks n (place_code w names e d)
   place_names blocks n w names a (Expression.Variable name) d =
       address_names blocks n d (local_named names name.text) (bound_to w.globals name.text) (local_lies blocks names name.text a.locals)

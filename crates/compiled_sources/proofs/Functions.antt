@@ -1,7 +1,7 @@
 -- The code of statements, functions and globals of a program of integers names what there is: the program can be selected.
 use Rattle.std.proofs.Common.{◌≡◌, ℕ, suc, ◌+◌, ◌<◌, ◌≤◌, List, [], ◌∷◌, ◌++◌, length, Some, None, refl, sym, ap, subst, arith}
 use Rattle.cyc_tree.specs.Tree as tree
-use Rattle.cyc_tree.specs.Tree.{Initializer, Declaration, Statement, BlockItems, NoItems, Declare, Execute, Item}
+use Rattle.cyc_tree.specs.Tree.{Expression, Initializer, Declaration, Statement, BlockItems, NoItems, Declare, Execute, Item}
 use Rattle.source_meaning.specs.Shapes.{
   Shape,
   IntShape,
@@ -26,7 +26,7 @@ use Rattle.core_meaning.specs.Core as core
 use Rattle.core_meaning.specs.Core.{Do, Put}
 use Rattle.core_frames.specs.Layouts.{IsLayout}
 use Rattle.core_frames.specs.Selectable.{AreLayouts, HaveLayouts}
-use Rattle.source_lowering.specs.Lowered.{Named, static_shape}
+use Rattle.source_lowering.specs.Lowered.{Named, static_shape, width_of, conversion_code, expression_code}
 use Rattle.source_lowering.specs.Programs.{
   local_shape,
   block_shapes,
@@ -34,6 +34,7 @@ use Rattle.source_lowering.specs.Programs.{
   outward,
   named_here,
   unset_code,
+  value_code,
   declaration_code,
   statement_code,
   items_code,
@@ -54,7 +55,7 @@ use Rattle.compiled_sources.specs.Naming.{AreNaming, CodeNames}
 use Rattle.compiled_sources.proofs.Naming.{both_name, all_name}
 use Rattle.compiled_sources.proofs.Layouts.{object_layout}
 use Rattle.compiled_sources.proofs.Parts.{LocalsLie, GlobalsLie, Around, conversion_names}
-use Rattle.compiled_sources.proofs.Expressions.{expression_names}
+use Rattle.compiled_sources.proofs.Expressions.{place_names, expression_names}
 
 -- ---- layouts
 
@@ -111,14 +112,38 @@ unset_names k blocks n w KeyShape index structs object h = absurd object
 unset_names k blocks n w (UnionShape tag) index structs object h = absurd object
 unset_names k blocks n w (ArrayShape count of) index structs object h = absurd object
 
+value_names : (k : ℕ) (blocks : List ℕ) (n : ℕ) (w : World) (names : List Named) (s : Shape) (e : Expression) (index : ℕ) → AreStructs w.unions w.structs
+    → Around (k ∷ blocks) n w names → IsObject w.structs s → index < k → CodeNames (k ∷ blocks) n (value_code w names s e index)
+value_names k blocks n w names s e index structs a object h = by s object
+  where
+    word : (of : Shape) → CodeNames (k ∷ blocks) n
+        (expression_code w names e 0 ++ (conversion_code of (static_shape w names e) 0 ++ (core.Do (Put 0 index (width_of of) 0) ∷ [])))
+    word of =
+        both_name (k ∷ blocks) n _ _ (expression_names (k ∷ blocks) n w names a e 0)
+        (both_name (k ∷ blocks) n _ _ (conversion_names (k ∷ blocks) n 0 of (static_shape w names e)) (h, tt))
+
+    by : (of : Shape) → IsObject w.structs of → CodeNames (k ∷ blocks) n (value_code w names of e index)
+    by (StructShape tag) o =
+        let l = object_layout w (StructShape tag) structs o in
+        both_name (k ∷ blocks) n _ _ (place_names (k ∷ blocks) n w names a e 0) (h, ((l.lies, l.full), tt))
+    by IntShape o = word IntShape
+    by UnsignedShape o = word UnsignedShape
+    by CharShape o = word CharShape
+    by (ThinShape b owner to) o = word (ThinShape b owner to)
+    by VoidShape o = absurd o
+    by (FatShape to) o = absurd o
+    by HandleShape o = absurd o
+    by KeyShape o = absurd o
+    by (UnionShape tag) o = absurd o
+    by (ArrayShape count from) o = absurd o
+
 declaration_names : (k : ℕ) (blocks : List ℕ) (n : ℕ) (w : World) (names : List Named) → AreStructs w.unions w.structs → Around (k ∷ blocks) n w names
     → (d : Declaration) (index : ℕ) → TakesDeclaration w names d → index < k → CodeNames (k ∷ blocks) n (declaration_code w names d index)
 declaration_names k blocks n w names structs a (tree.Local of name Initializer.Unset) index takes h =
     unset_names k blocks n w (settled (written of)) index structs (object_settled w.structs of takes.0) h
 declaration_names k blocks n w names structs a (tree.Local of name (Initializer.Elements count)) index takes h = tt
 declaration_names k blocks n w names structs a (tree.Local of name (Initializer.Value e)) index takes h =
-    both_name (k ∷ blocks) n _ _ (expression_names (k ∷ blocks) n w names a e 0)
-    (both_name (k ∷ blocks) n _ _ (conversion_names (k ∷ blocks) n 0 (settled (written of)) (static_shape w names e)) (h, tt))
+    value_names k blocks n w names (settled (written of)) e index structs a (object_settled w.structs of takes.0) h
 declaration_names k blocks n w names structs a (tree.Region at region handle) index takes h = tt
 declaration_names k blocks n w names structs a (tree.Open at region handle key) index takes h = tt
 declaration_names k blocks n w names structs a (tree.Alias at region of alias pointer) index takes h = tt

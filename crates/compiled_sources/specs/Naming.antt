@@ -13,6 +13,7 @@ use Rattle.core_meaning.specs.Core.{
   Load,
   Store,
   Offset,
+  Copy,
   Clear,
   IsNull,
   SamePlace,
@@ -48,6 +49,7 @@ NamesIn blocks objects (Put out local width x) = IsLocal blocks out local
 NamesIn blocks objects (Load t p d) = Unit {0}
 NamesIn blocks objects (Store p d x) = Unit {0}
 NamesIn blocks objects (Offset t p cells bytes) = Unit {0}
+NamesIn blocks objects (Copy to from layout) = IsLayout layout × IsFull layout
 NamesIn blocks objects (Clear p layout count) = IsLayout layout × IsFull layout × IsZero layout
 NamesIn blocks objects (IsNull t p) = Unit {0}
 NamesIn blocks objects (SamePlace t p q) = Unit {0}

@@ -7,7 +7,7 @@ use Rattle.cyc_tree.specs.Tree.{Constant, Initial, TypeName}
 use Rattle.source_lowering.specs.Taken as lowering
 use Rattle.source_lowering.specs.Taken.{TakesInitial}
 use Rattle.source_lowering.proofs.Integers.{IsWordShape}
-use Rattle.source_lowering.proofs.OfWords.{word_type}
+use Rattle.source_lowering.proofs.PlainShapes.{word_type}
 use Rattle.source_lowering.proofs.WrittenTypes.{word_settled}
 use Rattle.source_meaning.specs.Shapes as shapes
 use Rattle.source_safety.specs.Entries.{IsObjectType, IsWordType}

@@ -1,7 +1,7 @@
 -- Frames and code are within their bounds.
 use Rattle.std.proofs.Common.{◌≡◌, ℕ, suc, ◌+◌, ◌*◌, ◌≤◌, List, [], ◌∷◌, ◌++◌, length, map, Some, None, refl, sym, subst, arith}
 use Rattle.cyc_tree.specs.Tree as tree
-use Rattle.cyc_tree.specs.Tree.{Initializer, Declaration, Statement, BlockItems, NoItems, Declare, Execute, Program}
+use Rattle.cyc_tree.specs.Tree.{Expression, Initializer, Declaration, Statement, BlockItems, NoItems, Declare, Execute, Program}
 use Rattle.source_meaning.specs.Shapes.{
   Shape,
   IntShape,
@@ -24,7 +24,7 @@ use Rattle.source_meaning.specs.Steps.{World, Routine}
 use Rattle.source_meaning.specs.Programs.{world_of}
 use Rattle.core_meaning.specs.Core as core
 use Rattle.core_meaning.specs.Core.{Do, If, While, Block, Return, Constant, LocalAddress, Put, NoStatements}
-use Rattle.source_lowering.specs.Lowered.{Named, all_of, width_of, results_in, static_shape}
+use Rattle.source_lowering.specs.Lowered.{Named, all_of, width_of, results_in, static_shape, conversion_code, expression_code}
 use Rattle.source_lowering.specs.Programs.{
   temporaries_of,
   passed_by,
@@ -35,6 +35,7 @@ use Rattle.source_lowering.specs.Programs.{
   named_here,
   first_code,
   unset_code,
+  value_code,
   declaration_code,
   statement_code,
   items_code,
@@ -45,13 +46,13 @@ use Rattle.source_lowering.specs.Programs.{
   function_code,
   program_code,
 }
-use Rattle.source_lowering.specs.Lowerable.{TakesDeclaration, TakesStatement, TakesItems, IsLowerable}
-use Rattle.source_lowering.specs.Bounds.{block_words, operations_of, FramesFit, declaration_nodes, statement_nodes, item_nodes, statement_locals, item_locals, statement_size, item_size, core_bound, frame_bound, all_operations, core_code, routines_size, code_bound}
+use Rattle.source_lowering.specs.Lowerable.{Takes, TakesValue, TakesDeclaration, TakesStatement, TakesItems, IsLowerable}
+use Rattle.source_lowering.specs.Bounds.{nodes_of, block_words, operations_of, FramesFit, declaration_nodes, statement_nodes, item_nodes, statement_locals, item_locals, statement_size, item_size, core_bound, frame_bound, all_operations, core_code, routines_size, code_bound}
 use Rattle.source_lowering.proofs.Names.{AreParameters, IsRoutine, AreRoutines}
 use Rattle.source_lowering.proofs.LocalWords.{all_words, many_words, word_words}
 use Rattle.source_lowering.proofs.Costs.{Costs, no_costs, one_costs, both_cost, more_costs}
 use Rattle.source_lowering.proofs.PartCosts.{does_one, results_last, results_many, conversion_costs}
-use Rattle.source_lowering.proofs.ExpressionCosts.{expression_costs}
+use Rattle.source_lowering.proofs.ExpressionCosts.{nodes_positive, place_costs, expression_costs}
 use Rattle.source_lowering.proofs.Programs.{routines_are}
 
 -- ---- words of locals
@@ -100,6 +101,44 @@ unset_costs w s index t p h = by s
     by (UnionShape tag) = word (UnionShape tag)
     by (ArrayShape count of) = word (ArrayShape count of)
 
+value_bounded : (w : World) (names : List Named) (s : Shape) (e : Expression) (index t p : ℕ) → TakesValue w names s e → nodes_of e + 1 ≤ t → nodes_of e ≤ p
+    → IsBounded t p 0 (1 + nodes_of e) (value_code w names s e index)
+value_bounded w names s e index t p h f g = by s h
+  where
+    word : (of : Shape) → Takes w names e → IsBounded t p 0 (1 + nodes_of e)
+        (expression_code w names e 0 ++ (conversion_code of (static_shape w names e) 0 ++ (Do (Put 0 index (width_of of) 0) ∷ [])))
+    word of h =
+        let a = expression_costs w names e t p 0 h (omega (arith, f)) g in
+        let l = a.less in
+        record {
+          operations = a.operations + (2 + 1);
+          costs = both_cost t p 0 a.operations 0 (2 + 1) _ _ a.costs (both_cost t p 0 2 0 1 _ _ (conversion_costs t p 0 of (static_shape w names e)
+              (omega (arith, f))) (does_one t p (Put 0 index (width_of of) 0) (omega (arith, f))));
+          less = omega (arith, l);
+        }
+
+    by : (of : Shape) → TakesValue w names of e → IsBounded t p 0 (1 + nodes_of e) (value_code w names of e index)
+    by (StructShape tag) h =
+        let a = place_costs w names e t p 0 h (omega (arith, f)) g in
+        let l = a.less in
+        let n = nodes_positive e in
+        record {
+          operations = a.operations + (1 + 1);
+          costs = both_cost t p 0 a.operations 0 (1 + 1) _ _ a.costs (both_cost t p 0 1 0 1 (Do (LocalAddress 1 0 index) ∷ []) _
+              (does_one t p _ (omega (arith, f, n))) (does_one t p _ (omega (arith, f, n))));
+          less = omega (arith, l);
+        }
+    by IntShape h = word IntShape h
+    by UnsignedShape h = word UnsignedShape h
+    by CharShape h = word CharShape h
+    by VoidShape h = word VoidShape h
+    by (ThinShape b owner to) h = word (ThinShape b owner to) h
+    by (FatShape to) h = word (FatShape to) h
+    by HandleShape h = word HandleShape h
+    by KeyShape h = word KeyShape h
+    by (UnionShape tag) h = word (UnionShape tag) h
+    by (ArrayShape count of) h = word (ArrayShape count of) h
+
 declaration_bounded : (w : World) (names : List Named) (d : Declaration) (index t p : ℕ) → TakesDeclaration w names d → declaration_nodes d + 1 ≤ t
     → declaration_nodes d ≤ p → IsBounded t p 0 (1 + declaration_nodes d) (declaration_code w names d index)
 declaration_bounded w names (tree.Local of name Initializer.Unset) index t p h f g = record {
@@ -108,15 +147,7 @@ declaration_bounded w names (tree.Local of name Initializer.Unset) index t p h f
   less = omega arith;
 }
 declaration_bounded w names (tree.Local of name (Initializer.Elements count)) index t p h f g = absurd h.1
-declaration_bounded w names (tree.Local of name (Initializer.Value e)) index t p h f g =
-    let a = expression_costs w names e t p 0 h.1.0 (omega (arith, f)) g in
-    let l = a.less in
-    record {
-      operations = a.operations + (2 + 1);
-      costs = both_cost t p 0 a.operations 0 (2 + 1) _ _ a.costs (both_cost t p 0 2 0 1 _ _ (conversion_costs t p 0 (settled (written of))
-          (static_shape w names e) (omega (arith, f))) (does_one t p (Put 0 index (width_of (settled (written of))) 0) (omega (arith, f))));
-      less = omega (arith, l);
-    }
+declaration_bounded w names (tree.Local of name (Initializer.Value e)) index t p h f g = value_bounded w names (settled (written of)) e index t p h.1 f g
 declaration_bounded w names (tree.Region at region handle) index t p h f g = absurd h
 declaration_bounded w names (tree.Open at region handle key) index t p h f g = absurd h
 declaration_bounded w names (tree.Alias at region of alias pointer) index t p h f g = absurd h

@@ -122,10 +122,42 @@ cleared_here l r index c k j xs x p less is shape part = rw (part, here, inside,
 pub cleared_later : (b : ℕ) (m : source.Memory) (c : core.Memory) (l : Layout) (count : ℕ) (t : core.Spot) → Later b m c m (cleared l count t c)
 cleared_later b m c l count t = record { shapes = λ s shape h. h; parts = cleared_keeps l count t c; objects = λ k h. refl; begun = omega arith }
 
-held_still : (c c' : core.Memory) (t : core.Spot) (j : ℕ) (cs : List Content) → ((i : ℕ) → c'.parts t i ≡ c.parts t i) → PartsHold c t j cs
+pub held_still : (c c' : core.Memory) (t : core.Spot) (j : ℕ) (cs : List Content) → ((i : ℕ) → c'.parts t i ≡ c.parts t i) → PartsHold c t j cs
     → PartsHold c' t j cs
 held_still c c' t j [] e h = tt
 held_still c c' t j (x ∷ xs) e ((q, (is, holds)), others) = ((q, (e j ∙ is, holds)), held_still c c' t (j + 1) xs e others)
+
+no_cell : (y : Cell) → None ≡ Some y → ⊥
+no_cell y e = cc e
+
+-- an object that isn't made yet has no cell
+no_object : (w : World) (m : source.Memory) (c : core.Memory) (k index : ℕ) (s : Spot) (y : Cell) → Agree w m c → m.objects (source.Frame k) ≡ index
+    → m.cells s ≡ Some y → s.region ≡ source.Frame k → s.object ≡ index → ⊥
+no_object w m c k index s y a made h r o =
+    let none : m.cells s ≡ None = a.unmade s (subst (λ q. m.objects q ≤ s.object) (sym r) (subst (λ z. z ≤ s.object) (sym made) (omega (arith, o)))) in
+    no_cell y (sym none ∙ h)
+
+pub new_object : (w : World) (m : source.Memory) (c : core.Memory) (k index : ℕ) (s : Spot) (y : Cell) → Agree w m c → m.objects (source.Frame k) ≡ index
+    → m.cells s ≡ Some y → same_object (at s) (at (cell_spot k index 0)) ≡ false
+new_object w m c k index s y a made h = by (same_object (at s) (at (cell_spot k index 0))) refl
+  where
+    by : (b : Bool) → same_object (at s) (at (cell_spot k index 0)) ≡ b → same_object (at s) (at (cell_spot k index 0)) ≡ false
+    by false e = e
+    by true e =
+        let two = and_parts (core.same_region (region_at s.region) (core.Frame k)) (nat_eq s.object index) e in
+        absurd (no_object w m c k index s y a made h (region_is s.region (source.Frame k) (sym (region_as s.region (source.Frame k)) ∙ two.0))
+        (eqb-true s.object index two.1))
+
+pub object_apart : (w : World) (m : source.Memory) (c : core.Memory) (k index : ℕ) (s : Spot) (y : Cell) → Agree w m c → m.objects (source.Frame k) ≡ index
+    → m.cells s ≡ Some y → same_object (at (cell_spot k index 0)) (at s) ≡ false
+object_apart w m c k index s y a made h = by (same_object (at (cell_spot k index 0)) (at s)) refl
+  where
+    by : (b : Bool) → same_object (at (cell_spot k index 0)) (at s) ≡ b → same_object (at (cell_spot k index 0)) (at s) ≡ false
+    by false e = e
+    by true e =
+        let two = and_parts (core.same_region (core.Frame k) (region_at s.region)) (nat_eq index s.object) e in
+        absurd (no_object w m c k index s y a made h
+        (sym (region_is (source.Frame k) s.region (sym (region_as (source.Frame k) s.region) ∙ two.0))) (sym (eqb-true index s.object two.1)))
 
 -- memories still agree where the source has no such object yet
 pub agree_cleared : (w : World) (m : source.Memory) (c : core.Memory) (k index : ℕ) (l : Layout) → Agree w m c → m.objects (source.Frame k) ≡ index
@@ -134,7 +166,7 @@ agree_cleared w m c k index l a made = record {
   cells = λ s shape v h. let one = a.cells s shape v h in record {
     contents = one.contents;
     shown = shown_later 0 w m m c c' shape v one.contents (cleared_later 0 m c l 1 t) one.shown;
-    held = held_still c c' (at s) 0 one.contents (λ i. cleared_other l 1 t c (at s) i (apart s _ h)) one.held;
+    held = held_still c c' (at s) 0 one.contents (λ i. cleared_other l 1 t c (at s) i (new_object w m c k index s _ a made h)) one.held;
   };
   live = a.live;
   activations = a.activations;
@@ -148,22 +180,6 @@ agree_cleared w m c k index l a made = record {
 
     c' : core.Memory
     c' = cleared l 1 t c
-
-    no_cell : (y : Cell) → None ≡ Some y → ⊥
-    no_cell y e = cc e
-
-    apart : (s : Spot) (y : Cell) → m.cells s ≡ Some y → same_object (at s) t ≡ false
-    apart s y h = by (same_object (at s) t) refl
-      where
-        by : (b : Bool) → same_object (at s) t ≡ b → same_object (at s) t ≡ false
-        by false e = e
-        by true e =
-            let two = and_parts (core.same_region (region_at s.region) (core.Frame k)) (nat_eq s.object index) e in
-            let r : s.region ≡ source.Frame k = region_is s.region (source.Frame k) (sym (region_as s.region (source.Frame k)) ∙ two.0) in
-            let o : s.object ≡ index = eqb-true s.object index two.1 in
-            let none : m.cells s ≡ None = a.unmade s (subst (λ q. m.objects q ≤ s.object) (sym r) (subst (λ z. z ≤ s.object) (sym made)
-            (omega (arith, o)))) in
-            absurd (no_cell y (sym none ∙ h))
 
 -- ---- the first part of each cell of an object
 

@@ -1,7 +1,5 @@
 -- The globals' constants are stored before `main` is entered; Core's data have them from the start.
-use Rattle.std.proofs.Common.{◌≡◌, inl, None, ℕ, suc, ◌+◌, ◌-◌, ◌%◌, ◌^◌, ◌<◌, List, [], ◌∷◌, Bool, true, false, nat_eq, Some, refl, sym, ap, ◌∙◌, subst, arith}
-use Rattle.std.specs.Prelude.{◌&&◌, if◌then◌else◌}
-use Rattle.std.proofs.lemmas.Bool.{eqb-true, and_parts}
+use Rattle.std.proofs.Common.{◌≡◌, inl, None, ℕ, suc, ◌+◌, ◌-◌, ◌%◌, ◌^◌, ◌<◌, List, [], ◌∷◌, true, false, refl, sym, ◌∙◌, subst, arith}
 use Rattle.cyc_tree.specs.Tree as tree
 use Rattle.cyc_tree.specs.Tree.{Initial, Item, Constant}
 use Rattle.source_meaning.specs.Shapes.{
@@ -37,29 +35,12 @@ use Rattle.source_lowering.specs.Programs.{word_in, constant_word, constant_cont
 use Rattle.source_lowering.specs.Taken.{IsIntegerShape, IsNullable, TakesConstant}
 use Rattle.source_lowering.specs.Lowerable.{IsObject, TakesGlobal, TakesProgram}
 use Rattle.source_lowering.proofs.Relations.{at, Leads, Shown, Agree, Later, AreLed, Same}
-use Rattle.core_meaning.proofs.Spots.{spot_same}
-use Rattle.source_lowering.proofs.Keeping.{later_self, all_led_later, m_written}
+use Rattle.source_lowering.proofs.Keeping.{same_part, later_self, all_led_later, m_written}
 use Rattle.source_lowering.proofs.Operators.{modulo_small}
 use Rattle.source_lowering.proofs.Integers.{IsWordShape, limit, word_shown, object_word}
 use Rattle.source_lowering.proofs.Cells.{plain_of, write_same}
 use Rattle.source_lowering.proofs.WrittenTypes.{object_settled}
 use Rattle.source_lowering.proofs.Heap.{part_of, constant_single, IsStored, AreStored}
-
--- ---- a part that is written with what it has
-
-same_part : (c : core.Memory) (s : core.Spot) (p : Part) → c.parts s 0 ≡ Some p → with_part c s 0 p ≡ c
-same_part c s p is = λ i. record c { parts = λ t j. each t j i }
-  where
-    by : (t : core.Spot) (j : ℕ) (b : Bool) → (core.same_spot t s && nat_eq j 0) ≡ b → (if core.same_spot t s && nat_eq j 0 then Some p else c.parts t j) ≡
-        c.parts t j
-    by t j true e =
-        let two = and_parts (core.same_spot t s) (nat_eq j 0) e in
-        ap (λ b. if b then Some p else c.parts t j) e ∙ sym is ∙ ap (λ z. c.parts z 0) (sym (spot_same t s two.0)) ∙ ap (λ z. c.parts t z)
-        (sym (eqb-true j 0 two.1))
-    by t j false e = ap (λ b. if b then Some p else c.parts t j) e
-
-    each : (t : core.Spot) (j : ℕ) → (if core.same_spot t s && nat_eq j 0 then Some p else c.parts t j) ≡ c.parts t j
-    each t j = by t j (core.same_spot t s && nat_eq j 0) refl
 
 -- ---- the value of a constant
 

@@ -125,6 +125,7 @@ contents_are p n d e shape code one = record {
   shape_is = ap pointee one.shape_is;
   target = pointee_taken shape one.taken;
   placed = contents_placed p n d (length (cells_of p.world (pointee e.shape))) e shape code one;
+  value = λ s m. refl;
 }
 
 -- ---- suffixes: what they lead to is read, stored to, or has a pointer to it
@@ -159,6 +160,7 @@ suffixes_placed p n d suffixes e shape value pointer one =
       shape_is = one.shape_is;
       target = object_target p.world.structs left.shape one.object;
       placed = reached_placed p n d left.cells left.bytes left.shape e.place left.pointer one.reached;
+      value = one.given;
     })
 
 -- ---- all of them

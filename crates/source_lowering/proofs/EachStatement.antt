@@ -1,8 +1,26 @@
 -- Each statement that is taken, each block's items, and a function's body with its arguments do the same as their code.
 use Rattle.std.proofs.Common.{◌≡◌, ℕ, suc, ◌+◌, ◌≤◌, List, [], ◌∷◌, ◌++◌, length, Some, None, refl, sym, ap, ◌∙◌, subst, arith}
 use Rattle.cyc_tree.specs.Tree as tree
-use Rattle.cyc_tree.specs.Tree.{RegionName, Base, TypeName, Pointer, Initializer, Declaration, Statement, BlockItems, NoItems, Declare, Execute}
-use Rattle.source_meaning.specs.Shapes.{Shape, Part, part_shapes, written, settled}
+use Rattle.cyc_tree.specs.Tree.{Expression, RegionName, Base, TypeName, Pointer, Initializer, Declaration, Statement, BlockItems, NoItems, Declare, Execute}
+use Rattle.source_meaning.specs.Shapes.{
+  Shape,
+  IntShape,
+  UnsignedShape,
+  CharShape,
+  VoidShape,
+  ThinShape,
+  FatShape,
+  HandleShape,
+  KeyShape,
+  StructShape,
+  UnionShape,
+  ArrayShape,
+  Part,
+  part_shapes,
+  written,
+  settled,
+  settled_by,
+}
 use Rattle.source_meaning.specs.Memory as source
 use Rattle.source_meaning.specs.Memory.{Scalar}
 use Rattle.source_meaning.specs.Steps as steps
@@ -15,35 +33,37 @@ use Rattle.source_meaning.specs.Programs.{with_arguments}
 use Rattle.core_meaning.specs.Memory as core_memory
 use Rattle.core_meaning.specs.Memory.{Content}
 use Rattle.core_meaning.specs.Core as core
-use Rattle.core_meaning.specs.Core.{Program, Do, Put, Statements, MoreStatements}
+use Rattle.core_meaning.specs.Core.{Program, Do, Put, LocalAddress, Copy, Statements, MoreStatements}
 use Rattle.core_meaning.specs.Steps.{Config}
 use Rattle.core_meaning.specs.Meaning as meaning
 use Rattle.core_meaning.specs.Meaning.{values_of}
-use Rattle.source_lowering.specs.Lowered.{Named, put, width_of, from_on, conversion_code, static_shape, expression_code}
+use Rattle.source_lowering.specs.Layouts.{layout_of}
+use Rattle.source_lowering.specs.Lowered.{Named, put, width_of, from_on, conversion_code, static_shape, place_code, expression_code}
 use Rattle.source_lowering.specs.Programs.{
   local_shape,
   block_shapes,
   outward,
   named_here,
   unset_code,
+  value_code,
   declaration_code,
   statement_code,
   items_code,
   parameter_names,
   parameters_code,
 }
-use Rattle.source_lowering.specs.Lowerable.{IsObject, HasBeginning, TakesDeclaration, TakesStatement, TakesItems}
+use Rattle.source_lowering.specs.Lowerable.{IsTarget, IsObject, IsObjectType, HasBeginning, Takes, TakesPlace, TakesValue, TakesDeclaration, TakesStatement, TakesItems}
 use Rattle.source_lowering.proofs.Relations.{Later, Place, Fits, SameAt, Next}
 use Rattle.source_lowering.proofs.Keeping.{later_on, later_less, shown_later}
 use Rattle.source_lowering.proofs.Runs.{stuck_same, put_all}
-use Rattle.source_lowering.proofs.Integers.{IsTaken, IsWordShape, word_taken, taken_target, object_word, word_object}
+use Rattle.source_lowering.proofs.Integers.{IsTaken, IsWordShape, word_taken, taken_target, word_object}
 use Rattle.source_lowering.proofs.WrittenTypes.{type_settles, object_settled}
 use Rattle.source_lowering.proofs.Names.{AreParameters}
 use Rattle.source_lowering.proofs.Values.{put_three}
 use Rattle.source_lowering.proofs.Variables.{Agrees, value_of}
 use Rattle.source_lowering.proofs.Conversions.{converted_gives}
 use Rattle.source_lowering.proofs.Calls.{AllGiven, CallsAs}
-use Rattle.source_lowering.proofs.EachExpression.{Known, place_in, IsKnown, expression_same}
+use Rattle.source_lowering.proofs.EachExpression.{Known, place_in, IsKnown, place_same, expression_same}
 use Rattle.source_lowering.proofs.Making.{local_spot}
 use Rattle.source_lowering.proofs.Statements.{
   WaysOn,
@@ -62,6 +82,7 @@ use Rattle.source_lowering.proofs.Statements.{
 }
 use Rattle.source_lowering.proofs.Declaring.{local_with_same}
 use Rattle.source_lowering.proofs.Beginning.{declared_same}
+use Rattle.source_lowering.proofs.Initialising.{whole_same}
 use Rattle.source_lowering.proofs.Blocks.{locals_outward, objects_outward, block_same}
 
 -- ---- declarations
@@ -134,6 +155,87 @@ value_same n scope k result name shape shapes e from first then_act others is_wo
     stores : List core.Statement
     stores = Do (Put 0 k.made (width_of shape) 0) ∷ []
 
+-- a local with an initializer: a word's value is put there, and a struct's object is copied
+word_initialised : (n : ℕ) (scope : Scope) (k : Known) (result : Shape) (name : List ℕ) (of : TypeName) (shape : Shape) (e : Expression)
+    (shapes : List Shape) (then_act : Scope → Act Flow) (others : List core.Statement) → IsObjectType scope.world.structs of
+    → settled (written of) ≡ shape → IsWordShape shape → Takes scope.world k.names e → IsKnown scope k → CallsAs scope.world k.program n
+    → k.pending ≡ shape ∷ shapes
+    → RunsAs (place_in (scope_more scope k name shape) (known_more k name shape shapes)) n scope.frame result (then_act (scope_more scope k name shape)) others
+    → RunsAs (place_in scope k) n scope.frame result (initialised scope name (settled_by (written of) (sense e scope).shape) (sense e scope) then_act)
+    ((expression_code scope.world k.names e 0 ++ (conversion_code shape (static_shape scope.world k.names e) 0 ++ (Do (Put 0 k.made (width_of shape) 0) ∷ [])))
+    ++ others)
+word_initialised n scope k result name of shape e shapes then_act others type is word h known calls pending more =
+    let one = expression_same e scope k h known n calls 0 in
+    subst (λ z. RunsAs (place_in scope k) n scope.frame result (initialised scope name z (sense e scope) then_act)
+    ((expression_code scope.world k.names e 0 ++ (conversion_code shape (static_shape scope.world k.names e) 0 ++ (Do (Put 0 k.made (width_of shape) 0) ∷ [])))
+    ++ others))
+    (sym (type_settles scope.world.structs of type (sense e scope).shape (taken_target (sense e scope).shape
+    (subst (λ z. IsTaken z) (sym one.shape_is) one.taken)) ∙ is))
+    (value_same n scope k result name shape shapes (sense e scope) (static_shape scope.world k.names e) (expression_code scope.world k.names e 0) then_act
+    others word pending one more)
+
+struct_initialised : (n : ℕ) (scope : Scope) (k : Known) (result : Shape) (name tag : List ℕ) (of : TypeName) (e : Expression)
+    (shapes : List Shape) (then_act : Scope → Act Flow) (others : List core.Statement) → IsObjectType scope.world.structs of
+    → settled (written of) ≡ StructShape tag → IsObject scope.world.structs (StructShape tag) → TakesPlace scope.world k.names e → IsKnown scope k
+    → CallsAs scope.world k.program n → k.pending ≡ StructShape tag ∷ shapes
+    → RunsAs (place_in (scope_more scope k name (StructShape tag)) (known_more k name (StructShape tag) shapes)) n scope.frame result
+    (then_act (scope_more scope k name (StructShape tag))) others
+    → RunsAs (place_in scope k) n scope.frame result (initialised scope name (settled_by (written of) (sense e scope).shape) (sense e scope) then_act)
+    ((place_code scope.world k.names e 0 ++ (Do (LocalAddress 1 0 k.made) ∷ Do (Copy 1 0 (layout_of scope.world (StructShape tag))) ∷ [])) ++ others)
+struct_initialised n scope k result name tag of e shapes then_act others type is object h known calls pending more =
+    let one = place_same e scope k h known n calls 0 in
+    subst (λ z. RunsAs (place_in scope k) n scope.frame result (initialised scope name z (sense e scope) then_act)
+    ((place_code scope.world k.names e 0 ++ copies) ++ others))
+    (sym (type_settles scope.world.structs of type (sense e scope).shape (subst (λ z. IsTarget z) (sym one.shape_is) one.target) ∙ is))
+    (record {
+      same = λ m c next rest after fits ways.
+          subst (λ z. SameAt (place_in scope k) n (initialised scope name (StructShape tag) (sense e scope) then_act next m) (meaning.statements z after c))
+          (sym (put_all (place_code scope.world k.names e 0 ++ copies) others rest ∙ put_all (place_code scope.world k.names e 0) copies (put others rest)))
+          (whole_same (place_in scope k) n scope name tag shapes (sense e scope) (static_shape scope.world k.names e) (place_code scope.world k.names e 0)
+          then_act next m c (put others rest) after refl refl known.world.structs object pending fits one
+          (record {
+            go = λ m2 c2 fits2 later2 blocks2.
+                more.same m2 c2 next rest after fits2
+                (ways_later scope.world k.program n scope.frame scope.frame m m2 c c2 result next (meaning.statements rest after) after (omega arith) later2
+                blocks2 ways);
+          }));
+    })
+  where
+    copies : List core.Statement
+    copies = Do (LocalAddress 1 0 k.made) ∷ Do (Copy 1 0 (layout_of scope.world (StructShape tag))) ∷ []
+
+initialised_same : (n : ℕ) (scope : Scope) (k : Known) (result : Shape) (name : List ℕ) (of : TypeName) (e : Expression)
+    (shapes : List Shape) (then_act : Scope → Act Flow) (others : List core.Statement) → IsObjectType scope.world.structs of
+    → TakesValue scope.world k.names (settled (written of)) e → IsKnown scope k → CallsAs scope.world k.program n
+    → k.pending ≡ settled (written of) ∷ shapes
+    → RunsAs (place_in (scope_more scope k name (settled (written of))) (known_more k name (settled (written of)) shapes)) n scope.frame result
+    (then_act (scope_more scope k name (settled (written of)))) others
+    → RunsAs (place_in scope k) n scope.frame result (initialised scope name (settled_by (written of) (sense e scope).shape) (sense e scope) then_act)
+    (value_code scope.world k.names (settled (written of)) e k.made ++ others)
+initialised_same n scope k result name of e shapes then_act others type h known calls pending more =
+    by (settled (written of)) refl (object_settled scope.world.structs of type) h pending more
+  where
+    goal : Shape → Type 0
+    goal s = RunsAs (place_in scope k) n scope.frame result (initialised scope name (settled_by (written of) (sense e scope).shape) (sense e scope) then_act)
+        (value_code scope.world k.names s e k.made ++ others)
+
+    by : (s : Shape) → settled (written of) ≡ s → IsObject scope.world.structs s → TakesValue scope.world k.names s e → k.pending ≡ s ∷ shapes
+        → RunsAs (place_in (scope_more scope k name s) (known_more k name s shapes)) n scope.frame result (then_act (scope_more scope k name s)) others
+        → goal s
+    by (StructShape tag) is object takes first on = struct_initialised n scope k result name tag of e shapes then_act others type is object takes known calls first on
+    by IntShape is object takes first on = word_initialised n scope k result name of IntShape e shapes then_act others type is tt takes known calls first on
+    by UnsignedShape is object takes first on =
+        word_initialised n scope k result name of UnsignedShape e shapes then_act others type is tt takes known calls first on
+    by CharShape is object takes first on = word_initialised n scope k result name of CharShape e shapes then_act others type is tt takes known calls first on
+    by (ThinShape b owner to) is object takes first on =
+        word_initialised n scope k result name of (ThinShape b owner to) e shapes then_act others type is object takes known calls first on
+    by VoidShape is object takes first on = absurd object
+    by (FatShape to) is object takes first on = absurd object
+    by HandleShape is object takes first on = absurd object
+    by KeyShape is object takes first on = absurd object
+    by (UnionShape tag) is object takes first on = absurd object
+    by (ArrayShape count from) is object takes first on = absurd object
+
 declaration_same : (n : ℕ) (d : Declaration) (scope : Scope) (k : Known) (result : Shape) (shapes : List Shape) (then_act : Scope → Act Flow)
     (others : List core.Statement) → TakesDeclaration scope.world k.names d → IsKnown scope k → CallsAs scope.world k.program n → k.pending ≡ local_shape d ∷ shapes
     → RunsAs (place_in (scope_more scope k (tree.local_of d).text (local_shape d)) (known_more k (tree.local_of d).text (local_shape d) shapes)) n scope.frame
@@ -143,15 +245,7 @@ declaration_same n (tree.Local of name Initializer.Unset) scope k result shapes 
     unset_same n scope k result name.text (settled (written of)) shapes then_act others known (object_settled scope.world.structs of h.0) h.1 pending more
 declaration_same n (tree.Local of name (Initializer.Elements count)) scope k result shapes then_act others h known calls pending more = absurd h.1
 declaration_same n (tree.Local of name (Initializer.Value e)) scope k result shapes then_act others h known calls pending more =
-    let object = object_settled scope.world.structs of h.0 in
-    let one = expression_same e scope k h.1.0 known n calls 0 in
-    subst (λ z. RunsAs (place_in scope k) n scope.frame result (initialised scope name.text z (sense e scope) then_act)
-    (declaration_code scope.world k.names (tree.Local of name (Initializer.Value e)) k.made ++ others))
-    (sym (type_settles scope.world.structs of h.0 (sense e scope).shape (taken_target (sense e scope).shape
-    (subst (λ z. IsTaken z) (sym one.shape_is) one.taken))))
-    (value_same n scope k result name.text (settled (written of)) shapes (sense e scope) (static_shape scope.world k.names e)
-    (expression_code scope.world k.names e 0) then_act others
-    (object_word scope.world.structs (settled (written of)) object h.1.1) pending one more)
+    initialised_same n scope k result name.text of e shapes then_act others h.0 h.1 known calls pending more
 declaration_same n (tree.Region at region handle) scope k result shapes then_act others h known calls pending more = absurd h
 declaration_same n (tree.Open at region handle key) scope k result shapes then_act others h known calls pending more = absurd h
 declaration_same n (tree.Alias at region of alias pointer) scope k result shapes then_act others h known calls pending more = absurd h

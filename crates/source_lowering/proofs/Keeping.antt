@@ -361,3 +361,19 @@ agree_left w m c k a = record {
   unentered = a.unentered;
   unbegun = a.unbegun;
 }
+
+-- ---- a part that is written with what it has
+
+pub same_part : (c : core.Memory) (s : core.Spot) (p : Part) → c.parts s 0 ≡ Some p → with_part c s 0 p ≡ c
+same_part c s p is = λ i. record c { parts = λ t j. each t j i }
+  where
+    by : (t : core.Spot) (j : ℕ) (b : Bool) → (core.same_spot t s && nat_eq j 0) ≡ b → (if core.same_spot t s && nat_eq j 0 then Some p else c.parts t j) ≡
+        c.parts t j
+    by t j true e =
+        let two = and_parts (core.same_spot t s) (nat_eq j 0) e in
+        ap (λ b. if b then Some p else c.parts t j) e ∙ sym is ∙ ap (λ z. c.parts z 0) (sym (spot_same t s two.0)) ∙ ap (λ z. c.parts t z)
+        (sym (eqb-true j 0 two.1))
+    by t j false e = ap (λ b. if b then Some p else c.parts t j) e
+
+    each : (t : core.Spot) (j : ℕ) → (if core.same_spot t s && nat_eq j 0 then Some p else c.parts t j) ≡ c.parts t j
+    each t j = by t j (core.same_spot t s && nat_eq j 0) refl

@@ -17,6 +17,7 @@ pub mod Conversions
 pub mod Forms
 pub mod Tests
 pub mod Places
+pub mod Initialising
 pub mod Reaching
 pub mod Pointers
 pub mod Calls
@@ -24,6 +25,7 @@ pub mod EachCall
 pub mod EachExpression
 pub mod Statements
 pub mod Clearing
+pub mod Copying
 pub mod Declaring
 pub mod Beginning
 pub mod Blocks
@@ -39,6 +41,7 @@ pub mod SuffixCosts
 pub mod ExpressionCosts
 pub mod LocalWords
 pub mod Bounded
+pub mod PlainShapes
 pub mod OfWords
 mod Samples
 mod SameShapes

@@ -67,6 +67,8 @@ pub record IsPlaced (p : Place) (n d : ℕ) (e : Sense) (shape : Shape) (code : 
   pub shape_is : e.shape ≡ shape
   pub target : IsTarget shape
   pub placed : PlacedAs p n d shape e.place code
+  -- its value is read there
+  pub value : (s : List Scalar → source.Memory → steps.Step) (m : source.Memory) → e.value s m ≡ e.place (λ t. take_cells (cells_of p.world e.shape) t s) m
 
 -- ---- variables
 
@@ -118,6 +120,7 @@ variable_placed p n d name locals words globals structs = ⊎_elim here missing 
           target = object_target p.world.structs f.local.shape f.is_object;
           placed = local_placed p n d f.local.out f.local.index f.frame f.local.shape (lies_here p.world f.local.shape structs f.is_object) f.in_block
               (f.led p.world);
+          value = λ s m. refl;
         })
 
     missing : MissingLocal p.locals p.names name → IsPlaced p n d (entity_sense p.world
@@ -131,8 +134,9 @@ variable_placed p n d name locals words globals structs = ⊎_elim here missing 
           shape_is = refl;
           target = object_target p.world.structs g.shape g.is_object;
           placed = global_placed p n d g.number g.shape (lies_here p.world g.shape structs g.is_object) (g.led p.world);
+          value = λ s m. refl;
         }))
-        (λ (g : bound_to p.world.globals name ≡ None). rw g (record { shape_is = refl; target = tt; placed = stuck_placed p n d VoidShape [] }))
+        (λ (g : bound_to p.world.globals name ≡ None). rw g (record { shape_is = refl; target = tt; placed = stuck_placed p n d VoidShape []; value = λ s m. refl }))
         (find_global p.world.structs p.world.globals name globals))
 
 -- ---- `*e`

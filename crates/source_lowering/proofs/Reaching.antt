@@ -240,6 +240,7 @@ pub record MemberAs (p : Place) (n d : ℕ) (e : Sense) (left : Left) : Type 0 w
   pub object : IsObject p.world.structs left.shape
   pub reached : ReachedAs p n d left.cells left.bytes left.shape e.place left.pointer
   pub value : IsNoStruct left.shape → Agrees p n d e left.shape left.value
+  pub given : (s : List Scalar → source.Memory → steps.Step) (m : source.Memory) → e.value s m ≡ e.place (λ t. take_cells (cells_of p.world e.shape) t s) m
 
 -- `e.f`
 pub dot_same : (p : Place) (n d cells bytes : ℕ) (e : Sense) (shape : Shape) (f : List ℕ) (pointer : List Statement)
@@ -256,6 +257,7 @@ dot_same p n d cells bytes e shape f pointer structs same reached object =
       reached = here;
       value = λ single. reached_read p n d _ _ (member_shape p.world shape f) _ pointer
           (object_word p.world.structs (member_shape p.world shape f) object single) here;
+      given = λ s m. refl;
     })
   where
     here : ReachedAs p n d (cells + cells_before (cells_of p.world) (struct_parts p.world shape) f)

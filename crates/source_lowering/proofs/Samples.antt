@@ -71,12 +71,12 @@ all_forms_taken = record {
           body = (
             (record { pointers = tt; base = tt; known = tt }, tt),
             (
-              (record { pointers = tt; base = tt; known = tt }, (tt, tt)),
+              (record { pointers = tt; base = tt; known = tt }, tt),
               (
                 (
                   ((tt, (tt, tt)), ((tt, (tt, tt)), tt)),
                   (
-                    (record { pointers = tt; base = tt; known = tt }, ((refl, tt), tt)),
+                    (record { pointers = tt; base = tt; known = tt }, (refl, tt)),
                     (
                       (tt, (((tt, (tt, tt)), ((tt, (tt, tt)), tt)), tt)),
                       ((refl, (tt, tt)), ((tt, ((tt, (tt, tt)), tt)), (((tt, (tt, tt)), tt), tt))),
@@ -175,7 +175,7 @@ arrow e f = Expression.Suffixed e (Arrow f NoSuffixes)
 
 -- struct in { char c; int n; }; struct out { struct in a; struct out *next; char last; }; struct out g;
 -- int main() { struct out s; struct in *p = &s.a; int *q = &p->n; s.next = &s; s.a.n = 5; p->c = 300; g.a.n = s.next->a.n + p->c; s.next->last = 2;
--- if (!g.next) putchar(*q); return g.a.n + s.last; }
+-- if (!g.next) putchar(*q); struct in b = s.next->a; struct out t = *s.next; p->c = 7; return g.a.n + t.last + b.c; }
 abbrev struct_forms : Program
 struct_forms =
     tree.StructItem (record {
@@ -205,13 +205,17 @@ struct_forms =
     (Statement.Run (Expression.Assign (Expression.Suffixed (variable "s") (Dot (named "next") (Arrow (named "last") NoSuffixes))) (number 2))) ▸
     (Statement.If 0 (Expression.Prefixed 0 Not (dot (variable "g") (named "next")))
     (Statement.Run (Expression.Call (named "putchar") (MoreExpressions (contents_of (variable "q")) NoExpressions)))) ▸
+    (tree.Local (struct_of (named "in")) (named "b")
+    (Initializer.Value (Expression.Suffixed (variable "s") (Dot (named "next") (Arrow (named "a") NoSuffixes))))) ▹
+    (tree.Local (struct_of (named "out")) (named "t") (Initializer.Value (contents_of (dot (variable "s") (named "next"))))) ▹
+    (Statement.Run (Expression.Assign (arrow (variable "p") (named "c")) (number 7))) ▸
     (Statement.Return 0 (Some (Expression.Chain (Expression.Suffixed (variable "g") (Dot (named "a") (Dot (named "n") NoSuffixes)))
-    (MoreLinks Add (dot (variable "s") (named "last")) NoLinks)))) ▸
+    (MoreLinks Add (dot (variable "t") (named "last")) (MoreLinks Add (dot (variable "b") (named "c")) NoLinks))))) ▸
     NoItems)) ∷ []
 
 struct_forms_run : core (program_code struct_forms) [] 20 ≡ record {
   events = Called 0 ∷ Visible (ByteWritten 5) ∷ Returned 0 ∷ [];
-  ending = SourceEnding.Ended 51;
+  ending = SourceEnding.Ended 95;
 }
 struct_forms_run = refl
 
@@ -231,9 +235,9 @@ struct_forms_taken = record {
             body = (
               (record { pointers = tt; base = tt; known = refl }, tt),
               (
-                (record { pointers = ((tt, tt), tt); base = tt; known = tt }, ((tt, (refl, tt)), tt)),
+                (record { pointers = ((tt, tt), tt); base = tt; known = tt }, (tt, (refl, tt))),
                 (
-                  (record { pointers = ((tt, tt), tt); base = tt; known = tt }, ((tt, (tt, tt)), tt)),
+                  (record { pointers = ((tt, tt), tt); base = tt; known = tt }, (tt, (tt, tt))),
                   (
                     ((tt, ((refl, tt), tt)), (tt, tt)),
                     (
@@ -249,7 +253,16 @@ struct_forms_taken = record {
                             ((tt, ((refl, tt), (tt, (tt, tt)))), (tt, tt)),
                             (
                               (((tt, ((refl, tt), tt)), tt), (refl, ((tt, tt), tt))),
-                              ((((tt, (refl, (tt, tt))), tt), (((tt, (tt, tt)), tt), tt)), tt),
+                              (
+                                (record { pointers = tt; base = tt; known = refl }, (tt, ((refl, tt), (tt, (refl, tt))))),
+                                (
+                                  (record { pointers = tt; base = tt; known = refl }, ((tt, ((refl, tt), tt)), tt)),
+                                  (
+                                    ((tt, (tt, tt)), (tt, tt)),
+                                    ((((tt, (refl, (tt, tt))), tt), (((tt, (tt, tt)), tt), (((tt, (tt, tt)), tt), tt))), tt),
+                                  ),
+                                ),
+                              ),
                             ),
                           ),
                         ),

@@ -79,7 +79,7 @@ abbrev pub AreObjects : List Layout → List Shape → Type 0
 AreObjects structs [] = Unit {0}
 AreObjects structs (s ∷ ss) = IsObject structs s × AreObjects structs ss
 
--- what is no struct: an operand, and what is stored, passed and returned
+-- what is no struct: an operand, and what is assigned, passed and returned
 abbrev pub IsNoStruct : Shape → Type 0
 IsNoStruct (StructShape tag) = ⊥
 IsNoStruct s = Unit {0}
@@ -206,11 +206,16 @@ abbrev mutual
 
 -- ---- statements
 
+-- what a local of a shape is initialized with: a struct with what names one
+abbrev pub TakesValue : World → List Named → Shape → Expression → Type 0
+TakesValue w names (StructShape tag) e = TakesPlace w names e
+TakesValue w names s e = Takes w names e
+
 -- of a local of a shape
 abbrev pub TakesInitializer : World → List Named → Shape → Initializer → Type 0
 TakesInitializer w names shape Initializer.Unset = HasBeginning shape
 TakesInitializer w names shape (Initializer.Elements count) = ⊥
-TakesInitializer w names shape (Initializer.Value e) = Takes w names e × IsNoStruct shape
+TakesInitializer w names shape (Initializer.Value e) = TakesValue w names shape e
 
 abbrev pub TakesDeclaration : World → List Named → Declaration → Type 0
 TakesDeclaration w names (tree.Local of name initializer) = IsObjectType w.structs of × TakesInitializer w names (settled (written of)) initializer

@@ -1,7 +1,7 @@
 -- What statements, functions, globals and programs are lowered to.
 use Rattle.std.specs.Prelude.{ℕ, suc, ◌%◌, Option, ◌^◌, Some, None, List, [], ◌∷◌, ◌++◌, map, slice_get, length, max, codes}
 use Rattle.cyc_tree.specs.Tree as tree
-use Rattle.cyc_tree.specs.Tree.{Initializer, Declaration, Statement, BlockItems, NoItems, Declare, Execute, Initial, Item, Program}
+use Rattle.cyc_tree.specs.Tree.{Expression, Initializer, Declaration, Statement, BlockItems, NoItems, Declare, Execute, Initial, Item, Program}
 use Rattle.cyc_words.specs.Words.{difference_of}
 use Rattle.source_meaning.specs.Shapes.{Shape, CharShape, VoidShape, ThinShape, StructShape, Part, part_shapes, written, settled}
 use Rattle.source_meaning.specs.Steps.{Routine, World}
@@ -55,7 +55,7 @@ use Rattle.core_meaning.specs.Core.{
   Datum,
 }
 use Rattle.source_lowering.specs.Layouts.{layout_of, local_of, first_part}
-use Rattle.source_lowering.specs.Lowered.{Named, number_of, static_shape, all_of, width_of, conversion_code, results_in, expression_code}
+use Rattle.source_lowering.specs.Lowered.{Named, number_of, static_shape, all_of, width_of, conversion_code, results_in, place_code, expression_code}
 
 -- ---- locals of a block
 
@@ -98,12 +98,17 @@ abbrev pub unset_code : World → Shape → ℕ → List core.Statement
 unset_code w (StructShape tag) index = Do (LocalAddress 0 0 index) ∷ Do (Clear 0 (layout_of w (StructShape tag)) 1) ∷ []
 unset_code w s index = Do (first_code s) ∷ Do (Put 0 index (width_of s) 0) ∷ []
 
+-- a struct gets the parts of the object that its initializer names
+abbrev pub value_code : World → List Named → Shape → Expression → ℕ → List core.Statement
+value_code w names (StructShape tag) e index =
+    place_code w names e 0 ++ (Do (LocalAddress 1 0 index) ∷ Do (Copy 1 0 (layout_of w (StructShape tag))) ∷ [])
+value_code w names s e index =
+    expression_code w names e 0 ++ (conversion_code s (static_shape w names e) 0 ++ (Do (Put 0 index (width_of s) 0) ∷ []))
+
 abbrev pub declaration_code : World → List Named → Declaration → ℕ → List core.Statement
 declaration_code w names (tree.Local of name Initializer.Unset) index = unset_code w (settled (written of)) index
 declaration_code w names (tree.Local of name (Initializer.Elements count)) index = []
-declaration_code w names (tree.Local of name (Initializer.Value e)) index =
-    expression_code w names e 0 ++
-    (conversion_code (settled (written of)) (static_shape w names e) 0 ++ (Do (Put 0 index (width_of (settled (written of))) 0) ∷ []))
+declaration_code w names (tree.Local of name (Initializer.Value e)) index = value_code w names (settled (written of)) e index
 declaration_code w names (tree.Region at region handle) index = []
 declaration_code w names (tree.Open at region handle key) index = []
 declaration_code w names (tree.Alias at region of alias pointer) index = []
@@ -181,6 +186,7 @@ operation_temporaries (Get t out local width) = suc t
 operation_temporaries (Put out local width x) = suc x
 operation_temporaries (Load t p d) = max (suc t) (suc p)
 operation_temporaries (Store p d x) = max (suc p) (suc x)
+operation_temporaries (Copy to from layout) = max (suc to) (suc from)
 operation_temporaries (Clear p layout count) = suc p
 operation_temporaries (IsNull t p) = max (suc t) (suc p)
 operation_temporaries (SamePlace t p q) = max (suc t) (max (suc p) (suc q))

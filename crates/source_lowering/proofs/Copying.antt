@@ -1,0 +1,271 @@
+-- A struct's object is copied to a local: the source reads all cells and writes them one by one, and Core copies the object's parts at once.
+use Rattle.std.proofs.Common.{◌≡◌, ℕ, suc, ◌+◌, ◌<◌, List, [], ◌∷◌, length, Bool, true, false, not, nat_eq, Option, Some, None, refl, ap, ◌∙◌, subst, arith}
+use Rattle.std.specs.Prelude.{◌&&◌, ◌-◌, if◌then◌else◌, nat_lt, nat_le, slice_get}
+use Rattle.std.proofs.lemmas.Bool.{eq-eqb}
+use Rattle.std.proofs.lemmas.Bool.Decides.{nat_tests}
+use Rattle.source_meaning.specs.Shapes.{
+  Shape,
+  IntShape,
+  UnsignedShape,
+  CharShape,
+  VoidShape,
+  ThinShape,
+  FatShape,
+  HandleShape,
+  KeyShape,
+  StructShape,
+  UnionShape,
+  ArrayShape,
+}
+use Rattle.source_meaning.specs.Memory as source
+use Rattle.source_meaning.specs.Memory.{Scalar, Spot, Holds, Cell, is_live, is_of, is_moved, any_moved, with_cell}
+use Rattle.source_meaning.specs.Steps as steps
+use Rattle.source_meaning.specs.Steps.{World, check}
+use Rattle.source_meaning.specs.Values.{read_cells, take_cells, write_cells, put_content, value_held, is_lent}
+use Rattle.core_meaning.specs.Memory as core
+use Rattle.core_meaning.specs.Memory.{Content, Part, PartShape, Layout}
+use Rattle.core_meaning.specs.Core.{Program}
+use Rattle.core_meaning.specs.Steps as core_steps
+use Rattle.core_meaning.specs.Operations.{same_object, cells_on, part_of, on_from, copied}
+use Rattle.core_meaning.proofs.Spots.{region_self}
+use Rattle.source_lowering.specs.Lowerable.{IsWordShape}
+use Rattle.source_lowering.proofs.StructCells.{AreWordShapes}
+use Rattle.source_lowering.proofs.Relations.{at, HasShape, PartIs, AreCells, Shown, Agree, Later, Same}
+use Rattle.source_lowering.proofs.Keeping.{later_self, later_on, shown_later, later_written, agree_written, m_written, same_part}
+use Rattle.source_lowering.proofs.Runs.{stuck_same}
+use Rattle.source_lowering.proofs.Making.{cell_spot}
+use Rattle.source_lowering.proofs.Clearing.{held_still, new_object}
+
+-- ---- the source reads an object
+
+owner_still : (s : Shape) → IsWordShape s → is_moved s ≡ false
+owner_still IntShape h = refl
+owner_still UnsignedShape h = refl
+owner_still CharShape h = refl
+owner_still VoidShape h = absurd h
+owner_still (ThinShape b owner to) h = ap source.is_alone h.0
+owner_still (FatShape to) h = absurd h
+owner_still HandleShape h = absurd h
+owner_still KeyShape h = absurd h
+owner_still (StructShape tag) h = absurd h
+owner_still (UnionShape tag) h = absurd h
+owner_still (ArrayShape count of) h = absurd h
+
+none_moved : (xs : List Shape) → AreWordShapes xs → any_moved xs ≡ false
+none_moved [] h = refl
+none_moved (x ∷ xs) h = ap (λ b. if b then true else any_moved xs) (owner_still x h.0) ∙ none_moved xs h.1
+
+-- an object of words is copied as it is looked at
+pub whole_taken : (xs : List Shape) (t : Spot) (s : List Scalar → source.Memory → steps.Step) (m : source.Memory) → AreWordShapes xs
+    → take_cells xs t s m ≡ read_cells (length xs) t s m
+whole_taken xs t s m h = rw (none_moved xs h) refl
+
+-- what the cells from a spot on hold
+abbrev pub AllHeld : source.Memory → Spot → List Shape → List Scalar → Type 0
+AllHeld m s [] [] = Unit {0}
+AllHeld m s (x ∷ xs) (v ∷ vs) = (m.cells s ≡ Some (record { shape = x; content = Holds v })) × AllHeld m (source.beyond s 1) xs vs
+AllHeld m s [] (v ∷ vs) = ⊥
+AllHeld m s (x ∷ xs) [] = ⊥
+
+-- and that their region is live, if there are any
+abbrev pub IsLiveFor : source.Memory → Spot → List Shape → Type 0
+IsLiveFor m s [] = Unit {0}
+IsLiveFor m s (x ∷ xs) = (is_live m s.region ≡ true)
+
+pub read_all : (w : World) (fs : Program) (n : ℕ) (xs : List Shape) (m : source.Memory) (t : Spot) (s : List Scalar → source.Memory → steps.Step)
+    (k : core_steps.Step) → AreCells m t xs → ((vs : List Scalar) → AllHeld m t xs vs → IsLiveFor m t xs → Same w fs n (s vs m) k)
+    → Same w fs n (read_cells (length xs) t s m) k
+read_all w fs n [] m t s k cells go = go [] tt tt
+read_all w fs n (x ∷ xs) m t s k cells go = by (is_live m t.region) refl
+    (λ v live is. read_all w fs n xs m (source.beyond t 1) (λ vs. s (v ∷ vs)) k cells.1 (λ vs held rest. go (v ∷ vs) (is, held) live))
+  where
+    after : Scalar → source.Memory → steps.Step
+    after v = read_cells (length xs) (source.beyond t 1) (λ vs. s (v ∷ vs))
+
+    held : (is_live m t.region ≡ true) → (y : source.Content) → m.cells t ≡ Some (record { shape = x; content = y })
+        → ((v : Scalar) → is_live m t.region ≡ true → m.cells t ≡ Some (record { shape = x; content = Holds v }) → Same w fs n (after v m) k)
+        → Same w fs n (value_held y after m) k
+    held live source.Blank is next = stuck_same w fs n k
+    held live source.Gone is next = stuck_same w fs n k
+    held live source.Lent is next = stuck_same w fs n k
+    held live (Holds v) is next = next v live is
+
+    by : (b : Bool) → is_live m t.region ≡ b
+        → ((v : Scalar) → is_live m t.region ≡ true → m.cells t ≡ Some (record { shape = x; content = Holds v }) → Same w fs n (after v m) k)
+        → Same w fs n (read_cells (suc (length xs)) t s m) k
+    by false e next = rw e (stuck_same w fs n k)
+    by true e next = rw (e, cells.0.is) (held e cells.0.content cells.0.is next)
+
+-- ---- the source writes what Core's parts show already
+
+-- a cell's part shows a value
+pub record IsCellShown (w : World) (m : source.Memory) (c : core.Memory) (s : Spot) (shape : Shape) (v : Scalar) : Type 0 where
+  pub part : Part
+  pub is : c.parts (at s) 0 ≡ Some part
+  pub shown : Shown w m c shape v (part.content ∷ [])
+
+abbrev pub AllShown : World → source.Memory → core.Memory → Spot → List Shape → List Scalar → Type 0
+AllShown w m c s [] [] = Unit {0}
+AllShown w m c s (x ∷ xs) (v ∷ vs) = IsCellShown w m c s x v × AllShown w m c (source.beyond s 1) xs vs
+AllShown w m c s [] (v ∷ vs) = ⊥
+AllShown w m c s (x ∷ xs) [] = ⊥
+
+pub all_shown_later : (b : ℕ) (w : World) (m m' : source.Memory) (c : core.Memory) (s : Spot) (xs : List Shape) (vs : List Scalar) → Later b m c m' c
+    → AllShown w m c s xs vs → AllShown w m' c s xs vs
+all_shown_later b w m m' c s [] [] l h = tt
+all_shown_later b w m m' c s [] (v ∷ vs) l h = absurd h
+all_shown_later b w m m' c s (x ∷ xs) [] l h = absurd h
+all_shown_later b w m m' c s (x ∷ xs) (v ∷ vs) l h = (
+  record { part = h.0.part; is = h.0.is; shown = shown_later b w m m' c c x v (h.0.part.content ∷ []) l h.0.shown },
+  all_shown_later b w m m' c (source.beyond s 1) xs vs l h.1,
+)
+
+cells_kept : (b : ℕ) (m m' : source.Memory) (c : core.Memory) (s : Spot) (xs : List Shape) → Later b m c m' c → AreCells m s xs → AreCells m' s xs
+cells_kept b m m' c s [] l h = tt
+cells_kept b m m' c s (x ∷ xs) l h = (l.shapes s x h.0, cells_kept b m m' c (source.beyond s 1) xs l h.1)
+
+-- one cell is written
+record IsHeld (w : World) (m : source.Memory) (c : core.Memory) (s : Spot) (shape : Shape) (v : Scalar) : Type 0 where
+  agree : Agree w (m_written m s shape v) c
+  later : (b : ℕ) → Later b m c (m_written m s shape v) c
+
+held_is : (w : World) (m : source.Memory) (c : core.Memory) (s : Spot) (shape : Shape) (v : Scalar) → Agree w m c → HasShape m s shape
+    → IsCellShown w m c s shape v → IsHeld w m c s shape v
+held_is w m c s shape v a has one =
+    let same = same_part c (at s) one.part one.is in
+    record {
+      agree = subst (λ z. Agree w (m_written m s shape v) z) same
+          (agree_written w m c s shape has.content v one.part one.part.content a has.is one.is one.shown);
+      later = λ b. subst (λ z. Later b m c (m_written m s shape v) z) same
+          (later_written b m c s shape has.content (Holds v) one.part one.part.content has.is one.is);
+    }
+
+pub write_all : (w : World) (fs : Program) (n b : ℕ) (xs : List Shape) (vs : List Scalar) (m : source.Memory) (c : core.Memory) (t : Spot)
+    (s : Unit {0} → source.Memory → steps.Step) (k : core_steps.Step) → is_live m t.region ≡ true → Agree w m c → AreCells m t xs → AllShown w m c t xs vs
+    → ((m' : source.Memory) → Agree w m' c → Later b m c m' c → Same w fs n (s tt m') k) → Same w fs n (write_cells t vs s m) k
+write_all w fs n b [] [] m c t s k live a cells shown go = go m a (later_self b m c)
+write_all w fs n b [] (v ∷ vs) m c t s k live a cells shown go = absurd shown
+write_all w fs n b (x ∷ xs) [] m c t s k live a cells shown go = absurd shown
+write_all w fs n b (x ∷ xs) (v ∷ vs) m c t s k live a cells shown go = first (write_all w fs n b xs vs (m_written m t x v) c (source.beyond t 1) s k live held.agree
+    (cells_kept b m (m_written m t x v) c (source.beyond t 1) xs (held.later b) cells.1)
+    (all_shown_later b w m (m_written m t x v) c (source.beyond t 1) xs vs (held.later b) shown.1)
+    (λ m' a' l. go m' a' (later_on b m (m_written m t x v) m' c c c (held.later b) l)))
+  where
+    held : IsHeld w m c t x v
+    held = held_is w m c t x v a cells.0 shown.0
+
+    rest : Unit {0} → source.Memory → steps.Step
+    rest u = write_cells (source.beyond t 1) vs s
+
+    put_done : Same w fs n (rest tt (m_written m t x v)) k → Same w fs n (put_content t (Holds v) rest m) k
+    put_done more = rw (live, cells.0.is) more
+
+    of_type : (b : Bool) → is_of x v ≡ b → Same w fs n (rest tt (m_written m t x v)) k
+        → Same w fs n (check (is_of x v) (λ u. put_content t (Holds v) rest) m) k
+    of_type false e more = rw e (stuck_same w fs n k)
+    of_type true e more = rw e (put_done more)
+
+    lent : (y : source.Content) → Same w fs n (rest tt (m_written m t x v)) k
+        → Same w fs n (check (not (is_lent y)) (λ u. check (is_of x v) (λ u. put_content t (Holds v) rest)) m) k
+    lent source.Lent more = stuck_same w fs n k
+    lent source.Blank more = of_type (is_of x v) refl more
+    lent source.Gone more = of_type (is_of x v) refl more
+    lent (Holds u) more = of_type (is_of x v) refl more
+
+    first : Same w fs n (rest tt (m_written m t x v)) k → Same w fs n (write_cells t (v ∷ vs) s m) k
+    first more = rw (live, cells.0.is) (lent cells.0.content more)
+
+-- ---- Core copies
+
+-- what a copy makes of a part: it lies where it did
+record IsCopied (p : Part) (x : Option Part) : Type 0 where
+  content : Content
+  is : x ≡ Some (record { offset = p.offset; width = p.width; content = content })
+
+copied_is : (l : Layout) (to from : core.Spot) (c : core.Memory) (u : core.Spot) (j : ℕ) (p : Part) → c.parts u j ≡ Some p
+    → IsCopied p ((copied l to from c).parts u j)
+copied_is l to from c u j p e = by (cells_on (length l.cells) to u) refl (part_of l (cells_on (length l.cells) to u) j) refl
+  where
+    source_part : (k : Option ℕ) → cells_on (length l.cells) to u ≡ k → (x : PartShape) → part_of l (cells_on (length l.cells) to u) j ≡ Some x
+        → (q : Option Part) → c.parts (on_from from (cells_on (length l.cells) to u)) j ≡ q → IsCopied p ((copied l to from c).parts u j)
+    source_part k f x g None h = record { content = p.content; is = rw (e, g, h) refl }
+    source_part k f x g (Some q) h = record { content = q.content; is = rw (e, g, h) refl }
+
+    by : (k : Option ℕ) → cells_on (length l.cells) to u ≡ k → (x : Option PartShape) → part_of l (cells_on (length l.cells) to u) j ≡ x
+        → IsCopied p ((copied l to from c).parts u j)
+    by k f None g = record { content = p.content; is = rw (e, g) refl }
+    by k f (Some x) g = source_part k f x g (c.parts (on_from from (cells_on (length l.cells) to u)) j) refl
+
+copied_keeps : (l : Layout) (to from : core.Spot) (c : core.Memory) (u : core.Spot) (j offset width : ℕ) → PartIs c u j offset width
+    → PartIs (copied l to from c) u j offset width
+copied_keeps l to from c u j offset width h =
+    let one = copied_is l to from c u j (record { offset = offset; width = width; content = h.content }) h.is in
+    record { content = one.content; is = one.is }
+
+copied_none : (l : Layout) (to from : core.Spot) (c : core.Memory) (u : core.Spot) (j : ℕ) → c.parts u j ≡ None → (copied l to from c).parts u j ≡ None
+copied_none l to from c u j e = rw e refl
+
+copied_other : (l : Layout) (to from : core.Spot) (c : core.Memory) (u : core.Spot) (j : ℕ) → same_object u to ≡ false
+    → (copied l to from c).parts u j ≡ c.parts u j
+copied_other l to from c u j other = by (c.parts u j) refl
+  where
+    nowhere : cells_on (length l.cells) to u ≡ None
+    nowhere = ap (λ z. if z && (nat_le to.cell u.cell && nat_lt u.cell (to.cell + length l.cells)) then Some (u.cell - to.cell) else None) other
+
+    by : (x : Option Part) → c.parts u j ≡ x → (copied l to from c).parts u j ≡ c.parts u j
+    by None e = rw e refl
+    by (Some p) e = rw (e, nowhere) refl
+
+pub copied_here : (l : Layout) (r : core.Region) (index : ℕ) (from : core.Spot) (c : core.Memory) (k j : ℕ) (xs : List PartShape) (x : PartShape) (p q : Part)
+    → k < length l.cells → slice_get l.cells k ≡ Some xs → slice_get xs j ≡ Some x
+    → c.parts (record { region = r; object = index; cell = k }) j ≡ Some p → c.parts (core.beyond from k) j ≡ Some q
+    → (copied l (record { region = r; object = index; cell = 0 }) from c).parts (record { region = r; object = index; cell = k }) j
+    ≡ Some (record p { content = q.content })
+copied_here l r index from c k j xs x p q less is shape part there = rw (part, here, is, shape, there) refl
+  where
+    t : core.Spot
+    t = record { region = r; object = index; cell = 0 }
+
+    u : core.Spot
+    u = record { region = r; object = index; cell = k }
+
+    within : nat_lt k (0 + length l.cells) ≡ true
+    within = grind (arith, nat_tests, less)
+
+    after : nat_le 0 k ≡ true
+    after = grind (arith, nat_tests)
+
+    none : k - 0 ≡ k
+    none = omega arith
+
+    here : cells_on (length l.cells) t u ≡ Some k
+    here =
+        ap (λ z. if (z && nat_eq index index) && (nat_le 0 k && nat_lt k (0 + length l.cells)) then Some (k - 0) else None) (region_self r) ∙
+        ap (λ z. if z && (nat_le 0 k && nat_lt k (0 + length l.cells)) then Some (k - 0) else None) (eq-eqb index index refl) ∙
+        ap (λ z. if z && nat_lt k (0 + length l.cells) then Some (k - 0) else None) after ∙
+        ap (λ z. if z then Some (k - 0) else None) within ∙ ap (λ z. Some z) none
+
+pub copied_later : (b : ℕ) (m : source.Memory) (c : core.Memory) (l : Layout) (to from : core.Spot) → Later b m c m (copied l to from c)
+copied_later b m c l to from = record { shapes = λ s shape h. h; parts = copied_keeps l to from c; objects = λ k h. refl; begun = omega arith }
+
+-- memories still agree where the source has no such object yet
+pub agree_copied : (w : World) (m : source.Memory) (c : core.Memory) (k index : ℕ) (from : core.Spot) (l : Layout) → Agree w m c
+    → m.objects (source.Frame k) ≡ index → Agree w m (copied l (at (cell_spot k index 0)) from c)
+agree_copied w m c k index from l a made = record {
+  cells = λ s shape v h. let one = a.cells s shape v h in record {
+    contents = one.contents;
+    shown = shown_later 0 w m m c c' shape v one.contents (copied_later 0 m c l t from) one.shown;
+    held = held_still c c' (at s) 0 one.contents (λ i. copied_other l t from c (at s) i (new_object w m c k index s _ a made h)) one.held;
+  };
+  live = a.live;
+  activations = a.activations;
+  unmade = a.unmade;
+  unentered = λ i u j h r. copied_none l t from c u j (a.unentered i u j h r);
+  unbegun = a.unbegun;
+}
+  where
+    t : core.Spot
+    t = at (cell_spot k index 0)
+
+    c' : core.Memory
+    c' = copied l t from c

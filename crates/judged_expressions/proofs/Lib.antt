@@ -1,3 +1,4 @@
 pub mod Joining
 pub mod Operands
 pub mod Forms
+pub mod MemberForms

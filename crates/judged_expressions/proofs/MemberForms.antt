@@ -6,12 +6,11 @@ use Rattle.std.specs.List.{list_all}
 use Rattle.std.specs.Prelude.{if◌then◌else◌, not, ◌&&◌}
 use Rattle.cyc_tree.specs.Places.{expression_place}
 use Rattle.cyc_tree.specs.Tree.{Expression}
-use Rattle.cyc_tree.specs.View.{OneSuffix, expression_tree, name_tree, suffix_tree, suffixes_of}
-use Rattle.cyc_tree.specs.declared.expression.Expression as code
+use Rattle.cyc_tree.specs.View.{OneSuffix, name_tree, suffix_tree, suffixes_of}
 use Rattle.cyc_tree.specs.declared.expression.Suffix as code_suffix
 use Rattle.cyc_tree.specs.declared.expression.Suffix.TheVariants as form
 use Rattle.cyc_tree.specs.declared.name.Name as code_name
-use Rattle.cyc_tree.proofs.PartForms.{arrow_tree, dot_tree, index_tree}
+use Rattle.cyc_tree.proofs.PartForms.{arrow_tree, dot_tree}
 use Rattle.judged_expressions.specs.Suffixes.{short_suffix, short_suffixes, suffix_taken}
 use Rattle.source_typing.specs.Expressions.{judge, judge_suffixes}
 use Rattle.source_typing.specs.Faults.{fault, type_rule}

@@ -2,16 +2,20 @@
 
 ghost use Rattle.std.specs.Prelude.{◌≡◌, ◌&&◌, IfOk, if◌then◌else◌, map};
 ghost use Rattle.std.specs.List.{list_all};
+ghost use Rattle.cyc_tree.specs.Places.{expression_place};
+ghost use Rattle.cyc_tree.specs.Tree.{Expression, Suffixed};
 ghost use Rattle.cyc_tree.specs.View.{suffix_tree, suffixes_of};
 ghost use Rattle.judged_expressions.specs.Suffixes.{short_suffix, short_suffixes, suffix_taken};
 ghost use Rattle.judged_values.specs.StructMembers.{HasTags};
 ghost use Rattle.judged_values.specs.Values.{value_of};
 ghost use Rattle.scoped_names.specs.Knows.{Knows};
+ghost use Rattle.source_typing.specs.Expressions.{judge};
 ghost use Rattle.source_typing.specs.Faults.{fault, type_rule};
 ghost use Rattle.source_typing.specs.Scope.{Env};
 ghost use Rattle.source_typing.specs.Taken.{are_suffixed, takes_suffixes};
 ghost use Rattle.type_verdicts.specs.Taken.{taken_of};
-ghost use Rattle.type_verdicts.specs.Verdicts.{Is, Wrong, short_of};
+ghost use Rattle.type_verdicts.specs.Verdicts.{Is, Wrong, short_of, shortened};
+ghost use Rattle.source_typing.specs.Taken as rules;
 
 use crate::parts::refused;
 use cyc_tree::Suffix;
@@ -107,9 +111,8 @@ fn member_parts<'p>(
     Ok(judged)
 }
 
-/// What an expression with suffixes is, by what stands before them from this place on. Where a suffix isn't taken, the whole is at fault
-/// there. Fails only where no host memory is left.
-pub fn suffixed<'p>(
+/// What an expression with suffixes is, by what is answered of what stands before them.
+fn judged_suffixes<'p>(
     scope: &Scope<'_, 'p>,
     tables: &Tables<'p>,
     taken: Taken,
@@ -127,4 +130,22 @@ pub fn suffixed<'p>(
     } else {
         Ok(refused(at))
     }
+}
+
+/// What an expression with suffixes is, by what stands before them from this place on. Where a suffix isn't taken, the whole is at fault
+/// there. Fails only where no host memory is left.
+pub fn suffixed<'p>(
+    scope: &Scope<'_, 'p>,
+    tables: &Tables<'p>,
+    taken: Taken,
+    at: u32,
+    first: Verdict<Value<'p>>,
+    suffixes: &[Suffix],
+) -> Result<Verdict<Value<'p>>, AllocError>
+    ensures { (g : Env) (e : Expression) → Knows scope.now g → HasTags tables.now g
+        → short_of value_of first.entry ≡ shortened (judge g (rules.taken (taken_of taken) e)) → at ≡ expression_place e → IfOk result (λ v. short_of value_of v
+        ≡ shortened (judge g (rules.taken (taken_of taken) (Suffixed e (suffixes_of (map suffix_tree suffixes.now)))))) }
+{
+    let found = judged_suffixes(scope, tables, taken, at, first, suffixes)?;
+    Ok(found)
 }

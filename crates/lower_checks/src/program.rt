@@ -7,7 +7,7 @@ ghost use Rattle.cyc_core.specs.Trees.{function_tree, datum_tree, program_tree};
 ghost use Rattle.source_meaning.specs.Shapes.{IntShape, UnsignedShape, CharShape, written, settled};
 ghost use Rattle.source_meaning.specs.Steps.{World};
 ghost use Rattle.source_meaning.specs.Programs.{world_of, functions_of};
-ghost use Rattle.source_lowering.specs.Programs.{function_code, constant_content, initial_content, datum_of, data_of, program_code};
+ghost use Rattle.source_lowering.specs.Programs.{function_code, constant_content, initial_content, global_datum, data_of, program_code};
 ghost use Rattle.source_lowering.specs.Taken.{IsWordType, TakesConstant, TakesInitial, TakesProgram};
 ghost use Rattle.lower_checks.specs.Promise.{IsLoweringOf};
 ghost use Rattle.lower_checks.specs.Views.{shape_tree};
@@ -60,7 +60,7 @@ fn initial_word(initial: &Initial) -> Result<u32, LowerFault>
 fn first_datum(shape: Shape<'_>, initial: &Initial) -> Result<Datum, LowerFault>
     ensures datum { (w : World) →
         let s = shape_tree shape.entry in
-        IfOk result (λ datum. datum_tree datum ≡ datum_of w s (initial_content (initial_tree initial.now) s)) }
+        IfOk result (λ datum. datum_tree datum ≡ global_datum w (initial_tree initial.now) s) }
     ensures taken { IsLocal (shape_tree shape.entry) → TakesInitial (shape_tree shape.entry) (initial_tree initial.now) → NeverRefused result }
 {
     match shape {
@@ -79,7 +79,7 @@ fn first_datum(shape: Shape<'_>, initial: &Initial) -> Result<Datum, LowerFault>
 fn lower_global(global: &Declared) -> Result<Datum, LowerFault>
     ensures datum { (w : World) →
         let s = settled (written (global_tree global.now).of) in
-        IfOk result (λ datum. datum_tree datum ≡ datum_of w s (initial_content (global_tree global.now).initial s)) }
+        IfOk result (λ datum. datum_tree datum ≡ global_datum w (global_tree global.now).initial s) }
     ensures taken { let g = global_tree global.now in IsWordType g.of → TakesInitial (settled (written g.of)) g.initial → NeverRefused result }
 {
     first_datum(Shape::of(&global.of), &global.initial)

@@ -4,13 +4,14 @@ ghost use Rattle.std.specs.Prelude.{◌≡◌, ◌∷◌, ◌++◌, [], OnOk, If
 ghost use Rattle.cyc_tree.specs.View.{expression_tree, declaration_tree, statement_tree as source_tree, item_tree, items_of};
 ghost use Rattle.cyc_core.specs.Trees.{statement_tree};
 ghost use Rattle.source_meaning.specs.Programs.{world_of};
+ghost use Rattle.source_meaning.specs.Steps.{World};
 ghost use Rattle.core_meaning.specs.Core as core;
 ghost use Rattle.source_lowering.specs.Lowered.{static_shape, conversion_code, results_in, expression_code};
-ghost use Rattle.source_lowering.specs.Programs.{local_shape, block_shapes, declaration_code, statement_code, items_code};
+ghost use Rattle.source_lowering.specs.Programs.{local_shape, block_shapes, unset_code, value_code, declaration_code, statement_code, items_code};
 ghost use Rattle.lower_checks.specs.Views.{shape_tree, target_shape};
 ghost use Rattle.lower_checks.specs.Visible.{left, names_of};
 ghost use Rattle.source_lowering.specs.Taken.{Takes, TakesDeclaration, TakesStatement, TakesItems};
-ghost use Rattle.lower_checks.specs.Refusals.{NeverRefused};
+ghost use Rattle.lower_checks.specs.Refusals.{IsLocal, NeverRefused};
 
 use crate::emit::{emit, emit_block, emit_if, emit_operation, emit_while};
 use crate::expression::lower_expression;
@@ -38,7 +39,53 @@ fn declared_type<'p>(declaration: &'p Declaration) -> Result<Target<'p>, LowerFa
     }
 }
 
+/// Appends what a local of a number begins with where it has no initializer, by its shape. Refuses a struct.
+fn lower_unset(shape: Shape<'_>, body: &mut Vec<Statement>, index: u32) -> Result<(), LowerFault>
+    ensures code { (w : World) → OnOk result
+        (map statement_tree body.new.items ≡
+        map statement_tree body.old.items ++
+        unset_code w (shape_tree shape.entry) index) }
+    ensures taken { IsLocal (shape_tree shape.entry) → NeverRefused result }
+{
+    match shape {
+        Shape::Struct(_) => Err(LowerFault::NotTaken),
+        _ => {
+            emit_operation(body, first_value(shape))?;
+            let local = Variable { out: 0, index };
+            emit_operation(body, Operation::Put(local, shape.width(), VALUE))
+        }
+    }
+}
+
+/// Appends what gives the local of a number the value of its initializer, in its shape. Refuses a struct.
+fn lower_set(
+    alloc: Global,
+    program: &Table<'_>,
+    locals: &Locals<'_>,
+    shape: Shape<'_>,
+    value: &Expression,
+    body: &mut Vec<Statement>,
+    index: u32,
+) -> Result<(), LowerFault>
+    ensures code { OnOk result
+        (map statement_tree body.new.items ≡
+        map statement_tree body.old.items ++
+        value_code (world_of program.now) (names_of locals.now) (shape_tree shape.entry) (expression_tree value.now) index) }
+    ensures taken { IsLocal (shape_tree shape.entry) → Takes (expression_tree value.now) → NeverRefused result }
+{
+    match shape {
+        Shape::Struct(_) => Err(LowerFault::NotTaken),
+        _ => {
+            let from = lower_expression(alloc, program, locals, value, body, VALUE)?;
+            lower_conversion(alloc, body, shape, from, VALUE)?;
+            let local = Variable { out: 0, index };
+            emit_operation(body, Operation::Put(local, shape.width(), VALUE))
+        }
+    }
+}
+
 /// Appends what gives the local of a number its first value: that of its shape, or its initializer's value.
+#[tactic(auto, using(crate::proofs::Taken::type_local))]
 fn lower_declaration(
     alloc: Global,
     program: &Table<'_>,
@@ -57,18 +104,10 @@ fn lower_declaration(
         return Err(LowerFault::NotTaken);
     };
     let shape = Shape::of(of);
-    let local = Variable { out: 0, index };
     match initializer {
-        Initializer::None => {
-            emit_operation(body, first_value(shape))?;
-            emit_operation(body, Operation::Put(local, shape.width(), VALUE))
-        }
+        Initializer::None => lower_unset(shape, body, index),
         Initializer::Array(_) => Err(LowerFault::NotTaken),
-        Initializer::Value(value) => {
-            let from = lower_expression(alloc, program, locals, value, body, VALUE)?;
-            lower_conversion(alloc, body, shape, from, VALUE)?;
-            emit_operation(body, Operation::Put(local, shape.width(), VALUE))
-        }
+        Initializer::Value(value) => lower_set(alloc, program, locals, shape, value, body, index),
     }
 }
 

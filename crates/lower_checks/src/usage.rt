@@ -47,6 +47,7 @@ fn of_operation(operation: Operation) -> u64
         | Operation::Put(_, _, t)
         | Operation::Getchar(t) => up_to(t),
         Operation::Narrow(t, x)
+        | Operation::Offset(t, x, _, _)
         | Operation::Load(t, x, _)
         | Operation::Store(t, _, x)
         | Operation::IsNull(t, x)
@@ -54,7 +55,7 @@ fn of_operation(operation: Operation) -> u64
         Operation::Apply(_, t, x, y) | Operation::SamePlace(t, x, y) => {
             u64::max(up_to(t), u64::max(up_to(x), up_to(y)))
         }
-        Operation::Move(_, _) | Operation::Offset(..) => 0,
+        Operation::Move(_, _) => 0,
     }
 }
 
@@ -72,11 +73,9 @@ fn of_statement(statement: &Statement) -> u64
             u64::max(up_to(*t), u64::max(temporaries(test), temporaries(body)))
         }
         Statement::Block(_, body) => temporaries(body),
-        Statement::Copy(..)
-        | Statement::Clear(..)
-        | Statement::Break
-        | Statement::Continue
-        | Statement::Raise(_) => 0,
+        Statement::Copy(to, from, _) => u64::max(up_to(*to), up_to(*from)),
+        Statement::Clear(pointer, _) => up_to(*pointer),
+        Statement::Break | Statement::Continue | Statement::Raise(_) => 0,
         Statement::Call(result, _, arguments) => {
             u64::max(up_to_optional(*result), last(arguments))
         }

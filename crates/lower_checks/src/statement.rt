@@ -1,16 +1,17 @@
 // Declarations, statements and blocks.
 
 ghost use Rattle.std.specs.Prelude.{◌≡◌, ◌∷◌, ◌++◌, [], OnOk, IfOk, length, map};
-ghost use Rattle.cyc_tree.specs.View.{expression_tree, declaration_tree, statement_tree as source_tree, item_tree, items_of};
+ghost use Rattle.cyc_tree.specs.View.{type_tree, expression_tree, declaration_tree, statement_tree as source_tree, item_tree, items_of};
 ghost use Rattle.cyc_core.specs.Trees.{statement_tree};
 ghost use Rattle.source_meaning.specs.Programs.{world_of};
+ghost use Rattle.source_meaning.specs.Shapes.{settled, written};
 ghost use Rattle.source_meaning.specs.Steps.{World};
 ghost use Rattle.core_meaning.specs.Core as core;
 ghost use Rattle.source_lowering.specs.Lowered.{static_shape, conversion_code, results_in, expression_code};
 ghost use Rattle.source_lowering.specs.Programs.{local_shape, block_shapes, unset_code, value_code, declaration_code, statement_code, items_code};
 ghost use Rattle.lower_checks.specs.Views.{shape_tree, target_shape};
 ghost use Rattle.lower_checks.specs.Visible.{left, names_of};
-ghost use Rattle.source_lowering.specs.Taken.{Takes, TakesDeclaration, TakesStatement, TakesItems};
+ghost use Rattle.source_lowering.specs.Taken.{IsWordType, Takes, TakesDeclaration, TakesStatement, TakesItems};
 ghost use Rattle.lower_checks.specs.Refusals.{IsLocal, NeverRefused};
 
 use crate::emit::{emit, emit_block, emit_if, emit_operation, emit_while};
@@ -22,7 +23,7 @@ use crate::shape::{Shape, Target, add_shape, locals_of};
 use crate::table::Table;
 use crate::values::{first_value, lower_conversion};
 use cyc_core::{Operation, Statement, Temporary, Variable};
-use cyc_tree::{BlockItem, Declaration, Expression, Initializer, Statement as Source};
+use cyc_tree::{BlockItem, Declaration, Expression, Initializer, Statement as Source, TypeName};
 use std::alloc::Global;
 
 /// The first temporary, which has the value of a statement's expression.
@@ -84,6 +85,25 @@ fn lower_set(
     }
 }
 
+/// Appends what gives the local of a number and a type the value of its initializer. Refuses a struct.
+fn lower_initializer(
+    alloc: Global,
+    program: &Table<'_>,
+    locals: &Locals<'_>,
+    of: &TypeName,
+    value: &Expression,
+    body: &mut Vec<Statement>,
+    index: u32,
+) -> Result<(), LowerFault>
+    ensures code { OnOk result
+        (map statement_tree body.new.items ≡
+        map statement_tree body.old.items ++
+        value_code (world_of program.now) (names_of locals.now) (settled (written (type_tree of.now))) (expression_tree value.now) index) }
+    ensures taken { IsWordType (type_tree of.now) → Takes (expression_tree value.now) → NeverRefused result }
+{
+    lower_set(alloc, program, locals, Shape::of(of), value, body, index)
+}
+
 /// Appends what gives the local of a number its first value: that of its shape, or its initializer's value.
 #[tactic(auto, using(crate::proofs::Taken::type_local))]
 fn lower_declaration(
@@ -103,11 +123,12 @@ fn lower_declaration(
     let Declaration::Local(of, _, initializer) = declaration else {
         return Err(LowerFault::NotTaken);
     };
-    let shape = Shape::of(of);
     match initializer {
-        Initializer::None => lower_unset(shape, body, index),
+        Initializer::None => lower_unset(Shape::of(of), body, index),
         Initializer::Array(_) => Err(LowerFault::NotTaken),
-        Initializer::Value(value) => lower_set(alloc, program, locals, shape, value, body, index),
+        Initializer::Value(value) => {
+            lower_initializer(alloc, program, locals, of, value, body, index)
+        }
     }
 }
 

@@ -8,6 +8,7 @@ pub mod Layers
 pub mod Likeness
 pub mod Measures
 pub mod Regions
+pub mod Sameness
 pub mod Scalars
 pub mod Tables
 pub mod Tags

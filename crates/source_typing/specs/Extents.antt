@@ -1,5 +1,5 @@
 -- The bytes of a type, and of the variables and strings of a program.
-use Rattle.std.specs.Prelude.{Bool, List, None, Option, Some, false, nat_le, true, ℕ, ◌*◌, [], ◌∷◌}
+use Rattle.std.specs.Prelude.{Bool, List, None, Option, Some, bytes_eq, false, if◌then◌else◌, nat_le, true, ℕ, ◌*◌, ◌||◌, [], ◌∷◌}
 use Rattle.source_meaning.specs.Shapes.{Layout, Shape, VoidShape}
 use Rattle.source_meaning.specs.Sizes.{extent_by, struct_extent, union_extent}
 use Rattle.source_typing.specs.Tables.{Entry, OfTag, Part, Tables, Tag}
@@ -15,13 +15,21 @@ abbrev pub part_shapes : List Part → List shapes.Part
 part_shapes [] = []
 part_shapes (p ∷ ps) = record { name = p.name; shape = known_shape p.type } ∷ part_shapes ps
 
--- the structs, or the unions, of a program, the latest first
+-- a layout of this tag is among them
+abbrev pub is_laid_out : List Layout → List ℕ → Bool
+is_laid_out [] x = false
+is_laid_out (l ∷ ls) x = bytes_eq l.tag x || is_laid_out ls x
+
+abbrev pub layout_added : Layout → List Layout → List Layout
+layout_added l ls = (if is_laid_out ls l.tag then ls else l ∷ ls)
+
+-- The structs, or the unions, of a program, the latest first. Of several of a name it is the first that the name means.
 abbrev pub layouts_onto : Bool → List Layout → Tables → List Layout
 layouts_onto union so_far [] = so_far
 layouts_onto union so_far (n ∷ ns) = layouts_onto union (of_entry n.entry so_far) ns
   where
     of_kind : Bool → Tag → List Layout → List Layout
-    of_kind true t ls = record { tag = t.text; parts = part_shapes t.parts } ∷ ls
+    of_kind true t ls = layout_added (record { tag = t.text; parts = part_shapes t.parts }) ls
     of_kind false t ls = ls
 
     of_entry : Entry → List Layout → List Layout

@@ -5,9 +5,9 @@ use Rattle.cyc_tree.specs.Tree.{TypeName}
 use Rattle.cyc_tree.specs.declared.name.Sign.{Sign}
 use Rattle.source_typing.specs.Faults.{Fault, fault, name_rule, region_rule, type_rule}
 use Rattle.source_typing.specs.Regions.{Region, TheHeap}
-use Rattle.source_typing.specs.Tables.{Entry, OfFunction, OfTag, OfValue, Tables, Tag, Unknown, find, tag_in}
+use Rattle.source_typing.specs.Tables.{Entry, OfTag, Tables, Tag, find, tag_in}
 use Rattle.source_typing.specs.Types.{Char, Fat, Handle, Int, Key, PartialType, Struct, Thin, Union, Unique, Unsigned, Void, same_bool}
-use Rattle.source_typing.specs.Verdicts.{Faulty, Of, Unjudged, Verdict, other_kind, refuse, unless_faulty}
+use Rattle.source_typing.specs.Verdicts.{Faulty, Of, Unjudged, Verdict, refuse, unless_faulty}
 use Rattle.cyc_tree.specs.Tree as tree
 use Rattle.cyc_tree.specs.declared.name.Sign.TheVariants as sign
 
@@ -132,12 +132,11 @@ abbrev pub if_sound : {A : Type 0} → Bool → Verdict A → Verdict A
 if_sound true v = v
 if_sound false v = Unjudged
 
--- The tag of a type, with its count of region parameters: an unknown name is Name at it, a name of another kind Type at it.
+-- The tag of a type, with its count of region parameters: an unknown name is Name at it, a name of another kind Type at it, whether or not its own
+-- declaration is at fault.
 abbrev pub tag_of : Option Entry → Bool → ℕ → Verdict ℕ
 tag_of None union at = refuse name_rule at
 tag_of (Some (OfTag t)) union at = if_sound t.sound (of_kind (same_bool t.is_union union) t at)
-tag_of (Some (OfValue Unknown)) union at = Unjudged
-tag_of (Some (OfFunction s)) union at = other_kind s.sound at
 tag_of (Some e) union at = refuse type_rule at
 
 abbrev pub base_of : Tables → tree.Base → Verdict ℕ

@@ -3,7 +3,7 @@ use Rattle.std.specs.Prelude.{List, None, Option, Some, false, if◌then◌else�
 use Rattle.cyc_tree.specs.Tree.{Name, TypeName}
 use Rattle.source_typing.specs.Faults.{Fault, name_rule, type_rule}
 use Rattle.source_typing.specs.Functions.{AllSpotted, Variables, parameter_type, take_spots}
-use Rattle.source_typing.specs.Tables.{Entry, OfFunction, OfTag, OfValue, Tables, Unknown, find, tag_in}
+use Rattle.source_typing.specs.Tables.{Entry, OfTag, Tables, find, tag_in}
 use Rattle.source_typing.specs.Taken.{Taken, takes_pointers, type_taken}
 use Rattle.source_typing.specs.Types.{PartialType, StaticType}
 use Rattle.source_typing.specs.Verdicts.{Of, Unjudged, Verdict, refuse, unless_faulty}
@@ -28,8 +28,6 @@ struct_taken k t = (if takes_pointers k t.pointers then struct_base k t.base els
 abbrev pub tag_name_of : Option Entry → TagName
 tag_name_of None = code.NoName
 tag_name_of (Some (OfTag t)) = (if t.sound then code.Tag t.is_union else code.NotJudged)
-tag_name_of (Some (OfValue Unknown)) = code.NotJudged
-tag_name_of (Some (OfFunction s)) = (if s.sound then code.Other else code.NotJudged)
 tag_name_of (Some e) = code.Other
 
 -- a name means this, and has no region parameters

@@ -29,7 +29,7 @@ pub enum TagName {
     NoName,
     /// A struct or union whose declaration has no fault; whether it is a union.
     Tag(bool),
-    /// What is declared by a phrase at fault.
+    /// A struct or union whose declaration is at fault.
     NotJudged,
     /// What is neither struct nor union.
     Other,

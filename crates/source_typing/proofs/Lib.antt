@@ -22,6 +22,7 @@ mod ConsumedSamples1
 mod ConsumedSamples2
 mod LentSamples
 mod SizeSamples
+mod TagSamples
 mod TakenSamples
 mod TotalSamples
 mod FormSamples1

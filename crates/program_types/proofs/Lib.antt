@@ -3,7 +3,6 @@ pub mod GlobalTypes
 pub mod Globals
 pub mod Items
 pub mod ItemNames
-pub mod NoTexts
 pub mod Scopes
 pub mod Seeing
 pub mod Sizes

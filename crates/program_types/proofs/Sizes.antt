@@ -16,7 +16,7 @@ use Rattle.source_typing.specs.Types.{Char, Int, StaticType, Thin, Unsigned}
 use Rattle.source_typing.specs.Verdicts.{Faulty, Of, Unjudged, Verdict}
 use Rattle.program_types.proofs.GlobalTypes.{IsJudged, global_judged}
 use Rattle.program_types.proofs.Globals.{alone}
-use Rattle.program_types.proofs.NoTexts.{item_silent}
+use Rattle.source_typing.proofs.NoStrings.{item_silent}
 use Rattle.program_types.specs.Globals.{begins_alone, faults_by, global_taken}
 use Rattle.program_types.specs.Programs.{Adds}
 use Rattle.cyc_tree.specs.Tree as tree
@@ -74,7 +74,7 @@ pub global_added : (g : Env) (x : tree.Global) (n : ℕ) → n ≡ if_clean (glo
     → Adds n x.of.at (item_statics g (item_taken thin_pointers (tree.GlobalItem x)))
 global_added g x n e =
     let statics : item_statics g (item_taken thin_pointers (tree.GlobalItem x)) ≡ (x.of.at, n) ∷ [] =
-    ap (λ ss. ((global_taken x).of.at, rounded_up (global_size g (global_taken x)) 8) ∷ map static_string ss) (item_silent (tree.GlobalItem x))
+    ap (λ ss. ((global_taken x).of.at, rounded_up (global_size g (global_taken x)) 8) ∷ map static_string ss) (item_silent thin_pointers refl (tree.GlobalItem x))
     ∙ ap (λ at. (at, rounded_up (global_size g (global_taken x)) 8) ∷ [])
     (global_place (takes_type thin_pointers x.of && takes_initial thin_pointers x.initial) x (initial_taken thin_pointers x.of x.initial))
     ∙ ap (λ m. (x.of.at, m) ∷ []) (global_bytes g x ∙ sym e)
@@ -82,7 +82,7 @@ global_added g x n e =
     subst (λ ss. Adds n x.of.at ss) (sym statics) (one_added n x.of.at)
 
 pub function_added : (g : Env) (f : tree.Function) → Adds 0 f.result.at (item_statics g (item_taken thin_pointers (tree.FunctionItem f)))
-function_added g f = subst (λ ss. Adds 0 f.result.at ss) (sym (ap (λ ls. map static_string ls) (item_silent (tree.FunctionItem f)))) (nothing_added f.result.at)
+function_added g f = subst (λ ss. Adds 0 f.result.at ss) (sym (ap (λ ls. map static_string ls) (item_silent thin_pointers refl (tree.FunctionItem f)))) (nothing_added f.result.at)
 
 -- ---- items one after the other
 

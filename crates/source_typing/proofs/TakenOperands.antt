@@ -14,7 +14,7 @@ use Rattle.source_meaning.specs.Expressions.{is_unique_region}
 use Rattle.source_typing.specs.Taken.{Taken, refused, refused_statement, if_taken, takes_prefix, takes_suffixes, takes_made, takes_handle, taken, all_taken}
 use Rattle.source_typing.specs.Taken.{links_taken, suffixes_taken, made_taken, initializer_taken, takes_type, takes_initializer, declared_if}
 use Rattle.source_typing.specs.Taken.{declaration_taken, result_taken, statement_if, statement_taken, items_taken, clauses_taken, function_taken, item_taken}
-use Rattle.source_typing.specs.Taken.{only_taken, integers, are_suffixed}
+use Rattle.source_typing.specs.Taken.{only_taken, are_suffixed}
 
 -- what stands as it is, and isn't what stands for other forms, is taken
 kept_form : (b : Bool) (at : ℕ) (x y : Expression) → if_taken b at x ≡ y → (refused at ≡ y → ⊥) → x ≡ y
@@ -26,13 +26,6 @@ prefix_kept : (b : Bool) (at : ℕ) (o : Prefix) (x y : Expression) → if_taken
     → (x ≡ y → ExpressionHasOperands y) → ExpressionHasOperands y
 prefix_kept true at o x y p f = let is : x ≡ y = cc in f is
 prefix_kept false at o x y p f = let is : Expression.Null at ≡ y = cc in subst ExpressionHasOperands is tt
-
--- a primary with suffixes is no form of integers
-pub no_suffixes : (es : Suffixes) → are_suffixed es && takes_suffixes integers es ≡ false
-no_suffixes NoSuffixes = refl
-no_suffixes (Index i es) = refl
-no_suffixes (Dot f es) = refl
-no_suffixes (Arrow f es) = refl
 
 -- ---- expressions
 

@@ -1,5 +1,5 @@
 -- The fault that is answered of two lists of faults is one of those that are answered of each.
-use Rattle.std.specs.Prelude.{nat_le, ◌++◌, if◌then◌else◌}
+use Rattle.std.specs.Prelude.{nat_le, unwrap_or, ◌++◌, if◌then◌else◌}
 use Rattle.std.proofs.Common.{◌≡◌, ℕ, Bool, true, false, Option, Some, None, List, [], ◌∷◌, refl, sym, ◌∙◌, ap, arith}
 use Rattle.std.proofs.lemmas.Bool.Decides.{nat_tests}
 use Rattle.source_typing.specs.Faults.{Fault, earliest, is_before, is_of_flow, rank_of, sooner_of}
@@ -67,6 +67,23 @@ pub sooner_first : (f : Fault) (a b : Option Fault) → sooner_of f (first_of a 
 sooner_first f None b = refl
 sooner_first f (Some g) None = refl
 sooner_first f (Some g) (Some h) = ap Some (sooner_joined f g h)
+
+pub first_joined : (a b c : Option Fault) → first_of (first_of a b) c ≡ first_of a (first_of b c)
+first_joined None b c = refl
+first_joined (Some f) b c = sym (sooner_first f b c)
+
+pub first_none : (a : Option Fault) → first_of a None ≡ a
+first_none None = refl
+first_none (Some f) = refl
+
+-- the sooner of a fault and another is some fault
+pub sooner_some : (f : Fault) (o : Option Fault) → Some (unwrap_or (sooner_of f o) f) ≡ sooner_of f o
+sooner_some f None = refl
+sooner_some f (Some g) = refl
+
+pub sooner_none : (f : Fault) (o : Option Fault) → None ≡ sooner_of f o → ⊥
+sooner_none f None e = absurd cc
+sooner_none f (Some g) e = absurd cc
 
 -- the fault that is answered of two lists
 pub earliest_of_both : (fs gs : List Fault) → earliest (fs ++ gs) ≡ first_of (earliest fs) (earliest gs)

@@ -3,10 +3,10 @@ use Rattle.std.proofs.Common.{◌≡◌, ℕ, ◌≤◌, Bool, true, false, List
 use Rattle.std.proofs.lemmas.Bool.{and_parts}
 use Rattle.std.proofs.lemmas.List.{append_assoc, append-nil}
 use Rattle.std.proofs.lemmas.Slice.Eq.{bytes_eq-Decides}
-use Rattle.std.specs.Prelude.{None, Option, Some, bytes_eq, is_none, is_some, nat_eq}
+use Rattle.std.specs.Prelude.{None, Option, Some, bytes_eq, if◌then◌else◌, is_none, is_some, nat_eq, ◌||◌}
 use Rattle.source_meaning.specs.Shapes.{Layout, parts_of}
 use Rattle.source_meaning.specs.Sizes.{Extent, extent_by, laid_out, largest, no_extent, struct_extent, union_extent}
-use Rattle.source_typing.specs.Extents.{fits_bytes, known_shape, layouts_of, layouts_onto, part_shapes}
+use Rattle.source_typing.specs.Extents.{fits_bytes, is_laid_out, known_shape, layouts_of, layouts_onto, part_shapes}
 use Rattle.source_typing.specs.Tables.{OfTag, Part, each_part, if_known}
 use Rattle.source_typing.specs.Types.{Char, Fat, Handle, Int, Key, Null, StaticType, Struct, Thin, Union, Unique, Unsigned, Void, same_bool, shape_of}
 use Rattle.cyc_types.specs.InOrder.{are_known, is_known}
@@ -28,17 +28,49 @@ members e = members_of e.1.tag.members.items
 abbrev pub layout_of : Entry → Layout
 layout_of e = record { tag = e.0.now; parts = part_shapes (members e) }
 
-one_of : (wanted u : Bool) (name : List ℕ) (t : rules.Tag) (ls : List Layout)
+one_of : (wanted u : Bool) (name : List ℕ) (t : rules.Tag) (ls : List Layout) → is_laid_out ls t.text ≡ false
     → layouts_onto wanted ls (record { name = name; entry = OfTag (record t { is_union = u }) } ∷ [])
     ≡ cond (same_bool wanted u) (record { tag = t.text; parts = part_shapes t.parts } ∷ ls) ls
-one_of true true name t ls = refl
-one_of true false name t ls = refl
-one_of false true name t ls = refl
-one_of false false name t ls = refl
+one_of true true name t ls h = ap (λ b. if b then ls else record { tag = t.text; parts = part_shapes t.parts } ∷ ls) h
+one_of true false name t ls h = refl
+one_of false true name t ls h = refl
+one_of false false name t ls h = ap (λ b. if b then ls else record { tag = t.text; parts = part_shapes t.parts } ∷ ls) h
 
-pub one_more : (wanted : Bool) (e : Entry) (ls : List Layout)
+pub one_more : (wanted : Bool) (e : Entry) (ls : List Layout) → is_laid_out ls e.0.now ≡ false
     → layouts_onto wanted ls (named_by e ∷ []) ≡ cond (same_bool wanted e.1.tag.is_union) (layout_of e ∷ ls) ls
-one_more wanted e ls = one_of wanted e.1.tag.is_union e.0.now (tag_of e.0.now e.1.tag) ls
+one_more wanted e ls h = one_of wanted e.1.tag.is_union e.0.now (tag_of e.0.now e.1.tag) ls h
+
+-- ---- each layout is one of those that were found
+
+-- a name that isn't found has no layout
+abbrev pub AreOf : List Entry → List Layout → Type 0
+AreOf acc ls = (x : List ℕ) → is_none (found acc x) ≡ true → is_laid_out ls x ≡ false
+
+none_of_more : (acc : List Entry) (e : Entry) (x : List ℕ) → is_none (found (acc ++ e ∷ []) x) ≡ true
+    → (is_none (found acc x) ≡ true) × (bytes_eq x e.0.now ≡ false)
+none_of_more [] e x h = by (bytes_eq x e.0.now) refl h
+  where
+    by : (b : Bool) → bytes_eq x e.0.now ≡ b → is_none (cond b (Some e.1) None) ≡ true → (is_none (found [] x) ≡ true) × (bytes_eq x e.0.now ≡ false)
+    by true at h = absurd (true≢false (sym h))
+    by false at h = (refl, at)
+none_of_more (a ∷ others) e x h = by (bytes_eq x a.0.now) h (none_of_more others e x)
+  where
+    by : (b : Bool) → is_none (cond b (Some a.1) (found (others ++ e ∷ []) x)) ≡ true
+        → (is_none (found (others ++ e ∷ []) x) ≡ true → (is_none (found others x) ≡ true) × (bytes_eq x e.0.now ≡ false))
+        → (is_none (cond b (Some a.1) (found others x)) ≡ true) × (bytes_eq x e.0.now ≡ false)
+    by true h next = absurd (true≢false (sym h))
+    by false h next = next h
+
+pub more_of : (wanted : Bool) (acc : List Entry) (e : Entry) (ls : List Layout) → AreOf acc ls → is_none (found acc e.0.now) ≡ true
+    → AreOf (acc ++ e ∷ []) (layouts_onto wanted ls (named_by e ∷ []))
+more_of wanted acc e ls of new x h =
+    let split = none_of_more acc e x h in
+    subst (λ l. is_laid_out l x ≡ false) (sym (one_more wanted e ls (of e.0.now new)))
+    (by (same_bool wanted e.1.tag.is_union) (of x split.0) (same_bytes e.0.now x ∙ split.1))
+  where
+    by : (b : Bool) → is_laid_out ls x ≡ false → bytes_eq e.0.now x ≡ false → is_laid_out (cond b (layout_of e ∷ ls) ls) x ≡ false
+    by true p q = ap (λ c. c || is_laid_out ls x) q ∙ p
+    by false p q = p
 
 -- ---- what is found with it
 
@@ -95,15 +127,16 @@ next_union acc e ls true h new so_far tag =
     (sym (ap (λ b. cond b (part_shapes (members e)) []) h)) (so_far tag)
 next_union acc e ls false h new so_far tag = so_far tag ∙ passed union_parts acc e tag (sym (ap (λ b. cond b (part_shapes (members e)) []) h))
 
-pub unions_onto : (acc es : List Entry) (ls : List Layout) → are_known acc es ≡ true → HasUnions ls acc
+pub unions_onto : (acc es : List Entry) (ls : List Layout) → are_known acc es ≡ true → AreOf acc ls → HasUnions ls acc
     → HasUnions (layouts_onto true ls (entries_of es)) (acc ++ es)
-unions_onto acc [] ls known so_far = subst (HasUnions ls) (sym (append-nil acc)) so_far
-unions_onto acc (e ∷ es) ls known so_far =
+unions_onto acc [] ls known of so_far = subst (HasUnions ls) (sym (append-nil acc)) so_far
+unions_onto acc (e ∷ es) ls known of so_far =
     let both = and_parts (is_known acc e.0.now e.1) (are_known (acc ++ e ∷ []) es) known in
-    let next = subst (λ l. HasUnions l (acc ++ e ∷ [])) (sym (one_more true e ls))
-    (next_union acc e ls e.1.tag.is_union refl (facts acc e.0.now e.1 both.0).new so_far) in
+    let new = (facts acc e.0.now e.1 both.0).new in
+    let next = subst (λ l. HasUnions l (acc ++ e ∷ [])) (sym (one_more true e ls (of e.0.now new)))
+    (next_union acc e ls e.1.tag.is_union refl new so_far) in
     subst (HasUnions (layouts_onto true ls (entries_of (e ∷ es)))) (append_assoc acc (e ∷ []) es)
-    (unions_onto (acc ++ e ∷ []) es (layouts_onto true ls (named_by e ∷ [])) both.1 next)
+    (unions_onto (acc ++ e ∷ []) es (layouts_onto true ls (named_by e ∷ [])) both.1 (more_of true acc e ls of new) next)
 
 scalar_small : (t : StaticType) → (extent_by no_extent no_extent (shape_of t)).size ≤ 12
 scalar_small Int = omega arith
@@ -210,15 +243,16 @@ module _ (unions ls : List Layout) (acc : List Entry) (structs : HasStructs unio
       ∙ added (struct_if stored) acc e tag (limited laid) (limited (struct_extent unions ls tag)) (bytes_eq e.0.now tag) refl of.new own (structs tag)
 
 pub structs_onto : (unions : List Layout) (acc es : List Entry) (ls : List Layout) → AllUnions unions (acc ++ es) → are_known acc es ≡ true
-    → HasStructs unions ls acc → HasStructs unions (layouts_onto false ls (entries_of es)) (acc ++ es)
-structs_onto unions acc [] ls of known so_far = subst (HasStructs unions ls) (sym (append-nil acc)) so_far
-structs_onto unions acc (e ∷ es) ls of known so_far =
+    → AreOf acc ls → HasStructs unions ls acc → HasStructs unions (layouts_onto false ls (entries_of es)) (acc ++ es)
+structs_onto unions acc [] ls of known laid so_far = subst (HasStructs unions ls) (sym (append-nil acc)) so_far
+structs_onto unions acc (e ∷ es) ls of known laid so_far =
     let both = and_parts (is_known acc e.0.now e.1) (are_known (acc ++ e ∷ []) es) known in
-    let next = subst (λ l. HasStructs unions l (acc ++ e ∷ [])) (sym (one_more false e ls))
+    let new = (facts acc e.0.now e.1 both.0).new in
+    let next = subst (λ l. HasStructs unions l (acc ++ e ∷ [])) (sym (one_more false e ls (laid e.0.now new)))
     (next_struct unions ls acc so_far (declared_unions unions acc (e ∷ es) of) e e.1.tag.is_union refl both.0) in
     let again : AllUnions unions ((acc ++ e ∷ []) ++ es) = subst (AllUnions unions) (sym (append_assoc acc (e ∷ []) es)) of in
     subst (HasStructs unions (layouts_onto false ls (entries_of (e ∷ es)))) (append_assoc acc (e ∷ []) es)
-    (structs_onto unions (acc ++ e ∷ []) es (layouts_onto false ls (named_by e ∷ [])) again both.1 next)
+    (structs_onto unions (acc ++ e ∷ []) es (layouts_onto false ls (named_by e ∷ [])) again both.1 (more_of false acc e ls laid new) next)
 
 -- ---- all
 
@@ -230,7 +264,7 @@ of_parts ps = limited (bytes_with (largest (extent_by no_extent no_extent) 0 ps)
 
 pub all_unions : (all : List Entry) → are_known [] all ≡ true → AllUnions (layouts_of true (entries_of all)) all
 all_unions all known tag =
-    ap of_parts (unions_onto [] all [] known (λ tag. refl) tag)
+    ap of_parts (unions_onto [] all [] known (λ x h. refl) (λ tag. refl) tag)
     ∙ by (found all tag) refl
   where
     within : (k : Known) (before : List Entry) (x : List ℕ) → is_known before x k ≡ true → (u : Bool) → k.tag.is_union ≡ u
@@ -254,7 +288,7 @@ pub extent_known : (all : List Entry) → are_known [] all ≡ true → (t : Sta
 extent_known all known t =
     let unions = layouts_of true (entries_of all) in
     let structs = layouts_of false (entries_of all) in
-    by_type unions structs (all_unions all known) (structs_onto unions [] all [] (all_unions all known) known (λ tag. refl)) t
+    by_type unions structs (all_unions all known) (structs_onto unions [] all [] (all_unions all known) known (λ x h. refl) (λ tag. refl)) t
   where
     by_type : (unions structs : List Layout) → AllUnions unions all → HasStructs unions structs all → (t : StaticType)
         → limited (extent_by (struct_extent unions structs) (union_extent unions) (shape_of t)) ≡ quick_measure all t

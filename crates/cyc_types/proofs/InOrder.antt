@@ -1,5 +1,5 @@
 -- What is known of structs and unions in order is what the rules say of them.
-use Rattle.std.proofs.Common.{◌≡◌, ℕ, ◌<◌, ◌+◌, Bool, true, false, Bor, List, [], ◌∷◌, ◌++◌, length, refl, sym, ap, subst, ◌∙◌, arith, suc, zero, cond, true≢false, length-append}
+use Rattle.std.proofs.Common.{◌≡◌, ℕ, ◌<◌, ◌≤◌, ◌+◌, Bool, true, false, Bor, List, [], ◌∷◌, ◌++◌, length, refl, sym, ap, subst, ◌∙◌, arith, suc, zero, cond, true≢false, length-append}
 use Rattle.std.proofs.lemmas.Bool.{and_parts}
 use Rattle.std.proofs.lemmas.List.{append_assoc, append-nil, length-map, map_push}
 use Rattle.std.proofs.lemmas.Slice.Eq.{bytes_eq-Decides}
@@ -124,17 +124,17 @@ each_same f g holds (p ∷ ps) h same =
     ap (λ b. b && each_part f ps) (part_same f g holds p.type ((and_parts (if_known holds p.type) (each_part holds ps) h).0) same)
     ∙ ap (λ b. if_known g p.type && b) (each_same f g holds ps ((and_parts (if_known holds p.type) (each_part holds ps) h).1) same)
 
-abbrev is_struct : StaticType → Bool
+abbrev pub is_struct : StaticType → Bool
 is_struct (Struct tag rs) = true
 is_struct t = false
 
 -- a rule that looks into structs to a depth, what is known in its place, and why it is the same
-record Looks (deep : ℕ → rules.Tables → StaticType → Bool) (quick : List Entry → StaticType → Bool) (flag : Known → Bool) : Type 0 where
-  into : (n : ℕ) (g : rules.Tables) (tag : List ℕ) (rs : List Region) → deep (suc n) g (Struct tag rs) ≡ each_part (deep n g) (parts_in g tag)
-  nowhere : (g : rules.Tables) (tag : List ℕ) (rs : List Region) → deep zero g (Struct tag rs) ≡ true
-  else : (n : ℕ) (g : rules.Tables) (es : List Entry) (t : StaticType) → is_struct t ≡ false → deep n g t ≡ quick es t
-  by_flag : (es : List Entry) (tag : List ℕ) (rs : List Region) → quick es (Struct tag rs) ≡ flag_if flag (found es tag)
-  known : (before : List Entry) (x : List ℕ) (k : Known) → is_known before x k ≡ true → flag k ≡ each_part (quick before) (members_of k.tag.members.items)
+pub record Looks (deep : ℕ → rules.Tables → StaticType → Bool) (quick : List Entry → StaticType → Bool) (flag : Known → Bool) : Type 0 where
+  pub into : (n : ℕ) (g : rules.Tables) (tag : List ℕ) (rs : List Region) → deep (suc n) g (Struct tag rs) ≡ each_part (deep n g) (parts_in g tag)
+  pub nowhere : (g : rules.Tables) (tag : List ℕ) (rs : List Region) → deep zero g (Struct tag rs) ≡ true
+  pub else : (n : ℕ) (g : rules.Tables) (es : List Entry) (t : StaticType) → is_struct t ≡ false → deep n g t ≡ quick es t
+  pub by_flag : (es : List Entry) (tag : List ℕ) (rs : List Region) → quick es (Struct tag rs) ≡ flag_if flag (found es tag)
+  pub known : (before : List Entry) (x : List ℕ) (k : Known) → is_known before x k ≡ true → flag k ≡ each_part (quick before) (members_of k.tag.members.items)
 
 module _ (deep : ℕ → rules.Tables → StaticType → Bool) (quick : List Entry → StaticType → Bool) (flag : Known → Bool) (looks : Looks deep quick flag) where
   -- what the rule finds to so many structs, in one that has fewer before it
@@ -188,29 +188,30 @@ module _ (deep : ℕ → rules.Tables → StaticType → Bool) (quick : List Ent
   unknown zero all tag rs at = looks.nowhere (entries_of all) tag rs
   unknown (suc n) all tag rs at = looks.into n (entries_of all) tag rs ∙ ap (each_part (deep n (entries_of all))) (no_parts all tag at)
 
-  by_found : (all : List Entry) → are_known [] all ≡ true → (tag : List ℕ) (rs : List Region) (k : Option Known) → found all tag ≡ k
-      → deep (length (entries_of all)) (entries_of all) (Struct tag rs) ≡ flag_if flag k
-  by_found all known tag rs None at = unknown (length (entries_of all)) all tag rs at
-  by_found all known tag rs (Some k) at =
+  by_found : (n : ℕ) (all : List Entry) → length all ≤ n → are_known [] all ≡ true → (tag : List ℕ) (rs : List Region) (k : Option Known) → found all tag ≡ k
+      → deep n (entries_of all) (Struct tag rs) ≡ flag_if flag k
+  by_found n all many known tag rs None at = unknown n all tag rs at
+  by_found n all many known tag rs (Some k) at =
       let s = split all tag k at in
       let counted : length all ≡ length s.before + length ((s.at, k) ∷ s.after) = ap length s.is ∙ length-append s.before ((s.at, k) ∷ s.after) in
-      let less : length s.before < length (entries_of all) = omega (arith, counted, length-map all named_by) in
-      subst (λ x. deep (length (entries_of all)) (entries_of all) (Struct x rs) ≡ flag k) s.spelling
-      (to_depth (length (entries_of all)) all s.before s.after s.at k known s.is less rs)
+      let less : length s.before < n = omega (arith, counted, many) in
+      subst (λ x. deep n (entries_of all) (Struct x rs) ≡ flag k) s.spelling
+      (to_depth n all s.before s.after s.at k known s.is less rs)
 
-  by_tables : (all : List Entry) → are_known [] all ≡ true → (t : StaticType) → deep (length (entries_of all)) (entries_of all) t ≡ quick all t
-  by_tables all known (Struct tag rs) = by_found all known tag rs (found all tag) refl ∙ sym (looks.by_flag all tag rs)
-  by_tables all known Int = looks.else (length (entries_of all)) (entries_of all) all Int refl
-  by_tables all known Unsigned = looks.else (length (entries_of all)) (entries_of all) all Unsigned refl
-  by_tables all known Char = looks.else (length (entries_of all)) (entries_of all) all Char refl
-  by_tables all known Void = looks.else (length (entries_of all)) (entries_of all) all Void refl
-  by_tables all known Null = looks.else (length (entries_of all)) (entries_of all) all Null refl
-  by_tables all known (Thin m r t) = looks.else (length (entries_of all)) (entries_of all) all (Thin m r t) refl
-  by_tables all known (Fat r t) = looks.else (length (entries_of all)) (entries_of all) all (Fat r t) refl
-  by_tables all known (Unique m t) = looks.else (length (entries_of all)) (entries_of all) all (Unique m t) refl
-  by_tables all known (Handle r) = looks.else (length (entries_of all)) (entries_of all) all (Handle r) refl
-  by_tables all known (Key r) = looks.else (length (entries_of all)) (entries_of all) all (Key r) refl
-  by_tables all known (Union tag rs) = looks.else (length (entries_of all)) (entries_of all) all (Union tag rs) refl
+  -- to at least so many structs as there are
+  pub by_tables : (n : ℕ) (all : List Entry) → length all ≤ n → are_known [] all ≡ true → (t : StaticType) → deep n (entries_of all) t ≡ quick all t
+  by_tables n all many known (Struct tag rs) = by_found n all many known tag rs (found all tag) refl ∙ sym (looks.by_flag all tag rs)
+  by_tables n all many known Int = looks.else n (entries_of all) all Int refl
+  by_tables n all many known Unsigned = looks.else n (entries_of all) all Unsigned refl
+  by_tables n all many known Char = looks.else n (entries_of all) all Char refl
+  by_tables n all many known Void = looks.else n (entries_of all) all Void refl
+  by_tables n all many known Null = looks.else n (entries_of all) all Null refl
+  by_tables n all many known (Thin m r t) = looks.else n (entries_of all) all (Thin m r t) refl
+  by_tables n all many known (Fat r t) = looks.else n (entries_of all) all (Fat r t) refl
+  by_tables n all many known (Unique m t) = looks.else n (entries_of all) all (Unique m t) refl
+  by_tables n all many known (Handle r) = looks.else n (entries_of all) all (Handle r) refl
+  by_tables n all many known (Key r) = looks.else n (entries_of all) all (Key r) refl
+  by_tables n all many known (Union tag rs) = looks.else n (entries_of all) all (Union tag rs) refl
 
 -- ---- what is copied, and what has a beginning
 
@@ -228,7 +229,7 @@ copies_looks_else n g es (Key r) h = refl
 copies_looks_else n g es (Union tag rs) h = refl
 copies_looks_else n g es (Struct tag rs) h = absurd (true≢false h)
 
-copies_looks : Looks copies quick_copies (λ k. k.copyable)
+pub copies_looks : Looks copies quick_copies (λ k. k.copyable)
 copies_looks = record {
   into = λ n g tag rs. refl;
   nowhere = λ g tag rs. refl;
@@ -251,7 +252,7 @@ begins_looks_else n g es (Key r) h = refl
 begins_looks_else n g es (Union tag rs) h = refl
 begins_looks_else n g es (Struct tag rs) h = absurd (true≢false h)
 
-begins_looks : Looks begins quick_begins (λ k. k.begins)
+pub begins_looks : Looks begins quick_begins (λ k. k.begins)
 begins_looks = record {
   into = λ n g tag rs. refl;
   nowhere = λ g tag rs. refl;
@@ -260,11 +261,16 @@ begins_looks = record {
   known = λ before x k h. bool_is k.begins (each_part (quick_begins before) (members_of k.tag.members.items)) (facts before x k h).begun;
 }
 
+all_named : (all : List Entry) → length all ≤ length (entries_of all)
+all_named all = omega (arith, length-map all named_by)
+
 pub copies_known : (all : List Entry) → are_known [] all ≡ true → (t : StaticType) → is_copyable (entries_of all) t ≡ quick_copies all t
-copies_known all known t = by_tables copies quick_copies (λ k. k.copyable) copies_looks all known t
+copies_known all known t =
+    by_tables copies quick_copies (λ k. k.copyable) copies_looks (length (entries_of all)) all (all_named all) known t
 
 pub begins_known : (all : List Entry) → are_known [] all ≡ true → (t : StaticType) → has_beginning (entries_of all) t ≡ quick_begins all t
-begins_known all known t = by_tables begins quick_begins (λ k. k.begins) begins_looks all known t
+begins_known all known t =
+    by_tables begins quick_begins (λ k. k.begins) begins_looks (length (entries_of all)) all (all_named all) known t
 
 -- ---- one more tag
 
@@ -289,7 +295,7 @@ declared_same es (Unique m t) = refl
 declared_same es (Handle r) = refl
 declared_same es (Key r) = refl
 
-each_as : (f g : StaticType → Bool) (ps : List Part) → ((t : StaticType) → f t ≡ g t) → each_part f ps ≡ each_part g ps
+pub each_as : (f g : StaticType → Bool) (ps : List Part) → ((t : StaticType) → f t ≡ g t) → each_part f ps ≡ each_part g ps
 each_as f g [] same = refl
 each_as f g (p ∷ ps) same = ap (λ b. b && each_part f ps) (by p.type) ∙ ap (λ b. if_known g p.type && b) (each_as f g ps same)
   where

@@ -10,6 +10,7 @@ mod MemberSteps
 mod NextMember
 pub mod Outermost
 mod PlacedCells
+pub mod Sameness
 mod Spread
 mod StillMeasured
 mod StructCells

@@ -2,3 +2,4 @@ pub mod MissingRegions
 pub mod Pointers
 pub mod Parameters
 pub mod Structs
+pub mod Naming

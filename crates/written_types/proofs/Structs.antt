@@ -4,10 +4,10 @@ use Rattle.std.specs.Prelude.{None, Option, Some, if◌then◌else◌, is_some, 
 use Rattle.cyc_tree.specs.Tree.{Name, TypeName}
 use Rattle.source_typing.specs.Faults.{earliest, sooner_of}
 use Rattle.source_typing.specs.Functions.{Variables, parameter_type, take_spots}
-use Rattle.source_typing.specs.Tables.{Arrayed, Counter, Entry, OfBuiltin, OfFunction, OfOther, OfTag, OfValue, Stored, Tables, Unknown, as_tag, find}
+use Rattle.source_typing.specs.Tables.{Entry, OfBuiltin, OfFunction, OfOther, OfTag, OfValue, Tables, as_tag, find}
 use Rattle.source_typing.specs.Taken.{Taken, refused_type, takes_base, takes_pointers, takes_type, thin_pointers, type_taken}
 use Rattle.source_typing.specs.Types.{PartialType, same_bool}
-use Rattle.source_typing.specs.Verdicts.{Faulty, Of, Verdict, other_kind, unless_faulty}
+use Rattle.source_typing.specs.Verdicts.{Faulty, Of, Verdict, unless_faulty}
 use Rattle.source_typing.specs.Written.{
   Found,
   RegionNamed,
@@ -102,6 +102,21 @@ of_struct k (tree.Union tag rs) true x h = absurd cc
 of_struct k (tree.Handle r) true x h = absurd cc
 of_struct k (tree.Key r) true x h = absurd cc
 
+none_taken : (k : code_taken.Taken) (t : TypeName) (x : Name) → k.structs ≡ false → struct_taken (taken_of k) t ≡ Some x → ⊥
+none_taken k t x e h = by t.base (takes_pointers (taken_of k) t.pointers) h
+  where
+    by : (b : tree.Base) (m : Bool) → (if m then struct_base (taken_of k) b else None) ≡ Some x → ⊥
+    by b false h = absurd cc
+    by (tree.Struct tag []) true h = let none : None ≡ Some x = ap (λ (s : Bool). if s then Some tag else None) (sym e) ∙ h in absurd cc
+    by (tree.Struct tag (r ∷ rs)) true h = absurd cc
+    by tree.Int true h = absurd cc
+    by tree.Unsigned true h = absurd cc
+    by tree.Char true h = absurd cc
+    by tree.Void true h = absurd cc
+    by (tree.Union tag rs) true h = absurd cc
+    by (tree.Handle r) true h = absurd cc
+    by (tree.Key r) true h = absurd cc
+
 module _ (k : code_taken.Taken) (t : TypeName) (x : Name) (h : struct_taken (taken_of k) t ≡ Some x) where
   struct_is : OfStruct (taken_of k) t.base (takes_pointers (taken_of k) t.pointers) x
   struct_is = of_struct k t.base (takes_pointers (taken_of k) t.pointers) x h
@@ -118,6 +133,14 @@ module _ (k : code_taken.Taken) (t : TypeName) (x : Name) (h : struct_taken (tak
   pub struct_pointers : takes_pointers thin_pointers t.pointers ≡ true
   struct_pointers = sym (same_pointers k t.pointers) ∙ struct_is.pointers
 
+-- structs are taken where a type of one is
+pub takes_structs : (k : code_taken.Taken) (t : TypeName) (x : Name) → struct_taken (taken_of k) t ≡ Some x → k.structs ≡ true
+takes_structs k t x h = by k.structs refl
+  where
+    by : (s : Bool) → k.structs ≡ s → k.structs ≡ true
+    by true e = e
+    by false e = absurd (none_taken k t x e h)
+
 -- ---- tags
 
 named_by : (e : Option Entry) (at : ℕ) → regions_of_tag (as_tag e) ≡ 0 → tag_of e false at ≡ named_as (tag_name_of e) at
@@ -128,15 +151,8 @@ named_by (Some (OfTag t)) at h = by t.sound t.is_union
     by true true = refl
     by true false = ap Of h
     by false u = refl
-named_by (Some (OfValue Unknown)) at h = refl
-named_by (Some (OfValue (Stored t r))) at h = refl
-named_by (Some (OfValue (Arrayed t r))) at h = refl
-named_by (Some (OfValue Counter)) at h = refl
-named_by (Some (OfFunction s)) at h = by s.sound
-  where
-    by : (b : Bool) → other_kind b at ≡ named_as (if b then code.Other else code.NotJudged) at
-    by true = refl
-    by false = refl
+named_by (Some (OfValue w)) at h = refl
+named_by (Some (OfFunction s)) at h = refl
 named_by (Some (OfBuiltin n)) at h = refl
 named_by (Some OfOther) at h = refl
 

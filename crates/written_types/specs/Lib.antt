@@ -3,3 +3,4 @@ pub mod Reading
 pub mod Written
 pub mod Parameters
 pub mod Tagged
+pub mod Naming

@@ -8,6 +8,7 @@ mod heading;
 mod layer;
 mod reading;
 mod settling;
+mod tag_names;
 mod tagged;
 mod variables;
 
@@ -15,6 +16,7 @@ pub use heading::{result_type, settled_alone};
 pub use layer::WrittenLayer;
 pub use reading::{misses_region, takes_type, written};
 pub use settling::{WrittenLayers, WrittenType, settled};
+pub use tag_names::{TagNames, tag_of_type};
 pub use tagged::{
     TagName, misses_region_in, result_type_in, struct_tag, takes_type_in, written_in,
 };

@@ -19,7 +19,7 @@ use Rattle.source_typing.specs.Verdicts.{Of, unless_faulty}
 use Rattle.type_verdicts.specs.Faults.{faults_of, first_of, sooner_found}
 use Rattle.type_verdicts.specs.Verdicts.{Wrong, shortened}
 use Rattle.type_verdicts.specs.declared.fault.Fault as found
-use Rattle.type_verdicts.proofs.Earliest.{earliest_of_both, found_sooner}
+use Rattle.type_verdicts.proofs.Earliest.{earliest_of_both, found_sooner, sooner_none}
 use Rattle.judged_calls.specs.Converted.{argument_faults, arguments_faults, short_unless}
 use Rattle.judged_calls.specs.Fitted.{fits_all, parameter_types}
 use Rattle.judged_calls.specs.Fixings.{fixed_with, fixing_faults, fixings_of, regions_by, which_are_known}
@@ -71,10 +71,6 @@ short_unless_is (f ∷ fs) a = by (earliest fs)
     by None = refl
     by (Some g) = refl
 
-some_is_found : (f : Fault) (o : Option Fault) → None ≡ sooner_of f o → ⊥
-some_is_found f None e = absurd cc
-some_is_found f (Some g) e = absurd cc
-
 -- by the counts in code
 counts_are : (t : Bool) (ps : List CType) (vs : List Value) → nat_eq (length ps) (length vs) ≡ t
     → nat_eq (length (parameter_types ps)) (length (map value_of vs)) ≡ t
@@ -102,7 +98,7 @@ module _ (g : Env) (ps : List CType) (vs : List Value) (fs : List (Option code.F
       ∙ short_unless_is (all_convert g rs (parameter_types ps) (map value_of vs)) rs
       ∙ ap shortened (sym (in_order g some (parameter_types ps) (map value_of vs) rs (all_are_known ps)))
   converted_by [] (Some x) e h = absurd cc
-  converted_by (f ∷ more) None e h = absurd (some_is_found f (earliest more) e)
+  converted_by (f ∷ more) None e h = absurd (sooner_none f (earliest more) e)
   converted_by (f ∷ more) (Some x) e h =
       ap (λ o. short_unless o rs) (found_sooner (Some x) conversion)
       ∙ ap (λ o. short_unless (first_of o (faults_of conversion)) rs) e

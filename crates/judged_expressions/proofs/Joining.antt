@@ -1,6 +1,6 @@
 -- What is answered of phrases of several parts is what the rules say of them.
 use Rattle.std.specs.Prelude.{IfOk, Result, ◌++◌}
-use Rattle.std.proofs.Common.{◌≡◌, Option, Some, None, List, [], ◌∷◌, refl, sym, ◌∙◌, ap, subst}
+use Rattle.std.proofs.Common.{◌≡◌, Option, Some, List, [], ◌∷◌, refl, sym, ◌∙◌, ap, subst}
 use Rattle.std.proofs.lemmas.List.{append_assoc, append-nil}
 use Rattle.cyc_tree.specs.Tree.{Expressions, Links, MoreExpressions, MoreLinks, NoExpressions, NoLinks}
 use Rattle.source_typing.specs.Expressions.{judge, judge_all, judge_links, judge_tests}
@@ -9,12 +9,12 @@ use Rattle.source_typing.specs.Fixing.{more}
 use Rattle.source_typing.specs.Operators.{applied, tested_both}
 use Rattle.source_typing.specs.Scope.{Env, Value}
 use Rattle.source_typing.specs.Verdicts.{Verdict, both}
-use Rattle.type_verdicts.specs.Faults.{fault_of, first_of}
+use Rattle.type_verdicts.specs.Faults.{fault_of}
 use Rattle.type_verdicts.specs.Verdicts.{Is, NotJudged, Short, Wrong, paired, short_after, short_both, short_of, short_wrong, shortened}
 use Rattle.type_verdicts.specs.declared.fault.Fault as found
 use Rattle.type_verdicts.specs.declared.verdict.Verdict as code
 use Rattle.type_verdicts.specs.declared.verdict.Verdict.TheVariants as variant
-use Rattle.type_verdicts.proofs.Earliest.{sooner_first}
+use Rattle.type_verdicts.proofs.Earliest.{first_joined}
 use Rattle.type_verdicts.proofs.Shortened.{both_as, paired_same, short_then, shortened_both}
 use Rattle.judged_expressions.specs.Joined.{one_more, short_all, short_links, short_tests}
 
@@ -67,10 +67,6 @@ joined vs ws = Is (vs ++ ws)
 
 abbrev first_more : Value → List Value → Short (List Value)
 first_more v vs = Is (v ∷ vs)
-
-first_joined : (a b c : Option Fault) → first_of (first_of a b) c ≡ first_of a (first_of b c)
-first_joined None b c = refl
-first_joined (Some f) b c = sym (sooner_first f b c)
 
 more_joined : (s : Short (List Value)) (e : Short Value) (t : Short (List Value))
     → short_both (short_both s e one_more) t joined ≡ short_both s (short_both e t first_more) joined

@@ -13,7 +13,7 @@ use Rattle.source_typing.specs.Functions.{all_faults, main_form}
 use Rattle.source_typing.specs.Tags.{is_named, repeated}
 use Rattle.source_typing.specs.Types.{Int, StaticType}
 use Rattle.source_typing.specs.Verdicts.{Faulty, Of, Unjudged, Verdict}
-use Rattle.type_verdicts.proofs.Earliest.{earliest_of_both, found_sooner}
+use Rattle.type_verdicts.proofs.Earliest.{earliest_of_both, first_joined, found_sooner}
 use Rattle.type_verdicts.specs.Faults.{fault_of, faults_of, first_of, sooner_found}
 use Rattle.type_verdicts.specs.Verdicts.{Is, NotJudged, Short, Wrong, short_of, shortened}
 use Rattle.judged_heads.proofs.ReadParameters.{fault_is}
@@ -27,12 +27,6 @@ use Rattle.type_verdicts.specs.declared.verdict.Verdict as code
 use Rattle.type_verdicts.specs.declared.verdict.Verdict.TheVariants as variant
 
 -- ---- one fault after another
-
-first_joined : (a b c : Option rules.Fault) → first_of (first_of a b) c ≡ first_of a (first_of b c)
-first_joined None b c = refl
-first_joined (Some f) None c = refl
-first_joined (Some f) (Some g) None = refl
-first_joined (Some f) (Some g) (Some h) = sym (earliest_of_both (f ∷ g ∷ []) (h ∷ []))
 
 -- what was found, then one more, then the rest
 pub next_found : (was own now : Option found.Fault) (rest : Option rules.Fault) → now ≡ sooner_found was own

@@ -12,13 +12,14 @@ use Rattle.source_typing.specs.Verdicts.{Of, Verdict}
 use Rattle.type_verdicts.specs.Faults.{faults_of}
 use Rattle.type_verdicts.specs.Verdicts.{short_of, shortened}
 use Rattle.judged_heads.proofs.HeadFaults.{none_in_parts, sound_found}
-use Rattle.judged_heads.proofs.ReadParameters.{all_in_order, all_judged, both_none, is_in_order, is_judged, known_same, names_same, no_keys, types_same}
+use Rattle.judged_heads.proofs.ReadParameters.{all_in_order, all_judged, is_in_order, is_judged, known_same, names_same, no_keys, types_same}
 use Rattle.judged_heads.proofs.Plain.{result_plain}
 use Rattle.judged_heads.specs.Heads.{IsHead, effect_in}
 use Rattle.judged_heads.specs.Reading.{AreParameters, AreRead, bound_place, effect_place, form_at, is_whole, main_faults_of}
 use Rattle.judged_heads.specs.declared.head.Head as code
 use Rattle.cyc_tree.specs.Tree as tree
 use Rattle.source_typing.specs.Verdicts as rules_of
+use Rattle.source_typing.proofs.Inversion.{none_of_both}
 
 -- ---- forms that aren't taken
 
@@ -85,7 +86,7 @@ module _ (lenient : Bool) (g : Tables) (f : tree.Function) (c : code.Head) where
       let none_wrong_in : c.fault ≡ None → parts ≡ [] =
       λ n. none_in_parts c.fault (main_faults_of f.name v ms) parts n (found v ms ps.types is_result read.parameters) in
       let split : c.fault ≡ None → (all_faults ps.types ++ repeated [] ms ≡ []) × (rules_of.faults_of v ≡ []) =
-      λ n. both_none (all_faults ps.types ++ repeated [] ms) (rules_of.faults_of v) (none_wrong_in n) in
+      λ n. none_of_both (all_faults ps.types ++ repeated [] ms) (rules_of.faults_of v) (none_wrong_in n) in
       record {
         names = ap (λ (us : Variables). us.names) read.variables_after;
         count = ap (λ (us : Variables). us.count) read.variables_after;
@@ -99,6 +100,6 @@ module _ (lenient : Bool) (g : Tables) (f : tree.Function) (c : code.Head) where
         sound = sound_found c.fault (head_of lenient g head).faults fault;
         judged = all_judged c.parameters.items ms ps.types read.parameters;
         result_judged = is_judged c.result v is_result (result_plain g vs.names f.result);
-        in_order = λ n. all_in_order c.parameters.items ms ps.types read.parameters (both_none (all_faults ps.types) (repeated [] ms) (split n).0).0;
+        in_order = λ n. all_in_order c.parameters.items ms ps.types read.parameters (none_of_both (all_faults ps.types) (repeated [] ms) (split n).0).0;
         result_in_order = λ n. is_in_order c.result v is_result (result_plain g vs.names f.result) (split n).1;
       }

@@ -23,6 +23,7 @@ use Rattle.source_typing.specs.Faults as rules
 use Rattle.source_typing.specs.Verdicts as rules_of
 use Rattle.type_verdicts.specs.declared.verdict.Verdict as code
 use Rattle.type_verdicts.specs.declared.verdict.Verdict.TheVariants as variant
+use Rattle.source_typing.proofs.Inversion.{none_of_both}
 
 -- ---- a verdict in code and that of the rules
 
@@ -85,15 +86,11 @@ module _ (c : code.Verdict CType) (v : Verdict StaticType) (e : short_of static_
 
 -- ---- all parameters
 
-pub both_none : {A : Type 0} (xs ys : List A) → xs ++ ys ≡ [] → (xs ≡ []) × (ys ≡ [])
-both_none [] ys e = (refl, e)
-both_none (x ∷ xs) ys e = absurd cc
-
 pub all_in_order : (ps : List Parameter) (ms : List tree.Member) (vs : List (Verdict StaticType)) → AreParameters ps ms vs → all_faults vs ≡ []
     → AllInOrder ps
 all_in_order [] [] [] h e = tt
 all_in_order (p ∷ ps) (m ∷ ms) (v ∷ vs) h e =
-    let both = both_none (rules_of.faults_of v) (all_faults vs) e in
+    let both = none_of_both (rules_of.faults_of v) (all_faults vs) e in
     (is_in_order p.of v h.0.typed h.0.plain both.0, all_in_order ps ms vs h.1 both.1)
 all_in_order ps ms vs h e = absurd h
 

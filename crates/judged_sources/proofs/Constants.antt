@@ -14,8 +14,7 @@ use Rattle.source_typing.specs.Declarations.{converted_to}
 use Rattle.source_typing.specs.Converts.{IsInteger}
 use Rattle.source_typing.specs.Regions.{Regions}
 use Rattle.source_typing.specs.Scope.{Env}
-use Rattle.source_typing.specs.Taken.{constant_form, initial_form, takes_initial}
-use Rattle.source_safety.specs.Judged.{structures}
+use Rattle.source_typing.specs.Taken.{constant_form, initial_form, takes_initial, structures}
 use Rattle.source_typing.specs.Types.{Handle, Char, Int, Null, StaticType, Struct, Thin, Unsigned, integer_type, is_integer, shape_of}
 use Rattle.source_typing.specs.Verdicts.{Of, faults_of}
 

@@ -1,6 +1,6 @@
 -- What the rules' tables have under a name is what the program declares under it first.
 use Rattle.std.proofs.Common.{◌≡◌, ℕ, suc, Bool, true, false, Option, Some, None, List, [], ◌∷◌, refl, sym, ap, ◌∙◌}
-use Rattle.std.specs.Prelude.{bytes_eq, if◌then◌else◌, length}
+use Rattle.std.specs.Prelude.{bytes_eq, if◌then◌else◌}
 use Rattle.cyc_tree.specs.Operands.{HasOperands}
 use Rattle.cyc_tree.specs.Tree as tree
 use Rattle.cyc_tree.specs.Tree.{Initial, Item}
@@ -17,15 +17,15 @@ use Rattle.source_typing.specs.Programs.{Judged, entries_with, items_from, named
 use Rattle.source_typing.specs.Regions.{Region, TheHeap}
 use Rattle.source_typing.specs.Scope.{at_item}
 use Rattle.source_typing.specs.Tables.{Named, OfBuiltin, OfFunction, OfOther, OfTag, OfValue, Signature, Stored, Tables, find}
-use Rattle.source_typing.specs.Taken.{function_taken, only_taken, takes_type, thin_pointers}
-use Rattle.source_safety.specs.Judged.{structures}
+use Rattle.source_typing.specs.Taken.{function_taken, only_taken, takes_type, thin_pointers, structures}
 use Rattle.source_typing.specs.Types.{StaticType, shape_of}
 use Rattle.source_typing.proofs.Inversion.{none_of_both}
 use Rattle.judged_sources.specs.Good.{AllGood, BodiesJudged}
 use Rattle.judged_sources.proofs.Globals.{GlobalGood, global_takes}
 use Rattle.judged_sources.proofs.GoodFunctions.{FunctionGood, FunctionThin, function_good, function_takes}
-use Rattle.judged_sources.proofs.GoodTables.{AreHeaded, beginning_same}
-use Rattle.judged_sources.proofs.Heads.{SameTags, head_same, tags_head}
+use Rattle.judged_sources.proofs.GoodTables.{AreHeaded}
+use Rattle.judged_sources.proofs.AlignedTables.{AreAligned, beginning_same, same_tags}
+use Rattle.judged_sources.proofs.Heads.{head_same}
 use Rattle.judged_sources.proofs.Named.{StructKnown}
 
 -- ---- what is known of each item
@@ -49,7 +49,7 @@ AllKnown g h i [] (item ∷ items) = ⊥
 AllKnown g h i (j ∷ js) [] = ⊥
 
 module _ (bodies : BodiesJudged) where
-  pub all_known : (g h : Tables) (i : ℕ) (js : List Judged) (is : List Item) → AllGood 0 g → SameTags g h → AreHeaded h i js is → only_taken structures is ≡ is
+  pub all_known : (g h : Tables) (i : ℕ) (js : List Judged) (is : List Item) → AllGood 0 g → AreAligned g h → AreHeaded h i js is → only_taken structures is ≡ is
       → HasOperands is → items_from false g i is ≡ []
       → AllKnown g h i js is
   all_known g h i [] [] a s k t o p = tt
@@ -66,7 +66,7 @@ module _ (bodies : BodiesJudged) where
       let c : function_taken structures f ≡ f = cc in
       let b : only_taken structures is ≡ is = cc in
       let d = none_of_both (function_faults false g i f) (items_from false g (suc i) is) p in (
-        record { is = k.0.0; same = head_same false g h f (tags_head g h f s); good = function_good bodies g i f a c o.0 d.0 },
+        record { is = k.0.0; same = head_same false g h f (same_tags g h s); good = function_good bodies g i f a c o.0 d.0 },
         all_known g h (suc i) js is a s k.1 b o.1 d.1,
       )
 
@@ -92,23 +92,23 @@ all_take g h i (j ∷ js) (tree.UnionItem x ∷ is) k z = absurd z.0
 all_take g h i (j ∷ js) (tree.GlobalItem x ∷ is) k z = (global_takes h i x k.0.1 z.0, all_take g h (suc i) js is k.1 z.1)
 all_take g h i (j ∷ js) (tree.FunctionItem f ∷ is) k z = (function_takes g i f k.0.good z.0, all_take g h (suc i) js is k.1 z.1)
 
-pub globals_judged : (g h : Tables) (i : ℕ) (js : List Judged) (is : List Item) → SameTags g h → length g ≡ length h → AllKnown g h i js is → GlobalsJudged g is
-globals_judged g h i [] [] s l k = tt
-globals_judged g h i [] (x ∷ is) s l k = absurd k
-globals_judged g h i (j ∷ js) [] s l k = tt
-globals_judged g h i (j ∷ js) (tree.StructItem x ∷ is) s l k = globals_judged g h (suc i) js is s l k.1
-globals_judged g h i (j ∷ js) (tree.UnionItem x ∷ is) s l k = absurd k.0
-globals_judged g h i (j ∷ js) (tree.GlobalItem x ∷ is) s l k = (
+pub globals_judged : (g h : Tables) (i : ℕ) (js : List Judged) (is : List Item) → AreAligned g h → AllKnown g h i js is → GlobalsJudged g is
+globals_judged g h i [] [] s k = tt
+globals_judged g h i [] (x ∷ is) s k = absurd k
+globals_judged g h i (j ∷ js) [] s k = tt
+globals_judged g h i (j ∷ js) (tree.StructItem x ∷ is) s k = globals_judged g h (suc i) js is s k.1
+globals_judged g h i (j ∷ js) (tree.UnionItem x ∷ is) s k = absurd k.0
+globals_judged g h i (j ∷ js) (tree.GlobalItem x ∷ is) s k = (
   record {
     type = k.0.1.type;
     object = k.0.1.good.object;
-    begins = beginning_same g h k.0.1.type s l k.0.1.begins;
+    begins = beginning_same g h k.0.1.type s ∙ k.0.1.begins;
     shape = k.0.1.good.shape;
     initial = k.0.1.initial.first;
   },
-  globals_judged g h (suc i) js is s l k.1,
+  globals_judged g h (suc i) js is s k.1,
 )
-globals_judged g h i (j ∷ js) (tree.FunctionItem f ∷ is) s l k = globals_judged g h (suc i) js is s l k.1
+globals_judged g h i (j ∷ js) (tree.FunctionItem f ∷ is) s k = globals_judged g h (suc i) js is s k.1
 
 -- ---- a function of a name
 

@@ -11,7 +11,6 @@ use Rattle.source_lowering.proofs.PlainShapes.{word_type}
 use Rattle.source_lowering.proofs.WrittenTypes.{word_settled}
 use Rattle.source_meaning.specs.Shapes as shapes
 use Rattle.source_safety.specs.Entries.{IsObjectType, IsWordType}
-use Rattle.source_safety.specs.Judged.{structures}
 use Rattle.source_meaning.specs.Sizes.{rounded_up}
 use Rattle.source_typing.specs.Declarations.{converted_to, what_after, what_of}
 use Rattle.source_typing.specs.Extents.{variable_size}
@@ -36,6 +35,7 @@ use Rattle.source_typing.specs.Scope.{Env, Value, at_item}
 use Rattle.source_typing.specs.Tables.{OfValue, Stored, Tables, has_beginning}
 use Rattle.source_typing.specs.Tags.{settled_alone}
 use Rattle.source_typing.specs.Taken.{Taken, form_if, global_if, initial_form, initial_taken, item_forms, item_taken, takes_initial, takes_type, thin_pointers}
+use Rattle.source_typing.specs.Taken.{structures}
 use Rattle.source_typing.specs.Types.{Handle, Char, Int, PartialType, StaticType, Struct, Thin, Unsigned, Void, is_key, shape_of}
 use Rattle.source_typing.specs.Verdicts.{Faulty, Of, Unjudged, Verdict, after, faults_of}
 use Rattle.source_typing.specs.Written.{RegionNamed, Spot, spots_of, written}
@@ -46,7 +46,6 @@ use Rattle.judged_sources.proofs.Constants.{InitialGood, initial_good}
 use Rattle.judged_sources.proofs.GoodLocals.{IsFitting, begins_first, fitting_is}
 use Rattle.judged_sources.proofs.GoodTypes.{IsWritten, KnowsTags, in_scope_good}
 use Rattle.judged_sources.proofs.HeadTypes.{GivesNothing, GivesObject, ObjectGood, PlainGood, alone_good}
-use Rattle.judged_sources.proofs.Heads.{SameTag, spots_same, thin_same, written_same}
 use Rattle.judged_sources.proofs.Sure.{surely_after, surely_also, surely_is}
 
 -- ---- what isn't taken is at fault
@@ -128,14 +127,6 @@ type_good g x tags e =
     (fitting_global g x.of.at (count_of x.initial) (has_none names)) (plain_good g.tables x tags e)
     (λ u k. variable_fits g x.of.at x.of (count_of x.initial) (has_none names) u k)
 
--- ---- other tables
-
-after_same : {A B : Type 0} (P : A → Type 0) (v : Verdict A) (rule other : A → Verdict B) → Surely P v → ((a : A) → P a → rule a ≡ other a)
-    → after v rule ≡ after v other
-after_same P (Of a) rule other h k = k a h
-after_same P (Faulty f fs) rule other h k = refl
-after_same P Unjudged rule other h k = absurd h
-
 -- a type without structs is no struct
 pub thin_word : (t : TypeName) (u : StaticType) → IsObjectType u → lowering.IsWordType t → shapes.settled (shapes.written t) ≡ shape_of u → IsWordType u
 thin_word t Int o w s = tt
@@ -145,61 +136,6 @@ thin_word t (Thin b r u) o w s = o
 thin_word t (Struct tag rs) o w s = absurd (subst (λ z. IsWordShape z) s (word_settled t (word_type t w)))
 thin_word t (Handle q) o w s = absurd (subst (λ z. IsWordShape z) s (word_settled t (word_type t w)))
 thin_word t _ o w s = absurd o
-
-word_same : (g h : Env) (at : ℕ) (count : Option ℕ) (native : Bool) (u : StaticType) → IsWordType u
-    → fitting_global g at count native u ≡ fitting_global h at count native u
-word_same g h at None native Int w = refl
-word_same g h at (Some n) native Int w = refl
-word_same g h at None native Unsigned w = refl
-word_same g h at (Some n) native Unsigned w = refl
-word_same g h at None native Char w = refl
-word_same g h at (Some n) native Char w = refl
-word_same g h at None native (Thin b r t) w = refl
-word_same g h at (Some n) native (Thin b r t) w = refl
-word_same g h at count native _ w = absurd w
-
-fitting_same : (g h : Env) (at : ℕ) (t : TypeName) (count : Option ℕ) (native : Bool) (u : StaticType) → takes_type thin_pointers t ≡ true → PlainGood 0 t u
-    → fitting_global g at count native u ≡ fitting_global h at count native u
-fitting_same g h at t count native u i (GivesNothing v e) =
-    subst (λ z. fitting_global g at count native z ≡ fitting_global h at count native z) (sym e) (by count)
-  where
-    by : (c : Option ℕ) → fitting_global g at c native Void ≡ fitting_global h at c native Void
-    by None = refl
-    by (Some n) = refl
-fitting_same g h at t count native u i (GivesObject w) = word_same g h at count native u (thin_word t u w.object (w.taken i) w.shape)
-
-thin_type_same : (g h : Env) (x : tree.Global) → KnowsTags h.tables → takes_type structures x.of ≡ true → takes_type thin_pointers x.of ≡ true
-    → global_type g x ≡ global_type h x
-thin_type_same g h x tags e i =
-    let names : List RegionNamed = foreign_names (spots_of h.tables x.of) in
-    let same : SameTag g.tables h.tables x.of = thin_same g.tables h.tables x.of i in
-    ap (λ (ss : List Spot). global_type_by g x (foreign_names ss)) (spots_same g.tables h.tables x.of same)
-    ∙ ap (λ (v : Verdict PartialType). after (after v (settled_alone x.of.at)) (fitting_global g x.of.at (count_of x.initial) (has_none names)))
-    (written_same g.tables h.tables names x.of same)
-    ∙ after_same (λ u. PlainGood 0 x.of u) (after (written h.tables names x.of) (settled_alone x.of.at))
-    (fitting_global g x.of.at (count_of x.initial) (has_none names)) (fitting_global h x.of.at (count_of x.initial) (has_none names))
-    (plain_good h.tables x tags e) (λ u k. fitting_same g h x.of.at x.of (count_of x.initial) (has_none names) u i k)
-
-converted_same : (g h : Tables) (i j : ℕ) (v : Verdict Value) (t : Verdict StaticType)
-    → converted_to (at_item false g i) v t ≡ converted_to (at_item false h j) v t
-converted_same g h i j (Of v) (Of t) = refl
-converted_same g h i j (Of v) (Faulty f fs) = refl
-converted_same g h i j (Of v) Unjudged = refl
-converted_same g h i j (Faulty f fs) t = refl
-converted_same g h i j Unjudged t = refl
-
-initial_same : (g h : Tables) (i j : ℕ) (c : Initial) (t : Verdict StaticType)
-    → initial_faults (at_item false g i) c t ≡ initial_faults (at_item false h j) c t
-initial_same g h i j Initial.Unset t = refl
-initial_same g h i j (Initial.Elements n) t = refl
-initial_same g h i j (Initial.Given c) t = ap (λ fs. faults_of (constant c) ++ fs) (converted_same g h i j (constant c) t)
-
--- the tables don't matter to a global without structs
-pub thin_faults_same : (g h : Tables) (i j : ℕ) (x : tree.Global) → KnowsTags h → takes_type structures x.of ≡ true → takes_type thin_pointers x.of ≡ true
-    → global_faults (at_item false g i) x ≡ global_faults (at_item false h j) x
-thin_faults_same g h i j x tags e k =
-    ap (λ v. faults_of v ++ initial_faults (at_item false g i) x.initial v) (thin_type_same (at_item false g i) (at_item false h j) x tags e k)
-    ∙ ap (λ fs. faults_of (global_type (at_item false h j) x) ++ fs) (initial_same g h i j x.initial (global_type (at_item false h j) x))
 
 -- ---- all of it
 

@@ -6,14 +6,14 @@ use Rattle.cyc_tree.specs.Places.{expression_place}
 use Rattle.cyc_tree.specs.Tree.{BlockItems, Declare, Execute, Expression, NoItems, Statement}
 use Rattle.source_lowering.specs.Taken.{Takes, TakesItems, TakesStatement}
 use Rattle.source_safety.specs.Entries.{IsPlain, IsObjectType}
-use Rattle.source_safety.specs.Judged.{Condition, ItemsJudged, Returned, StatementJudged, structures}
+use Rattle.source_safety.specs.Judged.{Condition, ItemsJudged, Returned, StatementJudged}
 use Rattle.source_typing.specs.Conversions.{converts}
 use Rattle.source_typing.specs.Declarations.{declare}
 use Rattle.source_typing.specs.Expressions.{judge}
 use Rattle.source_typing.specs.Faults.{type_rule}
 use Rattle.source_typing.specs.Scope.{Env, Value, block_entered}
 use Rattle.source_typing.specs.Statements.{condition, condition_faults, in_a_loop, items_faults, returned, statement_faults}
-use Rattle.source_typing.specs.Taken.{declaration_taken, items_taken, statement_taken, taken, thin_pointers}
+use Rattle.source_typing.specs.Taken.{declaration_taken, items_taken, statement_taken, taken, thin_pointers, structures}
 use Rattle.source_typing.specs.Types.{Handle, Char, Int, StaticType, Struct, Thin, Unsigned, Void, is_testable, shape_of}
 use Rattle.source_typing.specs.Verdicts.{Faulty, Of, Unjudged, Verdict, after, faults_of, if_fits}
 use Rattle.source_typing.specs.Ways.{ways_of}

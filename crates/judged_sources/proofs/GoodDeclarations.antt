@@ -6,7 +6,7 @@ use Rattle.cyc_tree.specs.Tree as tree
 use Rattle.cyc_tree.specs.Tree.{Expression, Initializer, TypeName}
 use Rattle.source_lowering.specs.Taken.{TakesDeclaration}
 use Rattle.source_safety.proofs.WithRegions.{regions_more}
-use Rattle.source_safety.specs.Judged.{Accepted, DeclarationJudged, extended, structures}
+use Rattle.source_safety.specs.Judged.{Accepted, DeclarationJudged, extended}
 use Rattle.source_typing.specs.Conversions.{conversion, converts}
 use Rattle.source_typing.specs.Converts.{Converts}
 use Rattle.source_typing.specs.Declarations.{converted_to, declare, set_faults, set_type, unset_type, what_after, what_of}
@@ -21,6 +21,7 @@ use Rattle.source_typing.specs.Taken.{
   takes_type,
   thin_pointers,
 }
+use Rattle.source_typing.specs.Taken.{structures}
 use Rattle.source_typing.specs.Types.{StaticType}
 use Rattle.source_typing.specs.Verdicts.{Of, Verdict, faults_of}
 use Rattle.source_typing.proofs.Converting.{and_is, broken_is, conversion_is}

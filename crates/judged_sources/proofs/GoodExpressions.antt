@@ -14,9 +14,9 @@ use Rattle.source_typing.specs.Operators.{applied, prefixed, tested_both}
 use Rattle.source_typing.specs.Places.{arrow, assigned, grouped, member, variable}
 use Rattle.source_typing.specs.Scope.{Env, Local, Nowhere, Value, in_scope, meant, value, with_locals}
 use Rattle.source_typing.specs.Tables.{Tables}
-use Rattle.source_safety.specs.Judged.{structures}
 use Rattle.source_safety.specs.Named.{TypeBelow}
 use Rattle.source_typing.specs.Taken.{all_taken, if_taken, links_taken, made_taken, taken, takes_handle, takes_made, suffixes_taken, takes_prefix, takes_suffixes, thin_pointers}
+use Rattle.source_typing.specs.Taken.{structures}
 use Rattle.source_typing.specs.Types.{Char, Null}
 use Rattle.source_typing.specs.Verdicts.{Verdict, after, both}
 use Rattle.std.proofs.lemmas.Bool.{false≢true}

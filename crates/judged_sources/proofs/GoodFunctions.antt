@@ -16,7 +16,6 @@ use Rattle.source_meaning.specs.Shapes as shapes
 use Rattle.source_meaning.specs.Shapes.{IntShape, Owner, Part, Shape, ThinShape, has_tag, part_of}
 use Rattle.source_meaning.specs.Steps.{World}
 use Rattle.source_safety.specs.Entries.{AreObjects, Function}
-use Rattle.source_safety.specs.Judged.{structures}
 use Rattle.source_safety.specs.Judged.{extended}
 use Rattle.source_safety.specs.Named.{AllBelow, BoundsBelow, TypeBelow, TypesBelow}
 use Rattle.source_safety.specs.Programs.{FunctionJudged, name_alone, with_all}
@@ -27,7 +26,7 @@ use Rattle.source_typing.specs.Scope.{Env, at_item, is_second, with_local}
 use Rattle.source_typing.specs.Statements.{items_faults}
 use Rattle.source_typing.specs.Tables.{Arrayed, Counter, Entry, OfBuiltin, OfFunction, OfOther, OfTag, OfValue, Signature, Stored, Tables, Unknown}
 use Rattle.source_typing.specs.Tags.{is_named, repeated}
-use Rattle.source_typing.specs.Taken.{function_taken, items_taken, takes_type, thin_pointers}
+use Rattle.source_typing.specs.Taken.{function_taken, items_taken, takes_type, thin_pointers, structures}
 use Rattle.source_typing.specs.Types.{Int, StaticType, Void, is_void, shape_of}
 use Rattle.source_typing.specs.Ways.{ways_of_items}
 use Rattle.source_typing.proofs.Inversion.{none_of_both, own_is, test_is}

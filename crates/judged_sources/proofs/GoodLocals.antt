@@ -11,7 +11,6 @@ use Rattle.source_lowering.proofs.WrittenTypes.{word_settled}
 use Rattle.source_meaning.specs.Shapes as shapes
 use Rattle.source_meaning.specs.Shapes.{ThinShape}
 use Rattle.source_safety.specs.Entries.{IsObjectType}
-use Rattle.source_safety.specs.Judged.{structures}
 use Rattle.source_safety.specs.Named.{TypeBelow}
 use Rattle.source_typing.specs.Declarations.{can_be, fitting, fitting_local, if_sized, local_type, misses_region, set_type, taken_from, type_in_scope}
 use Rattle.source_typing.specs.Declarations.{unset_type}
@@ -20,7 +19,7 @@ use Rattle.source_typing.specs.Missing.{as_type, filled_from, or_found, outer_re
 use Rattle.source_typing.specs.Regions.{Region}
 use Rattle.source_typing.specs.Scope.{Env, Value, in_scope}
 use Rattle.source_typing.specs.Tables.{Tables, has_beginning}
-use Rattle.source_typing.specs.Taken.{takes_type, thin_pointers}
+use Rattle.source_typing.specs.Taken.{takes_type, thin_pointers, structures}
 use Rattle.source_typing.specs.Types.{Handle, Char, Fat, Int, Null, PartialType, StaticType, Struct, Thin, Unique, Unsigned, Void, shape_of}
 use Rattle.source_typing.specs.Verdicts.{Of, after, if_fits}
 use Rattle.source_typing.specs.Written.{Found, Is, IsUnique, Missing}

@@ -14,8 +14,7 @@ use Rattle.source_safety.specs.Named.{Below}
 use Rattle.source_typing.specs.Faults.{Fault}
 use Rattle.source_typing.specs.Regions.{Region}
 use Rattle.source_typing.specs.Tables.{Arrayed, Counter, Entry, OfBuiltin, OfFunction, OfOther, OfTag, OfValue, Stored, Tables, Unknown, as_tag, find}
-use Rattle.source_safety.specs.Judged.{structures}
-use Rattle.source_typing.specs.Taken.{takes_base, takes_pointers, takes_region, takes_sign, takes_type, thin_pointers}
+use Rattle.source_typing.specs.Taken.{takes_base, takes_pointers, takes_region, takes_sign, takes_type, thin_pointers, structures}
 use Rattle.source_typing.specs.Types.{Char, Int, Key, PartialType, Struct, Thin, Unsigned, Void, same_bool, shape_of}
 use Rattle.source_typing.specs.Verdicts.{Faulty, Of, Unjudged, Verdict, unless_faulty}
 use Rattle.source_typing.specs.Written.{
@@ -48,7 +47,7 @@ use Rattle.source_typing.proofs.Converting.{and_is}
 use Rattle.judged_sources.specs.Good.{AllGood, IsGoodEntry, NamesBelow, Surely}
 use Rattle.judged_sources.proofs.GoodNames.{MeansGood, found_good}
 use Rattle.judged_sources.proofs.Settling.{IsOpen}
-use Rattle.judged_sources.proofs.Sure.{surely_other, surely_unless}
+use Rattle.judged_sources.proofs.Sure.{surely_unless}
 
 -- ---- regions that are found
 
@@ -110,7 +109,7 @@ tag_judged at None h = tt
 tag_judged at (Some (OfTag t)) h =
     subst (λ b. Surely (λ n. n ≡ 0) (if_sound b (of_kind (same_bool t.is_union false) t at))) (sym h.0)
     (subst (λ b. Surely (λ n. n ≡ 0) (of_kind (same_bool b false) t at)) (sym h.1) h.2)
-tag_judged at (Some (OfFunction s)) h = surely_other (λ n. n ≡ 0) s.sound at h
+tag_judged at (Some (OfFunction s)) h = tt
 tag_judged at (Some (OfValue (Stored t r))) h = tt
 tag_judged at (Some (OfValue (Arrayed t r))) h = tt
 tag_judged at (Some (OfValue Counter)) h = tt

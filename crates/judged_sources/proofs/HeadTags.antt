@@ -6,13 +6,12 @@ use Rattle.cyc_tree.specs.Tree.{Item, Pointer, TypeName}
 use Rattle.source_lowering.specs.Taken.{AreThin}
 use Rattle.source_meaning.specs.Shapes as shapes
 use Rattle.source_safety.specs.Entries.{IsObjectType}
-use Rattle.source_safety.specs.Judged.{structures}
 use Rattle.source_typing.specs.Faults.{Fault}
 use Rattle.source_typing.specs.Missing.{as_type, filled_from}
 use Rattle.source_typing.specs.Scope.{Env}
 use Rattle.source_typing.specs.Tables.{Entry, OfBuiltin, OfOther, OfTag, Tables, Tag, find}
 use Rattle.source_typing.specs.Tags.{fits_member, head_built, head_faults, head_fitting, head_type, member_faults, member_fitting, member_type, settled_alone}
-use Rattle.source_typing.specs.Taken.{takes_base, takes_pointers, takes_type}
+use Rattle.source_typing.specs.Taken.{takes_base, takes_pointers, takes_type, structures}
 use Rattle.source_typing.specs.Types.{Char, Int, PartialType, StaticType, Struct, Unsigned, Void, same_bool}
 use Rattle.source_typing.specs.Verdicts.{Faulty, Of, Unjudged, Verdict, after, both, faults_of, if_fits, unless_faulty}
 use Rattle.source_typing.specs.Written.{Found, Spot, all_found, argument_spots, base_of, counted_type, if_sound, of_kind, pointers_to, spot, spots_of, tag_of}

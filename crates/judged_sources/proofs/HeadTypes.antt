@@ -9,7 +9,6 @@ use Rattle.source_lowering.specs.Taken.{AreThin, IsSharedRegion, IsVoidBase, IsV
 use Rattle.source_meaning.specs.Shapes as shapes
 use Rattle.source_meaning.specs.Shapes.{Shared, ThinShape, VoidShape}
 use Rattle.source_safety.specs.Entries.{IsObjectType, IsPlain}
-use Rattle.source_safety.specs.Judged.{structures}
 use Rattle.source_safety.specs.Named.{Below, TypeBelow}
 use Rattle.source_safety.proofs.Entries.{object_plain}
 use Rattle.source_typing.specs.Functions.{AllSpotted, Spotted, Variables, fits_parameter, if_parameter, if_result, parameter_type, result_type, take_named}
@@ -17,7 +16,7 @@ use Rattle.source_typing.specs.Functions.{take_spot, take_spots}
 use Rattle.source_typing.specs.Regions.{Level, Region, TheHeap}
 use Rattle.source_typing.specs.Tables.{Tables}
 use Rattle.source_typing.specs.Tags.{settled_alone}
-use Rattle.source_typing.specs.Taken.{takes_base, takes_pointers, takes_type, thin_pointers}
+use Rattle.source_typing.specs.Taken.{takes_base, takes_pointers, takes_type, thin_pointers, structures}
 use Rattle.source_typing.specs.Types.{Handle, Char, Int, PartialType, StaticType, Struct, Thin, Unsigned, Void, is_void, shape_of}
 use Rattle.source_typing.specs.Verdicts.{after, if_fits}
 use Rattle.source_typing.specs.Written.{Found, Is, IsUnique, Missing, RegionNamed, Spot, find_region, spot, spots_of, written, written_with}

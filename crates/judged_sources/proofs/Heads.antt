@@ -8,17 +8,17 @@ use Rattle.source_lowering.specs.Taken as lowering
 use Rattle.source_meaning.specs.Shapes.{part_of, part_shapes}
 use Rattle.source_meaning.specs.Shapes as shapes
 use Rattle.source_safety.specs.Entries.{AreObjects}
-use Rattle.source_safety.specs.Judged.{structures}
 use Rattle.source_safety.specs.Named.{AllBelow, BoundsBelow, TypesBelow}
-use Rattle.source_typing.specs.Faults.{Fault, is_clean, type_rule}
+use Rattle.source_typing.specs.Faults.{Fault, is_clean, own_after, test, type_rule}
 use Rattle.source_typing.specs.Functions.{AllSpotted, Parameters, Reading, Variables, all_faults, all_of, and_parameter, bounds_of, effect_of, head_after}
-use Rattle.source_typing.specs.Functions.{head_judged, head_of, if_parameter, if_result, is_main, key_regions, levels_but, main_faults, main_form}
+use Rattle.source_typing.specs.Functions.{Head, body_scope, end_reached, function_faults, head_judged, head_of, if_parameter, if_result, is_main, key_regions, levels_but, main_faults, main_form}
 use Rattle.source_typing.specs.Functions.{parameter_type, read_parameters, result_type, take_spots, variables}
 use Rattle.source_typing.specs.Regions.{Level, Region, is_among}
+use Rattle.source_typing.specs.Statements.{items_faults}
 use Rattle.source_typing.specs.Tables.{Tables, Tag, find, tag_in}
 use Rattle.source_typing.specs.Tags.{repeated, settled_alone}
 use Rattle.source_typing.specs.Taken.{Taken, bounds_form, bounds_if, effect_form, effect_if, function_taken, member_taken, members_taken, refused_type}
-use Rattle.source_typing.specs.Taken.{takes_base, takes_pointers, takes_type, thin_pointers, type_taken}
+use Rattle.source_typing.specs.Taken.{takes_base, takes_pointers, takes_type, thin_pointers, type_taken, structures}
 use Rattle.source_typing.specs.Types.{Int, PartialType, StaticType, shape_of}
 use Rattle.source_typing.specs.Verdicts.{Of, Verdict, after, faults_of, known}
 use Rattle.source_typing.specs.Written.{Found, RegionNamed, Spot, all_found, argument_spots, base_of, base_spots, regions_of_tag, spot, spots_of, tag_of, written}
@@ -261,72 +261,63 @@ head_good g f tags t p =
       names = q.names;
     }
 
+-- where a function has no fault, its head has none
+pub body_head_clean : (g : Tables) (i : ℕ) (f : tree.Function) → function_faults false g i f ≡ [] → (head_of false g f).faults ≡ []
+body_head_clean g i f p =
+    let h : Head = head_of false g f in
+    (none_of_both h.faults (own_after (test (not (end_reached f h)) type_rule f.end) (items_faults (body_scope false g i f h) true f.body)) p).0
+
 -- ---- other tables
-
--- a type whose tag means the same in both tables
-pub record SameTag (g h : Tables) (t : TypeName) : Type 0 where
-  pub base : base_of g t.base ≡ base_of h t.base
-  pub spots : base_spots g t.base ≡ base_spots h t.base
-
--- the tables don't matter to a type without structs and unions
-pub thin_same : (g h : Tables) (t : TypeName) → takes_type thin_pointers t ≡ true → SameTag g h t
-thin_same g h t e = by t.base (and_is (takes_base thin_pointers t.base) (takes_pointers thin_pointers t.pointers) e).0
-  where
-    by : (b : tree.Base) → takes_base thin_pointers b ≡ true → SameTag g h (record { at = t.at; base = b; pointers = t.pointers })
-    by tree.Int q = record { base = refl; spots = refl }
-    by tree.Unsigned q = record { base = refl; spots = refl }
-    by tree.Char q = record { base = refl; spots = refl }
-    by tree.Void q = record { base = refl; spots = refl }
-    by (tree.Struct tag rs) q = absurd cc
-    by (tree.Union tag rs) q = absurd cc
-    by (tree.Handle r) q = absurd cc
-    by (tree.Key r) q = absurd cc
 
 -- tables in which each name in a type means the same
 pub record SameTags (g h : Tables) : Type 0 where
   pub tags : (x : List ℕ) (union : Bool) (at : ℕ) → tag_of (find g x) union at ≡ tag_of (find h x) union at
   pub regions : (x : List ℕ) → tag_in g x ≡ tag_in h x
 
-arguments_same : (g h : Tables) (tag : tree.Name) (rs : List tree.RegionName) → SameTags g h → argument_spots g tag rs ≡ argument_spots h tag rs
-arguments_same g h tag [] k = ap (λ (o : Option Tag). replicate (regions_of_tag o) (spot false None)) (k.regions tag.text)
-arguments_same g h tag (r ∷ rs) k = refl
+module _ (g h : Tables) (k : SameTags g h) where
+  base_same : (b : tree.Base) → base_of g b ≡ base_of h b
+  base_same tree.Int = refl
+  base_same tree.Unsigned = refl
+  base_same tree.Char = refl
+  base_same tree.Void = refl
+  base_same (tree.Struct tag rs) = k.tags tag.text false tag.at
+  base_same (tree.Union tag rs) = k.tags tag.text true tag.at
+  base_same (tree.Handle r) = refl
+  base_same (tree.Key r) = refl
 
-pub type_same : (g h : Tables) (t : TypeName) → SameTags g h → SameTag g h t
-type_same g h t k = by t.base
-  where
-    by : (b : tree.Base) → SameTag g h (record { at = t.at; base = b; pointers = t.pointers })
-    by tree.Int = record { base = refl; spots = refl }
-    by tree.Unsigned = record { base = refl; spots = refl }
-    by tree.Char = record { base = refl; spots = refl }
-    by tree.Void = record { base = refl; spots = refl }
-    by (tree.Struct tag rs) = record { base = k.tags tag.text false tag.at; spots = arguments_same g h tag rs k }
-    by (tree.Union tag rs) = record { base = k.tags tag.text true tag.at; spots = arguments_same g h tag rs k }
-    by (tree.Handle r) = record { base = refl; spots = refl }
-    by (tree.Key r) = record { base = refl; spots = refl }
+  arguments_same : (tag : tree.Name) (rs : List tree.RegionName) → argument_spots g tag rs ≡ argument_spots h tag rs
+  arguments_same tag [] = ap (λ (o : Option Tag). replicate (regions_of_tag o) (spot false None)) (k.regions tag.text)
+  arguments_same tag (r ∷ rs) = refl
 
-pub spots_same : (g h : Tables) (t : TypeName) → SameTag g h t → spots_of g t ≡ spots_of h t
-spots_same g h t k = ap (λ (ss : List Spot). ss ++ map (λ (p : tree.Pointer). spot true p.region) t.pointers) k.spots
+  base_spots_same : (b : tree.Base) → base_spots g b ≡ base_spots h b
+  base_spots_same tree.Int = refl
+  base_spots_same tree.Unsigned = refl
+  base_spots_same tree.Char = refl
+  base_spots_same tree.Void = refl
+  base_spots_same (tree.Struct tag rs) = arguments_same tag rs
+  base_spots_same (tree.Union tag rs) = arguments_same tag rs
+  base_spots_same (tree.Handle r) = refl
+  base_spots_same (tree.Key r) = refl
 
-built_same : (g h : Tables) (t : TypeName) (fs : List Found × List Fault) → SameTag g h t → written_with g t fs ≡ written_with h t fs
-built_same g h t (fs, bad) k = ap (λ (v : Verdict ℕ). written_on t fs bad v) k.base
+pub spots_same : (g h : Tables) (t : TypeName) → SameTags g h → spots_of g t ≡ spots_of h t
+spots_same g h t k = ap (λ (ss : List Spot). ss ++ map (λ (p : tree.Pointer). spot true p.region) t.pointers) (base_spots_same g h k t.base)
 
-pub written_same : (g h : Tables) (names : List RegionNamed) (t : TypeName) → SameTag g h t → written g names t ≡ written h names t
+built_same : (g h : Tables) (t : TypeName) (fs : List Found × List Fault) → SameTags g h → written_with g t fs ≡ written_with h t fs
+built_same g h t (fs, bad) k = ap (λ (v : Verdict ℕ). written_on t fs bad v) (base_same g h k t.base)
+
+pub written_same : (g h : Tables) (names : List RegionNamed) (t : TypeName) → SameTags g h → written g names t ≡ written h names t
 written_same g h names t k =
     ap (λ (ss : List Spot). written_with g t (all_found names ss)) (spots_same g h t k) ∙ built_same g h t (all_found names (spots_of h t)) k
 
-abbrev pub AreSame : Tables → Tables → List tree.Member → Type 0
-AreSame g h [] = Unit {0}
-AreSame g h (m ∷ ms) = SameTag g h m.of × AreSame g h ms
-
-parameters_same : (g h : Tables) (vs : Variables) (ms : List tree.Member) → AreSame g h ms → read_parameters g vs ms ≡ read_parameters h vs ms
-parameters_same g h vs [] t = refl
-parameters_same g h vs (m ∷ ms) t =
+parameters_same : (g h : Tables) (vs : Variables) (ms : List tree.Member) → SameTags g h → read_parameters g vs ms ≡ read_parameters h vs ms
+parameters_same g h vs [] k = refl
+parameters_same g h vs (m ∷ ms) k =
     let s : AllSpotted = take_spots vs (spots_of h m.of) in
     ap (λ (ss : List Spot). and_parameter (parameter_type g m.of (take_spots vs ss)) (read_parameters g (take_spots vs ss).after_all ms))
-    (spots_same g h m.of t.0)
+    (spots_same g h m.of k)
     ∙ ap (λ (v : Verdict PartialType). and_parameter (after (after v (settled_alone m.of.at)) (if_parameter m.of.at)) (read_parameters g s.after_all ms))
-    (built_same g h m.of (s.found, s.faults) t.0)
-    ∙ ap (λ (ps : Parameters). and_parameter (parameter_type h m.of s) ps) (parameters_same g h s.after_all ms t.1)
+    (built_same g h m.of (s.found, s.faults) k)
+    ∙ ap (λ (ps : Parameters). and_parameter (parameter_type h m.of s) ps) (parameters_same g h s.after_all ms k)
 
 -- a head as it is read, with the type of its result
 abbrev reading : Bool → tree.Function → Parameters → Verdict StaticType → Reading
@@ -338,28 +329,9 @@ reading l f ps r = record {
   bounds = bounds_of ps.variables_after.names f.bounds;
 }
 
--- a head whose types are the same in both tables
-pub record SameHead (g h : Tables) (f : tree.Function) : Type 0 where
-  pub parameters : AreSame g h f.parameters
-  pub result : SameTag g h f.result
-
-pub head_same : (l : Bool) (g h : Tables) (f : tree.Function) → SameHead g h f → head_of l g f ≡ head_of l h f
+pub head_same : (l : Bool) (g h : Tables) (f : tree.Function) → SameTags g h → head_of l g f ≡ head_of l h f
 head_same l g h f k =
     let ps : Parameters = read_parameters h (variables [] 0) f.parameters in
-    ap (λ (z : Parameters). head_after l g f z) (parameters_same g h (variables [] 0) f.parameters k.parameters)
+    ap (λ (z : Parameters). head_after l g f z) (parameters_same g h (variables [] 0) f.parameters k)
     ∙ ap (λ (v : Verdict PartialType). head_judged f (reading l f ps (after (after v (settled_alone f.result.at)) (if_result f.result.at))))
-    (written_same g h ps.variables_after.names f.result k.result)
-
-all_types_same : (g h : Tables) (ms : List tree.Member) → SameTags g h → AreSame g h ms
-all_types_same g h [] k = tt
-all_types_same g h (m ∷ ms) k = (type_same g h m.of k, all_types_same g h ms k)
-
-pub tags_head : (g h : Tables) (f : tree.Function) → SameTags g h → SameHead g h f
-tags_head g h f k = record { parameters = all_types_same g h f.parameters k; result = type_same g h f.result k }
-
-all_thin_same : (g h : Tables) (ms : List tree.Member) → AreThinTypes ms → AreSame g h ms
-all_thin_same g h [] k = tt
-all_thin_same g h (m ∷ ms) k = (thin_same g h m.of k.0, all_thin_same g h ms k.1)
-
-pub thin_head : (g h : Tables) (f : tree.Function) → AreThinTypes f.parameters → takes_type thin_pointers f.result ≡ true → SameHead g h f
-thin_head g h f k r = record { parameters = all_thin_same g h f.parameters k; result = thin_same g h f.result r }
+    (written_same g h ps.variables_after.names f.result k)

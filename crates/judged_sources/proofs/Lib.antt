@@ -13,6 +13,7 @@ pub mod TagOrder
 pub mod StructTags
 pub mod StructsFound
 pub mod Heads
+pub mod AlignedTables
 pub mod TakenMore
 pub mod ProgramsMore
 pub mod Constants

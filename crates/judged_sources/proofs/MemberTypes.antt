@@ -10,16 +10,15 @@ use Rattle.source_meaning.specs.Shapes as shapes
 use Rattle.source_meaning.specs.Shapes.{Owner, Shape, StructShape, ThinShape, part_of}
 use Rattle.source_safety.specs.Entries.{AreObjects, IsObjectType}
 use Rattle.source_safety.specs.Flat.{Declared}
-use Rattle.source_safety.specs.Judged.{structures}
 use Rattle.source_safety.specs.Structs.{AreMemberTypes, AreMembers, IsMemberType, declares}
 use Rattle.source_typing.specs.Declarations.{stands_earlier}
 use Rattle.source_typing.specs.Faults.{Fault}
 use Rattle.source_typing.specs.Scope.{Env}
 use Rattle.source_typing.specs.Tables.{Arrayed, Counter, Entry, OfBuiltin, OfFunction, OfOther, OfTag, OfValue, Stored, Tables, Tag, Unknown, find}
 use Rattle.source_typing.specs.Tags.{fits_member, member_faults, member_fitting, member_type, parts_by, settled_alone}
-use Rattle.source_typing.specs.Taken.{members_taken, member_taken, refused_type, takes_base, takes_pointers, takes_type, type_taken}
+use Rattle.source_typing.specs.Taken.{members_taken, member_taken, refused_type, takes_base, takes_pointers, takes_type, type_taken, structures}
 use Rattle.source_typing.specs.Types.{Char, Fat, Handle, Int, Key, Null, StaticType, Struct, Thin, Union, Unique, Unsigned, Void, shape_of}
-use Rattle.source_typing.specs.Verdicts.{Faulty, Of, Verdict, after, faults_of, if_fits, known, other_kind}
+use Rattle.source_typing.specs.Verdicts.{Faulty, Of, Verdict, after, faults_of, if_fits, known}
 use Rattle.source_typing.specs.Written.{Found, all_found, spots_of, tag_of, written, written_on}
 use Rattle.source_typing.proofs.Converting.{and_is}
 use Rattle.source_typing.proofs.Inversion.{none_of_both}
@@ -101,7 +100,7 @@ tag_found g at y rest faulty tags p = by (find g y) refl (tags y) p
     by : (o : Option Entry) → find g y ≡ o → MeansKnown o → faults_of (rest (tag_of o false at)) ≡ [] → (t : Tag) × (find g y ≡ Some (OfTag t))
     by None q k p = absurd (faulty _ _ p)
     by (Some (OfTag t)) q k p = (t, q)
-    by (Some (OfFunction s)) q k p = absurd (faulty _ _ (subst (λ b. faults_of (rest (other_kind b at)) ≡ []) k p))
+    by (Some (OfFunction s)) q k p = absurd (faulty _ _ p)
     by (Some (OfValue (Stored t r))) q k p = absurd (faulty _ _ p)
     by (Some (OfValue (Arrayed t r))) q k p = absurd (faulty _ _ p)
     by (Some (OfValue Counter)) q k p = absurd (faulty _ _ p)

@@ -13,7 +13,6 @@ use Rattle.source_meaning.specs.Programs.{routine_of, world_of}
 use Rattle.source_meaning.specs.Shapes.{part_of, part_shapes}
 use Rattle.source_meaning.specs.Steps.{World}
 use Rattle.source_safety.specs.Entries.{Builtin, Function, PlainEntry, Structure}
-use Rattle.source_safety.specs.Judged.{structures}
 use Rattle.source_safety.specs.Programs.{FunctionJudged, GlobalFound, MainFound, ProgramJudged}
 use Rattle.source_typing.specs.Answers.{program_faults}
 use Rattle.source_typing.specs.Faults.{Fault, own_after, test, type_rule}
@@ -39,24 +38,25 @@ use Rattle.source_typing.specs.Tables.{
   Unknown,
   find,
 }
-use Rattle.source_typing.specs.Taken.{constant_forms, function_taken, item_forms, item_taken, only_taken, thin_pointers}
+use Rattle.source_typing.specs.Taken.{constant_forms, function_taken, item_forms, item_taken, only_taken, thin_pointers, structures}
 use Rattle.source_typing.specs.Types.{StaticType, shape_of}
 use Rattle.source_typing.proofs.Inversion.{none_of_both}
 use Rattle.source_typing.proofs.TakenOperands.{taken_has_operands}
 use Rattle.source_safety.proofs.Never.{never_stuck}
 use Rattle.source_safety.proofs.Same.{judged_same}
 use Rattle.judged_sources.specs.Good.{AllGood, BodiesJudged, IsGoodEntry, IsGoodTag}
-use Rattle.judged_sources.specs.Laws.{AcceptedAreJudged, AcceptedAreLowerable, AcceptedAreNeverStuck, AcceptedHaveMain, head_faults_from, heads_faults}
+use Rattle.judged_sources.specs.Laws.{AcceptedAreJudged, AcceptedAreLowerable, AcceptedAreNeverStuck, AcceptedHaveMain}
 use Rattle.judged_sources.specs.Laws.{AcceptedStructsAreJudged, AcceptedStructsAreNeverStuck}
 use Rattle.judged_sources.proofs.StructsFound.{structs_found}
+use Rattle.judged_sources.proofs.AlignedTables.{AreAligned, tables_aligned}
 use Rattle.judged_sources.proofs.Found.{AllKnown, AreThinItems, FunctionFound, VariableFound, all_known, all_take, find_function, find_variable, globals_judged}
 use Rattle.judged_sources.proofs.Found.{no_builtin}
 use Rattle.judged_sources.proofs.GoodNames.{MeansGood, found_good}
 use Rattle.judged_sources.proofs.GoodFunctions.{FunctionNamed, function_is, function_judged}
-use Rattle.judged_sources.proofs.GoodTables.{AreHeaded, IsClean, all_headed, entries_length, is_clean_program, tables_good, tables_same}
+use Rattle.judged_sources.proofs.GoodTables.{AreHeaded, IsClean, all_headed, is_clean_program, tables_good}
 use Rattle.judged_sources.proofs.GoodTypes.{KnowsTags, good_tags}
-use Rattle.judged_sources.proofs.Globals.{GlobalTaken, global_taken, thin_faults_same}
-use Rattle.judged_sources.proofs.Heads.{HeadTaken, SameTags, head_same, head_taken, thin_head}
+use Rattle.judged_sources.proofs.Globals.{GlobalTaken, global_taken}
+use Rattle.judged_sources.proofs.Heads.{HeadTaken, body_head_clean, head_taken}
 use Rattle.judged_sources.proofs.Named.{builtins_known, entries_known}
 use Rattle.judged_sources.proofs.NoTags.{AreNoTags, no_tags}
 use Rattle.judged_sources.proofs.Tags.{StructsFound, none_structs}
@@ -92,7 +92,7 @@ entry_by es x a c = (if a then Some (OfBuiltin 0) else (if c then Some (OfBuilti
 
 -- ---- a program in order, by its own tables
 
-module _ (bodies : BodiesJudged) (p : Program) (e : program_faults structures p ≡ []) (c : heads_faults p ≡ []) (found : StructsFound p) where
+module _ (bodies : BodiesJudged) (p : Program) (e : program_faults structures p ≡ []) (found : StructsFound p) where
   abbrev tables : Tables
   tables = tables_of false p
 
@@ -111,18 +111,14 @@ module _ (bodies : BodiesJudged) (p : Program) (e : program_faults structures p 
   tags : KnowsTags heads
   tags = builtins_known (entries (judged_tags p)) (entries_known (judged_tags p) p found.named)
 
+  same : AreAligned tables heads
+  same = tables_aligned heads (judged_tags p) p found.named
+
   headed : AreHeaded heads 0 (judged_tags p) p
-  headed = all_headed heads 0 (judged_tags p) p tags found.named clean.taken clean.forms c
+  headed = all_headed tables heads 0 (judged_tags p) p tags same found.named clean.taken clean.forms clean.items
 
   good : AllGood 0 tables
   good = tables_good heads (judged_tags p) p tags headed
-
-  same : SameTags tables heads
-  same = tables_same heads (judged_tags p) p tags headed
-
-  -- as many names
-  count : length tables ≡ length heads
-  count = ap (λ n. suc (suc n)) (entries_length heads 0 (judged_tags p) p headed)
 
   known : AllKnown tables heads 0 (judged_tags p) p
   known = all_known bodies tables heads 0 (judged_tags p) p good same headed clean.taken (taken_has_operands structures p clean.taken) clean.items
@@ -241,7 +237,7 @@ module _ (bodies : BodiesJudged) (p : Program) (e : program_faults structures p 
   judged = record {
     structs = found.structs;
     plain = plain;
-    globals = globals_judged tables heads 0 (judged_tags p) p same count known;
+    globals = globals_judged tables heads 0 (judged_tags p) p same known;
     variables = variables;
     functions = functions;
     main = main_judged;
@@ -261,21 +257,13 @@ module _ (bodies : BodiesJudged) (p : Program) (e : program_faults structures p 
 
 -- ---- programs without structs
 
--- heads and globals have no fault where tags alone are known either, and are of thin pointers
-record ThinClean (h : Tables) (i : ℕ) (is : List Item) : Type 0 where
-  heads : head_faults_from h i is ≡ []
-  thin : AreThinItems is
-
-none_and : (fs gs : List Fault) → fs ≡ [] → gs ≡ [] → fs ++ gs ≡ []
-none_and [] gs a b = b
-none_and (f ∷ fs) gs a b = absurd cc
-
-thin_clean : (g h : Tables) (i : ℕ) (is : List Item) → KnowsTags h → AreNoTags is → only_taken thin_pointers is ≡ is → constant_forms thin_pointers is ≡ []
-    → items_from false g i is ≡ [] → ThinClean h i is
-thin_clean g h i [] tags n t f p = record { heads = refl; thin = tt }
-thin_clean g h i (tree.StructItem s ∷ is) tags n t f p = absurd n.0
-thin_clean g h i (tree.UnionItem s ∷ is) tags n t f p = absurd n.0
-thin_clean g h i (tree.GlobalItem x ∷ is) tags n t f p =
+-- its globals and functions are of thin pointers
+thin_items : (g : Tables) (i : ℕ) (is : List Item) → AreNoTags is → only_taken thin_pointers is ≡ is → constant_forms thin_pointers is ≡ []
+    → items_from false g i is ≡ [] → AreThinItems is
+thin_items g i [] n t f p = tt
+thin_items g i (tree.StructItem s ∷ is) n t f p = absurd n.0
+thin_items g i (tree.UnionItem s ∷ is) n t f p = absurd n.0
+thin_items g i (tree.GlobalItem x ∷ is) n t f p =
     let a : item_taken thin_pointers (tree.GlobalItem x) ≡ tree.GlobalItem x = cc in
     let b : only_taken thin_pointers is ≡ is = cc in
     let c : (item_forms thin_pointers (tree.GlobalItem x) ≡ []) × (constant_forms thin_pointers is ≡ []) =
@@ -283,27 +271,14 @@ thin_clean g h i (tree.GlobalItem x ∷ is) tags n t f p =
     let d : (global_faults (at_item false g i) x ≡ []) × (items_from false g (suc i) is ≡ []) =
     none_of_both (global_faults (at_item false g i) x) (items_from false g (suc i) is) p in
     let k : GlobalTaken thin_pointers x = global_taken thin_pointers (at_item false g i) x a c.0 d.0 in
-    let r : ThinClean h (suc i) is = thin_clean g h (suc i) is tags n.1 b c.1 d.1 in
-    record {
-      heads = none_and (global_faults (at_item false h i) x) (head_faults_from h (suc i) is)
-          (sym (thin_faults_same g h i i x tags (type_more x.of k.type) k.type) ∙ d.0) r.heads;
-      thin = (k.type, r.thin);
-    }
-thin_clean g h i (tree.FunctionItem x ∷ is) tags n t f p =
+    (k.type, thin_items g (suc i) is n.1 b c.1 d.1)
+thin_items g i (tree.FunctionItem x ∷ is) n t f p =
     let a : function_taken thin_pointers x ≡ x = cc in
     let b : only_taken thin_pointers is ≡ is = cc in
     let d : (function_faults false g i x ≡ []) × (items_from false g (suc i) is ≡ []) =
     none_of_both (function_faults false g i x) (items_from false g (suc i) is) p in
-    let z : Head = head_of false g x in
-    let q : (z.faults ≡ []) × (own_after (test (not (end_reached x z)) type_rule x.end) (items_faults (body_scope false g i x z) true x.body) ≡ []) =
-    none_of_both z.faults (own_after (test (not (end_reached x z)) type_rule x.end) (items_faults (body_scope false g i x z) true x.body)) d.0 in
-    let k : HeadTaken thin_pointers x = head_taken thin_pointers g x refl a q.0 in
-    let r : ThinClean h (suc i) is = thin_clean g h (suc i) is tags n.1 b f d.1 in
-    record {
-      heads = none_and (head_of false h x).faults (head_faults_from h (suc i) is)
-          (subst (λ (y : Head). y.faults ≡ []) (head_same false g h x (thin_head g h x k.parameters k.result)) q.0) r.heads;
-      thin = (record { parameters = k.parameters; result = k.result; body = ap (λ (y : tree.Function). y.body) a }, r.thin);
-    }
+    let k : HeadTaken thin_pointers x = head_taken thin_pointers g x refl a (body_head_clean g i x d.0) in
+    (record { parameters = k.parameters; result = k.result; body = ap (λ (y : tree.Function). y.body) a }, thin_items g (suc i) is n.1 b f d.1)
 
 -- ---- the laws
 
@@ -314,19 +289,17 @@ module _ (bodies : BodiesJudged) (p : Program) (e : program_faults thin_pointers
   thin_tags : StructsFound p
   thin_tags = none_structs p none
 
-  thin : ThinClean (builtins (entries (judged_tags p))) 0 p
+  thin : AreThinItems p
   thin =
-      let c : IsClean thin_pointers p = is_clean_program thin_pointers p e in
-      thin_clean (tables_of false p) (builtins (entries (judged_tags p))) 0 p
-      (builtins_known (entries (judged_tags p)) (entries_known (judged_tags p) p thin_tags.named)) none c.taken c.forms c.items
+      let c : IsClean thin_pointers p = is_clean_program thin_pointers p e in thin_items (tables_of false p) 0 p none c.taken c.forms c.items
 
 module _ (bodies : BodiesJudged) where
   pub accepted_are_judged : AcceptedAreJudged
-  accepted_are_judged p e = judged bodies p (faults_more p e) (thin bodies p e).heads (thin_tags bodies p e)
+  accepted_are_judged p e = judged bodies p (faults_more p e) (thin_tags bodies p e)
 
   pub accepted_are_of_words : (p : Program) → program_faults thin_pointers p ≡ [] → IsOfWords p
   accepted_are_of_words p e =
-      let t : TakesProgram p = takes bodies p (faults_more p e) (thin bodies p e).heads (thin_tags bodies p e) (thin bodies p e).thin in
+      let t : TakesProgram p = takes bodies p (faults_more p e) (thin_tags bodies p e) (thin bodies p e) in
       record { items = t; strings = program_silent p t }
 
   pub accepted_are_lowerable : AcceptedAreLowerable
@@ -336,16 +309,16 @@ module _ (bodies : BodiesJudged) where
   accepted_are_never_stuck p e = never_stuck p (tables_of false p) (accepted_are_judged p e)
 
   pub accepted_have_main : AcceptedHaveMain
-  accepted_have_main p e = main_below bodies p (faults_more p e) (thin bodies p e).heads (thin_tags bodies p e)
+  accepted_have_main p e = main_below bodies p (faults_more p e) (thin_tags bodies p e)
 
   pub accepted_globals_are_words : (p : Program) → program_faults thin_pointers p ≡ [] → AreWordGlobals (tables_of false p) 0 p
   accepted_globals_are_words p e =
-      words bodies p (faults_more p e) (thin bodies p e).heads (thin_tags bodies p e) (thin bodies p e).thin
+      words bodies p (faults_more p e) (thin_tags bodies p e) (thin bodies p e)
 
 -- with structs
 pub structs_judged : BodiesJudged → AcceptedStructsAreJudged
-structs_judged bodies p e c =
-    let k : IsClean structures p = is_clean_program structures p e in judged bodies p e c (structs_found p k.taken k.tags k.names)
+structs_judged bodies p e =
+    let k : IsClean structures p = is_clean_program structures p e in judged bodies p e (structs_found p k.taken k.tags k.names)
 
 pub structs_never_stuck : BodiesJudged → AcceptedStructsAreNeverStuck
-structs_never_stuck bodies p e c = never_stuck p (tables_of false p) (structs_judged bodies p e c)
+structs_never_stuck bodies p e = never_stuck p (tables_of false p) (structs_judged bodies p e)

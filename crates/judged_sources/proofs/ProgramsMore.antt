@@ -4,10 +4,9 @@ use Rattle.std.specs.Prelude.{◌&&◌}
 use Rattle.cyc_tree.specs.Tree as tree
 use Rattle.cyc_tree.specs.Tree.{Arrow, BlockItems, Constant, Declare, Dot, Execute, Expression, Expressions, Index, Initial, Initializer, Item, Links, Made}
 use Rattle.cyc_tree.specs.Tree.{MoreExpressions, MoreLinks, NoExpressions, NoItems, NoLinks, NoSuffixes, Program, Statement, Suffixes, TypeName}
-use Rattle.source_safety.specs.Judged.{structures}
 use Rattle.source_typing.specs.Answers.{program_faults, rule_faults}
 use Rattle.source_typing.specs.Faults.{Fault}
-use Rattle.source_typing.specs.Taken.{bounds_form, constant_form, constant_forms, constant_taken}
+use Rattle.source_typing.specs.Taken.{bounds_form, constant_form, constant_forms, constant_taken, structures}
 use Rattle.source_typing.specs.Taken.{effect_if, form_if, function_taken, global_if, initial_form, initial_taken}
 use Rattle.source_typing.specs.Taken.{item_forms, item_taken, member_taken, members_taken, only_taken}
 use Rattle.source_typing.specs.Taken.{refused_structure, refused_type, structure_if}

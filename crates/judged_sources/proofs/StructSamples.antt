@@ -1,15 +1,15 @@
--- A program of structs that is in order: it copies one, stores through members and pointers to them, and makes one.
-use Rattle.std.proofs.Common.{◌≡◌, ℕ, false, None, Some, [], ◌∷◌, refl}
-use Rattle.std.specs.Prelude.{codes}
+-- Programs of structs: one that is in order, which copies one, stores through members and pointers to them, and makes one; and types whose name is no tag.
+use Rattle.std.proofs.Common.{◌≡◌, ℕ, false, List, None, Some, [], ◌∷◌, refl}
+use Rattle.std.specs.Prelude.{◌+◌, codes}
 use Rattle.cyc_tree.specs.declared.expression.Prefix.TheVariants.{AddressOf, Dereference}
 use Rattle.cyc_tree.specs.declared.name.Sign.TheVariants as sign
 use Rattle.cyc_tree.specs.Tree as tree
 use Rattle.cyc_tree.specs.Tree.{Arrow, Declare, Dot, Execute, Expression, Initializer, MoreExpressions, NoExpressions, NoItems, NoSuffixes, Program, Statement}
 use Rattle.cyc_words.specs.Events.{SourceEnding}
 use Rattle.source_meaning.specs.Programs.{source}
-use Rattle.source_safety.specs.Judged.{structures}
-use Rattle.source_typing.specs.Answers.{program_faults}
-use Rattle.judged_sources.specs.Laws.{heads_faults}
+use Rattle.source_typing.specs.Answers.{first_fault, program_faults}
+use Rattle.source_typing.specs.Faults.{fault, type_rule}
+use Rattle.source_typing.specs.Taken.{structures}
 
 abbrev name_at : ℕ → tree.Name → tree.Name
 name_at at x = record x { at = at }
@@ -82,9 +82,60 @@ copied =
 no_faults : program_faults structures copied ≡ []
 no_faults = refl
 
-no_head_faults : heads_faults copied ≡ []
-no_head_faults = refl
-
 -- it ends with 7: what x points to is x, which has become y
 its_ending : (source copied [] 5).ending ≡ SourceEnding.Ended 7
 its_ending = refl
+
+-- ---- a name that is no tag, in a type
+
+abbrev to_tag : ℕ → List ℕ → tree.TypeName
+to_tag at x = record { at = at; base = tree.Struct (record { at = at + 7; text = x }) []; pointers = record { sign = sign.Nullable; region = None } ∷ [] }
+
+-- int f(struct t *p) { return 0; }
+abbrev taking : ℕ → List ℕ → List ℕ → tree.Function
+taking at f t = record {
+  result = int_type at;
+  name = record { at = at + 4; text = f };
+  parameters = record { of = to_tag (at + 6) t; name = record { at = at + 17; text = codes "p" } } ∷ [];
+  effect = None;
+  bounds = [];
+  body = Execute (Statement.Return (at + 22) (Some (Expression.Number (at + 29) 0 false))) NoItems;
+  end = at + 32;
+}
+
+-- int main() { f(); return 0; }
+abbrev calling : List ℕ → tree.Function
+calling f = record {
+  result = int_type 100;
+  name = record { at = 104; text = codes "main" };
+  parameters = [];
+  effect = None;
+  bounds = [];
+  body = Execute (Statement.Run (Expression.Call (record { at = 113; text = f }) NoExpressions))
+      (Execute (Statement.Return 118 (Some (Expression.Number 125 0 false))) NoItems);
+  end = 128;
+}
+
+-- struct x *x; and main calls x: Type at the tag
+abbrev of_itself : Program
+of_itself =
+    tree.GlobalItem (record { of = to_tag 0 (codes "x"); name = record { at = 10; text = codes "x" }; initial = tree.Initial.Unset })
+    ∷ tree.FunctionItem (calling (codes "x")) ∷ []
+
+no_tag_of_itself : first_fault structures of_itself ≡ Some (fault type_rule 7)
+no_tag_of_itself = refl
+
+-- int f(struct f *p) { return 0; } and main calls f
+abbrev taking_itself : Program
+taking_itself = tree.FunctionItem (taking 0 (codes "f") (codes "f")) ∷ tree.FunctionItem (calling (codes "f")) ∷ []
+
+no_tag_taking_itself : first_fault structures taking_itself ≡ Some (fault type_rule 13)
+no_tag_taking_itself = refl
+
+-- two functions that name each other
+abbrev taking_each_other : Program
+taking_each_other =
+    tree.FunctionItem (taking 0 (codes "f") (codes "g")) ∷ tree.FunctionItem (taking 40 (codes "g") (codes "f")) ∷ tree.FunctionItem (calling (codes "f")) ∷ []
+
+no_tag_each_other : first_fault structures taking_each_other ≡ Some (fault type_rule 13)
+no_tag_each_other = refl

@@ -7,14 +7,13 @@ use Rattle.cyc_tree.specs.Tree as tree
 use Rattle.cyc_tree.specs.Tree.{Item, Program}
 use Rattle.source_meaning.specs.Programs.{layout_of, structs_from, world_of}
 use Rattle.source_meaning.specs.Shapes.{Layout, has_tag}
-use Rattle.source_safety.specs.Judged.{structures}
 use Rattle.source_typing.specs.Functions.{head_of}
 use Rattle.source_typing.specs.Globals.{global_entry}
 use Rattle.source_typing.specs.Programs.{Judged, all_tag_faults, bare_from, builtins, entries, entries_with, judged_tags}
 use Rattle.source_typing.specs.Programs.{second_names, tables_of}
 use Rattle.source_typing.specs.Scope.{at_item}
 use Rattle.source_typing.specs.Tables.{Named, OfBuiltin, OfFunction, OfTag, Signature, Tables, Tag, find}
-use Rattle.source_typing.specs.Taken.{only_taken}
+use Rattle.source_typing.specs.Taken.{only_taken, structures}
 use Rattle.judged_sources.proofs.Named.{AreNamed, builtins_known}
 use Rattle.judged_sources.proofs.TagOrder.{AreSorted, all_sorted, bare_known, first_alike}
 use Rattle.judged_sources.proofs.Tags.{StructsFound, behind_builtins, first_tables, judged_list, tags_are}

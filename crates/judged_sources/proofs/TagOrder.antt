@@ -3,12 +3,11 @@ use Rattle.std.proofs.Common.{◌≡◌, ℕ, suc, Bool, true, false, Option, So
 use Rattle.std.specs.Prelude.{◌&&◌, bytes_eq, if◌then◌else◌, length}
 use Rattle.cyc_tree.specs.Tree as tree
 use Rattle.cyc_tree.specs.Tree.{Item}
-use Rattle.source_safety.specs.Judged.{structures}
 use Rattle.source_typing.specs.Faults.{Fault, is_clean}
 use Rattle.source_typing.specs.Programs.{Judged, all_tag_faults, bare_from, builtins, entries, first_entry, first_from, judged_tag, name_of, named}
 use Rattle.source_typing.specs.Tables.{Entry, Named, OfBuiltin, OfFunction, OfOther, OfTag, OfValue, Tables, Tag, as_tag, find}
 use Rattle.source_typing.specs.Tags.{head_faults, member_faults, region_parameters, repeated, struct_sized, tag_faults, tag_parts, tag_scope}
-use Rattle.source_typing.specs.Taken.{item_taken, members_taken, only_taken, refused_structure, structure_if, takes_arguments}
+use Rattle.source_typing.specs.Taken.{item_taken, members_taken, only_taken, refused_structure, structure_if, takes_arguments, structures}
 use Rattle.source_typing.specs.Written.{argument_spots, regions_of_tag, spot}
 use Rattle.source_typing.proofs.Inversion.{none_of_both, own_is}
 use Rattle.judged_sources.specs.Good.{NamesBelow}

@@ -10,8 +10,7 @@ use Rattle.cyc_tree.specs.Tree as tree
 use Rattle.cyc_tree.specs.Tree.{Arrow, BlockItems, Constant, Declare, Dot, Execute, Expression, Expressions, Index, Initial, Initializer, Item, Links, Made}
 use Rattle.cyc_tree.specs.Tree.{MoreExpressions, MoreLinks, NoExpressions, NoItems, NoLinks, NoSuffixes, Program, Statement, Suffixes, TypeName}
 use Rattle.source_meaning.specs.Expressions.{is_unique_region}
-use Rattle.source_safety.specs.Judged.{structures}
-use Rattle.source_typing.specs.Taken.{all_taken, are_suffixed, declaration_taken}
+use Rattle.source_typing.specs.Taken.{all_taken, are_suffixed, declaration_taken, structures}
 use Rattle.source_typing.specs.Taken.{declared_if, if_taken}
 use Rattle.source_typing.specs.Taken.{initializer_taken, items_taken, links_taken, made_taken}
 use Rattle.source_typing.specs.Taken.{refused_type, statement_taken, suffixes_taken, taken}

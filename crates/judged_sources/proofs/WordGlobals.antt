@@ -5,13 +5,12 @@ use Rattle.cyc_tree.specs.Tree.{Item}
 use Rattle.source_meaning.specs.Shapes.{settled, written}
 use Rattle.source_meaning.specs.Sizes.{rounded_up}
 use Rattle.source_safety.specs.Entries.{IsWordType}
-use Rattle.source_safety.specs.Judged.{structures}
 use Rattle.source_typing.specs.Functions.{function_faults}
 use Rattle.source_typing.specs.Globals.{global_faults, global_size}
 use Rattle.source_typing.specs.Programs.{items_from}
 use Rattle.source_typing.specs.Scope.{at_item}
 use Rattle.source_typing.specs.Tables.{Tables}
-use Rattle.source_typing.specs.Taken.{constant_forms, item_forms, item_taken, only_taken}
+use Rattle.source_typing.specs.Taken.{constant_forms, item_forms, item_taken, only_taken, structures}
 use Rattle.source_typing.specs.Types.{StaticType, shape_of}
 use Rattle.source_typing.proofs.Inversion.{none_of_both}
 use Rattle.judged_sources.proofs.Found.{AreThinItems}

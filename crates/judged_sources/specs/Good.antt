@@ -4,7 +4,7 @@ use Rattle.cyc_tree.specs.Operands.{ItemsHaveOperands}
 use Rattle.cyc_tree.specs.Tree.{BlockItems, Expression}
 use Rattle.source_lowering.specs.Taken.{Takes, TakesItems, TakesPlace}
 use Rattle.source_safety.specs.Entries.{AreObjects, IsObjectType, IsPlain}
-use Rattle.source_safety.specs.Judged.{ItemsJudged, structures}
+use Rattle.source_safety.specs.Judged.{ItemsJudged}
 use Rattle.source_safety.specs.Named.{Below, TypeBelow, TypesBelow}
 use Rattle.source_typing.specs.Expressions.{judge}
 use Rattle.source_typing.specs.Regions.{TheHeap}
@@ -12,7 +12,7 @@ use Rattle.source_typing.specs.Scope.{Env, In, InBlock, InRegion, Nowhere, Seat,
 use Rattle.source_typing.specs.Statements.{items_faults}
 use Rattle.source_typing.specs.Calls.{part_types}
 use Rattle.source_typing.specs.Tables.{Entry, OfBuiltin, OfFunction, OfTag, OfValue, Signature, Stored, Tables, Tag}
-use Rattle.source_typing.specs.Taken.{items_taken, taken, thin_pointers}
+use Rattle.source_typing.specs.Taken.{items_taken, taken, thin_pointers, structures}
 use Rattle.source_typing.specs.Types.{Null, StaticType, Void, shape_of}
 use Rattle.source_typing.specs.Verdicts.{Faulty, Of, Unjudged, Verdict}
 use Rattle.source_typing.specs.Written.{RegionNamed}

@@ -24,8 +24,8 @@ pub fn accepted_have_main()
     ensures { AcceptedHaveMain }
 {}
 
-/// A law, with nothing to run: a program of structs too in which the rules find no fault, and none of its heads and globals by
-/// its tags alone, is in order by the rules' own tables of its names.
+/// A law, with nothing to run: a program of structs too in which the rules find no fault is in order by the rules' own tables
+/// of its names.
 pub fn accepted_structs_are_judged()
     ensures { AcceptedStructsAreJudged }
 {}

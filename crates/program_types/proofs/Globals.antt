@@ -1,7 +1,7 @@
 -- Globals by what their types are.
 use Rattle.std.proofs.Common.{◌≡◌, ℕ, Bool, true, false, List, [], ◌∷◌, ◌++◌, refl, sym, ap, subst, ◌∙◌}
 use Rattle.std.proofs.lemmas.List.{append-nil}
-use Rattle.std.specs.Prelude.{None, Option, Some, unwrap_or, ◌&&◌}
+use Rattle.std.specs.Prelude.{None, Option, Some, ◌&&◌}
 use Rattle.cyc_tree.specs.Tree.{Constant, Initial, TypeName}
 use Rattle.cyc_types.specs.Types.{static_type}
 use Rattle.cyc_types.specs.declared.ctype.CType.{CType}
@@ -10,7 +10,7 @@ use Rattle.scoped_names.specs.Means.{Means, UnknownValue, Variable}
 use Rattle.scoped_names.specs.declared.meaning.Meaning.TheVariants.{NotKnown as NotKnownName}
 use Rattle.source_typing.specs.Conversions.{converts}
 use Rattle.source_typing.specs.Declarations.{converted_to, what_after, what_of}
-use Rattle.source_typing.specs.Faults.{Fault, earliest, sooner_of}
+use Rattle.source_typing.specs.Faults.{Fault, earliest}
 use Rattle.source_typing.specs.Globals.{constant, count_of, global_entry, initial_faults}
 use Rattle.source_typing.specs.Regions.{TheHeap}
 use Rattle.source_typing.specs.Scope.{Env, Value}
@@ -23,6 +23,7 @@ use Rattle.program_types.specs.Globals.{entry_by, faults_by, global_taken, meani
 use Rattle.cyc_tree.specs.Tree as tree
 use Rattle.type_verdicts.specs.Faults as found
 use Rattle.type_verdicts.specs.declared.fault.Fault as code
+use Rattle.type_verdicts.proofs.Earliest.{sooner_none, sooner_some}
 
 -- ---- constants
 
@@ -66,17 +67,13 @@ module _ (g : Env) (t : TypeName) (i : Initial) where
       by (Initial.Elements n) = refl
       by (Initial.Given c) = let z = value_of t c in ap (λ y. faults_of y ++ converted_to g y v) z.is ∙ none z.of
 
-  first_some : (h : Fault) (o : Option Fault) → Some (unwrap_or (sooner_of h o) h) ≡ sooner_of h o
-  first_some h None = refl
-  first_some h (Some f) = refl
-
   -- a type at fault
   pub wrong_faults : (f : Fault) (v : Verdict StaticType) → Wrong f ≡ shortened v → Some f ≡ earliest (faults_by g start v)
   wrong_faults f (Faulty h hs) e =
       let all : (h ∷ hs) ++ initial_faults g start (Faulty h hs) ≡ h ∷ hs =
       ap (λ fs. (h ∷ hs) ++ fs) (no_more (Faulty h hs) (λ z. refl)) ∙ append-nil (h ∷ hs)
       in
-      ap fault_in e ∙ first_some h (earliest hs) ∙ sym (ap earliest all)
+      ap fault_in e ∙ sooner_some h (earliest hs) ∙ sym (ap earliest all)
   wrong_faults f Unjudged e = absurd cc
   wrong_faults f (Of s) e = absurd cc
 
@@ -114,16 +111,12 @@ module _ (g : Env) (t : TypeName) (i : Initial) where
       → o ≡ earliest (faults_by g start v)
   of_faults o s v e is = is ∙ ap (λ w. earliest (faults_by g start w)) (is_of s v e)
 
-  some_first : (f : Fault) (o : Option Fault) → None ≡ sooner_of f o → ⊥
-  some_first f None e = absurd cc
-  some_first f (Some h) e = absurd cc
-
   means_by : (o : Option code.Fault) (s : CType) (fs : List Fault) → found.faults_of o ≡ earliest fs → count_of start ≡ None
       → Means (Some (OfValue (what_after fs (what_of TheHeap (count_of start) (Of (static_type s)))))) (Some (meaning_by o s))
   means_by None s [] e k =
       subst (λ count. Means (Some (OfValue (what_of TheHeap count (Of (static_type s))))) (Some (meaning_by None s))) (sym k) (Variable s Heap)
   means_by (Some w) s [] e k = absurd cc
-  means_by None s (f ∷ fs) e k = absurd (some_first f (earliest fs) e)
+  means_by None s (f ∷ fs) e k = absurd (sooner_none f (earliest fs) e)
   means_by (Some w) s (f ∷ fs) e k = UnknownValue
 
   pub of_means : (o : Option code.Fault) (s : CType) (v : Verdict StaticType) → Is (static_type s) ≡ shortened v

@@ -1,12 +1,12 @@
 -- Items one by one.
 use Rattle.std.proofs.Common.{◌≡◌, ℕ, ◌+◌, ◌<◌, Bool, true, false, List, ◌∷◌, ◌++◌, refl, sym, ap, ◌∙◌, drop, get_or, length}
-use Rattle.std.specs.Prelude.{None, Option, Some, ◌&&◌}
+use Rattle.std.specs.Prelude.{Option, ◌&&◌}
 use Rattle.std.proofs.lemmas.List.{drop_more}
 use Rattle.cyc_tree.specs.Tree.{Initial, Item}
 use Rattle.source_typing.specs.Faults.{Fault, earliest}
 use Rattle.source_typing.specs.Programs.{name_of}
 use Rattle.source_typing.specs.Taken.{form_if, global_if, initial_form, initial_taken, item_taken, takes_initial, takes_type, thin_pointers}
-use Rattle.type_verdicts.proofs.Earliest.{earliest_of_both, found_sooner, sooner_first}
+use Rattle.type_verdicts.proofs.Earliest.{earliest_of_both, first_joined, found_sooner}
 use Rattle.type_verdicts.specs.Faults.{faults_of, first_of, sooner_found}
 use Rattle.cyc_tree.specs.Tree as tree
 use Rattle.type_verdicts.specs.declared.fault.Fault as code
@@ -39,10 +39,6 @@ pub form_of_global : (x : tree.Global) → form_if (takes_type thin_pointers x.o
 form_of_global x = form_by (takes_type thin_pointers x.of) x.initial
 
 -- ---- the earliest fault of items
-
-pub first_joined : (a b c : Option Fault) → first_of (first_of a b) c ≡ first_of a (first_of b c)
-first_joined None b c = refl
-first_joined (Some f) b c = sym (sooner_first f b c)
 
 -- two parts in code
 pub both_found : (r a b : Option code.Fault) (fs gs : List Fault) → r ≡ sooner_found a b → faults_of a ≡ earliest fs → faults_of b ≡ earliest gs

@@ -44,11 +44,11 @@ use Rattle.source_typing.specs.Calls as rules_of_calls
 use Rattle.source_typing.specs.Scope.{Env, Enclosing, Value, value, meant}
 use Rattle.source_typing.specs.Tables.{OfFunction, Signature, find}
 use Rattle.source_typing.specs.Taken.{taken, all_taken, are_suffixed, links_taken, suffixes_taken, if_taken, takes_prefix, takes_suffixes, takes_made, takes_handle, made_taken}
+use Rattle.source_typing.specs.Taken.{with_regions}
 use Rattle.source_typing.specs.Types.{StaticType, Int, Char, Null, Handle, is_integer, is_testable, integer_type}
 use Rattle.source_typing.proofs.Inversion.{of_is, after_is, both_is, goal_is, call_is, assign_is, prefix_is, links_first, suffixes_first, tests_first}
 use Rattle.source_typing.proofs.OperatorsFit.{tested_both_is}
 use Rattle.source_safety.specs.Flat.{Tables}
-use Rattle.source_safety.specs.Judged.{with_regions}
 use Rattle.source_safety.specs.Named.{Below, TypeBelow}
 use Rattle.source_safety.proofs.Layouts.{Structs, agrees}
 use Rattle.source_safety.proofs.Names.{NameOf}

@@ -7,8 +7,7 @@ use Rattle.cyc_tree.specs.Places.{expression_place}
 use Rattle.cyc_tree.specs.Tree.{Expression, Expressions, NoExpressions, MoreExpressions, Links, NoLinks, MoreLinks, Suffixes, NoSuffixes, Index, Dot, Arrow, Made}
 use Rattle.source_meaning.specs.Expressions.{is_unique_region}
 use Rattle.source_typing.specs.Taken.{all_taken, are_suffixed, if_taken, links_taken, made_taken, suffixes_taken, taken, takes_handle, takes_made}
-use Rattle.source_typing.specs.Taken.{takes_prefix, takes_suffixes}
-use Rattle.source_safety.specs.Judged.{structures, with_regions}
+use Rattle.source_typing.specs.Taken.{takes_prefix, takes_suffixes, structures, with_regions}
 
 refused_new : (c b : Bool) (at : ℕ) (x y : Expression) (m n : Made) → if_taken (takes_handle structures c && b) at (Expression.NewIn at x m) ≡ Expression.NewIn at y n → ⊥
 refused_new true b at x y m n p = cc

@@ -11,19 +11,11 @@ use Rattle.source_typing.specs.Regions.{with_scope}
 use Rattle.source_typing.specs.Scope.{Env, Value, block_entered, next_region}
 use Rattle.source_typing.specs.Statements.{in_a_loop}
 use Rattle.source_typing.specs.Tables.{Stored, has_beginning}
-use Rattle.source_typing.specs.Taken.{Taken, thin_pointers, taken}
+use Rattle.source_typing.specs.Taken.{taken, with_regions}
 use Rattle.source_typing.specs.Types.{StaticType, Void, Handle, is_testable, shape_of}
 use Rattle.source_typing.specs.Verdicts.{Of}
 use Rattle.source_safety.specs.Entries.{IsObjectType}
 use Rattle.source_safety.specs.Named.{TypeBelow}
-
--- thin pointers, and structs without region parameters
-abbrev pub structures : Taken
-structures = record thin_pointers { structs = true }
-
--- and the heap and lexical regions: handles, makings, effects and bounds
-abbrev pub with_regions : Taken
-with_regions = record structures { regions = true }
 
 -- an expression of these forms that is in order, and what it is
 pub record Accepted (g : Env) (e : Expression) : Type 0 where

@@ -38,6 +38,14 @@ integers = record { structs = false; pointers = false; regions = false; arrays =
 abbrev pub thin_pointers : Taken
 thin_pointers = record integers { pointers = true }
 
+-- thin pointers, and structs without region parameters
+abbrev pub structures : Taken
+structures = record thin_pointers { structs = true }
+
+-- and the heap and lexical regions: handles, makings, effects and bounds
+abbrev pub with_regions : Taken
+with_regions = record structures { regions = true }
+
 -- the whole language
 abbrev pub whole : Taken
 whole = record { structs = true; pointers = true; regions = true; arrays = true; unions = true; unique = true; keys = true }

@@ -6,7 +6,8 @@ use Rattle.type_verdicts.specs.Faults.{faults_of, first_of}
 use Rattle.judged_calls.specs.Converted.{argument_faults, arguments_faults}
 use Rattle.judged_calls.specs.Fixings.{fixings_of, which_are_known}
 use Rattle.judged_calls.proofs.Converting.{none_given}
-use Rattle.judged_calls.proofs.Found.{first_none, next_found}
+use Rattle.judged_calls.proofs.Found.{next_found}
+use Rattle.type_verdicts.proofs.Earliest.{first_none}
 use Rattle.judged_calls.proofs.Paired.{next_given, past}
 use Rattle.judged_calls.proofs.arguments.conversions_fault.Goals as goal
 

@@ -1,10 +1,10 @@
--- What the tables of a program and the scopes of its functions are where thin pointers or no pointers are taken, and
+-- What the tables of a program and the scopes of its functions are where thin pointers are taken, with structs or without, and
 -- each other form stands as a fault: copied types, and what isn't known.
 use Rattle.std.proofs.Common.{◌≡◌, ℕ, suc, Bool, true, false, Option, Some, None, List, [], ◌∷◌, refl, sym, subst}
 use Rattle.std.specs.Prelude.{if◌then◌else◌, map, not, ◌++◌, ◌&&◌, ◌||◌}
 use Rattle.cyc_tree.specs.Tree as tree
 use Rattle.cyc_tree.specs.Tree.{Initial, Item, Program, TypeName}
-use Rattle.source_typing.specs.Declarations.{what_after, what_of}
+use Rattle.source_typing.specs.Declarations.{stands_earlier, what_after, what_of}
 use Rattle.source_typing.specs.Functions.{AllSpotted, Variables, fits_parameter, if_parameter, if_result, parameter_type, read_parameters, result_type}
 use Rattle.source_typing.specs.Functions.{take_spots, variables, what_of_known, with_parameters}
 use Rattle.source_typing.specs.Functions.{body_scope, function_scope, head_of}
@@ -24,7 +24,7 @@ use Rattle.source_typing.specs.Programs.{
 use Rattle.source_typing.specs.Regions.{TheHeap}
 use Rattle.source_typing.specs.Scope.{Env, at_item, with_local}
 use Rattle.source_typing.specs.Tables.{OfValue, Tables, What, has_beginning}
-use Rattle.source_typing.specs.Tags.{settled_alone}
+use Rattle.source_typing.specs.Tags.{fits_member, member_fitting, member_type, parts_by, settled_alone, tag_parts, tag_scope}
 use Rattle.source_typing.specs.Taken.{
   Taken,
   bounds_form,
@@ -36,6 +36,8 @@ use Rattle.source_typing.specs.Taken.{
   members_taken,
   only_taken,
   refused_type,
+  structure_if,
+  takes_arguments,
   takes_initial,
   takes_type,
   type_taken,
@@ -45,6 +47,7 @@ use Rattle.source_typing.specs.Verdicts.{Verdict, after, if_fits, known}
 use Rattle.source_typing.specs.Written.{RegionNamed, spots_of, written, written_with}
 use Rattle.source_typing.proofs.Converting.{and_is}
 use Rattle.accepted_sources.proofs.CopiedNames.{
+  AreCopiedParts,
   AreNoOtherValues,
   HasCopiedAlone,
   IsCopiedOrUnknown,
@@ -64,12 +67,12 @@ use Rattle.accepted_sources.proofs.CopiedTypes.{
   settled_copied,
   spotted_copied,
   type_copied,
-  with_pointers,
+  with_structs,
 }
 
-module _ (pointers : Bool) where
+module _ (structs : Bool) where
   abbrev k : Taken
-  k = with_pointers pointers
+  k = with_structs structs
 
   -- ---- types that are taken
 
@@ -100,13 +103,13 @@ module _ (pointers : Bool) where
   parameter_known g vs t (TakenPlain e) =
       let s : AllSpotted = take_spots vs (spots_of g t) in
       judged_after (λ t. IsCopied t) (λ t. IsCopied t) (after (written_with g t (s.found, s.faults)) (settled_alone t.at)) (if_parameter t.at)
-      (alone_copied t.at (written_with g t (s.found, s.faults)) (spotted_copied pointers g vs t e)) (λ u c. fits_copied (fits_parameter u) t.at u c)
+      (alone_copied t.at (written_with g t (s.found, s.faults)) (spotted_copied structs g vs t e)) (λ u c. fits_copied (fits_parameter u) t.at u c)
 
   result_known : (g : Tables) (names : List RegionNamed) (t : TypeName) → IsTakenType t → IsCopiedIfKnown (result_type g names t)
   result_known g names t TakenFault = tt
   result_known g names t (TakenPlain e) =
       judged_after (λ t. IsCopied t) (λ t. IsCopied t) (after (written g names t) (settled_alone t.at)) (if_result t.at)
-      (alone_copied t.at (written g names t) (type_copied pointers g names t e)) (λ u c. fits_copied (is_void u || fits_parameter u) t.at u c)
+      (alone_copied t.at (written g names t) (type_copied structs g names t e)) (λ u c. fits_copied (is_void u || fits_parameter u) t.at u c)
 
   abbrev pub HaveTakenTypes : List tree.Member → Type 0
   HaveTakenTypes [] = Unit {0}
@@ -195,7 +198,7 @@ module _ (pointers : Bool) where
       let names : List RegionNamed = foreign_names (spots_of g.tables x.of) in
       judged_after (λ t. IsCopied t) (λ t. IsCopied t) (after (written g.tables names x.of) (settled_alone x.of.at))
       (fitting_global g x.of.at (count_of x.initial) (has_none names))
-      (alone_copied x.of.at (written g.tables names x.of) (type_copied pointers g.tables names x.of e))
+      (alone_copied x.of.at (written g.tables names x.of) (type_copied structs g.tables names x.of e))
       (λ t c. fitting_copied g x.of.at (count_of x.initial) (has_none names && not (is_key t) && has_beginning g.tables t) t c)
 
   uncounted : (i : Initial) → takes_initial k i ≡ true → count_of i ≡ None
@@ -219,9 +222,32 @@ module _ (pointers : Bool) where
   one_more [] j h k = (k, tt)
   one_more (i ∷ js) j h k = (h.0, one_more js j h.1 k)
 
+  -- the members of a struct or union that is taken, or of the one at fault that stands for it
+  parts_known : (g : Env) (union : Bool) (ms : List tree.Member) → HaveTakenTypes ms → AreCopiedParts (parts_by g union ms)
+  parts_known g union [] h = tt
+  parts_known g union (m ∷ ms) h = (known_copied (member_type g union m.of) (by h.0), parts_known g union ms h.1)
+    where
+      by : {t : TypeName} → IsTakenType t → IsCopiedIfKnown (member_type g union t)
+      by TakenFault = tt
+      by (TakenPlain {t = t} e) =
+          judged_after (λ t. IsCopied t) (λ t. IsCopied t) (after (written g.tables g.names t) (settled_alone t.at)) (member_fitting g union t.at)
+          (alone_copied t.at (written g.tables g.names t) (type_copied structs g.tables g.names t e))
+          (λ u c. fits_copied (fits_member union u && stands_earlier g u) t.at u c)
+
+  members_typed : (ms : List tree.Member) → HaveTakenTypes (members_taken k ms)
+  members_typed [] = tt
+  members_typed (m ∷ ms) = (taken_type m.of, members_typed ms)
+
+  tag_parts_known : (g : Tables) (i : ℕ) (union b : Bool) (s : tree.Structure)
+      → AreCopiedParts (tag_parts g i union (structure_if b s (members_taken k s.members)))
+  tag_parts_known g i union true s =
+      let y : tree.Structure = structure_if true s (members_taken k s.members) in
+      parts_known (tag_scope g i y) union y.members (members_typed s.members)
+  tag_parts_known g i union false s = (tt, tt)
+
   tag_known : (g : Tables) (i : ℕ) (x : Item) → IsNoOtherValue (judged_tag g i (item_taken k x)).entry.entry
-  tag_known g i (tree.StructItem s) = refl
-  tag_known g i (tree.UnionItem u) = refl
+  tag_known g i (tree.StructItem s) = tag_parts_known g i false (structs && takes_arguments k s.regions) s
+  tag_known g i (tree.UnionItem u) = tag_parts_known g i true (false && takes_arguments k u.regions) u
   tag_known g i (tree.GlobalItem x) = tt
   tag_known g i (tree.FunctionItem f) = tt
 

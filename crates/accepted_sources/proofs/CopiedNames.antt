@@ -1,14 +1,34 @@
--- What names are where thin pointers or no pointers are taken, and each other form stands as a fault: variables of copied types, variables of no known
--- type, functions that give such a type, and structs and unions at fault.
-use Rattle.std.proofs.Common.{◌≡◌, ℕ, Bool, true, false, Option, Some, None, List, [], ◌∷◌}
-use Rattle.std.specs.Prelude.{bytes_eq, if◌then◌else◌}
+-- What names are where thin pointers are taken, with structs or without, and each other form stands as a fault: variables of copied types, variables of no
+-- known type, functions that give such a type, and structs and unions of parts of such types. Then all such types are copied.
+use Rattle.std.proofs.Common.{◌≡◌, ℕ, zero, suc, Bool, true, false, Option, Some, None, List, [], ◌∷◌, refl, ap₂}
+use Rattle.std.specs.Prelude.{bytes_eq, if◌then◌else◌, length, ◌&&◌}
 use Rattle.cyc_tree.specs.Tree as tree
 use Rattle.source_typing.specs.Declarations.{what_after, what_of}
 use Rattle.source_typing.specs.Faults.{Fault}
 use Rattle.source_typing.specs.Regions.{Region}
 use Rattle.source_typing.specs.Scope.{Env, Local, find_local, is_second, meant, with_local, with_locals}
-use Rattle.source_typing.specs.Tables.{Entry, OfFunction, OfTag, OfValue, Stored, Tables, Unknown, What, find}
-use Rattle.source_typing.specs.Types.{StaticType}
+use Rattle.source_typing.specs.Tables.{
+  Entry,
+  OfBuiltin,
+  OfFunction,
+  OfOther,
+  OfTag,
+  OfValue,
+  Part,
+  Stored,
+  Tables,
+  Unknown,
+  What,
+  as_tag,
+  copies,
+  each_part,
+  find,
+  if_known,
+  is_copyable,
+  parts_in,
+  parts_of_tag,
+}
+use Rattle.source_typing.specs.Types.{Char, Fat, Handle, Int, Key, Null, StaticType, Struct, Thin, Union, Unique, Unsigned, Void}
 use Rattle.source_typing.specs.Verdicts.{Faulty, Of, Unjudged, Verdict}
 use Rattle.accepted_sources.proofs.CopiedTypes.{IsCopied, IsCopiedIfKnown, IsCopiedIfSome}
 
@@ -20,10 +40,15 @@ IsCopiedOrUnknown (Stored t r) = IsCopied t
 IsCopiedOrUnknown Unknown = Unit {0}
 IsCopiedOrUnknown _ = ⊥
 
--- no other variable, no function that gives another value, and no struct or union that can be made
+-- parts of such types, where they are known
+abbrev pub AreCopiedParts : List Part → Type 0
+AreCopiedParts [] = Unit {0}
+AreCopiedParts (p ∷ ps) = IsCopiedIfSome p.type × AreCopiedParts ps
+
+-- no other variable, no function that gives another value, and no struct or union with another part
 abbrev pub IsNoOtherValue : Entry → Type 0
 IsNoOtherValue (OfValue w) = IsCopiedOrUnknown w
-IsNoOtherValue (OfTag t) = (t.sound ≡ false)
+IsNoOtherValue (OfTag t) = AreCopiedParts t.parts
 IsNoOtherValue (OfFunction s) = IsCopiedIfSome s.result
 IsNoOtherValue _ = Unit {0}
 
@@ -63,6 +88,50 @@ entry_found (n ∷ ns) x h = by (bytes_eq n.name x) (entry_found ns x h.1)
     by : (b : Bool) → FindsNoOtherValue (find ns x) → FindsNoOtherValue (if b then Some n.entry else find ns x)
     by true k = h.0
     by false k = k
+
+-- ---- copied types
+
+-- the parts of a tag
+pub parts_found : (g : Tables) (x : List ℕ) → AreNoOtherValues g → AreCopiedParts (parts_in g x)
+parts_found g x h = by (find g x) (entry_found g x h)
+  where
+    by : (e : Option Entry) → FindsNoOtherValue e → AreCopiedParts (parts_of_tag (as_tag e))
+    by None k = tt
+    by (Some (OfTag t)) k = k
+    by (Some (OfValue w)) k = tt
+    by (Some (OfFunction s)) k = tt
+    by (Some (OfBuiltin n)) k = tt
+    by (Some OfOther) k = tt
+
+parts_copyable : (holds : StaticType → Bool) → ((t : StaticType) → IsCopied t → holds t ≡ true) → (ps : List Part) → AreCopiedParts ps
+    → each_part holds ps ≡ true
+parts_copyable holds each [] h = refl
+parts_copyable holds each (p ∷ ps) h = ap₂ (λ a b. a && b) (by p.type h.0) (parts_copyable holds each ps h.1)
+  where
+    by : (t : Option StaticType) → IsCopiedIfSome t → if_known holds t ≡ true
+    by None k = refl
+    by (Some t) k = each t k
+
+-- to any depth
+copied_to : (n : ℕ) (g : Tables) → AreNoOtherValues g → (t : StaticType) → IsCopied t → copies n g t ≡ true
+copied_to n g k Int h = refl
+copied_to n g k Unsigned h = refl
+copied_to n g k Char h = refl
+copied_to n g k Void h = refl
+copied_to n g k Null h = refl
+copied_to n g k (Thin m r t) h = refl
+copied_to n g k (Fat r t) h = absurd h
+copied_to n g k (Unique m t) h = absurd h
+copied_to n g k (Handle r) h = absurd h
+copied_to n g k (Key r) h = absurd h
+copied_to zero g k (Struct tag rs) h = refl
+copied_to (suc n) g k (Struct tag rs) h = parts_copyable (copies n g) (λ t c. copied_to n g k t c) (parts_in g tag) (parts_found g tag k)
+copied_to n g k (Union tag rs) h = absurd h
+
+pub copied_is_copyable : (g : Tables) → AreNoOtherValues g → (t : StaticType) → IsCopied t → is_copyable g t ≡ true
+copied_is_copyable g k t h = copied_to (length g) g k t h
+
+-- ---- names in scope
 
 locals_no_others : (ls : List Local) (g : Tables) → AreCopiedOrUnknown ls → AreNoOtherValues g → AreNoOtherValues (with_locals ls g)
 locals_no_others [] g h k = k

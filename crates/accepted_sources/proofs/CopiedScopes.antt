@@ -1,4 +1,5 @@
--- What is in scope after a declaration, where thin pointers or no pointers are taken, and each other form stands as a fault: variables of copied types.
+-- What is in scope after a declaration, where thin pointers are taken, with structs or without, and each other form stands as a fault: variables of
+-- copied types.
 use Rattle.std.proofs.Common.{◌≡◌, ℕ, Bool, true, false, Option, Some, None, refl}
 use Rattle.std.specs.Prelude.{◌&&◌, ◌||◌}
 use Rattle.cyc_tree.specs.Tree as tree
@@ -13,10 +14,11 @@ use Rattle.source_typing.specs.Taken.{Taken, declaration_taken, declared_if, ini
 use Rattle.source_typing.specs.Types.{PartialType, StaticType}
 use Rattle.source_typing.specs.Verdicts.{Faulty, Of, Unjudged, Verdict}
 use Rattle.source_typing.proofs.Converting.{and_is}
-use Rattle.accepted_sources.proofs.CopiedExpressions.{GivesCopied, judge_copied}
+use Rattle.accepted_sources.proofs.CopiedExpressions.{judge_copied}
+use Rattle.accepted_sources.proofs.CopiedValues.{GivesCopied}
 use Rattle.accepted_sources.proofs.CopiedNames.{HasCopiedAlone, known_what, local_kept, what_clean}
 use Rattle.accepted_sources.proofs.CopiedTypes.{IsCopied, IsCopiedIfKnown, IsCopiedIfSome, fitting_copied}
-use Rattle.accepted_sources.proofs.CopiedTypes.{judged_after, settled_copied, type_copied, with_pointers}
+use Rattle.accepted_sources.proofs.CopiedTypes.{judged_after, settled_copied, type_copied, with_structs}
 
 -- ---- types of locals
 
@@ -32,19 +34,19 @@ from_copied g at true Unjudged p h c = tt
 from_copied g at true (Of v) p h c = local_copied g at None true (Some v.type) p h c.0
 from_copied g at false v p h c = local_copied g at None true None p h tt
 
-module _ (pointers : Bool) where
+module _ (structs : Bool) where
   abbrev k : Taken
-  k = with_pointers pointers
+  k = with_structs structs
 
   unset_copied : (g : Env) (t : TypeName) → takes_type k t ≡ true → IsCopiedIfKnown (unset_type g t None)
   unset_copied g t e =
       judged_after (λ (p : PartialType). IsCopied p) (λ u. IsCopied u) (type_in_scope g t) (local_type g t.at None false None)
-      (type_copied pointers (in_scope g) g.names t e) (λ p h. local_copied g t.at None false None p h tt)
+      (type_copied structs (in_scope g) g.names t e) (λ p h. local_copied g t.at None false None p h tt)
 
   set_copied : (g : Env) (t : TypeName) (v : Verdict Value) → takes_type k t ≡ true → GivesCopied v → IsCopiedIfKnown (set_type g t v)
   set_copied g t v e c =
       judged_after (λ (p : PartialType). IsCopied p) (λ u. IsCopied u) (type_in_scope g t) (taken_from g t.at (misses_region g t) v)
-      (type_copied pointers (in_scope g) g.names t e) (λ p h. from_copied g t.at (misses_region g t) v p h c)
+      (type_copied structs (in_scope g) g.names t e) (λ p h. from_copied g t.at (misses_region g t) v p h c)
 
   -- ---- declarations
 
@@ -62,7 +64,7 @@ module _ (pointers : Bool) where
       let v : Verdict Value = judge g (taken k a) in
       local_kept x (what_after (set_faults g v (set_type g t v)) (what_of g.frame None (set_type g t v))) g
       (what_clean (set_faults g v (set_type g t v)) (what_of g.frame None (set_type g t v))
-      (known_what g.frame (set_type g t v) (set_copied g t v c (judge_copied pointers a g h)))) h
+      (known_what g.frame (set_type g t v) (set_copied g t v c (judge_copied structs a g h)))) h
 
   pub declared_kept : (d : tree.Declaration) (g : Env) → HasCopiedAlone g → HasCopiedAlone (declare g (declaration_taken k d)).scope
   declared_kept (tree.Region at r x) g h = refused_kept g at x h

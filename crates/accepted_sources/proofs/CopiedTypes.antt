@@ -1,6 +1,7 @@
--- Types whose values are copied: integers, nothing, NULL, and thin pointers to such. Where thin pointers or no pointers are taken, a type has no other.
-use Rattle.std.proofs.Common.{◌≡◌, ℕ, Bool, true, false, Option, Some, None, List, [], ◌∷◌, refl}
-use Rattle.std.specs.Prelude.{◌&&◌, map}
+-- Types whose values are copied, where no struct has a part of another type: integers, nothing, NULL, structs, and thin pointers to such. Where thin
+-- pointers are taken, with structs or without, a type has no other.
+use Rattle.std.proofs.Common.{◌≡◌, ℕ, zero, suc, Bool, true, false, Option, Some, None, List, [], ◌∷◌}
+use Rattle.std.specs.Prelude.{◌&&◌, ◌++◌, map, replicate}
 use Rattle.cyc_tree.specs.declared.name.Sign.{Sign}
 use Rattle.cyc_tree.specs.declared.name.Sign.TheVariants as sign
 use Rattle.cyc_tree.specs.Tree as tree
@@ -12,8 +13,8 @@ use Rattle.source_typing.specs.Functions.{AllSpotted, Variables, take_named, tak
 use Rattle.source_typing.specs.Missing.{as_type, filled_from, or_found, outer_region, pointee_of, settled, thin_with}
 use Rattle.source_typing.specs.Regions.{Region}
 use Rattle.source_typing.specs.Scope.{Env}
-use Rattle.source_typing.specs.Tables.{Tables, is_copyable}
-use Rattle.source_typing.specs.Taken.{Taken, integers, takes_base, takes_pointers, takes_region, takes_sign, takes_type}
+use Rattle.source_typing.specs.Tables.{Tables, find, tag_in}
+use Rattle.source_typing.specs.Taken.{Taken, takes_arguments, takes_base, takes_pointers, takes_region, takes_sign, takes_type, thin_pointers}
 use Rattle.source_typing.specs.Types.{
   Char,
   Fat,
@@ -41,22 +42,27 @@ use Rattle.source_typing.specs.Written.{
   RegionNamed,
   Spot,
   all_found,
+  as_region,
   find_region,
   found_by,
   found_named,
   pointer_to,
   pointers_to,
+  regions_of_tag,
   spot,
   spots_of,
+  tag_of,
   type_built,
+  with_arguments,
   written,
+  written_on,
   written_with,
 }
 use Rattle.source_typing.proofs.Converting.{and_is}
 
--- the forms on integers, and those on thin pointers or not
-abbrev pub with_pointers : Bool → Taken
-with_pointers pointers = record integers { pointers = pointers }
+-- the forms on integers and thin pointers, and those on structs or not
+abbrev pub with_structs : Bool → Taken
+with_structs structs = record thin_pointers { structs = structs }
 
 abbrev pub IsCopied : {R : Type 0} → TypeIn R → Type 0
 IsCopied Int = Unit {0}
@@ -65,6 +71,7 @@ IsCopied Char = Unit {0}
 IsCopied Void = Unit {0}
 IsCopied Null = Unit {0}
 IsCopied (Thin n r t) = IsCopied t
+IsCopied (Struct tag rs) = Unit {0}
 IsCopied _ = ⊥
 
 -- where it is known
@@ -120,20 +127,6 @@ known_copied Unjudged h = tt
 
 -- ---- copied types
 
-pub copied_is_copyable : (g : Tables) (t : StaticType) → IsCopied t → is_copyable g t ≡ true
-copied_is_copyable g Int h = refl
-copied_is_copyable g Unsigned h = refl
-copied_is_copyable g Char h = refl
-copied_is_copyable g Void h = refl
-copied_is_copyable g Null h = refl
-copied_is_copyable g (Thin n r t) h = refl
-copied_is_copyable g (Fat r t) h = absurd h
-copied_is_copyable g (Unique n t) h = absurd h
-copied_is_copyable g (Handle r) h = absurd h
-copied_is_copyable g (Key r) h = absurd h
-copied_is_copyable g (Struct tag rs) h = absurd h
-copied_is_copyable g (Union tag rs) h = absurd h
-
 -- it is so with other regions too
 pub copied_renamed : {R S : Type 0} (f : R → S) (t : TypeIn R) → IsCopied t → IsCopied (renamed f t)
 copied_renamed f Int h = tt
@@ -146,7 +139,7 @@ copied_renamed f (Fat r t) h = absurd h
 copied_renamed f (Unique n t) h = absurd h
 copied_renamed f (Handle r) h = absurd h
 copied_renamed f (Key r) h = absurd h
-copied_renamed f (Struct tag rs) h = absurd h
+copied_renamed f (Struct tag rs) h = tt
 copied_renamed f (Union tag rs) h = absurd h
 
 -- ---- missing regions
@@ -172,7 +165,7 @@ outer_shared (Some (Fat r t)) h = absurd h
 outer_shared (Some (Unique n t)) h = absurd h
 outer_shared (Some (Handle r)) h = absurd h
 outer_shared (Some (Key r)) h = absurd h
-outer_shared (Some (Struct tag rs)) h = absurd h
+outer_shared (Some (Struct tag rs)) h = tt
 outer_shared (Some (Union tag rs)) h = absurd h
 
 pointee_copied : (s : Option StaticType) → IsCopiedIfSome s → IsCopiedIfSome (pointee_of s)
@@ -187,7 +180,7 @@ pointee_copied (Some (Fat r t)) h = absurd h
 pointee_copied (Some (Unique n t)) h = absurd h
 pointee_copied (Some (Handle r)) h = absurd h
 pointee_copied (Some (Key r)) h = absurd h
-pointee_copied (Some (Struct tag rs)) h = absurd h
+pointee_copied (Some (Struct tag rs)) h = tt
 pointee_copied (Some (Union tag rs)) h = absurd h
 
 found_shared : (r : Option Region) (f : Found) → IsNotUnique f → IsNotUnique (or_found r f)
@@ -213,7 +206,7 @@ filled_copied (Fat r t) s h k = absurd h
 filled_copied (Unique n t) s h k = absurd h
 filled_copied (Handle r) s h k = absurd h
 filled_copied (Key r) s h k = absurd h
-filled_copied (Struct tag rs) s h k = absurd h
+filled_copied (Struct tag rs) s h k = tt
 filled_copied (Union tag rs) s h k = absurd h
 
 pub settled_copied : (at : ℕ) (p : PartialType) (s : Option StaticType) → IsCopied p → IsCopiedIfSome s → IsCopiedIfKnown (settled at p s)
@@ -273,9 +266,19 @@ spots_shared : (vs : Variables) (ss : List Spot) → AreShared ss → AreNotUniq
 spots_shared vs [] h = tt
 spots_shared vs (s ∷ ss) h = (spot_shared vs s.written s.of_pointer h.0, spots_shared (take_spot vs s.written s.of_pointer).after_it ss h.1)
 
-module _ (pointers : Bool) where
+-- missing region arguments
+missing_shared : (n : ℕ) (ss : List Spot) → AreShared ss → AreShared (replicate n (spot false None) ++ ss)
+missing_shared zero ss h = h
+missing_shared (suc n) ss h = (tt, missing_shared n ss h)
+
+-- what needs regions to be taken
+takes_none : (b : Bool) → b && false ≡ true → ⊥
+takes_none true e = cc
+takes_none false e = cc
+
+module _ (structs : Bool) where
   abbrev k : Taken
-  k = with_pointers pointers
+  k = with_structs structs
 
   region_shared : (r : Option tree.RegionName) → takes_region k r ≡ true → IsSharedName r
   region_shared None e = tt
@@ -299,7 +302,8 @@ module _ (pointers : Bool) where
       by tree.Unsigned e h = h
       by tree.Char e h = h
       by tree.Void e h = h
-      by (tree.Struct tag rs) e h = absurd cc
+      by (tree.Struct tag []) e h = missing_shared (regions_of_tag (tag_in g tag.text)) (map (λ (p : tree.Pointer). spot true p.region) t.pointers) h
+      by (tree.Struct tag (r ∷ rs)) e h = absurd (takes_none structs e)
       by (tree.Union tag rs) e h = absurd cc
       by (tree.Handle r) e h = absurd cc
       by (tree.Key r) e h = absurd cc
@@ -328,11 +332,14 @@ module _ (pointers : Bool) where
   pointer_copied sign.Nullable Missing (Thin n r t) e h c = c
   pointer_copied sign.NotNull (Is q) (Thin n r t) e h c = c
   pointer_copied sign.NotNull Missing (Thin n r t) e h c = c
+  pointer_copied sign.Nullable (Is q) (Struct tag rs) e h c = tt
+  pointer_copied sign.Nullable Missing (Struct tag rs) e h c = tt
+  pointer_copied sign.NotNull (Is q) (Struct tag rs) e h c = tt
+  pointer_copied sign.NotNull Missing (Struct tag rs) e h c = tt
   pointer_copied s f (Fat r t) e h c = absurd c
   pointer_copied s f (Unique n t) e h c = absurd c
   pointer_copied s f (Handle r) e h c = absurd c
   pointer_copied s f (Key r) e h c = absurd c
-  pointer_copied s f (Struct tag rs) e h c = absurd c
   pointer_copied s f (Union tag rs) e h c = absurd c
 
   pointers_copied : (ps : List tree.Pointer) (fs : List Found) (t : Option PartialType) → takes_pointers k ps ≡ true → AreNotUnique fs → IsCopiedIfSome t
@@ -343,6 +350,13 @@ module _ (pointers : Bool) where
   pointers_copied (p ∷ ps) (f ∷ fs) (Some t) e h c =
       let a = and_is (takes_sign k p.sign && takes_region k p.region) (takes_pointers k ps) e in
       pointers_copied ps fs (pointer_to p.sign f t) a.1 h.1 (pointer_copied p.sign f t (and_is (takes_sign k p.sign) (takes_region k p.region) a.0).0 h.0 c)
+
+  -- a struct, whose first regions are its arguments
+  struct_copied : (tag : List ℕ) (n : ℕ) (args : List Found) (ps : List tree.Pointer) (fs : List Found) → takes_pointers k ps ≡ true → AreNotUnique fs
+      → IsCopiedIfSome (with_arguments n (Struct tag) args ps fs)
+  struct_copied tag zero args ps fs e h = pointers_copied ps fs (Some (Struct tag (map as_region args))) e h tt
+  struct_copied tag (suc n) args ps [] e h = tt
+  struct_copied tag (suc n) args ps (f ∷ fs) e h = struct_copied tag n (args ++ f ∷ []) ps fs e h.1
 
   written_copied : (g : Tables) (t : TypeName) (fs : List Found) (bad : List Fault) → takes_type k t ≡ true → AreNotUnique fs
       → WhereJudged (λ (p : PartialType). IsCopied p) (written_with g t (fs, bad))
@@ -359,7 +373,14 @@ module _ (pointers : Bool) where
       by tree.Unsigned e q = found (pointers_to t.pointers fs (Some Unsigned)) (pointers_copied t.pointers fs (Some Unsigned) q h tt)
       by tree.Char e q = found (pointers_to t.pointers fs (Some Char)) (pointers_copied t.pointers fs (Some Char) q h tt)
       by tree.Void e q = found (pointers_to t.pointers fs (Some Void)) (pointers_copied t.pointers fs (Some Void) q h tt)
-      by (tree.Struct tag rs) e q = absurd cc
+      by (tree.Struct tag []) e q = on_tag (tag_of (find g tag.text) false tag.at)
+        where
+          on_tag : (v : Verdict ℕ)
+              → WhereJudged (λ (p : PartialType). IsCopied p) (written_on (record { at = t.at; base = tree.Struct tag []; pointers = t.pointers }) fs bad v)
+          on_tag (Faulty f others) = tt
+          on_tag Unjudged = judged_unless (λ (p : PartialType). IsCopied p) bad Unjudged tt
+          on_tag (Of n) = found (with_arguments n (Struct tag.text) [] t.pointers fs) (struct_copied tag.text n [] t.pointers fs q h)
+      by (tree.Struct tag (r ∷ rs)) e q = absurd (takes_none structs e)
       by (tree.Union tag rs) e q = absurd cc
       by (tree.Handle r) e q = absurd cc
       by (tree.Key r) e q = absurd cc

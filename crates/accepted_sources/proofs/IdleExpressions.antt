@@ -1,5 +1,5 @@
--- An expression does nothing to the states of locals, where thin pointers or no pointers are taken, and each other form stands as a fault: no local has a
--- state.
+-- An expression does nothing to the states of locals, where thin pointers are taken, with structs or without, and each other form stands as a fault: no
+-- local has a state.
 use Rattle.std.proofs.Common.{◌≡◌, ℕ, Bool, true, false, Option, Some, None, [], refl, sym, subst, ap, ap₂, ◌∙◌}
 use Rattle.std.specs.Prelude.{not, ◌&&◌}
 use Rattle.cyc_tree.specs.declared.expression.Prefix.TheVariants as prefix
@@ -17,79 +17,75 @@ use Rattle.cyc_tree.specs.Tree.{
   NoExpressions,
   NoLinks,
   NoSuffixes,
+  Suffixes,
 }
+use Rattle.cyc_tree.specs.Places.{expression_place}
 use Rattle.source_meaning.specs.Expressions.{is_unique_region}
 use Rattle.source_typing.specs.Expressions.{judge}
-use Rattle.source_typing.specs.Flow.{use_all, use_links, use_of, use_tests}
+use Rattle.source_typing.specs.Flow.{use_all, use_links, use_of, use_suffixes, use_tests}
 use Rattle.source_typing.specs.Moves.{address_use, applied_use, assigned_use, contents_use, copy_if, if_moved, is_moved, local_use, nothing, place_use}
-use Rattle.source_typing.specs.Moves.{tested_use, use_of_local, use_of_name}
+use Rattle.source_typing.specs.Moves.{indexed_use, is_unique_value, member_use, place_at, pointed_use, tested_use, use_of_local, use_of_name}
 use Rattle.source_typing.specs.Moves.{value_use}
-use Rattle.source_typing.specs.Places.{contents_of, in_live, variable}
-use Rattle.source_typing.specs.Scope.{Env, In, InBlock, Local, Nowhere, Seat, Value, find_local, is_live}
+use Rattle.source_typing.specs.Places.{arrow, contents, indexed, member, variable}
+use Rattle.source_typing.specs.Scope.{Env, In, InBlock, Local, Nowhere, Seat, Value, find_local}
 use Rattle.source_typing.specs.States.{States, passed, then_passed}
-use Rattle.source_typing.specs.Tables.{Arrayed, Counter, Entry, OfBuiltin, OfFunction, OfOther, OfTag, OfValue, Stored, Unknown, What, find}
-use Rattle.source_typing.specs.Taken.{Taken, all_taken, if_taken, links_taken, made_taken, taken, takes_handle, takes_made}
-use Rattle.source_typing.specs.Types.{Fat, StaticType, Thin, Unique, is_unique}
-use Rattle.source_typing.specs.Verdicts.{Faulty, Of, Unjudged, Verdict, other_kind}
-use Rattle.accepted_sources.proofs.CopiedExpressions.{GivesCopied, IsShared, judge_copied}
-use Rattle.accepted_sources.proofs.CopiedNames.{FindsCopied, FindsNoOtherValue, HasCopiedAlone, IsCopiedOrUnknown, entry_found, local_found}
-use Rattle.accepted_sources.proofs.CopiedTypes.{IsCopied, copied_is_copyable, with_pointers}
+use Rattle.source_typing.specs.Tables.{Arrayed, Counter, Entry, Stored, Unknown, What, find}
+use Rattle.source_typing.specs.Taken.{Taken, all_taken, are_suffixed, if_taken, links_taken, made_taken, suffixes_taken, taken, takes_handle}
+use Rattle.source_typing.specs.Taken.{takes_made, takes_suffixes}
+use Rattle.source_typing.specs.Types.{StaticType, Unique, is_unique}
+use Rattle.source_typing.specs.Verdicts.{Faulty, Of, Unjudged, Verdict, after, both}
+use Rattle.accepted_sources.proofs.CopiedExpressions.{judge_copied}
+use Rattle.accepted_sources.proofs.CopiedPlaces.{arrow_gives, contents_all_copied, indexed_copied, member_gives}
+use Rattle.accepted_sources.proofs.CopiedValues.{GivesCopied, IsShared, gives_both, variable_copied}
+use Rattle.accepted_sources.proofs.CopiedNames.{AreNoOtherValues, FindsCopied, HasCopiedAlone, IsCopiedOrUnknown, copied_is_copyable, entry_found}
+use Rattle.accepted_sources.proofs.CopiedNames.{local_found}
+use Rattle.accepted_sources.proofs.CopiedTypes.{IsCopied, with_structs}
 use Rattle.accepted_sources.proofs.StillStates.{idle, tested_idle}
 
 -- ---- names
 
-what_idle : (g : Env) (x : tree.Name) (w : What) → IsCopiedOrUnknown w → use_of_local g x w ≡ idle
-what_idle g x (Stored t r) h = ap (λ b. if_moved (not b) (local_use g.locals x)) (copied_is_copyable g.tables t h)
-what_idle g x (Arrayed t r) h = absurd h
-what_idle g x Counter h = absurd h
-what_idle g x Unknown h = refl
+what_idle : (g : Env) (x : tree.Name) (w : What) → AreNoOtherValues g.tables → IsCopiedOrUnknown w → use_of_local g x w ≡ idle
+what_idle g x (Stored t r) k h = ap (λ b. if_moved (not b) (local_use g.locals x)) (copied_is_copyable g.tables k t h)
+what_idle g x (Arrayed t r) k h = absurd h
+what_idle g x Counter k h = absurd h
+what_idle g x Unknown k h = refl
 
-other_stays : (g : Env) (b : Bool) (at : ℕ) → is_moved g (other_kind {A = Value} b at) ≡ false
-other_stays g true at = refl
-other_stays g false at = refl
-
-entry_stays : (g : Env) (at : ℕ) (e : Option Entry) → FindsNoOtherValue e → is_moved g (variable at e) ≡ false
-entry_stays g at None h = refl
-entry_stays g at (Some (OfValue (Stored t r))) h = ap (λ b. not b) (copied_is_copyable g.tables t h)
-entry_stays g at (Some (OfValue (Arrayed t r))) h = absurd h
-entry_stays g at (Some (OfValue Counter)) h = absurd h
-entry_stays g at (Some (OfValue Unknown)) h = refl
-entry_stays g at (Some (OfTag t)) h = other_stays g t.sound at
-entry_stays g at (Some (OfFunction s)) h = other_stays g s.sound at
-entry_stays g at (Some (OfBuiltin n)) h = refl
-entry_stays g at (Some OfOther) h = refl
+-- a copied value isn't moved
+value_stays : (g : Env) (v : Verdict Value) → HasCopiedAlone g → GivesCopied v → is_moved g v ≡ false
+value_stays g (Faulty f fs) h c = refl
+value_stays g Unjudged h c = refl
+value_stays g (Of v) h c = ap (λ b. not b) (copied_is_copyable g.tables h.1 v.type c.0)
 
 name_idle : (g : Env) (x : tree.Name) → HasCopiedAlone g → use_of_name g x (find_local g.locals x.text) ≡ idle
 name_idle g x h = by (find_local g.locals x.text) (local_found g.locals x.text h.0)
   where
     by : (l : Option Local) → FindsCopied l → use_of_name g x l ≡ idle
     by None k =
-        ap (λ b. place_use x.at b false nothing) (entry_stays g x.at (find g.tables x.text) (entry_found g.tables x.text h.1))
-    by (Some l) k = what_idle g x l.what k
+        let e : Option Entry = find g.tables x.text in
+        ap (λ b. place_use x.at b false nothing) (value_stays g (variable x.at e) h (variable_copied x.at e (entry_found g.tables x.text h.1)))
+    by (Some l) k = what_idle g x l.what h.1 k
 
 -- ---- places
 
-contents_stay : (g : Env) (at : ℕ) (t : StaticType) → IsCopied t → is_moved g (contents_of g at t) ≡ false
-contents_stay g at (Thin n r t) h = by (is_live g r)
+-- no copied value is a unique pointer
+none_unique : (v : Verdict Value) → GivesCopied v → is_unique_value v ≡ false
+none_unique (Faulty f fs) h = refl
+none_unique Unjudged h = refl
+none_unique (Of v) h = by v.type h.0
   where
-    by : (b : Bool) → is_moved g (in_live b at t r) ≡ false
-    by true = ap (λ b. not b) (copied_is_copyable g.tables t h)
-    by false = refl
-contents_stay g at (Fat r t) h = absurd h
-contents_stay g at (Unique n t) h = absurd h
-contents_stay g at _ h = refl
+    by : (t : StaticType) → IsCopied t → is_unique t ≡ false
+    by (Unique n t) h = absurd h
+    by _ h = refl
 
--- what a pointer leads to isn't moved
-contents_idle : (g : Env) (at : ℕ) (v : Verdict Value) → GivesCopied v → contents_use g at v idle ≡ idle
-contents_idle g at (Faulty f fs) h = refl
-contents_idle g at Unjudged h = refl
-contents_idle g at (Of v) h =
-    ap₂ (λ a b. place_use at a false (λ s. then_passed (passed [] s) (copy_if b at))) (contents_stay g at v.type h.0)
-    (ap (λ b. b && true) (none_unique v.type h.0))
-  where
-    none_unique : (t : StaticType) → IsCopied t → is_unique t ≡ false
-    none_unique (Unique n t) h = absurd h
-    none_unique _ h = refl
+-- what a pointer leads to, and a part of it, isn't moved
+pointed_idle : (at : ℕ) (moves : Bool) (v : Verdict Value) → moves ≡ false → GivesCopied v → place_use at moves false (pointed_use at v idle) ≡ idle
+pointed_idle at moves v e h =
+    ap₂ (λ a b. place_use at a false (λ s. then_passed (passed [] s) (copy_if b at))) e (ap (λ b. b && true) (none_unique v h))
+
+contents_idle : (g : Env) (at : ℕ) (v : Verdict Value) → HasCopiedAlone g → GivesCopied v → contents_use g at v idle ≡ idle
+contents_idle g at v h c =
+    pointed_idle at (is_moved g (after v (contents g at))) v
+    (value_stays g (after v (contents g at)) h (contents_all_copied g at v c)) c
 
 -- nor is what has its address taken
 address_idle : (at : ℕ) (v : Verdict Value) → GivesCopied v → address_use at v idle ≡ idle
@@ -104,9 +100,9 @@ address_idle at (Of v) h = by v.seat h.1
 
 -- ---- expressions
 
-module _ (pointers : Bool) where
+module _ (structs : Bool) where
   abbrev k : Taken
-  k = with_pointers pointers
+  k = with_structs structs
 
   if_idle : (b : Bool) (g : Env) (at : ℕ) (e : Expression) → use_of g e ≡ idle → use_of g (if_taken b at e) ≡ idle
   if_idle true g at e h = h
@@ -123,7 +119,7 @@ module _ (pointers : Bool) where
     use_idle (Expression.Number at n suffix) g h = refl
     use_idle (Expression.Character at byte) g h = refl
     use_idle (Expression.Text at bytes) g h = refl
-    use_idle (Expression.Null at) g h = if_idle pointers g at (Expression.Null at) refl
+    use_idle (Expression.Null at) g h = refl
     use_idle (Expression.HeapRegion at) g h = refl
     use_idle (Expression.UniqueRegion at) g h = refl
     use_idle (Expression.Variable x) g h = name_idle g x h
@@ -131,19 +127,17 @@ module _ (pointers : Bool) where
     use_idle (Expression.MakeUnion tag f e) g h = refl
     use_idle (Expression.NumElts at e) g h = refl
     use_idle (Expression.Grouped at e) g h = use_idle e g h
-    use_idle (Expression.Suffixed e NoSuffixes) g h = refl
-    use_idle (Expression.Suffixed e (Index index others)) g h = refl
-    use_idle (Expression.Suffixed e (Dot f others)) g h = refl
-    use_idle (Expression.Suffixed e (Arrow f others)) g h = refl
+    use_idle (Expression.Suffixed e es) g h =
+        if_idle (are_suffixed es && takes_suffixes k es) g (expression_place e) (Expression.Suffixed (taken k e) (suffixes_taken k es))
+        (subst (λ u. use_suffixes g (judge g (taken k e)) u (suffixes_taken k es) ≡ idle) (sym (use_idle e g h))
+        (suffixes_idle es g (judge g (taken k e)) h (judge_copied structs e g h)))
     use_idle (Expression.Prefixed at prefix.Negate e) g h = ap (λ u. value_use u.look) (use_idle e g h)
     use_idle (Expression.Prefixed at prefix.Not e) g h = ap (λ u. value_use u.look) (use_idle e g h)
     use_idle (Expression.Prefixed at prefix.Complement e) g h = ap (λ u. value_use u.look) (use_idle e g h)
     use_idle (Expression.Prefixed at prefix.Dereference e) g h =
-        if_idle pointers g at (Expression.Prefixed at prefix.Dereference (taken k e))
-        (ap (λ u. contents_use g at (judge g (taken k e)) u) (use_idle e g h) ∙ contents_idle g at (judge g (taken k e)) (judge_copied pointers e g h))
+        ap (λ u. contents_use g at (judge g (taken k e)) u) (use_idle e g h) ∙ contents_idle g at (judge g (taken k e)) h (judge_copied structs e g h)
     use_idle (Expression.Prefixed at prefix.AddressOf e) g h =
-        if_idle pointers g at (Expression.Prefixed at prefix.AddressOf (taken k e))
-        (ap (λ u. address_use at (judge g (taken k e)) u) (use_idle e g h) ∙ address_idle at (judge g (taken k e)) (judge_copied pointers e g h))
+        ap (λ u. address_use at (judge g (taken k e)) u) (use_idle e g h) ∙ address_idle at (judge g (taken k e)) (judge_copied structs e g h)
     use_idle (Expression.New at new) g h = refl
     use_idle (Expression.NewIn at handle new) g h = made_idle g (is_unique_region handle) at handle new
     use_idle (Expression.Chain e NoLinks) g h = refl
@@ -161,6 +155,24 @@ module _ (pointers : Bool) where
     arguments_idle NoExpressions g h s = refl
     arguments_idle (MoreExpressions e es) g h s =
         subst (λ u. then_passed (u.value s) (λ t. use_all g (all_taken k es) t) ≡ passed [] s) (sym (use_idle e g h)) (arguments_idle es g h s)
+
+    suffixes_idle : (es : Suffixes) (g : Env) (v : Verdict Value) → HasCopiedAlone g → GivesCopied v → use_suffixes g v idle (suffixes_taken k es) ≡ idle
+    suffixes_idle NoSuffixes g v h c = refl
+    suffixes_idle (Index index es) g v h c =
+        let w : Verdict Value = both v (judge g (taken k index)) (indexed g) in
+        let d : GivesCopied w = gives_both v (judge g (taken k index)) (indexed g) c (indexed_copied g) in
+        subst (λ u. use_suffixes g w u (suffixes_taken k es) ≡ idle)
+        (sym (ap₂ (λ a u. indexed_use (place_at 0 v) a idle u) (value_stays g w h d) (use_idle index g h))) (suffixes_idle es g w h d)
+    suffixes_idle (Dot f es) g v h c =
+        let w : Verdict Value = after v (member g f) in
+        let d : GivesCopied w = member_gives g f v h c in
+        subst (λ u. use_suffixes g w u (suffixes_taken k es) ≡ idle) (sym (ap (λ a. member_use (place_at 0 v) a idle) (value_stays g w h d)))
+        (suffixes_idle es g w h d)
+    suffixes_idle (Arrow f es) g v h c =
+        let w : Verdict Value = after v (arrow g f) in
+        let d : GivesCopied w = arrow_gives g f v h c in
+        subst (λ u. use_suffixes g w u (suffixes_taken k es) ≡ idle) (sym (pointed_idle (place_at 0 v) (is_moved g w) v (value_stays g w h d) c))
+        (suffixes_idle es g w h d)
 
     tests_idle : (es : Expressions) (g : Env) → HasCopiedAlone g → use_tests g idle (all_taken k es) ≡ idle
     tests_idle NoExpressions g h = refl

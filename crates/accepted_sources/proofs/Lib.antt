@@ -1,6 +1,8 @@
 pub mod StillStates
 pub mod CopiedTypes
 pub mod CopiedNames
+pub mod CopiedValues
+pub mod CopiedPlaces
 pub mod CopiedExpressions
 pub mod CopiedScopes
 pub mod IdleExpressions

@@ -1,4 +1,4 @@
--- A program has no fault of flow where integers and thin pointers at most are taken, and each other form stands as a fault: none of
+-- A program has no fault of flow where thin pointers are taken, with structs or without, and each other form stands as a fault: none of
 -- its locals has a state.
 use Rattle.std.proofs.Common.{◌≡◌, ℕ, suc, Bool, false, true, List, [], ◌∷◌, refl}
 use Rattle.cyc_tree.specs.Tree as tree
@@ -9,16 +9,16 @@ use Rattle.source_typing.specs.Programs.{tables_of}
 use Rattle.source_typing.specs.Scope.{Env}
 use Rattle.source_typing.specs.Tables.{Tables}
 use Rattle.source_typing.specs.Taken.{Taken, function_taken, item_taken, only_taken}
-use Rattle.accepted_sources.specs.Laws.{PointersHaveNoFlowFaults}
+use Rattle.accepted_sources.specs.Laws.{PointersHaveNoFlowFaults, StructsHaveNoFlowFaults}
 use Rattle.accepted_sources.proofs.CopiedHeads.{body_kept, tables_known}
 use Rattle.accepted_sources.proofs.CopiedNames.{AreNoOtherValues}
-use Rattle.accepted_sources.proofs.CopiedTypes.{with_pointers}
+use Rattle.accepted_sources.proofs.CopiedTypes.{with_structs}
 use Rattle.accepted_sources.proofs.StillStates.{no_more}
 use Rattle.accepted_sources.proofs.StillStatements.{items_still}
 
-module _ (pointers : Bool) where
+module _ (structs : Bool) where
   abbrev k : Taken
-  k = with_pointers pointers
+  k = with_structs structs
 
   item_flow : (g : Tables) (i : ℕ) (x : Item) → AreNoOtherValues g → flow_of g i (item_taken k x) ≡ []
   item_flow g i (tree.StructItem s) h = refl
@@ -27,7 +27,7 @@ module _ (pointers : Bool) where
   item_flow g i (tree.FunctionItem f) h =
       let y : tree.Function = function_taken k f in
       let scope : Env = body_scope false g i y (head_of false g y) in
-      (items_still pointers f.body scope (body_kept pointers false g i f h) (states_at scope)).faults
+      (items_still structs f.body scope (body_kept structs false g i f h) (states_at scope)).faults
 
   items_flow : (g : Tables) (i : ℕ) (p : List Item) → AreNoOtherValues g → flow_from g i (only_taken k p) ≡ []
   items_flow g i [] h = refl
@@ -35,7 +35,10 @@ module _ (pointers : Bool) where
       no_more (flow_of g i (item_taken k x)) (flow_from g (suc i) (only_taken k p)) (item_flow g i x h) (items_flow g (suc i) p h)
 
   pub no_flow_faults : (p : Program) → flow_faults (only_taken k p) ≡ []
-  no_flow_faults p = items_flow (tables_of false (only_taken k p)) 0 p (tables_known pointers false p)
+  no_flow_faults p = items_flow (tables_of false (only_taken k p)) 0 p (tables_known structs false p)
 
 pub pointers_have_no_flow_faults : PointersHaveNoFlowFaults
-pointers_have_no_flow_faults = no_flow_faults true
+pointers_have_no_flow_faults = no_flow_faults false
+
+pub structs_have_no_flow_faults : StructsHaveNoFlowFaults
+structs_have_no_flow_faults = no_flow_faults true

@@ -1,4 +1,4 @@
--- A statement leaves the states of all locals as they are, where thin pointers or no pointers are taken, and each other form stands as a fault.
+-- A statement leaves the states of all locals as they are, where thin pointers are taken, with structs or without, and each other form stands as a fault.
 use Rattle.std.proofs.Common.{◌≡◌, Bool, true, false, Option, Some, None, refl, ap}
 use Rattle.std.specs.Prelude.{◌&&◌, []}
 use Rattle.cyc_tree.specs.Tree as tree
@@ -25,7 +25,7 @@ use Rattle.source_typing.specs.Taken.{
 use Rattle.accepted_sources.proofs.IdleExpressions.{use_idle}
 use Rattle.accepted_sources.proofs.CopiedNames.{HasCopiedAlone}
 use Rattle.accepted_sources.proofs.CopiedScopes.{declared_kept}
-use Rattle.accepted_sources.proofs.CopiedTypes.{with_pointers}
+use Rattle.accepted_sources.proofs.CopiedTypes.{with_structs}
 use Rattle.accepted_sources.proofs.StillStates.{
   AreStill,
   IsStill,
@@ -38,17 +38,17 @@ use Rattle.accepted_sources.proofs.StillStates.{
   sequence_still,
 }
 
-module _ (pointers : Bool) where
+module _ (structs : Bool) where
   abbrev k : Taken
-  k = with_pointers pointers
+  k = with_structs structs
 
   -- ---- expressions in statements
 
   value_still : (e : Expression) (g : Env) → HasCopiedAlone g → (use_of g (taken k e)).value ≡ nothing
-  value_still e g h = ap (λ u. u.value) (use_idle pointers e g h)
+  value_still e g h = ap (λ u. u.value) (use_idle structs e g h)
 
   look_still : (e : Expression) (g : Env) → HasCopiedAlone g → (use_of g (taken k e)).look ≡ nothing
-  look_still e g h = ap (λ u. u.look) (use_idle pointers e g h)
+  look_still e g h = ap (λ u. u.look) (use_idle structs e g h)
 
   -- the value of a `return`
   result_still : (v : Option Expression) (g : Env) → HasCopiedAlone g → (s : States) → (result_value g (result_taken k v) s).faults ≡ []
@@ -106,7 +106,7 @@ module _ (pointers : Bool) where
     items_still NoItems g h s = ended_still s
     items_still (Declare d others) g h s =
         let inside : Env = (declare g (declaration_taken k d)).scope in
-        declares_still d g inside (λ t. left_by_items inside (items_taken k others) t) h (items_still others inside (declared_kept pointers d g h)) s
+        declares_still d g inside (λ t. left_by_items inside (items_taken k others) t) h (items_still others inside (declared_kept structs d g h)) s
     items_still (Execute x others) g h s =
         sequence_still s (left_by g (statement_taken k x) s) (λ t. left_by_items g (items_taken k others) t) (statement_still x g h s)
         (items_still others g h)

@@ -12,7 +12,7 @@ use Rattle.source_typing.specs.Globals.{initial_faults}
 use Rattle.source_typing.specs.Programs.{Judged, builtins, entries, entries_with, named}
 use Rattle.source_typing.specs.Scope.{Value, at_item}
 use Rattle.source_typing.specs.Tables.{Entry, Named, OfBuiltin, OfFunction, OfOther, OfTag, OfValue, Part, Tables, as_tag, begins, each_part, find}
-use Rattle.source_typing.specs.Tables.{has_beginning, if_known, parts_in, parts_of_tag, tag_in}
+use Rattle.source_typing.specs.Tables.{has_beginning, if_known, parts_in, parts_of_tag}
 use Rattle.source_typing.specs.Tags.{settled_alone}
 use Rattle.source_typing.specs.Types.{Char, Fat, Handle, Int, Key, Null, PartialType, StaticType, Struct, Thin, Union, Unique, Unsigned, Void}
 use Rattle.source_typing.specs.Types.{is_element, is_key, is_void}

@@ -1,7 +1,7 @@
 -- A global without fault: an object that has a beginning, whose type names no region but the heap. Where it has no structs, lowering takes it, and tables
 -- don't matter to it.
 use Rattle.std.proofs.Common.{◌≡◌, ℕ, Bool, true, false, Option, Some, None, List, [], ◌∷◌, refl, sym, subst, ap, ◌∙◌}
-use Rattle.std.specs.Prelude.{◌&&◌, ◌++◌, not}
+use Rattle.std.specs.Prelude.{◌&&◌, not}
 use Rattle.cyc_tree.specs.Tree as tree
 use Rattle.cyc_tree.specs.Tree.{Constant, Initial, TypeName}
 use Rattle.source_lowering.specs.Taken as lowering
@@ -12,31 +12,17 @@ use Rattle.source_lowering.proofs.WrittenTypes.{word_settled}
 use Rattle.source_meaning.specs.Shapes as shapes
 use Rattle.source_safety.specs.Entries.{IsObjectType, IsWordType}
 use Rattle.source_meaning.specs.Sizes.{rounded_up}
-use Rattle.source_typing.specs.Declarations.{converted_to, what_after, what_of}
+use Rattle.source_typing.specs.Declarations.{what_after, what_of}
 use Rattle.source_typing.specs.Extents.{variable_size}
 use Rattle.source_typing.specs.Faults.{Fault}
-use Rattle.source_typing.specs.Globals.{
-  constant,
-  count_of,
-  fitting_global,
-  foreign_names,
-  global_entry,
-  global_faults,
-  global_type,
-  global_size,
-  global_type_by,
-  has_none,
-  if_clean,
-  initial_faults,
-  typed_size,
-}
+use Rattle.source_typing.specs.Globals.{count_of, fitting_global, foreign_names, global_entry, global_faults, global_type, global_size, has_none, if_clean, initial_faults, typed_size}
 use Rattle.source_typing.specs.Regions.{TheHeap}
-use Rattle.source_typing.specs.Scope.{Env, Value, at_item}
+use Rattle.source_typing.specs.Scope.{Env, at_item}
 use Rattle.source_typing.specs.Tables.{OfValue, Stored, Tables, has_beginning}
 use Rattle.source_typing.specs.Tags.{settled_alone}
 use Rattle.source_typing.specs.Taken.{Taken, form_if, global_if, initial_form, initial_taken, item_forms, item_taken, takes_initial, takes_type, thin_pointers}
 use Rattle.source_typing.specs.Taken.{structures}
-use Rattle.source_typing.specs.Types.{Handle, Char, Int, PartialType, StaticType, Struct, Thin, Unsigned, Void, is_key, shape_of}
+use Rattle.source_typing.specs.Types.{Handle, Char, Int, StaticType, Struct, Thin, Unsigned, Void, is_key, shape_of}
 use Rattle.source_typing.specs.Verdicts.{Faulty, Of, Unjudged, Verdict, after, faults_of}
 use Rattle.source_typing.specs.Written.{RegionNamed, Spot, spots_of, written}
 use Rattle.source_typing.proofs.Converting.{and_is}

@@ -1,34 +1,16 @@
 -- The tables of a program in which the rules find no fault: all is known of each name.
-use Rattle.std.proofs.Common.{◌≡◌, ℕ, zero, suc, Bool, true, false, Option, Some, None, List, [], ◌∷◌, refl, sym, subst, ap, ◌∙◌}
-use Rattle.std.specs.Prelude.{◌++◌, bytes_eq, codes, if◌then◌else◌, length}
+use Rattle.std.proofs.Common.{◌≡◌, ℕ, suc, false, List, [], ◌∷◌, sym, subst, ◌∙◌}
+use Rattle.std.specs.Prelude.{◌++◌, codes}
 use Rattle.cyc_tree.specs.Tree as tree
 use Rattle.cyc_tree.specs.Tree.{Item, Program}
 use Rattle.source_typing.specs.Answers.{program_faults, rule_faults}
 use Rattle.source_typing.specs.Functions.{Head, function_faults, head_of}
-use Rattle.source_typing.specs.Globals.{global_entry, global_faults}
+use Rattle.source_typing.specs.Globals.{global_faults}
 use Rattle.source_typing.specs.Left.{flow_faults}
-use Rattle.source_typing.specs.Programs.{
-  Judged,
-  all_tag_faults,
-  builtins,
-  entries,
-  entries_with,
-  faults_with,
-  items_from,
-  judged_tags,
-  main_found,
-  named,
-  second_names,
-  size_faults,
-  tables_of,
-  typing_faults,
-}
+use Rattle.source_typing.specs.Programs.{Judged, all_tag_faults, builtins, entries_with, faults_with, items_from, judged_tags, main_found, named, second_names, size_faults, tables_of, typing_faults}
 use Rattle.source_typing.specs.Scope.{at_item}
-use Rattle.source_typing.specs.Tables.{Entry, Named, OfBuiltin, OfFunction, OfOther, OfTag, OfValue, Part, Stored, Tables, as_tag, begins, each_part, find}
-use Rattle.source_typing.specs.Tables.{has_beginning, if_known, parts_in, parts_of_tag}
+use Rattle.source_typing.specs.Tables.{Entry, Named, OfOther, Tables}
 use Rattle.source_typing.specs.Taken.{Taken, constant_forms, function_taken, item_forms, item_taken, only_taken, structures}
-use Rattle.source_typing.specs.Types.{Char, Fat, Handle, Int, Key, Null, StaticType, Struct, Thin, Union, Unique, Unsigned, Void}
-use Rattle.source_typing.specs.Written.{tag_of}
 use Rattle.source_typing.proofs.Inversion.{none_of_both}
 use Rattle.source_typing.proofs.TakenItems.{program_is_taken}
 use Rattle.judged_sources.specs.Good.{AllGood, IsGoodEntry}

@@ -18,12 +18,11 @@ use Rattle.source_typing.specs.Statements.{items_faults}
 use Rattle.source_typing.specs.Tables.{Tables, Tag, find, tag_in}
 use Rattle.source_typing.specs.Tags.{repeated, settled_alone}
 use Rattle.source_typing.specs.Taken.{Taken, bounds_form, bounds_if, effect_form, effect_if, function_taken, member_taken, members_taken, refused_type}
-use Rattle.source_typing.specs.Taken.{takes_base, takes_pointers, takes_type, thin_pointers, type_taken, structures}
+use Rattle.source_typing.specs.Taken.{takes_type, thin_pointers, type_taken, structures}
 use Rattle.source_typing.specs.Types.{Int, PartialType, StaticType, shape_of}
 use Rattle.source_typing.specs.Verdicts.{Of, Verdict, after, faults_of, known}
 use Rattle.source_typing.specs.Written.{Found, RegionNamed, Spot, all_found, argument_spots, base_of, base_spots, regions_of_tag, spot, spots_of, tag_of, written}
 use Rattle.source_typing.specs.Written.{written_on, written_with}
-use Rattle.source_typing.proofs.Converting.{and_is}
 use Rattle.source_typing.proofs.Inversion.{none_of_both, of_is, own_is, test_is}
 use Rattle.judged_sources.specs.Good.{IsGoodSignature, NamesBelow}
 use Rattle.judged_sources.proofs.HeadTypes.{PlainGood, ResultGood, SpotsGood, ObjectGood, parameter_good, result_facts, result_good}

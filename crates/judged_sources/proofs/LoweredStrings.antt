@@ -22,19 +22,7 @@ use Rattle.cyc_tree.specs.Tree.{
   Execute,
 }
 use Rattle.source_meaning.specs.Shapes.{Shape, settled, written}
-use Rattle.source_meaning.specs.Strings.{
-  Literal,
-  constant_strings,
-  declaration_strings,
-  expression_strings,
-  expressions_strings,
-  initial_strings,
-  item_strings,
-  items_strings,
-  links_strings,
-  program_strings,
-  statement_strings,
-}
+use Rattle.source_meaning.specs.Strings.{constant_strings, declaration_strings, expression_strings, expressions_strings, initial_strings, item_strings, items_strings, links_strings, program_strings, statement_strings}
 use Rattle.source_lowering.specs.Taken.{
   Takes,
   TakesAll,

@@ -1,6 +1,6 @@
 -- A program of integers, thin pointers and structs in which the rules find no fault is in order by the rules' own tables: so it is never stuck, and it has its
 -- `main`; and where it has no structs, lowering takes it.
-use Rattle.std.specs.Prelude.{◌++◌, bytes_eq, codes, if◌then◌else◌, length, map, not}
+use Rattle.std.specs.Prelude.{bytes_eq, codes, if◌then◌else◌, length, map}
 use Rattle.std.proofs.Common.{◌≡◌, ℕ, suc, ◌<◌, Bool, true, false, inl, inr, Option, Some, List, [], ◌∷◌, refl, sym, subst, ap, ◌∙◌}
 use Rattle.std.proofs.lemmas.List.{length-map}
 use Rattle.std.proofs.lemmas.Slice.Eq.{bytes_eq-Decides}
@@ -15,12 +15,10 @@ use Rattle.source_meaning.specs.Steps.{World}
 use Rattle.source_safety.specs.Entries.{Builtin, Function, PlainEntry, Structure}
 use Rattle.source_safety.specs.Programs.{FunctionJudged, GlobalFound, MainFound, ProgramJudged}
 use Rattle.source_typing.specs.Answers.{program_faults}
-use Rattle.source_typing.specs.Faults.{Fault, own_after, test, type_rule}
-use Rattle.source_typing.specs.Functions.{Head, body_scope, end_reached, function_faults, head_of}
+use Rattle.source_typing.specs.Functions.{function_faults, head_of}
 use Rattle.source_typing.specs.Globals.{global_faults}
 use Rattle.source_typing.specs.Programs.{builtins, entries, entries_with, items_from, judged_tags, tables_of}
 use Rattle.source_typing.specs.Scope.{at_item}
-use Rattle.source_typing.specs.Statements.{items_faults}
 use Rattle.source_typing.specs.Regions.{Region}
 use Rattle.source_typing.specs.Tables.{
   Arrayed,
@@ -61,7 +59,6 @@ use Rattle.judged_sources.proofs.Named.{builtins_known, entries_known}
 use Rattle.judged_sources.proofs.NoTags.{AreNoTags, no_tags}
 use Rattle.judged_sources.proofs.Tags.{StructsFound, none_structs}
 use Rattle.judged_sources.proofs.ProgramsMore.{faults_more}
-use Rattle.judged_sources.proofs.TakenMore.{type_more}
 use Rattle.judged_sources.proofs.LoweredStrings.{program_silent}
 use Rattle.judged_sources.proofs.WordGlobals.{AreWordGlobals, word_globals}
 use Rattle.judged_sources.proofs.Main.{MainHere, find_main, number_below}

@@ -16,8 +16,8 @@ use Rattle.cyc_types.specs.Known.{Entry, entries_of, found, is_declared, named_b
 use Rattle.cyc_types.specs.Measures.{bytes_with, extent_in, limited, quick_measure, quick_tag, stored, struct_measure, union_bytes}
 use Rattle.cyc_types.specs.Tags.{members_of}
 use Rattle.cyc_types.specs.declared.tag.Known.{Known}
-use Rattle.cyc_types.proofs.InLayouts.{AllUnions, DeclaredUnions, HasStructs, all_unions, declared_unions, largest_small, layout_of}
-use Rattle.cyc_types.proofs.InLayouts.{AreOf, members, more_of, next_struct, one_more, part_measure, same_as, struct_bytes, union_fits, union_parts, unions_onto}
+use Rattle.cyc_types.proofs.InLayouts.{AllUnions, DeclaredUnions, HasStructs, all_unions, declared_unions, has_unions, largest_small, layout_of, layouts_known}
+use Rattle.cyc_types.proofs.InLayouts.{members, next_struct, one_more, part_measure, same_as, struct_bytes, union_fits, union_parts}
 use Rattle.cyc_types.proofs.InOrder.{facts, is_nothing, same_bytes}
 use Rattle.cyc_types.proofs.Measured.{if_fits, if_over}
 use Rattle.cyc_types.proofs.PlacedCells.{EachPlaced, fitting, placed_as}
@@ -31,7 +31,7 @@ FitUnions unions = (tag : List ℕ) → fits_bytes (union_extent unions tag).siz
 
 unions_fit : (all : List Entry) → are_known [] all ≡ true → FitUnions (layouts_of true (entries_of all))
 unions_fit all known tag =
-    ap (λ ps. fits_bytes (bytes_with (largest (extent_by no_extent no_extent) 0 ps)).size) (unions_onto [] all [] known (λ x h. refl) (λ tag. refl) tag)
+    ap (λ ps. fits_bytes (bytes_with (largest (extent_by no_extent no_extent) 0 ps)).size) (has_unions all known tag)
     ∙ by (found all tag)
   where
     within : (ps : List Part) (b : Bool) → fits_bytes (bytes_with (largest (extent_by no_extent no_extent) 0 (cond b (part_shapes ps) []))).size ≡ true
@@ -138,16 +138,15 @@ module _ (unions ls : List Layout) (acc after : List Entry) (structs : HasStruct
 
 module _ (unions : List Layout) (all : List Entry) (of : AllUnions unions all) (fit : FitUnions unions) where
   -- where the others are all of them, with those so far
-  cells_onto : (acc es : List Entry) (ls : List Layout) → acc ++ es ≡ all → are_known acc es ≡ true → AreOf acc ls
+  cells_onto : (acc es : List Entry) (ls : List Layout) → acc ++ es ≡ all → are_known acc es ≡ true
       → HasStructs unions ls acc → HasCells unions ls (spread (known_cells all) no_cells_of acc)
       → HasCells unions (layouts_onto false ls (entries_of es)) (spread (known_cells all) no_cells_of all)
-  cells_onto acc [] ls whole known laid structs cells =
+  cells_onto acc [] ls whole known structs cells =
       subst (λ l. HasCells unions ls (spread (known_cells all) no_cells_of l)) (sym (append-nil acc) ∙ whole) cells
-  cells_onto acc (e ∷ es) ls whole known laid structs cells =
+  cells_onto acc (e ∷ es) ls whole known structs cells =
       let both = and_parts (is_known acc e.0.now e.1) (are_known (acc ++ e ∷ []) es) known in
       let declared = declared_unions unions acc (e ∷ es) (subst (AllUnions unions) (sym whole) of) in
-      let new = (facts acc e.0.now e.1 both.0).new in
-      let next_structs = subst (λ l. HasStructs unions l (acc ++ e ∷ [])) (sym (one_more false e ls (laid e.0.now new)))
+      let next_structs = subst (λ l. HasStructs unions l (acc ++ e ∷ [])) (sym (one_more false e ls))
       (next_struct unions ls acc structs declared e e.1.tag.is_union refl both.0) in
       let own : HasCells unions (cond (same_bool false e.1.tag.is_union) (layout_of e ∷ ls) ls)
       (with_tag e.0.now (known_cells all (spread (known_cells all) no_cells_of acc) e.1) (spread (known_cells all) no_cells_of acc)) =
@@ -156,10 +155,9 @@ module _ (unions : List Layout) (all : List Entry) (of : AllUnions unions all) (
       (with_tag e.0.now (known_cells l (spread (known_cells l) no_cells_of acc) e.1) (spread (known_cells l) no_cells_of acc)))
       whole (λ c. next_cells unions ls acc (e ∷ es) structs declared fit c e e.1.tag.is_union refl both.0) cells in
       let next : HasCells unions (layouts_onto false ls (named_by e ∷ [])) (spread (known_cells all) no_cells_of (acc ++ e ∷ [])) =
-      subst (λ l. HasCells unions l (spread (known_cells all) no_cells_of (acc ++ e ∷ []))) (sym (one_more false e ls (laid e.0.now new)))
+      subst (λ l. HasCells unions l (spread (known_cells all) no_cells_of (acc ++ e ∷ []))) (sym (one_more false e ls))
       (λ tag. own tag ∙ sym (ap (λ (f : List ℕ → List KindAt). f tag) (spread_more (known_cells all) no_cells_of acc (e ∷ [])))) in
-      cells_onto (acc ++ e ∷ []) es (layouts_onto false ls (named_by e ∷ [])) (append_assoc acc (e ∷ []) es ∙ whole) both.1
-      (more_of false acc e ls laid new) next_structs next
+      cells_onto (acc ++ e ∷ []) es (layouts_onto false ls (named_by e ∷ [])) (append_assoc acc (e ∷ []) es ∙ whole) both.1 next_structs next
 
 pub cells_known : (all : List Entry) → are_known [] all ≡ true → (t : StaticType)
     → fitting (extent_in (entries_of all) t) (cells_in (entries_of all) t) ≡ cells_found all t
@@ -167,7 +165,8 @@ cells_known all known t =
     let unions = layouts_of true (entries_of all) in
     let structs = layouts_of false (entries_of all) in
     type_cells unions structs (found_cells all) (unions_fit all known)
-    (cells_onto unions all (all_unions all known) (unions_fit all known) [] all [] refl known (λ x h. refl) (λ tag. refl) (λ tag. refl)) t
+    (subst (λ ls. HasCells unions ls (found_cells all)) (layouts_known all known false)
+    (cells_onto unions all (all_unions all known) (unions_fit all known) [] all [] refl known (λ tag. refl) (λ tag. refl))) t
 
 -- the cells of a type whose bytes aren't too many
 pub cells_fit : (all : List Entry) → are_known [] all ≡ true → (t : StaticType) (e : Extent)

@@ -6,7 +6,7 @@ use Rattle.std.proofs.lemmas.Slice.Eq.{bytes_eq-Decides}
 use Rattle.std.specs.Prelude.{None, Option, Some, bytes_eq, if◌then◌else◌, is_none, is_some, nat_eq, ◌||◌}
 use Rattle.source_meaning.specs.Shapes.{Layout, parts_of}
 use Rattle.source_meaning.specs.Sizes.{Extent, extent_by, laid_out, largest, no_extent, struct_extent, union_extent}
-use Rattle.source_typing.specs.Extents.{fits_bytes, is_laid_out, known_shape, layouts_of, layouts_onto, part_shapes}
+use Rattle.source_typing.specs.Extents.{fits_bytes, is_named_before, known_shape, layouts_of, layouts_onto, meant_first, part_shapes}
 use Rattle.source_typing.specs.Tables.{OfTag, Part, each_part, if_known}
 use Rattle.source_typing.specs.Types.{Char, Fat, Handle, Int, Key, Null, StaticType, Struct, Thin, Union, Unique, Unsigned, Void, same_bool, shape_of}
 use Rattle.cyc_types.specs.InOrder.{are_known, is_known}
@@ -28,23 +28,23 @@ members e = members_of e.1.tag.members.items
 abbrev pub layout_of : Entry → Layout
 layout_of e = record { tag = e.0.now; parts = part_shapes (members e) }
 
-one_of : (wanted u : Bool) (name : List ℕ) (t : rules.Tag) (ls : List Layout) → is_laid_out ls t.text ≡ false
+one_of : (wanted u : Bool) (name : List ℕ) (t : rules.Tag) (ls : List Layout)
     → layouts_onto wanted ls (record { name = name; entry = OfTag (record t { is_union = u }) } ∷ [])
     ≡ cond (same_bool wanted u) (record { tag = t.text; parts = part_shapes t.parts } ∷ ls) ls
-one_of true true name t ls h = ap (λ b. if b then ls else record { tag = t.text; parts = part_shapes t.parts } ∷ ls) h
-one_of true false name t ls h = refl
-one_of false true name t ls h = refl
-one_of false false name t ls h = ap (λ b. if b then ls else record { tag = t.text; parts = part_shapes t.parts } ∷ ls) h
+one_of true true name t ls = refl
+one_of true false name t ls = refl
+one_of false true name t ls = refl
+one_of false false name t ls = refl
 
-pub one_more : (wanted : Bool) (e : Entry) (ls : List Layout) → is_laid_out ls e.0.now ≡ false
+pub one_more : (wanted : Bool) (e : Entry) (ls : List Layout)
     → layouts_onto wanted ls (named_by e ∷ []) ≡ cond (same_bool wanted e.1.tag.is_union) (layout_of e ∷ ls) ls
-one_more wanted e ls h = one_of wanted e.1.tag.is_union e.0.now (tag_of e.0.now e.1.tag) ls h
+one_more wanted e ls = one_of wanted e.1.tag.is_union e.0.now (tag_of e.0.now e.1.tag) ls
 
--- ---- each layout is one of those that were found
+-- ---- each name is declared once
 
--- a name that isn't found has no layout
-abbrev pub AreOf : List Entry → List Layout → Type 0
-AreOf acc ls = (x : List ℕ) → is_none (found acc x) ≡ true → is_laid_out ls x ≡ false
+-- a name that isn't found isn't among these
+abbrev AreOf : List Entry → List (List ℕ) → Type 0
+AreOf acc names = (x : List ℕ) → is_none (found acc x) ≡ true → is_named_before names x ≡ false
 
 none_of_more : (acc : List Entry) (e : Entry) (x : List ℕ) → is_none (found (acc ++ e ∷ []) x) ≡ true
     → (is_none (found acc x) ≡ true) × (bytes_eq x e.0.now ≡ false)
@@ -61,16 +61,24 @@ none_of_more (a ∷ others) e x h = by (bytes_eq x a.0.now) h (none_of_more othe
     by true h next = absurd (true≢false (sym h))
     by false h next = next h
 
-pub more_of : (wanted : Bool) (acc : List Entry) (e : Entry) (ls : List Layout) → AreOf acc ls → is_none (found acc e.0.now) ≡ true
-    → AreOf (acc ++ e ∷ []) (layouts_onto wanted ls (named_by e ∷ []))
-more_of wanted acc e ls of new x h =
+more_of : (acc : List Entry) (e : Entry) (names : List (List ℕ)) → AreOf acc names → AreOf (acc ++ e ∷ []) (e.0.now ∷ names)
+more_of acc e names of x h =
     let split = none_of_more acc e x h in
-    subst (λ l. is_laid_out l x ≡ false) (sym (one_more wanted e ls (of e.0.now new)))
-    (by (same_bool wanted e.1.tag.is_union) (of x split.0) (same_bytes e.0.now x ∙ split.1))
-  where
-    by : (b : Bool) → is_laid_out ls x ≡ false → bytes_eq e.0.now x ≡ false → is_laid_out (cond b (layout_of e ∷ ls) ls) x ≡ false
-    by true p q = ap (λ c. c || is_laid_out ls x) q ∙ p
-    by false p q = p
+    ap (λ c. c || is_named_before names x) (same_bytes e.0.now x ∙ split.1) ∙ of x split.0
+
+each_meant : (acc es : List Entry) (names : List (List ℕ)) → are_known acc es ≡ true → AreOf acc names
+    → meant_first names (entries_of es) ≡ entries_of es
+each_meant acc [] names known of = refl
+each_meant acc (e ∷ es) names known of =
+    let both = and_parts (is_known acc e.0.now e.1) (are_known (acc ++ e ∷ []) es) known in
+    ap (λ b. if b then meant_first names (entries_of es) else named_by e ∷ meant_first (e.0.now ∷ names) (entries_of es))
+    (of e.0.now (facts acc e.0.now e.1 both.0).new)
+    ∙ ap (λ ns. named_by e ∷ ns) (each_meant (acc ++ e ∷ []) es (e.0.now ∷ names) both.1 (more_of acc e names of))
+
+-- so all of them are meant
+pub layouts_known : (all : List Entry) → are_known [] all ≡ true → (union : Bool)
+    → layouts_onto union [] (entries_of all) ≡ layouts_of union (entries_of all)
+layouts_known all known union = ap (layouts_onto union []) (sym (each_meant [] all [] known (λ x h. refl)))
 
 -- ---- what is found with it
 
@@ -127,16 +135,16 @@ next_union acc e ls true h new so_far tag =
     (sym (ap (λ b. cond b (part_shapes (members e)) []) h)) (so_far tag)
 next_union acc e ls false h new so_far tag = so_far tag ∙ passed union_parts acc e tag (sym (ap (λ b. cond b (part_shapes (members e)) []) h))
 
-pub unions_onto : (acc es : List Entry) (ls : List Layout) → are_known acc es ≡ true → AreOf acc ls → HasUnions ls acc
+pub unions_onto : (acc es : List Entry) (ls : List Layout) → are_known acc es ≡ true → HasUnions ls acc
     → HasUnions (layouts_onto true ls (entries_of es)) (acc ++ es)
-unions_onto acc [] ls known of so_far = subst (HasUnions ls) (sym (append-nil acc)) so_far
-unions_onto acc (e ∷ es) ls known of so_far =
+unions_onto acc [] ls known so_far = subst (HasUnions ls) (sym (append-nil acc)) so_far
+unions_onto acc (e ∷ es) ls known so_far =
     let both = and_parts (is_known acc e.0.now e.1) (are_known (acc ++ e ∷ []) es) known in
     let new = (facts acc e.0.now e.1 both.0).new in
-    let next = subst (λ l. HasUnions l (acc ++ e ∷ [])) (sym (one_more true e ls (of e.0.now new)))
+    let next = subst (λ l. HasUnions l (acc ++ e ∷ [])) (sym (one_more true e ls))
     (next_union acc e ls e.1.tag.is_union refl new so_far) in
     subst (HasUnions (layouts_onto true ls (entries_of (e ∷ es)))) (append_assoc acc (e ∷ []) es)
-    (unions_onto (acc ++ e ∷ []) es (layouts_onto true ls (named_by e ∷ [])) both.1 (more_of true acc e ls of new) next)
+    (unions_onto (acc ++ e ∷ []) es (layouts_onto true ls (named_by e ∷ [])) both.1 next)
 
 scalar_small : (t : StaticType) → (extent_by no_extent no_extent (shape_of t)).size ≤ 12
 scalar_small Int = omega arith
@@ -243,16 +251,15 @@ module _ (unions ls : List Layout) (acc : List Entry) (structs : HasStructs unio
       ∙ added (struct_if stored) acc e tag (limited laid) (limited (struct_extent unions ls tag)) (bytes_eq e.0.now tag) refl of.new own (structs tag)
 
 pub structs_onto : (unions : List Layout) (acc es : List Entry) (ls : List Layout) → AllUnions unions (acc ++ es) → are_known acc es ≡ true
-    → AreOf acc ls → HasStructs unions ls acc → HasStructs unions (layouts_onto false ls (entries_of es)) (acc ++ es)
-structs_onto unions acc [] ls of known laid so_far = subst (HasStructs unions ls) (sym (append-nil acc)) so_far
-structs_onto unions acc (e ∷ es) ls of known laid so_far =
+    → HasStructs unions ls acc → HasStructs unions (layouts_onto false ls (entries_of es)) (acc ++ es)
+structs_onto unions acc [] ls of known so_far = subst (HasStructs unions ls) (sym (append-nil acc)) so_far
+structs_onto unions acc (e ∷ es) ls of known so_far =
     let both = and_parts (is_known acc e.0.now e.1) (are_known (acc ++ e ∷ []) es) known in
-    let new = (facts acc e.0.now e.1 both.0).new in
-    let next = subst (λ l. HasStructs unions l (acc ++ e ∷ [])) (sym (one_more false e ls (laid e.0.now new)))
+    let next = subst (λ l. HasStructs unions l (acc ++ e ∷ [])) (sym (one_more false e ls))
     (next_struct unions ls acc so_far (declared_unions unions acc (e ∷ es) of) e e.1.tag.is_union refl both.0) in
     let again : AllUnions unions ((acc ++ e ∷ []) ++ es) = subst (AllUnions unions) (sym (append_assoc acc (e ∷ []) es)) of in
     subst (HasStructs unions (layouts_onto false ls (entries_of (e ∷ es)))) (append_assoc acc (e ∷ []) es)
-    (structs_onto unions (acc ++ e ∷ []) es (layouts_onto false ls (named_by e ∷ [])) again both.1 (more_of false acc e ls laid new) next)
+    (structs_onto unions (acc ++ e ∷ []) es (layouts_onto false ls (named_by e ∷ [])) again both.1 next)
 
 -- ---- all
 
@@ -262,9 +269,12 @@ union_fits most h = grind (arith, h)
 abbrev of_parts : List shapes.Part → Option Extent
 of_parts ps = limited (bytes_with (largest (extent_by no_extent no_extent) 0 ps))
 
+pub has_unions : (all : List Entry) → are_known [] all ≡ true → HasUnions (layouts_of true (entries_of all)) all
+has_unions all known = subst (λ ls. HasUnions ls all) (layouts_known all known true) (unions_onto [] all [] known (λ tag. refl))
+
 pub all_unions : (all : List Entry) → are_known [] all ≡ true → AllUnions (layouts_of true (entries_of all)) all
 all_unions all known tag =
-    ap of_parts (unions_onto [] all [] known (λ x h. refl) (λ tag. refl) tag)
+    ap of_parts (has_unions all known tag)
     ∙ by (found all tag) refl
   where
     within : (k : Known) (before : List Entry) (x : List ℕ) → is_known before x k ≡ true → (u : Bool) → k.tag.is_union ≡ u
@@ -288,7 +298,8 @@ pub extent_known : (all : List Entry) → are_known [] all ≡ true → (t : Sta
 extent_known all known t =
     let unions = layouts_of true (entries_of all) in
     let structs = layouts_of false (entries_of all) in
-    by_type unions structs (all_unions all known) (structs_onto unions [] all [] (all_unions all known) known (λ x h. refl) (λ tag. refl)) t
+    by_type unions structs (all_unions all known) (subst (λ ls. HasStructs unions ls all) (layouts_known all known false)
+    (structs_onto unions [] all [] (all_unions all known) known (λ tag. refl))) t
   where
     by_type : (unions structs : List Layout) → AllUnions unions all → HasStructs unions structs all → (t : StaticType)
         → limited (extent_by (struct_extent unions structs) (union_extent unions) (shape_of t)) ≡ quick_measure all t

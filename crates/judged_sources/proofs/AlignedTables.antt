@@ -5,7 +5,7 @@ use Rattle.cyc_tree.specs.Tree as tree
 use Rattle.cyc_tree.specs.Tree.{Initial, Item}
 use Rattle.source_meaning.specs.Shapes.{Layout}
 use Rattle.source_typing.specs.Declarations.{can_be, converted_to, if_sized, stands_earlier, tag_earlier}
-use Rattle.source_typing.specs.Extents.{fits_bytes, layouts_of, layouts_onto, size_by, variable_size}
+use Rattle.source_typing.specs.Extents.{fits_bytes, is_named_before, layouts_of, layouts_onto, meant_first, size_by, variable_size}
 use Rattle.source_typing.specs.Functions.{head_of}
 use Rattle.source_typing.specs.Globals.{constant, count_of, fitting_global, foreign_names, global_entry, global_faults, global_type, global_type_by, has_none}
 use Rattle.source_typing.specs.Globals.{initial_faults}
@@ -116,8 +116,24 @@ layouts_onto_same union ls (n ∷ g) (m ∷ h) k =
     ap (λ (z : List Layout). layouts_onto union z g) (like_layout union ls n.name n.entry m.entry k.1.0)
     ∙ layouts_onto_same union (with_entry union ls n.name m.entry) g h k.1.1
 
+-- so are those that names mean
+meant_aligned : (before : List (List ℕ)) (g h : Tables) → AreAligned g h → AreAligned (meant_first before g) (meant_first before h)
+meant_aligned before [] [] k = tt
+meant_aligned before [] (m ∷ h) k = absurd k
+meant_aligned before (n ∷ g) [] k = absurd k
+meant_aligned before (n ∷ g) (m ∷ h) k =
+    subst (λ (y : List ℕ). AreAligned (meant_first before (n ∷ g)) (if is_named_before before y then meant_first before h else m ∷ meant_first (y ∷ before) h))
+    k.0 (by (is_named_before before n.name) (meant_aligned before g h k.1.1) (meant_aligned (n.name ∷ before) g h k.1.1))
+  where
+    by : (b : Bool) → AreAligned (meant_first before g) (meant_first before h)
+        → AreAligned (meant_first (n.name ∷ before) g) (meant_first (n.name ∷ before) h)
+        → AreAligned (if b then meant_first before g else n ∷ meant_first (n.name ∷ before) g)
+        (if b then meant_first before h else m ∷ meant_first (n.name ∷ before) h)
+    by true others own = others
+    by false others own = (k.0, (k.1.0, own))
+
 pub layouts_same : (union : Bool) (g h : Tables) → AreAligned g h → layouts_of union g ≡ layouts_of union h
-layouts_same union g h k = layouts_onto_same union [] g h k
+layouts_same union g h k = layouts_onto_same union [] (meant_first [] g) (meant_first [] h) (meant_aligned [] g h k)
 
 -- ---- what has a beginning
 

@@ -92,3 +92,21 @@ tag_6 : first_fault whole
     (int_at 372) (name_at 376 "a")) ∷ []))) ∷ (main_returns 382) ∷ [])
     ≡ Some (fault size_rule 335)
 tag_6 = refl
+
+-- of a global and a struct of a name the global is meant, so that no type is of the struct
+-- struct T { struct S *p; }; int S; struct S { int a; }; int main() { return 0; }
+tag_7 : first_fault whole
+    ((tree.StructItem (structure 0 (name_at 7 "T") [] ((member (type_at 11 (tree.Struct (name_at 18 "S") []) (pointer sign.Nullable None ∷ [])) (name_at
+    21 "p")) ∷ []))) ∷ (tree.GlobalItem (global (int_at 27) (name_at 31 "S") Initial.Unset)) ∷ (tree.StructItem (structure 34 (name_at 41 "S") [] ((member
+    (int_at 45) (name_at 49 "a")) ∷ []))) ∷ (main_returns 55) ∷ [])
+    ≡ Some (fault type_rule 18)
+tag_7 = refl
+
+-- and of a union and a struct the union
+-- struct T { struct S *p; }; union S { int a; }; struct S { int a; }; int main() { return 0; }
+tag_8 : first_fault whole
+    ((tree.StructItem (structure 0 (name_at 7 "T") [] ((member (type_at 11 (tree.Struct (name_at 18 "S") []) (pointer sign.Nullable None ∷ [])) (name_at
+    21 "p")) ∷ []))) ∷ (tree.UnionItem (structure 27 (name_at 33 "S") [] ((member (int_at 37) (name_at 41 "a")) ∷ []))) ∷ (tree.StructItem (structure 47
+    (name_at 54 "S") [] ((member (int_at 58) (name_at 62 "a")) ∷ []))) ∷ (main_returns 68) ∷ [])
+    ≡ Some (fault type_rule 18)
+tag_8 = refl

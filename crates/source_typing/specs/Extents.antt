@@ -15,21 +15,24 @@ abbrev pub part_shapes : List Part → List shapes.Part
 part_shapes [] = []
 part_shapes (p ∷ ps) = record { name = p.name; shape = known_shape p.type } ∷ part_shapes ps
 
--- a layout of this tag is among them
-abbrev pub is_laid_out : List Layout → List ℕ → Bool
-is_laid_out [] x = false
-is_laid_out (l ∷ ls) x = bytes_eq l.tag x || is_laid_out ls x
+-- one of this name is among them
+abbrev pub is_named_before : List (List ℕ) → List ℕ → Bool
+is_named_before [] x = false
+is_named_before (y ∷ ys) x = bytes_eq y x || is_named_before ys x
 
-abbrev pub layout_added : Layout → List Layout → List Layout
-layout_added l ls = (if is_laid_out ls l.tag then ls else l ∷ ls)
+-- what the names of a program mean: of several declarations of a name the first, be they of one kind or not
+abbrev pub meant_first : List (List ℕ) → Tables → Tables
+meant_first before [] = []
+meant_first before (n ∷ ns) =
+    (if is_named_before before n.name then meant_first before ns else n ∷ meant_first (n.name ∷ before) ns)
 
--- The structs, or the unions, of a program, the latest first. Of several of a name it is the first that the name means.
+-- The structs, or the unions, of these, the latest first.
 abbrev pub layouts_onto : Bool → List Layout → Tables → List Layout
 layouts_onto union so_far [] = so_far
 layouts_onto union so_far (n ∷ ns) = layouts_onto union (of_entry n.entry so_far) ns
   where
     of_kind : Bool → Tag → List Layout → List Layout
-    of_kind true t ls = layout_added (record { tag = t.text; parts = part_shapes t.parts }) ls
+    of_kind true t ls = record { tag = t.text; parts = part_shapes t.parts } ∷ ls
     of_kind false t ls = ls
 
     of_entry : Entry → List Layout → List Layout
@@ -37,7 +40,7 @@ layouts_onto union so_far (n ∷ ns) = layouts_onto union (of_entry n.entry so_f
     of_entry _ ls = ls
 
 abbrev pub layouts_of : Bool → Tables → List Layout
-layouts_of union g = layouts_onto union [] g
+layouts_of union g = layouts_onto union [] (meant_first [] g)
 
 -- how many bytes a value of a type has
 abbrev pub size_by : List Layout → List Layout → StaticType → ℕ

@@ -22,6 +22,7 @@ use Rattle.source_meaning.specs.Shapes.{
 use Rattle.source_meaning.specs.Steps.{World}
 use Rattle.core_meaning.specs.Memory.{Word, Null}
 use Rattle.core_frames.specs.Statics.{IsPlain, IsPlainDatum, ArePlainData}
+use Rattle.core_frames.proofs.DataBytes.{one_part_plain}
 use Rattle.source_lowering.specs.Programs.{word_in, constant_word, constant_content, initial_content, datum_of, data_of}
 use Rattle.source_lowering.specs.Taken.{IsIntegerShape, TakesConstant, TakesInitial, TakesProgram}
 use Rattle.source_lowering.proofs.PlainShapes.{word_type}
@@ -74,11 +75,13 @@ pointer_plain (Initial.Elements count) b o to h = absurd h
 pointer_plain (Initial.Given c) b o to h = null_plain c b o to h
 
 datum_plain : (w : World) (i : Initial) (s : Shape) → IsWordShape s → TakesInitial s i → IsPlainDatum (datum_of w s (initial_content i s))
-datum_plain w i IntShape h t = record { width = 4; wide = inr refl; first = Word 0; layout = refl; plain = λ cell. word_plain i t }
-datum_plain w i UnsignedShape h t = record { width = 4; wide = inr refl; first = Word 0; layout = refl; plain = λ cell. unsigned_plain i t }
-datum_plain w i CharShape h t = record { width = 1; wide = inl refl; first = Word 0; layout = refl; plain = λ cell. byte_plain i t }
+datum_plain w i IntShape h t = one_part_plain 4 (Word 0) (datum_of w IntShape (initial_content i IntShape)) (inr refl) refl (λ cell. word_plain i t)
+datum_plain w i UnsignedShape h t =
+    one_part_plain 4 (Word 0) (datum_of w UnsignedShape (initial_content i UnsignedShape)) (inr refl) refl (λ cell. unsigned_plain i t)
+datum_plain w i CharShape h t = one_part_plain 1 (Word 0) (datum_of w CharShape (initial_content i CharShape)) (inl refl) refl (λ cell. byte_plain i t)
 datum_plain w i (ThinShape may_be_null owner to) h t =
-    record { width = 4; wide = inr refl; first = Null; layout = refl; plain = λ cell. pointer_plain i may_be_null owner to t }
+    let s = ThinShape may_be_null owner to in
+    one_part_plain 4 Null (datum_of w s (initial_content i s)) (inr refl) refl (λ cell. pointer_plain i may_be_null owner to t)
 datum_plain w i VoidShape h t = absurd h
 datum_plain w i (FatShape to) h t = absurd h
 datum_plain w i HandleShape h t = absurd h

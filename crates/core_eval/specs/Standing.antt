@@ -11,13 +11,13 @@ use Rattle.cyc_core.specs.declared.program.Datum.TheVariants as datum
 use Rattle.cyc_core.specs.declared.operation.Cell.{Cell}
 use Rattle.cyc_core.specs.declared.operation.Cell.TheVariants as cell
 use Rattle.cyc_core.specs.declared.layout.CellLayout.{CellLayout}
-use Rattle.cyc_core.specs.Trees.{cell_width, datum_cell}
+use Rattle.cyc_core.specs.Trees.{cell_width}
 use Rattle.core_eval.specs.declared.value.Value.{Value}
 use Rattle.core_eval.specs.declared.value.Value.TheVariants as value
 use Rattle.core_eval.specs.declared.value.Slot.{Slot}
 use Rattle.core_eval.specs.declared.frame.Frame.{Frame}
 use Rattle.core_eval.specs.declared.memory.Memory as code
-use Rattle.core_eval.specs.Values.{spot_of, temp_of, cells_of, Shows}
+use Rattle.core_eval.specs.Values.{spot_of, temp_of, cells_of, Shows, with_value, blank_slot}
 use Rattle.core_eval.specs.Blocks.{Activation, activation_of, position_of}
 use Rattle.core_eval.specs.Pendings.{Wait, Block, Caller, Next, Mark, rest_of, returned_to, coming}
 
@@ -124,15 +124,19 @@ first_value cell.Pointer = value.Null
 abbrev pub first_held : CellLayout → Value
 first_held c = first_value c.cell
 
--- what a global begins as
-abbrev pub first_content : Datum → Value
-first_content (datum.Byte b) = value.Word b
-first_content (datum.Word w) = value.Word w
-first_content datum.Null = value.Null
+abbrev pub first_slot : CellLayout → Slot
+first_slot c = with_value (blank_slot c) (first_held c)
 
--- it is of one cell
+-- an object of one cell
+abbrev pub scalar : Cell → Value → List Slot
+scalar c v = record { offset = 0; width = cell_width c; padding = 0; value = v } ∷ []
+
+-- what a global begins as
 abbrev pub first_object : Datum → List Slot
-first_object d = record { offset = 0; width = cell_width (datum_cell d); padding = 0; value = first_content d } ∷ []
+first_object (datum.Byte b) = scalar cell.Byte (value.Word b)
+first_object (datum.Word w) = scalar cell.Word (value.Word w)
+first_object datum.Null = scalar cell.Pointer value.Null
+first_object (datum.Whole l) = map first_slot l.value.cells.items
 
 -- what is known at first
 abbrev pub first_known : List Datum → Known

@@ -1,32 +1,29 @@
 -- A machine in arrays, at its start, begins with the lines that its code has and with the data that its statics are.
 use Rattle.std.specs.Prelude.{slice_index, length}
-use Rattle.std.proofs.Common.{◌≡◌, ℕ, ◌+◌, ◌-◌, ◌^◌, ◌<◌, ◌≤◌, List, [], ◌∷◌, ◌++◌, None, refl, sym, ap, ◌∙◌, subst, arith, length-append}
+use Rattle.std.proofs.Common.{◌≡◌, ℕ, ◌+◌, ◌-◌, ◌^◌, ◌<◌, ◌≤◌, List, [], ◌∷◌, ◌++◌, None, refl, ap, ◌∙◌, arith, length-append}
 use Rattle.rv32_machine.specs.State.{Runs, code_base, data_base, stack_base}
 use Rattle.rv32_machine.specs.Arrays.{Arrays, areas_of, state_of, byte_at, stack_length}
 use Rattle.rv32_machine.proofs.Bytes.{in_statics}
-use Rattle.core_meaning.specs.Memory.{Layout}
 use Rattle.core_meaning.specs.Core.{Datum}
 use Rattle.core_frames.specs.declared.line.Line.{Line}
 use Rattle.core_frames.specs.Lines.{HasLines, IsPlace}
-use Rattle.core_frames.specs.Selected.{rounded, bytes_of, end_from, datum_local, datum_locals}
+use Rattle.core_frames.specs.Selected.{rounded, end_from, datum_locals}
 use Rattle.core_frames.specs.Statics.{zeros, datum_bytes, data_bytes, ArePlainData}
 use Rattle.core_frames.specs.Running.{Begins, data_end}
-use Rattle.core_frames.proofs.Fitting.{IsWidth}
-use Rattle.core_frames.proofs.DataBytes.{zeros_length, elements_length, has_bytes, data_shown}
+use Rattle.core_frames.proofs.DataBytes.{zeros_length, datum_length, has_bytes, data_shown}
 
 -- the data's bytes are as many as its objects take
 pub data_length : (low : ℕ) (ds : List Datum) → ArePlainData ds → low + length (data_bytes low ds) ≡ end_from low (datum_locals ds)
 data_length low [] plain = omega arith
 data_length low (d ∷ ds) plain =
-    let next = rounded low + bytes_of (datum_local d) in
+    let next = rounded low + length (datum_bytes d) in
     let rest = data_bytes next ds in
-    let here : length (datum_bytes d) ≡ bytes_of (datum_local d) =
-    elements_length d.layout.bytes d.first 0 d.count (subst IsWidth (sym (ap (λ (l : Layout). l.bytes) plain.0.layout)) plain.0.wide) in
+    let here = datum_length d plain.0 in
     let padding = zeros_length (rounded low - low) in
     let one = length-append (zeros (rounded low - low)) (datum_bytes d ++ rest) in
     let two = length-append (datum_bytes d) rest in
-    let others = data_length next ds plain.1 in
-    omega (arith, here, padding, one, two, others)
+    let others = data_length next ds plain.1 ∙ ap (λ n. end_from (rounded low + n) (datum_locals ds)) here in
+    omega (arith, padding, one, two, others)
 
 -- A machine that runs from its code's first instruction on, with an empty stack of the whole length, over a store that holds no number.
 pub record IsFirst (m : Arrays) : Type 0 where

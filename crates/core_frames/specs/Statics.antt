@@ -1,9 +1,9 @@
--- The bytes of a program's data: globals and strings whose elements are words or bytes.
-use Rattle.std.specs.Prelude.{◌≡◌, ℕ, zero, suc, ◌+◌, ◌-◌, ◌*◌, ◌/◌, ◌%◌, ◌^◌, ◌<◌, ◌⊎◌, List, [], ◌∷◌, ◌++◌, nat_eq, if◌then◌else◌}
-use Rattle.core_meaning.specs.Memory.{Content, Blank, Word, Null, Pointer, Birth}
+-- The bytes of a program's data: globals and strings whose parts are words or bytes, one behind the other.
+use Rattle.std.specs.Prelude.{◌≡◌, ℕ, zero, suc, ◌+◌, ◌-◌, ◌*◌, ◌/◌, ◌%◌, ◌^◌, ◌<◌, ◌⊎◌, List, [], ◌∷◌, ◌++◌, nat_eq, if◌then◌else◌, length}
+use Rattle.core_meaning.specs.Memory.{Content, Blank, Word, Null, Pointer, Birth, PartShape}
 use Rattle.core_meaning.specs.Core.{Datum}
-use Rattle.core_frames.specs.Layouts.{one_part}
-use Rattle.core_frames.specs.Selected.{rounded, bytes_of, datum_local}
+use Rattle.core_frames.specs.Layouts.{HasPart}
+use Rattle.core_frames.specs.Selected.{rounded}
 
 -- a number's byte, or its four bytes, the lowest first
 abbrev pub number_bytes : ℕ → ℕ → List ℕ
@@ -18,22 +18,32 @@ number_in Null = 0
 number_in (Pointer s b) = 0
 number_in (Birth d) = 0
 
--- so many elements from the k-th on
-abbrev pub element_bytes : ℕ → (ℕ → ℕ → Content) → ℕ → ℕ → List ℕ
-element_bytes width first k zero = []
-element_bytes width first k (suc count) = number_bytes width (number_in (first k 0)) ++ element_bytes width first (k + 1) count
+-- the bytes of parts, one behind the other, the first of which is its cell's j-th
+abbrev pub parts_bytes : (ℕ → Content) → ℕ → List PartShape → List ℕ
+parts_bytes first j [] = []
+parts_bytes first j (s ∷ ss) = number_bytes s.width (number_in (first j)) ++ parts_bytes first (j + 1) ss
+
+-- of cells, from the object's k-th on
+abbrev pub cells_bytes : (ℕ → ℕ → Content) → ℕ → List (List PartShape) → List ℕ
+cells_bytes first k [] = []
+cells_bytes first k (c ∷ cs) = parts_bytes (first k) 0 c ++ cells_bytes first (k + 1) cs
+
+-- of so many elements with these cells each
+abbrev pub element_bytes : List (List PartShape) → (ℕ → ℕ → Content) → ℕ → ℕ → List ℕ
+element_bytes cells first k zero = []
+element_bytes cells first k (suc count) = cells_bytes first k cells ++ element_bytes cells first (k + length cells) count
 
 abbrev pub datum_bytes : Datum → List ℕ
-datum_bytes d = element_bytes d.layout.bytes d.first 0 d.count
+datum_bytes d = element_bytes d.layout.cells d.first 0 d.count
 
 abbrev pub zeros : ℕ → List ℕ
 zeros zero = []
 zeros (suc n) = 0 ∷ zeros n
 
--- the data's bytes from an offset on: each object at a multiple of 4
+-- the data's bytes from an offset on: each object at a multiple of 4, behind the bytes of the one before it
 abbrev pub data_bytes : ℕ → List Datum → List ℕ
 data_bytes low [] = []
-data_bytes low (d ∷ ds) = zeros (rounded low - low) ++ (datum_bytes d ++ data_bytes (rounded low + bytes_of (datum_local d)) ds)
+data_bytes low (d ∷ ds) = zeros (rounded low - low) ++ (datum_bytes d ++ data_bytes (rounded low + length (datum_bytes d)) ds)
 
 -- a number that fits, or nothing
 abbrev pub IsPlain : ℕ → Content → Type 0
@@ -43,13 +53,29 @@ IsPlain width Null = Unit {0}
 IsPlain width (Pointer s b) = ⊥
 IsPlain width (Birth d) = ⊥
 
--- elements of one part, a byte or a word
+-- Bytes and words that lie one behind the other, the first at an offset; where the last one ends.
+abbrev pub AreJoined : ℕ → List PartShape → Type 0
+AreJoined at [] = Unit {0}
+AreJoined at (s ∷ ss) = (s.offset ≡ at) × ((s.width ≡ 1) ⊎ (s.width ≡ 4)) × AreJoined (at + s.width) ss
+
+abbrev pub parts_end : ℕ → List PartShape → ℕ
+parts_end at [] = at
+parts_end at (s ∷ ss) = parts_end (at + s.width) ss
+
+-- so the parts of all cells
+abbrev pub AreCellsJoined : ℕ → List (List PartShape) → Type 0
+AreCellsJoined at [] = Unit {0}
+AreCellsJoined at (c ∷ cs) = AreJoined at c × AreCellsJoined (parts_end at c) cs
+
+abbrev pub cells_end : ℕ → List (List PartShape) → ℕ
+cells_end at [] = at
+cells_end at (c ∷ cs) = cells_end (parts_end at c) cs
+
+-- an object whose parts are all its bytes, in their order, and hold numbers that fit, or nothing
 pub record IsPlainDatum (d : Datum) : Type 0 where
-  pub width : ℕ
-  pub wide : (width ≡ 1) ⊎ (width ≡ 4)
-  pub first : Content
-  pub layout : d.layout ≡ one_part width first
-  pub plain : (cell : ℕ) → IsPlain width (d.first cell 0)
+  pub joined : AreCellsJoined 0 d.layout.cells
+  pub whole : cells_end 0 d.layout.cells ≡ d.layout.bytes
+  pub plain : (cell part : ℕ) (s : PartShape) → HasPart d.layout (cell % length d.layout.cells) part s → IsPlain s.width (d.first cell part)
 
 abbrev pub ArePlainData : List Datum → Type 0
 ArePlainData [] = Unit {0}

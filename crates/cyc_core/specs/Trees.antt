@@ -1,6 +1,6 @@
 -- The code's programs as programs of Core.
-use Rattle.std.specs.Prelude.{ℕ, zero, suc, ◌+◌, Option, Some, None, List, [], ◌∷◌, map}
-use Rattle.core_meaning.specs.Memory.{PartShape, Layout, Content}
+use Rattle.std.specs.Prelude.{ℕ, zero, suc, ◌+◌, Option, Some, None, List, [], ◌∷◌, map, slice_get}
+use Rattle.core_meaning.specs.Memory.{PartShape, Layout, Content, shape_in}
 use Rattle.core_meaning.specs.Memory as memory
 use Rattle.core_meaning.specs.Core as core
 use Rattle.cyc_core.specs.declared.operation.Temporary.{Temporary}
@@ -147,19 +147,26 @@ body_tree ss = statements_of (map statement_tree ss)
 abbrev pub function_tree : Function → core.Function
 function_tree f = record { parameters = f.parameters; temporaries = f.temporaries; passed = f.passed; own = []; body = body_tree f.body.items }
 
-abbrev pub datum_cell : Datum → Cell
-datum_cell (datum.Byte b) = cell.Byte
-datum_cell (datum.Word w) = cell.Word
-datum_cell datum.Null = cell.Pointer
+abbrev pub datum_layout : Datum → Layout
+datum_layout (datum.Byte b) = part_layout cell.Byte
+datum_layout (datum.Word w) = part_layout cell.Word
+datum_layout datum.Null = part_layout cell.Pointer
+datum_layout (datum.Whole l) = layout_tree l.value
 
--- what a global holds at the start
-abbrev pub datum_content : Datum → Content
-datum_content (datum.Byte b) = memory.Word b
-datum_content (datum.Word w) = memory.Word w
-datum_content datum.Null = memory.Null
+-- what a part begins as
+abbrev pub part_first : Option PartShape → Content
+part_first None = memory.Blank
+part_first (Some s) = s.first
+
+-- what a cell's part of a global holds at the start
+abbrev pub datum_first : Datum → ℕ → ℕ → Content
+datum_first (datum.Byte b) k j = memory.Word b
+datum_first (datum.Word w) k j = memory.Word w
+datum_first datum.Null k j = memory.Null
+datum_first (datum.Whole l) k j = part_first (shape_in (slice_get (layout_tree l.value).cells k) j)
 
 abbrev pub datum_tree : Datum → core.Datum
-datum_tree d = record { layout = part_layout (datum_cell d); count = 1; first = λ cell part. datum_content d }
+datum_tree d = record { layout = datum_layout d; count = 1; first = datum_first d }
 
 abbrev pub program_tree : Program → core.Program
 program_tree p = record {

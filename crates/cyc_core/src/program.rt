@@ -1,10 +1,8 @@
 // Functions, globals and programs.
 
-ghost use Rattle.std.specs.Prelude.{◌≡◌};
-ghost use Rattle.cyc_core.specs.Trees.{datum_cell};
-
-use crate::operation::Cell;
+use crate::layout::Layout;
 use crate::statement::Statement;
+use std::rc::Rc;
 
 /// A function of Core.
 #[derive(Drop)]
@@ -20,7 +18,7 @@ pub struct Function {
 }
 
 /// A global, and what it holds at the start.
-#[derive(Clone, Copy, PartialEq, Eq, Debug)]
+#[derive(Drop)]
 pub enum Datum {
     /// A byte.
     Byte(u8),
@@ -28,19 +26,8 @@ pub enum Datum {
     Word(u32),
     /// NULL.
     Null,
-}
-
-impl Datum {
-    /// What the global is made for.
-    pub fn cell(self) -> Cell
-        ensures { result ≡ datum_cell self }
-    {
-        match self {
-            Datum::Byte(_) => Cell::Byte,
-            Datum::Word(_) => Cell::Word,
-            Datum::Null => Cell::Pointer,
-        }
-    }
+    /// An object that begins as the cells of its layout do: numbers with 0, pointers with NULL.
+    Whole(Rc<Layout>),
 }
 
 /// A program of Core.

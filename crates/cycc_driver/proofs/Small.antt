@@ -4,13 +4,13 @@ use Rattle.std.proofs.Common.{◌≡◌, ℕ, zero, suc, ◌+◌, ◌-◌, ◌*�
 use Rattle.std.proofs.lemmas.Bool.Decides.{nat_tests}
 use Rattle.arena_laws.specs.Holdings.{arena_base}
 use Rattle.cyc_image.specs.Format.{u32_bytes}
-use Rattle.core_meaning.specs.Memory.{Content}
+use Rattle.core_meaning.specs.Memory.{Content, PartShape}
 use Rattle.core_meaning.specs.Core.{Datum}
 use Rattle.core_frames.specs.declared.line.Line.{Line}
 use Rattle.core_frames.specs.declared.line.Line.TheVariants.{Plain, Label, Jump, JumpIfZero, CallTo}
 use Rattle.core_frames.specs.Lines.{code_length, size_of}
-use Rattle.core_frames.specs.Selected.{rounded, bytes_of, datum_local}
-use Rattle.core_frames.specs.Statics.{data_bytes, datum_bytes, element_bytes, number_bytes, number_in, zeros}
+use Rattle.core_frames.specs.Selected.{rounded}
+use Rattle.core_frames.specs.Statics.{data_bytes, datum_bytes, element_bytes, cells_bytes, parts_bytes, number_bytes, number_in, zeros}
 use Rattle.rv32_layout.specs.Placed.{ArePlaced, AreWords, place_of, instructions_from}
 use Rattle.rv32_isa.specs.declared.instruction.Instr.{Instr}
 use Rattle.rv32_machine.specs.Arrays.{bytes_in}
@@ -68,18 +68,30 @@ number_small width n = by (nat_eq width 1)
     by true = (omega arith, tt)
     by false = (omega arith, (omega arith, (omega arith, (omega arith, tt))))
 
-elements_small : (width : ℕ) (first : ℕ → ℕ → Content) (k count : ℕ) → AreSmall (element_bytes width first k count)
-elements_small width first k zero = tt
-elements_small width first k (suc count) =
-    both_small (number_bytes width (number_in (first k 0))) (element_bytes width first (k + 1) count) (number_small width (number_in (first k 0)))
-    (elements_small width first (k + 1) count)
+parts_small : (first : ℕ → Content) (j : ℕ) (ss : List PartShape) → AreSmall (parts_bytes first j ss)
+parts_small first j [] = tt
+parts_small first j (s ∷ ss) =
+    both_small (number_bytes s.width (number_in (first j))) (parts_bytes first (j + 1) ss) (number_small s.width (number_in (first j)))
+    (parts_small first (j + 1) ss)
+
+cells_small : (first : ℕ → ℕ → Content) (k : ℕ) (cs : List (List PartShape)) → AreSmall (cells_bytes first k cs)
+cells_small first k [] = tt
+cells_small first k (c ∷ cs) =
+    both_small (parts_bytes (first k) 0 c) (cells_bytes first (k + 1) cs) (parts_small (first k) 0 c) (cells_small first (k + 1) cs)
+
+elements_small : (cells : List (List PartShape)) (first : ℕ → ℕ → Content) (k count : ℕ) → AreSmall (element_bytes cells first k count)
+elements_small cells first k zero = tt
+elements_small cells first k (suc count) =
+    both_small (cells_bytes first k cells) (element_bytes cells first (k + length cells) count) (cells_small first k cells)
+    (elements_small cells first (k + length cells) count)
 
 pub data_small : (low : ℕ) (ds : List Datum) → AreSmall (data_bytes low ds)
 data_small low [] = tt
 data_small low (d ∷ ds) =
-    let rest = data_bytes (rounded low + bytes_of (datum_local d)) ds in
+    let next = rounded low + length (datum_bytes d) in
+    let rest = data_bytes next ds in
     both_small (zeros (rounded low - low)) (datum_bytes d ++ rest) (zeros_small (rounded low - low))
-    (both_small (datum_bytes d) rest (elements_small d.layout.bytes d.first 0 d.count) (data_small (rounded low + bytes_of (datum_local d)) ds))
+    (both_small (datum_bytes d) rest (elements_small d.layout.cells d.first 0 d.count) (data_small next ds))
 
 -- ---- memory
 

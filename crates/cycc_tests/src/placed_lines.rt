@@ -1,10 +1,12 @@
 // The code of lines with labels, and the bytes of globals, by words worked out by hand.
 
 use core_frames::Line;
-use cyc_core::{Datum, Program};
+use cyc_core::{Cell, CellLayout, Datum, Layout, Program};
 use rv32_isa::{Instr, Register, Signed12};
 use rv32_layout::{PlaceFault, data, place};
 use rv32_select::Labelled;
+use std::alloc::{AllocError, Global};
+use std::rc::Rc;
 use std::test::Fail;
 
 // addi x0, x0, 0
@@ -54,14 +56,53 @@ fn a_first_jump_to_behind_the_greatest_code_is_refused(rt: HostRuntime) -> Resul
 
 #[test]
 fn each_global_begins_at_a_word(rt: HostRuntime) -> Result<(), Fail> {
-    let globals = [Datum::Byte(7), Datum::Word(0x0102_0304), Datum::Byte(9)];
+    let globals = vec![in rt.alloc(); Datum::Byte(7), Datum::Word(0x0102_0304), Datum::Byte(9)]?;
     let program = Program {
         functions: Vec::new(rt.alloc()),
         main: 0,
-        globals: globals.to_vec(rt.alloc())?,
+        globals,
     };
     let bytes = data(rt.alloc(), &program);
     let want: [u8; 9] = [7, 0, 0, 0, 4, 3, 2, 1, 9];
+    assert!(rt; bytes.is_ok_and(|bytes| bytes.as_slice() == want.as_slice()));
+    Ok(())
+}
+
+// struct { char first; int second; char third; }
+fn three_members(alloc: Global) -> Result<Rc<Layout>, AllocError> {
+    let first = CellLayout {
+        offset: 0,
+        cell: Cell::Byte,
+        padding: 3,
+    };
+    let second = CellLayout {
+        offset: 4,
+        cell: Cell::Word,
+        padding: 0,
+    };
+    let third = CellLayout {
+        offset: 8,
+        cell: Cell::Byte,
+        padding: 3,
+    };
+    let cells = vec![in alloc; first, second, third]?;
+    match Rc::new(alloc, Layout { cells, bytes: 12 }) {
+        Ok(layout) => Ok(layout),
+        Err(_) => Err(AllocError),
+    }
+}
+
+#[test]
+fn a_struct_begins_with_zeros_for_its_members_and_its_padding(rt: HostRuntime) -> Result<(), Fail> {
+    let whole = Datum::Whole(three_members(rt.alloc())?);
+    let globals = vec![in rt.alloc(); Datum::Byte(7), whole, Datum::Byte(9)]?;
+    let program = Program {
+        functions: Vec::new(rt.alloc()),
+        main: 0,
+        globals,
+    };
+    let bytes = data(rt.alloc(), &program);
+    let want: [u8; 17] = [7, 0, 0, 0, 0, 0, 0, 0, 0, 0, 0, 0, 0, 0, 0, 0, 9];
     assert!(rt; bytes.is_ok_and(|bytes| bytes.as_slice() == want.as_slice()));
     Ok(())
 }

@@ -1,25 +1,68 @@
 // The bytes of globals.
 
-ghost use Rattle.std.specs.Prelude.{◌≡◌, ◌-◌, ◌<◌, ◌≤◌, ◌↔◌, ◌++◌, Err, IfOk, OnOk, IsTrue, length, map, vec_len};
+ghost use Rattle.std.specs.Prelude.{◌≡◌, ◌-◌, ◌<◌, ◌≤◌, ◌↔◌, ◌++◌, ◌+◌, ◌^◌, Err, IfOk, IfSome, IfNone, OnOk, IsTrue, length, map, vec_len};
 ghost use Rattle.cyc_image.specs.Format.{data_limit};
-ghost use Rattle.cyc_core.specs.Trees.{bytes_of, cell_width, datum_cell, datum_tree, program_tree};
+ghost use Rattle.cyc_core.specs.Trees.{datum_tree, layout_tree, program_tree};
 ghost use Rattle.core_frames.specs.Selected.{rounded};
-ghost use Rattle.core_frames.specs.Statics.{zeros, datum_bytes, data_bytes, IsPlainDatum, ArePlainData};
+ghost use Rattle.core_frames.specs.Statics.{zeros, datum_bytes, data_bytes, AreCellsJoined, cells_end, IsPlainDatum, ArePlainData};
+ghost use Rattle.rv32_layout.specs.Sizes.{cell_size, cells_size, datum_size};
 
 use crate::fault::PlaceFault;
 use crate::words::word_bytes;
-use cyc_core::{Datum, Program};
+use cyc_core::{CellLayout, Datum, Layout, Program, Width};
 use cyc_image::DATA_LIMIT;
 use std::alloc::{AllocError, Global};
 
-/// How many bytes a global takes.
-fn size(global: Datum) -> usize
-    ensures { result ≡ bytes_of (cell_width (datum_cell global)) }
+/// How many bytes a cell takes, with those behind it that hold nothing.
+fn cell_size(cell: CellLayout) -> usize
+    ensures size { result ≡ cell_size cell }
+    ensures small { result < 2 ^ 33 }
+{
+    let width = match cell.cell.width() {
+        Width::Byte => 1,
+        Width::Word => 4,
+    };
+    width + cell.padding as usize
+}
+
+/// An offset, if it is within the limit.
+fn within(offset: usize) -> Option<usize>
+    ensures some { IfSome result (λ end. (end ≡ offset) × (end ≤ data_limit)) }
+    ensures none { IfNone result (data_limit < offset) }
+{
+    if offset <= DATA_LIMIT {
+        Some(offset)
+    } else {
+        None
+    }
+}
+
+/// Where cells end that lie one behind the other from an offset on, if that is within the limit.
+fn cells_end(start: usize, cells: &[CellLayout]) -> Option<usize>
+    requires { start ≤ data_limit }
+    ensures some { IfSome result (λ end. (end ≡ start + cells_size cells.now) × (end ≤ data_limit)) }
+    ensures none { IfNone result (data_limit < start + cells_size cells.now) }
+{
+    let mut at = start;
+    'each: for cell in cells {
+        at += cell_size(*cell);
+        if at > DATA_LIMIT {
+            return None;
+        }
+    }
+    Some(at)
+}
+
+/// Where a global ends that begins at an offset, if that is within the limit.
+fn global_end(start: usize, global: &Datum) -> Option<usize>
+    requires { start ≤ data_limit }
+    ensures some { IfSome result (λ end. (end ≡ start + datum_size global.now) × (end ≤ data_limit)) }
+    ensures none { IfNone result (data_limit < start + datum_size global.now) }
 {
     match global {
-        Datum::Byte(_) => 1,
-        Datum::Word(_) => 4,
-        Datum::Null => 4,
+        Datum::Byte(_) => within(start + 1),
+        Datum::Word(_) | Datum::Null => within(start + 4),
+        Datum::Whole(layout) => cells_end(start, &layout.as_ref().cells),
     }
 }
 
@@ -37,10 +80,10 @@ fn are_too_large(globals: &[Datum]) -> bool
 {
     let mut at = 0;
     'each: for global in globals {
-        at = rounded(at) + size(*global);
-        if at > DATA_LIMIT {
+        let Some(end) = global_end(rounded(at), global) else {
             return true;
-        }
+        };
+        at = end;
     }
     false
 }
@@ -55,26 +98,60 @@ fn put_zeros(bytes: &mut Vec<u8>, count: usize) -> Result<(), AllocError>
     Ok(())
 }
 
-/// Appends what a global holds at the start, a number that fits or the zeros of NULL.
+/// The bytes of a layout, if each of its cells lies right behind the one before it and the last one ends where it does.
+#[tactic(auto, using(crate::proofs::Cells::more_joined, crate::proofs::Cells::more_end, crate::proofs::Cells::end_is))]
+fn joined_bytes(layout: &Layout) -> Option<usize>
+    ensures { IfSome result (λ bytes. AreCellsJoined 0 (layout_tree layout.now).cells × (cells_end 0 (layout_tree layout.now).cells ≡ layout.now.bytes)
+        × (bytes ≡ cells_size layout.now.cells.items)) }
+{
+    let cells: &[CellLayout] = &layout.cells;
+    let mut at = 0;
+    'each: for cell in cells {
+        if cell.offset as usize != at {
+            return None;
+        }
+        at += cell_size(*cell);
+    }
+    if at == layout.bytes as usize {
+        Some(at)
+    } else {
+        None
+    }
+}
+
+/// Appends the zeros of an object of many cells. Fails also where its cells don't lie one behind the other: no lowered program has such.
+fn put_whole(bytes: &mut Vec<u8>, layout: &Layout) -> Result<(), AllocError>
+    ensures bytes { OnOk result (bytes.new.items ≡ bytes.old.items ++ zeros (cells_size layout.now.cells.items)) }
+    ensures joined { OnOk result (AreCellsJoined 0 (layout_tree layout.now).cells) }
+    ensures whole { OnOk result (cells_end 0 (layout_tree layout.now).cells ≡ layout.now.bytes) }
+{
+    match joined_bytes(layout) {
+        Some(size) => put_zeros(bytes, size),
+        None => Err(AllocError),
+    }
+}
+
+/// Appends what a global holds at the start, a number that fits or zeros.
 #[tactic(auto, using(crate::proofs::Statics::byte_is_plain, crate::proofs::Statics::word_is_plain, crate::proofs::Statics::null_is_plain))]
-fn put_datum(bytes: &mut Vec<u8>, global: Datum) -> Result<(), AllocError>
-    ensures bytes { OnOk result (bytes.new.items ≡ bytes.old.items ++ datum_bytes (datum_tree global)) }
-    ensures plain { OnOk result (IsPlainDatum (datum_tree global)) }
+fn put_datum(bytes: &mut Vec<u8>, global: &Datum) -> Result<(), AllocError>
+    ensures bytes { OnOk result (bytes.new.items ≡ bytes.old.items ++ datum_bytes (datum_tree global.now)) }
+    ensures plain { OnOk result (IsPlainDatum (datum_tree global.now)) }
 {
     match global {
-        Datum::Byte(byte) => bytes.push(byte)?,
-        Datum::Word(word) => bytes.extend_from_slice(&word_bytes(word))?,
+        Datum::Byte(byte) => bytes.push(*byte)?,
+        Datum::Word(word) => bytes.extend_from_slice(&word_bytes(*word))?,
         Datum::Null => put_zeros(bytes, 4)?,
+        Datum::Whole(layout) => put_whole(bytes, layout.as_ref())?,
     }
     Ok(())
 }
 
 /// Appends a global, from the next multiple of 4 on. The bytes begin at the offset 0.
-fn put_global(bytes: &mut Vec<u8>, global: Datum) -> Result<(), AllocError>
+fn put_global(bytes: &mut Vec<u8>, global: &Datum) -> Result<(), AllocError>
     requires { vec_len bytes.old ≤ data_limit }
     ensures bytes { OnOk result
-        (bytes.new.items ≡ bytes.old.items ++ (zeros (rounded (vec_len bytes.old) - vec_len bytes.old) ++ datum_bytes (datum_tree global))) }
-    ensures plain { OnOk result (IsPlainDatum (datum_tree global)) }
+        (bytes.new.items ≡ bytes.old.items ++ (zeros (rounded (vec_len bytes.old) - vec_len bytes.old) ++ datum_bytes (datum_tree global.now))) }
+    ensures plain { OnOk result (IsPlainDatum (datum_tree global.now)) }
 {
     let padding = rounded(bytes.len()) - bytes.len();
     put_zeros(bytes, padding)?;
@@ -90,13 +167,13 @@ fn globals_bytes(alloc: Global, globals: &[Datum]) -> Result<Vec<u8>, AllocError
 {
     let mut bytes = Vec::new(alloc);
     'each: for global in globals {
-        put_global(&mut bytes, *global)?;
+        put_global(&mut bytes, global)?;
     }
     Ok(bytes)
 }
 
 /// The bytes of a program's globals, each from a multiple of 4 on. An `Err` is `TooLarge` exactly where they would be over
-/// 1,048,576 bytes, and else `Memory`.
+/// 1,048,576 bytes, and else `Memory`, also where the cells of an object don't lie one behind the other: no lowered program has such.
 pub fn data(alloc: Global, program: &Program) -> Result<Vec<u8>, PlaceFault>
     ensures bytes { IfOk result (λ bytes. bytes.items ≡ data_bytes 0 (program_tree program.now).data_objects) }
     ensures plain { IfOk result (λ bytes. ArePlainData (program_tree program.now).data_objects) }

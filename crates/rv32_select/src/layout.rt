@@ -2,7 +2,7 @@
 
 ghost use Rattle.std.specs.Prelude.{◌≡◌, ◌+◌, ◌<◌, ◌^◌, ◌≤◌, IfOk, OnOk, map, true};
 ghost use Rattle.core_frames.specs.Selected as selected;
-ghost use Rattle.core_frames.specs.Selected.{slots_of, rounded, offsets_from, end_from, greater, highest, highest_of, datum_locals};
+ghost use Rattle.core_frames.specs.Selected.{slots_of, rounded, offsets_from, end_from, greater, highest, highest_of, datum_local, datum_locals};
 ghost use Rattle.cyc_core.specs.Trees.{bytes_of, local_tree, datum_tree, statement_tree, body_tree, function_tree};
 
 use cyc_core::{Datum, Function, Local, Statement, Width};
@@ -25,6 +25,17 @@ fn local_bytes(local: &Local) -> u64
     match local {
         Local::Scalar(cell) => bytes(cell.width()),
         Local::Whole(layout) => u64::from(layout.bytes),
+    }
+}
+
+/// The bytes of a global.
+fn datum_bytes(global: &Datum) -> u64
+    ensures { result ≡ selected.bytes_of (datum_local (datum_tree global.now)) }
+{
+    match global {
+        Datum::Byte(_) => 1,
+        Datum::Word(_) | Datum::Null => 4,
+        Datum::Whole(layout) => u64::from(layout.bytes),
     }
 }
 
@@ -79,7 +90,7 @@ pub fn statics(alloc: Global, globals: &[Datum]) -> Result<Vec<u64>, AllocError>
     'each: for global in globals {
         let offset = rounded(at)?;
         offsets.push(offset)?;
-        at = sum(offset, bytes(global.cell().width()))?;
+        at = sum(offset, datum_bytes(global))?;
     }
     Ok(offsets)
 }

@@ -1,16 +1,28 @@
-use Rattle.std.proofs.Common.{◌+◌, refl, arith}
-use Rattle.rv32_layout.proofs.Statics.{data_of_rest}
+use Rattle.std.proofs.Common.{◌≡◌, ◌+◌, ◌<◌, ◌∷◌, length, drop, refl, sym, ap, ◌∙◌, arith}
+use Rattle.std.proofs.lemmas.List.{drop_more}
+use Rattle.core_frames.specs.Selected.{rounded}
+use Rattle.rv32_layout.specs.Sizes.{datum_size}
+use Rattle.rv32_layout.proofs.Statics.{data_of_rest, ends_within}
 use Rattle.rv32_layout.proofs.globals.are_too_large.Goals as goal
 
-pub returns-then-at-gt-DATA_LIMIT : goal.returns-then-at-gt-DATA_LIMIT
-returns-then-at-gt-DATA_LIMIT c =
-    let whole = data_of_rest c.args.globals.now c.each.global-index c.each.at (c.rounded.result + c.size.result) _ (omega arith) (omega arith)
-    c.each.invariant.whole in
-    (λ is. omega (arith, whole), λ over. refl)
-
 pub each-preserved : goal.each-preserved
-each-preserved c = record {
-  whole = data_of_rest c.args.globals.now c.each.global-index c.each.at (c.rounded.result + c.size.result) _ (omega arith) (omega arith)
-      c.each.invariant.whole;
-  within = omega arith;
-}
+each-preserved c =
+    let globals = c.args.globals.now in
+    let d = c.global-item.result in
+    let others = drop (c.each.global-index + 1) globals in
+    let inside : c.each.global-index < length globals = omega arith in
+    let here = drop_more globals c.each.global-index d inside ∙ ap (λ x. x ∷ others) (sym c.global-item.is) in
+    let told = c.in-Some.ensures.some in
+    let ends : c.in-Some.end ≡ rounded c.each.at + datum_size d = told.0 ∙ ap (λ n. n + datum_size d) c.rounded.ensures in
+    record { whole = data_of_rest (drop c.each.global-index globals) d others c.each.at c.in-Some.end _ here ends c.each.invariant.whole; within = told.1 }
+
+pub returns-in_default : goal.returns-in_default
+returns-in_default c =
+    let globals = c.args.globals.now in
+    let d = c.global-item.result in
+    let others = drop (c.each.global-index + 1) globals in
+    let inside : c.each.global-index < length globals = omega arith in
+    let here = drop_more globals c.each.global-index d inside ∙ ap (λ x. x ∷ others) (sym c.global-item.is) in
+    let within = ends_within (drop c.each.global-index globals) d others c.each.at _ here c.each.invariant.whole in
+    let over = c.in_default.ensures.none in
+    (λ is. omega (arith, within, over, c.rounded.ensures), λ is. refl)

@@ -1,10 +1,17 @@
-use Rattle.std.proofs.Common.{arith, vec_len}
+use Rattle.std.proofs.Common.{◌+◌, ◌<◌, ◌∷◌, length, drop, sym, ap, ◌∙◌, arith, vec_len}
+use Rattle.std.proofs.lemmas.List.{drop_more}
 use Rattle.rv32_layout.proofs.Statics.{rest_joined, more_plain}
 use Rattle.rv32_layout.proofs.globals.globals_bytes.Goals as goal
 
 pub each-preserved : goal.each-preserved
-each-preserved c = record {
-  whole = rest_joined c.args.globals.now c.each.global-index c.each.bytes.items c.put_global.new.bytes.items (vec_len c.each.bytes)
-      (vec_len c.put_global.new.bytes) _ (omega arith) (omega arith) (omega arith) c.in_ok-put_global.ensures.bytes c.each.invariant.whole;
-  plain = more_plain c.args.globals.now c.each.global-index (omega arith) c.in_ok-put_global.ensures.plain c.each.invariant.plain;
-}
+each-preserved c =
+    let globals = c.args.globals.now in
+    let d = c.global-item.result in
+    let others = drop (c.each.global-index + 1) globals in
+    let inside : c.each.global-index < length globals = omega arith in
+    let here = drop_more globals c.each.global-index d inside ∙ ap (λ x. x ∷ others) (sym c.global-item.is) in
+    record {
+      whole = rest_joined (drop c.each.global-index globals) d others c.each.bytes.items c.put_global.new.bytes.items (vec_len c.each.bytes)
+          (vec_len c.put_global.new.bytes) _ here (omega arith) (omega arith) c.in_ok-put_global.ensures.bytes c.each.invariant.whole;
+      plain = more_plain (drop c.each.global-index globals) d others globals here c.in_ok-put_global.ensures.plain c.each.invariant.plain;
+    }

@@ -1,0 +1,20 @@
+-- How many bytes globals take, cell by cell.
+use Rattle.std.specs.Prelude.{ℕ, ◌+◌, List, [], ◌∷◌}
+use Rattle.cyc_core.specs.declared.layout.CellLayout.{CellLayout}
+use Rattle.cyc_core.specs.declared.program.Datum.{Datum}
+use Rattle.cyc_core.specs.declared.program.Datum.TheVariants as datum
+use Rattle.cyc_core.specs.Trees.{bytes_of, cell_width}
+
+-- a cell, with the bytes behind it that hold nothing
+abbrev pub cell_size : CellLayout → ℕ
+cell_size c = bytes_of (cell_width c.cell) + c.padding
+
+abbrev pub cells_size : List CellLayout → ℕ
+cells_size [] = 0
+cells_size (c ∷ cs) = cell_size c + cells_size cs
+
+abbrev pub datum_size : Datum → ℕ
+datum_size (datum.Byte b) = 1
+datum_size (datum.Word w) = 4
+datum_size datum.Null = 4
+datum_size (datum.Whole l) = cells_size l.value.cells.items

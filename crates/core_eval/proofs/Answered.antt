@@ -45,7 +45,7 @@ use Rattle.core_eval.specs.declared.pending.Due.{Due}
 use Rattle.core_eval.specs.declared.memory.Memory.{Memory}
 use Rattle.core_eval.specs.declared.value.Slot.{Slot}
 use Rattle.core_eval.specs.Values.{content_of, temp_of, cells_of, value_of}
-use Rattle.core_eval.specs.Blocks.{Activation, Descends, activation_of, slot_in, put_local, stored_of, put_to}
+use Rattle.core_eval.specs.Blocks.{Activation, AreOrdered, activation_of, slot_in, put_local, stored_of, put_to}
 use Rattle.core_eval.specs.Pendings.{Task, Execute, Leave, Wait, Next, Go, Wrong, next_of}
 use Rattle.core_eval.specs.Standing.{Known, Gives, known_of}
 use Rattle.core_eval.specs.Costs.{IsMove}
@@ -114,28 +114,35 @@ set_same (y ∷ xs) (suc k) x h e = ap (λ l. y ∷ l) (set_same xs k x (omega (
 -- what is read at a distance
 pub value_there : (m : Memory) (p : Place) (d : Distance) (cell byte : ℕ) (slot : Option Slot) (r o : Option Value) → cell ≡ p.cell + d.cells
     → byte ≡ p.byte + d.bytes
-    → slot ≡ slot_in (map activation_of m.blocks.items) (map cells_of m.globals.items) p.area p.object cell → r ≡ value_of byte d.width slot → r ≡ o
-    → value_of (p.byte + d.bytes) d.width
-    (slot_in (map activation_of m.blocks.items) (map cells_of m.globals.items) p.area p.object (p.cell + d.cells)) ≡ o
+    → slot ≡ slot_in (stored_of m) p.area p.object cell → r ≡ value_of byte d.width slot → r ≡ o
+    → value_of (p.byte + d.bytes) d.width (slot_in (stored_of m) p.area p.object (p.cell + d.cells)) ≡ o
 value_there m p d cell byte slot r o further later there read is =
-    ap (λ b. value_of b d.width (slot_in (map activation_of m.blocks.items) (map cells_of m.globals.items) p.area p.object (p.cell + d.cells))) (sym later)
-    ∙ ap (λ k. value_of byte d.width (slot_in (map activation_of m.blocks.items) (map cells_of m.globals.items) p.area p.object k)) (sym further)
+    ap (λ b. value_of b d.width (slot_in (stored_of m) p.area p.object (p.cell + d.cells))) (sym later)
+    ∙ ap (λ k. value_of byte d.width (slot_in (stored_of m) p.area p.object k)) (sym further)
     ∙ ap (value_of byte d.width) (sym there) ∙ sym read ∙ is
 
 -- ---- stores
 
 -- what is known after a store
-pub stored_known : (f : Frame) (m m' : Memory) → m'.entered ≡ m.entered → known_of f m' ≡ with_stored (known_of f m) (stored_of m')
-stored_known f m m' entered = ap (λ n. record (with_stored (known_of f m) (stored_of m')) { entered = n }) entered
+pub stored_known : (f : Frame) (m m' : Memory) → m'.entered ≡ m.entered → m'.called ≡ m.called
+    → known_of f m' ≡ with_stored (known_of f m) (stored_of m')
+stored_known f m m' entered called =
+    ap (λ n. record (with_stored (known_of f m) (stored_of m')) { entered = n; called = m'.called }) entered
+    ∙ ap (λ n. record (with_stored (known_of f m) (stored_of m')) { called = n }) called
 
-unstored_known : (f : Frame) (m m' : Memory) → stored_of m' ≡ stored_of m → m'.entered ≡ m.entered → known_of f m' ≡ known_of f m
-unstored_known f m m' same entered = stored_known f m m' entered ∙ ap (with_stored (known_of f m)) same
+unstored_known : (f : Frame) (m m' : Memory) → stored_of m' ≡ stored_of m → m'.entered ≡ m.entered → m'.called ≡ m.called → known_of f m' ≡ known_of f m
+unstored_known f m m' same entered called = stored_known f m m' entered called ∙ ap (with_stored (known_of f m)) same
 
 -- what is stored where a block's locals alone changed
-blocks_known : (f : Frame) (m m' : Memory) → m'.entered ≡ m.entered → m'.globals ≡ m.globals
+blocks_known : (f : Frame) (m m' : Memory) → m'.entered ≡ m.entered → m'.owns ≡ m.owns → m'.called ≡ m.called → m'.globals ≡ m.globals
     → known_of f m' ≡ record (known_of f m) { blocks = map activation_of m'.blocks.items }
-blocks_known f m m' entered globals =
-    stored_known f m m' entered
+blocks_known f m m' entered owns called globals =
+    stored_known f m m' entered called
+    ∙ ap (λ os. record (known_of f m) {
+      blocks = map activation_of m'.blocks.items;
+      owns = map activation_of os.items;
+      globals = map cells_of m'.globals.items;
+    }) owns
     ∙ ap (λ gs. record (known_of f m) { blocks = map activation_of m'.blocks.items; globals = map cells_of gs.items }) globals
 
 -- what a store answers
@@ -143,30 +150,30 @@ abbrev stored_if : {A : Type 0} → Bool → A → Option A
 stored_if is_there x = (if is_there then Some x else None)
 
 module _ (f : Frame) (m m' : Memory) (x : ℕ) (v : Value) (is_there : Bool) (read : content_of v ≡ temp_of f.temps.items x) (entered : m'.entered ≡ m.entered)
-    (ws : List Wait) where
+    (called : m'.called ≡ m.called) (ws : List Wait) where
   abbrev blocks_of : Memory → List Activation
   blocks_of m = map activation_of m.blocks.items
 
-  module _ (globals : m'.globals ≡ m.globals) (out i : ℕ) (w : Width)
+  module _ (owns : m'.owns ≡ m.owns) (globals : m'.globals ≡ m.globals) (out i : ℕ) (w : Width)
       (put : put_local f.base (blocks_of m) out i w v ≡ stored_if is_there (blocks_of m')) where
     pub put_answer : is_there ≡ true
         → IsMove (Execute (core.Do (core.Put out i (bytes_of w) x))) ws (known_of f m) (Go (Leave steps.Falls)) ws (known_of f m')
     put_answer stored =
         move_as _ ws (known_of f m) (Go (Leave steps.Falls)) _ ws (record (known_of f m) { blocks = blocks_of m' }) (known_of f m')
-        refl (blocks_known f m m' entered globals)
+        refl (blocks_known f m m' entered owns called globals)
         (put_moves (known_of f m) ws x v read out i w (blocks_of m') (put ∙ ap (λ b. stored_if b (blocks_of m')) stored))
 
     pub unput_answer : is_there ≡ false → blocks_of m' ≡ blocks_of m
         → IsMove (Execute (core.Do (core.Put out i (bytes_of w) x))) ws (known_of f m) Wrong ws (known_of f m')
     unput_answer missing same =
         move_as _ ws (known_of f m) Wrong _ ws (known_of f m) (known_of f m') refl
-        (blocks_known f m m' entered globals ∙ ap (λ bs. record (known_of f m) { blocks = bs }) same)
+        (blocks_known f m m' entered owns called globals ∙ ap (λ bs. record (known_of f m) { blocks = bs }) same)
         (put_wrong (known_of f m) ws x v read out i w (put ∙ ap (λ b. stored_if b (blocks_of m')) missing))
 
   module _ (y : ℕ) (u : Value) (place : content_of u ≡ temp_of f.temps.items y) (p : Place) (is_place : u ≡ value.Pointer p) (d : Distance) (cell byte : ℕ)
       (further : cell ≡ p.cell + d.cells) (later : byte ≡ p.byte + d.bytes)
-      (put : Descends m.entered (blocks_of m) → put_to (stored_of m) p.area p.object cell byte d.width v ≡ stored_if is_there (stored_of m')) where
-    at_distance : Descends m.entered (blocks_of m)
+      (put : AreOrdered m → put_to (stored_of m) p.area p.object cell byte d.width v ≡ stored_if is_there (stored_of m')) where
+    at_distance : AreOrdered m
         → put_to (stored_of m) p.area p.object (p.cell + d.cells) (p.byte + d.bytes) d.width v ≡ stored_if is_there (stored_of m')
     at_distance h =
         ap (λ k. put_to (stored_of m) p.area p.object k (p.byte + d.bytes) d.width v) (sym further)
@@ -176,11 +183,11 @@ module _ (f : Frame) (m m' : Memory) (x : ℕ) (v : Value) (is_there : Bool) (re
         → IsMove (Execute (core.Do (core.Store y (distance_tree d) x))) ws (known_of f m) (Go (Leave steps.Falls)) ws (known_of f m')
     store_answer stored =
         move_as _ ws (known_of f m) (Go (Leave steps.Falls)) _ ws (with_stored (known_of f m) (stored_of m')) (known_of f m')
-        refl (stored_known f m m' entered)
+        refl (stored_known f m m' entered called)
         (store_moves (known_of f m) ws x v read y u place p is_place d (stored_of m') (λ h. at_distance h ∙ ap (λ b. stored_if b (stored_of m')) stored))
 
     pub unstore_answer : is_there ≡ false → stored_of m' ≡ stored_of m
         → IsMove (Execute (core.Do (core.Store y (distance_tree d) x))) ws (known_of f m) Wrong ws (known_of f m')
     unstore_answer missing same =
-        move_as _ ws (known_of f m) Wrong _ ws (known_of f m) (known_of f m') refl (unstored_known f m m' same entered)
+        move_as _ ws (known_of f m) Wrong _ ws (known_of f m) (known_of f m') refl (unstored_known f m m' same entered called)
         (store_wrong (known_of f m) ws x v read y u place p is_place d (λ h. at_distance h ∙ ap (λ b. stored_if b (stored_of m')) missing))

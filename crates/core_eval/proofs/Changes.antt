@@ -1,7 +1,7 @@
 -- A change of one area's objects, and what is known after it.
 use Rattle.std.specs.Prelude.{if◌then◌else◌, slice_get, slice_set, ◌&&◌, nat_eq}
 use Rattle.std.proofs.Common.{◌≡◌, ℕ, false, Option, Some, None, List, refl, ap, ◌∙◌, sym, subst, arith}
-use Rattle.core_meaning.specs.Memory.{Region, Frame, Born, Spot, Part, Memory, same_region, with_part}
+use Rattle.core_meaning.specs.Memory.{Region, Frame, Own, Born, Spot, Part, Memory, same_region, with_part}
 use Rattle.core_meaning.specs.Steps.{Config, with_memory}
 use Rattle.core_eval.specs.declared.value.Area.{Area}
 use Rattle.core_eval.specs.declared.value.Area.TheVariants as area
@@ -11,21 +11,25 @@ use Rattle.core_eval.specs.Blocks.{Activation, Stored, position_of}
 use Rattle.core_eval.specs.Pendings.{Wait, Mark}
 use Rattle.core_eval.specs.Standing.{Known, Agrees}
 use Rattle.core_eval.proofs.Memories.{other_number}
+use Rattle.core_eval.proofs.Owned.{owned_still, owned_shows, owned_put}
 use Rattle.core_eval.proofs.Nested.{nested_still, nested_shows, nested_put, position_there, position_put}
 
 -- what is stored, of what is known
 abbrev pub stored_in : Known → Stored
-stored_in known = record { blocks = known.blocks; globals = known.globals }
+stored_in known = record { blocks = known.blocks; owns = known.owns; globals = known.globals }
 
 abbrev pub with_stored : Known → Stored → Known
-with_stored known after = record known { blocks = after.blocks; globals = after.globals }
+with_stored known after = record known { blocks = after.blocks; owns = after.owns; globals = after.globals }
 
 -- an area's objects are these, and afterwards those, and nothing else is stored in another way
 abbrev pub Replaces : Known → Area → (objects objects' : List (List Slot)) → Stored → Type 0
-Replaces known area.Globals objects objects' after = (objects ≡ known.globals) × (after ≡ record { blocks = known.blocks; globals = objects' })
+Replaces known area.Globals objects objects' after = (objects ≡ known.globals) × (after ≡ record (stored_in known) { globals = objects' })
 Replaces known (area.Block n) objects objects' after =
     (p : ℕ) × (b : Activation) × (position_of known.blocks n ≡ Some p) × (slice_get known.blocks p ≡ Some b) × (objects ≡ b.objects)
-    × (after ≡ record { blocks = slice_set known.blocks p (record { number = b.number; objects = objects' }); globals = known.globals })
+    × (after ≡ record (stored_in known) { blocks = slice_set known.blocks p (record { number = b.number; objects = objects' }) })
+Replaces known (area.Own n) objects objects' after =
+    (p : ℕ) × (b : Activation) × (position_of known.owns n ≡ Some p) × (slice_get known.owns p ≡ Some b) × (objects ≡ b.objects)
+    × (after ≡ record (stored_in known) { owns = slice_set known.owns p (record { number = b.number; objects = objects' }) })
 
 -- in another region a store changes nothing
 pub part_elsewhere : (m : Memory) (r : Region) (i k j : ℕ) (p : Part) (t : Spot) (x : ℕ) → same_region t.region r ≡ false
@@ -46,6 +50,10 @@ module _ (known : Known) (ws : List Wait) (marks : List Mark) (c : Config) (h : 
       let (below, shows) = nested_shows c.memory c.memory.activations c.blocks known.base known.blocks ws marks p b h.nested there in
       subst (λ (os : List (List Slot)). Shows c.memory (Frame n) os) (sym same)
       (subst (λ (k : ℕ). Shows c.memory (Frame k) b.objects) (block_number known.blocks n p b at there) shows)
+  replaced_shows (area.Own n) objects objects' after (p, b, at, there, same, is) =
+      let (below, shows) = owned_shows c.memory c.memory.calls c.own known.owns ws marks p b h.owned there in
+      subst (λ (os : List (List Slot)). Shows c.memory (Own n) os) (sym same)
+      (subst (λ (k : ℕ). Shows c.memory (Own k) b.objects) (block_number known.owns n p b at there) shows)
 
   module _ (parts' : Spot → ℕ → Option Part) where
     -- the memory with other parts
@@ -66,13 +74,46 @@ module _ (known : Known) (ws : List Wait) (marks : List Mark) (c : Config) (h : 
       fresh = record {
         empty = h.fresh.empty;
         missing = λ k i cell j le. others (spot_of (Frame k) i cell) j refl ∙ h.fresh.missing k i cell j le;
+        no_values = h.fresh.no_values;
+        no_value = λ k i cell j le. others (spot_of (Own k) i cell) j refl ∙ h.fresh.no_value k i cell j le;
       };
       globals = record { live = h.globals.live; holds = shows };
       nested = nested_still c.memory changed c.memory.activations c.memory.activations c.blocks known.base known.blocks ws marks (omega arith)
           (λ k os below s. shows_other (Born 0) (Frame k) os others refl s) h.nested;
       entered = h.entered;
       live = h.live;
+      owned = owned_still c.memory changed c.memory.calls c.memory.calls c.own known.owns ws marks (omega arith)
+          (λ k os below s. shows_other (Born 0) (Own k) os others refl s) h.owned;
+      called = h.called;
+      values_live = h.values_live;
     }
+
+    values_agree : (p : ℕ) (b : Activation) (objects' : List (List Slot)) → slice_get known.owns p ≡ Some b
+        → ((t : Spot) (j : ℕ) → same_region t.region (Own b.number) ≡ false → parts' t j ≡ c.memory.parts t j)
+        → ((i k j : ℕ) → parts' (spot_of (Own b.number) i k) j ≡ part_in (slot_at objects' i k) j)
+        → Agrees (record known { owns = slice_set known.owns p (record { number = b.number; objects = objects' }) }) ws marks (with_memory changed c)
+    values_agree p b objects' at others shows =
+        let (below, was) = owned_shows c.memory c.memory.calls c.own known.owns ws marks p b h.owned at in record {
+          temps = h.temps;
+          fresh = record {
+            empty = h.fresh.empty;
+            missing = λ k i cell j le. others (spot_of (Frame k) i cell) j refl ∙ h.fresh.missing k i cell j le;
+            no_values = h.fresh.no_values;
+            no_value = λ k i cell j le.
+                others (spot_of (Own k) i cell) j (other_number k b.number (omega (arith, below, le))) ∙ h.fresh.no_value k i cell j le;
+          };
+          globals = shows_other (Own b.number) (Born 0) known.globals others refl h.globals;
+          nested = nested_still c.memory changed c.memory.activations c.memory.activations c.blocks known.base known.blocks ws marks (omega arith)
+              (λ k os less s. shows_other (Own b.number) (Frame k) os others refl s) h.nested;
+          entered = h.entered;
+          live = h.live;
+          owned = owned_put c.memory changed b.number objects' (record { live = was.live; holds = shows })
+              (λ q os other s. shows_other (Own b.number) (Own q) os others (other_number q b.number other) s)
+              c.memory.calls c.own known.owns ws marks p b at refl h.owned;
+          called = h.called;
+          values_live = λ k gone.
+              h.values_live k (sym (position_put known.owns p k b (record { number = b.number; objects = objects' }) at refl) ∙ gone);
+        }
 
     block_agrees : (p : ℕ) (b : Activation) (objects' : List (List Slot)) → slice_get known.blocks p ≡ Some b
         → ((t : Spot) (j : ℕ) → same_region t.region (Frame b.number) ≡ false → parts' t j ≡ c.memory.parts t j)
@@ -85,6 +126,8 @@ module _ (known : Known) (ws : List Wait) (marks : List Mark) (c : Config) (h : 
             empty = h.fresh.empty;
             missing = λ k i cell j le.
                 others (spot_of (Frame k) i cell) j (other_number k b.number (omega (arith, below, le))) ∙ h.fresh.missing k i cell j le;
+            no_values = h.fresh.no_values;
+            no_value = λ k i cell j le. others (spot_of (Own k) i cell) j refl ∙ h.fresh.no_value k i cell j le;
           };
           globals = shows_other (Frame b.number) (Born 0) known.globals others refl h.globals;
           nested = nested_put c.memory changed b.number objects' (record { live = was.live; holds = shows })
@@ -92,6 +135,10 @@ module _ (known : Known) (ws : List Wait) (marks : List Mark) (c : Config) (h : 
               c.memory.activations c.blocks known.base known.blocks ws marks p b at refl h.nested;
           entered = h.entered;
           live = λ k gone. h.live k (sym (position_put known.blocks p k b (record { number = b.number; objects = objects' }) at refl) ∙ gone);
+          owned = owned_still c.memory changed c.memory.calls c.memory.calls c.own known.owns ws marks (omega arith)
+              (λ k os less s. shows_other (Frame b.number) (Own k) os others refl s) h.owned;
+          called = h.called;
+          values_live = h.values_live;
         }
 
     -- after a change of the area's objects all is known as it is stored
@@ -107,3 +154,9 @@ module _ (known : Known) (ws : List Wait) (marks : List Mark) (c : Config) (h : 
         (block_agrees p b objects' there
         (λ t j other. others t j (ap (λ k. same_region t.region (Frame k)) (sym number) ∙ other))
         (λ i k j. ap (λ x. parts' (spot_of (Frame x) i k) j) number ∙ shows i k j))
+    replaced_agrees (area.Own n) objects objects' after (p, b, at, there, same, is) others shows =
+        let number = block_number known.owns n p b at there in
+        subst (λ (s : Stored). Agrees (with_stored known s) ws marks (with_memory changed c)) (sym is)
+        (values_agree p b objects' there
+        (λ t j other. others t j (ap (λ k. same_region t.region (Own k)) (sym number) ∙ other))
+        (λ i k j. ap (λ x. parts' (spot_of (Own x) i k) j) number ∙ shows i k j))

@@ -57,7 +57,7 @@ module _ (known : Known) (ws : List Wait) where
   more_follow s ss =
       same_state (Follow (MoreStatements s ss)) ws (Go (Execute s)) (Then ss ∷ ws) known
       (λ main marks c h. (
-        record { temps = h.temps; fresh = h.fresh; globals = h.globals; nested = h.nested; entered = h.entered; live = h.live },
+        record { temps = h.temps; fresh = h.fresh; globals = h.globals; nested = h.nested; entered = h.entered; live = h.live; owned = h.owned; called = h.called; values_live = h.values_live },
         refl,
       )) (omega arith)
 
@@ -72,7 +72,7 @@ module _ (known : Known) (ws : List Wait) where
   loop_enters test flag body =
       same_state (Execute (core.While test flag body)) ws (Go (Follow test)) (Test test flag body ∷ ws) known
       (λ main marks c h. (
-        record { temps = h.temps; fresh = h.fresh; globals = h.globals; nested = h.nested; entered = h.entered; live = h.live },
+        record { temps = h.temps; fresh = h.fresh; globals = h.globals; nested = h.nested; entered = h.entered; live = h.live; owned = h.owned; called = h.called; values_live = h.values_live },
         refl,
       )) (omega arith)
 

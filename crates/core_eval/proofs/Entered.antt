@@ -32,14 +32,25 @@ pub block_answer : {E : Type 0} (r : Result Due E) (f : Frame) (m m' : Memory) (
     → s ≡ core.Block (map local_tree locals) body → locals' ≡ locals → body' ≡ body
     → IfOk r (λ due. next_of due ≡ Go (Follow body')) → OnOk r (ws' ≡ Block ∷ ws)
     → OnOk r (map activation_of m'.blocks.items ≡ record { number = m.entered; objects = map blank_object locals' } ∷ map activation_of m.blocks.items)
-    → OnOk r (m'.entered ≡ m.entered + 1) → OnOk r (m'.globals ≡ m.globals)
+    → OnOk r (m'.entered ≡ m.entered + 1) → OnOk r (m'.owns ≡ m.owns) → OnOk r (m'.called ≡ m.called) → OnOk r (m'.globals ≡ m.globals)
     → IfOk r (λ due. IsMove (Execute s) ws (known_of f m) (next_of due) ws' (known_of f m'))
-block_answer (Ok due) f m m' s locals locals' body body' ws ws' is same_locals same_body next waits blocks entered globals =
+block_answer (Ok due) f m m' s locals locals' body body' ws ws' is same_locals same_body next waits blocks entered owns called globals =
     let all : map activation_of m'.blocks.items ≡ record { number = m.entered; objects = map blank_object locals } ∷ map activation_of m.blocks.items =
     blocks ∙ ap (λ l. record { number = m.entered; objects = map blank_object l } ∷ map activation_of m.blocks.items) same_locals in
     let known : known_of f m' ≡ inside (known_of f m) ws locals =
-    ap (λ bs. record { temps = f.temps.items; base = f.base; blocks = bs; entered = m'.entered; globals = map cells_of m'.globals.items }) all
-    ∙ ap (λ n. record (inside (known_of f m) ws locals) { entered = n; globals = map cells_of m'.globals.items }) entered
+    ap (λ bs. record (known_of f m') { blocks = bs }) all
+    ∙ ap (λ n. record (inside (known_of f m) ws locals) {
+      entered = n;
+      owns = map activation_of m'.owns.items;
+      called = m'.called;
+      globals = map cells_of m'.globals.items;
+    }) entered
+    ∙ ap (λ os. record (inside (known_of f m) ws locals) {
+      owns = map activation_of os.items;
+      called = m'.called;
+      globals = map cells_of m'.globals.items;
+    }) owns
+    ∙ ap (λ n. record (inside (known_of f m) ws locals) { called = n; globals = map cells_of m'.globals.items }) called
     ∙ ap (λ gs. record (inside (known_of f m) ws locals) { globals = map cells_of gs.items }) globals in
     subst (λ (t : core.Statement). IsMove (Execute t) ws (known_of f m) (next_of due) ws' (known_of f m')) (sym is)
     (subst (λ (n : specs.Next). IsMove (Execute (core.Block (map local_tree locals) body)) ws (known_of f m) n ws' (known_of f m'))
@@ -49,4 +60,4 @@ block_answer (Ok due) f m m' s locals locals' body body' ws ws' is same_locals s
     (subst (λ (k : standing.Known). IsMove (Execute (core.Block (map local_tree locals) body)) ws (known_of f m) (Go (Follow body)) (Block ∷ ws) k)
     (sym known)
     (block_enters (known_of f m) ws locals body))))
-block_answer (Err e) f m m' s locals locals' body body' ws ws' is same_locals same_body next waits blocks entered globals = tt
+block_answer (Err e) f m m' s locals locals' body body' ws ws' is same_locals same_body next waits blocks entered owns called globals = tt

@@ -3,7 +3,7 @@ use Rattle.std.specs.Prelude.{if◌then◌else◌, ◌&&◌, nat_eq, nat_le, nat
 use Rattle.std.proofs.Common.{◌≡◌, ℕ, zero, suc, ◌+◌, ◌≤◌, ◌<◌, Bool, true, false, Option, Some, None, List, [], ◌∷◌, refl, ap, ◌∙◌, sym, subst, arith}
 use Rattle.std.proofs.lemmas.Bool.Decides.{nat_tests}
 use Rattle.core_meaning.specs.Memory as memory
-use Rattle.core_meaning.specs.Memory.{Region, Frame, Born, Live, Part, PartShape, Memory, is_live, part_at}
+use Rattle.core_meaning.specs.Memory.{Region, Frame, Own, Born, Live, Part, PartShape, Memory, is_live, part_at}
 use Rattle.core_meaning.specs.Steps.{Config}
 use Rattle.core_meaning.specs.Operations.{is_part, are_parts, is_there}
 use Rattle.core_meaning.specs.Operations as operations
@@ -22,7 +22,7 @@ use Rattle.core_eval.specs.Pendings.{Wait, Mark}
 use Rattle.core_eval.specs.Standing.{Known, Agrees}
 use Rattle.core_eval.proofs.Nested.{position_there}
 use Rattle.core_eval.proofs.Changes.{stored_in}
-use Rattle.core_eval.proofs.MemoryMoves.{shown, area_part}
+use Rattle.core_eval.proofs.MemoryMoves.{shown, shown_values, area_part}
 
 same_bytes : (a w : Width) → nat_eq (bytes_of a) (bytes_of w) ≡ same_width a w
 same_bytes width.Byte width.Byte = refl
@@ -108,27 +108,42 @@ module _ (known : Known) (ws : List Wait) (marks : List Mark) (c : Config) (h : 
       let same : b.number ≡ n = cc in
       ap (λ k. is_live (c.memory.standing (Frame k))) (sym same) ∙ ap is_live (shown known ws marks c h p b e).live
 
+  values_at : (n p : ℕ) (o : Option Activation) → position_of known.owns n ≡ Some p → slice_get known.owns p ≡ o → is_live (c.memory.standing (Own n)) ≡ true
+  values_at n p None at e =
+      let number = position_there known.owns n p at in
+      let none : option_map (λ (b : Activation). b.number) None ≡ Some n = ap (option_map (λ b. b.number)) (sym e) ∙ number in cc
+  values_at n p (Some b) at e =
+      let number = position_there known.owns n p at in
+      let some : Some b.number ≡ Some n = ap (option_map (λ b. b.number)) (sym e) ∙ number in
+      let same : b.number ≡ n = cc in
+      ap (λ k. is_live (c.memory.standing (Own k))) (sym same) ∙ ap is_live (shown_values known ws marks c h p b e).live
+
   -- which areas are live
-  pub live_is : (a : Area) → is_live (c.memory.standing (region_of a)) ≡ is_held known.blocks a
+  pub live_is : (a : Area) → is_live (c.memory.standing (region_of a)) ≡ is_held (stored_in known) a
   live_is area.Globals = ap is_live h.globals.live
   live_is (area.Block n) = by (position_of known.blocks n) refl
     where
       by : (o : Option ℕ) → position_of known.blocks n ≡ o → is_live (c.memory.standing (Frame n)) ≡ is_found o
       by None e = h.live n e
       by (Some p) e = block_at n p (slice_get known.blocks p) e refl
+  live_is (area.Own n) = by (position_of known.owns n) refl
+    where
+      by : (o : Option ℕ) → position_of known.owns n ≡ o → is_live (c.memory.standing (Own n)) ≡ is_found o
+      by None e = h.values_live n e
+      by (Some p) e = values_at n p (slice_get known.owns p) e refl
 
   -- what a live area's memory has
-  pub held_part : (a : Area) (i k j : ℕ) → is_held known.blocks a ≡ true
-      → c.memory.parts (spot_of (region_of a) i k) j ≡ part_in (slot_in known.blocks known.globals a i k) j
+  pub held_part : (a : Area) (i k j : ℕ) → is_held (stored_in known) a ≡ true
+      → c.memory.parts (spot_of (region_of a) i k) j ≡ part_in (slot_in (stored_in known) a i k) j
   held_part a i k j held =
       sym (ap (λ b. if b then c.memory.parts (spot_of (region_of a) i k) j else None) (live_is a ∙ held)) ∙ area_part known ws marks c h a i k j
 
   pub laid_is : (p : Place) (cs : List CellLayout) (bytes : ℕ)
       → is_there c.memory (record { cells = map cell_parts cs; bytes = bytes }) (place_spot p) p.byte ≡ are_laid (stored_in known) p cs
   laid_is p cs bytes =
-      ap (λ b. b && operations.are_laid c.memory (place_spot p) p.byte (map cell_parts cs)) (live_is p.area) ∙ by (is_held known.blocks p.area) refl
+      ap (λ b. b && operations.are_laid c.memory (place_spot p) p.byte (map cell_parts cs)) (live_is p.area) ∙ by (is_held (stored_in known) p.area) refl
     where
-      by : (b : Bool) → is_held known.blocks p.area ≡ b
+      by : (b : Bool) → is_held (stored_in known) p.area ≡ b
           → b && operations.are_laid c.memory (place_spot p) p.byte (map cell_parts cs) ≡ b && are_cells (slots_of (stored_in known) p) p.cell p.byte cs
       by true held =
           cells_are c.memory (region_of p.area) p.object p.byte (slots_of (stored_in known) p) cs p.cell (λ x j. held_part p.area p.object x j held)

@@ -1,8 +1,9 @@
 -- What goes on at the end of a statement.
-use Rattle.std.specs.Prelude.{if◌then◌else◌, nat_eq}
-use Rattle.std.proofs.Common.{◌≡◌, ℕ, true, false, Some, None, List, [], ◌∷◌, refl, ap, ◌∙◌, sym, arith}
+use Rattle.std.specs.Prelude.{if◌then◌else◌, nat_eq, option_map, drop}
+use Rattle.std.proofs.lemmas.Bool.Decides.{nat_tests}
+use Rattle.std.proofs.Common.{◌≡◌, ℕ, suc, Bool, true, false, Some, None, List, [], ◌∷◌, refl, ap, ◌∙◌, sym, arith}
 use Rattle.core_meaning.specs.Memory as memory
-use Rattle.core_meaning.specs.Memory.{Own, Born, Dead, Content, with_standing}
+use Rattle.core_meaning.specs.Memory.{Own, Born, Dead, Content, is_live, with_standing}
 use Rattle.core_meaning.specs.Core.{Statements}
 use Rattle.core_meaning.specs.Steps as steps
 use Rattle.core_meaning.specs.Steps.{Config, with_temp, with_memory, Exit, Returned, stuck}
@@ -10,11 +11,13 @@ use Rattle.core_eval.specs.declared.value.Place.{Place}
 use Rattle.core_eval.specs.declared.value.Value.{Value}
 use Rattle.core_eval.specs.declared.value.Value.TheVariants as value
 use Rattle.core_eval.specs.Values.{content_of, temp_of, truth_of}
+use Rattle.core_eval.specs.Blocks.{Activation, position_of}
 use Rattle.core_eval.specs.Pendings.{Follow, Leave, Wait, Then, Test, Body, Caller, Saved, Next, Go, TurnDue, Over, Wrong, Mark, rest_of}
-use Rattle.core_eval.specs.Standing.{Known, Agrees, Stands, AreNested, Gives}
+use Rattle.core_eval.specs.Standing.{Known, Agrees, Stands, AreNested, AreOwned, Gives}
 use Rattle.core_eval.specs.Costs.{IsMove}
-use Rattle.core_eval.proofs.Memories.{shows_standing}
+use Rattle.core_eval.proofs.Memories.{other_number, shows_standing}
 use Rattle.core_eval.proofs.Nested.{nested_still}
+use Rattle.core_eval.proofs.Owned.{owned_still}
 use Rattle.core_eval.proofs.Moves.{all_stand, goes_here}
 use Rattle.core_eval.proofs.EnterMoves.{same_state, branches}
 
@@ -32,29 +35,30 @@ IsNoReturn _ = Unit {0}
 behind : (w : Wait) (known : Known) (ws : List Wait) (marks : List Mark) (c : Config) → Agrees known (w ∷ ws) marks c
     → (AreNested c.memory c.memory.activations c.blocks known.base known.blocks (w ∷ ws) marks
     → AreNested c.memory c.memory.activations c.blocks known.base known.blocks ws marks)
+    → (AreOwned c.memory c.memory.calls c.own known.owns (w ∷ ws) marks → AreOwned c.memory c.memory.calls c.own known.owns ws marks)
     → Agrees known ws marks c
-behind w known ws marks c h drops =
-    record { temps = h.temps; fresh = h.fresh; globals = h.globals; nested = drops h.nested; entered = h.entered; live = h.live }
+behind w known ws marks c h drops keeps =
+    record { temps = h.temps; fresh = h.fresh; globals = h.globals; nested = drops h.nested; entered = h.entered; live = h.live; owned = keeps h.owned; called = h.called; values_live = h.values_live }
 
 module _ (known : Known) (ws : List Wait) where
   -- ---- statements after one another
 
   pub then_follow : (ss : Statements) → IsMove (Leave steps.Falls) (Then ss ∷ ws) known (Go (Follow ss)) ws known
   then_follow ss =
-      same_state (Leave steps.Falls) (Then ss ∷ ws) (Go (Follow ss)) ws known (λ main marks c h. (behind (Then ss) known ws marks c h (λ n. n), refl))
+      same_state (Leave steps.Falls) (Then ss ∷ ws) (Go (Follow ss)) ws known (λ main marks c h. (behind (Then ss) known ws marks c h (λ n. n) (λ n. n), refl))
       (omega arith)
 
   pub then_leaves : (exit : Exit) (ss : Statements) → IsEarly exit → IsMove (Leave exit) (Then ss ∷ ws) known (Go (Leave exit)) ws known
   then_leaves steps.Falls ss early = absurd early
   then_leaves steps.Breaks ss early =
       same_state (Leave steps.Breaks) (Then ss ∷ ws) (Go (Leave steps.Breaks)) ws known
-      (λ main marks c h. (behind (Then ss) known ws marks c h (λ n. n), refl)) (omega arith)
+      (λ main marks c h. (behind (Then ss) known ws marks c h (λ n. n) (λ n. n), refl)) (omega arith)
   then_leaves steps.Continues ss early =
       same_state (Leave steps.Continues) (Then ss ∷ ws) (Go (Leave steps.Continues)) ws known
-      (λ main marks c h. (behind (Then ss) known ws marks c h (λ n. n), refl)) (omega arith)
+      (λ main marks c h. (behind (Then ss) known ws marks c h (λ n. n) (λ n. n), refl)) (omega arith)
   then_leaves (steps.Returns vs) ss early =
       same_state (Leave (steps.Returns vs)) (Then ss ∷ ws) (Go (Leave (steps.Returns vs))) ws known
-      (λ main marks c h. (behind (Then ss) known ws marks c h (λ n. n), refl)) (omega arith)
+      (λ main marks c h. (behind (Then ss) known ws marks c h (λ n. n) (λ n. n), refl)) (omega arith)
 
   -- ---- loops
 
@@ -63,20 +67,20 @@ module _ (known : Known) (ws : List Wait) where
     test_leaves steps.Falls early = absurd early
     test_leaves steps.Breaks early =
         same_state (Leave steps.Breaks) (Test test flag body ∷ ws) (Go (Leave steps.Breaks)) ws known
-        (λ main marks c h. (behind (Test test flag body) known ws marks c h (λ n. n), refl)) (omega arith)
+        (λ main marks c h. (behind (Test test flag body) known ws marks c h (λ n. n) (λ n. n), refl)) (omega arith)
     test_leaves steps.Continues early =
         same_state (Leave steps.Continues) (Test test flag body ∷ ws) (Go (Leave steps.Continues)) ws known
-        (λ main marks c h. (behind (Test test flag body) known ws marks c h (λ n. n), refl)) (omega arith)
+        (λ main marks c h. (behind (Test test flag body) known ws marks c h (λ n. n) (λ n. n), refl)) (omega arith)
     test_leaves (steps.Returns vs) early =
         same_state (Leave (steps.Returns vs)) (Test test flag body ∷ ws) (Go (Leave (steps.Returns vs))) ws known
-        (λ main marks c h. (behind (Test test flag body) known ws marks c h (λ n. n), refl)) (omega arith)
+        (λ main marks c h. (behind (Test test flag body) known ws marks c h (λ n. n) (λ n. n), refl)) (omega arith)
 
     module _ (v : Value) (read : content_of v ≡ temp_of known.temps flag) where
       pub turn_comes : truth_of v ≡ Some true → IsMove (Leave steps.Falls) (Test test flag body ∷ ws) known (TurnDue test flag body) ws known
       turn_comes is =
           same_state (Leave steps.Falls) (Test test flag body ∷ ws) (TurnDue test flag body) ws known
           (λ main marks c h. (
-            behind (Test test flag body) known ws marks c h (λ n. n),
+            behind (Test test flag body) known ws marks c h (λ n. n) (λ n. n),
             branches (c.temps flag) v (Some true) _ _
                 (h.temps flag ∙ sym read) is,
           )) (omega arith)
@@ -85,7 +89,7 @@ module _ (known : Known) (ws : List Wait) where
       loop_ends is =
           same_state (Leave steps.Falls) (Test test flag body ∷ ws) (Go (Leave steps.Falls)) ws known
           (λ main marks c h. (
-            behind (Test test flag body) known ws marks c h (λ n. n),
+            behind (Test test flag body) known ws marks c h (λ n. n) (λ n. n),
             branches (c.temps flag) v (Some false) _ _
                 (h.temps flag ∙ sym read) is,
           )) (omega arith)
@@ -93,13 +97,13 @@ module _ (known : Known) (ws : List Wait) where
       pub test_wrong : truth_of v ≡ None → IsMove (Leave steps.Falls) (Test test flag body ∷ ws) known Wrong ws known
       test_wrong is =
           same_state (Leave steps.Falls) (Test test flag body ∷ ws) Wrong ws known
-          (λ main marks c h. (behind (Test test flag body) known ws marks c h (λ n. n), branches (c.temps flag) v None _ _ (h.temps flag ∙ sym read) is))
+          (λ main marks c h. (behind (Test test flag body) known ws marks c h (λ n. n) (λ n. n), branches (c.temps flag) v None _ _ (h.temps flag ∙ sym read) is))
           (omega arith)
 
     again_as : (w : Wait) (main : ℕ) (marks : List Mark) (c : Config) → Agrees known (Body test flag body ∷ ws) marks c
         → Agrees known (Test test flag body ∷ ws) marks c
     again_as w main marks c h =
-        record { temps = h.temps; fresh = h.fresh; globals = h.globals; nested = h.nested; entered = h.entered; live = h.live }
+        record { temps = h.temps; fresh = h.fresh; globals = h.globals; nested = h.nested; entered = h.entered; live = h.live; owned = h.owned; called = h.called; values_live = h.values_live }
 
     pub turn_falls : IsMove (Leave steps.Falls) (Body test flag body ∷ ws) known (Go (Follow test)) (Test test flag body ∷ ws) known
     turn_falls =
@@ -114,38 +118,59 @@ module _ (known : Known) (ws : List Wait) where
     pub turn_breaks : IsMove (Leave steps.Breaks) (Body test flag body ∷ ws) known (Go (Leave steps.Falls)) ws known
     turn_breaks =
         same_state (Leave steps.Breaks) (Body test flag body ∷ ws) (Go (Leave steps.Falls)) ws known
-        (λ main marks c h. (behind (Body test flag body) known ws marks c h (λ n. n), refl)) (omega arith)
+        (λ main marks c h. (behind (Body test flag body) known ws marks c h (λ n. n) (λ n. n), refl)) (omega arith)
 
     pub turn_returns : (vs : List Content) → IsMove (Leave (steps.Returns vs)) (Body test flag body ∷ ws) known (Go (Leave (steps.Returns vs))) ws known
     turn_returns vs =
         same_state (Leave (steps.Returns vs)) (Body test flag body ∷ ws) (Go (Leave (steps.Returns vs))) ws known
-        (λ main marks c h. (behind (Body test flag body) known ws marks c h (λ n. n), refl)) (omega arith)
+        (λ main marks c h. (behind (Body test flag body) known ws marks c h (λ n. n) (λ n. n), refl)) (omega arith)
 
   -- ---- the caller goes on
 
   module _ (results : List ℕ) (f : ℕ) (saved : Saved) where
     -- what is known of the caller
     abbrev pub back : Known
-    back = record known { temps = saved.temps; base = saved.base }
+    back = record known { temps = saved.temps; base = saved.base; owns = drop 1 known.owns }
 
     -- the caller's state
     abbrev resumed : Mark → Config → Config
     resumed mark c = with_memory (with_standing c.memory (Own mark.number) Dead) mark.outside
 
-    resumed_agrees : (mark : Mark) (marks : List Mark) (c : Config) → Agrees known (Caller results f saved ∷ ws) (mark ∷ marks) c
-        → Agrees back ws marks (resumed mark c)
-    resumed_agrees mark marks c h =
+    -- the innermost function is over
+    over_agrees : (mark : Mark) (marks : List Mark) (c : Config) (owns : List Activation) → known.owns ≡ owns
+        → AreOwned c.memory c.memory.calls c.own owns (Caller results f saved ∷ ws) (mark ∷ marks)
+        → Agrees known (Caller results f saved ∷ ws) (mark ∷ marks) c
+        → Agrees (record back { owns = drop 1 owns }) ws marks (resumed mark c)
+    over_agrees mark marks c [] is owned h = absurd owned
+    over_agrees mark marks c (o ∷ owns) is (same, number, below, shows, others) h =
         let (none, outside, held, rest) = h.nested in
+        let m' = with_standing c.memory (Own mark.number) Dead in
         record {
           temps = held;
-          fresh = record { empty = h.fresh.empty; missing = h.fresh.missing };
+          fresh = record { empty = h.fresh.empty; missing = h.fresh.missing; no_values = h.fresh.no_values; no_value = h.fresh.no_value };
           globals = shows_standing h.globals (Own mark.number) refl Dead;
-          nested = nested_still c.memory
-              (with_standing c.memory (Own mark.number) Dead) c.memory.activations c.memory.activations mark.outside.blocks saved.base known.blocks ws marks
+          nested = nested_still c.memory m' c.memory.activations c.memory.activations mark.outside.blocks saved.base known.blocks ws marks
               (omega arith) (λ k os below s. shows_standing s (Own mark.number) refl Dead) rest;
           entered = h.entered;
           live = h.live;
+          owned = owned_still c.memory m' c.own c.memory.calls mark.outside.own owns ws marks (omega (arith, below))
+              (λ k os less s. shows_standing s (Own mark.number) (other_number k mark.number (omega (arith, less, same))) Dead) others;
+          called = h.called;
+          values_live = λ k gone. ended k (nat_eq k mark.number) refl gone;
         }
+      where
+        ended : (k : ℕ) (t : Bool) → nat_eq k mark.number ≡ t → position_of owns k ≡ None
+            → is_live (if nat_eq k mark.number then Dead else c.memory.standing (Own k)) ≡ false
+        ended k true e gone = ap (λ b. is_live (if b then Dead else c.memory.standing (Own k))) e
+        ended k false e gone =
+            let other : nat_eq o.number k ≡ false = grind (arith, nat_tests, e, same, number) in
+            ap (λ b. is_live (if b then Dead else c.memory.standing (Own k))) e
+            ∙ h.values_live k (ap (λ os. position_of os k) is
+            ∙ ap (λ t. if t then Some 0 else option_map suc (position_of owns k)) other ∙ ap (option_map suc) gone)
+
+    resumed_agrees : (mark : Mark) (marks : List Mark) (c : Config) → Agrees known (Caller results f saved ∷ ws) (mark ∷ marks) c
+        → Agrees back ws marks (resumed mark c)
+    resumed_agrees mark marks c h = over_agrees mark marks c known.owns refl h.owned h
 
     -- where something waits, there is a mark for it
     marked : (next' : Next) (known' : Known) (task : Exit) → ((main : ℕ) (mark : Mark) (marks : List Mark) (c : Config)
@@ -189,10 +214,10 @@ module _ (known : Known) (ws : List Wait) where
   -- with a result, and a temporary that gets it
   pub one_returned : (f t : ℕ) (v : Content) (saved : Saved) (temps : List Value) → Gives t v saved.temps temps
       → IsMove (Leave (steps.Returns (v ∷ []))) (Caller (t ∷ []) f saved ∷ ws) known (Go (Leave steps.Falls)) ws
-      (record known { temps = temps; base = saved.base })
+      (record known { temps = temps; base = saved.base; owns = drop 1 known.owns })
   one_returned f t v saved temps gives = record {
     still = all_stand (Go (Leave (steps.Returns (v ∷ [])))) (Caller (t ∷ []) f saved ∷ ws) known (Go (Leave steps.Falls)) ws
-        (record known { temps = temps; base = saved.base })
+        (record known { temps = temps; base = saved.base; owns = drop 1 known.owns })
         (marked (t ∷ []) f saved (Go (Leave steps.Falls)) _ (steps.Returns (v ∷ [])) (λ main mark marks c h.
         let was = resumed_agrees (t ∷ []) f saved mark marks c h in
         record {
@@ -207,6 +232,9 @@ module _ (known : Known) (ws : List Wait) where
             nested = was.nested;
             entered = was.entered;
             live = was.live;
+            owned = was.owned;
+            called = was.called;
+            values_live = was.values_live;
           };
           same = refl;
         }));

@@ -2,6 +2,7 @@ mod Lists
 mod Positions
 mod Memories
 mod Nested
+mod Owned
 mod Moves
 mod Changes
 mod OperationMoves
@@ -18,6 +19,7 @@ mod LeaveMoves
 mod Entered
 mod Taken
 mod Calls
+mod CalledAs
 mod Quiet
 mod Progress
 mod Stages

@@ -9,7 +9,7 @@ use Rattle.core_meaning.specs.Meaning.{values_of}
 use Rattle.cyc_core.specs.declared.operation.Width.{Width}
 use Rattle.core_eval.specs.declared.value.Value.{Value}
 use Rattle.core_eval.specs.declared.value.Value.TheVariants as value
-use Rattle.core_eval.specs.declared.memory.Block.{Block}
+use Rattle.core_eval.specs.declared.blocks.Block.{Block}
 use Rattle.core_eval.specs.declared.value.Object.{Object}
 use Rattle.core_eval.specs.Values.{content_of, temp_of, cells_of, put_cell, put_object, put_in}
 use Rattle.core_eval.specs.Blocks.{activation_of, put_block, put_among, put_through}

@@ -1,8 +1,8 @@
 -- What the evaluator reads of locals and globals, and what it knows of pointers, as Core does it.
 use Rattle.std.specs.Prelude.{if◌then◌else◌, slice_get, nat_eq, ◌&&◌, option_map}
-use Rattle.std.proofs.Common.{◌≡◌, ℕ, ◌+◌, Bool, true, false, Option, Some, None, List, refl, ap, ◌∙◌, sym, subst}
+use Rattle.std.proofs.Common.{◌≡◌, ℕ, ◌+◌, Bool, true, false, Option, Some, None, List, ◌∷◌, refl, ap, ◌∙◌, sym, subst}
 use Rattle.core_meaning.specs.Memory as memory
-use Rattle.core_meaning.specs.Memory.{Region, Frame, Born, Content, Pointer, Part, Memory, Spot, is_live, part_at, same_spot, same_region}
+use Rattle.core_meaning.specs.Memory.{Region, Frame, Own, Born, Content, Pointer, Part, Memory, Spot, is_live, part_at, same_spot, same_region}
 use Rattle.core_meaning.specs.Core as core
 use Rattle.core_meaning.specs.Words.{truth}
 use Rattle.core_meaning.specs.Steps as steps
@@ -30,6 +30,7 @@ use Rattle.core_eval.specs.Blocks.{
   local_slot,
   local_place,
   local_address,
+  own_address,
   is_there,
   same_places,
   same_with,
@@ -39,17 +40,28 @@ use Rattle.core_eval.specs.Pendings.{Execute, Leave, Wait, Go, Wrong, Mark}
 use Rattle.core_eval.specs.Standing.{Known, Agrees, Gives}
 use Rattle.core_eval.specs.Costs.{IsMove}
 use Rattle.core_eval.proofs.Memories.{first_part, found, reached_at, part_there}
+use Rattle.core_eval.proofs.Owned.{owned_first, owned_descends, owned_shows}
+use Rattle.core_eval.proofs.Changes.{stored_in}
 use Rattle.core_eval.proofs.Nested.{nested_descends, nested_shows, nested_own, position_there}
 use Rattle.core_eval.proofs.Moves.{goes_wrong}
 use Rattle.core_eval.proofs.OperationMoves.{given, given_moves, null_step, null_is}
 
 -- ---- what is known of a state
 
+-- the numbers of blocks and of functions fall
+abbrev pub AreInOrder : Known → Type 0
+AreInOrder known = Descends known.entered known.blocks × Descends known.called known.owns
+
 module _ (known : Known) (ws : List Wait) (marks : List Mark) (c : Config) (h : Agrees known ws marks c) where
-  pub descends : Descends known.entered known.blocks
-  descends =
-      subst (λ (n : ℕ). Descends n known.blocks) (sym h.entered)
-      (nested_descends c.memory c.memory.activations c.blocks known.base known.blocks ws marks h.nested)
+  pub ordered : AreInOrder known
+  ordered = (
+    subst (λ (n : ℕ). Descends n known.blocks) (sym h.entered)
+        (nested_descends c.memory c.memory.activations c.blocks known.base known.blocks ws marks h.nested),
+    subst (λ (n : ℕ). Descends n known.owns) (sym h.called) (owned_descends c.memory c.memory.calls c.own known.owns ws marks h.owned),
+  )
+
+  pub shown_values : (p : ℕ) (b : Activation) → slice_get known.owns p ≡ Some b → Shows c.memory (Own b.number) b.objects
+  shown_values p b at = (owned_shows c.memory c.memory.calls c.own known.owns ws marks p b h.owned at).1
 
   pub shown : (p : ℕ) (b : Activation) → slice_get known.blocks p ≡ Some b → Shows c.memory (Frame b.number) b.objects
   shown p b at = (nested_shows c.memory c.memory.activations c.blocks known.base known.blocks ws marks p b h.nested at).1
@@ -95,18 +107,35 @@ module _ (known : Known) (ws : List Wait) (marks : List Mark) (c : Config) (h : 
       by None e = ap (λ b. if b then c.memory.parts (spot_of (Frame n) i k) j else None) (h.live n e)
       by (Some p) e = through_part n p i k j (position_there known.blocks n p e)
 
+  -- a part of a function's unnamed value
+  value_part : (n i k j : ℕ) → part_at c.memory (spot_of (Own n) i k) j ≡ part_in (slot_through known.owns (position_of known.owns n) i k) j
+  value_part n i k j = by (position_of known.owns n) refl
+    where
+      there : (p : ℕ) (o : Option Activation) → slice_get known.owns p ≡ o → option_map (λ b. b.number) o ≡ Some n
+          → part_at c.memory (spot_of (Own n) i k) j ≡ part_in (slot_among o i k) j
+      there p None at e = cc
+      there p (Some b) at e =
+          let same : b.number ≡ n = cc in
+          subst (λ (x : ℕ). part_at c.memory (spot_of (Own x) i k) j ≡ part_in (slot_at b.objects i k) j) same
+          (part_there (shown_values known ws marks c h p b at) i k j)
+
+      by : (o : Option ℕ) → position_of known.owns n ≡ o → part_at c.memory (spot_of (Own n) i k) j ≡ part_in (slot_through known.owns o i k) j
+      by None e = ap (λ b. if b then c.memory.parts (spot_of (Own n) i k) j else None) (h.values_live n e)
+      by (Some p) e = there p (slice_get known.owns p) refl (position_there known.owns n p e)
+
   -- a part of an object of an area
-  pub area_part : (a : Area) (i k j : ℕ) → part_at c.memory (spot_of (region_of a) i k) j ≡ part_in (slot_in known.blocks known.globals a i k) j
+  pub area_part : (a : Area) (i k j : ℕ) → part_at c.memory (spot_of (region_of a) i k) j ≡ part_in (slot_in (stored_in known) a i k) j
   area_part area.Globals i k j = part_there h.globals i k j
   area_part (area.Block n) i k j = number_part n i k j
+  area_part (area.Own n) i k j = value_part n i k j
 
   -- what is reached from a place on
   pub placed : (p : Place) (d : Distance) (next : Spot → Part → Step)
       → reached c.memory (distance_tree d) (place_spot p) p.byte next
       ≡ found (p.byte + d.bytes) d.width (next (spot_of (region_of p.area) p.object (p.cell + d.cells)))
-      (slot_in known.blocks known.globals p.area p.object (p.cell + d.cells))
+      (slot_in (stored_in known) p.area p.object (p.cell + d.cells))
   placed p d next =
-      reached_at c.memory (region_of p.area) p.object p.cell p.byte d.cells d.bytes (slot_in known.blocks known.globals p.area p.object (p.cell + d.cells))
+      reached_at c.memory (region_of p.area) p.object p.cell p.byte d.cells d.bytes (slot_in (stored_in known) p.area p.object (p.cell + d.cells))
       d.width next (area_part p.area p.object (p.cell + d.cells) 0)
 
   pub own_is : (out i : ℕ) (w : Width) (next : Spot → Part → Step)
@@ -167,16 +196,21 @@ both_is b e (Some x) (Some y) same next = checked_both (nat_eq x.offset b && nat
 pub same_regions : (a e : Area) → same_region (region_of a) (region_of e) ≡ same_area a e
 same_regions area.Globals area.Globals = refl
 same_regions area.Globals (area.Block k) = refl
+same_regions area.Globals (area.Own k) = refl
 same_regions (area.Block k) area.Globals = refl
 same_regions (area.Block k) (area.Block l) = refl
+same_regions (area.Block k) (area.Own l) = refl
+same_regions (area.Own k) area.Globals = refl
+same_regions (area.Own k) (area.Block l) = refl
+same_regions (area.Own k) (area.Own l) = refl
 
 module _ (known : Known) (ws : List Wait) (marks : List Mark) (c : Config) (h : Agrees known ws marks c) where
   abbrev to_slot : Place → Option Slot
-  to_slot p = slot_in known.blocks known.globals p.area p.object p.cell
+  to_slot p = slot_in (stored_in known) p.area p.object p.cell
 
   two_places : (p q : Place) (next : ℕ → Step)
       → same_place c.memory (content_of (value.Pointer p)) (content_of (value.Pointer q)) next
-      ≡ null_step next (same_places known.blocks known.globals p q)
+      ≡ null_step next (same_places (stored_in known) p q)
   two_places p q next =
       ap (λ o. both_step p.byte q.byte o (part_at c.memory (place_spot q) 0) (next (truth (same_spot (place_spot p) (place_spot q)))))
       (area_part known ws marks c h p.area p.object p.cell 0)
@@ -187,14 +221,14 @@ module _ (known : Known) (ws : List Wait) (marks : List Mark) (c : Config) (h : 
       ∙ both_is p.byte q.byte (to_slot p) (to_slot q) (same_cell p q) next
 
   place_with : (p : Place) (v : Value) (next : ℕ → Step)
-      → same_place c.memory (content_of (value.Pointer p)) (content_of v) next ≡ null_step next (same_with known.blocks known.globals p v)
+      → same_place c.memory (content_of (value.Pointer p)) (content_of v) next ≡ null_step next (same_with (stored_in known) p v)
   place_with p value.Blank next = refl
   place_with p (value.Word n) next = refl
   place_with p value.Null next = refl
   place_with p (value.Pointer q) next = two_places p q next
 
   same_is : (u v : Value) (next : ℕ → Step)
-      → same_place c.memory (content_of u) (content_of v) next ≡ null_step next (same_values known.blocks known.globals u v)
+      → same_place c.memory (content_of u) (content_of v) next ≡ null_step next (same_values (stored_in known) u v)
   same_is value.Blank v next = refl
   same_is (value.Word n) v next = refl
   same_is value.Null v next = null_is v next
@@ -244,55 +278,79 @@ module _ (known : Known) (ws : List Wait) where
       goes_wrong (core.LocalAddress t out i) ws known
       (λ marks c h next. taken t out i marks c h next ∙ ap (value_step (λ u. next (with_temp t u c))) is)
 
+  -- ---- a pointer to an unnamed value
+
+  -- what it is in each state
+  own_is_known : (i : ℕ) (v : Value) → own_address known.owns i ≡ Some v → (marks : List Mark) (c : Config) → Agrees known ws marks c
+      → Pointer (spot_of (Own c.own) i 0) 0 ≡ content_of v
+  own_is_known i v is marks c h =
+      let f = owned_first c.memory c.memory.calls c.own known.owns ws marks h.owned in
+      let there : own_address (f.first ∷ f.others) i ≡ Some v = ap (λ os. own_address os i) (sym f.are) ∙ is in
+      let same : value.Pointer (record { area = area.Own f.first.number; object = i; byte = 0; cell = 0 }) ≡ v = cc in
+      ap (λ k. Pointer (spot_of (Own k) i 0) 0) f.number ∙ ap content_of same
+
+  pub own_moves : (temps : List Value) (t i : ℕ) (v : Value) → own_address known.owns i ≡ Some v → Gives t (content_of v) known.temps temps
+      → IsMove (Execute (core.Do (core.OwnAddress t i))) ws known (Go (Leave steps.Falls)) ws (given known temps)
+  own_moves temps t i v is gives =
+      given_moves known temps ws (core.OwnAddress t i) t (content_of v) gives
+      (λ marks c h next. ap (λ u. next (with_temp t u c)) (own_is_known i v is marks c h))
+
+  pub own_wrong : (t i : ℕ) → own_address known.owns i ≡ None → IsMove (Execute (core.Do (core.OwnAddress t i))) ws known Wrong ws known
+  own_wrong t i is =
+      goes_wrong (core.OwnAddress t i) ws known (λ marks c h next.
+      let f = owned_first c.memory c.memory.calls c.own known.owns ws marks h.owned in
+      let none : own_address (f.first ∷ f.others) i ≡ None = ap (λ os. own_address os i) (sym f.are) ∙ is in
+      absurd (cc))
+
   -- ---- through a pointer
 
   module _ (x : ℕ) (v : Value) (read : content_of v ≡ temp_of known.temps x) (p : Place) (is_place : v ≡ value.Pointer p) where
     loaded : (t : ℕ) (d : Distance) (marks : List Mark) (c : Config) → Agrees known ws marks c → (next : Config → Step)
         → does (core.Load t x (distance_tree d)) next c
         ≡ value_step (λ u. next (with_temp t u c))
-        (value_of (p.byte + d.bytes) d.width (slot_in known.blocks known.globals p.area p.object (p.cell + d.cells)))
+        (value_of (p.byte + d.bytes) d.width (slot_in (stored_in known) p.area p.object (p.cell + d.cells)))
     loaded t d marks c h next =
         ap (λ (u : Content). pointer_of u (λ s b. reached c.memory (distance_tree d) s b (λ there part. next (with_temp t part.content c))))
         (h.temps x ∙ sym read ∙ ap content_of is_place)
         ∙ placed known ws marks c h p d (λ there part. next (with_temp t part.content c))
-        ∙ found_value (slot_in known.blocks known.globals p.area p.object (p.cell + d.cells)) (p.byte + d.bytes) d.width (λ u. next (with_temp t u c))
+        ∙ found_value (slot_in (stored_in known) p.area p.object (p.cell + d.cells)) (p.byte + d.bytes) d.width (λ u. next (with_temp t u c))
 
     pub load_moves : (temps : List Value) (t : ℕ) (d : Distance) (u : Value)
-        → (Descends known.entered known.blocks
-        → value_of (p.byte + d.bytes) d.width (slot_in known.blocks known.globals p.area p.object (p.cell + d.cells)) ≡ Some u)
+        → (AreInOrder known
+        → value_of (p.byte + d.bytes) d.width (slot_in (stored_in known) p.area p.object (p.cell + d.cells)) ≡ Some u)
         → Gives t (content_of u) known.temps temps
         → IsMove (Execute (core.Do (core.Load t x (distance_tree d)))) ws known (Go (Leave steps.Falls)) ws (given known temps)
     load_moves temps t d u there gives =
         given_moves known temps ws (core.Load t x (distance_tree d)) t (content_of u) gives
-        (λ marks c h next. loaded t d marks c h next ∙ ap (value_step (λ u. next (with_temp t u c))) (there (descends known ws marks c h)))
+        (λ marks c h next. loaded t d marks c h next ∙ ap (value_step (λ u. next (with_temp t u c))) (there (ordered known ws marks c h)))
 
     pub load_wrong : (t : ℕ) (d : Distance)
-        → (Descends known.entered known.blocks
-        → value_of (p.byte + d.bytes) d.width (slot_in known.blocks known.globals p.area p.object (p.cell + d.cells)) ≡ None)
+        → (AreInOrder known
+        → value_of (p.byte + d.bytes) d.width (slot_in (stored_in known) p.area p.object (p.cell + d.cells)) ≡ None)
         → IsMove (Execute (core.Do (core.Load t x (distance_tree d)))) ws known Wrong ws known
     load_wrong t d none =
         goes_wrong (core.Load t x (distance_tree d)) ws known
-        (λ marks c h next. loaded t d marks c h next ∙ ap (value_step (λ u. next (with_temp t u c))) (none (descends known ws marks c h)))
+        (λ marks c h next. loaded t d marks c h next ∙ ap (value_step (λ u. next (with_temp t u c))) (none (ordered known ws marks c h)))
 
   -- ---- two pointers
 
   module _ (p q : ℕ) (u v : Value) (first : content_of u ≡ temp_of known.temps p) (second : content_of v ≡ temp_of known.temps q) where
     compared : (t : ℕ) (marks : List Mark) (c : Config) → Agrees known ws marks c → (next : Config → Step)
-        → does (core.SamePlace t p q) next c ≡ null_step (λ n. next (with_temp t (memory.Word n) c)) (same_values known.blocks known.globals u v)
+        → does (core.SamePlace t p q) next c ≡ null_step (λ n. next (with_temp t (memory.Word n) c)) (same_values (stored_in known) u v)
     compared t marks c h next =
         ap (λ x. same_place c.memory x (c.temps q) (λ n. next (with_temp t (memory.Word n) c))) (h.temps p ∙ sym first)
         ∙ ap (λ y. same_place c.memory (content_of u) y (λ n. next (with_temp t (memory.Word n) c))) (h.temps q ∙ sym second)
         ∙ same_is known ws marks c h u v (λ n. next (with_temp t (memory.Word n) c))
 
     pub same_moves : (temps : List Value) (t : ℕ) (b : Bool)
-        → (Descends known.entered known.blocks → same_values known.blocks known.globals u v ≡ Some b) → Gives t (memory.Word (truth b)) known.temps temps
+        → (AreInOrder known → same_values (stored_in known) u v ≡ Some b) → Gives t (memory.Word (truth b)) known.temps temps
         → IsMove (Execute (core.Do (core.SamePlace t p q))) ws known (Go (Leave steps.Falls)) ws (given known temps)
     same_moves temps t b is gives =
         given_moves known temps ws (core.SamePlace t p q) t (memory.Word (truth b)) gives
-        (λ marks c h next. compared t marks c h next ∙ ap (null_step (λ n. next (with_temp t (memory.Word n) c))) (is (descends known ws marks c h)))
+        (λ marks c h next. compared t marks c h next ∙ ap (null_step (λ n. next (with_temp t (memory.Word n) c))) (is (ordered known ws marks c h)))
 
-    pub same_wrong : (t : ℕ) → (Descends known.entered known.blocks → same_values known.blocks known.globals u v ≡ None)
+    pub same_wrong : (t : ℕ) → (AreInOrder known → same_values (stored_in known) u v ≡ None)
         → IsMove (Execute (core.Do (core.SamePlace t p q))) ws known Wrong ws known
     same_wrong t is =
         goes_wrong (core.SamePlace t p q) ws known
-        (λ marks c h next. compared t marks c h next ∙ ap (null_step (λ n. next (with_temp t (memory.Word n) c))) (is (descends known ws marks c h)))
+        (λ marks c h next. compared t marks c h next ∙ ap (null_step (λ n. next (with_temp t (memory.Word n) c))) (is (ordered known ws marks c h)))

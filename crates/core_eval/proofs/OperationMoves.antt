@@ -46,6 +46,9 @@ module _ (known : Known) (temps : List Value) (ws : List Wait) where
     nested = h.nested;
     entered = h.entered;
     live = h.live;
+    owned = h.owned;
+    called = h.called;
+    values_live = h.values_live;
   }
 
   pub given_moves : (o : core.Operation) (t : ℕ) (v : Content) → Gives t v known.temps temps → Becomes o ws known (λ next c. next (with_temp t v c))

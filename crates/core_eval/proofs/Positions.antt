@@ -3,7 +3,7 @@ use Rattle.std.specs.Prelude.{slice_index_or, nat_eq, nat_lt, option_map, if◌t
 use Rattle.std.specs.List.Sorted.{IsPartitionedBy, IsPartitionPoint}
 use Rattle.std.proofs.Common.{◌≡◌, ◌≢◌, ℕ, zero, suc, ◌<◌, ◌≤◌, Bool, true, false, Some, None, List, [], ◌∷◌, length, map, refl, ap, ◌∙◌, sym, subst, arith}
 use Rattle.std.proofs.lemmas.Bool.Decides.{nat_tests}
-use Rattle.core_eval.specs.declared.memory.Block.{Block}
+use Rattle.core_eval.specs.declared.blocks.Block.{Block}
 use Rattle.core_eval.specs.Blocks.{Descends, activation_of, position_of}
 
 index_same : (bs : List Block) (i : ℕ) (d d' : Block) → i < length bs → slice_index_or bs i d ≡ slice_index_or bs i d'

@@ -1,5 +1,5 @@
 -- A run between a reader and a writer: where it stands, and how far it has come.
-use Rattle.std.proofs.Common.{◌≡◌, ℕ, ◌+◌, ◌-◌, ◌<◌, Bool, false, List, [], ◌∷◌, ◌++◌, Option, IfSome, refl, sym, ap, subst, arith}
+use Rattle.std.proofs.Common.{◌≡◌, ℕ, ◌+◌, ◌-◌, ◌<◌, Bool, false, List, [], ◌∷◌, ◌++◌, map, Option, IfSome, refl, sym, ap, ◌∙◌, subst, arith}
 use Rattle.std.specs.Io.KnownBytes.{Keeps}
 use Rattle.std.proofs.KnownBytes.{Appends-nil, Consumes-nil}
 use Rattle.core_meaning.specs.Memory.{Content, Word}
@@ -9,9 +9,15 @@ use Rattle.core_meaning.specs.Steps.{Config, with_temp, Step}
 use Rattle.core_meaning.specs.Operations.{byte_word}
 use Rattle.core_meaning.specs.Meaning.{start, core}
 use Rattle.cyc_host.specs.Transfers.{WritesBut, Answers}
+use Rattle.cyc_core.specs.declared.program.Datum.{Datum}
+use Rattle.cyc_core.specs.declared.layout.Local.{Local}
+use Rattle.core_eval.specs.declared.frame.Frame as frame_code
+use Rattle.core_eval.specs.declared.memory.Memory as memory_code
 use Rattle.core_eval.specs.declared.value.Value.{Value}
+use Rattle.core_eval.specs.Values.{cells_of, blank_object}
+use Rattle.core_eval.specs.Blocks.{activation_of}
 use Rattle.core_eval.specs.Pendings.{Follow, Leave, Wait, Body, Next, Go, GetcharDue, PutcharDue, TurnDue, CallDue, Mark, rest_of, returned_to, coming}
-use Rattle.core_eval.specs.Standing.{Known, Agrees, Stands, StandsStill, Gives, IsCall}
+use Rattle.core_eval.specs.Standing.{Known, Agrees, Stands, StandsStill, Gives, IsCall, first_object, first_known, known_of}
 use Rattle.core_eval.proofs.OperationMoves.{given, agrees_given}
 use Rattle.core_eval.proofs.Progress.{Progress, settled, put_one, turned_once, called_once, wrote, kept, answered}
 
@@ -115,7 +121,7 @@ module _ {p : Program} {fuel left : ℕ} {is_over : Bool} {ws : List Wait} {know
       record {
         s = _;
         stands = stands_at p (Go (Follow body)) (Body test flag body ∷ ws) known st.marks st.config
-            (record { temps = a.temps; fresh = a.fresh; globals = a.globals; nested = a.nested; entered = a.entered; live = a.live });
+            (record { temps = a.temps; fresh = a.fresh; globals = a.globals; nested = a.nested; entered = a.entered; live = a.live; owned = a.owned; called = a.called; values_live = a.values_live });
         progress = turned_once (settle (TurnDue test flag body) x) h (record { test = test; flag = flag; body = body })
             (rest_of p.main ws st.marks) st.config refl;
       }
@@ -151,3 +157,16 @@ module _ {p : Program} {fuel left : ℕ} {is_over : Bool} {ws : List Wait} {know
       (subst (λ (l : List Wait). Stage p fuel left is_over next l known' reader_old reader writer_old writer gathered') (sym w)
       (subst (λ (l : Known). Stage p fuel left is_over next ws l reader_old reader writer_old writer gathered') (sym k)
       (subst (λ (l : List ℕ). Stage p fuel left is_over next ws known reader_old reader writer_old writer l) (sym g) x)))
+
+-- what is known at first
+pub first_is : (f : frame_code.Frame) (m : memory_code.Memory) (ds : List Datum) (locals : List Local) → f.temps.items ≡ [] → f.base ≡ 0 → m.blocks.items ≡ []
+    → m.entered ≡ 0 → map activation_of m.owns.items ≡ record { number = 0; objects = map blank_object locals } ∷ [] → m.called ≡ 1
+    → map cells_of m.globals.items ≡ map first_object ds → known_of f m ≡ first_known ds locals
+first_is f m ds locals temps base blocks entered owns called globals =
+    ap (λ ts. record (known_of f m) { temps = ts }) temps
+    ∙ ap (λ b. record (known_of f m) { temps = []; base = b }) base
+    ∙ ap (λ bs. record (known_of f m) { temps = []; base = 0; blocks = map activation_of bs }) blocks
+    ∙ ap (λ n. record (known_of f m) { temps = []; base = 0; blocks = []; entered = n }) entered
+    ∙ ap (λ os. record (known_of f m) { temps = []; base = 0; blocks = []; entered = 0; owns = os }) owns
+    ∙ ap (λ n. record (first_known ds locals) { called = n; globals = map cells_of m.globals.items }) called
+    ∙ ap (λ gs. record (first_known ds locals) { globals = gs }) globals

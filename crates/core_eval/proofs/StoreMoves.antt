@@ -19,7 +19,6 @@ use Rattle.core_eval.specs.declared.value.Slot.{Slot}
 use Rattle.core_eval.specs.Values.{region_of, spot_of, content_of, temp_of, part_in, cell_in, slot_at, Shows, is_fit, fitted, with_value, put_in}
 use Rattle.core_eval.specs.Blocks.{
   Activation,
-  Descends,
   Stored,
   own_position,
   position_of,
@@ -40,7 +39,7 @@ use Rattle.core_eval.specs.Costs.{IsMove}
 use Rattle.core_eval.proofs.Memories.{first_part, found, reached_at, part_there, IsPut, put_is, unput_is, parts_put}
 use Rattle.core_eval.proofs.Nested.{position_is}
 use Rattle.core_eval.proofs.Changes.{stored_in, with_stored, Replaces, replaced_shows, replaced_agrees, part_elsewhere}
-use Rattle.core_eval.proofs.MemoryMoves.{descends, own_number, own_is, placed}
+use Rattle.core_eval.proofs.MemoryMoves.{AreInOrder, ordered, own_number, own_is, placed}
 use Rattle.core_eval.proofs.Moves.{all_stand, goes_here, goes_wrong}
 
 -- ---- a store to one cell
@@ -156,22 +155,48 @@ module _ (known : Known) (i k byte : ℕ) (w : Width) (v : Value) where
         );
       }
 
+  values_stored : (n : ℕ) (after : Stored) (p : Option ℕ) (o : Option (List Activation)) → position_of known.owns n ≡ p
+      → put_through known.owns p i k byte w v ≡ o
+      → option_map (λ owns. record (stored_in known) { owns = owns }) o ≡ Some after → IsStored known (area.Own n) i k byte w v after
+  values_stored n after None o at put e = cc
+  values_stored n after (Some p) None at put e = cc
+  values_stored n after (Some p) (Some owns) at put e =
+      let is = block_put_is known.owns i k byte w v p owns put in record {
+        objects = is.block.objects;
+        objects' = is.objects';
+        put = is.put;
+        replaces = (
+          p,
+          is.block,
+          at,
+          is.there,
+          refl,
+          (let same : record (stored_in known) { owns = owns } ≡ after = cc in
+              sym same ∙ ap (λ bs. record (stored_in known) { owns = bs }) is.after),
+        );
+      }
+
   pub put_stored : (a : Area) (after : Stored) → put_to (stored_in known) a i k byte w v ≡ Some after → IsStored known a i k byte w v after
   put_stored area.Globals after e = global_stored after (put_in known.globals i k byte w v) refl e
   put_stored (area.Block n) after e =
       block_stored n after (position_of known.blocks n) (put_through known.blocks (position_of known.blocks n) i k byte w v) refl refl e
+  put_stored (area.Own n) after e =
+      values_stored n after (position_of known.owns n) (put_through known.owns (position_of known.owns n) i k byte w v) refl refl e
 
   none_mapped : {A B : Type 0} (f : A → B) (o : Option A) → option_map f o ≡ None → o ≡ None
   none_mapped f None e = refl
   none_mapped f (Some x) e = cc
 
   pub unput_stored : (a : Area) (next : Part → Step) → put_to (stored_in known) a i k byte w v ≡ None
-      → found byte w next (slot_in known.blocks known.globals a i k) ≡ stuck
+      → found byte w next (slot_in (stored_in known) a i k) ≡ stuck
   unput_stored area.Globals next e =
       unput_is known.globals i k byte w v next (none_mapped (λ globals. record (stored_in known) { globals = globals }) (put_in known.globals i k byte w v) e)
   unput_stored (area.Block n) next e =
       unput_found known.blocks i k byte w v (position_of known.blocks n) next
       (none_mapped (λ blocks. record (stored_in known) { blocks = blocks }) (put_through known.blocks (position_of known.blocks n) i k byte w v) e)
+  unput_stored (area.Own n) next e =
+      unput_found known.owns i k byte w v (position_of known.owns n) next
+      (none_mapped (λ owns. record (stored_in known) { owns = owns }) (put_through known.owns (position_of known.owns n) i k byte w v) e)
 
 -- ---- moves
 
@@ -216,7 +241,7 @@ module _ (known : Known) (ws : List Wait) (x : ℕ) (v : Value) (read : content_
       let is = block_put_is known.blocks i 0 0 w v p blocks e in
       record {
         still = all_stand _ ws known _ ws (record known { blocks = blocks }) (λ main marks c h.
-            let at = position_is known.entered known.blocks p is.block (descends known ws marks c h) is.there in
+            let at = position_is known.entered known.blocks p is.block (ordered known ws marks c h).0 is.there in
             let s = own_stored p i w blocks is.block is.there at e in
             goes_here main marks (after_put c (Frame is.block.number) i 0 (with_value s.put.old (fitted w v))) _ _ ws (record known { blocks = blocks })
             (stored_agrees (area.Block is.block.number) i 0 0 w (record (stored_in known) { blocks = blocks }) s marks c h)
@@ -256,11 +281,11 @@ module _ (known : Known) (ws : List Wait) (x : ℕ) (v : Value) (read : content_
         next (with_memory (with_part c.memory at 0 (record q { content = fitting (bytes_of d.width) (c.temps x) })) c)))
 
     pub store_moves : (after : Stored)
-        → (Descends known.entered known.blocks → put_to (stored_in known) p.area p.object (p.cell + d.cells) (p.byte + d.bytes) d.width v ≡ Some after)
+        → (AreInOrder known → put_to (stored_in known) p.area p.object (p.cell + d.cells) (p.byte + d.bytes) d.width v ≡ Some after)
         → IsMove (Execute (core.Do (core.Store y (distance_tree d) x))) ws known (Go (Leave steps.Falls)) ws (with_stored known after)
     store_moves after e = record {
       still = all_stand _ ws known _ ws (with_stored known after) (λ main marks c h.
-          let is = put_stored known p.object (p.cell + d.cells) (p.byte + d.bytes) d.width v p.area after (e (descends known ws marks c h)) in
+          let is = put_stored known p.object (p.cell + d.cells) (p.byte + d.bytes) d.width v p.area after (e (ordered known ws marks c h)) in
           goes_here main marks (after_put c (region_of p.area) p.object (p.cell + d.cells) (with_value is.put.old (fitted d.width v))) _ _ ws
           (with_stored known after)
           (stored_agrees p.area p.object (p.cell + d.cells) (p.byte + d.bytes) d.width after is marks c h)
@@ -269,7 +294,7 @@ module _ (known : Known) (ws : List Wait) (x : ℕ) (v : Value) (read : content_
       fewer = omega arith;
     }
 
-    pub store_wrong : (Descends known.entered known.blocks → put_to (stored_in known) p.area p.object (p.cell + d.cells) (p.byte + d.bytes) d.width v ≡ None)
+    pub store_wrong : (AreInOrder known → put_to (stored_in known) p.area p.object (p.cell + d.cells) (p.byte + d.bytes) d.width v ≡ None)
         → IsMove (Execute (core.Do (core.Store y (distance_tree d) x))) ws known Wrong ws known
     store_wrong e =
         goes_wrong (core.Store y (distance_tree d) x) ws known (λ marks c h next.
@@ -279,4 +304,4 @@ module _ (known : Known) (ws : List Wait) (x : ℕ) (v : Value) (read : content_
         ∙ unput_stored known p.object (p.cell + d.cells) (p.byte + d.bytes) d.width v p.area
         (λ q. next (with_memory (with_part c.memory (spot_of (region_of p.area) p.object (p.cell + d.cells)) 0
         (record q { content = fitting (bytes_of d.width) (c.temps x) })) c))
-        (e (descends known ws marks c h)))
+        (e (ordered known ws marks c h)))

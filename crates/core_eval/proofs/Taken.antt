@@ -9,7 +9,7 @@ use Rattle.core_eval.specs.declared.pending.Due.{Due}
 use Rattle.core_eval.specs.Values.{content_of, cells_of}
 use Rattle.core_eval.specs.Blocks.{activation_of}
 use Rattle.core_eval.specs.Pendings.{Task, Leave, Wait, Block, Caller, Next, Go, next_of, saved_of}
-use Rattle.core_eval.specs.Standing.{Known, Gives, known_of}
+use Rattle.core_eval.specs.Standing.{Known, Gives, LeavesCall, known_of}
 use Rattle.core_eval.specs.Costs.{IsMove}
 use Rattle.core_eval.proofs.BlockMoves.{outside_of, block_leaves}
 use Rattle.core_eval.proofs.LeaveMoves.{one_returned}
@@ -28,37 +28,75 @@ left_ok r exit ws ws' known rest known' same h =
 
 -- for this number of a function, and with what waits and is stored here
 pub for_caller : {E : Type 0} (r : Result Due E) (exit : Exit) (results : List ℕ) (f : ℕ) (saved : Frame) (known : Memory → Known) (rest : List Wait)
-    (known' : Memory → Known) (m : Memory)
-    → IfOk r (λ due. (f : ℕ) (ws : List Wait) (memory : Memory) → IsMove (Leave exit) (Caller results f (saved_of saved) ∷ ws) (known memory)
-    (next_of due) ws (known' memory))
-    → IfOk r (λ due. IsMove (Leave exit) (Caller results f (saved_of saved) ∷ rest) (known m) (next_of due) rest (known' m))
-for_caller (Ok due) exit results f saved known rest known' m h = h f rest m
-for_caller (Err e) exit results f saved known rest known' m h = tt
+    (known' : Memory → Known) (m m' : Memory) → LeavesCall m m'
+    → IfOk r (λ due. (f : ℕ) (ws : List Wait) (memory after : Memory) → LeavesCall memory after
+    → IsMove (Leave exit) (Caller results f (saved_of saved) ∷ ws) (known memory)
+    (next_of due) ws (known' after))
+    → IfOk r (λ due. IsMove (Leave exit) (Caller results f (saved_of saved) ∷ rest) (known m) (next_of due) rest (known' m'))
+for_caller (Ok due) exit results f saved known rest known' m m' left h = h f rest m m' left
+for_caller (Err e) exit results f saved known rest known' m m' left h = tt
+
+-- what is known where the innermost function is left
+pub left_known : (f g : Frame) (m m' : Memory) → LeavesCall m m'
+    → known_of g m' ≡ record (known_of f m) { temps = g.temps.items; base = g.base; owns = drop 1 (map activation_of m.owns.items) }
+left_known f g m m' h =
+    ap (λ bs. record (known_of g m') { blocks = map activation_of bs.items }) h.blocks
+    ∙ ap (λ n. record (known_of g m') { blocks = map activation_of m.blocks.items; entered = n }) h.entered
+    ∙ ap (λ os. record (known_of g m') { blocks = map activation_of m.blocks.items; entered = m.entered; owns = os }) h.owns
+    ∙ ap (λ n. record (known_of f m) {
+      temps = g.temps.items;
+      base = g.base;
+      owns = drop 1 (map activation_of m.owns.items);
+      called = n;
+      globals = map cells_of m'.globals.items;
+    }) h.called
+    ∙ ap (λ gs. record (known_of f m) {
+      temps = g.temps.items;
+      base = g.base;
+      owns = drop 1 (map activation_of m.owns.items);
+      globals = map cells_of gs.items;
+    }) h.globals
+
+-- how it is left, and what waited, said in another way, with what is known then
+pub left_to : (exit exit' : Exit) (ws ws' : List Wait) (known : Known) (next : Next) (rest : List Wait) (known' known2 : Known) → exit' ≡ exit → ws' ≡ ws
+    → known2 ≡ known' → IsMove (Leave exit) ws known next rest known' → IsMove (Leave exit') ws' known next rest known2
+left_to exit exit' ws ws' known next rest known' known2 is same knows h =
+    left_as exit exit' ws ws' known next rest known2 is same (subst (λ (k : Known). IsMove (Leave exit) ws known next rest k) (sym knows) h)
 
 -- a block's locals end
 pub block_left : (exit : Exit) (ws : List Wait) (f : Frame) (m m' : Memory) → map activation_of m'.blocks.items ≡ drop 1 (map activation_of m.blocks.items)
-    → m'.entered ≡ m.entered → m'.globals ≡ m.globals
+    → m'.entered ≡ m.entered → m'.owns ≡ m.owns → m'.called ≡ m.called → m'.globals ≡ m.globals
     → IsMove (Leave exit) (Block ∷ ws) (known_of f m) (Go (Leave exit)) ws (known_of f m')
-block_left exit ws f m m' blocks entered globals =
+block_left exit ws f m m' blocks entered owns called globals =
     subst (λ (k : Known). IsMove (Leave exit) (Block ∷ ws) (known_of f m) (Go (Leave exit)) ws k)
-    (sym (ap (λ bs. record { temps = f.temps.items; base = f.base; blocks = bs; entered = m'.entered; globals = map cells_of m'.globals.items }) blocks
-    ∙ ap (λ n. record (outside_of (known_of f m)) { entered = n; globals = map cells_of m'.globals.items }) entered
+    (sym (ap (λ bs. record (known_of f m') { blocks = bs }) blocks
+    ∙ ap (λ n. record (outside_of (known_of f m)) {
+      entered = n;
+      owns = map activation_of m'.owns.items;
+      called = m'.called;
+      globals = map cells_of m'.globals.items;
+    }) entered
+    ∙ ap (λ os. record (outside_of (known_of f m)) {
+      owns = map activation_of os.items;
+      called = m'.called;
+      globals = map cells_of m'.globals.items;
+    }) owns
+    ∙ ap (λ n. record (outside_of (known_of f m)) { called = n; globals = map cells_of m'.globals.items }) called
     ∙ ap (λ gs. record (outside_of (known_of f m)) { globals = map cells_of gs.items }) globals))
     (block_leaves exit ws (known_of f m))
 
 -- a temporary of the caller gets the result
-pub result_taken : (exit : Exit) (results : List ℕ) (n t : ℕ) (v : Value) (saved f f' : Frame) (ws : List Wait) (m : Memory) → exit
+pub result_taken : (exit : Exit) (results : List ℕ) (n t : ℕ) (v : Value) (saved f f' : Frame) (ws : List Wait) (m m' : Memory) → LeavesCall m m' → exit
     ≡ steps.Returns (content_of v ∷ [])
     → results ≡ t ∷ [] → Gives t (content_of v) saved.temps.items f'.temps.items → f'.base ≡ saved.base
-    → IsMove (Leave exit) (Caller results n (saved_of saved) ∷ ws) (known_of f m) (Go (Leave steps.Falls)) ws (known_of f' m)
-result_taken exit results n t v saved f f' ws m is to gives base =
-    left_as (steps.Returns (content_of v ∷ [])) exit (Caller (t ∷ []) n (saved_of saved) ∷ ws) (Caller results n (saved_of saved) ∷ ws)
-    (known_of f m) _ ws _ is
+    → IsMove (Leave exit) (Caller results n (saved_of saved) ∷ ws) (known_of f m) (Go (Leave steps.Falls)) ws (known_of f' m')
+result_taken exit results n t v saved f f' ws m m' left is to gives base =
+    left_to (steps.Returns (content_of v ∷ [])) exit (Caller (t ∷ []) n (saved_of saved) ∷ ws) (Caller results n (saved_of saved) ∷ ws)
+    (known_of f m) _ ws _ (known_of f' m') is
     (ap (λ r. Caller r n (saved_of saved) ∷ ws) to)
-    (subst (λ (k : Known). IsMove (Leave (steps.Returns (content_of v ∷ []))) (Caller (t ∷ []) n (saved_of saved) ∷ ws) (known_of f m)
-    (Go (Leave steps.Falls)) ws k)
-    (ap (λ b. record (known_of f m) { temps = f'.temps.items; base = b }) (sym base))
-    (one_returned (known_of f m) ws n t (content_of v) (saved_of saved) f'.temps.items gives))
+    (left_known f f' m m' left
+    ∙ ap (λ b. record (known_of f m) { temps = f'.temps.items; base = b; owns = drop 1 (map activation_of m.owns.items) }) base)
+    (one_returned (known_of f m) ws n t (content_of v) (saved_of saved) f'.temps.items gives)
 
 -- nothing waits
 pub main_left : (exit : Exit) (ws rest : List Wait) (known : Known) (next : Next) → ws ≡ [] → rest ≡ [] → IsMove (Leave exit) [] known next [] known

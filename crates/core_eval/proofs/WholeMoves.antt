@@ -58,7 +58,7 @@ use Rattle.core_eval.specs.declared.value.Value.TheVariants as value
 use Rattle.core_eval.specs.declared.value.Slot.{Slot}
 use Rattle.core_eval.specs.Values as values
 use Rattle.core_eval.specs.Values.{region_of, spot_of, place_spot, content_of, temp_of, part_in, slot_at}
-use Rattle.core_eval.specs.Blocks.{Activation, Descends, Stored, position_of, slot_in}
+use Rattle.core_eval.specs.Blocks.{Activation, Stored, position_of, slot_in}
 use Rattle.core_eval.specs.Whole.{
   is_cell,
   are_cells,
@@ -79,7 +79,7 @@ use Rattle.core_eval.specs.Standing.{Known, Agrees, first_held}
 use Rattle.core_eval.specs.Costs.{IsMove}
 use Rattle.core_eval.proofs.Nested.{position_there}
 use Rattle.core_eval.proofs.Changes.{stored_in, with_stored, Replaces, replaced_shows, replaced_agrees}
-use Rattle.core_eval.proofs.MemoryMoves.{descends, same_regions}
+use Rattle.core_eval.proofs.MemoryMoves.{AreInOrder, ordered, same_regions}
 use Rattle.core_eval.proofs.Laid.{live_is, held_part, laid_is}
 use Rattle.core_eval.proofs.Filled.{filled_slot, object_changed}
 use Rattle.core_eval.proofs.WholeParts.{
@@ -109,7 +109,15 @@ module _ (known : Known) (i k : ℕ) (vs : List Value) where
       let none : option_map (λ (b : Activation). b.number) None ≡ Some n = ap (option_map (λ b. b.number)) (sym e) ∙ number in cc)
   block_filled n p (Some b) at e = (b.objects, (p, b, at, e, refl, refl))
 
-  pub replaced : (a : Area) → is_held known.blocks a ≡ true
+  values_filled : (n p : ℕ) (o : Option Activation) → position_of known.owns n ≡ Some p → slice_get known.owns p ≡ o
+      → (objects : List (List Slot))
+      × Replaces known (area.Own n) objects (fill_in objects i k vs) (record (stored_in known) { owns = fill_among known.owns p i k vs o })
+  values_filled n p None at e =
+      absurd (let number = position_there known.owns n p at in
+      let none : option_map (λ (b : Activation). b.number) None ≡ Some n = ap (option_map (λ b. b.number)) (sym e) ∙ number in cc)
+  values_filled n p (Some b) at e = (b.objects, (p, b, at, e, refl, refl))
+
+  pub replaced : (a : Area) → is_held (stored_in known) a ≡ true
       → (objects : List (List Slot)) × Replaces known a objects (fill_in objects i k vs) (fill_to (stored_in known) a i k vs)
   replaced area.Globals held = (known.globals, (refl, refl))
   replaced (area.Block n) held = by (position_of known.blocks n) refl held
@@ -119,10 +127,17 @@ module _ (known : Known) (i k : ℕ) (vs : List Value) where
           × Replaces known (area.Block n) objects (fill_in objects i k vs) (record (stored_in known) { blocks = fill_through known.blocks o i k vs })
       by None e held = absurd (cc)
       by (Some p) e held = block_filled n p (slice_get known.blocks p) e refl
+  replaced (area.Own n) held = by (position_of known.owns n) refl held
+    where
+      by : (o : Option ℕ) → position_of known.owns n ≡ o → is_found o ≡ true
+          → (objects : List (List Slot))
+          × Replaces known (area.Own n) objects (fill_in objects i k vs) (record (stored_in known) { owns = fill_through known.owns o i k vs })
+      by None e held = absurd (cc)
+      by (Some p) e held = values_filled n p (slice_get known.owns p) e refl
 
 -- after a change of the parts of as many cells as there are values, which gives each its value, all is known as it is stored
 module _ (known : Known) (ws : List Wait) (marks : List Mark) (c : Config) (h : Agrees known ws marks c) (p : Place) (vs : List Value)
-    (held : is_held known.blocks p.area ≡ true)
+    (held : is_held (stored_in known) p.area ≡ true)
     (change : Option ℕ → ℕ → Option Part → Option Part) (n : ℕ) (long : length vs ≡ n)
     (none : (j : ℕ) (o : Option Part) → change None j o ≡ o)
     (some : (q j : ℕ) (o : Option Slot) (v : Value) → slice_get vs q ≡ Some v → change (Some q) j (part_in o j) ≡ part_in (filled_slot (Some v) o) j) where
@@ -239,28 +254,28 @@ module _ (known : Known) (ws : List Wait) (x : ℕ) (u : Value) (read : content_
             ∙ cell_copied o d (slots_of (stored_in known) q (q.cell + n)) q.byte j (cell_there (slots_of (stored_in known) q) q.byte cs q.cell n d cells at)
             ∙ ap (λ z. part_in (filled_slot (Some z) o) j) (sym same)
 
-    pub copy_moves : (after : Stored) → (Descends known.entered known.blocks → can_copy ≡ true)
-        → (Descends known.entered known.blocks → after ≡ fill_to (stored_in known) p.area p.object p.cell copied_values)
+    pub copy_moves : (after : Stored) → (AreInOrder known → can_copy ≡ true)
+        → (AreInOrder known → after ≡ fill_to (stored_in known) p.area p.object p.cell copied_values)
         → IsMove (Execute (core.Do (core.Copy x y tree))) ws known (Go (Leave steps.Falls)) ws (with_stored known after)
     copy_moves after can gives = record {
       still = all_stand _ ws known _ ws (with_stored known after) (λ main marks c h.
-          let ok = can (descends known ws marks c h) in
+          let ok = can (ordered known ws marks c h) in
           let (laid, others) = and_both _ _ ok in
           let (laid_from, apart) = and_both _ _ others in
           goes_here main marks (with_memory (copied tree (place_spot p) (place_spot q) c.memory) c) _ _ ws (with_stored known after)
           (subst
           (λ (s : Stored). Agrees (with_stored known s) ws marks (with_memory (copied tree (place_spot p) (place_spot q) c.memory) c))
-          (sym (gives (descends known ws marks c h))) (copied_agrees marks c h laid laid_from))
+          (sym (gives (ordered known ws marks c h))) (copied_agrees marks c h laid laid_from))
           (copies_is marks c h (rest_of main ws marks steps.Falls)
           ∙ ap (λ b. checked b (rest_of main ws marks steps.Falls (with_memory (copied tree (place_spot p) (place_spot q) c.memory) c))) ok));
       fewer = omega arith;
     }
 
-    pub copy_wrong : (Descends known.entered known.blocks → can_copy ≡ false) → IsMove (Execute (core.Do (core.Copy x y tree))) ws known Wrong ws known
+    pub copy_wrong : (AreInOrder known → can_copy ≡ false) → IsMove (Execute (core.Do (core.Copy x y tree))) ws known Wrong ws known
     copy_wrong cannot =
         goes_wrong (core.Copy x y tree) ws known (λ marks c h next.
         copies_is marks c h next
-        ∙ ap (λ b. checked b (next (with_memory (copied tree (place_spot p) (place_spot q) c.memory) c))) (cannot (descends known ws marks c h)))
+        ∙ ap (λ b. checked b (next (with_memory (copied tree (place_spot p) (place_spot q) c.memory) c))) (cannot (ordered known ws marks c h)))
 
   -- ---- a clearing
 
@@ -302,23 +317,23 @@ module _ (known : Known) (ws : List Wait) (x : ℕ) (u : Value) (read : content_
           ∙ ap (λ (z : Option (List PartShape)). cleared_by (part_in o j) (shape_in z j)) (cell_at cs n d at)
           ∙ cell_cleared o d j ∙ ap (λ z. part_in (filled_slot (Some z) o) j) (sym same)
 
-  pub clear_moves : (after : Stored) → (Descends known.entered known.blocks → are_laid (stored_in known) p cs ≡ true)
-      → (Descends known.entered known.blocks → after ≡ fill_to (stored_in known) p.area p.object p.cell (map first_held cs))
+  pub clear_moves : (after : Stored) → (AreInOrder known → are_laid (stored_in known) p cs ≡ true)
+      → (AreInOrder known → after ≡ fill_to (stored_in known) p.area p.object p.cell (map first_held cs))
       → IsMove (Execute (core.Do (core.Clear x tree 1))) ws known (Go (Leave steps.Falls)) ws (with_stored known after)
   clear_moves after laid gives = record {
     still = all_stand _ ws known _ ws (with_stored known after) (λ main marks c h.
         goes_here main marks (with_memory (cleared tree 1 (place_spot p) c.memory) c) _ _ ws (with_stored known after)
         (subst (λ (s : Stored). Agrees (with_stored known s) ws marks (with_memory (cleared tree 1 (place_spot p) c.memory) c))
-        (sym (gives (descends known ws marks c h))) (cleared_agrees marks c h (laid (descends known ws marks c h))))
+        (sym (gives (ordered known ws marks c h))) (cleared_agrees marks c h (laid (ordered known ws marks c h))))
         (clears_is marks c h (rest_of main ws marks steps.Falls)
         ∙ ap (λ b. checked b (rest_of main ws marks steps.Falls (with_memory (cleared tree 1 (place_spot p) c.memory) c)))
-        (laid (descends known ws marks c h))));
+        (laid (ordered known ws marks c h))));
     fewer = omega arith;
   }
 
-  pub clear_wrong : (Descends known.entered known.blocks → are_laid (stored_in known) p cs ≡ false)
+  pub clear_wrong : (AreInOrder known → are_laid (stored_in known) p cs ≡ false)
       → IsMove (Execute (core.Do (core.Clear x tree 1))) ws known Wrong ws known
   clear_wrong unlaid =
       goes_wrong (core.Clear x tree 1) ws known (λ marks c h next.
       clears_is marks c h next
-      ∙ ap (λ b. checked b (next (with_memory (cleared tree 1 (place_spot p) c.memory) c))) (unlaid (descends known ws marks c h)))
+      ∙ ap (λ b. checked b (next (with_memory (cleared tree 1 (place_spot p) c.memory) c))) (unlaid (ordered known ws marks c h)))

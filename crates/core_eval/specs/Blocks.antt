@@ -29,11 +29,12 @@ use Rattle.core_eval.specs.declared.value.Place.{Place}
 use Rattle.core_eval.specs.declared.value.Value.{Value}
 use Rattle.core_eval.specs.declared.value.Value.TheVariants as value
 use Rattle.core_eval.specs.declared.value.Slot.{Slot}
-use Rattle.core_eval.specs.declared.memory.Block.{Block}
+use Rattle.core_eval.specs.declared.blocks.Block.{Block}
 use Rattle.core_eval.specs.declared.memory.Memory.{Memory}
 use Rattle.core_eval.specs.Values.{cells_of, slot_at, null_of, put_in, same_cell}
 
--- the locals of a block that isn't left yet, and how many blocks were entered before it
+-- the locals of a block that isn't left yet, and how many blocks were entered before it; or a function's unnamed values, and how many functions were called
+-- before it
 pub record Activation : Type 0 where
   pub number : ℕ
   pub objects : List (List Slot)
@@ -72,10 +73,28 @@ slot_through blocks (Some position) i k = slot_among (slice_get blocks position)
 abbrev pub local_slot : ℕ → List Activation → (out index : ℕ) → Option Slot
 local_slot base blocks out index = slot_through blocks (own_position base blocks out) index 0
 
+-- what is stored: the locals of all blocks, the unnamed values of all functions that are active, and the globals
+pub record Stored : Type 0 where
+  pub blocks : List Activation
+  pub owns : List Activation
+  pub globals : List (List Slot)
+
+abbrev pub stored_of : Memory → Stored
+stored_of m = record {
+  blocks = map activation_of m.blocks.items;
+  owns = map activation_of m.owns.items;
+  globals = map cells_of m.globals.items;
+}
+
+-- the numbers of blocks and of functions fall
+abbrev pub AreOrdered : Memory → Type 0
+AreOrdered m = Descends m.entered (map activation_of m.blocks.items) × Descends m.called (map activation_of m.owns.items)
+
 -- the cell k of an object of an area
-abbrev pub slot_in : List Activation → List (List Slot) → Area → (i k : ℕ) → Option Slot
-slot_in blocks globals area.Globals i k = slot_at globals i k
-slot_in blocks globals (area.Block n) i k = slot_through blocks (position_of blocks n) i k
+abbrev pub slot_in : Stored → Area → (i k : ℕ) → Option Slot
+slot_in stored area.Globals i k = slot_at stored.globals i k
+slot_in stored (area.Block n) i k = slot_through stored.blocks (position_of stored.blocks n) i k
+slot_in stored (area.Own n) i k = slot_through stored.owns (position_of stored.owns n) i k
 
 -- ---- pointers
 
@@ -95,28 +114,32 @@ local_address base blocks out index = option_map (λ k. value.Pointer (local_pla
 abbrev pub global_place : ℕ → Place
 global_place index = record { area = area.Globals; object = index; byte = 0; cell = 0 }
 
+-- a pointer to an unnamed value of the innermost function
+abbrev pub own_address : List Activation → ℕ → Option Value
+own_address owns index = option_map (λ b. value.Pointer (record { area = area.Own b.number; object = index; byte = 0; cell = 0 })) (slice_get owns 0)
+
 -- whether there is a cell, and it lies so many bytes on
 abbrev pub is_there : ℕ → Option Slot → Bool
 is_there byte None = false
 is_there byte (Some s) = nat_eq s.offset byte
 
 -- whether two places are one, where each leads to what is there
-abbrev pub same_places : List Activation → List (List Slot) → Place → Place → Option Bool
-same_places blocks globals p q =
-    (if is_there p.byte (slot_in blocks globals p.area p.object p.cell) && is_there q.byte (slot_in blocks globals q.area q.object q.cell)
+abbrev pub same_places : Stored → Place → Place → Option Bool
+same_places stored p q =
+    (if is_there p.byte (slot_in stored p.area p.object p.cell) && is_there q.byte (slot_in stored q.area q.object q.cell)
     then Some (same_cell p q) else None)
 
 -- a pointer that isn't NULL, and another value
-abbrev pub same_with : List Activation → List (List Slot) → Place → Value → Option Bool
-same_with blocks globals p value.Null = Some false
-same_with blocks globals p (value.Pointer q) = same_places blocks globals p q
-same_with blocks globals p _ = None
+abbrev pub same_with : Stored → Place → Value → Option Bool
+same_with stored p value.Null = Some false
+same_with stored p (value.Pointer q) = same_places stored p q
+same_with stored p _ = None
 
 -- whether two values are one pointer, where each is NULL or leads to what is there
-abbrev pub same_values : List Activation → List (List Slot) → Value → Value → Option Bool
-same_values blocks globals value.Null v = null_of v
-same_values blocks globals (value.Pointer p) v = same_with blocks globals p v
-same_values blocks globals _ v = None
+abbrev pub same_values : Stored → Value → Value → Option Bool
+same_values stored value.Null v = null_of v
+same_values stored (value.Pointer p) v = same_with stored p v
+same_values stored _ v = None
 
 -- ---- stores
 
@@ -137,16 +160,10 @@ put_through blocks (Some position) i k byte w v = put_among blocks position i k 
 abbrev pub put_local : ℕ → List Activation → (out index : ℕ) → Width → Value → Option (List Activation)
 put_local base blocks out index w v = put_through blocks (own_position base blocks out) index 0 0 w v
 
--- what is stored: the locals of all blocks, and the globals
-pub record Stored : Type 0 where
-  pub blocks : List Activation
-  pub globals : List (List Slot)
-
-abbrev pub stored_of : Memory → Stored
-stored_of m = record { blocks = map activation_of m.blocks.items; globals = map cells_of m.globals.items }
-
 -- what is stored after a store to a cell of an object of an area, where there is one, and it lies there and is so wide
 abbrev pub put_to : Stored → Area → (i k byte : ℕ) → Width → Value → Option Stored
 put_to stored area.Globals i k byte w v = option_map (λ globals. record stored { globals = globals }) (put_in stored.globals i k byte w v)
 put_to stored (area.Block n) i k byte w v =
     option_map (λ blocks. record stored { blocks = blocks }) (put_through stored.blocks (position_of stored.blocks n) i k byte w v)
+put_to stored (area.Own n) i k byte w v =
+    option_map (λ owns. record stored { owns = owns }) (put_through stored.owns (position_of stored.owns n) i k byte w v)

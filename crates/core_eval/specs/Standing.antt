@@ -1,5 +1,5 @@
 -- When an evaluator's state stands for a step of Core.
-use Rattle.std.specs.Prelude.{◌≡◌, ℕ, ◌<◌, ◌≤◌, false, None, List, [], ◌∷◌, length, map}
+use Rattle.std.specs.Prelude.{◌≡◌, ℕ, ◌<◌, ◌≤◌, false, None, List, [], ◌∷◌, length, map, drop}
 use Rattle.step_trees.specs.Trees.{Says}
 use Rattle.core_meaning.specs.Memory as memory
 use Rattle.core_meaning.specs.Memory.{Born, Memory, Content, is_live}
@@ -11,13 +11,14 @@ use Rattle.cyc_core.specs.declared.program.Datum.TheVariants as datum
 use Rattle.cyc_core.specs.declared.operation.Cell.{Cell}
 use Rattle.cyc_core.specs.declared.operation.Cell.TheVariants as cell
 use Rattle.cyc_core.specs.declared.layout.CellLayout.{CellLayout}
+use Rattle.cyc_core.specs.declared.layout.Local.{Local}
 use Rattle.cyc_core.specs.Trees.{cell_width}
 use Rattle.core_eval.specs.declared.value.Value.{Value}
 use Rattle.core_eval.specs.declared.value.Value.TheVariants as value
 use Rattle.core_eval.specs.declared.value.Slot.{Slot}
 use Rattle.core_eval.specs.declared.frame.Frame.{Frame}
 use Rattle.core_eval.specs.declared.memory.Memory as code
-use Rattle.core_eval.specs.Values.{spot_of, temp_of, cells_of, Shows, with_value, blank_slot}
+use Rattle.core_eval.specs.Values.{spot_of, temp_of, cells_of, blank_object, Shows, with_value, blank_slot}
 use Rattle.core_eval.specs.Blocks.{Activation, activation_of, position_of}
 use Rattle.core_eval.specs.Pendings.{Wait, Block, Caller, Next, Mark, rest_of, returned_to, coming}
 
@@ -25,8 +26,10 @@ use Rattle.core_eval.specs.Pendings.{Wait, Block, Caller, Next, Mark, rest_of, r
 abbrev pub Holds : (ℕ → Content) → List Value → Type 0
 Holds temps values = (k : ℕ) → temps k ≡ temp_of values k
 
--- blocks that were not entered as yet have no objects
+-- blocks that were not entered, and functions that were not called as yet, have no objects
 pub record IsFresh (m : Memory) : Type 0 where
+  pub no_values : (k : ℕ) → m.calls ≤ k → m.objects (memory.Own k) ≡ 0
+  pub no_value : (k i cell j : ℕ) → m.calls ≤ k → m.parts (spot_of (memory.Own k) i cell) j ≡ None
   pub empty : (k : ℕ) → m.activations ≤ k → m.objects (memory.Frame k) ≡ 0
   pub missing : (k i cell j : ℕ) → m.activations ≤ k → m.parts (spot_of (memory.Frame k) i cell) j ≡ None
 
@@ -44,18 +47,37 @@ AreNested m bound numbers base blocks (Caller results f saved ∷ ws) (mark ∷ 
     (numbers ≡ []) × (base ≡ length blocks) × Holds mark.outside.temps saved.temps × AreNested m bound mark.outside.blocks saved.base blocks ws marks
 AreNested m bound numbers base blocks (w ∷ ws) marks = AreNested m bound numbers base blocks ws marks
 
+-- Each function that is active shows its unnamed values, and has a number below that of the one that it called; `main` has the number 0.
+abbrev pub AreOwned : Memory → ℕ → ℕ → List Activation → List Wait → List Mark → Type 0
+AreOwned m bound own owns [] marks =
+    (o : Activation) × (owns ≡ o ∷ []) × (own ≡ 0) × (own ≡ o.number) × (own < bound) × Shows m (memory.Own own) o.objects
+AreOwned m bound own owns (Block ∷ ws) [] = ⊥
+AreOwned m bound own owns (Block ∷ ws) (mark ∷ marks) = AreOwned m bound own owns ws marks
+AreOwned m bound own owns (Caller results f saved ∷ ws) [] = ⊥
+AreOwned m bound own [] (Caller results f saved ∷ ws) (mark ∷ marks) = ⊥
+AreOwned m bound own (o ∷ owns) (Caller results f saved ∷ ws) (mark ∷ marks) =
+    (own ≡ mark.number) × (own ≡ o.number) × (own < bound) × Shows m (memory.Own own) o.objects × AreOwned m own mark.outside.own owns ws marks
+AreOwned m bound own owns (w ∷ ws) marks = AreOwned m bound own owns ws marks
+
 -- What an evaluator knows: the temporaries of the function that it is in, and how many blocks there are outside of that; the blocks of all functions that are
--- active, the innermost first; how many blocks were entered so far; and the globals.
+-- active, the innermost first; how many blocks were entered so far; the unnamed values of all functions that are active, the innermost first; how many functions were
+-- called so far; and the globals.
 pub record Known : Type 0 where
   pub temps : List Value
   pub base : ℕ
   pub blocks : List Activation
   pub entered : ℕ
+  pub owns : List Activation
+  pub called : ℕ
   pub globals : List (List Slot)
 
 -- a block that isn't among these is over, or was not entered as yet
 abbrev pub AreAllLive : Memory → List Activation → Type 0
 AreAllLive m blocks = (k : ℕ) → position_of blocks k ≡ None → is_live (m.standing (memory.Frame k)) ≡ false
+
+-- nor are those of a function that isn't among these
+abbrev pub AreAllOwned : Memory → List Activation → Type 0
+AreAllOwned m owns = (k : ℕ) → position_of owns k ≡ None → is_live (m.standing (memory.Own k)) ≡ false
 
 -- a state of Core is as the evaluator knows it
 pub record Agrees (known : Known) (ws : List Wait) (marks : List Mark) (c : Config) : Type 0 where
@@ -65,6 +87,9 @@ pub record Agrees (known : Known) (ws : List Wait) (marks : List Mark) (c : Conf
   pub nested : AreNested c.memory c.memory.activations c.blocks known.base known.blocks ws marks
   pub entered : known.entered ≡ c.memory.activations
   pub live : AreAllLive c.memory known.blocks
+  pub owned : AreOwned c.memory c.memory.calls c.own known.owns ws marks
+  pub called : known.called ≡ c.memory.calls
+  pub values_live : AreAllOwned c.memory known.owns
 
 -- calls and returns that were said, and then a step
 abbrev pub saying : List Event → Step → Step
@@ -104,8 +129,18 @@ known_of frame m = record {
   base = frame.base;
   blocks = map activation_of m.blocks.items;
   entered = m.entered;
+  owns = map activation_of m.owns.items;
+  called = m.called;
   globals = map cells_of m.globals.items;
 }
+
+-- the innermost function is left, and nothing else changes
+pub record LeavesCall (m m' : code.Memory) : Type 0 where
+  pub blocks : m'.blocks ≡ m.blocks
+  pub entered : m'.entered ≡ m.entered
+  pub owns : map activation_of m'.owns.items ≡ drop 1 (map activation_of m.owns.items)
+  pub called : m'.called ≡ m.called
+  pub globals : m'.globals ≡ m.globals
 
 -- A call whose unit is paid: each state that is known so goes on thus.
 abbrev pub IsCall : List Function → List ℕ → ℕ → List Content → List Wait → Known → Next → List Wait → Known → Type 0
@@ -138,6 +173,14 @@ first_object (datum.Word w) = scalar cell.Word (value.Word w)
 first_object datum.Null = scalar cell.Pointer value.Null
 first_object (datum.Whole l) = map first_slot l.value.cells.items
 
--- what is known at first
-abbrev pub first_known : List Datum → Known
-first_known ds = record { temps = []; base = 0; blocks = []; entered = 0; globals = map first_object ds }
+-- what is known at first, where `main` has these unnamed values
+abbrev pub first_known : List Datum → List Local → Known
+first_known ds own = record {
+  temps = [];
+  base = 0;
+  blocks = [];
+  entered = 0;
+  owns = record { number = 0; objects = map blank_object own } ∷ [];
+  called = 1;
+  globals = map first_object ds;
+}

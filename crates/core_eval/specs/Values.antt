@@ -26,7 +26,7 @@ use Rattle.std.specs.Prelude.{
   if◌then◌else◌,
 }
 use Rattle.core_meaning.specs.Memory as memory
-use Rattle.core_meaning.specs.Memory.{Region, Frame, Born, Live, Spot, Content, Pointer, Part, Memory}
+use Rattle.core_meaning.specs.Memory.{Region, Frame, Own, Born, Live, Spot, Content, Pointer, Part, Memory}
 use Rattle.core_meaning.specs.Meaning.{passed_in, values_of}
 use Rattle.cyc_core.specs.declared.operation.Cell.{Cell}
 use Rattle.cyc_core.specs.declared.operation.Width.{Width}
@@ -49,6 +49,7 @@ use Rattle.core_eval.specs.declared.value.Object.TheVariants as object
 abbrev pub region_of : Area → Region
 region_of area.Globals = Born 0
 region_of (area.Block k) = Frame k
+region_of (area.Own k) = Own k
 
 -- a cell of an object
 abbrev pub spot_of : Region → (object cell : ℕ) → Spot
@@ -57,7 +58,7 @@ spot_of r object cell = record { region = r; object = object; cell = cell }
 abbrev pub place_spot : Place → Spot
 place_spot p = spot_of (region_of p.area) p.object p.cell
 
--- a pointer leads to a cell of a global or a local
+-- a pointer leads to a cell of a global, a local or an unnamed value
 abbrev pub content_of : Value → Content
 content_of value.Blank = memory.Blank
 content_of (value.Word n) = memory.Word n
@@ -173,8 +174,13 @@ null_of _ = None
 abbrev pub same_area : Area → Area → Bool
 same_area area.Globals area.Globals = true
 same_area area.Globals (area.Block l) = false
+same_area area.Globals (area.Own l) = false
 same_area (area.Block k) area.Globals = false
 same_area (area.Block k) (area.Block l) = nat_eq k l
+same_area (area.Block k) (area.Own l) = false
+same_area (area.Own k) area.Globals = false
+same_area (area.Own k) (area.Block l) = false
+same_area (area.Own k) (area.Own l) = nat_eq k l
 
 -- whether two places are the same cell
 abbrev pub same_cell : Place → Place → Bool

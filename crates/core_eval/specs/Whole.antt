@@ -25,20 +25,21 @@ are_cells slots k byte (c ∷ cs) = is_cell (slots k) byte c && are_cells slots 
 
 -- the cells of the object that a place leads to
 abbrev pub slots_of : Stored → Place → ℕ → Option Slot
-slots_of stored p k = slot_in stored.blocks stored.globals p.area p.object k
+slots_of stored p k = slot_in stored p.area p.object k
 
 abbrev pub is_found : Option ℕ → Bool
 is_found None = false
 is_found (Some position) = true
 
 -- whether an area isn't left yet
-abbrev pub is_held : List Activation → Area → Bool
-is_held blocks area.Globals = true
-is_held blocks (area.Block n) = is_found (position_of blocks n)
+abbrev pub is_held : Stored → Area → Bool
+is_held stored area.Globals = true
+is_held stored (area.Block n) = is_found (position_of stored.blocks n)
+is_held stored (area.Own n) = is_found (position_of stored.owns n)
 
 -- whether a place leads to cells that lie as a layout's
 abbrev pub are_laid : Stored → Place → List CellLayout → Bool
-are_laid stored p cells = is_held stored.blocks p.area && are_cells (slots_of stored p) p.cell p.byte cells
+are_laid stored p cells = is_held stored p.area && are_cells (slots_of stored p) p.cell p.byte cells
 
 abbrev pub same_object : Place → Place → Bool
 same_object p q = same_area p.area q.area && nat_eq p.object q.object
@@ -86,3 +87,4 @@ fill_through blocks (Some position) i k vs = fill_among blocks position i k vs (
 abbrev pub fill_to : Stored → Area → (i k : ℕ) → List Value → Stored
 fill_to stored area.Globals i k vs = record stored { globals = fill_in stored.globals i k vs }
 fill_to stored (area.Block n) i k vs = record stored { blocks = fill_through stored.blocks (position_of stored.blocks n) i k vs }
+fill_to stored (area.Own n) i k vs = record stored { owns = fill_through stored.owns (position_of stored.owns n) i k vs }

@@ -7,12 +7,12 @@ ghost use Rattle.core_eval.specs.Values.{cells_of, content_of};
 ghost use Rattle.core_eval.specs.Pendings.{next_of, waits_of};
 ghost use Rattle.core_eval.specs.Standing.{IsCall, Stands, first_known, first_object, first_slot, known_of, scalar};
 
-use crate::enter::wait;
+use crate::enter::{blank_objects, wait};
 use crate::frame::Frame;
 use crate::memory::Memory;
 use crate::pending::{Due, Now, Pending};
 use crate::value::{Object, Slot, Value, first_value};
-use cyc_core::{Cell, CellLayout, Datum, Function, Program, Temporary};
+use cyc_core::{Cell, CellLayout, Datum, Function, Local, Program, Temporary};
 use std::alloc::{AllocError, Global};
 use std::mem;
 
@@ -85,16 +85,17 @@ fn function_at<'p>(functions: &'p [Function], number: u32) -> Option<&'p Functio
 
 /// The move of a call whose unit is paid: the callee's statements are next, and the caller waits.
 pub fn enter_call<'p>(
+    alloc: Global,
     functions: &'p [Function],
     to: Option<Temporary>,
     function: u32,
     arguments: Vec<Value>,
     stack: &mut Vec<Pending<'p>>,
     frame: &mut Frame,
-    memory: &Memory,
+    memory: &mut Memory,
 ) -> Result<Due<'p>, AllocError>
     ensures { IfOk result (λ due. IsCall (map function_tree functions.entry.now) (optional_tree to) function (map content_of arguments.items)
-        (waits_of stack.old.items) (known_of frame.old memory.now) (next_of due) (waits_of stack.new.items) (known_of frame.new memory.now)) }
+        (waits_of stack.old.items) (known_of frame.old memory.old) (next_of due) (waits_of stack.new.items) (known_of frame.new memory.new)) }
 {
     let Some(callee) = function_at(functions, function) else {
         return Ok(Due::Wrong);
@@ -102,6 +103,8 @@ pub fn enter_call<'p>(
     if callee.parameters as usize != arguments.len() {
         return Ok(Due::Wrong);
     }
+    let own = blank_objects(alloc, &callee.own)?;
+    memory.enter_call(own)?;
     let begun = Frame {
         temps: arguments,
         base: memory.blocks.len(),
@@ -111,15 +114,32 @@ pub fn enter_call<'p>(
     Ok(Due::Go(Now::Follow(&callee.body)))
 }
 
+/// How a program begins: what is due, and the unnamed values of its `main`.
+#[derive(Drop)]
+pub struct Beginning<'p> {
+    pub due: Due<'p>,
+    pub own: &'p [Local],
+}
+
 /// The beginning of a program: the statements of `main` are next.
-pub fn start<'p>(program: &'p Program) -> Due<'p>
-    ensures { Stands program.entry.now.main (start_of (program_tree program.entry.now)) (next_of result) [] (first_known program.entry.now.globals.items) }
+pub fn start<'p>(program: &'p Program) -> Beginning<'p>
+    ensures { Stands program.entry.now.main (start_of (program_tree program.entry.now)) (next_of result.due) []
+        (first_known program.entry.now.globals.items result.own.now) }
 {
     let Some(main) = function_at(&program.functions, program.main) else {
-        return Due::Wrong;
+        return Beginning {
+            due: Due::Wrong,
+            own: &[],
+        };
     };
     if main.parameters != 0 {
-        return Due::Wrong;
+        return Beginning {
+            due: Due::Wrong,
+            own: &[],
+        };
     }
-    Due::Go(Now::Follow(&main.body))
+    Beginning {
+        due: Due::Go(Now::Follow(&main.body)),
+        own: &main.own,
+    }
 }

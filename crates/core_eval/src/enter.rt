@@ -75,7 +75,7 @@ fn blank_object(alloc: Global, local: &Local) -> Result<Object, AllocError>
 }
 
 /// These locals, which hold nothing as yet.
-fn blank_objects(alloc: Global, locals: &[Local]) -> Result<Vec<Object>, AllocError>
+pub fn blank_objects(alloc: Global, locals: &[Local]) -> Result<Vec<Object>, AllocError>
     ensures { IfOk result (λ objects. map cells_of objects.items ≡ map blank_object locals.now) }
 {
     let mut objects = Vec::new(alloc);
@@ -128,6 +128,8 @@ fn enter_block<'p>(
     ensures blocks { OnOk result (map activation_of memory.new.blocks.items
         ≡ record { number = memory.old.entered; objects = map blank_object locals.now } ∷ map activation_of memory.old.blocks.items) }
     ensures entered { OnOk result (memory.new.entered ≡ memory.old.entered + 1) }
+    ensures owns { OnOk result (memory.new.owns ≡ memory.old.owns) }
+    ensures called { OnOk result (memory.new.called ≡ memory.old.called) }
     ensures globals { OnOk result (memory.new.globals ≡ memory.old.globals) }
 {
     let objects = blank_objects(alloc, locals)?;

@@ -7,6 +7,7 @@
 #![tactic(auto)]
 
 mod arithmetic;
+mod blocks;
 mod call;
 mod ending;
 mod enter;

@@ -1,12 +1,11 @@
 // What each operation does to what is known.
 
-ghost use Rattle.std.specs.Prelude.{◌≡◌, ◌+◌, ℕ, List, Some, None, false, if◌then◌else◌, map, IfOk, OnOk};
+ghost use Rattle.std.specs.Prelude.{◌≡◌, ℕ, List, IfOk, OnOk};
 ghost use Rattle.core_meaning.specs.Core as core;
 ghost use Rattle.core_meaning.specs.Steps.{Falls};
 ghost use Rattle.cyc_core.specs.Trees.{binary_tree, bytes_of, distance_tree, operation_tree};
 ghost use Rattle.core_eval.specs.declared.memory.Memory.{Memory as TheMemory};
 ghost use Rattle.core_eval.specs.Values.{content_of};
-ghost use Rattle.core_eval.specs.Blocks.{Descends, activation_of, put_to, stored_of};
 ghost use Rattle.core_eval.specs.Pendings.{Execute, Go, Leave, Wait, next_of};
 ghost use Rattle.core_eval.specs.Standing.{Gives, known_of};
 ghost use Rattle.core_eval.specs.Costs.{IsMove};
@@ -15,7 +14,7 @@ use crate::arithmetic::{apply, truth};
 use crate::frame::Frame;
 use crate::memory::Memory;
 use crate::pending::{Due, Flow, Now};
-use crate::value::{Area, Place, Value, further, is_null, put_in, value_of};
+use crate::value::{Area, Place, Value, further, is_null, value_of};
 use cyc_core::{Binary, Distance, Operation, Temporary, Variable, Width};
 use std::alloc::AllocError;
 
@@ -90,6 +89,22 @@ fn address<'p>(
         (known_of frame.new memory.now)) }
 {
     match memory.address(frame.base, of) {
+        Some(place) => give(frame, to, place),
+        None => Ok(Due::Wrong),
+    }
+}
+
+/// Gives a temporary a pointer to an unnamed value of its function.
+fn own_address<'p>(
+    frame: &mut Frame,
+    memory: &Memory,
+    to: Temporary,
+    object: u32,
+) -> Result<Due<'p>, AllocError>
+    ensures { IfOk result (λ due. (ws : List Wait) →
+        IsMove (Execute (core.Do (core.OwnAddress to.0 object))) ws (known_of frame.old memory.now) (next_of due) ws (known_of frame.new memory.now)) }
+{
+    match memory.own_address(object) {
         Some(place) => give(frame, to, place),
         None => Ok(Due::Wrong),
     }
@@ -187,27 +202,6 @@ fn load<'p>(
     }
 }
 
-/// Stores a value to the cell so many cells from a place on, if there is one that lies so many bytes on and is so wide, and answers
-/// whether there is.
-fn put_to(
-    memory: &mut Memory,
-    place: Place,
-    cell: u64,
-    byte: u64,
-    width: Width,
-    value: Value,
-) -> bool
-    ensures put { Descends memory.old.entered (map activation_of memory.old.blocks.items)
-        → put_to (stored_of memory.old) place.area place.object cell byte width value ≡ (if result then Some (stored_of memory.new) else None) }
-    ensures kept { result ≡ false → stored_of memory.new ≡ stored_of memory.old }
-    ensures entered { memory.new.entered ≡ memory.old.entered }
-{
-    match place.area {
-        Area::Globals => put_in(&mut memory.globals, place.object, cell, byte, width, value),
-        Area::Block(block) => memory.set_in_block(block, place.object, cell, byte, width, value),
-    }
-}
-
 /// Stores what a temporary holds to the part at a distance from where another one points.
 fn store<'p>(
     frame: &Frame,
@@ -226,7 +220,7 @@ fn store<'p>(
     };
     let cell = further(place.cell, distance.cells)?;
     let byte = u64::from(place.byte) + u64::from(distance.bytes);
-    if put_to(memory, place, cell, byte, distance.width, value) {
+    if memory.put_to(place, cell, byte, distance.width, value) {
         Ok(Due::Go(Now::Leave(Flow::Falls)))
     } else {
         Ok(Due::Wrong)
@@ -294,6 +288,7 @@ pub fn operate<'p>(
         Operation::Narrow(to, from) => narrow(frame, to, from),
         Operation::Apply(operation, to, left, right) => compute(frame, operation, to, left, right),
         Operation::LocalAddress(to, of) => address(frame, memory, to, of),
+        Operation::OwnAddress(to, object) => own_address(frame, memory, to, object),
         Operation::DataAddress(to, object) => global_address(frame, to, object),
         Operation::Offset(to, from, cells, bytes) => offset(frame, to, from, cells, bytes),
         Operation::Get(to, from, width) => get(frame, memory, to, from, width),

@@ -14,7 +14,7 @@ ghost use Rattle.core_eval.specs.Fetched.{FetchFault, fetch_reads_failed, fetch_
 
 use crate::call::{enter_call, first_objects, start};
 use crate::ending::EvalEnding;
-use crate::enter::{enter_statement, enter_statements, wait};
+use crate::enter::{blank_objects, enter_statement, enter_statements, wait};
 use crate::frame::Frame;
 use crate::memory::Memory;
 use crate::operation::give;
@@ -151,8 +151,8 @@ fn finish<W: Output>(gathered: &mut Gathered, writer: &mut W, ending: EvalEnding
 ///
 /// Ends as the definition does: with the program's status, with `Running` where a unit is due and none is left, or
 /// `Stuck`. `WriteFault` comes in place of any other ending, where a write failed or took no byte; `ReadFault` where a
-/// read failed; `HostMemory` where the host has no memory for what is still to be done, 2^64 - 1 blocks were entered, or a pointer would lead
-/// to a cell with a number over 2^64 - 1. After a failed call neither
+/// read failed; `HostMemory` where the host has no memory for what is still to be done, 2^64 - 1 blocks or functions
+/// were entered, or a pointer would lead to a cell with a number over 2^64 - 1. After a failed call neither
 /// device is called again. Output is written when 4,096 bytes are gathered, before each read and at each ending. Each
 /// byte that is taken from the reader was asked for.
 pub fn evaluate_core<R: Input, W: Output>(
@@ -175,11 +175,17 @@ pub fn evaluate_core<R: Input, W: Output>(
     let mut is_over = false;
     let mut stack = Vec::new(alloc);
     let mut frame = Frame::new(alloc);
-    let mut due = start(program);
+    let begin = start(program);
+    let Ok(own) = blank_objects(alloc, begin.own) else {
+        return EvalEnding::HostMemory;
+    };
     let Ok(globals) = first_objects(alloc, &program.globals) else {
         return EvalEnding::HostMemory;
     };
-    let mut memory = Memory::new(alloc, globals);
+    let Ok(mut memory) = Memory::new(alloc, globals, own) else {
+        return EvalEnding::HostMemory;
+    };
+    let mut due = begin.due;
     let mut left = fuel;
     'units: loop {
         let Ok(rest) = advance(alloc, due, &mut stack, &mut frame, &mut memory) else {
@@ -204,7 +210,14 @@ pub fn evaluate_core<R: Input, W: Output>(
             Due::Call(to, function, arguments) => {
                 let functions: &[Function] = &program.functions;
                 enter_call(
-                    functions, to, function, arguments, &mut stack, &mut frame, &memory,
+                    alloc,
+                    functions,
+                    to,
+                    function,
+                    arguments,
+                    &mut stack,
+                    &mut frame,
+                    &mut memory,
                 )
             }
             Due::Go(_) | Due::Over(_) | Due::Raised(_) | Due::Wrong => unreachable!(),

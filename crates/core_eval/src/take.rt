@@ -5,7 +5,7 @@ ghost use Rattle.cyc_core.specs.Trees.{body_tree, optional_tree};
 ghost use Rattle.core_eval.specs.declared.frame.Frame.{Frame as TheFrame};
 ghost use Rattle.core_eval.specs.declared.memory.Memory.{Memory as TheMemory};
 ghost use Rattle.core_eval.specs.Pendings.{Block, Body, Caller, Leave, Test, Wait, exit_of, next_of, saved_of, wait_of, waits_of};
-ghost use Rattle.core_eval.specs.Standing.{Known, known_of};
+ghost use Rattle.core_eval.specs.Standing.{Known, LeavesCall, known_of};
 ghost use Rattle.core_eval.specs.Costs.{IsMove};
 
 use crate::enter::{enter_loop, truth};
@@ -82,8 +82,8 @@ fn take_caller<'p>(
     saved: Frame,
     frame: &mut Frame,
 ) -> Result<Due<'p>, AllocError>
-    ensures { IfOk result (λ due. (f : ℕ) (ws : List Wait) (memory : TheMemory) → IsMove (Leave (exit_of flow))
-        (Caller (optional_tree to) f (saved_of saved) ∷ ws) (known_of frame.old memory) (next_of due) ws (known_of frame.new memory)) }
+    ensures { IfOk result (λ due. (f : ℕ) (ws : List Wait) (memory after : TheMemory) → LeavesCall memory after → IsMove (Leave (exit_of flow))
+        (Caller (optional_tree to) f (saved_of saved) ∷ ws) (known_of frame.old memory) (next_of due) ws (known_of frame.new after)) }
 {
     *frame = saved;
     match flow {
@@ -141,6 +141,9 @@ pub fn take_flow<'p>(
         (Pending::Test(test, flag, body), _) => Ok(take_test(flow, test, flag, body, frame)),
         (Pending::Body(test, flag, body), _) => take_body(flow, test, flag, body, stack),
         (Pending::Block, _) => Ok(take_block(flow, memory)),
-        (Pending::Caller(result, _, saved), _) => take_caller(flow, result, saved, frame),
+        (Pending::Caller(result, _, saved), _) => {
+            memory.leave_call();
+            take_caller(flow, result, saved, frame)
+        }
     }
 }

@@ -15,6 +15,8 @@ pub enum Area {
     Globals,
     /// A block, with its locals, by how many blocks were entered before it.
     Block(u64),
+    /// A function that is active, with its unnamed values, by how many functions were called before it.
+    Own(u64),
 }
 
 /// Where a pointer leads.
@@ -56,7 +58,7 @@ pub struct Slot {
     pub value: Value,
 }
 
-/// A local or a global.
+/// A local, an unnamed value or a global.
 #[derive(Drop)]
 pub enum Object {
     /// Of one cell.
@@ -256,6 +258,7 @@ pub fn is_same_area(first: Area, second: Area) -> bool
     match (first, second) {
         (Area::Globals, Area::Globals) => true,
         (Area::Block(block), Area::Block(other)) => block == other,
+        (Area::Own(call), Area::Own(other)) => call == other,
         _ => false,
     }
 }

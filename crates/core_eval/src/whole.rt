@@ -1,20 +1,18 @@
 // Copies of whole objects, and objects that begin anew.
 
-ghost use Rattle.std.specs.Prelude.{◌≡◌, List, IfOk, OnOk, map};
+ghost use Rattle.std.specs.Prelude.{◌≡◌, List, IfOk, map};
 ghost use Rattle.core_meaning.specs.Core as core;
 ghost use Rattle.cyc_core.specs.Trees.{layout_tree};
-ghost use Rattle.core_eval.specs.Blocks.{Descends, activation_of, stored_of};
+ghost use Rattle.core_eval.specs.Blocks.{AreOrdered, stored_of};
 ghost use Rattle.core_eval.specs.Pendings.{Execute, Wait, next_of};
 ghost use Rattle.core_eval.specs.Standing.{first_held, known_of};
 ghost use Rattle.core_eval.specs.Costs.{IsMove};
-ghost use Rattle.core_eval.specs.Whole.{are_laid, fill_to, held_by, is_cell, same_object, slots_of, values_from};
+ghost use Rattle.core_eval.specs.Whole.{are_laid, held_by, is_cell, same_object, slots_of, values_from};
 
 use crate::frame::Frame;
 use crate::memory::Memory;
 use crate::pending::{Due, Flow, Now};
-use crate::value::{
-    Area, Place, Slot, Value, fill_in, first_value, further, is_same, is_same_area,
-};
+use crate::value::{Place, Slot, Value, first_value, further, is_same, is_same_area};
 use cyc_core::{CellLayout, Layout, Temporary};
 use std::alloc::{AllocError, Global};
 
@@ -34,7 +32,7 @@ fn is_cell(slot: Option<Slot>, byte: u32, cell: CellLayout) -> bool
 
 /// Whether a place leads to cells that lie as a layout's. Fails only where there would be a cell with a number over 2^64 - 1.
 fn are_laid(memory: &Memory, place: Place, cells: &[CellLayout]) -> Result<bool, AllocError>
-    ensures { IfOk result (λ laid. Descends memory.now.entered (map activation_of memory.now.blocks.items)
+    ensures { IfOk result (λ laid. AreOrdered memory.now
         → laid ≡ are_laid (stored_of memory.now) place cells.now) }
 {
     if !memory.is_held(place.area) {
@@ -67,7 +65,7 @@ fn values_from(
     place: Place,
     cells: &[CellLayout],
 ) -> Result<Vec<Value>, AllocError>
-    ensures { IfOk result (λ values. Descends memory.now.entered (map activation_of memory.now.blocks.items)
+    ensures { IfOk result (λ values. AreOrdered memory.now
         → values.items ≡ values_from (slots_of (stored_of memory.now) place) place.cell cells.now) }
 {
     let mut values = Vec::new(alloc);
@@ -88,18 +86,6 @@ fn first_values(alloc: Global, cells: &[CellLayout]) -> Result<Vec<Value>, Alloc
         values.push(first_value(cell.cell))?;
     }
     Ok(values)
-}
-
-/// The cells from a place on get these values.
-fn fill_to(memory: &mut Memory, place: Place, values: &[Value]) -> Result<(), AllocError>
-    ensures stored { OnOk result (Descends memory.old.entered (map activation_of memory.old.blocks.items)
-        → stored_of memory.new ≡ fill_to (stored_of memory.old) place.area place.object place.cell values.now) }
-    ensures entered { OnOk result (memory.new.entered ≡ memory.old.entered) }
-{
-    match place.area {
-        Area::Globals => fill_in(&mut memory.globals, place.object, place.cell, values),
-        Area::Block(block) => memory.fill_in_block(block, place.object, place.cell, values),
-    }
 }
 
 /// Whether two places are of the same object.
@@ -141,7 +127,7 @@ pub fn copy<'p>(
         return Ok(Due::Wrong);
     }
     let values = values_from(alloc, memory, source, cells)?;
-    fill_to(memory, target, &values)?;
+    memory.fill_to(target, &values)?;
     Ok(Due::Go(Now::Leave(Flow::Falls)))
 }
 
@@ -166,6 +152,6 @@ pub fn clear<'p>(
         return Ok(Due::Wrong);
     }
     let values = first_values(alloc, cells)?;
-    fill_to(memory, target, &values)?;
+    memory.fill_to(target, &values)?;
     Ok(Due::Go(Now::Leave(Flow::Falls)))
 }

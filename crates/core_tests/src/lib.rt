@@ -11,3 +11,5 @@ mod objects;
 mod pointers;
 #[cfg(test)]
 mod programs;
+#[cfg(test)]
+mod unnamed;

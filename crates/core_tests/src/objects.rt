@@ -12,7 +12,7 @@ use std::rc::Rc;
 use std::test::Fail;
 
 // `struct { char first; int second; }`
-fn pair(alloc: Global) -> Result<Rc<Layout>, AllocError> {
+pub fn pair(alloc: Global) -> Result<Rc<Layout>, AllocError> {
     let first = CellLayout {
         offset: 0,
         cell: Cell::Byte,
@@ -31,7 +31,7 @@ fn pair(alloc: Global) -> Result<Rc<Layout>, AllocError> {
 }
 
 // the first member's byte, or the second member's word
-fn member(width: Width) -> Distance {
+pub fn member(width: Width) -> Distance {
     match width {
         Width::Byte => Distance::at_once(width),
         Width::Word => Distance {
@@ -65,7 +65,7 @@ fn with_pairs(alloc: Global, layout: &Rc<Layout>, then: Statement) -> Result<Pro
         Local::Whole(layout.clone()?),
     ]?;
     let main = vec![in alloc; Statement::Block(locals, body)]?;
-    Ok(program(alloc, vec![in alloc; function(0, main)]?))
+    Ok(program(alloc, vec![in alloc; function(alloc, 0, main)]?))
 }
 
 #[test]

@@ -68,7 +68,7 @@ fn same(to: u32, left: u32, right: u32) -> Statement {
 fn in_block(alloc: Global, body: Vec<Statement>) -> Result<Program, AllocError> {
     let locals = vec![in alloc; Local::Scalar(Cell::Word), Local::Scalar(Cell::Word)]?;
     let main = vec![in alloc; Statement::Block(locals, body)]?;
-    Ok(program(alloc, vec![in alloc; function(0, main)]?))
+    Ok(program(alloc, vec![in alloc; function(alloc, 0, main)]?))
 }
 
 // `void set(int *p) { *p = 7; } int main() { int a = 1; int b = 1; set(&b); return a + b; }`
@@ -89,7 +89,7 @@ fn a_callee_stores_to_a_local_of_its_caller(rt: HostRuntime) -> Result<(), Fail>
     ]?;
     let mut whole = in_block(alloc, body)?;
     let set = vec![in alloc; constant(1, 7), store(0, 1), Statement::Return(None)]?;
-    whole.functions.push(function(1, set))?;
+    whole.functions.push(function(alloc, 1, set))?;
     assert_eq!(rt; ending_of(alloc, &whole), EvalEnding::Ended(8));
     Ok(())
 }
@@ -112,7 +112,7 @@ fn a_local_is_gone_with_its_block(rt: HostRuntime) -> Result<(), Fail> {
             Statement::Block(locals, first),
             Statement::Block(again, second),
         ]?;
-        let whole = program(alloc, vec![in alloc; function(0, main)]?);
+        let whole = program(alloc, vec![in alloc; function(alloc, 0, main)]?);
         assert_eq!(rt; ending_of(alloc, &whole), ending);
     }
     Ok(())

@@ -5,12 +5,13 @@ use cyc_core::{
 };
 use std::alloc::{AllocError, Global};
 
-/// A function with four temporaries.
-pub fn function(parameters: u32, body: Vec<Statement>) -> Function {
+/// A function with four temporaries and no unnamed values.
+pub fn function(alloc: Global, parameters: u32, body: Vec<Statement>) -> Function {
     Function {
         parameters,
         temporaries: 4,
         passed: 1,
+        own: Vec::new(alloc),
         body,
     }
 }
@@ -42,7 +43,7 @@ pub fn letter(alloc: Global) -> Result<Program, AllocError> {
         constant(0, 0),
         give(0),
     ]?;
-    Ok(program(alloc, vec![in alloc; function(0, body)]?))
+    Ok(program(alloc, vec![in alloc; function(alloc, 0, body)]?))
 }
 
 /// `int deep(int n) { if (n) return deep(n - 1) + 1; return n; } int main() { return deep(COUNT); }`
@@ -63,7 +64,7 @@ pub fn deep(alloc: Global, count: u32) -> Result<Program, AllocError> {
     ]?;
     let those = vec![in alloc; give(0)]?;
     let deep = vec![in alloc; Statement::If(Temporary(0), these, those)]?;
-    let functions = vec![in alloc; function(0, main), function(1, deep)]?;
+    let functions = vec![in alloc; function(alloc, 0, main), function(alloc, 1, deep)]?;
     Ok(program(alloc, functions))
 }
 
@@ -86,7 +87,7 @@ pub fn echo(alloc: Global) -> Result<Program, AllocError> {
         Statement::Do(Operation::Putchar(Temporary(3), Temporary(3))),
     ]?;
     let main = vec![in alloc; Statement::While(test, Temporary(1), body), give(3)]?;
-    let mut program = program(alloc, vec![in alloc; function(0, main)]?);
+    let mut program = program(alloc, vec![in alloc; function(alloc, 0, main)]?);
     program.globals.push(Datum::Byte(0))?;
     Ok(program)
 }

@@ -109,6 +109,7 @@ operation_tree (operation.Move t x) = core.Move t.0 x.0
 operation_tree (operation.Narrow t x) = core.Narrow t.0 x.0
 operation_tree (operation.Apply o t x y) = core.Apply (binary_tree o) t.0 x.0 y.0
 operation_tree (operation.LocalAddress t v) = core.LocalAddress t.0 v.out v.index
+operation_tree (operation.OwnAddress t object) = core.OwnAddress t.0 object
 operation_tree (operation.DataAddress t object) = core.DataAddress t.0 object
 operation_tree (operation.Get t v w) = core.Get t.0 v.out v.index (bytes_of w)
 operation_tree (operation.Put v w x) = core.Put v.out v.index (bytes_of w) x.0
@@ -145,7 +146,13 @@ abbrev pub body_tree : List code.Statement → core.Statements
 body_tree ss = statements_of (map statement_tree ss)
 
 abbrev pub function_tree : Function → core.Function
-function_tree f = record { parameters = f.parameters; temporaries = f.temporaries; passed = f.passed; own = []; body = body_tree f.body.items }
+function_tree f = record {
+  parameters = f.parameters;
+  temporaries = f.temporaries;
+  passed = f.passed;
+  own = map local_tree f.own.items;
+  body = body_tree f.body.items;
+}
 
 abbrev pub datum_layout : Datum → Layout
 datum_layout (datum.Byte b) = part_layout cell.Byte

@@ -130,6 +130,8 @@ pub enum Operation {
     Apply(Binary, Temporary, Temporary, Temporary),
     /// The temporary gets a pointer to the local.
     LocalAddress(Temporary, Variable),
+    /// The temporary gets a pointer to the function's unnamed value with this number.
+    OwnAddress(Temporary, u32),
     /// The temporary gets a pointer to the global with this number.
     DataAddress(Temporary, u32),
     /// The temporary gets what the local holds.

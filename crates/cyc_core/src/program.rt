@@ -1,6 +1,6 @@
 // Functions, globals and programs.
 
-use crate::layout::Layout;
+use crate::layout::{Layout, Local};
 use crate::statement::Statement;
 use std::rc::Rc;
 
@@ -13,6 +13,8 @@ pub struct Function {
     pub temporaries: u32,
     /// The most words that it passes to a call.
     pub passed: u32,
+    /// Its unnamed values, which hold nothing when it is called; `OwnAddress` names one by its number in this list.
+    pub own: Vec<Local>,
     /// What it does.
     pub body: Vec<Statement>,
 }

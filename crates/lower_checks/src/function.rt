@@ -121,6 +121,7 @@ pub fn lower_function<'p>(
         parameters,
         temporaries,
         passed,
+        own: Vec::new(alloc),
         body,
     })
 }

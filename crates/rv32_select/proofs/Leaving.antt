@@ -9,10 +9,10 @@ module _ {V : Type 0} (items : V → List ℕ) where
   others [] b bs e = absurd cc
   others (v ∷ vs) b bs e = cc
 
-  pub left_is : (vs : List V) (passed low : ℕ) (statics : List ℕ) (locals : List Local) (outer : Surroundings) (last : ℕ)
-      → record { passed = passed; own = []; blocks = map items vs; low = low; statics = statics } ≡ within_block locals outer → last ≡ outer.low
-      → record { passed = passed; own = []; blocks = map items (remove vs 0); low = last; statics = statics } ≡ outer
-  left_is vs passed low statics locals outer last e e' =
+  pub left_is : (vs : List V) (passed low : ℕ) (own statics : List ℕ) (locals : List Local) (outer : Surroundings) (last : ℕ)
+      → record { passed = passed; own = own; blocks = map items vs; low = low; statics = statics } ≡ within_block locals outer → last ≡ outer.low
+      → record { passed = passed; own = own; blocks = map items (remove vs 0); low = last; statics = statics } ≡ outer
+  left_is vs passed low own statics locals outer last e e' =
       let parts = others vs (offsets_from outer.low locals) outer.blocks (ap (λ (u : Surroundings). u.blocks) e) in
       λ i. record {
         passed = ap (λ (u : Surroundings). u.passed) e i;

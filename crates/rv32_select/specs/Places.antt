@@ -1,5 +1,5 @@
 -- Where code stands, as the definition of code has it, and which comparisons take two instructions.
-use Rattle.std.specs.Prelude.{Bool, true, false, [], map}
+use Rattle.std.specs.Prelude.{Bool, true, false, map}
 use Rattle.core_frames.specs.Selected.{Surroundings}
 use Rattle.cyc_core.specs.declared.operation.Binary.{Binary}
 use Rattle.cyc_core.specs.declared.operation.Binary.TheVariants as binary
@@ -8,7 +8,13 @@ use Rattle.cyc_core.specs.declared.operation.Operation.TheVariants as operation
 use Rattle.rv32_select.specs.declared.place.Place.{Place}
 
 abbrev pub surroundings : Place → Surroundings
-surroundings p = record { passed = p.passed; own = []; blocks = map (λ offsets. offsets.items) p.blocks.items; low = p.low; statics = p.statics.items }
+surroundings p = record {
+  passed = p.passed;
+  own = p.own.items;
+  blocks = map (λ offsets. offsets.items) p.blocks.items;
+  low = p.low;
+  statics = p.statics.items;
+}
 
 abbrev pub takes_two : Binary → Bool
 takes_two binary.Add = false
@@ -31,7 +37,7 @@ takes_two binary.LessEqual = true
 takes_two binary.LessUnsigned = false
 takes_two binary.LessEqualUnsigned = true
 
--- the operations on words alone, those on pointers, those on locals, and those on memory
+-- the operations on words alone, those on pointers, those on locals and unnamed values, and those on memory
 abbrev pub is_on_words : Operation → Bool
 is_on_words (operation.Constant t word) = true
 is_on_words (operation.NullPointer t) = false
@@ -39,6 +45,7 @@ is_on_words (operation.Move t x) = true
 is_on_words (operation.Narrow t x) = true
 is_on_words (operation.Apply o t x y) = true
 is_on_words (operation.LocalAddress t v) = false
+is_on_words (operation.OwnAddress t object) = false
 is_on_words (operation.DataAddress t object) = false
 is_on_words (operation.Get t v w) = false
 is_on_words (operation.Put v w x) = false
@@ -57,6 +64,7 @@ is_on_pointers (operation.Move t x) = false
 is_on_pointers (operation.Narrow t x) = false
 is_on_pointers (operation.Apply o t x y) = false
 is_on_pointers (operation.LocalAddress t v) = false
+is_on_pointers (operation.OwnAddress t object) = false
 is_on_pointers (operation.DataAddress t object) = false
 is_on_pointers (operation.Get t v w) = false
 is_on_pointers (operation.Put v w x) = false
@@ -75,6 +83,7 @@ is_on_locals (operation.Move t x) = false
 is_on_locals (operation.Narrow t x) = false
 is_on_locals (operation.Apply o t x y) = false
 is_on_locals (operation.LocalAddress t v) = true
+is_on_locals (operation.OwnAddress t object) = true
 is_on_locals (operation.DataAddress t object) = false
 is_on_locals (operation.Get t v w) = true
 is_on_locals (operation.Put v w x) = true
@@ -93,6 +102,7 @@ is_on_memory (operation.Move t x) = false
 is_on_memory (operation.Narrow t x) = false
 is_on_memory (operation.Apply o t x y) = false
 is_on_memory (operation.LocalAddress t v) = false
+is_on_memory (operation.OwnAddress t object) = false
 is_on_memory (operation.DataAddress t object) = true
 is_on_memory (operation.Get t v w) = false
 is_on_memory (operation.Put v w x) = false

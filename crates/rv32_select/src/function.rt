@@ -12,7 +12,7 @@ ghost use Rattle.rv32_select.specs.Places.{surroundings};
 use crate::emit::{
     ADDRESS, OPERAND, RESULT, put, put_environment, put_lines, put_load, put_save, put_word,
 };
-use crate::layout::{highest_of, slots, statics, sum};
+use crate::layout::{end_from, highest_of, slots, statics, sum};
 use crate::place::Place;
 use crate::statement::{Ways, following, put_statements};
 use core_frames::Line;
@@ -37,7 +37,8 @@ const STACK_BASE: u64 = 0x0040_0000;
 fn frame_bytes(function: &Function) -> Result<u64, AllocError>
     ensures { IfOk result (λ n. n ≡ frame_bytes (function_tree function.now)) }
 {
-    let most = highest_of(4 * slots(function), &function.body)?;
+    let low = end_from(4 * slots(function), &function.own)?;
+    let most = highest_of(low, &function.body)?;
     if most <= TOO_MANY - 16 {
         Ok((most + 15) / 16 * 16)
     } else {
@@ -109,7 +110,7 @@ fn put_function(
     ensures same { OnOk result (place.new.statics.items ≡ place.old.statics.items) }
 {
     let bytes = frame_bytes(function)?;
-    place.begin(function);
+    place.begin(function)?;
     put_lines(lines, &[Line::Label(number)])?;
     put_prologue(lines, place, bytes, function.parameters)?;
     let ways = Ways {

@@ -1,4 +1,4 @@
-// Where the locals of blocks and the globals lie.
+// Where the unnamed values of functions, the locals of blocks and the globals lie.
 
 ghost use Rattle.std.specs.Prelude.{◌≡◌, ◌+◌, ◌<◌, ◌^◌, ◌≤◌, IfOk, OnOk, map, true};
 ghost use Rattle.core_frames.specs.Selected as selected;

@@ -162,7 +162,7 @@ fn put_pointer_operation(
     }
 }
 
-/// Appends the instructions of an operation on a local.
+/// Appends the instructions of an operation on a local or an unnamed value.
 fn put_local_operation(
     lines: &mut Vec<Line>,
     place: &Place,
@@ -175,6 +175,10 @@ fn put_local_operation(
     match operation {
         Operation::LocalAddress(to, variable) => {
             put_address(lines, place.offset(variable))?;
+            put_to(lines, place, RESULT, to)
+        }
+        Operation::OwnAddress(to, object) => {
+            put_address(lines, place.own_offset(object))?;
             put_to(lines, place, RESULT, to)
         }
         Operation::Get(to, variable, width) => {
@@ -243,9 +247,10 @@ pub fn put_operation(
         | Operation::Offset(..)
         | Operation::IsNull(..)
         | Operation::SamePlace(..) => { put_pointer_operation(lines, place, operation) }
-        Operation::LocalAddress(..) | Operation::Get(..) | Operation::Put(..) => {
-            put_local_operation(lines, place, operation)
-        }
+        Operation::LocalAddress(..)
+        | Operation::OwnAddress(..)
+        | Operation::Get(..)
+        | Operation::Put(..) => { put_local_operation(lines, place, operation) }
         _ => put_memory_operation(lines, place, operation),
     }
 }

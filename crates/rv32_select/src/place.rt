@@ -1,6 +1,6 @@
 // Where code stands: its function's frame, the blocks around it, and the program's data.
 
-ghost use Rattle.std.specs.Prelude.{◌≡◌, ◌<◌, ◌^◌, [], ◌∷◌, map, IfOk, List, ℕ};
+ghost use Rattle.std.specs.Prelude.{◌≡◌, ◌<◌, ◌^◌, [], ◌∷◌, map, IfOk, OnOk, List, ℕ};
 ghost use Rattle.core_frames.specs.Frames.{slot_of};
 ghost use Rattle.core_frames.specs.Selected.{Surroundings, local_offset, nth, within_block, around};
 ghost use Rattle.cyc_core.specs.Trees.{local_tree, function_tree};
@@ -17,6 +17,8 @@ pub struct Place {
     alloc: Global,
     /// The most words that the function passes to a call.
     pub passed: u32,
+    /// The offsets in the frame of the function's unnamed values.
+    pub own: Vec<u64>,
     /// The offsets in the frame of the locals of the blocks around the code, the innermost block first.
     pub blocks: Vec<Vec<u64>>,
     /// Where the locals of a block within it would begin.
@@ -33,6 +35,7 @@ impl Place {
         Place {
             alloc,
             passed: 0,
+            own: Vec::new(alloc),
             blocks: Vec::new(alloc),
             low: 0,
             statics,
@@ -40,13 +43,16 @@ impl Place {
     }
 
     /// Goes on to the start of a function.
-    pub fn begin(&mut self, function: &Function)
-        ensures place { surroundings self.new ≡ around self.old.statics.items (function_tree function.now) }
-        ensures same { self.new.statics.items ≡ self.old.statics.items }
+    pub fn begin(&mut self, function: &Function) -> Result<(), AllocError>
+        ensures place { OnOk result (surroundings self.new ≡ around self.old.statics.items (function_tree function.now)) }
+        ensures same { OnOk result (self.new.statics.items ≡ self.old.statics.items) }
     {
+        let first = 4 * slots(function);
+        self.own = offsets_from(self.alloc, first, &function.own)?;
+        self.low = end_from(first, &function.own)?;
         self.passed = function.passed;
         self.blocks = Vec::new(self.alloc);
-        self.low = 4 * slots(function);
+        Ok(())
     }
 
     /// The slot of a temporary, counted in words from the frame's first on.
@@ -65,6 +71,13 @@ impl Place {
             Some(offsets) => nth(offsets, variable.index),
             None => 0,
         }
+    }
+
+    /// The offset of an unnamed value in the frame.
+    pub fn own_offset(&self, object: u32) -> u64
+        ensures { result ≡ nth (surroundings self.now).own object }
+    {
+        nth(&self.own, object)
     }
 
     /// The offset of a global in the data.

@@ -35,6 +35,14 @@ returns-in-DataAddress c =
     c.in-DataAddress.is
     (with_memory c.global_address.result f f' _ m c.global_address.ensures)
 
+pub returns-in-OwnAddress : goal.returns-in-OwnAddress
+returns-in-OwnAddress c =
+    let f = c.args.frame.now in
+    let f' = c.own_address.new.frame in
+    let m = c.args.memory.now in
+    for_operation c.own_address.result c.args.operation (operation.OwnAddress c.in-OwnAddress.to c.in-OwnAddress.object) (known_of f m) (known_of f' m)
+    c.in-OwnAddress.is c.own_address.ensures
+
 pub returns-in-Offset : goal.returns-in-Offset
 returns-in-Offset c =
     let f = c.args.frame.now in

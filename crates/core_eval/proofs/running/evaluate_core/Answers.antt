@@ -1,27 +1,38 @@
-use Rattle.std.proofs.Common.{◌≡◌, ℕ, ◌<◌, List, [], map, Result, Ok, IfOk, OnOk, refl, sym, ap, ◌∙◌, subst, inl, rules}
+use Rattle.std.proofs.Common.{◌≡◌, ℕ, ◌<◌, List, [], ◌∷◌, map, Result, Ok, IfOk, OnOk, refl, sym, ap, ◌∙◌, subst, inl, rules}
 use Rattle.std.proofs.KnownBytes.{Appends-nil}
 use Rattle.core_meaning.specs.Memory.{Word}
 use Rattle.core_meaning.specs.Steps as steps
 use Rattle.cyc_core.specs.declared.program.Function.{Function}
 use Rattle.cyc_core.specs.Trees.{program_tree, function_tree, optional_tree, body_tree}
-use Rattle.core_eval.specs.Values.{content_of}
-use Rattle.core_eval.specs.Values.{cells_of}
-use Rattle.core_eval.specs.Blocks.{activation_of}
+use Rattle.core_eval.specs.Values.{content_of, cells_of}
 use Rattle.core_eval.specs.declared.pending.Due.{Due}
 use Rattle.core_eval.specs.declared.ending.EvalEnding.TheVariants as ending
 use Rattle.core_eval.specs.Pendings.{Follow, Leave, Go, GetcharDue, PutcharDue, TurnDue, CallDue, next_of, waits_of}
 use Rattle.core_eval.specs.Standing.{Gives, IsCall, first_object, first_known, known_of}
 use Rattle.cyc_host.proofs.Transfers.{of_err, of_ok, counted_ok, all_written}
 use Rattle.core_eval.proofs.Answered.{given_known}
-use Rattle.core_eval.proofs.Stages.{begun, stage_still, stage_put, stage_get, stage_turn, stage_call, stage_wrote, stage_as}
+use Rattle.core_eval.proofs.Stages.{begun, stage_still, stage_put, stage_get, stage_turn, stage_call, stage_wrote, stage_as, first_is}
 use Rattle.core_eval.proofs.Endings.{over_answer, stage_stopped, got_stopped, unput_stopped, put_stopped, fetch_answer, unstuck}
 use Rattle.core_eval.proofs.running.evaluate_core.Goals as goal
 use Rattle.core_eval.proofs.running.evaluate_core.Goals.{in-Getchar+in-Ok-fetch, in-Putchar+else-is_err, in-Turn, in-Call}
 
 pub returns-in_default-clause-evaluated : goal.returns-in_default-clause-evaluated
 returns-in_default-clause-evaluated g c =
-    stage_stopped (begun (program_tree c.args.program.now) c.args.fuel (next_of c.start-due.result) (first_known c.args.program.now.globals.items)
-    (g.R.Read.remaining c.args.reader.now) (g.W.Write.contents c.args.writer.now) c.start-due.ensures) ending.HostMemory _ (inl refl) (Appends-nil _)
+    stage_stopped (begun (program_tree c.args.program.now) c.args.fuel (next_of c.start-begin.result.due)
+    (first_known c.args.program.now.globals.items c.start-begin.result.own.now)
+    (g.R.Read.remaining c.args.reader.now) (g.W.Write.contents c.args.writer.now) c.start-begin.ensures) ending.HostMemory _ (inl refl) (Appends-nil _)
+
+pub returns-in_default-first_objects-clause-evaluated : goal.returns-in_default-first_objects-clause-evaluated
+returns-in_default-first_objects-clause-evaluated g c =
+    stage_stopped (begun (program_tree c.args.program.now) c.args.fuel (next_of c.start-begin.result.due)
+    (first_known c.args.program.now.globals.items c.start-begin.result.own.now)
+    (g.R.Read.remaining c.args.reader.now) (g.W.Write.contents c.args.writer.now) c.start-begin.ensures) ending.HostMemory _ (inl refl) (Appends-nil _)
+
+pub returns-in_default-new-clause-evaluated : goal.returns-in_default-new-clause-evaluated
+returns-in_default-new-clause-evaluated g c =
+    stage_stopped (begun (program_tree c.args.program.now) c.args.fuel (next_of c.start-begin.result.due)
+    (first_known c.args.program.now.globals.items c.start-begin.result.own.now)
+    (g.R.Read.remaining c.args.reader.now) (g.W.Write.contents c.args.writer.now) c.start-begin.ensures) ending.HostMemory _ (inl refl) (Appends-nil _)
 
 pub units-init : goal.units-init
 units-init g c =
@@ -29,21 +40,16 @@ units-init g c =
     record {
       reads = refl;
       writes = refl;
-      stage = stage_as _ (begun (program_tree p) c.args.fuel (next_of c.start-due.result) (first_known p.globals.items)
-          (g.R.Read.remaining c.args.reader.now) (g.W.Write.contents c.args.writer.now) c.start-due.ensures) _ _ _ _ refl
+      stage = stage_as _ (begun (program_tree p) c.args.fuel (next_of c.start-begin.result.due) (first_known p.globals.items c.start-begin.result.own.now)
+          (g.R.Read.remaining c.args.reader.now) (g.W.Write.contents c.args.writer.now) c.start-begin.ensures) _ _ _ _ refl
           (ap waits_of c.new-stack.ensures.items)
-          (ap (λ ts. record (known_of c.new-frame.result c.new-memory.result) { temps = ts }) c.new-frame.ensures.temps
-          ∙ ap (λ b. record (known_of c.new-frame.result c.new-memory.result) { temps = []; base = b }) c.new-frame.ensures.base
-          ∙ ap (λ bs. record {
-            temps = [];
-            base = 0;
-            blocks = map activation_of bs;
-            entered = c.new-memory.result.entered;
-            globals = map cells_of c.new-memory.result.globals.items;
-          }) c.new-memory.ensures.blocks
-          ∙ ap (λ n. record { temps = []; base = 0; blocks = []; entered = n; globals = map cells_of c.new-memory.result.globals.items }) c.new-memory.ensures.entered
-          ∙ ap (λ gs. record { temps = []; base = 0; blocks = []; entered = 0; globals = map cells_of gs.items }) c.new-memory.ensures.globals
-          ∙ ap (λ gs. record { temps = []; base = 0; blocks = []; entered = 0; globals = gs }) (c.in-Ok.ensures ∙ ap (map first_object) c.deref.ensures.value))
+          (first_is c.new-frame.result c.in-Ok-new.memory p.globals.items c.start-begin.result.own.now c.new-frame.ensures.temps c.new-frame.ensures.base
+          c.in-Ok-new.ensures.blocks
+          c.in-Ok-new.ensures.entered
+          (c.in-Ok-new.ensures.owns ∙ ap (λ os. record { number = 0; objects = os } ∷ []) c.in-Ok.ensures)
+          c.in-Ok-new.ensures.called
+          (ap (λ gs. map cells_of gs.items) c.in-Ok-new.ensures.globals
+          ∙ c.in-Ok-first_objects.ensures ∙ ap (map first_object) c.deref.ensures.value))
           c.new-gathered.ensures;
     }
 
@@ -116,7 +122,7 @@ units-preserved g c =
           (on_ok w.give.result next e w.give.ensures.gives) in
           let got = stage_get w.in-Getchar.to.0 w.give.new.frame.temps.items z some _ _ w.in-Ok-fetch.answer w.in-Ok-fetch.ensures.answer
           (search rules) gives in
-          rw (w.reader-is, w.writer-is, w.gathered-is, w.is_over-is, w.stack-is, w.frame-is) (record {
+          rw (w.reader-is, w.writer-is, w.gathered-is, w.is_over-is, w.stack-is, w.frame-is, w.memory-is) (record {
             reads = w.in-Ok-fetch.ensures.reads ∙ i.reads;
             writes = w.in-Ok-fetch.ensures.writes ∙ i.writes;
             stage = stage_as _ got _ _ _ _ (if_ok w.give.result (λ due. next_of due ≡ Go (Leave steps.Falls)) next e w.give.ensures.next) refl
@@ -129,7 +135,7 @@ units-preserved g c =
           let z = stage_put w.in-Putchar.to.0 w.in-Putchar.byte w.give-paid.new.frame.temps.items y some
           (on_ok w.give-paid.result next e w.give-paid.ensures.gives) in
           let moved = stage_wrote _ z _ _ (of_ok w.put.result w.put.ensures.all ok) in
-          rw (w.reader-is, w.writer-is, w.gathered-is, w.is_over-is, w.stack-is, w.frame-is) (record {
+          rw (w.reader-is, w.writer-is, w.gathered-is, w.is_over-is, w.stack-is, w.frame-is, w.memory-is) (record {
             reads = i.reads;
             writes = counted_ok w.put.result _ _ w.put.ensures.counted ok ∙ i.writes;
             stage = stage_as _ moved _ _ _ _ (if_ok w.give-paid.result (λ due. next_of due ≡ Go (Leave steps.Falls)) next e w.give-paid.ensures.next) refl
@@ -141,7 +147,7 @@ units-preserved g c =
           let test = body_tree w.in-Turn.test.now in
           let body = body_tree w.in-Turn.body.now in
           let y = stage_as _ x (TurnDue test w.in-Turn.flag.0 body) _ _ _ (sym (ap next_of w.in-Turn.is)) refl refl refl in
-          rw (w.reader-is, w.writer-is, w.gathered-is, w.is_over-is, w.stack-is, w.frame-is) (record {
+          rw (w.reader-is, w.writer-is, w.gathered-is, w.is_over-is, w.stack-is, w.frame-is, w.memory-is) (record {
             reads = i.reads;
             writes = i.writes;
             stage = stage_as _ (stage_turn test w.in-Turn.flag.0 body y some) _ _ _ _
@@ -156,12 +162,12 @@ units-preserved g c =
           let entered = if_ok w.enter_call-paid.result
           (λ due. IsCall (map function_tree w.deref-functions.result.now) (optional_tree w.in-Call.to)
           w.in-Call.function called (waits_of c.advance.new.stack.items) (known_of c.advance.new.frame m) (next_of due)
-          (waits_of w.enter_call-paid.new.stack.items) (known_of w.enter_call-paid.new.frame m)) next e w.enter_call-paid.ensures in
+          (waits_of w.enter_call-paid.new.stack.items) (known_of w.enter_call-paid.new.frame w.enter_call-paid.new.memory)) next e w.enter_call-paid.ensures in
           let call = subst (λ (fs : List Function). IsCall (map function_tree fs) (optional_tree w.in-Call.to) w.in-Call.function called
           (waits_of c.advance.new.stack.items) (known_of c.advance.new.frame m) (next_of next)
-          (waits_of w.enter_call-paid.new.stack.items) (known_of w.enter_call-paid.new.frame m))
+          (waits_of w.enter_call-paid.new.stack.items) (known_of w.enter_call-paid.new.frame w.enter_call-paid.new.memory))
           w.deref-functions.ensures.value entered in
-          rw (w.reader-is, w.writer-is, w.gathered-is, w.is_over-is, w.stack-is, w.frame-is) (record {
+          rw (w.reader-is, w.writer-is, w.gathered-is, w.is_over-is, w.stack-is, w.frame-is, w.memory-is) (record {
             reads = i.reads;
             writes = i.writes;
             stage = stage_call (optional_tree w.in-Call.to) w.in-Call.function called _ _ _ y some call;

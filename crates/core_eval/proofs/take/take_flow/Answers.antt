@@ -2,7 +2,7 @@ use Rattle.std.proofs.Common.{◌∷◌, refl, ap, ◌∙◌}
 use Rattle.cyc_core.specs.Trees.{optional_tree}
 use Rattle.core_eval.specs.declared.pending.Pending.TheVariants as pending
 use Rattle.core_eval.specs.Pendings.{Block, exit_of, next_of, wait_of, waits_of}
-use Rattle.core_eval.specs.Standing.{known_of}
+use Rattle.core_eval.specs.Standing.{LeavesCall, known_of}
 use Rattle.core_eval.proofs.Taken.{left_as, left_ok, for_caller, known_here, main_left}
 use Rattle.core_eval.proofs.take.take_flow.Goals as goal
 
@@ -41,9 +41,18 @@ returns-in-Block-default c =
 pub returns-in-Caller-default : goal.returns-in-Caller-default
 returns-in-Caller-default c =
     let ws = waits_of c.next.new.stack.items in
+    let m = c.args.memory.now in
+    let m' = c.leave_call.new.self in
+    let left : LeavesCall m m' = record {
+      blocks = c.leave_call.ensures.blocks;
+      entered = c.leave_call.ensures.entered;
+      owns = c.leave_call.ensures.owns;
+      called = c.leave_call.ensures.called;
+      globals = c.leave_call.ensures.globals;
+    } in
     left_ok c.take_caller.result (exit_of c.args.flow)
     (wait_of (pending.Caller c.in-Caller-default.result c.in-Caller-default.field-1-0 c.in-Caller-default.saved) ∷ ws)
-    (waits_of c.args.stack.now.items) (known_of c.args.frame.now c.args.memory.now) ws (known_of c.take_caller.new.frame c.args.memory.now)
+    (waits_of c.args.stack.now.items) (known_of c.args.frame.now m) ws (known_of c.take_caller.new.frame m')
     (c.in-Some.ensures.some ∙ ap (λ p. wait_of p ∷ ws) c.in-Caller-default.is-0)
     (for_caller c.take_caller.result (exit_of c.args.flow) (optional_tree c.in-Caller-default.result) c.in-Caller-default.field-1-0 c.in-Caller-default.saved
-    (known_of c.args.frame.now) ws (known_of c.take_caller.new.frame) c.args.memory.now c.take_caller.ensures)
+    (known_of c.args.frame.now) ws (known_of c.take_caller.new.frame) m m' left c.take_caller.ensures)

@@ -1,11 +1,11 @@
-use Rattle.std.proofs.Common.{◌≡◌, drop, map}
-use Rattle.core_eval.specs.Blocks.{Descends, activation_of, stored_of}
+use Rattle.std.proofs.Common.{◌≡◌, drop}
+use Rattle.core_eval.specs.Blocks.{AreOrdered, stored_of}
 use Rattle.core_eval.specs.Whole.{are_cells, slots_of}
 use Rattle.core_eval.proofs.whole.are_laid.Given as goal
 
 abbrev pub invariant-each : goal.invariant-each
 invariant-each l = record {
-  whole : Descends l.memory.entered (map activation_of l.memory.blocks.items)
+  whole : AreOrdered l.memory
       → are_cells (slots_of (stored_of l.memory) l.place) l.at l.place.byte (drop l.cell-index l.cells)
       ≡ are_cells (slots_of (stored_of l.memory) l.place) l.place.cell l.place.byte l.cells;
 }

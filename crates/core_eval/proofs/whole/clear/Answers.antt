@@ -12,13 +12,13 @@ use Rattle.core_eval.proofs.whole.clear.Goals as goal
 pub returns : goal.returns
 returns c =
     let m = c.args.memory.now in
-    let m' = c.fill_to.new.memory in
+    let m' = c.fill_to.new.self in
     let f = c.args.frame.now in
     let p = c.in-Pointer.target in
     let cells = c.deref-cells.ensures.value in
     let there : c.in_ok-is_there.is_there ≡ true = search rules in
     λ ws. move_as _ ws (known_of f m) (Go (Leave steps.Falls)) _ ws (with_stored (known_of f m) (stored_of m')) (known_of f m') refl
-    (stored_known f m m' c.in_ok-fill_to.ensures.entered)
+    (stored_known f m m' c.in_ok-fill_to.ensures.entered c.in_ok-fill_to.ensures.called)
     (clear_moves (known_of f m) ws c.args.place.0 c.temp.result c.temp.ensures p c.in-Pointer.is c.args.layout.now (stored_of m')
     (λ d. ap (are_laid (stored_of m) p) (sym cells) ∙ sym (c.in_ok-is_there.ensures d) ∙ there)
     (λ d. c.in_ok-fill_to.ensures.stored d

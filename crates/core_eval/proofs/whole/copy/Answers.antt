@@ -12,7 +12,7 @@ use Rattle.core_eval.proofs.whole.copy.Goals as goal
 pub returns : goal.returns
 returns c =
     let m = c.args.memory.now in
-    let m' = c.fill_to.new.memory in
+    let m' = c.fill_to.new.self in
     let f = c.args.frame.now in
     let p = c.in-Pointer.target in
     let q = c.in-Pointer-temp.source in
@@ -21,7 +21,7 @@ returns c =
     let source : c.in_ok-has_source.has_source ≡ true = search rules in
     let apart : c.is_same_object.result ≡ false = search rules in
     λ ws. move_as _ ws (known_of f m) (Go (Leave steps.Falls)) _ ws (with_stored (known_of f m) (stored_of m')) (known_of f m') refl
-    (stored_known f m m' c.in_ok-fill_to.ensures.entered)
+    (stored_known f m m' c.in_ok-fill_to.ensures.entered c.in_ok-fill_to.ensures.called)
     (copy_moves (known_of f m) ws c.args.to.0 c.temp.result c.temp.ensures p c.in-Pointer.is c.args.layout.now c.args.from.0 c.temp-2.result c.temp-2.ensures q
     c.in-Pointer-temp.is (stored_of m')
     (λ d. all_hold _ _ _

@@ -10,6 +10,6 @@ returns-clause-code c =
     let place = surroundings c.begin.new.self in
     let number = c.args.number in
     function_joined c.args.place.now.statics.items number c.args.next (function_tree c.args.function.now) _ _ _ _ c.in_ok-bytes.bytes
-    place c.in_ok-bytes.ensures c.begin.ensures.place c.in_ok-put_lines.ensures.code c.in_ok-put_prologue.ensures
+    place c.in_ok-bytes.ensures c.in_ok-begin.ensures.place c.in_ok-put_lines.ensures.code c.in_ok-put_prologue.ensures
     (c.in_ok-free.ensures.code ∙
     ap (λ ss. c.put_prologue.new.lines.items ++ statements_code c.in_ok-bytes.bytes place c.args.next number number (body_tree ss)) c.deref.ensures.value)

@@ -1,17 +1,17 @@
 use Rattle.std.proofs.Common.{◌<◌, ◌≤◌, length, refl, rules}
 use Rattle.core_eval.proofs.Lists.{ok_then, fill_some, fill_none}
-use Rattle.core_eval.proofs.memory.Memory.fill_at.Goals as goal
+use Rattle.core_eval.proofs.blocks.fill_at.Goals as goal
 
-pub returns-in-Some-clause-blocks : goal.returns-in-Some-clause-blocks
-returns-in-Some-clause-blocks c =
-    let bs = c.args.self.now.blocks.items in
+pub returns-in-Some : goal.returns-in-Some
+returns-in-Some c =
+    let bs = c.args.blocks.now.items in
     let within : c.args.position < length bs = search rules in
     ok_then c.fill_in.result c.fill_in.ensures
     (λ filled. fill_some bs c.args.position c.args.index c.args.cell c.args.values.now c.in-Some.block.now
     (record { number = c.in-Some.block.now.number; objects = c.fill_in.new.objects }) within c.in-Some.ensures.value refl filled)
 
-pub returns-in-None-clause-blocks : goal.returns-in-None-clause-blocks
-returns-in-None-clause-blocks c =
-    let bs = c.args.self.now.blocks.items in
+pub returns-in-None : goal.returns-in-None
+returns-in-None c =
+    let bs = c.args.blocks.now.items in
     let past : length bs ≤ c.args.position = search rules in
     fill_none bs c.args.position c.args.index c.args.cell c.args.values.now past

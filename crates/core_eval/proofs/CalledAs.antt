@@ -1,0 +1,73 @@
+-- What is known of a call, said in another way.
+use Rattle.std.proofs.Common.{◌≡◌, ℕ, ◌+◌, List, [], ◌∷◌, length, map, ap, ◌∙◌, sym, subst}
+use Rattle.core_meaning.specs.Memory.{Content}
+use Rattle.core_meaning.specs.Core.{Function}
+use Rattle.core_meaning.specs.Steps.{Step}
+use Rattle.core_meaning.specs.Meaning.{called}
+use Rattle.cyc_core.specs.declared.layout.Local as local_code
+use Rattle.core_eval.specs.Values.{cells_of, blank_object}
+use Rattle.core_eval.specs.declared.frame.Frame as frame_code
+use Rattle.core_eval.specs.declared.memory.Memory as memory_code
+use Rattle.core_eval.specs.Blocks.{activation_of}
+use Rattle.core_eval.specs.Pendings.{Wait, Next, rest_of, returned_to}
+use Rattle.core_eval.specs.Standing.{Known, Stands, IsCall, known_of}
+
+pub call_as : (functions : List Function) (results : List ℕ) (n : ℕ) (arguments : List Content) (ws : List Wait) (known : Known) (next next' : Next)
+    (rest rest' : List Wait)
+    (after after' : Known) → next' ≡ next → rest' ≡ rest → after' ≡ after → IsCall functions results n arguments ws known next rest after
+    → IsCall functions results n arguments ws known next' rest' after'
+call_as functions results n arguments ws known next next' rest rest' after after' is same knows h = λ main marks c agrees.
+    let step : Step = called functions (record { function = n; arguments = arguments }) (returned_to results c (rest_of main ws marks)) c.memory in
+    subst (λ (x : Next). Stands main step x rest' after') (sym is)
+    (subst (λ (l : List Wait). Stands main step next l after') (sym same)
+    (subst (λ (k : Known). Stands main step next rest k) (sym knows) (h main marks c agrees)))
+
+pub stands_as : (main : ℕ) (s : Step) (next next' : Next) {known known' : Known} → next' ≡ next → known' ≡ known → Stands main s next [] known
+    → Stands main s next' [] known'
+stands_as main s next next' {known} {known'} is knows h =
+    subst (λ (x : Next). Stands main s x [] known') (sym is) (subst (λ (k : Known). Stands main s next [] k) (sym knows) h)
+
+-- what is known in a callee
+pub called_known : (f : frame_code.Frame) (m m' : memory_code.Memory) (g : frame_code.Frame) (locals : List local_code.Local)
+    → g.base ≡ length (map activation_of m.blocks.items)
+    → m'.blocks ≡ m.blocks → m'.entered ≡ m.entered
+    → map activation_of m'.owns.items ≡ record { number = m.called; objects = map blank_object locals } ∷ map activation_of m.owns.items
+    → m'.called ≡ m.called + 1 → m'.globals ≡ m.globals
+    → known_of g m' ≡ record (known_of f m) {
+      temps = g.temps.items;
+      base = length (map activation_of m.blocks.items);
+      owns = record { number = m.called; objects = map blank_object locals } ∷ map activation_of m.owns.items;
+      called = m.called + 1;
+    }
+called_known f m m' g locals base blocks entered owns called globals =
+    ap (λ b. record (known_of g m') { base = b }) base
+    ∙ ap (λ bs. record (known_of g m') { base = length (map activation_of m.blocks.items); blocks = map activation_of bs.items }) blocks
+    ∙ ap (λ n. record (known_of f m) {
+      temps = g.temps.items;
+      base = length (map activation_of m.blocks.items);
+      entered = n;
+      owns = map activation_of m'.owns.items;
+      called = m'.called;
+      globals = map cells_of m'.globals.items;
+    }) entered
+    ∙ ap (λ os. record (known_of f m) {
+      temps = g.temps.items;
+      base = length (map activation_of m.blocks.items);
+      owns = os;
+      called = m'.called;
+      globals = map cells_of m'.globals.items;
+    }) owns
+    ∙ ap (λ n. record (known_of f m) {
+      temps = g.temps.items;
+      base = length (map activation_of m.blocks.items);
+      owns = record { number = m.called; objects = map blank_object locals } ∷ map activation_of m.owns.items;
+      called = n;
+      globals = map cells_of m'.globals.items;
+    }) called
+    ∙ ap (λ gs. record (known_of f m) {
+      temps = g.temps.items;
+      base = length (map activation_of m.blocks.items);
+      owns = record { number = m.called; objects = map blank_object locals } ∷ map activation_of m.owns.items;
+      called = m.called + 1;
+      globals = map cells_of gs.items;
+    }) globals

@@ -1,0 +1,131 @@
+// Blocks and functions that are active, each with its objects, the innermost first.
+
+ghost use Rattle.std.specs.Prelude.{◌≡◌, ℕ, Some, None, false, if◌then◌else◌, map, OnOk};
+ghost use Rattle.core_eval.specs.Blocks.{Descends, activation_of, position_of, put_through, slot_through};
+ghost use Rattle.core_eval.specs.Whole.{fill_through};
+
+use crate::value::{Object, Slot, Value, fill_in, put_in, slot_in};
+use cyc_core::Width;
+use std::alloc::{AllocError, Global};
+use std::collections::VecDeque;
+
+/// The locals of a block that isn't left yet, or the unnamed values of a function that is active.
+#[derive(Drop)]
+pub struct Block {
+    /// How many blocks were entered, or functions called, before it.
+    pub number: u64,
+    /// Its objects.
+    pub objects: Vec<Object>,
+}
+
+/// Where the one with this number stands, if it isn't left yet.
+pub fn position_of(blocks: &VecDeque<Block>, number: u64) -> Option<usize>
+    ensures { (bound : ℕ) → Descends bound (map activation_of blocks.now.items) → result ≡ position_of (map activation_of blocks.now.items) number }
+{
+    let position = blocks.partition_point(|block| number < block.number);
+    match blocks.get(position) {
+        Some(block) if block.number == number => Some(position),
+        _ => None,
+    }
+}
+
+/// A cell of an object of the one that stands there.
+pub fn slot_at(blocks: &VecDeque<Block>, position: usize, index: u32, cell: u64) -> Option<Slot>
+    ensures { result ≡ slot_through (map activation_of blocks.now.items) (Some position) index cell }
+{
+    match blocks.get(position) {
+        Some(block) => slot_in(&block.objects, index, cell),
+        None => None,
+    }
+}
+
+/// A cell of an object of the one with this number.
+pub fn slot_by(blocks: &VecDeque<Block>, number: u64, index: u32, cell: u64) -> Option<Slot>
+    ensures { (bound : ℕ) → Descends bound (map activation_of blocks.now.items)
+        → result ≡ slot_through (map activation_of blocks.now.items) (position_of (map activation_of blocks.now.items) number) index cell }
+{
+    match position_of(blocks, number) {
+        Some(position) => slot_at(blocks, position, index, cell),
+        None => None,
+    }
+}
+
+/// Stores a value to a cell of an object of the one that stands there, if there is one that lies so many bytes on and is so wide, and
+/// answers whether there is.
+pub fn set_at(
+    blocks: &mut VecDeque<Block>,
+    position: usize,
+    index: u32,
+    cell: u64,
+    byte: u64,
+    width: Width,
+    value: Value,
+) -> bool
+    ensures put { put_through (map activation_of blocks.old.items) (Some position) index cell byte width value
+        ≡ (if result then Some (map activation_of blocks.new.items) else None) }
+    ensures kept { result ≡ false → map activation_of blocks.new.items ≡ map activation_of blocks.old.items }
+{
+    match blocks.get_mut(position) {
+        Some(block) => put_in(&mut block.objects, index, cell, byte, width, value),
+        None => false,
+    }
+}
+
+/// Stores a value to a cell of an object of the one with this number, if it isn't left yet and there is one that lies so many bytes on
+/// and is so wide, and answers whether there is.
+pub fn set_by(
+    blocks: &mut VecDeque<Block>,
+    number: u64,
+    index: u32,
+    cell: u64,
+    byte: u64,
+    width: Width,
+    value: Value,
+) -> bool
+    ensures put { (bound : ℕ) → Descends bound (map activation_of blocks.old.items)
+        → put_through (map activation_of blocks.old.items) (position_of (map activation_of blocks.old.items) number) index cell byte width value
+        ≡ (if result then Some (map activation_of blocks.new.items) else None) }
+    ensures kept { result ≡ false → map activation_of blocks.new.items ≡ map activation_of blocks.old.items }
+{
+    match position_of(blocks, number) {
+        Some(position) => set_at(blocks, position, index, cell, byte, width, value),
+        None => false,
+    }
+}
+
+/// The cells of an object of the one that stands there get these values, from one on. Fails only where there would be a cell with a
+/// number over 2^64 - 1.
+fn fill_at(
+    blocks: &mut VecDeque<Block>,
+    position: usize,
+    index: u32,
+    cell: u64,
+    values: &[Value],
+) -> Result<(), AllocError>
+    ensures { OnOk result (map activation_of blocks.new.items
+        ≡ fill_through (map activation_of blocks.old.items) (Some position) index cell values.now) }
+{
+    match blocks.get_mut(position) {
+        Some(block) => fill_in(&mut block.objects, index, cell, values),
+        None => Ok(()),
+    }
+}
+
+/// The cells of an object of the one with this number get these values, from one on, if it isn't left yet. Fails only where there would
+/// be a cell with a number over 2^64 - 1.
+pub fn fill_by(
+    blocks: &mut VecDeque<Block>,
+    number: u64,
+    index: u32,
+    cell: u64,
+    values: &[Value],
+) -> Result<(), AllocError>
+    ensures { OnOk result ((bound : ℕ) → Descends bound (map activation_of blocks.old.items)
+        → map activation_of blocks.new.items
+        ≡ fill_through (map activation_of blocks.old.items) (position_of (map activation_of blocks.old.items) number) index cell values.now) }
+{
+    match position_of(blocks, number) {
+        Some(position) => fill_at(blocks, position, index, cell, values),
+        None => Ok(()),
+    }
+}

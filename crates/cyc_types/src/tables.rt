@@ -1,6 +1,6 @@
 // The structs and unions of a program.
 
-ghost use Rattle.std.specs.Prelude.{◌≡◌, ℕ, true, [], List};
+ghost use Rattle.std.specs.Prelude.{◌≡◌, ℕ, true, [], List, option_map};
 ghost use Rattle.cyc_types.specs.InOrder.{are_known};
 
 use crate::base::BaseType;
@@ -23,7 +23,7 @@ impl<'p> Tables<'p> {
     ghost use Rattle.std.specs.List.{list_all};
     ghost use Rattle.source_typing.specs.Tables.{each_part, if_known, is_copyable, has_beginning, tag_in};
     ghost use Rattle.cyc_types.specs.Known.{found, has_declared, is_declared, quick_copies, quick_begins, known_tag};
-    ghost use Rattle.cyc_types.specs.Tags.{member_of, members_of, named_tag};
+    ghost use Rattle.cyc_types.specs.Tags.{member_of, members_of, named_tag, tag_of};
     ghost use Rattle.cyc_types.specs.Tables.{tables_of};
     ghost use Rattle.cyc_types.specs.Types.{static_type};
     ghost use Rattle.cyc_types.specs.Bases.{base_type};
@@ -43,6 +43,16 @@ impl<'p> Tables<'p> {
     {
         match self.tags.get(name) {
             Some(known) => Some(&known.tag),
+            None => None,
+        }
+    }
+
+    /// The struct or union of a name, with the name as it was declared.
+    pub fn named(&self, name: &[u8]) -> Option<(&'p [u8], &Tag<'p>)>
+        ensures { option_map (λ p. tag_of p.0.now p.1.now) result ≡ tag_in (tables_of self.now) name.now }
+    {
+        match self.tags.get_key_value(name) {
+            Some((declared, known)) => Some((*declared, &known.tag)),
             None => None,
         }
     }

@@ -1,6 +1,6 @@
 -- Faults that are found one after another.
 use Rattle.std.specs.Prelude.{◌++◌}
-use Rattle.std.proofs.Common.{◌≡◌, Option, List, [], ◌∷◌, sym, ◌∙◌, ap}
+use Rattle.std.proofs.Common.{◌≡◌, Option, List, sym, ◌∙◌, ap}
 use Rattle.source_typing.specs.Faults.{Fault, earliest}
 use Rattle.type_verdicts.specs.Faults.{faults_of, first_of, sooner_found}
 use Rattle.type_verdicts.specs.declared.fault.Fault as code

@@ -6,3 +6,4 @@ pub mod Found
 pub mod Holding
 pub mod Paired
 pub mod Places
+pub mod StructsMade

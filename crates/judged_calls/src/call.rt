@@ -20,6 +20,7 @@ ghost use Rattle.judged_calls.specs.Targets.{target_of};
 ghost use Rattle.source_typing.specs.Verdicts as verdict;
 
 use crate::arguments::arguments_fit;
+use crate::making::struct_called;
 use crate::target::Target;
 use cyc_types::{BaseType, CType, RegionId};
 use judged_values::{Seat, Value, argument, renamed_type};
@@ -190,6 +191,7 @@ pub fn called<'p>(
 {
     match target {
         Target::Builtin(count) => builtin_called(scope, alloc, at, count, arguments),
+        Target::Struct(text, tag) => struct_called(scope, alloc, at, text, tag, arguments),
         Target::Function(signature) => { function_called(scope, alloc, at, signature, arguments) }
     }
 }

@@ -7,6 +7,7 @@ mod arguments;
 mod call;
 mod fixing;
 mod known;
+mod making;
 mod target;
 
 pub use call::called;

@@ -1,10 +1,9 @@
 -- What is answered of phrases of several parts is what the rules say of them.
 use Rattle.std.specs.Prelude.{IfOk, Result, ◌++◌}
-use Rattle.std.proofs.Common.{◌≡◌, Option, Some, List, [], ◌∷◌, refl, sym, ◌∙◌, ap, subst}
+use Rattle.std.proofs.Common.{◌≡◌, Some, List, [], ◌∷◌, refl, sym, ◌∙◌, ap, subst}
 use Rattle.std.proofs.lemmas.List.{append_assoc, append-nil}
 use Rattle.cyc_tree.specs.Tree.{Expressions, Links, MoreExpressions, MoreLinks, NoExpressions, NoLinks}
 use Rattle.source_typing.specs.Expressions.{judge, judge_all, judge_links, judge_tests}
-use Rattle.source_typing.specs.Faults.{Fault}
 use Rattle.source_typing.specs.Fixing.{more}
 use Rattle.source_typing.specs.Operators.{applied, tested_both}
 use Rattle.source_typing.specs.Scope.{Env, Value}

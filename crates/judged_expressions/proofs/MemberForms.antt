@@ -118,3 +118,19 @@ suffixed_is g k e xs = by (are_suffixed (suffixes_of xs)) (takes_suffixes (taken
     by true true h = suffixes_are g k (judge g (taken (taken_of k) e)) xs h
     by true false h = refl
     by false b h = refl
+
+-- suffixes are taken where structs are
+pub structs_taken : (k : code_taken.Taken) (xs : List OneSuffix) → (are_suffixed (suffixes_of xs) && takes_suffixes (taken_of k) (suffixes_of xs)) ≡ true
+    → k.structs ≡ true
+structs_taken k [] h = absurd cc
+structs_taken k (OneSuffix.Index e ∷ xs) h = absurd cc
+structs_taken k (OneSuffix.Dot f ∷ xs) h = by k.structs h
+  where
+    by : (b : Bool) → (b && takes_suffixes (taken_of k) (suffixes_of xs)) ≡ true → b ≡ true
+    by true h = refl
+    by false h = absurd cc
+structs_taken k (OneSuffix.Arrow f ∷ xs) h = by k.structs h
+  where
+    by : (b : Bool) → (b && true && takes_suffixes (taken_of k) (suffixes_of xs)) ≡ true → b ≡ true
+    by true h = refl
+    by false h = absurd cc

@@ -4,13 +4,15 @@ ghost use Rattle.std.specs.Prelude.{◌≡◌, IfOk, map};
 ghost use Rattle.cyc_tree.specs.View.{expression_tree, expressions_of, link_tree, links_of, name_tree};
 ghost use Rattle.source_typing.specs.Expressions.{judge};
 ghost use Rattle.source_typing.specs.Scope.{Env};
-ghost use Rattle.source_typing.specs.Taken.{all_taken, are_linked, are_some, links_taken, taken, thin_pointers};
+ghost use Rattle.source_typing.specs.Taken.{all_taken, are_linked, are_some, links_taken, taken};
+ghost use Rattle.type_verdicts.specs.Taken.{taken_of};
 ghost use Rattle.type_verdicts.specs.Verdicts.{short_of, shortened};
 ghost use Rattle.scoped_names.specs.Knows.{Knows};
 ghost use Rattle.judged_values.specs.Values.{value_of};
 ghost use Rattle.judged_expressions.specs.Forms.{call_of};
 ghost use Rattle.judged_expressions.specs.Joined.{short_links, short_tests};
 
+use crate::members::suffixed;
 use crate::parts::{
     applied_parts, assigned_parts, called_parts, given_after, grouped_part, only_joined,
     prefixed_part, refused, tested_parts,
@@ -38,7 +40,7 @@ fn are_some(expressions: &[Expression]) -> bool
     !expressions.is_empty()
 }
 
-/// What an expression is in a scope, where integers and thin pointers are taken: the earliest fault of it and its parts; that it isn't
+/// What an expression is in a scope, by the forms that are taken there: the earliest fault of it and its parts; that it isn't
 /// judged, since a name in it is declared by a phrase at fault; or its type, and where it is a place. Fails only where no host
 /// memory is left.
 #[cycle(expression)]
@@ -48,7 +50,7 @@ pub fn judge<'p>(
     expression: &Expression,
 ) -> Result<Verdict<Value<'p>>, AllocError>
     ensures { (g : Env) → Knows scope.now g
-        → IfOk result (λ v. short_of value_of v ≡ shortened (judge g (taken thin_pointers (expression_tree expression.now)))) }
+        → IfOk result (λ v. short_of value_of v ≡ shortened (judge g (taken (taken_of scope.now.taken) (expression_tree expression.now)))) }
 {
     match expression {
         Expression::Number(at, value, suffix) => Ok(number(alloc, *at, *value, *suffix)),
@@ -81,12 +83,15 @@ pub fn judge<'p>(
             let from = judge(scope, alloc, from)?;
             assigned_parts(scope, alloc, to, from)
         }
+        Expression::Suffixed(primary, suffixes) => {
+            let judged = judge(scope, alloc, primary)?;
+            suffixed(scope, primary.place(), judged, suffixes)
+        }
         Expression::Text(at, _) => Ok(refused(*at)),
         Expression::HeapRegion(at) => Ok(refused(*at)),
         Expression::UniqueRegion(at) => Ok(refused(*at)),
         Expression::MakeUnion(tag, _, _) => Ok(refused(tag.at)),
         Expression::NumElts(at, _) => Ok(refused(*at)),
-        Expression::Suffixed(primary, _) => Ok(refused(primary.place())),
         Expression::New(at, _) => Ok(refused(*at)),
         Expression::NewIn(at, _, _) => Ok(refused(*at)),
     }
@@ -101,7 +106,8 @@ fn judge_links<'p>(
     links: &[Link],
 ) -> Result<Verdict<Value<'p>>, AllocError>
     ensures { (g : Env) → Knows scope.now g → IfOk result
-        (λ v. short_of value_of v ≡ short_links g (short_of value_of first.entry) (links_taken thin_pointers (links_of (map link_tree links.now)))) }
+        (λ v. short_of value_of v
+        ≡ short_links g (short_of value_of first.entry) (links_taken (taken_of scope.now.taken) (links_of (map link_tree links.now)))) }
 {
     let mut judged = first;
     'each: for link in links {
@@ -120,7 +126,8 @@ fn judge_tests<'p>(
     others: &[Expression],
 ) -> Result<Verdict<Value<'p>>, AllocError>
     ensures { (g : Env) → Knows scope.now g → IfOk result
-        (λ v. short_of value_of v ≡ short_tests g (short_of value_of first.entry) (all_taken thin_pointers (expressions_of (map expression_tree others.now)))) }
+        (λ v. short_of value_of v
+        ≡ short_tests g (short_of value_of first.entry) (all_taken (taken_of scope.now.taken) (expressions_of (map expression_tree others.now)))) }
 {
     let mut judged = first;
     'each: for expression in others {
@@ -139,13 +146,14 @@ fn judge_call<'p>(
     arguments: &[Expression],
 ) -> Result<Verdict<Value<'p>>, AllocError>
     ensures { (g : Env) → Knows scope.now g
-        → IfOk result (λ v. short_of value_of v ≡ shortened (judge g (call_of (name_tree name.now) (expressions_of (map expression_tree arguments.now))))) }
+        → IfOk result (λ v. short_of value_of v
+        ≡ shortened (judge g (call_of (taken_of scope.now.taken) (name_tree name.now) (expressions_of (map expression_tree arguments.now))))) }
 {
     let mut given = Verdict::Of(Vec::new(alloc));
     'each: for argument in arguments {
         let argument = judge(scope, alloc, argument)?;
         given = given_after(given, argument)?;
     }
-    let callee = called_target(name.at, scope.meaning(&name.text));
+    let callee = called_target(scope, name.at, &name.text);
     called_parts(scope, alloc, name.at, callee, given)
 }

@@ -1,4 +1,4 @@
-//! What the expressions of a program of integers and thin pointers are, and members of structs where they are taken.
+//! What the expressions of a program of integers, thin pointers and structs are, by which of them are taken.
 #![tactic(auto)]
 
 mod expression;

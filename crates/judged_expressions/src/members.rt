@@ -5,8 +5,8 @@ ghost use Rattle.std.specs.List.{list_all};
 ghost use Rattle.cyc_tree.specs.Places.{expression_place};
 ghost use Rattle.cyc_tree.specs.Tree.{Expression, Suffixed};
 ghost use Rattle.cyc_tree.specs.View.{suffix_tree, suffixes_of};
+ghost use Rattle.cyc_types.specs.Sameness.{HasTags};
 ghost use Rattle.judged_expressions.specs.Suffixes.{short_suffix, short_suffixes, suffix_taken};
-ghost use Rattle.judged_values.specs.StructMembers.{HasTags};
 ghost use Rattle.judged_values.specs.Values.{value_of};
 ghost use Rattle.scoped_names.specs.Knows.{Knows};
 ghost use Rattle.source_typing.specs.Expressions.{judge};
@@ -46,7 +46,8 @@ fn takes_each(taken: Taken, suffixes: &[Suffix]) -> bool
 /// Whether there are suffixes, and each is taken.
 #[tactic(auto, using(crate::proofs::MemberForms::all_taken))]
 fn takes_suffixes(taken: Taken, suffixes: &[Suffix]) -> bool
-    ensures { result ≡ (are_suffixed (suffixes_of (map suffix_tree suffixes.now)) && takes_suffixes (taken_of taken) (suffixes_of (map suffix_tree suffixes.now))) }
+    ensures { result ≡ (are_suffixed (suffixes_of (map suffix_tree suffixes.now))
+        && takes_suffixes (taken_of taken) (suffixes_of (map suffix_tree suffixes.now))) }
 {
     !suffixes.is_empty() && takes_each(taken, suffixes)
 }
@@ -58,7 +59,7 @@ fn member_of<'p>(
     suffix: &Suffix,
     value: Value<'p>,
 ) -> Result<Verdict<Value<'p>>, AllocError>
-    ensures { (g : Env) → Knows scope.now g → HasTags tables.now g
+    ensures { (g : Env) → Knows scope.now g → HasTags tables.now g.tables
         → IfOk result (λ v. short_of value_of v ≡ short_suffix g (Is (value_of value.entry)) (suffix_tree suffix.now)) }
 {
     match suffix {
@@ -81,7 +82,7 @@ fn member_part<'p>(
     suffix: &Suffix,
     operand: Verdict<Value<'p>>,
 ) -> Result<Verdict<Value<'p>>, AllocError>
-    ensures { (g : Env) → Knows scope.now g → HasTags tables.now g
+    ensures { (g : Env) → Knows scope.now g → HasTags tables.now g.tables
         → IfOk result (λ v. short_of value_of v ≡ short_suffix g (short_of value_of operand.entry) (suffix_tree suffix.now)) }
 {
     match operand {
@@ -101,7 +102,7 @@ fn member_parts<'p>(
     first: Verdict<Value<'p>>,
     suffixes: &[Suffix],
 ) -> Result<Verdict<Value<'p>>, AllocError>
-    ensures { (g : Env) → Knows scope.now g → HasTags tables.now g
+    ensures { (g : Env) → Knows scope.now g → HasTags tables.now g.tables
         → IfOk result (λ v. short_of value_of v ≡ short_suffixes g (short_of value_of first.entry) (map suffix_tree suffixes.now)) }
 {
     let mut judged = first;
@@ -114,18 +115,17 @@ fn member_parts<'p>(
 /// What an expression with suffixes is, by what is answered of what stands before them.
 fn judged_suffixes<'p>(
     scope: &Scope<'_, 'p>,
-    tables: &Tables<'p>,
-    taken: Taken,
     at: u32,
     first: Verdict<Value<'p>>,
     suffixes: &[Suffix],
 ) -> Result<Verdict<Value<'p>>, AllocError>
-    ensures { (g : Env) → Knows scope.now g → HasTags tables.now g → IfOk result (λ v. short_of value_of v
-        ≡ (if are_suffixed (suffixes_of (map suffix_tree suffixes.now)) && takes_suffixes (taken_of taken) (suffixes_of (map suffix_tree suffixes.now))
+    ensures { (g : Env) → Knows scope.now g → IfOk result (λ v. short_of value_of v
+        ≡ (if are_suffixed (suffixes_of (map suffix_tree suffixes.now))
+        && takes_suffixes (taken_of scope.now.taken) (suffixes_of (map suffix_tree suffixes.now))
         then short_suffixes g (short_of value_of first.entry) (map suffix_tree suffixes.now) else Wrong (fault type_rule at))) }
 {
-    if takes_suffixes(taken, suffixes) {
-        let judged = member_parts(scope, tables, first, suffixes)?;
+    if takes_suffixes(scope.taken, suffixes) {
+        let judged = member_parts(scope, scope.tables, first, suffixes)?;
         Ok(judged)
     } else {
         Ok(refused(at))
@@ -136,16 +136,15 @@ fn judged_suffixes<'p>(
 /// there. Fails only where no host memory is left.
 pub fn suffixed<'p>(
     scope: &Scope<'_, 'p>,
-    tables: &Tables<'p>,
-    taken: Taken,
     at: u32,
     first: Verdict<Value<'p>>,
     suffixes: &[Suffix],
 ) -> Result<Verdict<Value<'p>>, AllocError>
-    ensures { (g : Env) (e : Expression) → Knows scope.now g → HasTags tables.now g
-        → short_of value_of first.entry ≡ shortened (judge g (rules.taken (taken_of taken) e)) → at ≡ expression_place e → IfOk result (λ v. short_of value_of v
-        ≡ shortened (judge g (rules.taken (taken_of taken) (Suffixed e (suffixes_of (map suffix_tree suffixes.now)))))) }
+    ensures { (g : Env) (e : Expression) → Knows scope.now g
+        → short_of value_of first.entry ≡ shortened (judge g (rules.taken (taken_of scope.now.taken) e)) → at ≡ expression_place e
+        → IfOk result (λ v. short_of value_of v
+        ≡ shortened (judge g (rules.taken (taken_of scope.now.taken) (Suffixed e (suffixes_of (map suffix_tree suffixes.now)))))) }
 {
-    let found = judged_suffixes(scope, tables, taken, at, first, suffixes)?;
+    let found = judged_suffixes(scope, at, first, suffixes)?;
     Ok(found)
 }

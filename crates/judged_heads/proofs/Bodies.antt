@@ -1,7 +1,8 @@
 -- What is in scope where a body begins, and the fault of a function that is answered.
-use Rattle.std.proofs.Common.{◌≡◌, ℕ, Bool, false, Option, Some, None, List, [], ◌∷◌, refl, sym, ◌∙◌, ap, subst, arith}
+use Rattle.std.proofs.Common.{◌≡◌, ℕ, Bool, false, true, Option, Some, None, List, [], ◌∷◌, refl, sym, ◌∙◌, ap, subst, arith}
 use Rattle.std.specs.Prelude.{◌++◌, option_map}
 use Rattle.cyc_types.specs.Regions.{region_of}
+use Rattle.cyc_types.specs.Sameness.{HasTags}
 use Rattle.cyc_types.specs.Types.{static_type}
 use Rattle.cyc_types.specs.declared.region.RegionId.TheVariants as code_region
 use Rattle.source_typing.specs.Faults.{Fault, earliest, own_after, sooner_of}
@@ -14,6 +15,7 @@ use Rattle.scoped_names.specs.Globals.{global_meaning}
 use Rattle.scoped_names.specs.Knows.{Knows, local_or}
 use Rattle.scoped_names.specs.Locals.{find_what, is_after}
 use Rattle.scoped_names.specs.Means.{Means}
+use Rattle.scoped_names.specs.declared.meaning.Meaning.TheVariants as meaning
 use Rattle.scoped_names.specs.declared.scope.Scope.{Scope}
 use Rattle.scoped_types.specs.Scopes.{AreThose}
 use Rattle.type_verdicts.proofs.Earliest.{earliest_of_both, found_sooner}
@@ -37,12 +39,15 @@ module _ (c : code.Head) (f : tree.Function) (h : rules.Head) (is : IsHead c f h
       ∙ ap (λ bs. entry_regions h.signature.regions h.signature.effect bs) (sym is.bounds)
 
   module _ (lenient : Bool) (g : Tables) (i : ℕ) (s : Scope) (alone : s.locals ≡ []) where
-    pub begins : KnowsGlobals s.globals.now g → s.lenient ≡ lenient
+    pub begins : KnowsGlobals s.globals.now g → (s.taken.structs ≡ true → HasTags s.tables.now g)
+        → (s.taken.structs ≡ false → (x : List ℕ) (u : Bool) → global_meaning s.globals.now x ≡ Some (meaning.Tag u) → ⊥) → s.lenient ≡ lenient
         → AreThose s.regions (with_scope (entry_regions h.signature.regions h.signature.effect h.signature.bounds))
         → Knows s (function_scope lenient g i h)
-    begins globals same regions = record {
+    begins globals tags untaken same regions = record {
       names = λ x. subst (λ m. Means (find g x) (local_or m (global_meaning s.globals.now x)))
           (sym (ap (λ ls. find_what ls x) alone)) (globals x);
+      tags = tags;
+      untaken = λ e x u m. untaken e x u (ap (λ ls. local_or (find_what ls x) (global_meaning s.globals.now x)) (sym alone) ∙ m);
       regions = regions;
       lenient = same;
       enclosing = refl;
@@ -56,14 +61,15 @@ module _ (c : code.Head) (f : tree.Function) (h : rules.Head) (is : IsHead c f h
     }
 
     pub stands : (d : Context) → Knows s (function_scope lenient g i h) → d.names.now ≡ c.variables.names
-        → option_map (λ t. static_type t.now) d.result ≡ known_static c.result → d.frame ≡ code_region.Level c.variables.count → d.in_loop ≡ false
+        → option_map (λ t. static_type t.now) d.result ≡ known_static c.result → d.frame ≡ code_region.Level c.variables.count → d.item ≡ i → d.in_loop ≡ false
         → StandsIn d 0 s (function_scope lenient g i h)
-    stands d known names result frame in_loop = record {
+    stands d known names result frame item in_loop = record {
       known = known;
       suits = record {
         names = names ∙ is.names;
         result = result ∙ is.result;
         frame = ap region_of frame ∙ ap (λ n. Level n) is.count;
+        item = item;
         in_loop = in_loop;
         no_switch = refl;
       };

@@ -1,21 +1,23 @@
 -- What a head says, by its parts.
-use Rattle.std.proofs.Common.{◌≡◌, Bool, false, Option, Some, None, List, [], ◌∷◌, ◌++◌, map, refl, sym, ap, ◌∙◌, append-nil}
+use Rattle.std.proofs.Common.{◌≡◌, Bool, false, Option, Some, None, List, [], ◌∷◌, ◌++◌, map, refl, sym, ap, subst, ◌∙◌, append-nil}
 use Rattle.cyc_types.specs.Types.{static_type}
 use Rattle.source_typing.specs.Faults.{earliest, own_after}
 use Rattle.source_typing.specs.Functions.{Variables, all_faults, all_of, effect_of, head_of, key_regions, levels_but, read_parameters, result_type, variables}
 use Rattle.source_typing.specs.Regions.{Region}
 use Rattle.source_typing.specs.Tables.{Tables}
-use Rattle.source_typing.specs.Taken.{bounds_form, effect_form, effect_if, function_taken, thin_pointers}
+use Rattle.source_typing.specs.Taken.{bounds_form, effect_form, effect_if, function_taken}
 use Rattle.source_typing.specs.Tags.{repeated}
 use Rattle.source_typing.specs.Types.{StaticType}
 use Rattle.source_typing.specs.Verdicts.{Of, Verdict}
 use Rattle.type_verdicts.specs.Faults.{faults_of}
+use Rattle.type_verdicts.specs.Taken.{taken_of}
 use Rattle.type_verdicts.specs.Verdicts.{short_of, shortened}
+use Rattle.type_verdicts.specs.declared.taken.Taken as code_taken
 use Rattle.judged_heads.proofs.HeadFaults.{none_in_parts, sound_found}
-use Rattle.judged_heads.proofs.ReadParameters.{all_in_order, all_judged, is_in_order, is_judged, known_same, names_same, no_keys, types_same}
+use Rattle.judged_heads.proofs.ReadParameters.{all_in_order, is_in_order, known_same, names_same, no_keys, types_same}
 use Rattle.judged_heads.proofs.Plain.{result_plain}
-use Rattle.judged_heads.specs.Heads.{IsHead, effect_in}
-use Rattle.judged_heads.specs.Reading.{AreParameters, AreRead, bound_place, effect_place, form_at, is_whole, main_faults_of}
+use Rattle.judged_heads.specs.Heads.{IsHead, IsJudged, effect_in}
+use Rattle.judged_heads.specs.Reading.{AllPlain, AreParameters, AreRead, IsPlain, bound_place, effect_place, form_at, is_whole, main_faults_of}
 use Rattle.judged_heads.specs.declared.head.Head as code
 use Rattle.cyc_tree.specs.Tree as tree
 use Rattle.source_typing.specs.Verdicts as rules_of
@@ -55,9 +57,9 @@ effect_clean lenient vs (Some (r ∷ rs)) = none_wrong (levels_but [] vs.count)
 
 -- ---- the head
 
-module _ (lenient : Bool) (g : Tables) (f : tree.Function) (c : code.Head) where
+module _ (k : code_taken.Taken) (lenient : Bool) (g : Tables) (f : tree.Function) (c : code.Head) where
   abbrev head : tree.Function
-  head = function_taken thin_pointers f
+  head = function_taken (taken_of k) f
 
   -- what is found of its faults, by what its parts are
   abbrev FaultFound : Type 0
@@ -65,7 +67,7 @@ module _ (lenient : Bool) (g : Tables) (f : tree.Function) (c : code.Head) where
       → AreParameters c.parameters.items ms vs
       → faults_of c.fault ≡ earliest (own_after (main_faults_of f.name v ms) (all_faults vs ++ repeated [] ms ++ rules_of.faults_of v))
 
-  pub head_is : AreRead g c.variables c.parameters.items head.parameters
+  pub head_is : AreRead k.structs g c.variables c.parameters.items head.parameters
       → short_of static_type c.result ≡ shortened (result_type g c.variables.names head.result) → c.is_whole ≡ is_whole f.effect → FaultFound
       → IsHead c head (head_of lenient g head)
   head_is read is whole found =
@@ -75,7 +77,7 @@ module _ (lenient : Bool) (g : Tables) (f : tree.Function) (c : code.Head) where
       let v : Verdict StaticType = result_type g vs.names head.result in
       let is_result : short_of static_type c.result ≡ shortened v =
       is ∙ ap (λ (us : Variables). shortened (result_type g us.names head.result)) read.variables_after in
-      let keys : key_regions ps.types ≡ [] = no_keys c.parameters.items ms ps.types read.parameters in
+      let keys : key_regions ps.types ≡ [] = no_keys k.structs ps.types read.plain in
       let parts = all_faults ps.types ++ repeated [] ms ++ rules_of.faults_of v in
       let clean : all_faults (effect_of lenient vs (key_regions ps.types) head.effect) ≡ [] =
       ap (λ ks. all_faults (effect_of lenient vs ks head.effect)) keys ∙ effect_clean lenient vs f.effect in
@@ -83,10 +85,6 @@ module _ (lenient : Bool) (g : Tables) (f : tree.Function) (c : code.Head) where
       found v ms ps.types is_result read.parameters
       ∙ ap (λ fs. earliest (own_after (main_faults_of f.name v ms) fs))
       (sym (ap (λ es. parts ++ es ++ []) clean ∙ append-nil (parts ++ []) ∙ append-nil parts)) in
-      let none_wrong_in : c.fault ≡ None → parts ≡ [] =
-      λ n. none_in_parts c.fault (main_faults_of f.name v ms) parts n (found v ms ps.types is_result read.parameters) in
-      let split : c.fault ≡ None → (all_faults ps.types ++ repeated [] ms ≡ []) × (rules_of.faults_of v ≡ []) =
-      λ n. none_of_both (all_faults ps.types ++ repeated [] ms) (rules_of.faults_of v) (none_wrong_in n) in
       record {
         names = ap (λ (us : Variables). us.names) read.variables_after;
         count = ap (λ (us : Variables). us.count) read.variables_after;
@@ -98,8 +96,21 @@ module _ (lenient : Bool) (g : Tables) (f : tree.Function) (c : code.Head) where
         bounds = refl;
         fault = fault;
         sound = sound_found c.fault (head_of lenient g head).faults fault;
-        judged = all_judged c.parameters.items ms ps.types read.parameters;
-        result_judged = is_judged c.result v is_result (result_plain g vs.names f.result);
-        in_order = λ n. all_in_order c.parameters.items ms ps.types read.parameters (none_of_both (all_faults ps.types) (repeated [] ms) (split n).0).0;
-        result_in_order = λ n. is_in_order c.result v is_result (result_plain g vs.names f.result) (split n).1;
+      }
+
+  -- where structs aren't taken, each type of a head without a fault is in order
+  pub types_judged : k.structs ≡ false → AreRead k.structs g c.variables c.parameters.items head.parameters
+      → short_of static_type c.result ≡ shortened (result_type g c.variables.names head.result) → FaultFound → IsJudged c
+  types_judged none read is found =
+      let ps = read_parameters g (variables [] 0) head.parameters in
+      let ms = head.parameters in
+      let v : Verdict StaticType = result_type g c.variables.names head.result in
+      let parts = all_faults ps.types ++ repeated [] ms ++ rules_of.faults_of v in
+      let split : c.fault ≡ None → (all_faults ps.types ++ repeated [] ms ≡ []) × (rules_of.faults_of v ≡ []) =
+      λ n. none_of_both (all_faults ps.types ++ repeated [] ms) (rules_of.faults_of v)
+      (none_in_parts c.fault (main_faults_of f.name v ms) parts n (found v ms ps.types is read.parameters)) in
+      record {
+        in_order = λ n. all_in_order c.parameters.items ms ps.types read.parameters (subst (λ b. AllPlain b ps.types) none read.plain)
+            (none_of_both (all_faults ps.types) (repeated [] ms) (split n).0).0;
+        result_in_order = λ n. is_in_order c.result v is (subst (λ b. IsPlain b v) none (result_plain k g f.result c.variables.names)) (split n).1;
       }

@@ -48,6 +48,7 @@ module _ (c : Context) (s : Scope) (g : Env) (h : StandsIn c 0 s g) (x : tree.Na
         names = h.suits.names;
         result = h.suits.result;
         frame = h.suits.frame;
+        item = h.suits.item;
         in_loop = h.suits.in_loop;
         no_switch = h.suits.no_switch;
       }

@@ -1,6 +1,6 @@
--- Types that are taken are at fault or in order, and aren't keys.
-use Rattle.std.proofs.Common.{◌≡◌, ℕ, Bool, true, false, List, [], ◌∷◌, refl, sym, subst}
-use Rattle.std.specs.Prelude.{None, Option, Some}
+-- Types that are taken aren't keys, and are at fault or in order where structs aren't taken.
+use Rattle.std.proofs.Common.{◌≡◌, ℕ, zero, suc, Bool, true, false, List, [], ◌∷◌, ◌++◌, refl, sym, subst}
+use Rattle.std.specs.Prelude.{None, Option, Some, map}
 use Rattle.cyc_tree.specs.Tree.{TypeName}
 use Rattle.cyc_tree.specs.declared.name.Sign.{Sign}
 use Rattle.source_typing.specs.Functions.{Variables, if_parameter, if_result, parameter_type, result_type, take_spots}
@@ -10,8 +10,28 @@ use Rattle.source_typing.specs.Tags.{settled_alone}
 use Rattle.source_typing.specs.Taken.{refused_type, thin_pointers, type_taken}
 use Rattle.source_typing.specs.Types.{Char, Fat, Handle, Int, Key, Null, PartialType, StaticType, Struct, Thin, TypeIn, Union, Unique, Unsigned, Void}
 use Rattle.source_typing.specs.Verdicts.{Faulty, Of, Unjudged, Verdict, after, if_fits, unless_faulty}
-use Rattle.source_typing.specs.Written.{Found, Is, IsUnique, Missing, RegionNamed, all_found, pointer_to, pointers_to, spots_of, type_built, written_with}
+use Rattle.source_typing.specs.Written.{
+  Found,
+  Is,
+  IsUnique,
+  Missing,
+  RegionNamed,
+  all_found,
+  as_region,
+  base_of,
+  pointer_to,
+  pointers_to,
+  spots_of,
+  type_built,
+  with_arguments,
+  written_on,
+  written_with,
+}
 use Rattle.judged_heads.specs.Reading.{IsPlain, NoKey, NoKeyIn}
+use Rattle.type_verdicts.specs.Taken.{taken_of}
+use Rattle.type_verdicts.specs.declared.taken.Taken as code_taken
+use Rattle.written_types.proofs.Structs.{other_type, struct_is_base, struct_type, takes_structs}
+use Rattle.written_types.specs.Tagged.{struct_taken}
 use Rattle.written_types.proofs.Pointers.{base_taken, is_taken, not_taken, taken_built}
 use Rattle.written_types.specs.Reading.{plain_of, taken_base}
 use Rattle.cyc_tree.specs.Tree as tree
@@ -49,19 +69,42 @@ pointers_plain (p ∷ ps) [] o h = h
 pointers_plain (p ∷ ps) (f ∷ fs) None h = h
 pointers_plain (p ∷ ps) (f ∷ fs) (Some t) h = pointers_plain ps fs (pointer_to p.sign f t) (pointer_plain p.sign f t)
 
-built_plain : (at : ℕ) (o : Option PartialType) → NoKeyIn o → IsPlain (type_built at o)
-built_plain at None h = tt
-built_plain at (Some t) h = h
+built_plain : (s : Bool) (at : ℕ) (o : Option PartialType) → NoKeyIn o → IsPlain s (type_built at o)
+built_plain s at None h = tt
+built_plain s at (Some t) h = h
 
-unless_plain : (fs : List rules.Fault) (v : Verdict PartialType) → IsPlain v → IsPlain (unless_faulty fs v)
-unless_plain [] v h = h
-unless_plain (f ∷ fs) v h = tt
+unless_plain : (s : Bool) (fs : List rules.Fault) (v : Verdict PartialType) → IsPlain s v → IsPlain s (unless_faulty fs v)
+unless_plain s [] v h = h
+unless_plain s (f ∷ fs) v h = tt
 
-written_plain : (g : Tables) (t : TypeName) (b : PartialType) (x : List Found × List rules.Fault) → plain_of t.base ≡ Some b → IsPlain (written_with g t x)
-written_plain g t b x e =
-    subst IsPlain (sym (taken_built g t b x e))
-    (unless_plain x.1 (type_built t.at (pointers_to t.pointers x.0 (Some b)))
-    (built_plain t.at (pointers_to t.pointers x.0 (Some b)) (pointers_plain t.pointers x.0 (Some b) (subst NoKeyIn e (base_plain t.base)))))
+written_plain : (s : Bool) (g : Tables) (t : TypeName) (b : PartialType) (x : List Found × List rules.Fault) → plain_of t.base ≡ Some b
+    → IsPlain s (written_with g t x)
+written_plain s g t b x e =
+    subst (λ (v : Verdict PartialType). IsPlain s v) (sym (taken_built g t b x e))
+    (unless_plain s x.1 (type_built t.at (pointers_to t.pointers x.0 (Some b)))
+    (built_plain s t.at (pointers_to t.pointers x.0 (Some b)) (pointers_plain t.pointers x.0 (Some b) (subst NoKeyIn e (base_plain t.base)))))
+
+-- pointers to a struct, with any arguments
+arguments_plain : (n : ℕ) (x : List ℕ) (args : List Found) (ps : List tree.Pointer) (fs : List Found)
+    → NoKeyIn (with_arguments n (Struct x) args ps fs)
+arguments_plain zero x args ps fs = pointers_plain ps fs (Some (Struct x (map as_region args))) tt
+arguments_plain (suc n) x args ps [] = tt
+arguments_plain (suc n) x args ps (f ∷ fs) = arguments_plain n x (args ++ f ∷ []) ps fs
+
+-- where structs are taken, one may be left unjudged
+tagged_plain : (s : Bool) (at : ℕ) (x : tree.Name) (ps : List tree.Pointer) (fs : List Found) (bad : List rules.Fault) (v : Verdict ℕ) → s ≡ true
+    → IsPlain s (written_on (record { at = at; base = tree.Struct x []; pointers = ps }) fs bad v)
+tagged_plain s at x ps fs bad (Faulty f others) h = tt
+tagged_plain s at x ps fs bad Unjudged h = unless_plain s bad Unjudged h
+tagged_plain s at x ps fs bad (Of n) h =
+    let o = with_arguments n (Struct x.text) [] ps fs in
+    unless_plain s bad (type_built at o) (built_plain s at o (arguments_plain n x.text [] ps fs))
+
+struct_plain : (s : Bool) (g : Tables) (t : TypeName) (x : tree.Name) (y : List Found × List rules.Fault) → s ≡ true → t.base ≡ tree.Struct x []
+    → IsPlain s (written_with g t y)
+struct_plain s g t x (fs, bad) h e =
+    subst (λ b. IsPlain s (written_on (record { at = t.at; base = b; pointers = t.pointers }) fs bad (base_of g b))) (sym e)
+    (tagged_plain s t.at x t.pointers fs bad (base_of g (tree.Struct x [])) h)
 
 -- ---- with missing regions
 
@@ -95,52 +138,74 @@ filled_plain (Key r) h = absurd h
 filled_plain (Struct tag rs) h = tt
 filled_plain (Union tag rs) h = tt
 
-type_plain : (at : ℕ) (o : Option StaticType) → NoKeyIn o → IsPlain (as_type at o)
-type_plain at None h = tt
-type_plain at (Some t) h = h
+type_plain : (s : Bool) (at : ℕ) (o : Option StaticType) → NoKeyIn o → IsPlain s (as_type at o)
+type_plain s at None h = tt
+type_plain s at (Some t) h = h
 
-fits_plain : (fits : Bool) (at : ℕ) (t : StaticType) → NoKey t → IsPlain (if_fits fits at t)
-fits_plain true at t h = h
-fits_plain false at t h = tt
+fits_plain : (s fits : Bool) (at : ℕ) (t : StaticType) → NoKey t → IsPlain s (if_fits fits at t)
+fits_plain s true at t h = h
+fits_plain s false at t h = tt
 
-after_plain : {R S : Type 0} (v : Verdict (TypeIn R)) (rule : TypeIn R → Verdict (TypeIn S)) → IsPlain v → ((t : TypeIn R) → NoKey t → IsPlain (rule t))
-    → IsPlain (after v rule)
-after_plain (Faulty f fs) rule h k = tt
-after_plain Unjudged rule h k = absurd h
-after_plain (Of t) rule h k = k t h
+after_plain : {R S : Type 0} (s : Bool) (v : Verdict (TypeIn R)) (rule : TypeIn R → Verdict (TypeIn S)) → IsPlain s v
+    → ((t : TypeIn R) → NoKey t → IsPlain s (rule t)) → IsPlain s (after v rule)
+after_plain s (Faulty f fs) rule h k = tt
+after_plain s Unjudged rule h k = h
+after_plain s (Of t) rule h k = k t h
 
-alone_plain : (at : ℕ) (v : Verdict PartialType) → IsPlain v → IsPlain (after v (settled_alone at))
-alone_plain at v h = after_plain v (settled_alone at) h (λ t k. type_plain at (filled_from t None) (filled_plain t k))
+alone_plain : (s : Bool) (at : ℕ) (v : Verdict PartialType) → IsPlain s v → IsPlain s (after v (settled_alone at))
+alone_plain s at v h = after_plain s v (settled_alone at) h (λ t k. type_plain s at (filled_from t None) (filled_plain t k))
 
 -- ---- parameters and results
 
 abbrev pub parameter_at : Tables → Variables → TypeName → Verdict StaticType
 parameter_at g vs t = parameter_type g t (take_spots vs (spots_of g t))
 
-pub parameter_plain : (g : Tables) (vs : Variables) (t : TypeName)
-    → IsPlain (parameter_at g vs (type_taken thin_pointers t))
-parameter_plain g vs t = by (taken_base t) refl
-  where
-    by : (o : Option PartialType) → taken_base t ≡ o → IsPlain (parameter_at g vs (type_taken thin_pointers t))
-    by None e = subst (λ u. IsPlain (parameter_at g vs u)) (sym (not_taken t e)) tt
-    by (Some b) e =
-        let s = take_spots vs (spots_of g t) in
-        let v = written_with g t (s.found, s.faults) in
-        subst (λ u. IsPlain (parameter_at g vs u)) (sym (is_taken t b e))
-        (after_plain (after v (settled_alone t.at)) (if_parameter t.at) (alone_plain t.at v (written_plain g t b (s.found, s.faults) (base_taken t b e)))
-        (λ u k. fits_plain _ t.at u k))
+-- a type on any base, and that of a parameter and of a result
+module _ (s : Bool) (g : Tables) (t : TypeName) where
+  as_parameter : (vs : Variables) → let x = take_spots vs (spots_of g t) in IsPlain s (written_with g t (x.found, x.faults)) → IsPlain s (parameter_at g vs t)
+  as_parameter vs h =
+      let x = take_spots vs (spots_of g t) in
+      let v = written_with g t (x.found, x.faults) in
+      after_plain s (after v (settled_alone t.at)) (if_parameter t.at) (alone_plain s t.at v h) (λ u k. fits_plain s _ t.at u k)
 
-pub refused_plain : (g : Tables) (vs : Variables) (at : ℕ) → IsPlain (parameter_at g vs (refused_type at))
-refused_plain g vs at = tt
+  as_result : (names : List RegionNamed) → IsPlain s (written_with g t (all_found names (spots_of g t))) → IsPlain s (result_type g names t)
+  as_result names h =
+      let v = written_with g t (all_found names (spots_of g t)) in
+      after_plain s (after v (settled_alone t.at)) (if_result t.at) (alone_plain s t.at v h) (λ u k. fits_plain s _ t.at u k)
 
-pub result_plain : (g : Tables) (names : List RegionNamed) (t : TypeName) → IsPlain (result_type g names (type_taken thin_pointers t))
-result_plain g names t = by (taken_base t) refl
-  where
-    by : (o : Option PartialType) → taken_base t ≡ o → IsPlain (result_type g names (type_taken thin_pointers t))
-    by None e = subst (λ u. IsPlain (result_type g names u)) (sym (not_taken t e)) tt
-    by (Some b) e =
-        let x = all_found names (spots_of g t) in
-        let v = written_with g t x in
-        subst (λ u. IsPlain (result_type g names u)) (sym (is_taken t b e))
-        (after_plain (after v (settled_alone t.at)) (if_result t.at) (alone_plain t.at v (written_plain g t b x (base_taken t b e)))
-        (λ u k. fits_plain _ t.at u k))
+module _ (k : code_taken.Taken) (g : Tables) (t : TypeName) where
+  pub parameter_plain : (vs : Variables) → IsPlain k.structs (parameter_at g vs (type_taken (taken_of k) t))
+  parameter_plain vs = by (struct_taken (taken_of k) t) refl
+    where
+      of_base : (o : Option PartialType) → taken_base t ≡ o → IsPlain k.structs (parameter_at g vs (type_taken thin_pointers t))
+      of_base None e = subst (λ u. IsPlain k.structs (parameter_at g vs u)) (sym (not_taken t e)) tt
+      of_base (Some b) e =
+          let x = take_spots vs (spots_of g t) in
+          subst (λ u. IsPlain k.structs (parameter_at g vs u)) (sym (is_taken t b e))
+          (as_parameter k.structs g t vs (written_plain k.structs g t b (x.found, x.faults) (base_taken t b e)))
+
+      by : (o : Option tree.Name) → struct_taken (taken_of k) t ≡ o → IsPlain k.structs (parameter_at g vs (type_taken (taken_of k) t))
+      by None e = subst (λ u. IsPlain k.structs (parameter_at g vs u)) (sym (other_type k t e)) (of_base (taken_base t) refl)
+      by (Some n) e =
+          let x = take_spots vs (spots_of g t) in
+          subst (λ u. IsPlain k.structs (parameter_at g vs u)) (sym (struct_type k t n e))
+          (as_parameter k.structs g t vs (struct_plain k.structs g t n (x.found, x.faults) (takes_structs k t n e) (struct_is_base k t n e)))
+
+  pub result_plain : (names : List RegionNamed) → IsPlain k.structs (result_type g names (type_taken (taken_of k) t))
+  result_plain names = by (struct_taken (taken_of k) t) refl
+    where
+      of_base : (o : Option PartialType) → taken_base t ≡ o → IsPlain k.structs (result_type g names (type_taken thin_pointers t))
+      of_base None e = subst (λ u. IsPlain k.structs (result_type g names u)) (sym (not_taken t e)) tt
+      of_base (Some b) e =
+          subst (λ u. IsPlain k.structs (result_type g names u)) (sym (is_taken t b e))
+          (as_result k.structs g t names (written_plain k.structs g t b (all_found names (spots_of g t)) (base_taken t b e)))
+
+      by : (o : Option tree.Name) → struct_taken (taken_of k) t ≡ o → IsPlain k.structs (result_type g names (type_taken (taken_of k) t))
+      by None e = subst (λ u. IsPlain k.structs (result_type g names u)) (sym (other_type k t e)) (of_base (taken_base t) refl)
+      by (Some n) e =
+          subst (λ u. IsPlain k.structs (result_type g names u)) (sym (struct_type k t n e))
+          (as_result k.structs g t names
+          (struct_plain k.structs g t n (all_found names (spots_of g t)) (takes_structs k t n e) (struct_is_base k t n e)))
+
+pub refused_plain : (s : Bool) (g : Tables) (vs : Variables) (at : ℕ) → IsPlain s (parameter_at g vs (refused_type at))
+refused_plain s g vs at = tt

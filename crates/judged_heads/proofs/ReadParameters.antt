@@ -1,5 +1,5 @@
 -- Parameters that are read one by one.
-use Rattle.std.proofs.Common.{◌≡◌, ◌+◌, ℕ, List, [], ◌∷◌, ◌++◌, drop, map, refl, sym, ap, subst, ◌∙◌, append_assoc}
+use Rattle.std.proofs.Common.{◌≡◌, Bool, false, true≢false, ◌+◌, ℕ, List, [], ◌∷◌, ◌++◌, drop, map, refl, sym, ap, subst, ◌∙◌, append_assoc}
 use Rattle.std.specs.Prelude.{None, Option, Some, unwrap_or}
 use Rattle.cyc_types.specs.Types.{static_type}
 use Rattle.cyc_types.specs.declared.ctype.CType.{CType}
@@ -7,15 +7,15 @@ use Rattle.cyc_tree.specs.View.{member_tree}
 use Rattle.source_typing.specs.Faults.{earliest, sooner_of}
 use Rattle.source_typing.specs.Functions.{Variables, all_faults, key_regions, parameter_type, read_parameters, take_spots, variables}
 use Rattle.source_typing.specs.Tables.{Tables}
-use Rattle.source_typing.specs.Taken.{member_taken, members_taken, thin_pointers}
+use Rattle.source_typing.specs.Taken.{Taken, member_taken, members_taken}
 use Rattle.source_typing.specs.Types.{Key, StaticType}
 use Rattle.source_typing.specs.Verdicts.{Faulty, Of, Unjudged, Verdict, known}
 use Rattle.source_typing.specs.Written.{spots_of}
 use Rattle.type_verdicts.proofs.Shortened.{fault_same}
 use Rattle.type_verdicts.specs.Faults.{faults_of}
 use Rattle.type_verdicts.specs.Verdicts.{Is, NotJudged, Short, Wrong, fault_found, fault_in, short_of, shortened}
-use Rattle.judged_heads.specs.Heads.{AllInOrder, AllJudged, IsInOrder, IsJudged, known_static}
-use Rattle.judged_heads.specs.Reading.{AreParameters, AreRead, IsParameter, IsPlain}
+use Rattle.judged_heads.specs.Heads.{AllInOrder, IsInOrder, known_static}
+use Rattle.judged_heads.specs.Reading.{AllPlain, AreParameters, AreRead, IsParameter, IsPlain}
 use Rattle.judged_heads.specs.declared.head.Parameter.{Parameter}
 use Rattle.cyc_tree.specs.Tree as tree
 use Rattle.cyc_tree.specs.declared.item.Member as code_member
@@ -51,11 +51,6 @@ fault_by_rules (Faulty f fs) = by (earliest fs)
 fault_by_rules Unjudged = refl
 fault_by_rules (Of t) = refl
 
-judged_by : (v : Verdict StaticType) → IsPlain v → NotJudged ≡ shortened v → ⊥
-judged_by (Faulty f fs) h e = absurd cc
-judged_by Unjudged h e = h
-judged_by (Of t) h e = absurd cc
-
 module _ (c : code.Verdict CType) (v : Verdict StaticType) (e : short_of static_type c ≡ shortened v) where
   pub known_same : known_static c ≡ known v
   known_same = known_in_code c ∙ ap known_in e ∙ known_by_rules v
@@ -63,36 +58,29 @@ module _ (c : code.Verdict CType) (v : Verdict StaticType) (e : short_of static_
   pub fault_is : faults_of (fault_found c) ≡ earliest (rules_of.faults_of v)
   fault_is = fault_same static_type c ∙ ap (λ (s : Short StaticType). fault_in s) e ∙ fault_by_rules v
 
-  pub is_judged : IsPlain v → IsJudged c
-  is_judged h = by c e
-    where
-      by : (d : code.Verdict CType) → short_of static_type d ≡ shortened v → IsJudged d
-      by (variant.Wrong f) k = tt
-      by variant.NotJudged k = judged_by v h k
-      by (variant.Of t) k = tt
-
-  -- what isn't at fault is in order
-  pub is_in_order : IsPlain v → rules_of.faults_of v ≡ [] → IsInOrder c
+  -- where structs aren't taken, what isn't at fault is in order
+  pub is_in_order : IsPlain false v → rules_of.faults_of v ≡ [] → IsInOrder c
   is_in_order h n = by c v e h n
     where
-      by : (d : code.Verdict CType) (w : Verdict StaticType) → short_of static_type d ≡ shortened w → IsPlain w → rules_of.faults_of w ≡ [] → IsInOrder d
+      by : (d : code.Verdict CType) (w : Verdict StaticType) → short_of static_type d ≡ shortened w → IsPlain false w → rules_of.faults_of w ≡ []
+          → IsInOrder d
       by (variant.Of t) w k p q = tt
       by (variant.Wrong f) (Faulty g fs) k p q = absurd cc
-      by (variant.Wrong f) Unjudged k p q = absurd p
+      by (variant.Wrong f) Unjudged k p q = absurd (true≢false (sym p))
       by (variant.Wrong f) (Of t) k p q = absurd cc
       by variant.NotJudged (Faulty g fs) k p q = absurd cc
-      by variant.NotJudged Unjudged k p q = absurd p
+      by variant.NotJudged Unjudged k p q = absurd (true≢false (sym p))
       by variant.NotJudged (Of t) k p q = absurd cc
 
 -- ---- all parameters
 
-pub all_in_order : (ps : List Parameter) (ms : List tree.Member) (vs : List (Verdict StaticType)) → AreParameters ps ms vs → all_faults vs ≡ []
-    → AllInOrder ps
-all_in_order [] [] [] h e = tt
-all_in_order (p ∷ ps) (m ∷ ms) (v ∷ vs) h e =
+pub all_in_order : (ps : List Parameter) (ms : List tree.Member) (vs : List (Verdict StaticType)) → AreParameters ps ms vs → AllPlain false vs
+    → all_faults vs ≡ [] → AllInOrder ps
+all_in_order [] [] [] h k e = tt
+all_in_order (p ∷ ps) (m ∷ ms) (v ∷ vs) h k e =
     let both = none_of_both (rules_of.faults_of v) (all_faults vs) e in
-    (is_in_order p.of v h.0.typed h.0.plain both.0, all_in_order ps ms vs h.1 both.1)
-all_in_order ps ms vs h e = absurd h
+    (is_in_order p.of v h.0.typed k.0 both.0, all_in_order ps ms vs h.1 k.1 both.1)
+all_in_order ps ms vs h k e = absurd h
 
 pub names_same : (ps : List Parameter) (ms : List tree.Member) (vs : List (Verdict StaticType)) → AreParameters ps ms vs
     → map (λ (p : Parameter). p.name.now) ps ≡ map (λ (m : tree.Member). m.name.text) ms
@@ -108,21 +96,15 @@ types_same (p ∷ ps) (m ∷ ms) (v ∷ vs) h =
     ap (λ x. x ∷ map (λ (p : Parameter). known_static p.of) ps) (known_same p.of v h.0.typed) ∙ ap (λ xs. known v ∷ xs) (types_same ps ms vs h.1)
 types_same ps ms vs h = absurd h
 
-pub all_judged : (ps : List Parameter) (ms : List tree.Member) (vs : List (Verdict StaticType)) → AreParameters ps ms vs → AllJudged ps
-all_judged [] [] [] h = tt
-all_judged (p ∷ ps) (m ∷ ms) (v ∷ vs) h = (is_judged p.of v h.0.typed h.0.plain, all_judged ps ms vs h.1)
-all_judged ps ms vs h = absurd h
+no_key : (structs : Bool) (v : Verdict StaticType) (vs : List (Verdict StaticType)) → IsPlain structs v → key_regions (v ∷ vs) ≡ key_regions vs
+no_key structs (Faulty f fs) vs h = refl
+no_key structs Unjudged vs h = refl
+no_key structs (Of (Key r)) vs h = absurd h
+no_key structs (Of t) vs h = refl
 
-no_key : (v : Verdict StaticType) (vs : List (Verdict StaticType)) → IsPlain v → key_regions (v ∷ vs) ≡ key_regions vs
-no_key (Faulty f fs) vs h = refl
-no_key Unjudged vs h = refl
-no_key (Of (Key r)) vs h = absurd h
-no_key (Of t) vs h = refl
-
-pub no_keys : (ps : List Parameter) (ms : List tree.Member) (vs : List (Verdict StaticType)) → AreParameters ps ms vs → key_regions vs ≡ []
-no_keys [] [] [] h = refl
-no_keys (p ∷ ps) (m ∷ ms) (v ∷ vs) h = no_key v vs h.0.plain ∙ no_keys ps ms vs h.1
-no_keys ps ms vs h = absurd h
+pub no_keys : (structs : Bool) (vs : List (Verdict StaticType)) → AllPlain structs vs → key_regions vs ≡ []
+no_keys structs [] h = refl
+no_keys structs (v ∷ vs) h = no_key structs v vs h.0 ∙ no_keys structs vs h.1
 
 -- ---- one more
 
@@ -133,7 +115,12 @@ parameter_more p m v k [] [] [] h = (k, tt)
 parameter_more p m v k (q ∷ ps) (n ∷ ms) (w ∷ vs) h = (h.0, parameter_more p m v k ps ms vs h.1)
 parameter_more p m v k ps ms vs h = absurd h
 
-module _ (g : Tables) (m : tree.Member) where
+plain_more : (structs : Bool) (v : Verdict StaticType) → IsPlain structs v → (vs : List (Verdict StaticType)) → AllPlain structs vs
+    → AllPlain structs (vs ++ v ∷ [])
+plain_more structs v k [] h = (k, tt)
+plain_more structs v k (w ∷ vs) h = (h.0, plain_more structs v k vs h.1)
+
+module _ (structs : Bool) (g : Tables) (m : tree.Member) where
   abbrev type_at : Variables → Verdict StaticType
   type_at vs = parameter_type g m.of (take_spots vs (spots_of g m.of))
 
@@ -151,20 +138,22 @@ module _ (g : Tables) (m : tree.Member) where
   variables_more vs [] = refl
   variables_more vs (n ∷ ms) = variables_more (take_spots vs (spots_of g n.of)).after_all ms
 
-  pub read_more : (vs new : Variables) (ps : List Parameter) (p : Parameter) (ms : List tree.Member) → AreRead g vs ps ms → IsParameter p m (type_at vs)
-      → new ≡ after_at vs → AreRead g new (ps ++ p ∷ []) (ms ++ m ∷ [])
-  read_more vs new ps p ms h k e =
+  pub read_more : (vs new : Variables) (ps : List Parameter) (p : Parameter) (ms : List tree.Member) → AreRead structs g vs ps ms
+      → IsParameter p m (type_at vs) → IsPlain structs (type_at vs) → new ≡ after_at vs → AreRead structs g new (ps ++ p ∷ []) (ms ++ m ∷ [])
+  read_more vs new ps p ms h k q e =
       let r = read_parameters g (variables [] 0) ms in
       record {
         variables_after = e ∙ ap after_at h.variables_after ∙ sym (variables_more (variables [] 0) ms);
         parameters = subst (λ ts. AreParameters (ps ++ p ∷ []) (ms ++ m ∷ []) ts) (sym (types_more (variables [] 0) ms))
             (parameter_more p m (type_at r.variables_after) (subst (λ us. IsParameter p m (type_at us)) h.variables_after k) ps ms r.types h.parameters);
+        plain = subst (AllPlain structs) (sym (types_more (variables [] 0) ms))
+            (plain_more structs (type_at r.variables_after) (subst (λ us. IsPlain structs (type_at us)) h.variables_after q) r.types h.plain);
       }
 
 -- of the rest of the members one comes next
-pub next_member : (ms : List tree.Member) (xs : List code_member.Member) (i : ℕ) (x : code_member.Member) → drop i xs ≡ x ∷ drop (i + 1) xs
-    → (ms ++ member_taken thin_pointers (member_tree x) ∷ []) ++ members_taken thin_pointers (map member_tree (drop (i + 1) xs))
-    ≡ ms ++ members_taken thin_pointers (map member_tree (drop i xs))
-next_member ms xs i x e =
-    append_assoc ms (member_taken thin_pointers (member_tree x) ∷ []) (members_taken thin_pointers (map member_tree (drop (i + 1) xs)))
-    ∙ ap (λ ys. ms ++ members_taken thin_pointers (map member_tree ys)) (sym e)
+pub next_member : (k : Taken) (ms : List tree.Member) (xs : List code_member.Member) (i : ℕ) (x : code_member.Member) → drop i xs ≡ x ∷ drop (i + 1) xs
+    → (ms ++ member_taken k (member_tree x) ∷ []) ++ members_taken k (map member_tree (drop (i + 1) xs))
+    ≡ ms ++ members_taken k (map member_tree (drop i xs))
+next_member k ms xs i x e =
+    append_assoc ms (member_taken k (member_tree x) ∷ []) (members_taken k (map member_tree (drop (i + 1) xs)))
+    ∙ ap (λ ys. ms ++ members_taken k (map member_tree ys)) (sym e)

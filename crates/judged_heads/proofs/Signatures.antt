@@ -15,7 +15,7 @@ use Rattle.type_verdicts.specs.declared.fault.Fault.{Fault}
 use Rattle.type_verdicts.specs.declared.verdict.Verdict.TheVariants as variant
 use Rattle.judged_heads.proofs.Parameters.{not_unknown}
 use Rattle.judged_heads.specs.Bodies.{types_of}
-use Rattle.judged_heads.specs.Heads.{IsHead, effect_in, known_static}
+use Rattle.judged_heads.specs.Heads.{IsHead, IsJudged, effect_in, known_static}
 use Rattle.judged_heads.specs.declared.head.Head as found
 use Rattle.cyc_tree.specs.Tree as tree
 
@@ -48,5 +48,5 @@ module _ (c : found.Head) (f : tree.Function) (h : rules.Head) (is : IsHead c f 
       (means.Means.Function s)
 
   -- a result that isn't in order is at fault
-  pub no_result : c.fault ≡ None → None ≡ known_static c.result → Means (Some (OfFunction h.signature)) (Some code.NotKnown)
-  no_result none e = absurd (not_unknown c.result (is.result_in_order none) e)
+  pub no_result : IsJudged c → c.fault ≡ None → None ≡ known_static c.result → Means (Some (OfFunction h.signature)) (Some code.NotKnown)
+  no_result judged none e = absurd (not_unknown c.result (judged.result_in_order none) e)

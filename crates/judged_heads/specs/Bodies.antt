@@ -1,11 +1,15 @@
 -- What a function's body is judged in.
-use Rattle.std.specs.Prelude.{List, None, Option, Some, map, ℕ}
+use Rattle.std.specs.Prelude.{Bool, List, None, Option, Some, false, map, true, ℕ, ◌≡◌}
+use Rattle.cyc_types.specs.Sameness.{HasTags}
 use Rattle.source_typing.specs.Tables.{Tables, find}
 use Rattle.source_typing.specs.Types.{StaticType}
 use Rattle.scoped_names.specs.Globals.{global_meaning}
 use Rattle.scoped_names.specs.Means.{Means}
 use Rattle.scoped_names.specs.declared.globals.Globals.{Globals}
+use Rattle.scoped_names.specs.declared.meaning.Meaning.TheVariants as code
+use Rattle.written_types.specs.Naming.{AreTagNames}
 use Rattle.judged_heads.specs.Heads.{known_static}
+use Rattle.judged_heads.specs.declared.body.Names.{Names}
 use Rattle.judged_heads.specs.declared.head.Parameter.{Parameter}
 use Rattle.cyc_tree.specs.Tree as tree
 use Rattle.source_typing.specs.Faults as rules
@@ -13,6 +17,14 @@ use Rattle.source_typing.specs.Faults as rules
 -- each global and function means what it means by the rules
 abbrev pub KnowsGlobals : Globals → Tables → Type 0
 KnowsGlobals s g = (x : List ℕ) → Means (find g x) (global_meaning s x)
+
+-- Each name of a program means what it means by the rules, also where a tag is wanted, and so do structs and unions where they are taken.
+pub record KnowsNames (s : Names) (g : Tables) : Type 0 where
+  pub globals : KnowsGlobals s.globals.now g
+  pub tag_names : AreTagNames s.taken s.tags.now g
+  pub tags : s.taken.structs ≡ true → HasTags s.tables.now g
+  -- where structs aren't taken, no name means a sound one
+  pub untaken : s.taken.structs ≡ false → (x : List ℕ) (u : Bool) → global_meaning s.globals.now x ≡ Some (code.Tag u) → ⊥
 
 -- parameters by their names, and by their types where these are known
 abbrev pub code_names : List Parameter → List (List ℕ)

@@ -20,15 +20,6 @@ known_static (variant.Of t) = Some (static_type t)
 known_static (variant.Wrong f) = None
 known_static variant.NotJudged = None
 
--- A phrase is at fault or in order: here no phrase is left unjudged.
-abbrev pub IsJudged : verdict.Verdict CType → Type 0
-IsJudged variant.NotJudged = ⊥
-IsJudged v = Unit {0}
-
-abbrev pub AllJudged : List Parameter → Type 0
-AllJudged [] = Unit {0}
-AllJudged (p ∷ ps) = IsJudged p.of × AllJudged ps
-
 -- A phrase is in order.
 abbrev pub IsInOrder : verdict.Verdict CType → Type 0
 IsInOrder (variant.Of t) = Unit {0}
@@ -54,8 +45,8 @@ pub record IsHead (c : code.Head) (f : tree.Function) (h : rules.Head) : Type 0 
   pub bounds : h.signature.bounds ≡ []
   pub fault : faults_of c.fault ≡ earliest h.faults
   pub sound : is_none c.fault ≡ h.signature.sound
-  pub judged : AllJudged c.parameters.items
-  pub result_judged : IsJudged c.result
-  -- where the head has no fault, its parameters and its result have none
+
+-- Each of its types is judged: where the head has no fault, its parameters and its result are in order.
+pub record IsJudged (c : code.Head) : Type 0 where
   pub in_order : c.fault ≡ None → AllInOrder c.parameters.items
   pub result_in_order : c.fault ≡ None → IsInOrder c.result

@@ -29,11 +29,15 @@ abbrev pub NoKeyIn : {R : Type 0} → Option (TypeIn R) → Type 0
 NoKeyIn None = Unit {0}
 NoKeyIn (Some t) = NoKey t
 
--- it is at fault or in order, and isn't a key
-abbrev pub IsPlain : {R : Type 0} → Verdict (TypeIn R) → Type 0
-IsPlain (Faulty f fs) = Unit {0}
-IsPlain Unjudged = ⊥
-IsPlain (Of t) = NoKey t
+-- it is at fault or in order, and isn't a key; where structs are taken it may be one that isn't judged
+abbrev pub IsPlain : {R : Type 0} → Bool → Verdict (TypeIn R) → Type 0
+IsPlain structs (Faulty f fs) = Unit {0}
+IsPlain structs Unjudged = (structs ≡ true)
+IsPlain structs (Of t) = NoKey t
+
+abbrev pub AllPlain : Bool → List (Verdict StaticType) → Type 0
+AllPlain structs [] = Unit {0}
+AllPlain structs (v ∷ vs) = IsPlain structs v × AllPlain structs vs
 
 -- ---- parameters
 
@@ -42,17 +46,17 @@ pub record IsParameter (p : Parameter) (m : tree.Member) (v : Verdict StaticType
   pub named : p.name.now ≡ m.name.text
   pub placed : p.at ≡ m.name.at
   pub typed : short_of static_type p.of ≡ shortened v
-  pub plain : IsPlain v
 
 abbrev pub AreParameters : List Parameter → List tree.Member → List (Verdict StaticType) → Type 0
 AreParameters [] [] [] = Unit {0}
 AreParameters (p ∷ ps) (m ∷ ms) (v ∷ vs) = IsParameter p m v × AreParameters ps ms vs
 AreParameters ps ms vs = ⊥
 
--- they are read, and these are the region variables after them
-pub record AreRead (g : Tables) (vs : Variables) (ps : List Parameter) (ms : List tree.Member) : Type 0 where
+-- they are read, with structs or without, and these are the region variables after them
+pub record AreRead (structs : Bool) (g : Tables) (vs : Variables) (ps : List Parameter) (ms : List tree.Member) : Type 0 where
   pub variables_after : vs ≡ (read_parameters g (variables [] 0) ms).variables_after
   pub parameters : AreParameters ps ms (read_parameters g (variables [] 0) ms).types
+  pub plain : AllPlain structs (read_parameters g (variables [] 0) ms).types
 
 -- ---- forms that aren't taken
 

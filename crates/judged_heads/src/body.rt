@@ -9,14 +9,15 @@ ghost use Rattle.source_typing.specs.Functions.{body_scope, end_reached, functio
 ghost use Rattle.source_typing.specs.Functions as rules;
 ghost use Rattle.source_typing.specs.Scope.{Env, with_local};
 ghost use Rattle.source_typing.specs.Statements.{items_faults};
-ghost use Rattle.source_typing.specs.Tables.{Tables, find};
-ghost use Rattle.source_typing.specs.Taken.{function_taken, thin_pointers};
+ghost use Rattle.source_typing.specs.Tables as known;
+ghost use Rattle.source_typing.specs.Taken.{function_taken};
+ghost use Rattle.type_verdicts.specs.Taken.{taken_of};
+ghost use Rattle.type_verdicts.specs.declared.taken.Taken as code_taken;
 ghost use Rattle.type_verdicts.specs.Faults.{faults_of};
-ghost use Rattle.scoped_names.specs.Globals.{global_meaning};
 ghost use Rattle.scoped_names.specs.Knows.{Knows};
-ghost use Rattle.scoped_names.specs.Means.{Means, WhatIs};
+ghost use Rattle.scoped_names.specs.Means.{WhatIs};
 ghost use Rattle.judged_statements.specs.Contexts.{StandsIn};
-ghost use Rattle.judged_heads.specs.Bodies.{KnowsGlobals, code_names, names_of, own_found, types_of};
+ghost use Rattle.judged_heads.specs.Bodies.{KnowsNames, code_names, names_of, own_found, types_of};
 ghost use Rattle.judged_heads.specs.Heads.{IsHead, known_static};
 
 use crate::effect::effect_of;
@@ -24,12 +25,23 @@ use crate::head::{Head, Parameter, is_main, read_head};
 use crate::meaning::known_type;
 use crate::ways::items_fall;
 use cyc_tree::Function;
-use cyc_types::{CType, RegionId};
+use cyc_types::{CType, RegionId, Tables};
 use judged_statements::{Context, items_fault};
 use scoped_names::{Globals, Locals, Scope, What};
 use scoped_types::RegionScope;
 use std::alloc::{AllocError, Global};
-use type_verdicts::{Fault, FaultKind, Verdict, sooner};
+use type_verdicts::{Fault, FaultKind, Taken, Verdict, sooner};
+use written_types::TagNames;
+
+/// What the names of a program mean: as values, and where the tag of a struct or union is wanted.
+#[derive(Clone, Copy)]
+pub struct Names<'g, 'p> {
+    pub globals: &'g Globals<'p>,
+    pub tags: &'g TagNames<'p>,
+    /// The structs and unions, where structs are taken.
+    pub tables: &'g Tables<'p>,
+    pub taken: Taken,
+}
 
 /// What a parameter of a type is as a local of the block with this stack region. Fails only where no host memory is left.
 fn local_of<'p>(frame: RegionId, of: &Verdict<CType<'p>>) -> Result<What<'p>, AllocError>
@@ -47,8 +59,9 @@ fn declare_parameter<'p>(
     context: Context<'_, 'p>,
     parameter: &Parameter<'p>,
 ) -> Result<(), AllocError>
-    ensures { (g : Env) (x : tree.Name) → x.text ≡ parameter.now.name.now → StandsIn context.entry 0 scope.old g
+    ensures stands { (g : Env) (x : tree.Name) → x.text ≡ parameter.now.name.now → StandsIn context.entry 0 scope.old g
         → OnOk result (StandsIn context.entry 0 scope.new (with_local x (what_of_known g.frame (known_static parameter.now.of)) g)) }
+    ensures taken { OnOk result (scope.new.taken ≡ scope.old.taken) }
 {
     if scope.locals.is_second(0, parameter.name) {
         return Ok(());
@@ -64,8 +77,9 @@ fn declare_parameters<'p>(
     context: Context<'_, 'p>,
     parameters: &[Parameter<'p>],
 ) -> Result<(), AllocError>
-    ensures { (g : Env) (ms : List tree.Member) → code_names parameters.now ≡ names_of ms → StandsIn context.entry 0 scope.old g
+    ensures stands { (g : Env) (ms : List tree.Member) → code_names parameters.now ≡ names_of ms → StandsIn context.entry 0 scope.old g
         → OnOk result (StandsIn context.entry 0 scope.new (with_parameters ms (types_of parameters.now) g)) }
+    ensures taken { OnOk result (scope.new.taken ≡ scope.old.taken) }
 {
     'each: for parameter in parameters {
         declare_parameter(scope, context, parameter)?;
@@ -76,20 +90,23 @@ fn declare_parameters<'p>(
 /// What is in scope where a function's body begins, without its parameters. Fails only where no host memory is left.
 fn entered<'g, 'p>(
     alloc: Global,
-    globals: &'g Globals<'p>,
+    names: Names<'g, 'p>,
     lenient: bool,
     head: &Head<'p>,
 ) -> Result<Scope<'g, 'p>, AllocError>
-    ensures known { (g : Tables) (i : ℕ) (f : tree.Function) (h : rules.Head) → KnowsGlobals globals.entry.now g → IsHead head.now f h
+    ensures known { (g : known.Tables) (i : ℕ) (f : tree.Function) (h : rules.Head) → KnowsNames names.entry g → IsHead head.now f h
         → IfOk result (λ s. Knows s (function_scope lenient g i h)) }
     ensures alone { IfOk result (λ s. s.locals ≡ []) }
+    ensures taken { IfOk result (λ s. s.taken ≡ names.entry.taken) }
 {
     let count = head.variables.count();
     let effect = effect_of(alloc, head.is_whole, count)?;
     let mut regions = RegionScope::of_function(alloc, count, effect.as_slice(), &[])?;
     regions.begin_block()?;
     Ok(Scope {
-        globals,
+        globals: names.globals,
+        tables: names.tables,
+        taken: names.taken,
         locals: Locals::new(alloc),
         regions,
         lenient,
@@ -99,20 +116,22 @@ fn entered<'g, 'p>(
 /// The earliest fault of a function's body. Fails only where no host memory is left.
 fn body_fault<'p>(
     alloc: Global,
-    globals: &Globals<'p>,
+    names: Names<'_, 'p>,
     lenient: bool,
+    item: u32,
     head: &Head<'p>,
     function: &'p Function,
 ) -> Result<Option<Fault>, AllocError>
-    ensures { (g : Tables) (i : ℕ) (h : rules.Head) → KnowsGlobals globals.now g
-        → let f = function_taken thin_pointers (function_tree function.entry.now) in IsHead head.now f h
-        → IfOk result (λ found. faults_of found ≡ earliest (items_faults (body_scope lenient g i f h) true f.body)) }
+    ensures { (g : known.Tables) (h : rules.Head) → KnowsNames names.entry g
+        → let f = function_taken (taken_of names.entry.taken) (function_tree function.entry.now) in IsHead head.now f h
+        → IfOk result (λ found. faults_of found ≡ earliest (items_faults (body_scope lenient g item f h) true f.body)) }
 {
-    let mut scope = entered(alloc, globals, lenient, head)?;
+    let mut scope = entered(alloc, names, lenient, head)?;
     let context = Context {
         names: head.variables.names(),
         result: known_type(&head.result),
         frame: RegionId::Level(head.variables.count()),
+        item,
         in_loop: false,
     };
     declare_parameters(&mut scope, context, head.parameters.as_slice())?;
@@ -131,7 +150,7 @@ fn needs_return(of: &Verdict<CType>) -> bool
 
 /// The fault of a function whose end is reached without a result.
 fn end_fault(head: &Head, function: &Function) -> Option<Fault>
-    ensures { (h : rules.Head) → let f = function_taken thin_pointers (function_tree function.now) in IsHead head.now f h
+    ensures { (k : code_taken.Taken) (h : rules.Head) → let f = function_taken (taken_of k) (function_tree function.now) in IsHead head.now f h
         → faults_of result ≡ earliest (test (not (end_reached f h)) type_rule f.end) }
 {
     let is_reached = head.fault.is_none()
@@ -157,19 +176,21 @@ fn first_or(parts: Option<Fault>, own: Option<Fault>) -> Option<Fault>
     }
 }
 
-/// The earliest fault of a function, where these are the program's functions and globals; with or without the rules on live regions and
-/// effects. Fails only where no host memory is left.
+/// The earliest fault of a function after so many items, where the program's names mean this; with or without the rules on live regions
+/// and effects. Fails only where no host memory is left.
 pub fn function_fault<'p>(
     alloc: Global,
-    globals: &Globals<'p>,
+    names: Names<'_, 'p>,
     lenient: bool,
+    item: u32,
     function: &'p Function,
 ) -> Result<Option<Fault>, AllocError>
-    ensures { (g : Tables) (i : ℕ) → ((x : List ℕ) → Means (find g x) (global_meaning globals.now x))
-        → IfOk result (λ f. faults_of f ≡ earliest (function_faults lenient g i (function_taken thin_pointers (function_tree function.entry.now)))) }
+    ensures { (g : known.Tables) → KnowsNames names.entry g
+        → IfOk result (λ f. faults_of f
+        ≡ earliest (function_faults lenient g item (function_taken (taken_of names.entry.taken) (function_tree function.entry.now)))) }
 {
-    let head = read_head(alloc, function)?;
-    let body = body_fault(alloc, globals, lenient, &head, function)?;
+    let head = read_head(alloc, names.taken, names.tags, function)?;
+    let body = body_fault(alloc, names, lenient, item, &head, function)?;
     let end = end_fault(&head, function);
     Ok(sooner(head.fault, first_or(body, end)))
 }

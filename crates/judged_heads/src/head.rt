@@ -1,11 +1,13 @@
 // The heads of functions.
 
-ghost use Rattle.std.specs.Prelude.{◌≡◌, Bool, IfOk, bytes_eq, codes};
+ghost use Rattle.std.specs.Prelude.{◌≡◌, Bool, IfOk, bytes_eq, codes, false};
 ghost use Rattle.cyc_tree.specs.View.{effect_tree, function_tree};
 ghost use Rattle.source_typing.specs.Functions.{head_of};
 ghost use Rattle.source_typing.specs.Tables.{Tables};
-ghost use Rattle.source_typing.specs.Taken.{function_taken, thin_pointers};
-ghost use Rattle.judged_heads.specs.Heads.{IsHead};
+ghost use Rattle.source_typing.specs.Taken.{function_taken};
+ghost use Rattle.type_verdicts.specs.Taken.{taken_of};
+ghost use Rattle.written_types.specs.Naming.{AreTagNames};
+ghost use Rattle.judged_heads.specs.Heads.{IsHead, IsJudged};
 ghost use Rattle.judged_heads.specs.Reading.{is_whole};
 
 use crate::found::head_fault;
@@ -13,8 +15,8 @@ use crate::reading::Parameters;
 use cyc_tree::{Function, RegionNames};
 use cyc_types::CType;
 use std::alloc::{AllocError, Global};
-use type_verdicts::{Fault, Verdict};
-use written_types::{RegionVariables, result_type};
+use type_verdicts::{Fault, Taken, Verdict};
+use written_types::{RegionVariables, TagNames, result_type_in, tag_of_type};
 
 /// What stands as a parameter: its name, and what its type is. A form of a head that isn't taken stands as one at fault, with a name that
 /// no text has.
@@ -56,13 +58,22 @@ fn is_whole(effect: &Option<RegionNames>) -> bool
     }
 }
 
-/// What a function's head says, with its earliest fault. Fails only where no host memory is left.
-pub fn read_head<'p>(alloc: Global, function: &'p Function) -> Result<Head<'p>, AllocError>
-    ensures { (lenient : Bool) (g : Tables)
-        → IfOk result (λ h. let f = function_taken thin_pointers (function_tree function.entry.now) in IsHead h f (head_of lenient g f)) }
+/// What a function's head says, with its earliest fault, where names mean this in place of tags. Fails only where no host memory is
+/// left.
+pub fn read_head<'p>(
+    alloc: Global,
+    taken: Taken,
+    tags: &TagNames<'_>,
+    function: &'p Function,
+) -> Result<Head<'p>, AllocError>
+    ensures head { (lenient : Bool) (g : Tables) → AreTagNames taken tags.now g
+        → IfOk result (λ h. let f = function_taken (taken_of taken) (function_tree function.entry.now) in IsHead h f (head_of lenient g f)) }
+    ensures judged { taken.structs ≡ false → IfOk result IsJudged }
 {
-    let parameters = Parameters::of(alloc, function)?;
-    let result = result_type(alloc, parameters.variables.names(), &function.result)?;
+    let parameters = Parameters::of(alloc, taken, tags, function)?;
+    let tag = tag_of_type(taken, tags, &function.result);
+    let names = parameters.variables.names();
+    let result = result_type_in(alloc, taken, tag, names, &function.result)?;
     let fault = head_fault(alloc, &function.name, &parameters.items, &result)?;
     Ok(Head {
         variables: parameters.variables,

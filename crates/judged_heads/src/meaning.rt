@@ -7,7 +7,7 @@ ghost use Rattle.source_typing.specs.Functions as rules;
 ghost use Rattle.source_typing.specs.Tables.{OfFunction};
 ghost use Rattle.scoped_names.specs.Means.{Means};
 ghost use Rattle.judged_heads.specs.Bodies.{types_of};
-ghost use Rattle.judged_heads.specs.Heads.{AllInOrder, IsHead, known_static};
+ghost use Rattle.judged_heads.specs.Heads.{AllInOrder, IsHead, IsJudged, known_static};
 
 use crate::effect::effect_of;
 use crate::head::{Head, Parameter};
@@ -42,9 +42,11 @@ fn known_types<'p>(
     Ok(types)
 }
 
-/// What the name of a function with this head means: a function, where the head has no fault. Fails only where no host memory is left.
+/// What the name of a function with this head means, where each type in it is judged: a function, where the head has no fault. Fails
+/// only where no host memory is left.
 pub fn head_meaning<'p>(alloc: Global, head: Head<'p>) -> Result<Meaning<'p>, AllocError>
-    ensures { (f : Function) (h : rules.Head) → IsHead head.entry f h → IfOk result (λ m. Means (Some (OfFunction h.signature)) (Some m)) }
+    ensures { (f : Function) (h : rules.Head) → IsHead head.entry f h → IsJudged head.entry
+        → IfOk result (λ m. Means (Some (OfFunction h.signature)) (Some m)) }
 {
     let Head {
         variables,

@@ -1,16 +1,19 @@
 // The parameters of heads.
 
-ghost use Rattle.std.specs.Prelude.{◌≡◌, IfOk, List, OnOk, [], ◌++◌, ◌∷◌, map};
+ghost use Rattle.std.specs.Prelude.{◌≡◌, Bool, IfOk, List, OnOk, [], ◌++◌, ◌∷◌, map};
 ghost use Rattle.cyc_tree.specs.Tree as tree;
 ghost use Rattle.cyc_tree.specs.View.{bound_tree, effect_tree, function_tree, member_tree};
 ghost use Rattle.source_typing.specs.Tables.{Tables};
-ghost use Rattle.source_typing.specs.Taken.{function_taken, member_taken, members_taken, refused_member, thin_pointers};
+ghost use Rattle.source_typing.specs.Taken.{function_taken, member_taken, members_taken, refused_member};
+ghost use Rattle.type_verdicts.specs.Taken.{taken_of};
+ghost use Rattle.written_types.specs.Naming.{AreTagNames};
 ghost use Rattle.judged_heads.specs.Reading.{AreRead, bound_place, effect_place, form_at};
 
 use crate::head::Parameter;
 use cyc_tree::{Bound, Function, Member, RegionNames};
 use std::alloc::{AllocError, Global};
-use written_types::RegionVariables;
+use type_verdicts::Taken;
+use written_types::{RegionVariables, TagNames, tag_of_type};
 
 /// The parameters of a head as far as they are read, and the region variables of their types.
 #[derive(Drop)]
@@ -45,7 +48,7 @@ fn bound_place(bounds: &[Bound]) -> Option<u32>
 impl<'p> Parameters<'p> {
     /// None.
     fn new(alloc: Global) -> Self
-        ensures { (g : Tables) → AreRead g result.variables result.items.items [] }
+        ensures { (structs : Bool) (g : Tables) → AreRead structs g result.variables result.items.items [] }
     {
         Parameters {
             variables: RegionVariables::new(alloc),
@@ -54,11 +57,19 @@ impl<'p> Parameters<'p> {
     }
 
     /// Reads one more. Fails only where no host memory is left.
-    fn add(&mut self, alloc: Global, member: &'p Member) -> Result<(), AllocError>
-        ensures { (g : Tables) (ms : List tree.Member) → AreRead g self.old.variables self.old.items.items ms
-            → OnOk result (AreRead g self.new.variables self.new.items.items (ms ++ member_taken thin_pointers (member_tree member.entry.now) ∷ [])) }
+    fn add(
+        &mut self,
+        alloc: Global,
+        taken: Taken,
+        tags: &TagNames<'_>,
+        member: &'p Member,
+    ) -> Result<(), AllocError>
+        ensures { (g : Tables) (ms : List tree.Member) → AreTagNames taken tags.now g → AreRead taken.structs g self.old.variables self.old.items.items ms
+            → OnOk result (AreRead taken.structs g self.new.variables self.new.items.items
+            (ms ++ member_taken (taken_of taken) (member_tree member.entry.now) ∷ [])) }
     {
-        let of = self.variables.parameter(alloc, &member.of)?;
+        let tag = tag_of_type(taken, tags, &member.of);
+        let of = self.variables.parameter_in(alloc, taken, tag, &member.of)?;
         self.items.push(Parameter {
             name: &member.name.text,
             at: member.name.at,
@@ -68,20 +79,27 @@ impl<'p> Parameters<'p> {
     }
 
     /// Reads these. Fails only where no host memory is left.
-    fn add_all(&mut self, alloc: Global, members: &'p [Member]) -> Result<(), AllocError>
-        ensures { (g : Tables) (ms : List tree.Member) → AreRead g self.old.variables self.old.items.items ms
-            → OnOk result (AreRead g self.new.variables self.new.items.items (ms ++ members_taken thin_pointers (map member_tree members.entry.now))) }
+    fn add_all(
+        &mut self,
+        alloc: Global,
+        taken: Taken,
+        tags: &TagNames<'_>,
+        members: &'p [Member],
+    ) -> Result<(), AllocError>
+        ensures { (g : Tables) (ms : List tree.Member) → AreTagNames taken tags.now g → AreRead taken.structs g self.old.variables self.old.items.items ms
+            → OnOk result (AreRead taken.structs g self.new.variables self.new.items.items
+            (ms ++ members_taken (taken_of taken) (map member_tree members.entry.now))) }
     {
         'each: for member in members {
-            self.add(alloc, member)?;
+            self.add(alloc, taken, tags, member)?;
         }
         Ok(())
     }
 
     /// Adds what stands for a form that isn't taken, under this name. Fails only where no host memory is left.
     fn add_refused(&mut self, at: u32, name: &'p [u8]) -> Result<(), AllocError>
-        ensures { (g : Tables) (ms : List tree.Member) → AreRead g self.old.variables self.old.items.items ms
-            → OnOk result (AreRead g self.new.variables self.new.items.items (ms ++ refused_member at name.entry.now ∷ [])) }
+        ensures { (structs : Bool) (g : Tables) (ms : List tree.Member) → AreRead structs g self.old.variables self.old.items.items ms
+            → OnOk result (AreRead structs g self.new.variables self.new.items.items (ms ++ refused_member at name.entry.now ∷ [])) }
     {
         let of = self.variables.refused_parameter(at)?;
         self.items.push(Parameter { name, at, of })?;
@@ -90,8 +108,8 @@ impl<'p> Parameters<'p> {
 
     /// Adds what stands for a form that isn't taken, where there is one. Fails only where no host memory is left.
     fn add_form(&mut self, place: Option<u32>, name: &'p [u8]) -> Result<(), AllocError>
-        ensures { (g : Tables) (ms : List tree.Member) → AreRead g self.old.variables self.old.items.items ms
-            → OnOk result (AreRead g self.new.variables self.new.items.items (ms ++ form_at place name.entry.now)) }
+        ensures { (structs : Bool) (g : Tables) (ms : List tree.Member) → AreRead structs g self.old.variables self.old.items.items ms
+            → OnOk result (AreRead structs g self.new.variables self.new.items.items (ms ++ form_at place name.entry.now)) }
     {
         match place {
             Some(at) => self.add_refused(at, name),
@@ -101,12 +119,17 @@ impl<'p> Parameters<'p> {
 
     /// The parameters of a function, and what stands for an effect that names a region and for bounds. Fails only where no host memory
     /// is left.
-    pub(crate) fn of(alloc: Global, function: &'p Function) -> Result<Parameters<'p>, AllocError>
-        ensures { (g : Tables) → IfOk result (λ ps. AreRead g ps.variables ps.items.items
-            (function_taken thin_pointers (function_tree function.entry.now)).parameters) }
+    pub(crate) fn of(
+        alloc: Global,
+        taken: Taken,
+        tags: &TagNames<'_>,
+        function: &'p Function,
+    ) -> Result<Parameters<'p>, AllocError>
+        ensures { (g : Tables) → AreTagNames taken tags.now g → IfOk result (λ ps. AreRead taken.structs g ps.variables ps.items.items
+            (function_taken (taken_of taken) (function_tree function.entry.now)).parameters) }
     {
         let mut parameters = Parameters::new(alloc);
-        parameters.add_all(alloc, &function.parameters)?;
+        parameters.add_all(alloc, taken, tags, &function.parameters)?;
         parameters.add_form(effect_place(&function.effect), b"".as_slice())?;
         parameters.add_form(bound_place(&function.bounds), b"\0".as_slice())?;
         Ok(parameters)

@@ -1,13 +1,13 @@
 -- What is answered of a phrase that is judged.
-use Rattle.std.proofs.Common.{◌≡◌, ℕ, Bool, true, false, Option, Some, None, List, [], ◌∷◌, refl, sym, ◌∙◌, ap}
+use Rattle.std.proofs.Common.{◌≡◌, ℕ, Bool, true, false, refl, ◌∙◌, ap}
 use Rattle.cyc_tree.specs.Places.{expression_place}
 use Rattle.cyc_tree.specs.Tree.{Expression}
-use Rattle.source_typing.specs.Faults.{Fault, earliest, sooner_of}
+use Rattle.source_typing.specs.Faults.{earliest}
 use Rattle.source_typing.specs.Taken.{Taken, are_linked, are_some, if_taken, taken, takes_prefix}
 use Rattle.source_typing.specs.Verdicts.{Faulty, Of, Unjudged, Verdict}
 use Rattle.source_typing.specs.Verdicts as rules
-use Rattle.type_verdicts.specs.Faults.{fault_of, faults_of}
-use Rattle.type_verdicts.specs.Verdicts.{Is, fault_found, fault_in, short_of, shortened}
+use Rattle.type_verdicts.specs.Faults.{faults_of}
+use Rattle.type_verdicts.specs.Verdicts.{fault_found, fault_in, short_of, shortened}
 use Rattle.type_verdicts.specs.declared.verdict.Verdict as code
 use Rattle.type_verdicts.specs.declared.verdict.Verdict.TheVariants as variant
 use Rattle.judged_statements.proofs.Declaring.{earliest_in}

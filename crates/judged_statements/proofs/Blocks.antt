@@ -11,7 +11,7 @@ use Rattle.source_typing.specs.Expressions.{judge}
 use Rattle.source_typing.specs.Faults.{Fault, earliest}
 use Rattle.source_typing.specs.Scope.{Env, block_entered}
 use Rattle.source_typing.specs.Statements.{in_a_loop, items_faults, returned, statement_faults}
-use Rattle.source_typing.specs.Taken.{declaration_taken, items_taken, statement_taken, taken, thin_pointers}
+use Rattle.source_typing.specs.Taken.{Taken, declaration_taken, items_taken, statement_taken, taken}
 use Rattle.source_typing.specs.Ways.{ways_of}
 use Rattle.type_verdicts.specs.Faults.{faults_of, first_of, sooner_found}
 use Rattle.type_verdicts.specs.declared.fault.Fault as found
@@ -34,59 +34,59 @@ use Rattle.judged_statements.specs.Contexts.{StandsIn, Suits}
 use Rattle.judged_statements.specs.declared.context.Context.{Context}
 
 -- the items of a block as far as they are taken
-abbrev pub taken_items : List OneItem → BlockItems
-taken_items items = items_taken thin_pointers (items_of items)
+abbrev pub taken_items : Taken → List OneItem → BlockItems
+taken_items k items = items_taken k (items_of items)
 
 -- the faults of one item, what is in scope after it, and whether its end is reached
-abbrev pub item_faults : Env → Bool → OneItem → List Fault
-item_faults g reached (OneItem.Declare d) = (declare g (declaration_taken thin_pointers d)).faults
-item_faults g reached (OneItem.Execute s) = statement_faults g reached (statement_taken thin_pointers s)
+abbrev pub item_faults : Taken → Env → Bool → OneItem → List Fault
+item_faults k g reached (OneItem.Declare d) = (declare g (declaration_taken k d)).faults
+item_faults k g reached (OneItem.Execute s) = statement_faults g reached (statement_taken k s)
 
-abbrev pub scope_behind : Env → OneItem → Env
-scope_behind g (OneItem.Declare d) = (declare g (declaration_taken thin_pointers d)).scope
-scope_behind g (OneItem.Execute s) = g
+abbrev pub scope_behind : Taken → Env → OneItem → Env
+scope_behind k g (OneItem.Declare d) = (declare g (declaration_taken k d)).scope
+scope_behind k g (OneItem.Execute s) = g
 
-abbrev pub reached_behind : Bool → OneItem → Bool
-reached_behind reached (OneItem.Declare d) = reached
-reached_behind reached (OneItem.Execute s) = reached && (ways_of (statement_taken thin_pointers s)).falls
+abbrev pub reached_behind : Taken → Bool → OneItem → Bool
+reached_behind k reached (OneItem.Declare d) = reached
+reached_behind k reached (OneItem.Execute s) = reached && (ways_of (statement_taken k s)).falls
 
-item_more : (g : Env) (reached : Bool) (i : OneItem) (rest : List OneItem) → items_faults g reached (taken_items (i ∷ rest))
-    ≡ item_faults g reached i ++ items_faults (scope_behind g i) (reached_behind reached i) (taken_items rest)
-item_more g reached (OneItem.Declare d) rest = refl
-item_more g reached (OneItem.Execute s) rest = refl
+item_more : (k : Taken) (g : Env) (reached : Bool) (i : OneItem) (rest : List OneItem) → items_faults g reached (taken_items k (i ∷ rest))
+    ≡ item_faults k g reached i ++ items_faults (scope_behind k g i) (reached_behind k reached i) (taken_items k rest)
+item_more k g reached (OneItem.Declare d) rest = refl
+item_more k g reached (OneItem.Execute s) rest = refl
 
 first_joined : (a b c : Option Fault) → first_of (first_of a b) c ≡ first_of a (first_of b c)
 first_joined None b c = refl
 first_joined (Some f) b c = sym (sooner_first f b c)
 
 -- where some items were judged: what stands in scope by the rules, and what was found, with the faults of the rest, is what is found of all
-pub record Going (c : Context) (outer : ℕ) (s : Scope) (o : Option found.Fault) (rest : List OneItem) (all : Option Fault) : Type 0 where
+pub record Going (k : Taken) (c : Context) (outer : ℕ) (s : Scope) (o : Option found.Fault) (rest : List OneItem) (all : Option Fault) : Type 0 where
   pub env : Env
   pub reached : Bool
   pub stands : StandsIn c outer s env
-  pub same : first_of (faults_of o) (earliest (items_faults env reached (taken_items rest))) ≡ all
+  pub same : first_of (faults_of o) (earliest (items_faults env reached (taken_items k rest))) ≡ all
 
-pub goes_on : (c : Context) (outer : ℕ) (s after : Scope) (o fault : Option found.Fault) (items : List code_item.BlockItem) (index : ℕ)
+pub goes_on : (k : Taken) (c : Context) (outer : ℕ) (s after : Scope) (o fault : Option found.Fault) (items : List code_item.BlockItem) (index : ℕ)
     (item : code_item.BlockItem) (all : Option Fault) → index < length items → item ≡ get_or items index item
-    → (h : Going c outer s o (map item_tree (drop index items)) all)
-    → faults_of fault ≡ earliest (item_faults h.env h.reached (item_tree item)) → StandsIn c outer after (scope_behind h.env (item_tree item))
-    → Going c outer after (sooner_found o fault) (map item_tree (drop (index + 1) items)) all
-goes_on c outer s after o fault items index item all l is_item h own stands =
+    → (h : Going k c outer s o (map item_tree (drop index items)) all)
+    → faults_of fault ≡ earliest (item_faults k h.env h.reached (item_tree item)) → StandsIn c outer after (scope_behind k h.env (item_tree item))
+    → Going k c outer after (sooner_found o fault) (map item_tree (drop (index + 1) items)) all
+goes_on k c outer s after o fault items index item all l is_item h own stands =
     let i : OneItem = item_tree item in
     let rest : List OneItem = map item_tree (drop (index + 1) items) in
-    let others : Option Fault = earliest (items_faults (scope_behind h.env i) (reached_behind h.reached i) (taken_items rest)) in
+    let others : Option Fault = earliest (items_faults (scope_behind k h.env i) (reached_behind k h.reached i) (taken_items k rest)) in
     let next : drop index items ≡ item ∷ drop (index + 1) items = drop_more items index item l ∙ ap (λ y. y ∷ drop (index + 1) items) (sym is_item) in
     record {
-      env = scope_behind h.env i;
-      reached = reached_behind h.reached i;
+      env = scope_behind k h.env i;
+      reached = reached_behind k h.reached i;
       stands = stands;
       same =
           ap (λ f. first_of f others) (found_sooner o fault) ∙ first_joined (faults_of o) (faults_of fault) others
           ∙ ap (λ f. first_of (faults_of o) (first_of f others)) own
           ∙ ap (λ f. first_of (faults_of o) f)
-          (sym (ap earliest (item_more h.env h.reached i rest)
-          ∙ earliest_of_both (item_faults h.env h.reached i) (items_faults (scope_behind h.env i) (reached_behind h.reached i) (taken_items rest))))
-          ∙ ap (λ xs. first_of (faults_of o) (earliest (items_faults h.env h.reached (taken_items (map item_tree xs))))) (sym next)
+          (sym (ap earliest (item_more k h.env h.reached i rest)
+          ∙ earliest_of_both (item_faults k h.env h.reached i) (items_faults (scope_behind k h.env i) (reached_behind k h.reached i) (taken_items k rest))))
+          ∙ ap (λ xs. first_of (faults_of o) (earliest (items_faults h.env h.reached (taken_items k (map item_tree xs))))) (sym next)
           ∙ h.same;
     }
 
@@ -97,11 +97,11 @@ two_found a b r fs gs e p q =
     ap (λ o. faults_of o) e ∙ found_sooner a b ∙ ap (λ o. first_of o (faults_of b)) p ∙ ap (λ o. first_of (earliest fs) o) q ∙ sym (earliest_of_both fs gs)
 
 -- a `return`, with a result or without
-pub return_faults : (g : Env) (reached : Bool) (at : ℕ) (v : Option code_expression.Expression)
-    → statement_faults g reached (statement_taken thin_pointers (Statement.Return at (option_map expression_tree v)))
-    ≡ returned g at g.result (option_map (λ e. judge g (taken thin_pointers (expression_tree e))) v)
-return_faults g reached at None = refl
-return_faults g reached at (Some e) = refl
+pub return_faults : (k : Taken) (g : Env) (reached : Bool) (at : ℕ) (v : Option code_expression.Expression)
+    → statement_faults g reached (statement_taken k (Statement.Return at (option_map expression_tree v)))
+    ≡ returned g at g.result (option_map (λ e. judge g (taken k (expression_tree e))) v)
+return_faults k g reached at None = refl
+return_faults k g reached at (Some e) = refl
 
 -- ---- blocks
 
@@ -116,6 +116,7 @@ block_stands c s g regions frame outer h suits around e f o =
         names = suits.names;
         result = suits.result;
         frame = f ∙ ap Level h.regions.count;
+        item = suits.item;
         in_loop = suits.in_loop;
         no_switch = suits.no_switch;
       };
@@ -142,7 +143,14 @@ loop_known s g h = known_there s g h (in_a_loop g) refl refl refl refl refl
 
 pub loop_suits : (c d : Context) (g : Env) → Suits c g → d ≡ record c { in_loop = true } → Suits d (in_a_loop g)
 loop_suits c d g h e =
-    subst (λ x. Suits x (in_a_loop g)) (sym e) record { names = h.names; result = h.result; frame = h.frame; in_loop = refl; no_switch = h.no_switch }
+    subst (λ x. Suits x (in_a_loop g)) (sym e) record {
+      names = h.names;
+      result = h.result;
+      frame = h.frame;
+      item = h.item;
+      in_loop = refl;
+      no_switch = h.no_switch;
+    }
 
 -- ---- what is left
 

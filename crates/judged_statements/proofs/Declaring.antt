@@ -8,12 +8,14 @@ use Rattle.source_typing.specs.Regions.{Region}
 use Rattle.source_typing.specs.Scope.{Env, is_second, second, with_local}
 use Rattle.source_typing.specs.Scope as judged
 use Rattle.source_typing.specs.Tables.{Unknown, What}
-use Rattle.source_typing.specs.Taken.{declaration_taken, declared_if, initializer_taken, refused_type, takes_initializer, takes_type, thin_pointers, type_taken}
+use Rattle.source_typing.specs.Taken.{Taken, declaration_taken, declared_if, initializer_taken, refused_type, takes_initializer, takes_type, type_taken}
 use Rattle.source_typing.specs.Types.{PartialType, StaticType}
 use Rattle.source_typing.specs.Verdicts.{Faulty, Of, Unjudged, Verdict, after}
 use Rattle.source_typing.specs.Verdicts as verdict
 use Rattle.type_verdicts.specs.Faults.{faults_of, first_of, sooner_found}
 use Rattle.type_verdicts.specs.declared.fault.Fault as found
+use Rattle.type_verdicts.specs.Taken.{taken_of}
+use Rattle.type_verdicts.specs.declared.taken.Taken as code_taken
 use Rattle.type_verdicts.specs.Verdicts.{Is, NotJudged, Short, Wrong, fault_found, fault_in, short_of, shortened, wrong_if}
 use Rattle.type_verdicts.specs.declared.verdict.Verdict as code
 use Rattle.type_verdicts.specs.declared.verdict.Verdict.TheVariants as variant
@@ -113,15 +115,15 @@ unjudged_what r (Of t) e = absurd cc
 
 -- ---- what is taken of a declaration
 
-module _ (g : Env) (t : tree.TypeName) (x : tree.Name) where
+module _ (k : Taken) (t : tree.TypeName) (x : tree.Name) where
   abbrev unset_local : tree.Declaration
   unset_local = tree.Local t x tree.Initializer.Unset
 
   abbrev unset_as : tree.TypeName → tree.Declaration
   unset_as u = tree.Local u x tree.Initializer.Unset
 
-  pub unset_taken : declaration_taken thin_pointers unset_local ≡ unset_as (type_taken thin_pointers t)
-  unset_taken = by (takes_type thin_pointers t)
+  pub unset_taken : declaration_taken k unset_local ≡ unset_as (type_taken k t)
+  unset_taken = by (takes_type k t)
     where
       by : (b : Bool) → declared_if (b && true) t.at unset_local ≡ unset_as (if b then t else refused_type t.at)
       by true = refl
@@ -134,20 +136,20 @@ locals_declared g t x tree.Initializer.Unset = refl
 locals_declared g t x (tree.Initializer.Elements n) = refl
 locals_declared g t x (tree.Initializer.Value e) = refl
 
-pub all_declared : (g : Env) (d : tree.Declaration)
-    → declare g (declaration_taken thin_pointers d)
-    ≡ declared (own_faults g (declaration_taken thin_pointers d) ++ second g (tree.local_of d))
-    (with_local (tree.local_of d) (own_what g (declaration_taken thin_pointers d)) g)
-all_declared g (tree.Local t x i) = by (takes_type thin_pointers t && takes_initializer thin_pointers i)
+pub all_declared : (forms : code_taken.Taken) (g : Env) (d : tree.Declaration)
+    → declare g (declaration_taken (taken_of forms) d)
+    ≡ declared (own_faults g (declaration_taken (taken_of forms) d) ++ second g (tree.local_of d))
+    (with_local (tree.local_of d) (own_what g (declaration_taken (taken_of forms) d)) g)
+all_declared forms g (tree.Local t x i) = by (takes_type (taken_of forms) t && takes_initializer (taken_of forms) i)
   where
-    by : (b : Bool) → let d = declared_if b t.at (tree.Local t x (initializer_taken thin_pointers i)) in
+    by : (b : Bool) → let d = declared_if b t.at (tree.Local t x (initializer_taken (taken_of forms) i)) in
         declare g d ≡ declared (own_faults g d ++ second g x) (with_local x (own_what g d) g)
-    by true = locals_declared g t x (initializer_taken thin_pointers i)
+    by true = locals_declared g t x (initializer_taken (taken_of forms) i)
     by false = refl
-all_declared g (tree.Region at r x) = refl
-all_declared g (tree.Open at r x y) = refl
-all_declared g (tree.Alias at r t x p) = refl
-all_declared g (tree.NewKey at r x) = refl
+all_declared forms g (tree.Region at r x) = refl
+all_declared forms g (tree.Open at r x y) = refl
+all_declared forms g (tree.Alias at r t x p) = refl
+all_declared forms g (tree.NewKey at r x) = refl
 
 -- ---- a second one
 
@@ -163,12 +165,12 @@ module _ (g : Env) (x : tree.Name) (fs : List Fault) where
 
 -- ---- what stands in scope after a declaration
 
-module _ (g : Env) (d : tree.Declaration) (n : tree.Name) (named : n ≡ tree.local_of d) where
+module _ (forms : code_taken.Taken) (g : Env) (d : tree.Declaration) (n : tree.Name) (named : n ≡ tree.local_of d) where
   abbrev of_it : tree.Declaration
-  of_it = declaration_taken thin_pointers d
+  of_it = declaration_taken (taken_of forms) d
 
   pub declared_as : declare g of_it ≡ declared (own_faults g of_it ++ second g n) (with_local n (own_what g of_it) g)
-  declared_as = all_declared g d ∙ ap (λ x. declared (own_faults g of_it ++ second g x) (with_local x (own_what g of_it) g)) (sym named)
+  declared_as = all_declared forms g d ∙ ap (λ x. declared (own_faults g of_it ++ second g x) (with_local x (own_what g of_it) g)) (sym named)
 
   pub earliest_alone : is_second g.locals g.block n.text ≡ false → earliest (own_faults g of_it) ≡ earliest (declare g of_it).faults
   earliest_alone e = sym (alone g n (own_faults g of_it) e) ∙ ap (λ r. earliest r.faults) (sym declared_as)
@@ -186,6 +188,7 @@ module _ (g : Env) (d : tree.Declaration) (n : tree.Name) (named : n ≡ tree.lo
       names = h.suits.names;
       result = h.suits.result;
       frame = h.suits.frame;
+      item = h.suits.item;
       in_loop = h.suits.in_loop;
       no_switch = h.suits.no_switch;
     }

@@ -2,3 +2,4 @@ pub mod Beginning
 pub mod Declaring
 pub mod Answered
 pub mod Blocks
+pub mod LocalTypes

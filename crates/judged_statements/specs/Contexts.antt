@@ -8,11 +8,13 @@ use Rattle.scoped_names.specs.declared.scope.Scope.{Scope}
 use Rattle.source_typing.specs.Scope.{Env}
 use Rattle.judged_statements.specs.declared.context.Context.{Context}
 
--- The region names, the result's type and the innermost block's stack region are the same; a loop is around by both, and no `switch`.
+-- The region names, the result's type, the innermost block's stack region and how many items stand before are the same; so is whether a loop is around. No
+-- `switch` is.
 pub record Suits (c : Context) (g : Env) : Type 0 where
   pub names : c.names.now ≡ g.names
   pub result : option_map (λ t. static_type t.now) c.result ≡ g.result
   pub frame : region_of c.frame ≡ g.frame
+  pub item : c.item ≡ g.item
   pub in_loop : c.in_loop ≡ g.in_loop
   pub no_switch : g.in_switch ≡ false
 

@@ -1,16 +1,20 @@
 -- Declarations of locals: which types take no tag, how they begin, and what a declaration gives.
-use Rattle.std.specs.Prelude.{Bool, List, None, Some, false, true, ◌≡◌, []}
+use Rattle.std.specs.Prelude.{Bool, List, None, Option, Some, false, not, true, ℕ, ◌≡◌, ◌&&◌, ◌||◌, []}
 use Rattle.cyc_tree.specs.Tree as tree
 use Rattle.scoped_names.specs.Means.{WhatIs}
-use Rattle.source_typing.specs.Declarations.{set_faults, set_type, unset_type, what_after, what_of}
+use Rattle.scoped_names.specs.declared.meaning.Meaning.{Meaning}
+use Rattle.scoped_names.specs.declared.meaning.Meaning.TheVariants as meaning
+use Rattle.source_typing.specs.Declarations.{if_sized, set_faults, set_type, tag_earlier, unset_type, what_after, what_of}
 use Rattle.source_typing.specs.Expressions.{judge}
 use Rattle.source_typing.specs.Faults.{Fault, earliest}
 use Rattle.source_typing.specs.Scope.{Env}
-use Rattle.source_typing.specs.Tables.{Unknown, What}
-use Rattle.source_typing.specs.Types.{Char, Fat, Int, StaticType, Struct, Thin, TypeIn, Union, Unique, Unsigned}
+use Rattle.source_typing.specs.Tables.{Tables, Unknown, What, has_beginning, tag_in}
+use Rattle.source_typing.specs.Types.{StaticType, Struct, TypeIn, Union, is_void}
 use Rattle.source_typing.specs.Verdicts as verdict
 use Rattle.type_verdicts.specs.Faults.{faults_of}
 use Rattle.type_verdicts.specs.Verdicts.{Is, NotJudged, Short, Wrong}
+use Rattle.written_types.specs.declared.tagged.TagName.{TagName}
+use Rattle.written_types.specs.declared.tagged.TagName.TheVariants as tag
 use Rattle.judged_statements.specs.declared.declaration.Judged.{Judged}
 
 -- ---- types
@@ -27,15 +31,37 @@ tagless_short (Is t) = is_tagless t
 tagless_short NotJudged = true
 tagless_short (Wrong f) = true
 
--- whether a variable of a type that is no struct begins without an initializer
-abbrev pub plain_begins : StaticType → Bool
-plain_begins Int = true
-plain_begins Unsigned = true
-plain_begins Char = true
-plain_begins (Thin b r t) = b
-plain_begins (Unique b t) = b
-plain_begins (Fat r t) = true
-plain_begins t = false
+-- a struct or a union only where structs are taken
+abbrev pub allowed : {R : Type 0} → Bool → TypeIn R → Bool
+allowed true t = true
+allowed false t = is_tagless t
+
+abbrev pub allowed_short : {R : Type 0} → Bool → Short (TypeIn R) → Bool
+allowed_short true s = true
+allowed_short false s = tagless_short s
+
+-- a struct or union stands earlier than so many items, by these tables
+abbrev pub stands_before : Tables → ℕ → StaticType → Bool
+stands_before g item (Struct tag rs) = tag_earlier item (tag_in g tag)
+stands_before g item (Union tag rs) = tag_earlier item (tag_in g tag)
+stands_before g item t = true
+
+-- what a local may be, by these tables
+abbrev pub could_be : Tables → ℕ → Bool → StaticType → Bool
+could_be g item set t = (set || has_beginning g t) && (not (is_void t) && stands_before g item t)
+
+-- the type of a local by whether it may be one and isn't too large
+abbrev pub fitting_by : Bool → Bool → ℕ → StaticType → verdict.Verdict StaticType
+fitting_by fits sized at t = verdict.after (verdict.if_fits fits at t) (if_sized sized at)
+
+-- ---- tags
+
+-- what a name means where a tag is wanted, by what it means in code
+abbrev pub tag_of_meaning : Option Meaning → TagName
+tag_of_meaning None = tag.NoName
+tag_of_meaning (Some (meaning.Tag u)) = tag.Tag u
+tag_of_meaning (Some meaning.FaultyTag) = tag.NotJudged
+tag_of_meaning (Some m) = tag.Other
 
 -- ---- declarations
 

@@ -15,6 +15,8 @@ pub struct Context<'a, 'p> {
     pub result: Option<&'a CType<'p>>,
     /// The stack region of the innermost block.
     pub frame: RegionId,
+    /// How many items stand before the one that is judged.
+    pub item: u32,
     /// Whether a loop is around.
     pub in_loop: bool,
 }

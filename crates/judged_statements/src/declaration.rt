@@ -10,9 +10,10 @@ ghost use Rattle.source_typing.specs.Faults.{earliest, fault, type_rule};
 ghost use Rattle.source_typing.specs.Regions.{Region};
 ghost use Rattle.source_typing.specs.Scope.{Env};
 ghost use Rattle.source_typing.specs.Tables.{Unknown};
-ghost use Rattle.source_typing.specs.Taken.{declaration_taken, taken, thin_pointers, type_taken};
-ghost use Rattle.source_typing.specs.Types.{PartialType, StaticType, is_void};
+ghost use Rattle.source_typing.specs.Taken.{declaration_taken, taken, type_taken};
+ghost use Rattle.source_typing.specs.Types.{PartialType, StaticType};
 ghost use Rattle.type_verdicts.specs.Faults.{faults_of};
+ghost use Rattle.type_verdicts.specs.Taken.{taken_of};
 ghost use Rattle.type_verdicts.specs.Verdicts.{short_of, shortened};
 ghost use Rattle.judged_values.specs.Values.{value_of};
 ghost use Rattle.scoped_names.specs.Changes.{left};
@@ -21,21 +22,22 @@ ghost use Rattle.scoped_names.specs.Means.{WhatIs};
 ghost use Rattle.scoped_types.specs.declared.scope.RegionMark.{RegionMark};
 ghost use Rattle.written_types.specs.Written.{partial_type};
 ghost use Rattle.judged_statements.specs.Contexts.{StandsIn, Suits};
-ghost use Rattle.judged_statements.specs.Declaring.{Matches, is_tagless, own_faults, own_what, plain_begins, tagless_short};
+ghost use Rattle.judged_statements.specs.Declaring.{Matches, allowed_short, own_faults, own_what};
 ghost use Rattle.cyc_tree.specs.Tree as tree;
 ghost use Rattle.source_typing.specs.Faults as rules;
 ghost use Rattle.source_typing.specs.Scope as judged;
 ghost use Rattle.source_typing.specs.Verdicts as verdict;
 
 use crate::context::Context;
+use crate::fitting::{fitted, local_tag};
 use cyc_tree::{Declaration, Expression, Initializer, TypeName};
-use cyc_types::{BaseType, CType, RegionId};
+use cyc_types::{CType, RegionId};
 use judged_expressions::judge;
 use judged_values::{Value, converted};
 use scoped_names::{Scope, What};
 use std::alloc::{AllocError, Global};
 use type_verdicts::{Fault, FaultKind, Verdict, sooner};
-use written_types::{WrittenType, misses_region, settled, takes_type, written};
+use written_types::{WrittenType, misses_region_in, settled, takes_type_in, written_in};
 
 /// A local as it is declared: the earliest fault of its type and its initializer, and what it is.
 #[derive(Drop)]
@@ -44,45 +46,20 @@ struct Judged<'p> {
     what: What<'p>,
 }
 
-/// Whether a variable of a type that is no struct begins without an initializer.
-#[tactic(auto, using(crate::proofs::Beginning::pointer_begun, crate::proofs::Beginning::base_begun))]
-fn begins(of: &CType) -> bool
-    ensures { result ≡ plain_begins (static_type of.now) }
-{
-    match of.outer() {
-        Some(pointer) => pointer.has_beginning(),
-        None => matches!(of.base, BaseType::Int | BaseType::Unsigned | BaseType::Char),
-    }
-}
-
-/// Whether a local may be of a type that is no struct and no union, by whether it has an initializer.
-fn fits(of: &CType, set: bool) -> bool
-    ensures { result ≡ ((set || plain_begins (static_type of.now)) && not (is_void (static_type of.now))) }
-{
-    (set || begins(of)) && !of.is_void()
-}
-
-/// The type of a local, at fault at this place where it doesn't fit.
-fn fitted<'p>(of: CType<'p>, at: u32, set: bool) -> Verdict<CType<'p>>
-    ensures { (g : Env) → is_tagless (static_type of.entry) ≡ true → short_of static_type result ≡ shortened (fitting_local g at None set (static_type of.entry)) }
-{
-    if fits(&of, set) {
-        Verdict::Of(of)
-    } else {
-        Verdict::Wrong(Fault {
-            kind: FaultKind::Typing,
-            at,
-        })
-    }
-}
-
 /// The type of a local by its settled type.
-fn fitting<'p>(of: Verdict<CType<'p>>, at: u32, set: bool) -> Verdict<CType<'p>>
-    ensures { (g : Env) (t : verdict.Verdict StaticType) → short_of static_type of.entry ≡ shortened t → tagless_short (shortened t) ≡ true
+fn fitting<'p>(
+    scope: &Scope<'_, 'p>,
+    item: u32,
+    of: Verdict<CType<'p>>,
+    at: u32,
+    set: bool,
+) -> Verdict<CType<'p>>
+    ensures { (g : Env) (t : verdict.Verdict StaticType) → Knows scope.now g → item ≡ g.item
+        → short_of static_type of.entry ≡ shortened t → allowed_short scope.now.taken.structs (shortened t) ≡ true
         → short_of static_type result ≡ shortened (verdict.after t (fitting_local g at None set)) }
 {
     match of {
-        Verdict::Of(of) => fitted(of, at, set),
+        Verdict::Of(of) => fitted(scope.tables, item, of, at, set),
         Verdict::Wrong(fault) => Verdict::Wrong(fault),
         Verdict::NotJudged => Verdict::NotJudged,
     }
@@ -90,19 +67,22 @@ fn fitting<'p>(of: Verdict<CType<'p>>, at: u32, set: bool) -> Verdict<CType<'p>>
 
 /// The type of a local, with its missing regions from that of its initializer. Fails only where no host memory is left.
 fn local_type<'p>(
+    scope: &Scope<'_, 'p>,
+    item: u32,
     of: Verdict<WrittenType<'p>>,
     at: u32,
     set: bool,
     source: Option<&CType<'_>>,
 ) -> Result<Verdict<CType<'p>>, AllocError>
-    ensures { (g : Env) (w : verdict.Verdict PartialType) → short_of partial_type of.entry ≡ shortened w → tagless_short (shortened w) ≡ true
+    ensures { (g : Env) (w : verdict.Verdict PartialType) → Knows scope.now g → item ≡ g.item
+        → short_of partial_type of.entry ≡ shortened w → allowed_short scope.now.taken.structs (shortened w) ≡ true
         → IfOk result (λ v. short_of static_type v
         ≡ shortened (verdict.after w (local_type g at None set (option_map (λ s. static_type s.now) source.entry)))) }
 {
     match of {
         Verdict::Of(of) => {
             let settled = settled(of, at, source)?;
-            Ok(fitting(settled, at, set))
+            Ok(fitting(scope, item, settled, at, set))
         }
         Verdict::Wrong(fault) => Ok(Verdict::Wrong(fault)),
         Verdict::NotJudged => Ok(Verdict::NotJudged),
@@ -111,15 +91,17 @@ fn local_type<'p>(
 
 /// The type of a local without an initializer. Fails only where no host memory is left.
 fn unset_type<'p>(
+    scope: &Scope<'_, 'p>,
     alloc: Global,
     context: Context<'_, 'p>,
-    of: &TypeName,
+    of: &'p TypeName,
 ) -> Result<Verdict<CType<'p>>, AllocError>
-    ensures { (g : Env) → Suits context.entry g
-        → IfOk result (λ v. short_of static_type v ≡ shortened (unset_type g (type_taken thin_pointers (type_tree of.now)) None)) }
+    ensures { (g : Env) → Knows scope.now g → Suits context.entry g
+        → IfOk result (λ v. short_of static_type v ≡ shortened (unset_type g (type_taken (taken_of scope.now.taken) (type_tree of.entry.now)) None)) }
 {
-    let written = written(alloc, context.names, of)?;
-    local_type(written, of.at, false, None)
+    let tag = local_tag(scope, of);
+    let written = written_in(alloc, scope.taken, tag, context.names, of)?;
+    local_type(scope, context.item, written, of.at, false, None)
 }
 
 /// A type whose missing regions aren't known: its fault, or else it isn't judged.
@@ -133,16 +115,18 @@ fn unsettled<'p>(of: &Verdict<WrittenType<'p>>) -> Verdict<CType<'p>>
 
 /// The type of a local that takes missing regions from its initializer. Fails only where no host memory is left.
 fn taken_from<'p>(
+    scope: &Scope<'_, 'p>,
+    item: u32,
     of: Verdict<WrittenType<'p>>,
     at: u32,
     value: &Verdict<Value<'_>>,
 ) -> Result<Verdict<CType<'p>>, AllocError>
-    ensures { (g : Env) (w : verdict.Verdict PartialType) (v : verdict.Verdict judged.Value)
-        → short_of partial_type of.entry ≡ shortened w → tagless_short (shortened w) ≡ true → short_of value_of value.now ≡ shortened v
+    ensures { (g : Env) (w : verdict.Verdict PartialType) (v : verdict.Verdict judged.Value) → Knows scope.now g → item ≡ g.item
+        → short_of partial_type of.entry ≡ shortened w → allowed_short scope.now.taken.structs (shortened w) ≡ true → short_of value_of value.now ≡ shortened v
         → IfOk result (λ found. short_of static_type found ≡ shortened (verdict.after w (taken_from g at true v))) }
 {
     match value {
-        Verdict::Of(value) => local_type(of, at, true, Some(&value.of)),
+        Verdict::Of(value) => local_type(scope, item, of, at, true, Some(&value.of)),
         Verdict::Wrong(_) => Ok(unsettled(&of)),
         Verdict::NotJudged => Ok(unsettled(&of)),
     }
@@ -150,19 +134,21 @@ fn taken_from<'p>(
 
 /// The type of a local with an initializer. Fails only where no host memory is left.
 fn set_type<'p>(
+    scope: &Scope<'_, 'p>,
     alloc: Global,
     context: Context<'_, 'p>,
-    of: &TypeName,
+    of: &'p TypeName,
     value: &Verdict<Value<'_>>,
 ) -> Result<Verdict<CType<'p>>, AllocError>
-    ensures { (g : Env) (v : verdict.Verdict judged.Value) → Suits context.entry g → short_of value_of value.now ≡ shortened v
-        → IfOk result (λ found. short_of static_type found ≡ shortened (set_type g (type_taken thin_pointers (type_tree of.now)) v)) }
+    ensures { (g : Env) (v : verdict.Verdict judged.Value) → Knows scope.now g → Suits context.entry g → short_of value_of value.now ≡ shortened v
+        → IfOk result (λ found. short_of static_type found ≡ shortened (set_type g (type_taken (taken_of scope.now.taken) (type_tree of.entry.now)) v)) }
 {
-    let written = written(alloc, context.names, of)?;
-    if misses_region(of) {
-        taken_from(written, of.at, value)
+    let tag = local_tag(scope, of);
+    let written = written_in(alloc, scope.taken, tag, context.names, of)?;
+    if misses_region_in(scope.taken, tag, of) {
+        taken_from(scope, context.item, written, of.at, value)
     } else {
-        local_type(written, of.at, true, None)
+        local_type(scope, context.item, written, of.at, true, None)
     }
 }
 
@@ -226,14 +212,16 @@ fn judged_as<'p>(fault: Option<Fault>, frame: RegionId, of: Verdict<CType<'p>>) 
 
 /// A local without an initializer. Fails only where no host memory is left.
 fn unset<'p>(
+    scope: &Scope<'_, 'p>,
     alloc: Global,
     context: Context<'_, 'p>,
-    of: &TypeName,
+    of: &'p TypeName,
 ) -> Result<Judged<'p>, AllocError>
-    ensures { (g : Env) (x : tree.Name) → Suits context.entry g → let d = declaration_taken thin_pointers (tree.Local (type_tree of.now) x tree.Initializer.Unset) in
+    ensures { (g : Env) (x : tree.Name) → Knows scope.now g → Suits context.entry g
+        → let d = declaration_taken (taken_of scope.now.taken) (tree.Local (type_tree of.entry.now) x tree.Initializer.Unset) in
         IfOk result (Matches (own_faults g d) (own_what g d)) }
 {
-    let found = unset_type(alloc, context, of)?;
+    let found = unset_type(scope, alloc, context, of)?;
     Ok(judged_as(found.fault(), context.frame, found))
 }
 
@@ -242,15 +230,15 @@ fn set<'p>(
     scope: &Scope<'_, 'p>,
     alloc: Global,
     context: Context<'_, 'p>,
-    of: &TypeName,
+    of: &'p TypeName,
     initial: &Expression,
 ) -> Result<Judged<'p>, AllocError>
-    ensures { (g : Env) → Knows scope.now g → Suits context.entry g → let v = judge g (taken thin_pointers (expression_tree initial.now)) in
-        let t = set_type g (type_taken thin_pointers (type_tree of.now)) v in
+    ensures { (g : Env) → Knows scope.now g → Suits context.entry g → let v = judge g (taken (taken_of scope.now.taken) (expression_tree initial.now)) in
+        let t = set_type g (type_taken (taken_of scope.now.taken) (type_tree of.entry.now)) v in
         IfOk result (Matches (set_faults g v t) (what_after (set_faults g v t) (what_of g.frame None t))) }
 {
     let value = judge(scope, alloc, initial)?;
-    let found = set_type(alloc, context, of, &value)?;
+    let found = set_type(scope, alloc, context, of, &value)?;
     let fault = set_fault(scope, &value, &found)?;
     Ok(judged_as(fault, context.frame, found))
 }
@@ -273,18 +261,18 @@ fn local<'p>(
     scope: &Scope<'_, 'p>,
     alloc: Global,
     context: Context<'_, 'p>,
-    of: &TypeName,
+    of: &'p TypeName,
     initializer: &Initializer,
 ) -> Result<Judged<'p>, AllocError>
     ensures { (g : Env) (x : tree.Name) → Knows scope.now g → Suits context.entry g
-        → let d = declaration_taken thin_pointers (tree.Local (type_tree of.now) x (initializer_tree initializer.now)) in
+        → let d = declaration_taken (taken_of scope.now.taken) (tree.Local (type_tree of.entry.now) x (initializer_tree initializer.now)) in
         IfOk result (Matches (own_faults g d) (own_what g d)) }
 {
     match initializer {
-        Initializer::None => unset(alloc, context, of),
+        Initializer::None => unset(scope, alloc, context, of),
         Initializer::Array(_) => Ok(refused(of.at)),
         Initializer::Value(initial) => {
-            if takes_type(of) {
+            if takes_type_in(scope.taken, of) {
                 set(scope, alloc, context, of, initial)
             } else {
                 Ok(refused(of.at))
@@ -298,9 +286,10 @@ fn declared_local<'p>(
     scope: &Scope<'_, 'p>,
     alloc: Global,
     context: Context<'_, 'p>,
-    declaration: &Declaration,
+    declaration: &'p Declaration,
 ) -> Result<Judged<'p>, AllocError>
-    ensures { (g : Env) → Knows scope.now g → Suits context.entry g → let d = declaration_taken thin_pointers (declaration_tree declaration.now) in
+    ensures { (g : Env) → Knows scope.now g → Suits context.entry g
+        → let d = declaration_taken (taken_of scope.now.taken) (declaration_tree declaration.entry.now) in
         IfOk result (Matches (own_faults g d) (own_what g d)) }
 {
     match declaration {
@@ -323,9 +312,11 @@ pub(crate) fn declare<'p>(
     declaration: &'p Declaration,
 ) -> Result<Option<Fault>, AllocError>
     ensures fault { (g : Env) → StandsIn context.entry outer scope.old g
-        → IfOk result (λ f. faults_of f ≡ earliest (declare g (declaration_taken thin_pointers (declaration_tree declaration.entry.now))).faults) }
+        → IfOk result (λ f. faults_of f
+        ≡ earliest (declare g (declaration_taken (taken_of scope.old.taken) (declaration_tree declaration.entry.now))).faults) }
     ensures known { (g : Env) → StandsIn context.entry outer scope.old g
-        → OnOk result (StandsIn context.entry outer scope.new (declare g (declaration_taken thin_pointers (declaration_tree declaration.entry.now))).scope) }
+        → OnOk result (StandsIn context.entry outer scope.new
+        (declare g (declaration_taken (taken_of scope.old.taken) (declaration_tree declaration.entry.now))).scope) }
     // where the block is left, what was in scope before is so again
     ensures left { OnOk result ((count : ℕ) (mark : RegionMark) → count ≤ length scope.old.locals → left count mark scope.new ≡ left count mark scope.old) }
 {

@@ -6,6 +6,7 @@
 
 mod context;
 mod declaration;
+mod fitting;
 mod returning;
 mod statement;
 

@@ -7,10 +7,11 @@ ghost use Rattle.source_typing.specs.Faults.{earliest, test, type_rule};
 ghost use Rattle.source_typing.specs.Scope.{Env};
 ghost use Rattle.source_typing.specs.Statements.{condition, condition_faults, returned};
 ghost use Rattle.source_typing.specs.Scope as rules_scope;
-ghost use Rattle.source_typing.specs.Taken.{taken, thin_pointers};
+ghost use Rattle.source_typing.specs.Taken.{taken};
 ghost use Rattle.source_typing.specs.Verdicts as rules;
 ghost use Rattle.source_typing.specs.Expressions.{judge};
 ghost use Rattle.type_verdicts.specs.Faults.{faults_of};
+ghost use Rattle.type_verdicts.specs.Taken.{taken_of};
 ghost use Rattle.type_verdicts.specs.Verdicts.{short_of, shortened};
 ghost use Rattle.scoped_names.specs.Knows.{Knows};
 ghost use Rattle.judged_values.specs.Values.{value_of};
@@ -57,7 +58,7 @@ pub(crate) fn condition_fault(
     of: &Expression,
 ) -> Result<Option<Fault>, AllocError>
     ensures { (g : Env) → Knows scope.now g
-        → IfOk result (λ f. faults_of f ≡ earliest (condition_faults g (taken thin_pointers (expression_tree of.now)))) }
+        → IfOk result (λ f. faults_of f ≡ earliest (condition_faults g (taken (taken_of scope.now.taken) (expression_tree of.now)))) }
 {
     let judged = judge(scope, alloc, of)?;
     Ok(tested(judged, of.place()).fault())
@@ -71,7 +72,7 @@ pub(crate) fn expression_fault(
     of: &Expression,
 ) -> Result<Option<Fault>, AllocError>
     ensures { (g : Env) → Knows scope.now g
-        → IfOk result (λ f. faults_of f ≡ earliest (rules.faults_of (judge g (taken thin_pointers (expression_tree of.now))))) }
+        → IfOk result (λ f. faults_of f ≡ earliest (rules.faults_of (judge g (taken (taken_of scope.now.taken) (expression_tree of.now))))) }
 {
     let judged = judge(scope, alloc, of)?;
     Ok(judged.fault())
@@ -131,7 +132,7 @@ pub(crate) fn return_fault<'p>(
     value: &Option<Expression>,
 ) -> Result<Option<Fault>, AllocError>
     ensures { (g : Env) → Knows scope.now g → IfOk result (λ f. faults_of f ≡ earliest (returned g at
-        (option_map (λ t. static_type t.now) result_type.entry) (option_map (λ e. judge g (taken thin_pointers (expression_tree e))) value.now))) }
+        (option_map (λ t. static_type t.now) result_type.entry) (option_map (λ e. judge g (taken (taken_of scope.now.taken) (expression_tree e))) value.now))) }
 {
     match value {
         None => Ok(none_returned(at, result_type)),

@@ -7,8 +7,9 @@ ghost use Rattle.source_typing.specs.Faults.{earliest};
 ghost use Rattle.source_typing.specs.Regions.{Level};
 ghost use Rattle.source_typing.specs.Scope.{Env, block_entered};
 ghost use Rattle.source_typing.specs.Statements.{items_faults, statement_faults};
-ghost use Rattle.source_typing.specs.Taken.{items_taken, statement_taken, thin_pointers};
+ghost use Rattle.source_typing.specs.Taken.{items_taken, statement_taken};
 ghost use Rattle.type_verdicts.specs.Faults.{faults_of};
+ghost use Rattle.type_verdicts.specs.Taken.{taken_of};
 ghost use Rattle.scoped_names.specs.Changes.{AllAround, left};
 ghost use Rattle.scoped_names.specs.Knows.{Knows};
 ghost use Rattle.scoped_types.specs.declared.scope.RegionMark.{RegionMark};
@@ -42,7 +43,8 @@ fn statement_fault<'p>(
     statement: &'p Statement,
 ) -> Result<Option<Fault>, AllocError>
     ensures fault { (g : Env) (reached : Bool) → Knows scope.old g → Suits context.entry g → AllAround g.block g.locals
-        → IfOk result (λ f. faults_of f ≡ earliest (statement_faults g reached (statement_taken thin_pointers (statement_tree statement.entry.now)))) }
+        → IfOk result (λ f. faults_of f
+        ≡ earliest (statement_faults g reached (statement_taken (taken_of scope.old.taken) (statement_tree statement.entry.now)))) }
     ensures scope { OnOk result (scope.new ≡ scope.old) }
 {
     match statement {
@@ -80,7 +82,8 @@ fn block_fault<'p>(
     items: &'p [BlockItem],
 ) -> Result<Option<Fault>, AllocError>
     ensures fault { (g : Env) (reached : Bool) → Knows scope.old g → Suits context.entry g → AllAround g.block g.locals
-        → IfOk result (λ f. faults_of f ≡ earliest (items_faults (block_entered g) reached (items_taken thin_pointers (items_of (map item_tree items.entry.now))))) }
+        → IfOk result (λ f. faults_of f
+        ≡ earliest (items_faults (block_entered g) reached (items_taken (taken_of scope.old.taken) (items_of (map item_tree items.entry.now))))) }
     ensures scope { OnOk result (scope.new ≡ scope.old) }
 {
     let outer = scope.locals.len();
@@ -104,7 +107,8 @@ pub fn items_fault<'p>(
     items: &'p [BlockItem],
 ) -> Result<Option<Fault>, AllocError>
     ensures fault { (g : Env) (reached : Bool) → StandsIn context.entry outer scope.old g
-        → IfOk result (λ f. faults_of f ≡ earliest (items_faults g reached (items_taken thin_pointers (items_of (map item_tree items.entry.now))))) }
+        → IfOk result (λ f. faults_of f
+        ≡ earliest (items_faults g reached (items_taken (taken_of scope.old.taken) (items_of (map item_tree items.entry.now))))) }
     ensures left { OnOk result ((count : ℕ) (mark : RegionMark) → count ≤ length scope.old.locals → left count mark scope.new ≡ left count mark scope.old) }
 {
     let mut found = None;

@@ -4,6 +4,7 @@ use Rattle.cyc_tree.specs.Tree.{Name}
 use Rattle.cyc_types.specs.Bases.{base_type}
 use Rattle.cyc_types.specs.Layers.{outermost, pointer_to}
 use Rattle.cyc_types.specs.Regions.{region_of}
+use Rattle.cyc_types.specs.Sameness.{HasTags}
 use Rattle.cyc_types.specs.Tables.{tables_of}
 use Rattle.cyc_types.specs.Types.{static_type}
 use Rattle.cyc_types.specs.declared.base.BaseType.{BaseType}
@@ -13,7 +14,7 @@ use Rattle.cyc_types.specs.declared.layer.Layer.{Layer}
 use Rattle.cyc_types.specs.declared.layer.Layer.TheVariants as code
 use Rattle.cyc_types.specs.declared.tables.Tables.{Tables}
 use Rattle.cyc_types.proofs.Converting.{by_none, by_outer}
-use Rattle.judged_values.specs.StructMembers.{HasTags, arrow_on, live_part, member_on}
+use Rattle.judged_values.specs.StructMembers.{arrow_on, live_part, member_on}
 use Rattle.judged_values.specs.Pointers.{is_reached, seat_behind}
 use Rattle.source_typing.specs.Faults.{type_rule}
 use Rattle.source_typing.specs.Places.{arrow_live, arrow_of, member_of, part_found, part_of}
@@ -25,7 +26,7 @@ use Rattle.source_typing.specs.Verdicts.{refuse}
 
 -- ---- a member of a tag
 
-pub part_by : (tables : Tables) (g : Env) → HasTags tables g → (at : ℕ) (s : Seat) (tag : List ℕ) (rs : List Region) (f : Name) (t : Option Tag)
+pub part_by : (tables : Tables) (g : Env) → HasTags tables g.tables → (at : ℕ) (s : Seat) (tag : List ℕ) (rs : List Region) (f : Name) (t : Option Tag)
     → t ≡ tag_in (tables_of tables) tag → part_found at s rs f.at (part_in (parts_of_tag t) f.text) ≡ part_of g at s tag rs f
 part_by tables g has at s tag rs f t h =
     ap (λ o. part_found at s rs f.at (part_in (parts_of_tag o) f.text)) (h ∙ sym (has.tags tag))

@@ -1,21 +1,14 @@
 -- Members of structs by what is known of tags, and by the outermost pointers of types.
-use Rattle.std.specs.Prelude.{Bool, List, false, true, ℕ, ◌≡◌}
+use Rattle.std.specs.Prelude.{Bool, List, false, true, ℕ}
 use Rattle.cyc_tree.specs.Tree.{Name}
-use Rattle.cyc_types.specs.Tables.{tables_of}
 use Rattle.cyc_types.specs.declared.layer.Layer.{Layer}
-use Rattle.cyc_types.specs.declared.tables.Tables.{Tables}
 use Rattle.judged_values.specs.Pointers.{seat_behind}
 use Rattle.source_typing.specs.Faults.{region_rule, type_rule}
 use Rattle.source_typing.specs.Places.{part_of}
 use Rattle.source_typing.specs.Regions.{Region}
 use Rattle.source_typing.specs.Scope.{Env, Seat, Value}
-use Rattle.source_typing.specs.Tables.{tag_in}
 use Rattle.source_typing.specs.Types.{StaticType, Struct}
 use Rattle.source_typing.specs.Verdicts.{Verdict, refuse}
-
--- each struct and union in code is that of the rules
-pub record HasTags (tables : Tables) (g : Env) : Type 0 where
-  pub tags : (x : List ℕ) → tag_in g.tables x ≡ tag_in (tables_of tables) x
 
 -- a member of a place, which is somewhere
 abbrev pub member_on : Env → Name → ℕ → StaticType → Seat → Verdict Value

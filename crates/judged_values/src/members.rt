@@ -4,9 +4,10 @@ ghost use Rattle.std.specs.Prelude.{◌≡◌, IfOk};
 ghost use Rattle.cyc_tree.specs.View.{name_tree};
 ghost use Rattle.cyc_types.specs.Bases.{base_type};
 ghost use Rattle.cyc_types.specs.Regions.{regions_of};
+ghost use Rattle.cyc_types.specs.Sameness.{HasTags};
 ghost use Rattle.cyc_types.specs.Tags.{member_of, members_of};
 ghost use Rattle.cyc_types.specs.Types.{static_type};
-ghost use Rattle.judged_values.specs.StructMembers.{HasTags, arrow_on, member_on};
+ghost use Rattle.judged_values.specs.StructMembers.{arrow_on, member_on};
 ghost use Rattle.judged_values.specs.Values.{seat_of, value_of};
 ghost use Rattle.scoped_names.specs.Knows.{Knows};
 ghost use Rattle.source_typing.specs.Places.{arrow, member, part_found, part_of, part_typed};
@@ -71,7 +72,7 @@ fn part_of<'p>(
     regions: &[RegionId],
     field: &Name,
 ) -> Result<Verdict<Value<'p>>, AllocError>
-    ensures { (g : Env) → HasTags tables.now g → IfOk result (λ v. short_of value_of v
+    ensures { (g : Env) → HasTags tables.now g.tables → IfOk result (λ v. short_of value_of v
         ≡ shortened (part_of g at (seat_of seat) tag.now (regions_of regions.now) (name_tree field.now))) }
 {
     match tables.tag(tag) {
@@ -91,7 +92,7 @@ fn member_on<'p>(
     base: &BaseType<'p>,
     field: &Name,
 ) -> Result<Verdict<Value<'p>>, AllocError>
-    ensures { (g : Env) → HasTags tables.now g → IfOk result (λ v. short_of value_of v
+    ensures { (g : Env) → HasTags tables.now g.tables → IfOk result (λ v. short_of value_of v
         ≡ shortened (member_on g (name_tree field.now) at (base_type base.now) (seat_of seat))) }
 {
     match base {
@@ -109,7 +110,7 @@ pub fn member<'p>(
     field: &Name,
     operand: &Value<'p>,
 ) -> Result<Verdict<Value<'p>>, AllocError>
-    ensures { (g : Env) → HasTags tables.now g
+    ensures { (g : Env) → HasTags tables.now g.tables
         → IfOk result (λ v. short_of value_of v ≡ shortened (member g (name_tree field.now) (value_of operand.now))) }
 {
     if matches!(operand.seat, Seat::Nowhere) {
@@ -133,7 +134,7 @@ fn arrow_on<'p>(
     base: &BaseType<'p>,
     field: &Name,
 ) -> Result<Verdict<Value<'p>>, AllocError>
-    ensures { (g : Env) → HasTags tables.now g → IfOk result (λ v. short_of value_of v
+    ensures { (g : Env) → HasTags tables.now g.tables → IfOk result (λ v. short_of value_of v
         ≡ shortened (arrow_on g (name_tree field.now) at pointer is_live (base_type base.now))) }
 {
     match base {
@@ -157,7 +158,7 @@ pub fn arrow<'p>(
     field: &Name,
     operand: Value<'p>,
 ) -> Result<Verdict<Value<'p>>, AllocError>
-    ensures { (g : Env) → Knows scope.now g → HasTags tables.now g
+    ensures { (g : Env) → Knows scope.now g → HasTags tables.now g.tables
         → IfOk result (λ v. short_of value_of v ≡ shortened (arrow g (name_tree field.now) (value_of operand.entry))) }
 {
     let at = operand.at;

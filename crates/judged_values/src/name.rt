@@ -23,7 +23,9 @@ pub fn variable<'p>(
     match named {
         None => Ok(refused(FaultKind::Name, at)),
         Some(Named::Variable(of, region)) => Ok(seated(at, of.try_clone()?, Seat::In(region))),
-        Some(Named::Function(_) | Named::Builtin(_)) => Ok(refused(FaultKind::Typing, at)),
-        Some(Named::NotKnown) => Ok(Verdict::NotJudged),
+        Some(Named::Function(_) | Named::Builtin(_) | Named::Tag(_)) => {
+            Ok(refused(FaultKind::Typing, at))
+        }
+        Some(Named::FaultyTag | Named::NotKnown) => Ok(Verdict::NotJudged),
     }
 }

@@ -6,3 +6,4 @@ pub mod ItemNames
 pub mod Scopes
 pub mod Seeing
 pub mod Sizes
+pub mod Untagged

@@ -17,8 +17,8 @@ pub record JudgedAs (i : Item) (j : Judged) : Type 0 where
   pub unsound : IsUnsound i j.entry.entry
 
 judged_as : (g : Tables) (k : ℕ) (i : Item) → JudgedAs i (judged_tag g k (item_taken thin_pointers i))
-judged_as g k (tree.StructItem s) = record { faults = refl; unsound = UnsoundTag _ refl }
-judged_as g k (tree.UnionItem s) = record { faults = refl; unsound = UnsoundTag _ refl }
+judged_as g k (tree.StructItem s) = record { faults = refl; unsound = UnsoundTag _ refl refl }
+judged_as g k (tree.UnionItem s) = record { faults = refl; unsound = UnsoundTag _ refl refl }
 judged_as g k (tree.GlobalItem x) = record { faults = refl; unsound = tt }
 judged_as g k (tree.FunctionItem f) = record { faults = refl; unsound = tt }
 

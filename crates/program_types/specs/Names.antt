@@ -1,16 +1,18 @@
 -- What the names of items mean.
-use Rattle.std.specs.Prelude.{None, Option, Some, ◌≡◌}
+use Rattle.std.specs.Prelude.{Bool, List, None, Option, Some, ℕ, ◌≡◌}
 use Rattle.cyc_tree.specs.Tree.{Item}
 use Rattle.source_typing.specs.Tables.{Entry}
+use Rattle.scoped_names.specs.Globals.{global_meaning}
 use Rattle.scoped_names.specs.Means.{Means}
+use Rattle.scoped_names.specs.declared.globals.Globals.{Globals}
 use Rattle.scoped_names.specs.declared.meaning.Meaning.{Meaning}
-use Rattle.scoped_names.specs.declared.meaning.Meaning.TheVariants.{NotKnown}
+use Rattle.scoped_names.specs.declared.meaning.Meaning.TheVariants.{FaultyTag, Tag}
 use Rattle.cyc_tree.specs.Tree as tree
 
 -- what a struct or union means, which isn't taken
 abbrev pub IsUnsound : Item → Entry → Type 0
-IsUnsound (tree.StructItem s) e = Means (Some e) (Some NotKnown)
-IsUnsound (tree.UnionItem s) e = Means (Some e) (Some NotKnown)
+IsUnsound (tree.StructItem s) e = Means (Some e) (Some FaultyTag)
+IsUnsound (tree.UnionItem s) e = Means (Some e) (Some FaultyTag)
 IsUnsound (tree.GlobalItem x) e = Unit {0}
 IsUnsound (tree.FunctionItem f) e = Unit {0}
 
@@ -18,3 +20,11 @@ IsUnsound (tree.FunctionItem f) e = Unit {0}
 abbrev pub Since : Option Entry → Option Meaning → Option Entry → Type 0
 Since all None others = all ≡ others
 Since all (Some m) others = Means all (Some m)
+
+-- it is no struct or union in order
+abbrev pub IsNoTag : Meaning → Type 0
+IsNoTag m = (u : Bool) → m ≡ Tag u → ⊥
+
+-- no name means a struct or union in order
+abbrev pub HasNoTag : Globals → Type 0
+HasNoTag s = (x : List ℕ) (u : Bool) → global_meaning s x ≡ Some (Tag u) → ⊥

@@ -11,7 +11,7 @@ ghost use Rattle.source_typing.specs.Expressions.{number_typed};
 ghost use Rattle.source_typing.specs.Faults.{earliest};
 ghost use Rattle.source_typing.specs.Globals.{constant, count_of, global_entry, global_faults, global_type};
 ghost use Rattle.source_typing.specs.Scope.{Env, at_item, value};
-ghost use Rattle.source_typing.specs.Tables.{Tables};
+ghost use Rattle.source_typing.specs.Tables as rules_tables;
 ghost use Rattle.source_typing.specs.Taken.{constant_taken, initial_taken, refused_constant, takes_initial, takes_type, thin_pointers};
 ghost use Rattle.source_typing.specs.Types.{StaticType};
 ghost use Rattle.type_verdicts.specs.Faults.{faults_of};
@@ -23,12 +23,12 @@ ghost use Rattle.cyc_tree.specs.Tree as tree;
 ghost use Rattle.source_typing.specs.Verdicts as rules;
 
 use cyc_tree::{Constant, Global as GlobalItem, Initial, Pointer, RegionName, TypeName};
-use cyc_types::{BaseType, CType, Layer, RegionId};
+use cyc_types::{BaseType, CType, Layer, RegionId, Tables};
 use judged_values::{Seat, Value, converted};
 use scoped_names::{Globals, Locals, Meaning, Scope};
 use scoped_types::{RegionNames, RegionScope};
 use std::alloc::{AllocError, Global};
-use type_verdicts::{Fault, FaultKind, Verdict};
+use type_verdicts::{Fault, FaultKind, Taken, Verdict};
 use written_types::{settled_alone, takes_type, written};
 
 /// What a global is: its earliest fault, and what its name means.
@@ -171,12 +171,15 @@ fn conversion_fault(
     value: &Value<'_>,
     to: &CType<'_>,
 ) -> Result<Option<Fault>, AllocError>
-    ensures { (lenient : Bool) (g : Tables) (i : ℕ)
+    ensures { (lenient : Bool) (g : rules_tables.Tables) (i : ℕ)
         → IfOk result (λ f. faults_of f ≡ earliest (converts (at_item lenient g i) (value_of value.now) (static_type to.now))) }
 {
     let globals = Globals::new(alloc);
+    let tables = Tables::new(alloc);
     let scope = Scope {
         globals: &globals,
+        tables: &tables,
+        taken: Taken::thin_pointers(),
         locals: Locals::new(alloc),
         regions: RegionScope::of_item(alloc),
         lenient: false,
@@ -191,7 +194,7 @@ fn initial_fault(
     initial: &Initial,
     to: &CType<'_>,
 ) -> Result<Option<Fault>, AllocError>
-    ensures { (lenient : Bool) (g : Tables) (i : ℕ) → IfOk result (λ f. faults_of f
+    ensures { (lenient : Bool) (g : rules_tables.Tables) (i : ℕ) → IfOk result (λ f. faults_of f
         ≡ earliest (faults_by (at_item lenient g i) (initial_taken thin_pointers (type_tree of.now) (initial_tree initial.now)) (rules.Of (static_type to.now)))) }
 {
     match initial {
@@ -232,10 +235,10 @@ fn by_type<'p>(
     global: &GlobalItem,
     of: Verdict<CType<'p>>,
 ) -> Result<JudgedGlobal<'p>, AllocError>
-    ensures fault { (lenient : Bool) (g : Tables) (i : ℕ) (v : rules.Verdict StaticType) → short_of static_type of.entry ≡ shortened v
+    ensures fault { (lenient : Bool) (g : rules_tables.Tables) (i : ℕ) (v : rules.Verdict StaticType) → short_of static_type of.entry ≡ shortened v
         → let start = initial_taken thin_pointers (type_tree global.now.of) (initial_tree global.now.initial) in
         IfOk result (λ j. faults_of j.fault ≡ earliest (faults_by (at_item lenient g i) start v)) }
-    ensures meaning { (lenient : Bool) (g : Tables) (i : ℕ) (v : rules.Verdict StaticType) → short_of static_type of.entry ≡ shortened v
+    ensures meaning { (lenient : Bool) (g : rules_tables.Tables) (i : ℕ) (v : rules.Verdict StaticType) → short_of static_type of.entry ≡ shortened v
         → let start = initial_taken thin_pointers (type_tree global.now.of) (initial_tree global.now.initial) in
         count_of start ≡ None → IfOk result (λ j. Means (Some (entry_by (at_item lenient g i) start v)) (Some j.meaning)) }
 {
@@ -264,9 +267,9 @@ pub(crate) fn judged_global<'p>(
     alloc: Global,
     global: &GlobalItem,
 ) -> Result<JudgedGlobal<'p>, AllocError>
-    ensures fault { (lenient : Bool) (g : Tables) (i : ℕ)
+    ensures fault { (lenient : Bool) (g : rules_tables.Tables) (i : ℕ)
         → IfOk result (λ j. faults_of j.fault ≡ earliest (global_faults (at_item lenient g i) (global_taken (global_tree global.now)))) }
-    ensures meaning { (lenient : Bool) (g : Tables) (i : ℕ)
+    ensures meaning { (lenient : Bool) (g : rules_tables.Tables) (i : ℕ)
         → IfOk result (λ j. Means (Some (global_entry (at_item lenient g i) (global_taken (global_tree global.now)))) (Some j.meaning)) }
 {
     if !is_taken(global) {

@@ -1,28 +1,30 @@
 // The faults of programs.
 
-ghost use Rattle.std.specs.Prelude.{◌≡◌, ◌≤◌, ◌++◌, ◌∷◌, [], Bool, IfOk, List, OnOk, codes, not, ℕ};
+ghost use Rattle.std.specs.Prelude.{◌≡◌, ◌≤◌, ◌+◌, ◌++◌, ◌∷◌, [], Bool, IfOk, List, OnOk, codes, not, ℕ};
 ghost use Rattle.cyc_tree.specs.View.{constant_tree, initial_tree, name_tree, program_item_tree, program_tree};
 ghost use Rattle.cyc_tree.specs.Places.{item_place};
 ghost use Rattle.source_typing.specs.Faults.{earliest, fault, name_rule, size_rule, test, type_rule};
 ghost use Rattle.source_typing.specs.Faults as rules;
 ghost use Rattle.source_typing.specs.Globals.{if_clean, item_statics};
-ghost use Rattle.source_typing.specs.Programs.{if_first, is_seen, item_faults, items_from, main_found, main_is, name_of, second_names, size_faults, typing_faults};
+ghost use Rattle.source_typing.specs.Programs.{if_first, is_seen, item_faults, items_from, main_found, main_is, name_of, second_names};
+ghost use Rattle.source_typing.specs.Programs.{size_faults, tables_of, typing_faults};
 ghost use Rattle.source_typing.specs.Scope.{at_item};
-ghost use Rattle.source_typing.specs.Tables.{Tables, find};
+ghost use Rattle.source_typing.specs.Tables as rules_tables;
 ghost use Rattle.source_typing.specs.Taken.{constant_form, constant_forms, initial_form, item_forms, item_taken, only_taken, thin_pointers};
-ghost use Rattle.scoped_names.specs.Globals.{global_meaning};
-ghost use Rattle.scoped_names.specs.Means.{Means};
+ghost use Rattle.judged_heads.specs.Bodies.{KnowsNames};
+ghost use Rattle.type_verdicts.specs.Taken.{taken_of};
 ghost use Rattle.type_verdicts.specs.Faults.{fault_of, faults_of};
 ghost use Rattle.program_types.specs.Programs.{Adds, AreSeen, tag_form, tag_forms};
 
 use crate::global::judged_global;
 use crate::names::{item_name, program_names};
 use cyc_tree::{Constant, END_OF_TEXT, Initial, Item, Name, Program};
-use judged_heads::{function_fault, is_main};
+use cyc_types::Tables;
+use judged_heads::{Names, function_fault, is_main};
 use scoped_names::{Globals, Meaning};
 use std::alloc::{AllocError, Global};
-use type_verdicts::{Fault, FaultKind, sooner};
-use written_types::takes_type;
+use type_verdicts::{Fault, FaultKind, Taken, sooner};
+use written_types::{TagNames, takes_type};
 
 /// A phrase of a wrong type or form.
 fn mistyped(at: u32) -> Fault
@@ -126,15 +128,16 @@ fn tags_fault(items: &[Item]) -> Option<Fault>
     found
 }
 
-/// The earliest fault of a global or a function. Fails only where no host memory is left.
+/// The earliest fault of a global or a function after so many items. Fails only where no host memory is left.
 fn item_fault<'p>(
     alloc: Global,
-    names: &Globals<'p>,
+    names: Names<'_, 'p>,
     lenient: bool,
+    index: u32,
     item: &'p Item,
 ) -> Result<Option<Fault>, AllocError>
-    ensures { (g : Tables) (i : ℕ) → ((x : List ℕ) → Means (find g x) (global_meaning names.now x))
-        → IfOk result (λ f. faults_of f ≡ earliest (item_faults lenient g i (item_taken thin_pointers (program_item_tree item.entry.now)))) }
+    ensures { (g : rules_tables.Tables) → KnowsNames names.entry g → taken_of names.entry.taken ≡ thin_pointers
+        → IfOk result (λ f. faults_of f ≡ earliest (item_faults lenient g index (item_taken thin_pointers (program_item_tree item.entry.now)))) }
 {
     match item {
         Item::Struct(_) | Item::Union(_) => Ok(None),
@@ -142,25 +145,54 @@ fn item_fault<'p>(
             let judged = judged_global(alloc, global)?;
             Ok(judged.fault)
         }
-        Item::Function(function) => function_fault(alloc, names, lenient, function),
+        Item::Function(function) => function_fault(alloc, names, lenient, index, function),
+    }
+}
+
+/// The index after this one. One over a u32 is want of memory.
+fn next_index(index: u32) -> Result<u32, AllocError>
+    ensures { IfOk result (λ i. i ≡ index + 1) }
+{
+    match index.checked_add(1) {
+        Some(next) => Ok(next),
+        None => Err(AllocError),
     }
 }
 
 /// The earliest fault of globals and functions. Fails only where no host memory is left.
 fn items_fault<'p>(
     alloc: Global,
-    names: &Globals<'p>,
+    names: Names<'_, 'p>,
     lenient: bool,
     items: &'p [Item],
 ) -> Result<Option<Fault>, AllocError>
-    ensures { (g : Tables) → ((x : List ℕ) → Means (find g x) (global_meaning names.now x))
+    ensures { (g : rules_tables.Tables) → KnowsNames names.entry g → taken_of names.entry.taken ≡ thin_pointers
         → IfOk result (λ f. faults_of f ≡ earliest (items_from lenient g 0 (only_taken thin_pointers (program_tree items.entry.now)))) }
 {
     let mut found = None;
+    let mut index = 0;
     'each: for item in items {
-        found = sooner(found, item_fault(alloc, names, lenient, item)?);
+        found = sooner(found, item_fault(alloc, names, lenient, index, item)?);
+        index = next_index(index)?;
     }
     Ok(found)
+}
+
+/// The earliest fault of a program's globals and functions. Fails only where no host memory is left.
+fn bodies_fault(alloc: Global, lenient: bool, items: &[Item]) -> Result<Option<Fault>, AllocError>
+    ensures { let all = only_taken thin_pointers (program_tree items.now) in
+        IfOk result (λ f. faults_of f ≡ earliest (items_from lenient (tables_of lenient all) 0 all)) }
+{
+    let globals = program_names(alloc, items)?;
+    let tags = TagNames::new(alloc);
+    let tables = Tables::new(alloc);
+    let names = Names {
+        globals: &globals,
+        tags: &tags,
+        tables: &tables,
+        taken: Taken::thin_pointers(),
+    };
+    items_fault(alloc, names, lenient, items)
 }
 
 /// Adds a name to those that are seen, and tells whether it is a new one. Fails only where no host memory is left.
@@ -245,7 +277,7 @@ fn global_bytes(fault: Option<Fault>) -> u64
 /// How many bytes an item has in the data. Fails only where no host memory is left.
 fn item_bytes(alloc: Global, item: &Item) -> Result<u64, AllocError>
     ensures within { IfOk result (λ n. n ≤ 8) }
-    ensures bytes { (lenient : Bool) (g : Tables) (i : ℕ) → let t = program_item_tree item.now in
+    ensures bytes { (lenient : Bool) (g : rules_tables.Tables) (i : ℕ) → let t = program_item_tree item.now in
         IfOk result (λ n. Adds n (item_place t) (item_statics (at_item lenient g i) (item_taken thin_pointers t))) }
 {
     match item {
@@ -263,7 +295,7 @@ fn item_bytes(alloc: Global, item: &Item) -> Result<u64, AllocError>
 #[tactic(auto, using(crate::proofs::Sizes::nothing_added))]
 fn added_bytes(alloc: Global, is_new: bool, item: &Item) -> Result<u64, AllocError>
     ensures within { IfOk result (λ n. n ≤ 8) }
-    ensures bytes { (lenient : Bool) (g : Tables) (i : ℕ) → let t = program_item_tree item.now in
+    ensures bytes { (lenient : Bool) (g : rules_tables.Tables) (i : ℕ) → let t = program_item_tree item.now in
         IfOk result (λ n. Adds n (item_place t) (if_first is_new (item_statics (at_item lenient g i) (item_taken thin_pointers t)))) }
 {
     if is_new {
@@ -275,7 +307,7 @@ fn added_bytes(alloc: Global, is_new: bool, item: &Item) -> Result<u64, AllocErr
 
 /// The fault of the globals' sizes. Fails only where no host memory is left.
 fn sizes_fault(alloc: Global, items: &[Item]) -> Result<Option<Fault>, AllocError>
-    ensures { (lenient : Bool) (g : Tables) → IfOk result (λ f. faults_of f
+    ensures { (lenient : Bool) (g : rules_tables.Tables) → IfOk result (λ f. faults_of f
         ≡ earliest (size_faults lenient g (only_taken thin_pointers (program_tree items.now)))) }
 {
     let mut seen = Globals::new(alloc);
@@ -302,9 +334,8 @@ pub fn program_fault(
         ≡ earliest (constant_forms thin_pointers program.now ++ typing_faults lenient (only_taken thin_pointers program.now))) }
 {
     let items = program.items();
-    let names = program_names(alloc, items)?;
     let seconds = seconds_fault(alloc, items)?;
-    let bodies = items_fault(alloc, &names, lenient, items)?;
+    let bodies = bodies_fault(alloc, lenient, items)?;
     let sizes = sizes_fault(alloc, items)?;
     let found = sooner(sooner(seconds, bodies), main_found(items));
     let rest = sooner(tags_fault(items), sooner(found, sizes));

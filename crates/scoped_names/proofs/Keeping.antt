@@ -2,8 +2,9 @@
 use Rattle.std.proofs.Common.{◌≡◌, ℕ, ◌+◌, ◌≤◌, List, [], ◌∷◌, Bool, true, false, length, take, refl, sym, ap, subst, ◌∙◌, arith}
 use Rattle.std.proofs.lemmas.Bool.Decides.{nat_tests}
 use Rattle.std.proofs.lemmas.List.{take-append-le, take_all}
-use Rattle.std.specs.Prelude.{Some, bytes_eq, nat_eq, nat_le, ◌&&◌, ◌||◌, if◌then◌else◌}
+use Rattle.std.specs.Prelude.{Option, Some, bytes_eq, nat_eq, nat_le, ◌&&◌, ◌||◌, if◌then◌else◌}
 use Rattle.cyc_tree.specs.Tree as tree
+use Rattle.cyc_types.specs.Sameness.{HasTags}
 use Rattle.source_typing.specs.Scope.{Env, block_entered, is_second, meant, with_local, with_locals}
 use Rattle.source_typing.specs.Scope as rules
 use Rattle.source_typing.specs.Tables.{Entry, OfValue, Tables, find}
@@ -21,6 +22,9 @@ use Rattle.scoped_names.specs.Locals.{dropped_to, find_what, is_after, known}
 use Rattle.scoped_names.specs.Means.{Means, WhatIs}
 use Rattle.scoped_names.specs.Means as means
 use Rattle.scoped_names.specs.declared.locals.What.{What}
+use Rattle.scoped_names.specs.declared.locals.What.TheVariants as local
+use Rattle.scoped_names.specs.declared.meaning.Meaning.{Meaning}
+use Rattle.scoped_names.specs.declared.meaning.Meaning.TheVariants as code
 use Rattle.scoped_names.specs.declared.scope.Scope.{Scope}
 
 -- ---- a local is declared
@@ -42,10 +46,22 @@ is_declared x w g e = ap (λ b. if b then g else and_local x.text w g) e
 pub not_declared : (x : tree.Name) (w : rules_tables.What) (g : Env) → is_second g.locals g.block x.text ≡ true → with_local x w g ≡ g
 not_declared x w g e = ap (λ b. if b then g else and_local x.text w g) e
 
+-- a local is no tag, and hides one of its name
+local_no_tag : (v : What) (u : Bool) → Some (of_local v) ≡ Some (code.Tag u) → ⊥
+local_no_tag (local.Variable t r) u e = absurd cc
+local_no_tag local.NotKnown u e = absurd cc
+
+no_tag : (b : Bool) (o : Option What) (m : Option Meaning) (u : Bool) (v : What) → (local_or o m ≡ Some (code.Tag u) → ⊥)
+    → local_or (if b then Some v else o) m ≡ Some (code.Tag u) → ⊥
+no_tag true o m u v none e = local_no_tag v u e
+no_tag false o m u v none e = none e
+
 module _ (s : Scope) (g : Env) (h : Knows s g) where
   with_local_known : (x : List ℕ) (w : rules_tables.What) (v : What) → WhatIs w v → Knows (with_known x v s) (and_local x w g)
   with_local_known x w v is = record {
     names = λ y. by (bytes_eq x y) y;
+    tags = h.tags;
+    untaken = λ e y u. no_tag (bytes_eq x y) (find_what s.locals y) (global_meaning s.globals.now y) u v (h.untaken e y u);
     regions = h.regions;
     lenient = h.lenient;
     enclosing = h.enclosing;
@@ -70,6 +86,8 @@ module _ (s : Scope) (g : Env) (h : Knows s g) where
   pub entered_known : Knows (entered s) (block_entered g)
   entered_known = record {
     names = h.names;
+    tags = h.tags;
+    untaken = h.untaken;
     regions = block_begins s.regions g.regions h.regions;
     lenient = h.lenient;
     enclosing = h.enclosing;
@@ -81,6 +99,8 @@ module _ (s : Scope) (g : Env) (h : Knows s g) where
   known_there f t l r n e = record {
     names = λ x. subst (λ d. Means d (means_in s x))
         (sym (ap (λ ls. find (with_locals ls f.tables) x) l ∙ ap (λ ts. find (with_locals g.locals ts) x) t)) (h.names x);
+    tags = λ e. subst (HasTags s.tables.now) (sym t) (h.tags e);
+    untaken = h.untaken;
     regions = subst (AreThose s.regions) (sym r) h.regions;
     lenient = h.lenient ∙ sym n;
     enclosing = e ∙ h.enclosing;

@@ -1,5 +1,6 @@
 -- When what is in scope in code is what is in scope by the rules.
-use Rattle.std.specs.Prelude.{List, None, Option, Some, ℕ, ◌≡◌}
+use Rattle.std.specs.Prelude.{Bool, List, None, Option, Some, false, true, ℕ, ◌≡◌}
+use Rattle.cyc_types.specs.Sameness.{HasTags}
 use Rattle.source_typing.specs.Regions.{TheHeap}
 use Rattle.source_typing.specs.Scope.{Env, InRegion, meant}
 use Rattle.scoped_types.specs.Scopes.{AreThose}
@@ -28,9 +29,12 @@ means_in s x = local_or (find_what s.locals x) (global_meaning s.globals.now x)
 
 -- ---- all of it
 
--- Each name means what it means by the rules, the regions are the same, and no `rnew` is around.
+-- Each name means what it means by the rules, so do structs and unions where they are taken, the regions are the same, and no `rnew` is around.
 pub record Knows (s : Scope) (g : Env) : Type 0 where
   pub names : (x : List ℕ) → Means (meant g x) (means_in s x)
+  pub tags : s.taken.structs ≡ true → HasTags s.tables.now g.tables
+  -- where structs aren't taken, no name means a sound one
+  pub untaken : s.taken.structs ≡ false → (x : List ℕ) (u : Bool) → means_in s x ≡ Some (code.Tag u) → ⊥
   pub regions : AreThose s.regions g.regions
   pub lenient : s.lenient ≡ g.lenient
   pub enclosing : g.enclosing ≡ InRegion TheHeap

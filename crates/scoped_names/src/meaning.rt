@@ -24,6 +24,10 @@ pub enum Meaning<'p> {
     Function(Signature<'p>),
     /// A function that every program has, with so many parameters.
     Builtin(u32),
-    /// A name whose declaration is at fault.
+    /// A struct or union whose declaration has no fault; whether it is a union.
+    Tag(bool),
+    /// A struct or union whose declaration is at fault.
+    FaultyTag,
+    /// A global or a function whose declaration is at fault.
     NotKnown,
 }

@@ -10,9 +10,10 @@ ghost use Rattle.scoped_names.specs.Means.{Means, meaning_of};
 use crate::globals::Globals;
 use crate::locals::{Locals, What};
 use crate::meaning::{Meaning, Signature};
-use cyc_types::{CType, RegionId};
+use cyc_types::{CType, RegionId, Tables};
 use scoped_types::RegionScope;
 use std::alloc::AllocError;
+use type_verdicts::Taken;
 
 /// What a name means where it is used.
 #[derive(Clone, Copy, Debug)]
@@ -23,15 +24,22 @@ pub enum Named<'a, 'p> {
     Function(&'a Signature<'p>),
     /// A function that every program has, with so many parameters.
     Builtin(u32),
-    /// A name whose declaration is at fault.
+    /// A struct or union whose declaration has no fault; whether it is a union.
+    Tag(bool),
+    /// A struct or union whose declaration is at fault.
+    FaultyTag,
+    /// A local, a global or a function whose declaration is at fault.
     NotKnown,
 }
 
-/// What is in scope where an expression is judged: names, regions, and whether the rules on live regions and effects are left
-/// out.
+/// What is in scope where an expression is judged: names, structs and unions, regions, which forms are taken, and whether the rules
+/// on live regions and effects are left out.
 #[derive(Drop)]
 pub struct Scope<'g, 'p> {
     pub globals: &'g Globals<'p>,
+    /// The structs and unions of the program, where structs are taken.
+    pub tables: &'g Tables<'p>,
+    pub taken: Taken,
     pub locals: Locals<'p>,
     pub regions: RegionScope,
     pub lenient: bool,
@@ -55,6 +63,8 @@ fn named_global<'a, 'p>(meaning: &'a Meaning<'p>) -> Named<'a, 'p>
         Meaning::Variable(stored, region) => Named::Variable(stored, *region),
         Meaning::Function(signature) => Named::Function(signature),
         Meaning::Builtin(count) => Named::Builtin(*count),
+        Meaning::Tag(is_union) => Named::Tag(*is_union),
+        Meaning::FaultyTag => Named::FaultyTag,
         Meaning::NotKnown => Named::NotKnown,
     }
 }

@@ -5,8 +5,9 @@ use Rattle.cyc_types.specs.declared.region.RegionId.TheVariants.{Level}
 use Rattle.source_typing.specs.Faults.{earliest}
 use Rattle.source_typing.specs.Functions.{body_scope, function_scope, with_parameters}
 use Rattle.source_typing.specs.Statements.{items_faults}
-use Rattle.source_typing.specs.Taken.{function_taken, items_taken, thin_pointers}
+use Rattle.source_typing.specs.Taken.{function_taken, items_taken}
 use Rattle.type_verdicts.specs.Faults.{faults_of}
+use Rattle.type_verdicts.specs.Taken.{taken_of}
 use Rattle.judged_statements.specs.Contexts.{StandsIn}
 use Rattle.judged_statements.specs.declared.context.Context.{Context}
 use Rattle.judged_heads.specs.Bodies.{code_names, types_of}
@@ -14,21 +15,28 @@ use Rattle.judged_heads.proofs.Bodies.{at_body, stands}
 use Rattle.judged_heads.proofs.body.body_fault.Goals as goal
 
 pub returns : goal.returns
-returns c g i h globals is =
+returns c g h known is =
     let head = c.args.head.now in
     let lenient = c.args.lenient in
-    let f = function_taken thin_pointers (function_tree c.args.function.now) in
-    let d : Context = record { names = c.names.result; result = c.known_type.result; frame = Level c.count.result; in_loop = false } in
+    let i = c.args.item in
+    let k = taken_of c.args.names.taken in
+    let f = function_taken k (function_tree c.args.function.now) in
+    let d : Context = record { names = c.names.result; result = c.known_type.result; frame = Level c.count.result; item = i; in_loop = false } in
     let s = c.in_ok-scope.scope in
     let t = c.declare_parameters.new.scope in
     let begun =
-    stands head f h is lenient g i s c.in_ok-scope.ensures.alone d (c.in_ok-scope.ensures.known g i f h globals is)
-    c.names.ensures c.known_type.ensures (ap Level c.count.ensures) refl in
+    stands head f h is lenient g i s c.in_ok-scope.ensures.alone d (c.in_ok-scope.ensures.known g i f h known is)
+    c.names.ensures c.known_type.ensures (ap Level c.count.ensures) refl refl in
     let declared =
-    c.in_ok-declare_parameters.ensures (function_scope lenient g i h) f.parameters (ap (λ ps. code_names ps) c.as_slice.ensures.value ∙ is.named) begun in
+    c.in_ok-declare_parameters.ensures.stands (function_scope lenient g i h) f.parameters
+    (ap (λ ps. code_names ps) c.as_slice.ensures.value ∙ is.named) begun in
     let inside =
     at_body head f h is lenient g i s c.in_ok-scope.ensures.alone d t
     (subst (λ ps. StandsIn d 0 t (with_parameters f.parameters (types_of ps) (function_scope lenient g i h))) c.as_slice.ensures.value declared) in
+    let same_taken = c.in_ok-declare_parameters.ensures.taken ∙ c.in_ok-scope.ensures.taken in
     subst (λ b. IfOk c.items_fault.result
-    (λ found. faults_of found ≡ earliest (items_faults (body_scope lenient g i f h) true (items_taken thin_pointers (items_of (map item_tree b))))))
-    c.deref.ensures.value (c.items_fault.ensures.fault (body_scope lenient g i f h) true inside)
+    (λ found. faults_of found ≡ earliest (items_faults (body_scope lenient g i f h) true (items_taken k (items_of (map item_tree b))))))
+    c.deref.ensures.value
+    (subst (λ n. IfOk c.items_fault.result (λ found. faults_of found
+    ≡ earliest (items_faults (body_scope lenient g i f h) true (items_taken (taken_of n) (items_of (map item_tree c.deref.result.now))))))
+    same_taken (c.items_fault.ensures.fault (body_scope lenient g i f h) true inside))

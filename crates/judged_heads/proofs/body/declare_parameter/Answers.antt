@@ -8,8 +8,8 @@ use Rattle.judged_heads.specs.Heads.{known_static}
 use Rattle.judged_heads.proofs.Parameters.{is_added}
 use Rattle.judged_heads.proofs.body.declare_parameter.Goals as goal
 
-pub returns : goal.returns
-returns c g x e h =
+pub returns-clause-stands : goal.returns-clause-stands
+returns-clause-stands c g x e h =
     let s = c.args.scope.now in
     let d = c.args.context in
     let k = known_static c.args.parameter.now.of in

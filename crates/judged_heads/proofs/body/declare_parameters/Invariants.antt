@@ -8,5 +8,8 @@ use Rattle.judged_heads.proofs.body.declare_parameters.Given as goal
 
 -- those so far are declared
 abbrev pub invariant-each : goal.invariant-each
-invariant-each l = (g : Env) (ms : List Member) → code_names l.parameters ≡ names_of ms → StandsIn l.context 0 l.initial.scope g
-    → StandsIn l.context 0 l.scope (with_parameters (take l.parameter-index ms) (types_of (take l.parameter-index l.parameters)) g)
+invariant-each l = record {
+  stands : (g : Env) (ms : List Member) → code_names l.parameters ≡ names_of ms → StandsIn l.context 0 l.initial.scope g
+      → StandsIn l.context 0 l.scope (with_parameters (take l.parameter-index ms) (types_of (take l.parameter-index l.parameters)) g);
+  taken : l.scope.taken ≡ l.initial.scope.taken;
+}

@@ -4,18 +4,21 @@ use Rattle.cyc_tree.specs.View.{function_tree}
 use Rattle.source_typing.specs.Faults.{test, type_rule}
 use Rattle.source_typing.specs.Functions.{body_scope, end_reached, head_of}
 use Rattle.source_typing.specs.Statements.{items_faults}
-use Rattle.source_typing.specs.Taken.{function_taken, thin_pointers}
+use Rattle.source_typing.specs.Taken.{function_taken}
 use Rattle.type_verdicts.specs.Faults.{faults_of}
+use Rattle.type_verdicts.specs.Taken.{taken_of}
 use Rattle.judged_heads.proofs.Bodies.{function_found}
 use Rattle.judged_heads.proofs.body.function_fault.Goals as goal
 
 pub returns : goal.returns
-returns c g i globals =
+returns c g known =
     let lenient = c.args.lenient in
-    let f = function_taken thin_pointers (function_tree c.args.function.now) in
+    let i = c.args.item in
+    let k = c.args.names.taken in
+    let f = function_taken (taken_of k) (function_tree c.args.function.now) in
     let h = head_of lenient g f in
-    let is = c.in_ok-head.ensures lenient g in
+    let is = c.in_ok-head.ensures.head lenient g known.tag_names in
     ap faults_of c.sooner.ensures
     ∙ function_found c.in_ok-head.head.fault c.in_ok-body.body c.end_fault-end.result c.first_or.result h.faults
     (items_faults (body_scope lenient g i f h) true f.body) (test (not (end_reached f h)) type_rule f.end)
-    is.fault (c.in_ok-body.ensures g i h globals is) (c.end_fault-end.ensures h is) c.first_or.ensures
+    is.fault (c.in_ok-body.ensures g h known is) (c.end_fault-end.ensures k h is) c.first_or.ensures

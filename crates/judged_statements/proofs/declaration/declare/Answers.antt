@@ -5,8 +5,9 @@ use Rattle.scoped_names.specs.Locals.{is_after, known}
 use Rattle.source_typing.specs.Declarations.{declare}
 use Rattle.source_typing.specs.Faults.{fault, name_rule}
 use Rattle.source_typing.specs.Scope.{is_second}
-use Rattle.source_typing.specs.Taken.{declaration_taken, thin_pointers}
+use Rattle.source_typing.specs.Taken.{declaration_taken}
 use Rattle.type_verdicts.specs.Faults.{faults_of, first_of}
+use Rattle.type_verdicts.specs.Taken.{taken_of}
 use Rattle.type_verdicts.specs.declared.fault.Fault.{Fault}
 use Rattle.type_verdicts.specs.declared.fault.FaultKind.TheVariants as kind
 use Rattle.type_verdicts.proofs.Earliest.{found_sooner}
@@ -23,7 +24,7 @@ returns-then-is_second-clause-fault c g h =
     sym (h.block.second n.text) ∙ ap (is_after s.locals c.args.outer) (sym c.deref.ensures.value) ∙ sym c.is_second.ensures ∙ c.if-is_second.true in
     let twice : Fault = record { kind = kind.Name; at = n.at } in
     ap faults_of c.sooner.ensures ∙ found_sooner c.in_ok-local.local.fault (Some twice)
-    ∙ ap (λ o. first_of o (Some (fault name_rule n.at))) (c.in_ok-local.ensures g h.known h.suits).fault ∙ earliest_twice g d n c.local-name.ensures e
+    ∙ ap (λ o. first_of o (Some (fault name_rule n.at))) (c.in_ok-local.ensures g h.known h.suits).fault ∙ earliest_twice s.taken g d n c.local-name.ensures e
 
 pub returns-then-is_second-clause-known : goal.returns-then-is_second-clause-known
 returns-then-is_second-clause-known c g h =
@@ -32,7 +33,7 @@ returns-then-is_second-clause-known c g h =
     let n = name_tree c.local-name.result.now in
     let e : is_second g.locals g.block n.text ≡ true =
     sym (h.block.second n.text) ∙ ap (is_after s.locals c.args.outer) (sym c.deref.ensures.value) ∙ sym c.is_second.ensures ∙ c.if-is_second.true in
-    second_stands g d n c.local-name.ensures c.args.context c.args.outer s h e
+    second_stands s.taken g d n c.local-name.ensures c.args.context c.args.outer s h e
 
 pub returns-clause-fault : goal.returns-clause-fault
 returns-clause-fault c g h =
@@ -41,7 +42,7 @@ returns-clause-fault c g h =
     let n = name_tree c.local-name.result.now in
     let e : is_second g.locals g.block n.text ≡ false =
     sym (h.block.second n.text) ∙ ap (is_after s.locals c.args.outer) (sym c.deref.ensures.value) ∙ sym c.is_second.ensures ∙ c.if-is_second.false in
-    (c.in_ok-local.ensures g h.known h.suits).fault ∙ earliest_alone g d n c.local-name.ensures e
+    (c.in_ok-local.ensures g h.known h.suits).fault ∙ earliest_alone c.args.scope.now.taken g d n c.local-name.ensures e
 
 pub returns-clause-known : goal.returns-clause-known
 returns-clause-known c g h =
@@ -52,6 +53,6 @@ returns-clause-known c g h =
     sym (h.block.second n.text) ∙ ap (is_after s.locals c.args.outer) (sym c.deref.ensures.value) ∙ sym c.is_second.ensures ∙ c.if-is_second.false in
     let what = c.in_ok-local.local.what in
     let more = c.in_ok-declare.ensures.declared ∙ ap (λ x. known x what ∷ s.locals) c.deref-2.ensures.value in
-    subst (λ ls. StandsIn c.args.context c.args.outer record { globals = s.globals; locals = ls; regions = s.regions; lenient = s.lenient }
-    (declare g (declaration_taken thin_pointers d)).scope) (sym more)
-    (first_stands g d n c.local-name.ensures c.args.context c.args.outer s h what (c.in_ok-local.ensures g h.known h.suits).what e)
+    subst (λ ls. StandsIn c.args.context c.args.outer (record s { locals = ls })
+    (declare g (declaration_taken (taken_of s.taken) d)).scope) (sym more)
+    (first_stands s.taken g d n c.local-name.ensures c.args.context c.args.outer s h what (c.in_ok-local.ensures g h.known h.suits).what e)

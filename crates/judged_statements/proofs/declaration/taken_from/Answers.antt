@@ -7,11 +7,11 @@ use Rattle.judged_statements.proofs.Declaring.{from_faulty, from_value}
 use Rattle.judged_statements.proofs.declaration.taken_from.Goals as goal
 
 pub returns-in-Of : goal.returns-in-Of
-returns-in-Of c g w v e h k =
+returns-in-Of c g w v known item e h k =
     let same = from_value g c.args.at w v _ (ap (short_of value_of) (sym c.in-Of.is) ∙ k) in
-    subst (λ u. IfOk c.local_type.result (λ found. short_of static_type found ≡ shortened u)) (sym same) (c.local_type.ensures g w e h)
+    subst (λ u. IfOk c.local_type.result (λ found. short_of static_type found ≡ shortened u)) (sym same) (c.local_type.ensures g w known item e h)
 
 pub returns-in-Wrong : goal.returns-in-Wrong
-returns-in-Wrong c g w v e h k =
+returns-in-Wrong c g w v known item e h k =
     let same = from_faulty g c.args.at w v _ (ap (short_of value_of) (sym c.in-Wrong.is) ∙ k) in
     c.unsettled.ensures w e ∙ ap (λ u. shortened u) (sym same)

@@ -4,19 +4,22 @@ use Rattle.cyc_tree.specs.View.{type_tree}
 use Rattle.cyc_types.specs.Types.{static_type}
 use Rattle.source_typing.specs.Declarations.{local_type}
 use Rattle.source_typing.specs.Scope.{in_scope}
-use Rattle.source_typing.specs.Taken.{thin_pointers, type_taken}
+use Rattle.source_typing.specs.Taken.{type_taken}
 use Rattle.source_typing.specs.Verdicts.{after}
 use Rattle.source_typing.specs.Written.{written}
+use Rattle.type_verdicts.specs.Taken.{taken_of}
 use Rattle.type_verdicts.specs.Verdicts.{short_of, shortened}
-use Rattle.written_types.proofs.Pointers.{place_kept}
-use Rattle.judged_statements.proofs.Beginning.{written_tagless}
+use Rattle.written_types.proofs.Structs.{place_stays}
+use Rattle.judged_statements.proofs.Beginning.{written_allowed}
 use Rattle.judged_statements.proofs.declaration.unset_type.Goals as goal
 
 pub returns : goal.returns
-returns c g suits =
+returns c g known suits =
     let t = type_tree c.args.of.now in
-    let u = type_taken thin_pointers t in
+    let s = c.args.scope.now in
+    let k = taken_of s.taken in
+    let u = type_taken k t in
     let w = written (in_scope g) g.names u in
-    let e = c.in_ok-written.ensures (in_scope g) ∙ ap (λ n. shortened (written (in_scope g) n u)) suits.names in
-    subst (λ n. IfOk c.local_type.result (λ v. short_of static_type v ≡ shortened (after w (local_type g n None false None)))) (sym (place_kept t))
-    (c.local_type.ensures g w e (written_tagless (in_scope g) g.names t))
+    let e = c.in_ok-written.ensures (in_scope g) (c.local_tag-tag.ensures g known) ∙ ap (λ n. shortened (written (in_scope g) n u)) suits.names in
+    subst (λ n. IfOk c.local_type.result (λ v. short_of static_type v ≡ shortened (after w (local_type g n None false None)))) (sym (place_stays k t))
+    (c.local_type.ensures g w known suits.item e (written_allowed (in_scope g) g.names s.taken t))

@@ -3,9 +3,10 @@ use Rattle.cyc_tree.specs.View.{item_tree, items_of}
 use Rattle.source_typing.specs.Faults.{earliest}
 use Rattle.source_typing.specs.Scope.{Env}
 use Rattle.source_typing.specs.Statements.{items_faults}
-use Rattle.source_typing.specs.Taken.{items_taken, thin_pointers}
+use Rattle.source_typing.specs.Taken.{items_taken}
 use Rattle.scoped_names.specs.Changes.{left}
 use Rattle.scoped_types.specs.declared.scope.RegionMark.{RegionMark}
+use Rattle.type_verdicts.specs.Taken.{taken_of}
 use Rattle.judged_statements.specs.Contexts.{StandsIn}
 use Rattle.judged_statements.proofs.Blocks.{Going}
 use Rattle.judged_statements.proofs.statement.+statement.Given as goal
@@ -14,7 +15,7 @@ use Rattle.judged_statements.proofs.statement.+statement.Given as goal
 abbrev pub invariant-items_fault-each : goal.invariant-items_fault-each
 invariant-items_fault-each l = record {
   each : (g : Env) (reached : Bool) → StandsIn l.fn.context l.fn.outer l.fn.scope g
-      → Going l.fn.context l.fn.outer l.scope l.found (map item_tree (drop l.item-index l.fn.items))
-      (earliest (items_faults g reached (items_taken thin_pointers (items_of (map item_tree l.fn.items)))));
+      → Going (taken_of l.fn.scope.taken) l.fn.context l.fn.outer l.scope l.found (map item_tree (drop l.item-index l.fn.items))
+      (earliest (items_faults g reached (items_taken (taken_of l.fn.scope.taken) (items_of (map item_tree l.fn.items)))));
   left : (count : ℕ) (mark : RegionMark) → count ≤ length l.fn.scope.locals → left count mark l.scope ≡ left count mark l.fn.scope;
 }

@@ -5,7 +5,7 @@ use Rattle.program_types.proofs.ItemNames.{Reached, reached_first, reached_last,
 use Rattle.program_types.proofs.names.program_names.Goals as goal
 
 pub each-init : goal.each-init
-each-init c = reached_first (program_tree c.args.items.now) c.in_ok-names.names c.in_ok-names.ensures
+each-init c = reached_first (program_tree c.args.items.now) c.in_ok-names.names c.in_ok-names.ensures.names c.in_ok-names.ensures.untagged
 
 pub each-preserved : goal.each-preserved
 each-preserved c =
@@ -13,12 +13,16 @@ each-preserved c =
     let k = c.each.item-index in
     reached_next (program_tree all) k (program_item_tree c.item-item.result) (program_tree (drop (k + 1) all)) c.each.names c.add.new.self
     c.as_slice.result.now c.in_ok-meaning.meaning c.in_ok-add.field-0
-    (c.as_slice.ensures.value ∙ ap (λ n. n.text) c.item_name.ensures.plain) c.in_ok-add.ensures.is_new c.in_ok-add.ensures.names c.in_ok-meaning.ensures
+    (c.as_slice.ensures.value ∙ ap (λ n. n.text) c.item_name.ensures.plain) c.in_ok-add.ensures.is_new c.in_ok-add.ensures.names
+    c.in_ok-meaning.ensures.means c.in_ok-meaning.ensures.untagged
     (subst (λ r. Reached (program_tree all) k (program_tree r) c.each.names)
     (drop_more all k c.item-item.result c.each-test.true ∙ ap (λ y. y ∷ drop (k + 1) all) (sym c.item-item.is)) c.each.invariant)
 
-pub returns : goal.returns
-returns c =
+pub returns-clause-untagged : goal.returns-clause-untagged
+returns-clause-untagged c = c.each.invariant.untagged
+
+pub returns-clause-names : goal.returns-clause-names
+returns-clause-names c =
     let all = c.args.items.now in
     let k = c.each.item-index in
     reached_last (program_tree all) k c.each.names

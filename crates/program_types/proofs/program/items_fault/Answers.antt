@@ -1,4 +1,4 @@
-use Rattle.std.proofs.Common.{◌≡◌, ◌+◌, ◌++◌, List, ap, arith, drop, suc, ◌∙◌}
+use Rattle.std.proofs.Common.{◌≡◌, ◌+◌, ◌++◌, List, ap, arith, drop, subst, suc, ◌∙◌}
 use Rattle.cyc_tree.specs.View.{program_item_tree, program_tree}
 use Rattle.cyc_tree.specs.declared.item.Item as code_item
 use Rattle.source_typing.specs.Faults.{earliest}
@@ -9,15 +9,21 @@ use Rattle.program_types.proofs.Items.{next_found}
 use Rattle.program_types.proofs.program.items_fault.Goals as goal
 
 pub each-preserved : goal.each-preserved
-each-preserved c g means =
+each-preserved c =
     let k = c.each.item-index in
     let items = c.args.items.now in
-    let before = λ (l : List code_item.Item). items_from c.args.lenient g k (only_taken thin_pointers (program_tree l)) in
-    let after = λ (l : List code_item.Item). items_from c.args.lenient g (k + 1) (only_taken thin_pointers (program_tree l)) in
-    let own = item_faults c.args.lenient g k (item_taken thin_pointers (program_item_tree c.item-item.result)) in
+    let lenient = c.args.lenient in
+    let fault = c.in_ok-item_fault.field-0 in
     let one : suc k ≡ k + 1 = omega arith in
-    ap (λ o. first_of (faults_of o) (earliest (after (drop (k + 1) items)))) c.sooner-found.ensures
-    ∙ next_found before after own items k c.item-item.result c.each.found c.in_ok-item_fault.field-0 c.each-test.true c.item-item.is
-    (c.in_ok-item_fault.ensures g k means)
-    (ap (λ n. own ++ items_from c.args.lenient g n (only_taken thin_pointers (program_tree (drop (k + 1) items)))) one)
-    ∙ c.each.invariant g means
+    record {
+      at = c.in_ok-index.ensures ∙ ap (λ n. n + 1) c.each.invariant.at;
+      all = λ g known thin.
+          let before = λ (l : List code_item.Item). items_from lenient g k (only_taken thin_pointers (program_tree l)) in
+          let after = λ (l : List code_item.Item). items_from lenient g (k + 1) (only_taken thin_pointers (program_tree l)) in
+          let this = item_taken thin_pointers (program_item_tree c.item-item.result) in
+          ap (λ o. first_of (faults_of o) (earliest (after (drop (k + 1) items)))) c.sooner-found.ensures
+          ∙ next_found before after (item_faults lenient g k this) items k c.item-item.result c.each.found fault c.each-test.true c.item-item.is
+          (subst (λ i. faults_of fault ≡ earliest (item_faults lenient g i this)) c.each.invariant.at (c.in_ok-item_fault.ensures g known thin))
+          (ap (λ n. item_faults lenient g k this ++ items_from lenient g n (only_taken thin_pointers (program_tree (drop (k + 1) items)))) one)
+          ∙ c.each.invariant.all g known thin;
+    }

@@ -18,7 +18,7 @@ returns c =
     let seconds = second_names (codes "getchar" ∷ codes "putchar" ∷ []) all in
     let bodies = items_from l g 0 all in
     let two = both_found c.sooner.result c.in_ok-seconds.seconds c.in_ok-bodies.bodies seconds bodies c.sooner.ensures c.in_ok-seconds.ensures
-    (c.in_ok-bodies.ensures g (c.in_ok-names.ensures l))
+    c.in_ok-bodies.ensures
     in
     let three = both_found c.sooner-found.result c.sooner.result c.main_found.result (seconds ++ bodies) (main_found all) c.sooner-found.ensures two
     c.main_found.ensures

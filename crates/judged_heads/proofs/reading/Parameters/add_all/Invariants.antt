@@ -1,14 +1,17 @@
 use Rattle.std.proofs.Common.{◌≡◌, ◌++◌, List, drop, map}
 use Rattle.cyc_tree.specs.View.{member_tree}
 use Rattle.source_typing.specs.Tables.{Tables}
-use Rattle.source_typing.specs.Taken.{members_taken, thin_pointers}
+use Rattle.source_typing.specs.Taken.{members_taken}
+use Rattle.type_verdicts.specs.Taken.{taken_of}
+use Rattle.written_types.specs.Naming.{AreTagNames}
 use Rattle.judged_heads.specs.Reading.{AreRead}
 use Rattle.cyc_tree.specs.Tree as tree
 use Rattle.judged_heads.proofs.reading.Parameters.add_all.Given as goal
 
 -- those that are read, with the rest, are all of them
 abbrev pub invariant-each : goal.invariant-each
-invariant-each l = (g : Tables) (ms : List tree.Member) → AreRead g l.fn.self.variables l.fn.self.items.items ms
-    → (ns : List tree.Member) × AreRead g l.self.variables l.self.items.items ns
-    × (ns ++ members_taken thin_pointers (map member_tree (drop l.member-index l.members))
-    ≡ ms ++ members_taken thin_pointers (map member_tree l.members))
+invariant-each l = (g : Tables) (ms : List tree.Member) → AreTagNames l.fn.taken l.fn.tags g
+    → AreRead l.fn.taken.structs g l.fn.self.variables l.fn.self.items.items ms
+    → (ns : List tree.Member) × AreRead l.fn.taken.structs g l.self.variables l.self.items.items ns
+    × (ns ++ members_taken (taken_of l.fn.taken) (map member_tree (drop l.member-index l.members))
+    ≡ ms ++ members_taken (taken_of l.fn.taken) (map member_tree l.members))

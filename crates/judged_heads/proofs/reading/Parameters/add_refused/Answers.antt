@@ -7,11 +7,11 @@ use Rattle.judged_heads.specs.declared.head.Parameter.{Parameter}
 use Rattle.judged_heads.proofs.reading.Parameters.add_refused.Goals as goal
 
 pub returns : goal.returns
-returns c g ms h =
+returns c structs g ms h =
     let m = refused_member c.args.at c.args.name.now in
     let old = c.args.self.now in
     let p : Parameter = record { name = c.args.name; at = c.args.at; of = c.in_ok-of.of } in
-    subst (λ xs. AreRead g c.refused_parameter.new.self xs (ms ++ m ∷ [])) (sym c.in_ok-push.ensures.items)
-    (read_more g m old.variables c.refused_parameter.new.self old.items.items p ms h
-    (record { named = refl; placed = refl; typed = c.in_ok-of.ensures.found g; plain = refused_plain g old.variables c.args.at })
+    subst (λ xs. AreRead structs g c.refused_parameter.new.self xs (ms ++ m ∷ [])) (sym c.in_ok-push.ensures.items)
+    (read_more structs g m old.variables c.refused_parameter.new.self old.items.items p ms h
+    (record { named = refl; placed = refl; typed = c.in_ok-of.ensures.found g }) (refused_plain structs g old.variables c.args.at)
     (c.in_ok-of.ensures.after g))

@@ -1,16 +1,19 @@
 use Rattle.std.proofs.Common.{◌≡◌, ◌++◌, [], List, ap, append_assoc, false, map, subst, ◌∙◌}
 use Rattle.cyc_tree.specs.View.{bound_tree, effect_tree, member_tree}
-use Rattle.source_typing.specs.Taken.{bounds_form, effect_form, members_taken, thin_pointers}
+use Rattle.source_typing.specs.Taken.{bounds_form, effect_form, members_taken}
+use Rattle.type_verdicts.specs.Taken.{taken_of}
 use Rattle.cyc_tree.specs.Tree as tree
 use Rattle.judged_heads.proofs.Heads.{bounds_formed, effect_formed}
 use Rattle.judged_heads.specs.Reading.{AreRead, bound_place, effect_place, form_at}
 use Rattle.judged_heads.proofs.reading.Parameters.of.Goals as goal
 
 pub returns : goal.returns
-returns c g =
+returns c g tags =
+    let structs = c.args.taken.structs in
+    let k = taken_of c.args.taken in
     let f = c.args.function.now in
     let es = effect_tree f.effect in
-    let ms : List tree.Member = members_taken thin_pointers (map member_tree c.deref.result.now) in
+    let ms : List tree.Member = members_taken k (map member_tree c.deref.result.now) in
     let effect : List tree.Member = form_at c.effect_place.result c.as_slice.result.now in
     let bounds : List tree.Member = form_at c.bound_place.result c.as_slice-2.result.now in
     let effect_is : effect ≡ effect_form false es =
@@ -19,9 +22,10 @@ returns c g =
     ap (λ o. form_at o c.as_slice-2.result.now) (c.bound_place.ensures ∙ ap (λ bs. bound_place (map bound_tree bs)) c.deref-2.ensures)
     ∙ ap (λ x. form_at (bound_place (map bound_tree f.bounds.items)) x) c.as_slice-2.ensures
     ∙ bounds_formed (map bound_tree f.bounds.items) in
-    subst (λ ns. AreRead g c.add_form-2.new.self.variables c.add_form-2.new.self.items.items ns)
+    subst (λ ns. AreRead structs g c.add_form-2.new.self.variables c.add_form-2.new.self.items.items ns)
     (append_assoc ms effect bounds
-    ∙ ap (λ xs. members_taken thin_pointers (map member_tree xs) ++ (effect ++ bounds)) c.deref.ensures.value
-    ∙ ap (λ xs. members_taken thin_pointers (map member_tree f.parameters.items) ++ (xs ++ bounds)) effect_is
-    ∙ ap (λ xs. members_taken thin_pointers (map member_tree f.parameters.items) ++ (effect_form false es ++ xs)) bounds_is)
-    (c.in_ok-add_form-2.ensures g (ms ++ effect) (c.in_ok-add_form.ensures g ms (c.in_ok-add_all.ensures g [] (c.new-parameters.ensures g))))
+    ∙ ap (λ xs. members_taken k (map member_tree xs) ++ (effect ++ bounds)) c.deref.ensures.value
+    ∙ ap (λ xs. members_taken k (map member_tree f.parameters.items) ++ (xs ++ bounds)) effect_is
+    ∙ ap (λ xs. members_taken k (map member_tree f.parameters.items) ++ (effect_form false es ++ xs)) bounds_is)
+    (c.in_ok-add_form-2.ensures structs g (ms ++ effect)
+    (c.in_ok-add_form.ensures structs g ms (c.in_ok-add_all.ensures g [] tags (c.new-parameters.ensures structs g))))

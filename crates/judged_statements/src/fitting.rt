@@ -1,0 +1,119 @@
+// What types locals have, and what their tags mean.
+
+ghost use Rattle.std.specs.Prelude.{◌≡◌, Option, option_map};
+ghost use Rattle.cyc_tree.specs.View.{type_tree};
+ghost use Rattle.cyc_types.specs.Bases.{base_type};
+ghost use Rattle.cyc_types.specs.Tables.{tables_of};
+ghost use Rattle.cyc_types.specs.Types.{static_type};
+ghost use Rattle.source_typing.specs.Declarations.{tag_earlier};
+ghost use Rattle.source_typing.specs.Extents.{fits_bytes, size_of};
+ghost use Rattle.source_typing.specs.Scope.{Env, in_scope};
+ghost use Rattle.source_typing.specs.Tables.{tag_in};
+ghost use Rattle.type_verdicts.specs.Taken.{taken_of};
+ghost use Rattle.type_verdicts.specs.Verdicts.{short_of, shortened};
+ghost use Rattle.scoped_names.specs.Knows.{Knows};
+ghost use Rattle.scoped_names.specs.Means.{meaning_of};
+ghost use Rattle.written_types.specs.Tagged.{TagIs};
+ghost use Rattle.judged_statements.specs.Declaring.{could_be, fitting_by, stands_before, tag_of_meaning};
+
+use cyc_tree::TypeName;
+use cyc_types::{BaseType, CType, Tables};
+use scoped_names::{Named, Scope};
+use type_verdicts::{Fault, FaultKind, Verdict};
+use written_types::{TagName, struct_tag};
+
+/// What a name means where a tag is wanted, by what it means in scope.
+fn tag_name(named: Option<Named<'_, '_>>) -> TagName
+    ensures { result ≡ tag_of_meaning (option_map meaning_of named.entry) }
+{
+    match named {
+        None => TagName::NoName,
+        Some(Named::Tag(is_union)) => TagName::Tag(is_union),
+        Some(Named::FaultyTag) => TagName::NotJudged,
+        Some(Named::Variable(_, _) | Named::Function(_) | Named::Builtin(_) | Named::NotKnown) => {
+            TagName::Other
+        }
+    }
+}
+
+/// What the tag means in scope that a type of structs has, where it is taken.
+pub(crate) fn local_tag(scope: &Scope<'_, '_>, of: &TypeName) -> TagName
+    ensures { (g : Env) → Knows scope.now g → TagIs (taken_of scope.now.taken) (in_scope g) (type_tree of.now) result }
+{
+    match struct_tag(scope.taken, of) {
+        Some(name) => tag_name(scope.meaning(&name.text)),
+        None => TagName::NoName,
+    }
+}
+
+/// Whether a struct or union of a name, where there is one, stands earlier than so many items.
+fn is_earlier(tables: &Tables, item: u32, name: &[u8]) -> bool
+    ensures { result ≡ tag_earlier item (tag_in (tables_of tables.now) name.now) }
+{
+    match tables.tag(name) {
+        Some(tag) => tag.order < item,
+        None => true,
+    }
+}
+
+/// Whether the struct or union that a type is that is no pointer stands earlier than so many items.
+fn base_before(tables: &Tables, item: u32, base: &BaseType) -> bool
+    ensures { result ≡ stands_before (tables_of tables.now) item (base_type base.now) }
+{
+    match base {
+        BaseType::Struct(tag, _) | BaseType::Union(tag, _) => is_earlier(tables, item, tag),
+        _ => true,
+    }
+}
+
+/// Whether the struct or union that a type is stands earlier than so many items.
+#[tactic(auto, using(crate::proofs::LocalTypes::plain_stands, crate::proofs::LocalTypes::pointer_stands))]
+fn stands_before(tables: &Tables, item: u32, of: &CType) -> bool
+    ensures { result ≡ stands_before (tables_of tables.now) item (static_type of.now) }
+{
+    match of.outer() {
+        Some(_) => true,
+        None => base_before(tables, item, &of.base),
+    }
+}
+
+/// Whether a type has at most 4,096 bytes.
+#[tactic(auto, using(crate::proofs::LocalTypes::extent_found))]
+fn is_sized(tables: &Tables, of: &CType) -> bool
+    ensures { result ≡ fits_bytes (size_of (tables_of tables.now) (static_type of.now)) }
+{
+    tables.extent(of).is_some()
+}
+
+/// Whether a local may be of a type, by whether it has an initializer.
+fn could_be(tables: &Tables, item: u32, of: &CType, set: bool) -> bool
+    ensures { result ≡ could_be (tables_of tables.now) item set (static_type of.now) }
+{
+    (set || tables.has_beginning(of)) && !of.is_void() && stands_before(tables, item, of)
+}
+
+/// The type of a local, at fault at this place where it doesn't fit.
+pub(crate) fn fitted<'p>(
+    tables: &Tables,
+    item: u32,
+    of: CType<'p>,
+    at: u32,
+    set: bool,
+) -> Verdict<CType<'p>>
+    ensures { let t = static_type of.entry in
+        short_of static_type result ≡ shortened (fitting_by (could_be (tables_of tables.now) item set t) (fits_bytes (size_of (tables_of tables.now) t)) at t) }
+{
+    if !could_be(tables, item, &of, set) {
+        Verdict::Wrong(Fault {
+            kind: FaultKind::Typing,
+            at,
+        })
+    } else if is_sized(tables, &of) {
+        Verdict::Of(of)
+    } else {
+        Verdict::Wrong(Fault {
+            kind: FaultKind::Size,
+            at,
+        })
+    }
+}

@@ -1,5 +1,5 @@
 -- The code of statements, functions and globals of a program of integers names what there is: the program can be selected.
-use Rattle.std.proofs.Common.{◌≡◌, ℕ, suc, ◌+◌, ◌<◌, ◌≤◌, List, [], ◌∷◌, ◌++◌, length, Some, None, refl, sym, ap, subst, arith}
+use Rattle.std.proofs.Common.{◌≡◌, ℕ, suc, ◌+◌, ◌<◌, ◌≤◌, List, [], ◌∷◌, ◌++◌, length, Some, None, refl, sym, ap, subst, arith, length-append}
 use Rattle.cyc_tree.specs.Tree as tree
 use Rattle.cyc_tree.specs.Tree.{Expression, Initializer, Declaration, Statement, BlockItems, NoItems, Declare, Execute, Item}
 use Rattle.source_meaning.specs.Shapes.{
@@ -35,27 +35,34 @@ use Rattle.source_lowering.specs.Programs.{
   named_here,
   unset_code,
   value_code,
+  initial_values,
   declaration_code,
+  declaration_values,
+  statement_values,
+  item_values,
   statement_code,
   items_code,
   parameter_names,
   parameters_code,
   end_code,
   body_code,
+  routine_values,
   data_of,
 }
-use Rattle.source_lowering.specs.Lowerable.{IsObject, AreObjects, AreStructs, TakesDeclaration, TakesStatement, TakesItems, TakesProgram}
+use Rattle.source_lowering.specs.Lowerable.{IsObject, AreObjects, AreStructs, TakesValue, TakesDeclaration, TakesStatement, TakesItems, TakesProgram}
 use Rattle.source_lowering.proofs.Integers.{word_object}
 use Rattle.source_lowering.proofs.Names.{AreParameters, IsRoutine}
-use Rattle.source_lowering.proofs.EachStatement.{shape_object}
+use Rattle.source_lowering.proofs.EachDeclaration.{shape_object}
 use Rattle.source_lowering.proofs.WrittenTypes.{object_settled}
+use Rattle.source_lowering.proofs.WholeObjects.{item_objects}
 use Rattle.source_lowering.proofs.Heap.{laid_out_as}
 use Rattle.source_lowering.proofs.PartCosts.{results_many}
 use Rattle.compiled_sources.specs.Naming.{AreNaming, CodeNames}
 use Rattle.compiled_sources.proofs.Naming.{both_name, all_name}
 use Rattle.compiled_sources.proofs.Layouts.{object_layout}
 use Rattle.compiled_sources.proofs.Parts.{LocalsLie, GlobalsLie, Around, conversion_names}
-use Rattle.compiled_sources.proofs.Expressions.{place_names, expression_names}
+use Rattle.compiled_sources.proofs.Expressions.{expression_names}
+use Rattle.compiled_sources.proofs.WholeNames.{source_names, run_names}
 
 -- ---- layouts
 
@@ -97,120 +104,132 @@ one_more k blocks n w names name s index h a = record { locals = (h, a.locals); 
 
 -- ---- statements
 
-unset_names : (k : ℕ) (blocks : List ℕ) (n : ℕ) (w : World) (s : Shape) (index : ℕ) → AreStructs w.unions w.structs → IsObject w.structs s → index < k
-    → CodeNames (k ∷ blocks) n (unset_code w s index)
-unset_names k blocks n w (StructShape tag) index structs object h =
+unset_names : (k : ℕ) (blocks : List ℕ) (own n : ℕ) (w : World) (s : Shape) (index : ℕ) → AreStructs w.unions w.structs → IsObject w.structs s
+    → index < k → CodeNames (k ∷ blocks) own n (unset_code w s index)
+unset_names k blocks own n w (StructShape tag) index structs object h =
     let l = object_layout w (StructShape tag) structs object in (h, ((l.lies, l.full, l.nothing), tt))
-unset_names k blocks n w IntShape index structs object h = (tt, (h, tt))
-unset_names k blocks n w UnsignedShape index structs object h = (tt, (h, tt))
-unset_names k blocks n w CharShape index structs object h = (tt, (h, tt))
-unset_names k blocks n w (ThinShape b owner to) index structs object h = (tt, (h, tt))
-unset_names k blocks n w VoidShape index structs object h = absurd object
-unset_names k blocks n w (FatShape to) index structs object h = absurd object
-unset_names k blocks n w HandleShape index structs object h = absurd object
-unset_names k blocks n w KeyShape index structs object h = absurd object
-unset_names k blocks n w (UnionShape tag) index structs object h = absurd object
-unset_names k blocks n w (ArrayShape count of) index structs object h = absurd object
+unset_names k blocks own n w IntShape index structs object h = (tt, (h, tt))
+unset_names k blocks own n w UnsignedShape index structs object h = (tt, (h, tt))
+unset_names k blocks own n w CharShape index structs object h = (tt, (h, tt))
+unset_names k blocks own n w (ThinShape b owner to) index structs object h = (tt, (h, tt))
+unset_names k blocks own n w VoidShape index structs object h = absurd object
+unset_names k blocks own n w (FatShape to) index structs object h = absurd object
+unset_names k blocks own n w HandleShape index structs object h = absurd object
+unset_names k blocks own n w KeyShape index structs object h = absurd object
+unset_names k blocks own n w (UnionShape tag) index structs object h = absurd object
+unset_names k blocks own n w (ArrayShape count of) index structs object h = absurd object
 
-value_names : (k : ℕ) (blocks : List ℕ) (n : ℕ) (w : World) (names : List Named) (s : Shape) (e : Expression) (index : ℕ) → AreStructs w.unions w.structs
-    → Around (k ∷ blocks) n w names → IsObject w.structs s → index < k → CodeNames (k ∷ blocks) n (value_code w names s e index)
-value_names k blocks n w names s e index structs a object h = by s object
+value_names : (k : ℕ) (blocks : List ℕ) (own n : ℕ) (w : World) (names : List Named) (s : Shape) (e : Expression) (index next : ℕ)
+    → AreStructs w.unions w.structs → Around (k ∷ blocks) n w names → IsObject w.structs s → TakesValue w names s e → index < k
+    → next + length (initial_values w names s e) ≤ own → CodeNames (k ∷ blocks) own n (value_code w names s e index next)
+value_names k blocks own n w names s e index next structs a object takes h f = by s object takes f
   where
-    word : (of : Shape) → CodeNames (k ∷ blocks) n
+    word : (of : Shape) → CodeNames (k ∷ blocks) own n
         (expression_code w names e 0 ++ (conversion_code of (static_shape w names e) 0 ++ (core.Do (Put 0 index (width_of of) 0) ∷ [])))
     word of =
-        both_name (k ∷ blocks) n _ _ (expression_names (k ∷ blocks) n w names a e 0)
-        (both_name (k ∷ blocks) n _ _ (conversion_names (k ∷ blocks) n 0 of (static_shape w names e)) (h, tt))
+        both_name (k ∷ blocks) own n _ _ (expression_names (k ∷ blocks) own n w names a e 0)
+        (both_name (k ∷ blocks) own n _ _ (conversion_names (k ∷ blocks) own n 0 of (static_shape w names e)) (h, tt))
 
-    by : (of : Shape) → IsObject w.structs of → CodeNames (k ∷ blocks) n (value_code w names of e index)
-    by (StructShape tag) o =
+    by : (of : Shape) → IsObject w.structs of → TakesValue w names of e → next + length (initial_values w names of e) ≤ own
+        → CodeNames (k ∷ blocks) own n (value_code w names of e index next)
+    by (StructShape tag) o takes f =
         let l = object_layout w (StructShape tag) structs o in
-        both_name (k ∷ blocks) n _ _ (place_names (k ∷ blocks) n w names a e 0) (h, ((l.lies, l.full), tt))
-    by IntShape o = word IntShape
-    by UnsignedShape o = word UnsignedShape
-    by CharShape o = word CharShape
-    by (ThinShape b owner to) o = word (ThinShape b owner to)
-    by VoidShape o = absurd o
-    by (FatShape to) o = absurd o
-    by HandleShape o = absurd o
-    by KeyShape o = absurd o
-    by (UnionShape tag) o = absurd o
-    by (ArrayShape count from) o = absurd o
+        both_name (k ∷ blocks) own n _ _ (source_names (k ∷ blocks) own n w names structs a e next takes f) (h, ((l.lies, l.full), tt))
+    by IntShape o takes f = word IntShape
+    by UnsignedShape o takes f = word UnsignedShape
+    by CharShape o takes f = word CharShape
+    by (ThinShape b owner to) o takes f = word (ThinShape b owner to)
+    by VoidShape o takes f = absurd o
+    by (FatShape to) o takes f = absurd o
+    by HandleShape o takes f = absurd o
+    by KeyShape o takes f = absurd o
+    by (UnionShape tag) o takes f = absurd o
+    by (ArrayShape count from) o takes f = absurd o
 
-declaration_names : (k : ℕ) (blocks : List ℕ) (n : ℕ) (w : World) (names : List Named) → AreStructs w.unions w.structs → Around (k ∷ blocks) n w names
-    → (d : Declaration) (index : ℕ) → TakesDeclaration w names d → index < k → CodeNames (k ∷ blocks) n (declaration_code w names d index)
-declaration_names k blocks n w names structs a (tree.Local of name Initializer.Unset) index takes h =
-    unset_names k blocks n w (settled (written of)) index structs (object_settled w.structs of takes.0) h
-declaration_names k blocks n w names structs a (tree.Local of name (Initializer.Elements count)) index takes h = tt
-declaration_names k blocks n w names structs a (tree.Local of name (Initializer.Value e)) index takes h =
-    value_names k blocks n w names (settled (written of)) e index structs a (object_settled w.structs of takes.0) h
-declaration_names k blocks n w names structs a (tree.Region at region handle) index takes h = tt
-declaration_names k blocks n w names structs a (tree.Open at region handle key) index takes h = tt
-declaration_names k blocks n w names structs a (tree.Alias at region of alias pointer) index takes h = tt
-declaration_names k blocks n w names structs a (tree.NewKey at region key) index takes h = tt
+declaration_names : (k : ℕ) (blocks : List ℕ) (own n : ℕ) (w : World) (names : List Named) → AreStructs w.unions w.structs
+    → Around (k ∷ blocks) n w names → (d : Declaration) (index next : ℕ) → TakesDeclaration w names d → index < k
+    → next + length (declaration_values w names d) ≤ own → CodeNames (k ∷ blocks) own n (declaration_code w names d index next)
+declaration_names k blocks own n w names structs a (tree.Local of name Initializer.Unset) index next takes h f =
+    unset_names k blocks own n w (settled (written of)) index structs (object_settled w.structs of takes.0) h
+declaration_names k blocks own n w names structs a (tree.Local of name (Initializer.Elements count)) index next takes h f = tt
+declaration_names k blocks own n w names structs a (tree.Local of name (Initializer.Value e)) index next takes h f =
+    value_names k blocks own n w names (settled (written of)) e index next structs a (object_settled w.structs of takes.0) takes.1 h f
+declaration_names k blocks own n w names structs a (tree.Region at region handle) index next takes h f = tt
+declaration_names k blocks own n w names structs a (tree.Open at region handle key) index next takes h f = tt
+declaration_names k blocks own n w names structs a (tree.Alias at region of alias pointer) index next takes h f = tt
+declaration_names k blocks own n w names structs a (tree.NewKey at region key) index next takes h f = tt
 
 mutual
-  statement_names : (blocks : List ℕ) (n : ℕ) (w : World) (result : Shape) (names : List Named) → AreStructs w.unions w.structs → Around blocks n w names
-      → (s : Statement) → TakesStatement w result names s → CodeNames blocks n (statement_code w result names s)
-  statement_names blocks n w result names structs a (Statement.Empty at) h = tt
-  statement_names blocks n w result names structs a (Statement.Block at items) h =
+  -- the unnamed values of a statement are the function's next ones
+  statement_names : (blocks : List ℕ) (own n : ℕ) (w : World) (result : Shape) (names : List Named) → AreStructs w.unions w.structs
+      → Around blocks n w names → (s : Statement) (next : ℕ) → TakesStatement w result names s → next + length (statement_values w names s) ≤ own
+      → CodeNames blocks own n (statement_code w result names next s)
+  statement_names blocks own n w result names structs a (Statement.Empty at) next h f = tt
+  statement_names blocks own n w result names structs a (Statement.Block at items) next h f =
       let shapes = block_shapes items in
       let k = length (locals_of w shapes) in
       let many = as_many w shapes in (
         (
           layouts_taken w shapes structs (items_objects w result (outward names) 0 items h),
-          all_name (k ∷ blocks) n _ (items_names k blocks n w result (outward names) structs (further_in blocks n k w names a) 0 items h (omega (arith, many))),
+          all_name (k ∷ blocks) own n _ (items_names k blocks own n w result (outward names) structs (further_in blocks n k w names a) 0 next items h
+              (omega (arith, many)) f),
         ),
         tt,
       )
-  statement_names blocks n w result names structs a (Statement.Run e) h = expression_names blocks n w names a e 0
-  statement_names blocks n w result names structs a (Statement.If at condition body) h =
-      both_name blocks n _ _ (expression_names blocks n w names a condition 0)
-      ((all_name blocks n _ (statement_names blocks n w result names structs a body h.1), tt), tt)
-  statement_names blocks n w result names structs a (Statement.IfElse at condition body otherwise) h =
-      both_name blocks n _ _ (expression_names blocks n w names a condition 0) (
+  statement_names blocks own n w result names structs a (Statement.Run e) next h f = run_names blocks own n w names structs a e next h f
+  statement_names blocks own n w result names structs a (Statement.If at condition body) next h f =
+      both_name blocks own n _ _ (expression_names blocks own n w names a condition 0)
+      ((all_name blocks own n _ (statement_names blocks own n w result names structs a body next h.1 f), tt), tt)
+  statement_names blocks own n w result names structs a (Statement.IfElse at condition body otherwise) next h f =
+      let many = length-append (statement_values w names body) (statement_values w names otherwise) in
+      both_name blocks own n _ _ (expression_names blocks own n w names a condition 0) (
         (
-          all_name blocks n _ (statement_names blocks n w result names structs a body h.1.0),
-          all_name blocks n _ (statement_names blocks n w result names structs a otherwise h.1.1),
+          all_name blocks own n _ (statement_names blocks own n w result names structs a body next h.1.0 (omega (arith, f, many))),
+          all_name blocks own n _ (statement_names blocks own n w result names structs a otherwise (next + length (statement_values w names body)) h.1.1
+              (omega (arith, f, many))),
         ),
         tt,
       )
-  statement_names blocks n w result names structs a (Statement.While at condition body) h = (
+  statement_names blocks own n w result names structs a (Statement.While at condition body) next h f = (
     (
-      all_name blocks n _ (expression_names blocks n w names a condition 0),
-      all_name blocks n _ (statement_names blocks n w result names structs a body h.1),
+      all_name blocks own n _ (expression_names blocks own n w names a condition 0),
+      all_name blocks own n _ (statement_names blocks own n w result names structs a body next h.1 f),
     ),
     tt,
   )
-  statement_names blocks n w result names structs a (Statement.Break at) h = (tt, tt)
-  statement_names blocks n w result names structs a (Statement.Continue at) h = (tt, tt)
-  statement_names blocks n w result names structs a (Statement.Return at None) h = (omega arith, tt)
-  statement_names blocks n w result names structs a (Statement.Return at (Some e)) h =
-      both_name blocks n _ _ (expression_names blocks n w names a e 0)
-      (both_name blocks n _ _ (conversion_names blocks n 0 result (static_shape w names e)) (let few = results_many result 0 in omega (arith, few), tt))
-  statement_names blocks n w result names structs a (Statement.Exchange left right) h = absurd h
-  statement_names blocks n w result names structs a (Statement.Switch at place _) h = absurd h
-  statement_names blocks n w result names structs a (Statement.FreeUnique at pointer) h = absurd h
-  statement_names blocks n w result names structs a (Statement.FreeKey at key) h = absurd h
+  statement_names blocks own n w result names structs a (Statement.Break at) next h f = (tt, tt)
+  statement_names blocks own n w result names structs a (Statement.Continue at) next h f = (tt, tt)
+  statement_names blocks own n w result names structs a (Statement.Return at None) next h f = (omega arith, tt)
+  statement_names blocks own n w result names structs a (Statement.Return at (Some e)) next h f =
+      both_name blocks own n _ _ (expression_names blocks own n w names a e 0)
+      (both_name blocks own n _ _ (conversion_names blocks own n 0 result (static_shape w names e)) (let few = results_many result 0 in omega (arith, few), tt))
+  statement_names blocks own n w result names structs a (Statement.Exchange left right) next h f = absurd h
+  statement_names blocks own n w result names structs a (Statement.Switch at place _) next h f = absurd h
+  statement_names blocks own n w result names structs a (Statement.FreeUnique at pointer) next h f = absurd h
+  statement_names blocks own n w result names structs a (Statement.FreeKey at key) next h f = absurd h
 
   -- the locals that the items declare are the block's next ones
-  items_names : (k : ℕ) (blocks : List ℕ) (n : ℕ) (w : World) (result : Shape) (names : List Named) → AreStructs w.unions w.structs
-      → Around (k ∷ blocks) n w names → (index : ℕ) (items : BlockItems) → TakesItems w result names index items → index + length (block_shapes items) ≤ k
-      → CodeNames (k ∷ blocks) n (items_code w result names index items)
-  items_names k blocks n w result names structs a index NoItems h f = tt
-  items_names k blocks n w result names structs a index (Declare d others) h f =
+  items_names : (k : ℕ) (blocks : List ℕ) (own n : ℕ) (w : World) (result : Shape) (names : List Named) → AreStructs w.unions w.structs
+      → Around (k ∷ blocks) n w names → (index next : ℕ) (items : BlockItems) → TakesItems w result names index items → index + length (block_shapes items) ≤ k
+      → next + length (item_values w names index items) ≤ own → CodeNames (k ∷ blocks) own n (items_code w result names index next items)
+  items_names k blocks own n w result names structs a index next NoItems h f g = tt
+  items_names k blocks own n w result names structs a index next (Declare d others) h f g =
       let less : index < k = omega (arith, f) in
-      both_name (k ∷ blocks) n _ _ (declaration_names k blocks n w names structs a d index h.0 less)
-      (items_names k blocks n w result (named_here (tree.local_of d).text (local_shape d) index ∷ names) structs
-      (one_more k blocks n w names (tree.local_of d).text (local_shape d) index less a) (suc index) others h.1 (omega (arith, f)))
-  items_names k blocks n w result names structs a index (Execute s others) h f =
-      both_name (k ∷ blocks) n _ _ (statement_names (k ∷ blocks) n w result names structs a s h.0) (items_names k blocks n w result names structs a index others h.1 f)
+      let inside = named_here (tree.local_of d).text (local_shape d) index ∷ names in
+      let many = length-append (declaration_values w names d) (item_values w inside (suc index) others) in
+      both_name (k ∷ blocks) own n _ _ (declaration_names k blocks own n w names structs a d index next h.0 less (omega (arith, g, many)))
+      (items_names k blocks own n w result inside structs (one_more k blocks n w names (tree.local_of d).text (local_shape d) index less a) (suc index)
+      (next + length (declaration_values w names d)) others h.1 (omega (arith, f)) (omega (arith, g, many)))
+  items_names k blocks own n w result names structs a index next (Execute s others) h f g =
+      let many = length-append (statement_values w names s) (item_values w names index others) in
+      both_name (k ∷ blocks) own n _ _ (statement_names (k ∷ blocks) own n w result names structs a s next h.0 (omega (arith, g, many)))
+      (items_names k blocks own n w result names structs a index (next + length (statement_values w names s)) others h.1 f (omega (arith, g, many)))
 
 -- ---- functions
 
-parameters_name : (k : ℕ) (n : ℕ) (ps : List Part) (index : ℕ) → index + length ps ≤ k → CodeNames (k ∷ []) n (parameters_code ps index)
-parameters_name k n [] index h = tt
-parameters_name k n (p ∷ ps) index h = (omega (arith, h), parameters_name k n ps (suc index) (omega (arith, h)))
+parameters_name : (k own n : ℕ) (ps : List Part) (index : ℕ) → index + length ps ≤ k → CodeNames (k ∷ []) own n (parameters_code ps index)
+parameters_name k own n [] index h = tt
+parameters_name k own n (p ∷ ps) index h = (omega (arith, h), parameters_name k own n ps (suc index) (omega (arith, h)))
 
 parameters_lie : (k : ℕ) (ps : List Part) (index : ℕ) (names : List Named) → index + length ps ≤ k → LocalsLie (k ∷ []) names
     → LocalsLie (k ∷ []) (parameter_names ps index names)
@@ -218,13 +237,13 @@ parameters_lie k [] index names h g = g
 parameters_lie k (p ∷ ps) index names h g =
     parameters_lie k ps (suc index) (named_here p.name p.shape index ∷ names) (omega (arith, h)) (omega (arith, h), g)
 
-end_names : (s : Shape) (n : ℕ) → CodeNames [] n (end_code s)
-end_names s n = by s
+end_names : (s : Shape) (own n : ℕ) → CodeNames [] own n (end_code s)
+end_names s own n = by s
   where
-    zero_names : CodeNames [] n (core.Do (core.Constant 0 0) ∷ core.Return (0 ∷ []) ∷ [])
+    zero_names : CodeNames [] own n (core.Do (core.Constant 0 0) ∷ core.Return (0 ∷ []) ∷ [])
     zero_names = (tt, (omega arith, tt))
 
-    by : (of : Shape) → CodeNames [] n (end_code of)
+    by : (of : Shape) → CodeNames [] own n (end_code of)
     by VoidShape = (omega arith, tt)
     by IntShape = zero_names
     by UnsignedShape = zero_names
@@ -241,11 +260,15 @@ many_shapes : (ps : List Part) (items : BlockItems) → length (part_shapes ps +
 many_shapes [] items = omega arith
 many_shapes (p ∷ ps) items = let h = many_shapes ps items in omega (arith, h)
 
-pub body_names : (n : ℕ) (w : World) (f : Routine) → GlobalsLie n w.globals → AreStructs w.unions w.structs → IsRoutine w f → AreNaming [] n (body_code w f)
+-- the function has the locals of its unnamed values
+pub body_names : (n : ℕ) (w : World) (f : Routine) → GlobalsLie n w.globals → AreStructs w.unions w.structs → IsRoutine w f
+    → AreNaming [] (length (locals_of w (routine_values w f))) n (body_code w f)
 body_names n w f globals structs is =
     let shapes = part_shapes f.parameters ++ block_shapes f.body in
     let k = length (locals_of w shapes) in
+    let own = length (locals_of w (routine_values w f)) in
     let many = as_many w shapes in
+    let room = as_many w (routine_values w f) in
     let objects = parameters_objects w f.parameters (block_shapes f.body) is.parameters
     (items_objects w f.result (parameter_names f.parameters 0 []) (length f.parameters) f.body is.body) in
     let all = many_shapes f.parameters f.body in
@@ -254,13 +277,19 @@ body_names n w f globals structs is =
     record { locals = parameters_lie k f.parameters 0 [] (omega (arith, many, all)) tt; globals = globals } in (
       (
         layouts_taken w shapes structs objects,
-        all_name (k ∷ []) n _
-            (both_name (k ∷ []) n (parameters_code f.parameters 0) (items_code w f.result names (length f.parameters) f.body)
-            (parameters_name k n f.parameters 0 (omega (arith, many, all)))
-            (items_names k [] n w f.result names structs a (length f.parameters) f.body is.body (omega (arith, many, all)))),
+        all_name (k ∷ []) own n _
+            (both_name (k ∷ []) own n (parameters_code f.parameters 0) (items_code w f.result names (length f.parameters) 0 f.body)
+            (parameters_name k own n f.parameters 0 (omega (arith, many, all)))
+            (items_names k [] own n w f.result names structs a (length f.parameters) 0 f.body is.body (omega (arith, many, all)) (omega (arith, room)))),
       ),
-      all_name [] n (end_code f.result) (end_names f.result n),
+      all_name [] own n (end_code f.result) (end_names f.result own n),
     )
+
+-- so has each of them a layout
+pub own_layouts : (w : World) (f : Routine) → AreStructs w.unions w.structs → IsRoutine w f → AreLayouts (locals_of w (routine_values w f))
+own_layouts w f structs is =
+    layouts_taken w (routine_values w f) structs
+    (item_objects w f.result (parameter_names f.parameters 0 []) (length f.parameters) f.body is.body)
 
 -- ---- globals
 

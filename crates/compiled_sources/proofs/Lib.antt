@@ -2,6 +2,7 @@ pub mod Naming
 pub mod Layouts
 pub mod Parts
 pub mod Expressions
+pub mod WholeNames
 pub mod Functions
 pub mod Selectable
 pub mod Frames

@@ -60,13 +60,14 @@ use Rattle.compiled_sources.specs.Naming.{NamesIn, IsNaming, AreNaming, CodeName
 
 -- ---- code that is put together
 
-pub both_name : (blocks : List ℕ) (n : ℕ) (xs ys : List Statement) → CodeNames blocks n xs → CodeNames blocks n ys → CodeNames blocks n (xs ++ ys)
-both_name blocks n [] ys h g = g
-both_name blocks n (x ∷ xs) ys h g = (h.0, both_name blocks n xs ys h.1 g)
+pub both_name : (blocks : List ℕ) (own n : ℕ) (xs ys : List Statement) → CodeNames blocks own n xs → CodeNames blocks own n ys
+    → CodeNames blocks own n (xs ++ ys)
+both_name blocks own n [] ys h g = g
+both_name blocks own n (x ∷ xs) ys h g = (h.0, both_name blocks own n xs ys h.1 g)
 
-pub all_name : (blocks : List ℕ) (n : ℕ) (xs : List Statement) → CodeNames blocks n xs → AreNaming blocks n (all_of xs)
-all_name blocks n [] h = tt
-all_name blocks n (x ∷ xs) h = (h.0, all_name blocks n xs h.1)
+pub all_name : (blocks : List ℕ) (own n : ℕ) (xs : List Statement) → CodeNames blocks own n xs → AreNaming blocks own n (all_of xs)
+all_name blocks own n [] h = tt
+all_name blocks own n (x ∷ xs) h = (h.0, all_name blocks own n xs h.1)
 
 -- ---- lines
 
@@ -74,7 +75,7 @@ all_below : (ts : List ℕ) (t : ℕ) → last_of ts ≤ t → AreBelow t ts
 all_below [] t h = tt
 all_below (x ∷ xs) t h = (max_first (suc x) (last_of xs) t h, all_below xs t (max_second (suc x) (last_of xs) t h))
 
-has_code : (u : Scope) (o : Operation) → NamesIn u.blocks u.data_objects o → operation_temporaries o ≤ u.temporaries → HasCode u o
+has_code : (u : Scope) (o : Operation) → NamesIn u.blocks u.unnamed u.data_objects o → operation_temporaries o ≤ u.temporaries → HasCode u o
 has_code u (Constant t w) h f = f
 has_code u (NullPointer t) h f = f
 has_code u (Move t x) h f = absurd h
@@ -83,7 +84,7 @@ has_code u (Apply o t x y) h f =
     let g = max_second (suc t) (max (suc x) (suc y)) u.temporaries f in
     (max_first (suc t) (max (suc x) (suc y)) u.temporaries f, max_first (suc x) (suc y) u.temporaries g, max_second (suc x) (suc y) u.temporaries g)
 has_code u (LocalAddress t out local) h f = (f, h)
-has_code u (OwnAddress t object) h f = absurd h
+has_code u (OwnAddress t object) h f = (f, h)
 has_code u (DataAddress t object) h f = (f, h)
 has_code u (Offset t p cells bytes) h f = (max_first (suc t) (suc p) u.temporaries f, max_second (suc t) (suc p) u.temporaries f)
 has_code u (Element t p i cells bytes) h f = absurd h
@@ -110,8 +111,8 @@ has_code u (KeyClose k) h f = absurd h
 has_code u (KeyFree k) h f = absurd h
 
 mutual
-  has_lines : (u : Scope) (s : Statement) → IsNaming u.blocks u.data_objects s → statement_temporaries s ≤ u.temporaries → statement_passes s ≤ u.passed
-      → HasLinesIn u s
+  has_lines : (u : Scope) (s : Statement) → IsNaming u.blocks u.unnamed u.data_objects s → statement_temporaries s ≤ u.temporaries
+      → statement_passes s ≤ u.passed → HasLinesIn u s
   has_lines u (Do operation) h f g = has_code u operation h f
   has_lines u (If t these those) h f g =
       let k = max_second (suc t) (max (temporaries_of these) (temporaries_of those)) u.temporaries f in (
@@ -140,7 +141,7 @@ mutual
   has_lines u (Return values) h f g = (all_below values u.temporaries f, h)
   has_lines u (Raise kind) h f g = tt
 
-  pub have_lines : (u : Scope) (ss : Statements) → AreNaming u.blocks u.data_objects ss → temporaries_of ss ≤ u.temporaries → passed_by ss ≤ u.passed
+  pub have_lines : (u : Scope) (ss : Statements) → AreNaming u.blocks u.unnamed u.data_objects ss → temporaries_of ss ≤ u.temporaries → passed_by ss ≤ u.passed
       → HaveLinesIn u ss
   have_lines u NoStatements h f g = tt
   have_lines u (MoreStatements s ss) h f g = (

@@ -95,164 +95,167 @@ pub record Around (blocks : List ℕ) (objects : ℕ) (w : World) (names : List 
 
 -- ---- parts of expressions
 
-pub get_names : (blocks : List ℕ) (n d : ℕ) (l : Option Named) (e : Option Entity) → LocalLies blocks l → GlobalLies n e → CodeNames blocks n (get_by l e d)
-get_names blocks n d (Some l) e h g = (h, tt)
-get_names blocks n d None (Some (Variable s at)) h g = (g, (tt, tt))
-get_names blocks n d None (Some (Fixed s v)) h g = tt
-get_names blocks n d None None h g = tt
+pub get_names : (blocks : List ℕ) (own n d : ℕ) (l : Option Named) (e : Option Entity) → LocalLies blocks l → GlobalLies n e
+    → CodeNames blocks own n (get_by l e d)
+get_names blocks own n d (Some l) e h g = (h, tt)
+get_names blocks own n d None (Some (Variable s at)) h g = (g, (tt, tt))
+get_names blocks own n d None (Some (Fixed s v)) h g = tt
+get_names blocks own n d None None h g = tt
 
-pub put_names : (blocks : List ℕ) (n d : ℕ) (l : Option Named) (e : Option Entity) → LocalLies blocks l → GlobalLies n e → CodeNames blocks n (put_by l e d)
-put_names blocks n d (Some l) e h g = (h, tt)
-put_names blocks n d None (Some (Variable s at)) h g = (g, (tt, tt))
-put_names blocks n d None (Some (Fixed s v)) h g = tt
-put_names blocks n d None None h g = tt
+pub put_names : (blocks : List ℕ) (own n d : ℕ) (l : Option Named) (e : Option Entity) → LocalLies blocks l → GlobalLies n e
+    → CodeNames blocks own n (put_by l e d)
+put_names blocks own n d (Some l) e h g = (h, tt)
+put_names blocks own n d None (Some (Variable s at)) h g = (g, (tt, tt))
+put_names blocks own n d None (Some (Fixed s v)) h g = tt
+put_names blocks own n d None None h g = tt
 
-pub address_names : (blocks : List ℕ) (n d : ℕ) (l : Option Named) (e : Option Entity) → LocalLies blocks l → GlobalLies n e
-    → CodeNames blocks n (address_by l e d)
-address_names blocks n d (Some l) e h g = (h, tt)
-address_names blocks n d None (Some (Variable s at)) h g = (g, tt)
-address_names blocks n d None (Some (Fixed s v)) h g = tt
-address_names blocks n d None None h g = tt
+pub address_names : (blocks : List ℕ) (own n d : ℕ) (l : Option Named) (e : Option Entity) → LocalLies blocks l → GlobalLies n e
+    → CodeNames blocks own n (address_by l e d)
+address_names blocks own n d (Some l) e h g = (h, tt)
+address_names blocks own n d None (Some (Variable s at)) h g = (g, tt)
+address_names blocks own n d None (Some (Fixed s v)) h g = tt
+address_names blocks own n d None None h g = tt
 
-pub check_names : (blocks : List ℕ) (n d : ℕ) (s : Shape) → CodeNames blocks n (check_code s d)
-check_names blocks n d (ThinShape true owner to) = ((tt, (tt, tt)), tt)
-check_names blocks n d (ThinShape false owner to) = tt
-check_names blocks n d IntShape = tt
-check_names blocks n d UnsignedShape = tt
-check_names blocks n d CharShape = tt
-check_names blocks n d VoidShape = tt
-check_names blocks n d (FatShape to) = tt
-check_names blocks n d HandleShape = tt
-check_names blocks n d KeyShape = tt
-check_names blocks n d (StructShape tag) = tt
-check_names blocks n d (UnionShape tag) = tt
-check_names blocks n d (ArrayShape count of) = tt
+pub check_names : (blocks : List ℕ) (own n d : ℕ) (s : Shape) → CodeNames blocks own n (check_code s d)
+check_names blocks own n d (ThinShape true owner to) = ((tt, (tt, tt)), tt)
+check_names blocks own n d (ThinShape false owner to) = tt
+check_names blocks own n d IntShape = tt
+check_names blocks own n d UnsignedShape = tt
+check_names blocks own n d CharShape = tt
+check_names blocks own n d VoidShape = tt
+check_names blocks own n d (FatShape to) = tt
+check_names blocks own n d HandleShape = tt
+check_names blocks own n d KeyShape = tt
+check_names blocks own n d (StructShape tag) = tt
+check_names blocks own n d (UnionShape tag) = tt
+check_names blocks own n d (ArrayShape count of) = tt
 
-narrow_names : (blocks : List ℕ) (n d : ℕ) (from : Shape) → CodeNames blocks n (narrow_code from d)
-narrow_names blocks n d CharShape = tt
-narrow_names blocks n d IntShape = (tt, tt)
-narrow_names blocks n d UnsignedShape = (tt, tt)
-narrow_names blocks n d VoidShape = (tt, tt)
-narrow_names blocks n d (ThinShape may_be_null owner to) = (tt, tt)
-narrow_names blocks n d (FatShape to) = (tt, tt)
-narrow_names blocks n d HandleShape = (tt, tt)
-narrow_names blocks n d KeyShape = (tt, tt)
-narrow_names blocks n d (StructShape tag) = (tt, tt)
-narrow_names blocks n d (UnionShape tag) = (tt, tt)
-narrow_names blocks n d (ArrayShape count of) = (tt, tt)
+narrow_names : (blocks : List ℕ) (own n d : ℕ) (from : Shape) → CodeNames blocks own n (narrow_code from d)
+narrow_names blocks own n d CharShape = tt
+narrow_names blocks own n d IntShape = (tt, tt)
+narrow_names blocks own n d UnsignedShape = (tt, tt)
+narrow_names blocks own n d VoidShape = (tt, tt)
+narrow_names blocks own n d (ThinShape may_be_null owner to) = (tt, tt)
+narrow_names blocks own n d (FatShape to) = (tt, tt)
+narrow_names blocks own n d HandleShape = (tt, tt)
+narrow_names blocks own n d KeyShape = (tt, tt)
+narrow_names blocks own n d (StructShape tag) = (tt, tt)
+narrow_names blocks own n d (UnionShape tag) = (tt, tt)
+narrow_names blocks own n d (ArrayShape count of) = (tt, tt)
 
-pub conversion_names : (blocks : List ℕ) (n d : ℕ) (to from : Shape) → CodeNames blocks n (conversion_code to from d)
-conversion_names blocks n d CharShape from = narrow_names blocks n d from
-conversion_names blocks n d IntShape from = tt
-conversion_names blocks n d UnsignedShape from = tt
-conversion_names blocks n d VoidShape from = tt
-conversion_names blocks n d (ThinShape true owner to) from = tt
-conversion_names blocks n d (ThinShape false owner to) from = check_names blocks n d from
-conversion_names blocks n d (FatShape to) from = tt
-conversion_names blocks n d HandleShape from = tt
-conversion_names blocks n d KeyShape from = tt
-conversion_names blocks n d (StructShape tag) from = tt
-conversion_names blocks n d (UnionShape tag) from = tt
-conversion_names blocks n d (ArrayShape count of) from = tt
+pub conversion_names : (blocks : List ℕ) (own n d : ℕ) (to from : Shape) → CodeNames blocks own n (conversion_code to from d)
+conversion_names blocks own n d CharShape from = narrow_names blocks own n d from
+conversion_names blocks own n d IntShape from = tt
+conversion_names blocks own n d UnsignedShape from = tt
+conversion_names blocks own n d VoidShape from = tt
+conversion_names blocks own n d (ThinShape true owner to) from = tt
+conversion_names blocks own n d (ThinShape false owner to) from = check_names blocks own n d from
+conversion_names blocks own n d (FatShape to) from = tt
+conversion_names blocks own n d HandleShape from = tt
+conversion_names blocks own n d KeyShape from = tt
+conversion_names blocks own n d (StructShape tag) from = tt
+conversion_names blocks own n d (UnionShape tag) from = tt
+conversion_names blocks own n d (ArrayShape count of) from = tt
 
-applied_names : (blocks : List ℕ) (n : ℕ) (o : Operator) (s u : IntegerType) (d x y : ℕ) → NamesIn blocks n (applied_to o s u d x y)
-applied_names blocks n operator.BitOr s u d x y = tt
-applied_names blocks n operator.BitXor s u d x y = tt
-applied_names blocks n operator.BitAnd s u d x y = tt
-applied_names blocks n operator.Equal s u d x y = tt
-applied_names blocks n operator.NotEqual s u d x y = tt
-applied_names blocks n operator.Less s u d x y = tt
-applied_names blocks n operator.LessEqual s u d x y = tt
-applied_names blocks n operator.Greater s u d x y = tt
-applied_names blocks n operator.GreaterEqual s u d x y = tt
-applied_names blocks n operator.ShiftLeft s u d x y = tt
-applied_names blocks n operator.ShiftRight s u d x y = tt
-applied_names blocks n operator.Add s u d x y = tt
-applied_names blocks n operator.Subtract s u d x y = tt
-applied_names blocks n operator.Multiply s u d x y = tt
-applied_names blocks n operator.Divide s u d x y = tt
-applied_names blocks n operator.Remainder s u d x y = tt
+applied_names : (blocks : List ℕ) (own n : ℕ) (o : Operator) (s u : IntegerType) (d x y : ℕ) → NamesIn blocks own n (applied_to o s u d x y)
+applied_names blocks own n operator.BitOr s u d x y = tt
+applied_names blocks own n operator.BitXor s u d x y = tt
+applied_names blocks own n operator.BitAnd s u d x y = tt
+applied_names blocks own n operator.Equal s u d x y = tt
+applied_names blocks own n operator.NotEqual s u d x y = tt
+applied_names blocks own n operator.Less s u d x y = tt
+applied_names blocks own n operator.LessEqual s u d x y = tt
+applied_names blocks own n operator.Greater s u d x y = tt
+applied_names blocks own n operator.GreaterEqual s u d x y = tt
+applied_names blocks own n operator.ShiftLeft s u d x y = tt
+applied_names blocks own n operator.ShiftRight s u d x y = tt
+applied_names blocks own n operator.Add s u d x y = tt
+applied_names blocks own n operator.Subtract s u d x y = tt
+applied_names blocks own n operator.Multiply s u d x y = tt
+applied_names blocks own n operator.Divide s u d x y = tt
+applied_names blocks own n operator.Remainder s u d x y = tt
 
-pointers_names : (blocks : List ℕ) (n d : ℕ) (o : Operator) → CodeNames blocks n (pointers_code o d)
-pointers_names blocks n d operator.Equal = (tt, tt)
-pointers_names blocks n d operator.NotEqual = (tt, (tt, (tt, tt)))
-pointers_names blocks n d operator.BitOr = tt
-pointers_names blocks n d operator.BitXor = tt
-pointers_names blocks n d operator.BitAnd = tt
-pointers_names blocks n d operator.Less = tt
-pointers_names blocks n d operator.LessEqual = tt
-pointers_names blocks n d operator.Greater = tt
-pointers_names blocks n d operator.GreaterEqual = tt
-pointers_names blocks n d operator.ShiftLeft = tt
-pointers_names blocks n d operator.ShiftRight = tt
-pointers_names blocks n d operator.Add = tt
-pointers_names blocks n d operator.Subtract = tt
-pointers_names blocks n d operator.Multiply = tt
-pointers_names blocks n d operator.Divide = tt
-pointers_names blocks n d operator.Remainder = tt
+pointers_names : (blocks : List ℕ) (own n d : ℕ) (o : Operator) → CodeNames blocks own n (pointers_code o d)
+pointers_names blocks own n d operator.Equal = (tt, tt)
+pointers_names blocks own n d operator.NotEqual = (tt, (tt, (tt, tt)))
+pointers_names blocks own n d operator.BitOr = tt
+pointers_names blocks own n d operator.BitXor = tt
+pointers_names blocks own n d operator.BitAnd = tt
+pointers_names blocks own n d operator.Less = tt
+pointers_names blocks own n d operator.LessEqual = tt
+pointers_names blocks own n d operator.Greater = tt
+pointers_names blocks own n d operator.GreaterEqual = tt
+pointers_names blocks own n d operator.ShiftLeft = tt
+pointers_names blocks own n d operator.ShiftRight = tt
+pointers_names blocks own n d operator.Add = tt
+pointers_names blocks own n d operator.Subtract = tt
+pointers_names blocks own n d operator.Multiply = tt
+pointers_names blocks own n d operator.Divide = tt
+pointers_names blocks own n d operator.Remainder = tt
 
-pub operator_names : (blocks : List ℕ) (n : ℕ) (o : Operator) (s u : Shape) (d : ℕ) → CodeNames blocks n (operator_code o s u d)
-operator_names blocks n o (ThinShape may_be_null owner to) u d = pointers_names blocks n d o
-operator_names blocks n o IntShape u d = (applied_names blocks n o (type_of IntShape) (type_of u) d d (d + 1), tt)
-operator_names blocks n o UnsignedShape u d = (applied_names blocks n o (type_of UnsignedShape) (type_of u) d d (d + 1), tt)
-operator_names blocks n o CharShape u d = (applied_names blocks n o (type_of CharShape) (type_of u) d d (d + 1), tt)
-operator_names blocks n o VoidShape u d = (applied_names blocks n o (type_of VoidShape) (type_of u) d d (d + 1), tt)
-operator_names blocks n o (FatShape to) u d = (applied_names blocks n o (type_of (FatShape to)) (type_of u) d d (d + 1), tt)
-operator_names blocks n o HandleShape u d = (applied_names blocks n o (type_of HandleShape) (type_of u) d d (d + 1), tt)
-operator_names blocks n o KeyShape u d = (applied_names blocks n o (type_of KeyShape) (type_of u) d d (d + 1), tt)
-operator_names blocks n o (StructShape tag) u d = (applied_names blocks n o (type_of (StructShape tag)) (type_of u) d d (d + 1), tt)
-operator_names blocks n o (UnionShape tag) u d = (applied_names blocks n o (type_of (UnionShape tag)) (type_of u) d d (d + 1), tt)
-operator_names blocks n o (ArrayShape count of) u d = (applied_names blocks n o (type_of (ArrayShape count of)) (type_of u) d d (d + 1), tt)
+pub operator_names : (blocks : List ℕ) (own n : ℕ) (o : Operator) (s u : Shape) (d : ℕ) → CodeNames blocks own n (operator_code o s u d)
+operator_names blocks own n o (ThinShape may_be_null owner to) u d = pointers_names blocks own n d o
+operator_names blocks own n o IntShape u d = (applied_names blocks own n o (type_of IntShape) (type_of u) d d (d + 1), tt)
+operator_names blocks own n o UnsignedShape u d = (applied_names blocks own n o (type_of UnsignedShape) (type_of u) d d (d + 1), tt)
+operator_names blocks own n o CharShape u d = (applied_names blocks own n o (type_of CharShape) (type_of u) d d (d + 1), tt)
+operator_names blocks own n o VoidShape u d = (applied_names blocks own n o (type_of VoidShape) (type_of u) d d (d + 1), tt)
+operator_names blocks own n o (FatShape to) u d = (applied_names blocks own n o (type_of (FatShape to)) (type_of u) d d (d + 1), tt)
+operator_names blocks own n o HandleShape u d = (applied_names blocks own n o (type_of HandleShape) (type_of u) d d (d + 1), tt)
+operator_names blocks own n o KeyShape u d = (applied_names blocks own n o (type_of KeyShape) (type_of u) d d (d + 1), tt)
+operator_names blocks own n o (StructShape tag) u d = (applied_names blocks own n o (type_of (StructShape tag)) (type_of u) d d (d + 1), tt)
+operator_names blocks own n o (UnionShape tag) u d = (applied_names blocks own n o (type_of (UnionShape tag)) (type_of u) d d (d + 1), tt)
+operator_names blocks own n o (ArrayShape count of) u d = (applied_names blocks own n o (type_of (ArrayShape count of)) (type_of u) d d (d + 1), tt)
 
-pub word_names : (blocks : List ℕ) (n d : ℕ) (s : Shape) → CodeNames blocks n (word_code s d)
-word_names blocks n d (ThinShape may_be_null owner to) = (tt, (tt, (tt, tt)))
-word_names blocks n d IntShape = tt
-word_names blocks n d UnsignedShape = tt
-word_names blocks n d CharShape = tt
-word_names blocks n d VoidShape = tt
-word_names blocks n d (FatShape to) = tt
-word_names blocks n d HandleShape = tt
-word_names blocks n d KeyShape = tt
-word_names blocks n d (StructShape tag) = tt
-word_names blocks n d (UnionShape tag) = tt
-word_names blocks n d (ArrayShape count of) = tt
+pub word_names : (blocks : List ℕ) (own n d : ℕ) (s : Shape) → CodeNames blocks own n (word_code s d)
+word_names blocks own n d (ThinShape may_be_null owner to) = (tt, (tt, (tt, tt)))
+word_names blocks own n d IntShape = tt
+word_names blocks own n d UnsignedShape = tt
+word_names blocks own n d CharShape = tt
+word_names blocks own n d VoidShape = tt
+word_names blocks own n d (FatShape to) = tt
+word_names blocks own n d HandleShape = tt
+word_names blocks own n d KeyShape = tt
+word_names blocks own n d (StructShape tag) = tt
+word_names blocks own n d (UnionShape tag) = tt
+word_names blocks own n d (ArrayShape count of) = tt
 
-not_names : (blocks : List ℕ) (n d : ℕ) (s : Shape) → CodeNames blocks n (not_code s d)
-not_names blocks n d (ThinShape may_be_null owner to) = (tt, tt)
-not_names blocks n d IntShape = (tt, (tt, tt))
-not_names blocks n d UnsignedShape = (tt, (tt, tt))
-not_names blocks n d CharShape = (tt, (tt, tt))
-not_names blocks n d VoidShape = (tt, (tt, tt))
-not_names blocks n d (FatShape to) = (tt, (tt, tt))
-not_names blocks n d HandleShape = (tt, (tt, tt))
-not_names blocks n d KeyShape = (tt, (tt, tt))
-not_names blocks n d (StructShape tag) = (tt, (tt, tt))
-not_names blocks n d (UnionShape tag) = (tt, (tt, tt))
-not_names blocks n d (ArrayShape count of) = (tt, (tt, tt))
+not_names : (blocks : List ℕ) (own n d : ℕ) (s : Shape) → CodeNames blocks own n (not_code s d)
+not_names blocks own n d (ThinShape may_be_null owner to) = (tt, tt)
+not_names blocks own n d IntShape = (tt, (tt, tt))
+not_names blocks own n d UnsignedShape = (tt, (tt, tt))
+not_names blocks own n d CharShape = (tt, (tt, tt))
+not_names blocks own n d VoidShape = (tt, (tt, tt))
+not_names blocks own n d (FatShape to) = (tt, (tt, tt))
+not_names blocks own n d HandleShape = (tt, (tt, tt))
+not_names blocks own n d KeyShape = (tt, (tt, tt))
+not_names blocks own n d (StructShape tag) = (tt, (tt, tt))
+not_names blocks own n d (UnionShape tag) = (tt, (tt, tt))
+not_names blocks own n d (ArrayShape count of) = (tt, (tt, tt))
 
-pub prefix_names : (blocks : List ℕ) (n : ℕ) (o : Prefix) (s : Shape) (d : ℕ) (above here place : List Statement) → CodeNames blocks n above
-    → CodeNames blocks n here → CodeNames blocks n place → CodeNames blocks n (prefix_code o s d above here place)
-prefix_names blocks n prefix.Negate s d above here place h g p =
-    (tt, both_name blocks n above (operator_code operator.Subtract IntShape s d) h (operator_names blocks n operator.Subtract IntShape s d))
-prefix_names blocks n prefix.Complement s d above here place h g p =
-    (tt, both_name blocks n above (operator_code operator.BitXor IntShape s d) h (operator_names blocks n operator.BitXor IntShape s d))
-prefix_names blocks n prefix.Not s d above here place h g p = both_name blocks n above (not_code s d) h (not_names blocks n d s)
-prefix_names blocks n prefix.Dereference s d above here place h g p =
-    both_name blocks n (here ++ check_code s d) (load_code (pointee s) d) (both_name blocks n here (check_code s d) g (check_names blocks n d s)) (tt, tt)
-prefix_names blocks n prefix.AddressOf s d above here place h g p = p
+pub prefix_names : (blocks : List ℕ) (own n : ℕ) (o : Prefix) (s : Shape) (d : ℕ) (above here place : List Statement) → CodeNames blocks own n above
+    → CodeNames blocks own n here → CodeNames blocks own n place → CodeNames blocks own n (prefix_code o s d above here place)
+prefix_names blocks own n prefix.Negate s d above here place h g p =
+    (tt, both_name blocks own n above (operator_code operator.Subtract IntShape s d) h (operator_names blocks own n operator.Subtract IntShape s d))
+prefix_names blocks own n prefix.Complement s d above here place h g p =
+    (tt, both_name blocks own n above (operator_code operator.BitXor IntShape s d) h (operator_names blocks own n operator.BitXor IntShape s d))
+prefix_names blocks own n prefix.Not s d above here place h g p = both_name blocks own n above (not_code s d) h (not_names blocks own n d s)
+prefix_names blocks own n prefix.Dereference s d above here place h g p =
+    both_name blocks own n (here ++ check_code s d) (load_code (pointee s) d)
+    (both_name blocks own n here (check_code s d) g (check_names blocks own n d s)) (tt, tt)
+prefix_names blocks own n prefix.AddressOf s d above here place h g p = p
 
-pub pointed_names : (blocks : List ℕ) (n : ℕ) (o : Prefix) (s : Shape) (d : ℕ) (here : List Statement) → CodeNames blocks n here
-    → CodeNames blocks n (pointed_code o s d here)
-pointed_names blocks n prefix.Negate s d here h = tt
-pointed_names blocks n prefix.Complement s d here h = tt
-pointed_names blocks n prefix.Not s d here h = tt
-pointed_names blocks n prefix.Dereference s d here h = both_name blocks n here (check_code s d) h (check_names blocks n d s)
-pointed_names blocks n prefix.AddressOf s d here h = tt
+pub pointed_names : (blocks : List ℕ) (own n : ℕ) (o : Prefix) (s : Shape) (d : ℕ) (here : List Statement) → CodeNames blocks own n here
+    → CodeNames blocks own n (pointed_code o s d here)
+pointed_names blocks own n prefix.Negate s d here h = tt
+pointed_names blocks own n prefix.Complement s d here h = tt
+pointed_names blocks own n prefix.Not s d here h = tt
+pointed_names blocks own n prefix.Dereference s d here h = both_name blocks own n here (check_code s d) h (check_names blocks own n d s)
+pointed_names blocks own n prefix.AddressOf s d here h = tt
 
-pub call_names : (blocks : List ℕ) (n : ℕ) (w : World) (name : List ℕ) (count d : ℕ) → CodeNames blocks n (call_code w name count d)
-call_names blocks n w name count d = by (bytes_eq name (codes "getchar")) (bytes_eq name (codes "putchar")) (function_of w.functions name)
+pub call_names : (blocks : List ℕ) (own n : ℕ) (w : World) (name : List ℕ) (count d : ℕ) → CodeNames blocks own n (call_code w name count d)
+call_names blocks own n w name count d = by (bytes_eq name (codes "getchar")) (bytes_eq name (codes "putchar")) (function_of w.functions name)
   where
-    by : (reads writes : Bool) (r : Option Routine) → CodeNames blocks n (if reads then Do (Getchar d) ∷ [] else (if writes then Do (Putchar d d) ∷ [] else
+    by : (reads writes : Bool) (r : Option Routine) → CodeNames blocks own n (if reads then Do (Getchar d) ∷ [] else (if writes then Do (Putchar d d) ∷ [] else
         function_call r (number_of w.functions name) count d))
     by true writes r = (tt, tt)
     by false true r = (tt, tt)

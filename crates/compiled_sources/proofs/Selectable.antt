@@ -13,7 +13,7 @@ use Rattle.source_lowering.proofs.Names.{IsRoutine, AreRoutines}
 use Rattle.source_lowering.proofs.Programs.{routines_are}
 use Rattle.compiled_sources.proofs.Naming.{have_lines}
 use Rattle.compiled_sources.proofs.Parts.{GlobalsLie}
-use Rattle.compiled_sources.proofs.Functions.{body_names, globals_lie, data_layouts}
+use Rattle.compiled_sources.proofs.Functions.{body_names, own_layouts, globals_lie, data_layouts}
 
 -- a function of Core is the code of a function of the source
 pub record IsCodeOf (w : World) (fs : List Routine) (number : ℕ) (f : Function) : Type 0 where
@@ -31,7 +31,7 @@ code_of w (r ∷ rs) (suc number) f all e =
 
 function_selectable : (n : ℕ) (w : World) (f : Routine) → GlobalsLie n w.globals → AreStructs w.unions w.structs → IsRoutine w f → IsSelectableIn n (function_code w f)
 function_selectable n w f globals structs is = record {
-  own_layouts = tt;
+  own_layouts = own_layouts w f structs is;
   few = omega arith;
   body = have_lines (scope_of n (function_code w f)) (body_code w f) (body_names n w f globals structs is) (omega arith) (omega arith);
 }

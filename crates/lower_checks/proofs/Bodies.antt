@@ -16,19 +16,19 @@ as_many_shapes (p ∷ ps) = ap suc (as_many_shapes ps)
 pub record Inside (w : World) (f : Routine) (locals : List Local) (inside : List Statement) : Type 0 where
   pub locals_are : locals ≡ locals_of w (part_shapes f.parameters ++ block_shapes f.body)
   pub inside_is :
-      inside ≡ parameters_code f.parameters 0 ++ items_code w f.result (parameter_names f.parameters 0 []) (length f.parameters) f.body
+      inside ≡ parameters_code f.parameters 0 ++ items_code w f.result (parameter_names f.parameters 0 []) (length f.parameters) 0 f.body
 
 pub inside_of :
     (w : World) (f : Routine) (taken shapes : List Shape) (names : List Named) (first inside : List Statement) (locals : List Local) →
     taken ≡ part_shapes f.parameters → names ≡ parameter_names f.parameters 0 [] → first ≡ parameters_code f.parameters 0 →
-    inside ≡ first ++ items_code w f.result names (length taken) f.body → shapes ≡ taken ++ block_shapes f.body → locals ≡ locals_of w shapes →
+    inside ≡ first ++ items_code w f.result names (length taken) 0 f.body → shapes ≡ taken ++ block_shapes f.body → locals ≡ locals_of w shapes →
     Inside w f locals inside
 inside_of w f taken shapes names first inside locals taken_is names_are first_is inside_is shapes_are locals_are = record {
   locals_are = locals_are ∙ ap (locals_of w) (shapes_are ∙ ap (λ (ss : List Shape). ss ++ block_shapes f.body) taken_is);
   inside_is =
-      inside_is ∙ ap (λ (ss : List Statement). ss ++ items_code w f.result names (length taken) f.body) first_is
-      ∙ ap (λ (ns : List Named). parameters_code f.parameters 0 ++ items_code w f.result ns (length taken) f.body) names_are
-      ∙ ap (λ (n : ℕ). parameters_code f.parameters 0 ++ items_code w f.result (parameter_names f.parameters 0 []) n f.body)
+      inside_is ∙ ap (λ (ss : List Statement). ss ++ items_code w f.result names (length taken) 0 f.body) first_is
+      ∙ ap (λ (ns : List Named). parameters_code f.parameters 0 ++ items_code w f.result ns (length taken) 0 f.body) names_are
+      ∙ ap (λ (n : ℕ). parameters_code f.parameters 0 ++ items_code w f.result (parameter_names f.parameters 0 []) n 0 f.body)
       (ap length taken_is ∙ as_many_shapes f.parameters);
 }
 

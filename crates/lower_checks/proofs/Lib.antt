@@ -1,5 +1,6 @@
 mod Arguments
 mod Bodies
+mod Items
 mod Linking
 mod Lists
 mod Lowerable

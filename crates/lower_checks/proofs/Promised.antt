@@ -1,5 +1,5 @@
 -- What is promised of lowering holds of the Core of each accepted program.
-use Rattle.std.proofs.Common.{◌≡◌, ℕ, zero, suc, ◌≤◌, ⊎_elim, List, [], ◌∷◌, Some, refl, sym, ap, ◌∙◌, subst, arith}
+use Rattle.std.proofs.Common.{◌≡◌, ℕ, zero, suc, ◌≤◌, ⊎_elim, List, [], ◌∷◌, Some, sym, subst, arith}
 use Rattle.std.specs.Prelude.{map, slice_get}
 use Rattle.cyc_tree.specs.Tree.{Program}
 use Rattle.source_meaning.specs.Steps.{Routine, World}

@@ -1,11 +1,11 @@
 // Functions.
 
-ghost use Rattle.std.specs.Prelude.{◌≡◌, ◌++◌, OnOk, IfOk, map};
+ghost use Rattle.std.specs.Prelude.{◌≡◌, [], ◌++◌, OnOk, IfOk, map};
 ghost use Rattle.cyc_tree.specs.View.{member_tree, function_tree as source_tree};
 ghost use Rattle.cyc_core.specs.Trees.{statement_tree, body_tree, function_tree};
 ghost use Rattle.source_meaning.specs.Shapes.{part_of};
 ghost use Rattle.source_meaning.specs.Programs.{world_of, routine_of};
-ghost use Rattle.source_lowering.specs.Programs.{parameter_names, parameters_code, end_code, body_code, function_code};
+ghost use Rattle.source_lowering.specs.Programs.{parameter_names, parameters_code, end_code, body_code, routine_values, function_code};
 ghost use Rattle.lower_checks.specs.Views.{shape_tree};
 ghost use Rattle.lower_checks.specs.Visible.{names_of};
 ghost use Rattle.source_lowering.specs.Taken.{TakesFunction};
@@ -64,13 +64,15 @@ fn lower_end(body: &mut Vec<Statement>, shape: Shape<'_>) -> Result<(), LowerFau
     }
 }
 
-/// What a function does.
+/// What a function does that has no unnamed values.
 fn lower_body<'p>(
     alloc: Global,
     program: &Table<'p>,
     function: &'p Source,
 ) -> Result<Vec<Statement>, LowerFault>
-    ensures code { IfOk result (λ body. body_tree body.items ≡ body_code (world_of program.now) (routine_of (source_tree function.entry.now))) }
+    ensures code { let w = world_of program.now in
+        let f = routine_of (source_tree function.entry.now) in
+        routine_values w f ≡ [] → IfOk result (λ body. body_tree body.items ≡ body_code w f) }
     ensures taken { TakesFunction (source_tree function.entry.now) → NeverRefused result }
 {
     let shape = Shape::of(&function.result);
@@ -104,13 +106,15 @@ fn count(temporaries: u64) -> Result<u32, LowerFault>
     }
 }
 
-/// A function, with as many temporaries as it has parameters or its code uses.
+/// A function that has no unnamed values, with as many temporaries as it has parameters or its code uses.
 pub fn lower_function<'p>(
     alloc: Global,
     program: &Table<'p>,
     function: &'p Source,
 ) -> Result<Function, LowerFault>
-    ensures code { IfOk result (λ lowered. function_tree lowered ≡ function_code (world_of program.now) (routine_of (source_tree function.entry.now))) }
+    ensures code { let w = world_of program.now in
+        let f = routine_of (source_tree function.entry.now) in
+        routine_values w f ≡ [] → IfOk result (λ lowered. function_tree lowered ≡ function_code w f) }
     ensures taken { TakesFunction (source_tree function.entry.now) → NeverRefused result }
 {
     let body = lower_body(alloc, program, function)?;

@@ -108,7 +108,8 @@ fn lower_globals(alloc: Global, program: &Source) -> Result<Vec<Datum>, LowerFau
 
 /// The functions, in their order.
 fn lower_functions(alloc: Global, program: &Table<'_>) -> Result<Vec<Function>, LowerFault>
-    ensures functions { IfOk result (λ functions. map function_tree functions.items ≡ map (function_code (world_of program.now)) (functions_of program.now)) }
+    ensures functions { TakesProgram program.now →
+        IfOk result (λ functions. map function_tree functions.items ≡ map (function_code (world_of program.now)) (functions_of program.now)) }
     ensures taken { TakesProgram program.now → NeverRefused result }
 {
     let items = program.items();
@@ -125,7 +126,7 @@ fn lower_functions(alloc: Global, program: &Table<'_>) -> Result<Vec<Function>, 
 
 /// The Core of a program's tree. Refuses a tree that has something else than functions, globals and locals of integers and of thin pointers.
 fn lower_tree(alloc: Global, program: &Source) -> Result<Program, LowerFault>
-    ensures code { IfOk result (λ core. program_tree core ≡ program_code program.now) }
+    ensures code { TakesProgram program.now → IfOk result (λ core. program_tree core ≡ program_code program.now) }
     ensures taken { TakesProgram program.now → NeverRefused result }
 {
     let table = Table::new(alloc, program.items())?;
@@ -141,7 +142,6 @@ fn lower_tree(alloc: Global, program: &Source) -> Result<Program, LowerFault>
 
 /// The Core of a checked program. Fails only where no host memory is left, or a number of temporaries, locals, functions or
 /// globals is over the greatest u32.
-#[tactic(auto, using(crate::proofs::Promised::is_lowering))]
 pub fn lower(alloc: Global, checked: &Checked) -> Result<Program, AllocError>
     // it does what the source does, and its frames and its code are within the source's bounds
     ensures promised { IfOk result (λ core. IsLoweringOf checked.now (program_tree core)) }

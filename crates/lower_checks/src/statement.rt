@@ -1,6 +1,6 @@
 // Declarations, statements and blocks.
 
-ghost use Rattle.std.specs.Prelude.{◌≡◌, ◌∷◌, ◌++◌, [], OnOk, IfOk, length, map};
+ghost use Rattle.std.specs.Prelude.{◌≡◌, ℕ, ◌∷◌, ◌++◌, [], OnOk, IfOk, length, map};
 ghost use Rattle.cyc_tree.specs.View.{type_tree, expression_tree, declaration_tree, statement_tree as source_tree, item_tree, items_of};
 ghost use Rattle.cyc_core.specs.Trees.{statement_tree};
 ghost use Rattle.source_meaning.specs.Programs.{world_of};
@@ -8,7 +8,7 @@ ghost use Rattle.source_meaning.specs.Shapes.{settled, written};
 ghost use Rattle.source_meaning.specs.Steps.{World};
 ghost use Rattle.core_meaning.specs.Core as core;
 ghost use Rattle.source_lowering.specs.Lowered.{static_shape, conversion_code, results_in, expression_code};
-ghost use Rattle.source_lowering.specs.Programs.{local_shape, block_shapes, unset_code, value_code, declaration_code, statement_code, items_code};
+ghost use Rattle.source_lowering.specs.Programs.{local_shape, block_shapes, unset_code, value_code, declaration_code, statement_values, item_values, statement_code, items_code};
 ghost use Rattle.lower_checks.specs.Views.{shape_tree, target_shape};
 ghost use Rattle.lower_checks.specs.Visible.{left, names_of};
 ghost use Rattle.source_lowering.specs.Taken.{IsWordType, Takes, TakesDeclaration, TakesStatement, TakesItems};
@@ -68,10 +68,10 @@ fn lower_set(
     body: &mut Vec<Statement>,
     index: u32,
 ) -> Result<(), LowerFault>
-    ensures code { OnOk result
+    ensures code { (own : ℕ) → OnOk result
         (map statement_tree body.new.items ≡
         map statement_tree body.old.items ++
-        value_code (world_of program.now) (names_of locals.now) (shape_tree shape.entry) (expression_tree value.now) index) }
+        value_code (world_of program.now) (names_of locals.now) (shape_tree shape.entry) (expression_tree value.now) index own) }
     ensures taken { IsLocal (shape_tree shape.entry) → Takes (expression_tree value.now) → NeverRefused result }
 {
     match shape {
@@ -95,10 +95,10 @@ fn lower_initializer(
     body: &mut Vec<Statement>,
     index: u32,
 ) -> Result<(), LowerFault>
-    ensures code { OnOk result
+    ensures code { (own : ℕ) → OnOk result
         (map statement_tree body.new.items ≡
         map statement_tree body.old.items ++
-        value_code (world_of program.now) (names_of locals.now) (settled (written (type_tree of.now))) (expression_tree value.now) index) }
+        value_code (world_of program.now) (names_of locals.now) (settled (written (type_tree of.now))) (expression_tree value.now) index own) }
     ensures taken { IsWordType (type_tree of.now) → Takes (expression_tree value.now) → NeverRefused result }
 {
     lower_set(alloc, program, locals, Shape::of(of), value, body, index)
@@ -114,10 +114,10 @@ fn lower_declaration(
     body: &mut Vec<Statement>,
     index: u32,
 ) -> Result<(), LowerFault>
-    ensures code { OnOk result
+    ensures code { (own : ℕ) → OnOk result
         (map statement_tree body.new.items ≡
         map statement_tree body.old.items ++
-        declaration_code (world_of program.now) (names_of locals.now) (declaration_tree declaration.now) index) }
+        declaration_code (world_of program.now) (names_of locals.now) (declaration_tree declaration.now) index own) }
     ensures taken { TakesDeclaration (declaration_tree declaration.now) → NeverRefused result }
 {
     let Declaration::Local(of, _, initializer) = declaration else {
@@ -156,7 +156,8 @@ fn lower_return(
     emit(body, Statement::Return(shape.result_in(VALUE)))
 }
 
-/// Appends what a statement does, in a function with a result of this shape. Refuses what is neither of integers nor of thin pointers.
+/// Appends what a statement does, in a function with a result of this shape, where no unnamed value is in it. Refuses what is neither of integers nor of thin
+/// pointers.
 #[cycle(statement)]
 fn lower_statement<'p>(
     alloc: Global,
@@ -166,10 +167,12 @@ fn lower_statement<'p>(
     statement: &'p Source,
     body: &mut Vec<Statement>,
 ) -> Result<(), LowerFault>
-    ensures code { OnOk result
+    ensures code { let w = world_of program.now in
+        let names = names_of locals.old in
+        let s = source_tree statement.entry.now in
+        (own : ℕ) → statement_values w names s ≡ [] → OnOk result
         (map statement_tree body.new.items ≡
-        map statement_tree body.old.items ++
-        statement_code (world_of program.now) (shape_tree shape.entry) (names_of locals.old) (source_tree statement.entry.now)) }
+        map statement_tree body.old.items ++ statement_code w (shape_tree shape.entry) names own s) }
     ensures kept { OnOk result (locals.new ≡ locals.old) }
     ensures taken { TakesStatement (shape_tree shape.entry) (source_tree statement.entry.now) → NeverRefused result }
 {
@@ -222,7 +225,7 @@ fn lower_statement<'p>(
     }
 }
 
-/// What a statement that is a part of another does.
+/// What a statement that is a part of another does, where no unnamed value is in it.
 #[cycle(statement)]
 fn lower_part<'p>(
     alloc: Global,
@@ -231,10 +234,11 @@ fn lower_part<'p>(
     locals: &mut Locals<'p>,
     statement: &'p Source,
 ) -> Result<Vec<Statement>, LowerFault>
-    ensures code { IfOk result
-        (λ body.
-        map statement_tree body.items ≡
-        statement_code (world_of program.now) (shape_tree shape.entry) (names_of locals.old) (source_tree statement.entry.now)) }
+    ensures code { let w = world_of program.now in
+        let names = names_of locals.old in
+        let s = source_tree statement.entry.now in
+        (own : ℕ) → statement_values w names s ≡ [] → IfOk result
+        (λ body. map statement_tree body.items ≡ statement_code w (shape_tree shape.entry) names own s) }
     ensures kept { OnOk result (locals.new ≡ locals.old) }
     ensures taken { TakesStatement (shape_tree shape.entry) (source_tree statement.entry.now) → NeverRefused result }
 {
@@ -243,7 +247,8 @@ fn lower_part<'p>(
     Ok(body)
 }
 
-/// Appends what the items of a block do, and the shapes of the locals that they declare. The next local's number is how many there are.
+/// Appends what the items of a block do, where no unnamed value is in them, and the shapes of the locals that they declare. The next local's number is how many
+/// there are.
 #[cycle(statement)]
 pub fn lower_items<'p>(
     alloc: Global,
@@ -254,11 +259,13 @@ pub fn lower_items<'p>(
     shapes: &mut Vec<Shape<'p>>,
     body: &mut Vec<Statement>,
 ) -> Result<(), LowerFault>
-    ensures code { OnOk result
+    ensures code { let w = world_of program.now in
+        let names = names_of locals.old in
+        let index = length shapes.old.items in
+        let inside = items_of (map item_tree items.entry.now) in
+        (own : ℕ) → item_values w names index inside ≡ [] → OnOk result
         (map statement_tree body.new.items ≡
-        map statement_tree body.old.items ++
-        items_code (world_of program.now) (shape_tree shape.entry) (names_of locals.old) (length shapes.old.items)
-        (items_of (map item_tree items.entry.now))) }
+        map statement_tree body.old.items ++ items_code w (shape_tree shape.entry) names index own inside) }
     ensures shapes { OnOk result
         (map shape_tree shapes.new.items ≡
         map shape_tree shapes.old.items ++ block_shapes (items_of (map item_tree items.entry.now))) }

@@ -42,6 +42,7 @@ fn of_operation(operation: Operation) -> u64
         Operation::Constant(t, _)
         | Operation::NullPointer(t)
         | Operation::LocalAddress(t, _)
+        | Operation::OwnAddress(t, _)
         | Operation::DataAddress(t, _)
         | Operation::Get(t, _, _)
         | Operation::Put(_, _, t)
@@ -55,7 +56,7 @@ fn of_operation(operation: Operation) -> u64
         Operation::Apply(_, t, x, y) | Operation::SamePlace(t, x, y) => {
             u64::max(up_to(t), u64::max(up_to(x), up_to(y)))
         }
-        Operation::Move(_, _) | Operation::OwnAddress(_, _) => 0,
+        Operation::Move(_, _) => 0,
     }
 }
 

@@ -53,9 +53,9 @@ use Rattle.source_lowering.specs.Layouts.{first_part, layout_of}
 use Rattle.source_lowering.specs.Programs.{first_code, unset_code}
 use Rattle.source_lowering.specs.Taken.{HasFirst}
 use Rattle.source_lowering.specs.Lowerable.{IsObject, AreStructs, HasBeginning}
-use Rattle.source_lowering.proofs.Relations.{at, PartIs, PartsHold, ArePending, Shown, Agree, Later, Place, Fits, SameAt, Next}
+use Rattle.source_lowering.proofs.Relations.{at, PartIs, PartsHold, ArePending, Shown, Agree, Later, Place, Fits, SameAt, Next, around, Bound, activation, within}
 use Rattle.core_meaning.proofs.Spots.{spot_self}
-use Rattle.source_lowering.proofs.Keeping.{later_on, fits_later}
+use Rattle.source_lowering.proofs.Keeping.{later_on, fits_later, named_free}
 use Rattle.source_lowering.proofs.Runs.{stuck_same}
 use Rattle.source_lowering.proofs.Integers.{IsWordShape}
 use Rattle.source_lowering.proofs.Cells.{IsPlain, plain_of}
@@ -193,7 +193,7 @@ declared_by p n scope name shape then_act next m code world frame count goes =
 
 -- what comes after a declaration without an initializer
 pub record BeginsIn (p q : Place) (n : ℕ) (m0 : source.Memory) (c0 : Config) (s : source.Memory → steps.Step) (k : Config → core_steps.Step) : Type 0 where
-  pub go : (m : source.Memory) (c : Config) → Fits q m c → Later p.frame m0 c0.memory m c.memory → c.blocks ≡ c0.blocks → SameAt p n (s m) (k c)
+  pub go : (m : source.Memory) (c : Config) → Fits q m c → Later (around p p.frame) m0 c0.memory m c.memory → activation c ≡ activation c0 → SameAt p n (s m) (k c)
 
 -- a word
 word_begins : (p : Place) (n : ℕ) (scope : Scope) (name : List ℕ) (shape : Shape) (shapes : List Shape) (then_act : Scope → Act Flow)
@@ -236,11 +236,11 @@ word_begins p n scope name shape shapes then_act next m c rest after world frame
     agree1 : Agree p.world m c1.memory
     agree1 = agree_ahead p.world m c.memory spot old first.content fits.agree none part.is
 
-    later1 : (b : ℕ) → Later b m c.memory m c1.memory
-    later1 b = ahead_later b m c.memory (at spot) old first.content part.is
+    later1 : (b : Bound) → Later b m c.memory m c1.memory
+    later1 b = ahead_later b m c.memory (at spot) old first.content (named_free b spot) part.is
 
     fits1 : Fits p m c1
-    fits1 = fits_later p m m c c1 fits agree1 (later1 (suc p.frame)) refl
+    fits1 = fits_later p m m c c1 fits agree1 (later1 (within p)) refl
 
     words : AreWordShapes (cells_of p.world shape)
     words = subst AreWordShapes (sym plain.cells) (is_word, tt)
@@ -268,8 +268,8 @@ word_begins p n scope name shape shapes then_act next m c rest after world frame
         (ap (fitting (width_of shape)) (put_temp 0 first.content c) ∙ first.fits)))
         (goes.go (m_made m p.frame (first_object p.world shape)) c1
         (begins_fits p m c1 name shape shapes words pending fits1 (λ cell of e. only cell of (ap (λ z. slice_get z cell) (sym plain.cells) ∙ e)))
-        (later_on p.frame m m (m_made m p.frame (first_object p.world shape)) c.memory c1.memory c1.memory (later1 p.frame)
-        (grown_later m c1.memory p.frame (first_object p.world shape) fits.agree.unmade)) refl)
+        (later_on (around p p.frame) m m (m_made m p.frame (first_object p.world shape)) c.memory c1.memory c1.memory (later1 (around p p.frame))
+        (grown_later (around p p.frame) m c1.memory p.frame (first_object p.world shape) (omega arith) fits.agree.unmade)) refl)
 
 -- a struct
 cleared_at : (c : Config) (index frame : ℕ) (outer : List ℕ) (l : Layout) (next : Config → core_steps.Step) → c.blocks ≡ frame ∷ outer
@@ -302,8 +302,8 @@ struct_begins p n scope name tag shapes then_act next m c rest after world frame
     spot : Spot
     spot = local_spot p.frame p.made
 
-    all : ArePending p.world c.memory p.frame p.made (shape ∷ shapes)
-    all = subst (λ z. ArePending p.world c.memory p.frame p.made z) pending fits.pending
+    all : ArePending p.world c.memory (core.Frame p.frame) p.made (shape ∷ shapes)
+    all = subst (λ z. ArePending p.world c.memory (core.Frame p.frame) p.made z) pending fits.pending
 
     c1 : Config
     c1 = with_memory (cleared layout 1 (at spot) c.memory) (with_temp 0 (Pointer (at spot) 0) c)
@@ -311,11 +311,11 @@ struct_begins p n scope name tag shapes then_act next m c rest after world frame
     agree1 : Agree p.world m c1.memory
     agree1 = agree_cleared p.world m c.memory p.frame p.made layout fits.agree fits.made
 
-    later1 : (b : ℕ) → Later b m c.memory m c1.memory
-    later1 b = cleared_later b m c.memory layout 1 (at spot)
+    later1 : (b : Bound) → Later b m c.memory m c1.memory
+    later1 b = cleared_later b m c.memory layout 1 (at spot) (named_free b spot)
 
     fits1 : Fits p m c1
-    fits1 = fits_later p m m c c1 fits agree1 (later1 (suc p.frame)) refl
+    fits1 = fits_later p m m c c1 fits agree1 (later1 (within p)) refl
 
     words : AreWordShapes (cells_of p.world shape)
     words = (object_cells p.world.unions p.world.structs shape structs object).words
@@ -349,8 +349,8 @@ struct_begins p n scope name tag shapes then_act next m c rest after world frame
         (sym (cleared_at c p.made p.frame p.outer layout (meaning.statements rest after) fits.blocks
         (sym (fits.agree.live (source.Frame p.frame)) ∙ live) (element_there c.memory (at spot) 0 layout all.0)))
         (goes.go (m_made m p.frame (first_object p.world shape)) c1 (begins_fits p m c1 name shape shapes words pending fits1 held)
-        (later_on p.frame m m (m_made m p.frame (first_object p.world shape)) c.memory c1.memory c1.memory (later1 p.frame)
-        (grown_later m c1.memory p.frame (first_object p.world shape) fits.agree.unmade)) refl)
+        (later_on (around p p.frame) m m (m_made m p.frame (first_object p.world shape)) c.memory c1.memory c1.memory (later1 (around p p.frame))
+        (grown_later (around p p.frame) m c1.memory p.frame (first_object p.world shape) (omega arith) fits.agree.unmade)) refl)
 
 -- whichever
 pub declared_same : (p : Place) (n : ℕ) (scope : Scope) (name : List ℕ) (shape : Shape) (shapes : List Shape) (then_act : Scope → Act Flow)

@@ -1,5 +1,5 @@
 -- A block is entered with its locals to come, and left whichever way.
-use Rattle.std.proofs.Common.{◌≡◌, ℕ, suc, ◌≤◌, inl, inr, ⊎_elim, List, [], ◌∷◌, refl, sym, ap, ◌∙◌, subst, arith}
+use Rattle.std.proofs.Common.{◌≡◌, ℕ, suc, ◌<◌, ◌≤◌, true, inl, inr, ⊎_elim, List, [], ◌∷◌, refl, sym, ap, ◌∙◌, subst, arith}
 use Rattle.source_meaning.specs.Shapes.{Shape, Layout}
 use Rattle.source_meaning.specs.Memory as source
 use Rattle.source_meaning.specs.Memory.{Scalar, with_state, Dead}
@@ -14,10 +14,10 @@ use Rattle.core_meaning.specs.Steps.{Config}
 use Rattle.core_meaning.specs.Meaning as meaning
 use Rattle.source_lowering.specs.Lowered.{Named, all_of}
 use Rattle.source_lowering.specs.Programs.{locals_of, outward}
-use Rattle.source_lowering.proofs.Relations.{ArePending, Agree, Later, AreLocals, AreLed, Place, Fits, Next}
-use Rattle.source_lowering.proofs.Keeping.{later_on, later_less, shown_later, all_led_later, left_later, agree_left}
+use Rattle.source_lowering.proofs.Relations.{ArePending, Agree, Bound, nothing, Later, AreLocals, AreLed, Place, Fits, activation, around, Next}
+use Rattle.source_lowering.proofs.Keeping.{later_on, later_less, shown_later, all_led_later, pending_later, same_own, left_later, agree_left}
 use Rattle.source_lowering.proofs.Names.{AreObjectNames}
-use Rattle.source_lowering.proofs.Entering.{source_in, core_in, agree_entered, entered_later, pending_entered}
+use Rattle.source_lowering.proofs.Entering.{made_standing, source_in, core_opened, core_in, agree_entered, entered_later, pending_entered}
 use Rattle.source_lowering.proofs.Calls.{OneResult, NoResult, ResultIs}
 use Rattle.source_lowering.proofs.Statements.{WaysOn, RunsAs}
 
@@ -39,7 +39,7 @@ objects_outward structs (l ∷ ls) h = (h.0, objects_outward structs ls h.1)
 
 -- ---- results
 
-pub result_later : (b : ℕ) (w : World) (m m' : source.Memory) (c c' : core.Memory) (shape : Shape) (vs : List Scalar) (xs : List Content) → Later b m c m' c'
+pub result_later : (b : Bound) (w : World) (m m' : source.Memory) (c c' : core.Memory) (shape : Shape) (vs : List Scalar) (xs : List Content) → Later b m c m' c'
     → ResultIs w m c shape vs xs → ResultIs w m' c' shape vs xs
 result_later b w m m' c c' shape vs xs l r =
     ⊎_elim
@@ -59,25 +59,47 @@ result_later b w m m' c c' shape vs xs l r =
 -- ---- a new activation
 
 -- a place at the start of a block's activation
-abbrev pub at_start : World → Program → List Binding → List Named → ℕ → List ℕ → List Shape → Place
-at_start w fs locals names frame outer shapes =
-    record { world = w; program = fs; locals = locals; names = names; frame = frame; outer = outer; made = 0; pending = shapes }
+abbrev pub at_start : World → Program → List Binding → List Named → ℕ → List ℕ → List Shape → ℕ → List Shape → Place
+at_start w fs locals names frame outer shapes own owned = record {
+  world = w;
+  program = fs;
+  locals = locals;
+  names = names;
+  frame = frame;
+  outer = outer;
+  made = 0;
+  pending = shapes;
+  own = own;
+  owned = owned;
+}
+
+-- a function's activation with its unnamed values
+pub record HasOwn (w : World) (c : Config) (own : ℕ) (owned : List Shape) : Type 0 where
+  pub is : c.own ≡ own
+  pub called : own < c.memory.calls
+  pub stands : core.is_live (c.memory.standing (core.Own own)) ≡ true
+  pub values : ArePending w c.memory (core.Own own) 0 owned
 
 -- a block is entered from memories that agree
 pub entered_fits : (w : World) (fs : Program) (locals : List Binding) (names : List Named) (outer : List ℕ) (shapes : List Shape) (m : source.Memory)
-    (c : Config) → Agree w m c.memory → c.blocks ≡ outer → AreLed w m c.memory locals → AreLed w m c.memory w.globals
-    → Fits (at_start w fs locals names m.activations outer shapes) (source_in m) (meaning.in_block (locals_of w shapes) c)
-entered_fits w fs locals names outer shapes m c agree blocks led globals =
-    let later = entered_later 0 w m c.memory (locals_of w shapes) agree in
+    (c : Config) (own : ℕ) (owned : List Shape) → Agree w m c.memory → c.blocks ≡ outer → HasOwn w c own owned → AreLed w m c.memory locals
+    → AreLed w m c.memory w.globals
+    → Fits (at_start w fs locals names m.activations outer shapes own owned) (source_in m) (meaning.in_block (locals_of w shapes) c)
+entered_fits w fs locals names outer shapes m c own owned agree blocks has led globals =
+    let later = entered_later nothing w m c.memory (locals_of w shapes) agree in
     record {
       agree = agree_entered w m c.memory (locals_of w shapes) agree;
       blocks = ap (λ z. z ∷ c.blocks) (sym agree.activations) ∙ ap (λ z. m.activations ∷ z) blocks;
-      locals = all_led_later 0 w m (source_in m) c.memory (core_in (locals_of w shapes) c.memory) locals later led;
-      globals = all_led_later 0 w m (source_in m) c.memory (core_in (locals_of w shapes) c.memory) w.globals later globals;
+      locals = all_led_later nothing w m (source_in m) c.memory (core_in (locals_of w shapes) c.memory) locals later led;
+      globals = all_led_later nothing w m (source_in m) c.memory (core_in (locals_of w shapes) c.memory) w.globals later globals;
       begun = omega arith;
       made = (agree.unbegun m.activations (omega arith)).0;
-      pending = subst (λ k. ArePending w (core_in (locals_of w shapes) c.memory) k 0 shapes) (sym agree.activations)
+      pending = subst (λ k. ArePending w (core_in (locals_of w shapes) c.memory) (core.Frame k) 0 shapes) (sym agree.activations)
           (pending_entered w m c.memory shapes agree);
+      own = has.is;
+      called = let g = has.called in let h = later.called in omega (arith, g, h);
+      stands = ap core.is_live (made_standing (core.Frame c.memory.activations) (locals_of w shapes) (core_opened c.memory) (core.Own own)) ∙ has.stands;
+      owned = pending_later nothing w m (source_in m) c.memory (core_in (locals_of w shapes) c.memory) (core.Own own) 0 owned later has.values;
     }
 
 -- its region ends in both
@@ -85,7 +107,7 @@ agree_gone : (w : World) (m : source.Memory) (c : core.Memory) (k j : ℕ) → k
     → Agree w (with_state m (source.Frame k) Dead) (with_standing c (core.Frame j) core.Dead)
 agree_gone w m c k j e a = subst (λ z. Agree w (with_state m (source.Frame k) Dead) (with_standing c (core.Frame z) core.Dead)) e (agree_left w m c k a)
 
-later_gone : (b : ℕ) (m : source.Memory) (c : core.Memory) (k j : ℕ) → k ≡ j → Later b m c (with_state m (source.Frame k) Dead)
+later_gone : (b : Bound) (m : source.Memory) (c : core.Memory) (k j : ℕ) → k ≡ j → Later b m c (with_state m (source.Frame k) Dead)
     (with_standing c (core.Frame j) core.Dead)
 later_gone b m c k j e = subst (λ z. Later b m c (with_state m (source.Frame k) Dead) (with_standing c (core.Frame z) core.Dead)) e (left_later b m c k)
 
@@ -96,19 +118,23 @@ next_out next k flow m = next flow (with_state m (source.Frame k) Dead)
 abbrev pub after_out : Next → Config → Next
 after_out after c exit left = after exit (meaning.out_of_block c.memory.activations c.blocks left)
 
-pub ways_out : (w : World) (fs : Program) (n b : ℕ) (shapes : List Shape) (m : source.Memory) (c : Config) (result : Shape)
-    (next : Flow → source.Memory → steps.Step) (after : Next) → Agree w m c.memory → b ≤ m.activations
+-- what is kept in the block: the locals of all blocks around it
+abbrev pub inside_of : Bound → source.Memory → Bound
+inside_of b m = record { frames = m.activations; standing = b.standing; own = b.own; values = b.values }
+
+pub ways_out : (w : World) (fs : Program) (n : ℕ) (b : Bound) (shapes : List Shape) (m : source.Memory) (c : Config) (result : Shape)
+    (next : Flow → source.Memory → steps.Step) (after : Next) → Agree w m c.memory → b.frames ≤ m.activations
     → WaysOn w fs n b m c result next (after core_steps.Falls) after
-    → WaysOn w fs n m.activations (source_in m) (meaning.in_block (locals_of w shapes) c) result (next_out next m.activations)
+    → WaysOn w fs n (inside_of b m) (source_in m) (meaning.in_block (locals_of w shapes) c) result (next_out next m.activations)
     (after_out after c core_steps.Falls) (after_out after c)
 ways_out w fs n b shapes m c result next after agree less ways = record {
-  falls = λ m' c' a l e. ways.falls (gone m') (out c') (agree_gone w m' c'.memory m.activations c.memory.activations agree.activations a) (on m' c' l) refl;
-  breaks = λ m' c' a l e. ways.breaks (gone m') (out c') (agree_gone w m' c'.memory m.activations c.memory.activations agree.activations a) (on m' c' l) refl;
+  falls = λ m' c' a l e. ways.falls (gone m') (out c') (agree_gone w m' c'.memory m.activations c.memory.activations agree.activations a) (on m' c' l) (same_out c' e);
+  breaks = λ m' c' a l e. ways.breaks (gone m') (out c') (agree_gone w m' c'.memory m.activations c.memory.activations agree.activations a) (on m' c' l) (same_out c' e);
   continues = λ m' c' a l e. ways.continues (gone m') (out c') (agree_gone w m' c'.memory m.activations c.memory.activations agree.activations a) (on m' c' l)
-      refl;
+      (same_out c' e);
   returns = λ m' c' vs xs a l e r.
-      ways.returns (gone m') (out c') vs xs (agree_gone w m' c'.memory m.activations c.memory.activations agree.activations a) (on m' c' l) refl
-      (result_later 0 w m' (gone m') c'.memory (out c').memory result vs xs (later_gone 0 m' c'.memory m.activations c.memory.activations agree.activations) r);
+      ways.returns (gone m') (out c') vs xs (agree_gone w m' c'.memory m.activations c.memory.activations agree.activations a) (on m' c' l) (same_out c' e)
+      (result_later nothing w m' (gone m') c'.memory (out c').memory result vs xs (later_gone nothing m' c'.memory m.activations c.memory.activations agree.activations) r);
 }
   where
     gone : source.Memory → source.Memory
@@ -117,25 +143,29 @@ ways_out w fs n b shapes m c result next after agree less ways = record {
     out : Config → Config
     out c' = meaning.out_of_block c.memory.activations c.blocks c'
 
+    same_out : (c' : Config) → activation c' ≡ activation (meaning.in_block (locals_of w shapes) c) → activation (out c') ≡ activation c
+    same_out c' e = ap (λ z. z ∷ c.blocks) (same_own (meaning.in_block (locals_of w shapes) c) c' e)
+
     inner : core.Memory
     inner = core_in (locals_of w shapes) c.memory
 
-    on : (m' : source.Memory) (c' : Config) → Later m.activations (source_in m) inner m' c'.memory → Later b m c.memory (gone m') (out c').memory
+    on : (m' : source.Memory) (c' : Config) → Later (inside_of b m) (source_in m) inner m' c'.memory → Later b m c.memory (gone m') (out c').memory
     on m' c' l =
         later_on b m m' (gone m') c.memory c'.memory (out c').memory
         (later_on b m (source_in m) m' c.memory inner c'.memory (entered_later b w m c.memory (locals_of w shapes) agree)
-        (later_less m.activations b (source_in m) m' inner c'.memory less l))
+        (later_less (inside_of b m) b (source_in m) m' inner c'.memory (record { frames = less; standing = omega arith; kept = λ k i h. h }) l))
         (later_gone b m' c'.memory m.activations c.memory.activations agree.activations)
 
 -- a block does the same as its code, where its items do in each activation
 pub block_same : (p : Place) (n : ℕ) (result : Shape) (shapes : List Shape) (body : ℕ → Act Flow) (code : List Statement)
-    → ((k : ℕ) → RunsAs (at_start p.world p.program p.locals (outward p.names) k (p.frame ∷ p.outer) shapes) n k result (body k) code)
+    → ((k : ℕ) → RunsAs (at_start p.world p.program p.locals (outward p.names) k (p.frame ∷ p.outer) shapes p.own p.owned) n k result (body k) code)
     → RunsAs p n (suc p.frame) result (in_block body) (Block (locals_of p.world shapes) (all_of code) ∷ [])
 block_same p n result shapes body code runs = record {
   same = λ m c next rest after fits ways.
       let inner : Next = λ exit. meaning.falls_to exit (meaning.statements rest after) after in
       (runs m.activations).same (source_in m) (meaning.in_block (locals_of p.world shapes) c) (next_out next m.activations) NoStatements (after_out inner c)
-      (entered_fits p.world p.program p.locals (outward p.names) (p.frame ∷ p.outer) shapes m c fits.agree fits.blocks fits.locals fits.globals)
-      (ways_out p.world p.program n (suc p.frame) shapes m c result next inner fits.agree (let b = fits.begun in omega (arith, b))
+      (entered_fits p.world p.program p.locals (outward p.names) (p.frame ∷ p.outer) shapes m c p.own p.owned fits.agree fits.blocks
+      (record { is = fits.own; called = fits.called; stands = fits.stands; values = fits.owned }) fits.locals fits.globals)
+      (ways_out p.world p.program n (around p (suc p.frame)) shapes m c result next inner fits.agree (let b = fits.begun in omega (arith, b))
       (record { falls = ways.falls; breaks = ways.breaks; continues = ways.continues; returns = ways.returns }));
 }

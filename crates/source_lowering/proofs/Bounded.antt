@@ -37,6 +37,9 @@ use Rattle.source_lowering.specs.Programs.{
   unset_code,
   value_code,
   declaration_code,
+  declaration_values,
+  statement_values,
+  routine_values,
   statement_code,
   items_code,
   parameter_names,
@@ -47,19 +50,20 @@ use Rattle.source_lowering.specs.Programs.{
   program_code,
 }
 use Rattle.source_lowering.specs.Lowerable.{Takes, TakesValue, TakesDeclaration, TakesStatement, TakesItems, IsLowerable}
-use Rattle.source_lowering.specs.Bounds.{nodes_of, block_words, operations_of, FramesFit, declaration_nodes, statement_nodes, item_nodes, statement_locals, item_locals, statement_size, item_size, core_bound, frame_bound, all_operations, core_code, routines_size, code_bound}
+use Rattle.source_lowering.specs.Bounds.{nodes_of, value_words, block_words, operations_of, FramesFit, declaration_nodes, statement_nodes, item_nodes, statement_locals, item_locals, statement_size, item_size, core_bound, frame_bound, all_operations, core_code, routines_size, code_bound}
 use Rattle.source_lowering.proofs.Names.{AreParameters, IsRoutine, AreRoutines}
-use Rattle.source_lowering.proofs.LocalWords.{all_words, many_words, word_words}
+use Rattle.source_lowering.proofs.LocalWords.{many_words, word_words}
 use Rattle.source_lowering.proofs.Costs.{Costs, no_costs, one_costs, both_cost, more_costs}
 use Rattle.source_lowering.proofs.PartCosts.{does_one, results_last, results_many, conversion_costs}
-use Rattle.source_lowering.proofs.ExpressionCosts.{nodes_positive, place_costs, expression_costs}
+use Rattle.source_lowering.proofs.ExpressionCosts.{nodes_positive, expression_costs}
+use Rattle.source_lowering.proofs.WholeCosts.{source_costs, run_costs}
 use Rattle.source_lowering.proofs.Programs.{routines_are}
 
 -- ---- words of locals
 
 -- the words of the locals that a block declares itself
 abbrev own_locals : World → BlockItems → ℕ
-own_locals w items = all_words w (block_shapes items)
+own_locals w items = value_words w (block_shapes items)
 
 -- ---- statements
 
@@ -101,9 +105,9 @@ unset_costs w s index t p h = by s
     by (UnionShape tag) = word (UnionShape tag)
     by (ArrayShape count of) = word (ArrayShape count of)
 
-value_bounded : (w : World) (names : List Named) (s : Shape) (e : Expression) (index t p : ℕ) → TakesValue w names s e → nodes_of e + 1 ≤ t → nodes_of e ≤ p
-    → IsBounded t p 0 (1 + nodes_of e) (value_code w names s e index)
-value_bounded w names s e index t p h f g = by s h
+value_bounded : (w : World) (names : List Named) (s : Shape) (e : Expression) (index own t p : ℕ) → TakesValue w names s e → nodes_of e + 1 ≤ t → nodes_of e ≤ p
+    → IsBounded t p 0 (1 + nodes_of e) (value_code w names s e index own)
+value_bounded w names s e index own t p h f g = by s h
   where
     word : (of : Shape) → Takes w names e → IsBounded t p 0 (1 + nodes_of e)
         (expression_code w names e 0 ++ (conversion_code of (static_shape w names e) 0 ++ (Do (Put 0 index (width_of of) 0) ∷ [])))
@@ -117,9 +121,9 @@ value_bounded w names s e index t p h f g = by s h
           less = omega (arith, l);
         }
 
-    by : (of : Shape) → TakesValue w names of e → IsBounded t p 0 (1 + nodes_of e) (value_code w names of e index)
+    by : (of : Shape) → TakesValue w names of e → IsBounded t p 0 (1 + nodes_of e) (value_code w names of e index own)
     by (StructShape tag) h =
-        let a = place_costs w names e t p 0 h (omega (arith, f)) g in
+        let a = source_costs w names e t p own h f g in
         let l = a.less in
         let n = nodes_positive e in
         record {
@@ -139,19 +143,17 @@ value_bounded w names s e index t p h f g = by s h
     by (UnionShape tag) h = word (UnionShape tag) h
     by (ArrayShape count of) h = word (ArrayShape count of) h
 
-declaration_bounded : (w : World) (names : List Named) (d : Declaration) (index t p : ℕ) → TakesDeclaration w names d → declaration_nodes d + 1 ≤ t
-    → declaration_nodes d ≤ p → IsBounded t p 0 (1 + declaration_nodes d) (declaration_code w names d index)
-declaration_bounded w names (tree.Local of name Initializer.Unset) index t p h f g = record {
+declaration_bounded : (w : World) (names : List Named) (d : Declaration) (index own t p : ℕ) → TakesDeclaration w names d → declaration_nodes d + 1 ≤ t
+    → declaration_nodes d ≤ p → IsBounded t p 0 (1 + declaration_nodes d) (declaration_code w names d index own)
+declaration_bounded w names (tree.Local of name Initializer.Unset) index own t p h f g = record {
   operations = 2;
   costs = unset_costs w (settled (written of)) index t p f;
   less = omega arith;
 }
-declaration_bounded w names (tree.Local of name (Initializer.Elements count)) index t p h f g = absurd h.1
-declaration_bounded w names (tree.Local of name (Initializer.Value e)) index t p h f g = value_bounded w names (settled (written of)) e index t p h.1 f g
-declaration_bounded w names (tree.Region at region handle) index t p h f g = absurd h
-declaration_bounded w names (tree.Open at region handle key) index t p h f g = absurd h
-declaration_bounded w names (tree.Alias at region of alias pointer) index t p h f g = absurd h
-declaration_bounded w names (tree.NewKey at region key) index t p h f g = absurd h
+declaration_bounded w names (tree.Local of name (Initializer.Elements count)) index own t p h f g = absurd h.1
+declaration_bounded w names (tree.Local of name (Initializer.Value e)) index own t p h f g =
+    value_bounded w names (settled (written of)) e index own t p h.1 f g
+declaration_bounded w names _ index own t p h f g = absurd h
 
 -- a choice of two
 if_costs : (t p l l' o o' : ℕ) (these those : List core.Statement) → 1 ≤ t → Costs t p l o these → Costs t p l' o' those
@@ -180,26 +182,26 @@ record ItemsBounded (w : World) (t p : ℕ) (items : BlockItems) (code : List co
   locals : own_locals w items + inner ≤ item_locals w items
 
 mutual
-  statement_bounded : (w : World) (result : Shape) (names : List Named) (s : Statement) (t p : ℕ) → TakesStatement w result names s → statement_nodes s + 1 ≤ t
-      → statement_nodes s ≤ p → IsBounded t p (statement_locals w s) (statement_size s) (statement_code w result names s)
-  statement_bounded w result names (Statement.Empty at) t p h f g = record { operations = 0; costs = no_costs t p; less = omega arith }
-  statement_bounded w result names (Statement.Block at items) t p h f g =
-      let one = items_bounded w result (outward names) 0 items t p h f g in
+  statement_bounded : (w : World) (result : Shape) (names : List Named) (own : ℕ) (s : Statement) (t p : ℕ) → TakesStatement w result names s
+      → statement_nodes s + 1 ≤ t → statement_nodes s ≤ p → IsBounded t p (statement_locals w s) (statement_size s) (statement_code w result names own s)
+  statement_bounded w result names own (Statement.Empty at) t p h f g = record { operations = 0; costs = no_costs t p; less = omega arith }
+  statement_bounded w result names own (Statement.Block at items) t p h f g =
+      let one = items_bounded w result (outward names) 0 own items t p h f g in
       let b = one.bounded.less in let l = one.locals in
       let m = many_words w (block_shapes items) in
       let a = one.bounded.costs.temporaries in let e = one.bounded.costs.passes in let k = one.bounded.costs.locals in let o = one.bounded.costs.operations in
       record {
         operations = 1 + one.bounded.operations;
         costs = one_costs t p (item_locals w items) (1 + one.bounded.operations) (Block (locals_of w (block_shapes items))
-            (all_of (items_code w result (outward names) 0 items))) a e (omega (arith, l, m, k)) (omega (arith, o));
+            (all_of (items_code w result (outward names) 0 own items))) a e (omega (arith, l, m, k)) (omega (arith, o));
         less = omega (arith, b);
       }
-  statement_bounded w result names (Statement.Run e) t p h f g =
-      let a = expression_costs w names e t p 0 h (omega (arith, f)) g in let l = a.less in
+  statement_bounded w result names own (Statement.Run e) t p h f g =
+      let a = run_costs w names e t p own h f g in let l = a.less in
       record { operations = a.operations; costs = a.costs; less = omega (arith, l) }
-  statement_bounded w result names (Statement.If at condition body) t p h f g =
+  statement_bounded w result names own (Statement.If at condition body) t p h f g =
       let a = expression_costs w names condition t p 0 h.0 (omega (arith, f)) (omega (arith, g)) in
-      let b = statement_bounded w result names body t p h.1 (omega (arith, f)) (omega (arith, g)) in
+      let b = statement_bounded w result names own body t p h.1 (omega (arith, f)) (omega (arith, g)) in
       let l = a.less in let k = b.less in
       record {
         operations = a.operations + (1 + (b.operations + 0));
@@ -208,10 +210,10 @@ mutual
             b.operations 0 _ [] (omega (arith, f)) b.costs (no_costs t p)));
         less = omega (arith, l, k);
       }
-  statement_bounded w result names (Statement.IfElse at condition body otherwise) t p h f g =
+  statement_bounded w result names own (Statement.IfElse at condition body otherwise) t p h f g =
       let a = expression_costs w names condition t p 0 h.0 (omega (arith, f)) (omega (arith, g)) in
-      let b = statement_bounded w result names body t p h.1.0 (omega (arith, f)) (omega (arith, g)) in
-      let c = statement_bounded w result names otherwise t p h.1.1 (omega (arith, f)) (omega (arith, g)) in
+      let b = statement_bounded w result names own body t p h.1.0 (omega (arith, f)) (omega (arith, g)) in
+      let c = statement_bounded w result names (own + length (statement_values w names body)) otherwise t p h.1.1 (omega (arith, f)) (omega (arith, g)) in
       let l = a.less in let k = b.less in let j = c.less in
       record {
         operations = a.operations + (1 + (b.operations + c.operations));
@@ -221,9 +223,9 @@ mutual
             (if_costs t p (statement_locals w body) (statement_locals w otherwise) b.operations c.operations _ _ (omega (arith, f)) b.costs c.costs));
         less = omega (arith, l, k, j);
       }
-  statement_bounded w result names (Statement.While at condition body) t p h f g =
+  statement_bounded w result names own (Statement.While at condition body) t p h f g =
       let a = expression_costs w names condition t p 0 h.0 (omega (arith, f)) (omega (arith, g)) in
-      let b = statement_bounded w result names body t p h.1 (omega (arith, f)) (omega (arith, g)) in
+      let b = statement_bounded w result names own body t p h.1 (omega (arith, f)) (omega (arith, g)) in
       let l = a.less in let k = b.less in
       record {
         operations = 1 + (a.operations + b.operations);
@@ -232,13 +234,13 @@ mutual
             (while_costs t p 0 (statement_locals w body) a.operations b.operations _ _ (omega (arith, f)) a.costs b.costs);
         less = omega (arith, l, k);
       }
-  statement_bounded w result names (Statement.Break at) t p h f g = leaf t p 1 core.Break (omega arith) (one_costs t p 0 1 core.Break (omega arith)
+  statement_bounded w result names own (Statement.Break at) t p h f g = leaf t p 1 core.Break (omega arith) (one_costs t p 0 1 core.Break (omega arith)
       (omega arith) (omega arith) (omega arith))
-  statement_bounded w result names (Statement.Continue at) t p h f g = leaf t p 1 core.Continue (omega arith) (one_costs t p 0 1 core.Continue (omega arith)
+  statement_bounded w result names own (Statement.Continue at) t p h f g = leaf t p 1 core.Continue (omega arith) (one_costs t p 0 1 core.Continue (omega arith)
       (omega arith) (omega arith) (omega arith))
-  statement_bounded w result names (Statement.Return at None) t p h f g = leaf t p 1 (Return []) (omega arith)
+  statement_bounded w result names own (Statement.Return at None) t p h f g = leaf t p 1 (Return []) (omega arith)
       (one_costs t p 0 1 (Return []) (omega arith) (omega arith) (omega arith) (omega arith))
-  statement_bounded w result names (Statement.Return at (Some e)) t p h f g =
+  statement_bounded w result names own (Statement.Return at (Some e)) t p h f g =
       let a = expression_costs w names e t p 0 h (omega (arith, f)) g in
       let l = a.less in let r = results_last result 0 in let m = results_many result 0 in
       record {
@@ -248,21 +250,22 @@ mutual
             (one_costs t p 0 2 (Return (results_in result 0)) (omega (arith, r, f)) (omega arith) (omega arith) (omega (arith, m))));
         less = omega (arith, l);
       }
-  statement_bounded w result names (Statement.Exchange left right) t p h f g = absurd h
-  statement_bounded w result names (Statement.Switch at place _) t p h f g = absurd h
-  statement_bounded w result names (Statement.FreeUnique at pointer) t p h f g = absurd h
-  statement_bounded w result names (Statement.FreeKey at key) t p h f g = absurd h
+  statement_bounded w result names own (Statement.Exchange left right) t p h f g = absurd h
+  statement_bounded w result names own (Statement.Switch at place _) t p h f g = absurd h
+  statement_bounded w result names own (Statement.FreeUnique at pointer) t p h f g = absurd h
+  statement_bounded w result names own (Statement.FreeKey at key) t p h f g = absurd h
 
-  items_bounded : (w : World) (result : Shape) (names : List Named) (index : ℕ) (items : BlockItems) (t p : ℕ) → TakesItems w result names index items
-      → item_nodes items + 1 ≤ t → item_nodes items ≤ p → ItemsBounded w t p items (items_code w result names index items)
-  items_bounded w result names index NoItems t p h f g = record {
+  items_bounded : (w : World) (result : Shape) (names : List Named) (index own : ℕ) (items : BlockItems) (t p : ℕ) → TakesItems w result names index items
+      → item_nodes items + 1 ≤ t → item_nodes items ≤ p → ItemsBounded w t p items (items_code w result names index own items)
+  items_bounded w result names index own NoItems t p h f g = record {
     inner = 0;
     bounded = record { operations = 0; costs = no_costs t p; less = omega arith };
     locals = omega arith;
   }
-  items_bounded w result names index (Declare d others) t p h f g =
-      let a = declaration_bounded w names d index t p h.0 (omega (arith, f)) (omega (arith, g)) in
-      let b = items_bounded w result (named_here (tree.local_of d).text (local_shape d) index ∷ names) (suc index) others t p h.1 (omega (arith, f))
+  items_bounded w result names index own (Declare d others) t p h f g =
+      let a = declaration_bounded w names d index own t p h.0 (omega (arith, f)) (omega (arith, g)) in
+      let b = items_bounded w result (named_here (tree.local_of d).text (local_shape d) index ∷ names) (suc index)
+      (own + length (declaration_values w names d)) others t p h.1 (omega (arith, f))
       (omega (arith, g)) in
       let l = a.less in let k = b.bounded.less in let m = b.locals in
       record {
@@ -275,9 +278,9 @@ mutual
         };
         locals = omega (arith, m);
       }
-  items_bounded w result names index (Execute s others) t p h f g =
-      let a = statement_bounded w result names s t p h.0 (omega (arith, f)) (omega (arith, g)) in
-      let b = items_bounded w result names index others t p h.1 (omega (arith, f)) (omega (arith, g)) in
+  items_bounded w result names index own (Execute s others) t p h f g =
+      let a = statement_bounded w result names own s t p h.0 (omega (arith, f)) (omega (arith, g)) in
+      let b = items_bounded w result names index (own + length (statement_values w names s)) others t p h.1 (omega (arith, f)) (omega (arith, g)) in
       let l = a.less in let k = b.bounded.less in let m = b.locals in
       record {
         inner = statement_locals w s + b.inner;
@@ -322,7 +325,7 @@ end_costs s t p h = by s
 
 -- a parameter is a word
 pub all_shapes : (w : World) (ps : List Part) (items : BlockItems) → AreParameters ps
-    → all_words w (part_shapes ps ++ block_shapes items) ≡ length ps + own_locals w items
+    → value_words w (part_shapes ps ++ block_shapes items) ≡ length ps + own_locals w items
 all_shapes w [] items h = omega arith
 all_shapes w (p ∷ ps) items h =
     let a = word_words w p.shape h.0 in
@@ -342,25 +345,25 @@ body_bounded w f r =
     let p = item_nodes f.body in
     let shapes = part_shapes f.parameters ++ block_shapes f.body in
     let names = parameter_names f.parameters 0 [] in
-    let items = items_bounded w f.result names (length f.parameters) f.body t p r.body (omega arith) (omega arith) in
+    let items = items_bounded w f.result names (length f.parameters) 0 f.body t p r.body (omega arith) (omega arith) in
     let inside = both_cost t p 0 (length f.parameters) items.inner items.bounded.operations (parameters_code f.parameters 0)
-    (items_code w f.result names (length f.parameters) f.body) (parameters_costs f.parameters 0 t p (omega arith)) items.bounded.costs in
+    (items_code w f.result names (length f.parameters) 0 f.body) (parameters_costs f.parameters 0 t p (omega arith)) items.bounded.costs in
     let a = inside.temporaries in let b = inside.passes in let c = inside.locals in let o = inside.operations in
     let less = items.bounded.less in let l = items.locals in
     let m = many_words w shapes in
     let n = all_shapes w f.parameters f.body r.parameters in
     record {
-      code = Block (locals_of w shapes) (all_of (parameters_code f.parameters 0 ++ items_code w f.result names (length f.parameters) f.body)) ∷ end_code
+      code = Block (locals_of w shapes) (all_of (parameters_code f.parameters 0 ++ items_code w f.result names (length f.parameters) 0 f.body)) ∷ end_code
           f.result;
       is = refl;
       costs = more_costs t p (length f.parameters + item_locals w f.body + 0) (1 + (length f.parameters + 8 * item_size f.body) + 3) t p
           (length f.parameters + item_locals w f.body) (1 + (length f.parameters + 8 * item_size f.body) + 3) _ (omega arith) (omega arith) (omega arith)
           (omega arith)
           (both_cost t p (length f.parameters + item_locals w f.body) (1 + (length f.parameters + 8 * item_size f.body)) 0 3
-          (Block (locals_of w shapes) (all_of (parameters_code f.parameters 0 ++ items_code w f.result names (length f.parameters) f.body)) ∷ [])
+          (Block (locals_of w shapes) (all_of (parameters_code f.parameters 0 ++ items_code w f.result names (length f.parameters) 0 f.body)) ∷ [])
           (end_code f.result)
           (one_costs t p (length f.parameters + item_locals w f.body) (1 + (length f.parameters + 8 * item_size f.body))
-          (Block (locals_of w shapes) (all_of (parameters_code f.parameters 0 ++ items_code w f.result names (length f.parameters) f.body))) a b
+          (Block (locals_of w shapes) (all_of (parameters_code f.parameters 0 ++ items_code w f.result names (length f.parameters) 0 f.body))) a b
           (omega (arith, c, l, m, n)) (omega (arith, o, less)))
           (end_costs f.result t p (omega arith)));
     }
@@ -372,7 +375,8 @@ frame_bounded w f r =
     let t = subst (λ z. temporaries_of z ≤ length f.parameters + (item_nodes f.body + 1)) (sym b.is) b.costs.temporaries in
     let p = subst (λ z. passed_by z ≤ item_nodes f.body) (sym b.is) b.costs.passes in
     let l = subst (λ z. block_words z ≤ length f.parameters + item_locals w f.body) (sym b.is) b.costs.locals in
-    omega (arith, t, p, l)
+    let o = many_words w (routine_values w f) in
+    omega (arith, t, p, l, o)
 
 operations_bounded : (w : World) (fs : List Routine) → AreRoutines w fs → all_operations (map (function_code w) fs) ≤ 8 * routines_size fs
 operations_bounded w [] h = omega arith

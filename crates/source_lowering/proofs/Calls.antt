@@ -65,6 +65,8 @@ use Rattle.source_lowering.specs.Lowered.{number_of, put, conversion_code, from_
 use Rattle.source_lowering.proofs.Relations.{
   Agree,
   AreLed,
+  Bound,
+  within,
   Later,
   Place,
   Fits,
@@ -80,7 +82,7 @@ use Rattle.source_lowering.proofs.Relations.{
   BothVisible,
   IsByte,
 }
-use Rattle.source_lowering.proofs.Keeping.{later_self, later_on, later_less, shown_later, fits_later}
+use Rattle.source_lowering.proofs.Keeping.{IsLess, later_self, later_on, later_less, shown_later, fits_later}
 use Rattle.source_lowering.proofs.Runs.{stuck_same, says_same, reads_same, pays_same, calls_same, less_fuel, put_all}
 use Rattle.source_lowering.proofs.Integers.{IsTaken, IsWordShape, word_taken, word_given}
 use Rattle.source_lowering.proofs.Names.{IsRoutine}
@@ -111,10 +113,24 @@ pub record NoResult (shape : Shape) (vs : List Scalar) (xs : List Content) : Typ
 abbrev pub ResultIs : World → source.Memory → core.Memory → Shape → List Scalar → List Content → Type 0
 ResultIs w m c shape vs xs = OneResult w m c shape vs xs ⊎ NoResult shape vs xs
 
+-- what a call keeps: the locals of all blocks that there are, and all unnamed values
+abbrev pub called_before : source.Memory → core.Memory → Bound
+called_before m c = record { frames = m.activations; standing = c.calls; own = c.calls; values = 0 }
+
+pub within_called : (p : Place) (m : source.Memory) (c : Config) → Fits p m c → IsLess (within p) (called_before m c.memory)
+within_called p m c fits =
+    let b = fits.begun in
+    let f = fits.called in
+    record {
+      frames = omega (arith, b);
+      standing = omega (arith, f);
+      kept = λ k i h. let g = h.0 in (omega (arith, f, g), λ e. h.1 (omega (arith, e, g, f)));
+    }
+
 -- what comes after a function's return: memories that agree, and no more locals in the blocks before it
 pub record Returning (w : World) (fs : Program) (n : ℕ) (m0 : source.Memory) (c0 : core.Memory) (shape : Shape) (s : List Scalar → source.Memory → steps.Step)
     (k : List Content → core.Memory → core_steps.Step) : Type 0 where
-  pub go : (m : source.Memory) (c : core.Memory) (vs : List Scalar) (xs : List Content) → Agree w m c → Later m0.activations m0 c0 m c
+  pub go : (m : source.Memory) (c : core.Memory) (vs : List Scalar) (xs : List Content) → Agree w m c → Later (called_before m0 c0) m0 c0 m c
       → ResultIs w m c shape vs xs → Same w fs n (s vs m) (k xs c)
 
 -- with so much fuel each function does the same as its code
@@ -141,7 +157,7 @@ pub record ArgumentsAs (p : Place) (n d count : ℕ) (shapes : List Shape) (act 
       → ArgumentsGo p n d count m c shapes s (meaning.statements rest next) → SameAt p n (act s m) (meaning.statements (put code rest) next c)
 
 pub no_arguments : (p : Place) (n d : ℕ) → ArgumentsAs p n d 0 [] (give []) []
-no_arguments p n d = record { same = λ m c s rest next fits goes. goes.go m c [] fits (later_self (suc p.frame) m c.memory) (λ k h. refl) tt }
+no_arguments p n d = record { same = λ m c s rest next fits goes. goes.go m c [] fits (later_self (within p) m c.memory) (λ k h. refl) tt }
 
 pub stuck_arguments : (p : Place) (n d count : ℕ) (shapes : List Shape) (code : List Statement) → ArgumentsAs p n d count shapes steps.stuck code
 stuck_arguments p n d count shapes code = record { same = λ m c s rest next fits goes. stuck_same p.world p.program n _ }
@@ -161,13 +177,13 @@ more_arguments p n d count shape shapes e es from first others is_word one more 
             more.same m1 c1 (λ vss. s (vs ∷ vss)) rest next fits1 (record {
               go = λ m2 c2 vss fits2 later2 kept2 all.
                   let same : c1.temps d ≡ c2.temps d = sym (kept2 d (omega arith)) in
-                  goes.go m2 c2 (vs ∷ vss) fits2 (later_on (suc p.frame) m m1 m2 c.memory c1.memory c2.memory later1 later2)
+                  goes.go m2 c2 (vs ∷ vss) fits2 (later_on (within p) m m1 m2 c.memory c1.memory c2.memory later1 later2)
                   (λ k h. kept2 k (omega (arith, h)) ∙ kept1 k h) (
                     subst (λ z. AValue p.world m2 c2.memory shape vs z) same
                         (record {
                           value = v.value;
                           alone = v.alone;
-                          shown = shown_later (suc p.frame) p.world m1 m2 c1.memory c2.memory shape v.value
+                          shown = shown_later (within p) p.world m1 m2 c1.memory c2.memory shape v.value
                               (c1.temps d ∷ []) later2 v.shown;
                         }),
                     all,
@@ -237,12 +253,11 @@ called_gives p n d count name f act code numbered routine enters arguments = rec
             numbered routine fits1.agree fits1.globals all
             (record {
               go = λ m2 c2 vs xs agree later result.
-                  let below : suc p.frame ≤ m1.activations = let b = fits1.begun in omega (arith, b) in
-                  let more = later_less m1.activations (suc p.frame) m1 m2 c1.memory c2 below later in
+                  let more = later_less (called_before m1 c1.memory) (within p) m1 m2 c1.memory c2 (within_called p m1 c1 fits1) later in
                   less_fuel p.world p.program n j _ _ (omega (arith, less))
                   (results_same p n d m c m2 (with_memory c2 c1) f.result vs xs s (meaning.statements rest next) routine.result result
                   (fits_later p m1 m2 c1 (with_memory c2 c1) fits1 agree more refl)
-                  (later_on (suc p.frame) m m1 m2 c.memory c1.memory c2 later1 more) kept1 goes);
+                  (later_on (within p) m m1 m2 c.memory c1.memory c2 later1 more) kept1 goes);
             }));
       }));
 }
@@ -266,7 +281,7 @@ read_gives p n d = record {
       (reads_same p.world p.program n (λ b. s (Integer AsInt (byte_value b) ∷ []) m) (λ b. meaning.statements rest next (with_temp d (Word (byte_word b)) c))
       (λ b byte.
       put_value p n d m c m c IntShape (Integer AsInt (byte_value b) ∷ []) (Word (byte_word b)) s (meaning.statements rest next) fits
-      (later_self (suc p.frame) m c.memory) (λ k h. refl)
+      (later_self (within p) m c.memory) (λ k h. refl)
       (word_given p.world m c.memory AsInt (byte_value b) (Word (byte_word b)) (byte_small b byte) (ap (λ z. Word z) (byte_is b))) goes)));
 }
 

@@ -52,7 +52,7 @@ use Rattle.core_meaning.specs.Steps as core_steps
 use Rattle.core_meaning.specs.Operations.{fitting}
 use Rattle.source_lowering.specs.Layouts.{layout_of, first_part}
 use Rattle.source_lowering.specs.Lowered.{width_of}
-use Rattle.source_lowering.proofs.Relations.{region_at, at, HasShape, PartIs, AreCells, AreMade, Leads, ANull, APointer, Shown, PartsHold, Agree, Later, Same}
+use Rattle.source_lowering.proofs.Relations.{region_at, at, HasShape, PartIs, AreCells, AreMade, Leads, ANull, APointer, Shown, PartsHold, Agree, Later, Same, Bound}
 use Rattle.source_lowering.proofs.Keeping.{later_written, agree_written, m_written}
 use Rattle.source_lowering.proofs.Runs.{stuck_same}
 use Rattle.source_lowering.proofs.Integers.{IsWordShape, IsObject}
@@ -218,7 +218,7 @@ pub record IsWritten (w : World) (m : source.Memory) (c : core.Memory) (shape : 
   pub part : c.parts (at s) 0 ≡ Some (part_of byte width old)
   pub fits : fitting width x ≡ x
   pub agree : Agree w (m_written m s shape v) (with_part c (at s) 0 (part_of byte width x))
-  pub later : (b : ℕ) → Later b m c (m_written m s shape v) (with_part c (at s) 0 (part_of byte width x))
+  pub later : (b : Bound) → Later b m c (m_written m s shape v) (with_part c (at s) 0 (part_of byte width x))
 
 abbrev word_in : Content → List Content → Content
 word_in x [] = x

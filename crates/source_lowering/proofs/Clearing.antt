@@ -31,8 +31,8 @@ use Rattle.source_lowering.specs.Layouts.{part_shape_of, padding, next_at, padde
 use Rattle.source_lowering.specs.Lowered.{width_of}
 use Rattle.source_lowering.specs.Lowerable.{IsObject, AreStructs}
 use Rattle.source_lowering.proofs.StructCells.{AreWordShapes, shapes_in, object_cells}
-use Rattle.source_lowering.proofs.Relations.{region_at, at, PartIs, AreShaped, AreMade, PartsHold, Agree, Later}
-use Rattle.source_lowering.proofs.Keeping.{region_as, shown_later}
+use Rattle.source_lowering.proofs.Relations.{region_at, at, PartIs, AreShaped, AreMade, PartsHold, Agree, Bound, nothing, IsFree, Later}
+use Rattle.source_lowering.proofs.Keeping.{named_free, free_object, up_to, is_up_to, region_as, shown_later}
 use Rattle.source_lowering.proofs.Members.{word_pieces}
 use Rattle.source_lowering.proofs.Making.{cell_spot}
 
@@ -119,8 +119,17 @@ cleared_here l r index c k j xs x p less is shape part = rw (part, here, inside,
     inside : k % length l.cells ≡ k
     inside = mod-eq_of_lt less
 
-pub cleared_later : (b : ℕ) (m : source.Memory) (c : core.Memory) (l : Layout) (count : ℕ) (t : core.Spot) → Later b m c m (cleared l count t c)
-cleared_later b m c l count t = record { shapes = λ s shape h. h; parts = cleared_keeps l count t c; objects = λ k h. refl; begun = omega arith }
+pub cleared_later : (b : Bound) (m : source.Memory) (c : core.Memory) (l : Layout) (count : ℕ) (t : core.Spot) → IsFree b t
+    → Later b m c m (cleared l count t c)
+cleared_later b m c l count t free = record {
+  shapes = λ s shape h. h;
+  parts = cleared_keeps l count t c;
+  objects = λ k h. refl;
+  begun = omega arith;
+  called = omega arith;
+  stands = λ k h. refl;
+  owned = λ k u j r h. cleared_other l count t c u j (free_object b t u k free r h);
+}
 
 pub held_still : (c c' : core.Memory) (t : core.Spot) (j : ℕ) (cs : List Content) → ((i : ℕ) → c'.parts t i ≡ c.parts t i) → PartsHold c t j cs
     → PartsHold c' t j cs
@@ -165,7 +174,7 @@ pub agree_cleared : (w : World) (m : source.Memory) (c : core.Memory) (k index :
 agree_cleared w m c k index l a made = record {
   cells = λ s shape v h. let one = a.cells s shape v h in record {
     contents = one.contents;
-    shown = shown_later 0 w m m c c' shape v one.contents (cleared_later 0 m c l 1 t) one.shown;
+    shown = shown_later nothing w m m c c' shape v one.contents (cleared_later nothing m c l 1 t (named_free nothing (cell_spot k index 0))) one.shown;
     held = held_still c c' (at s) 0 one.contents (λ i. cleared_other l 1 t c (at s) i (new_object w m c k index s _ a made h)) one.held;
   };
   live = a.live;
@@ -173,6 +182,9 @@ agree_cleared w m c k index l a made = record {
   unmade = a.unmade;
   unentered = λ i u j h r. cleared_none l 1 t c u j (a.unentered i u j h r);
   unbegun = a.unbegun;
+  uncalled = λ i u j h r.
+      (cleared_later (up_to i) m c l 1 t (named_free (up_to i) (cell_spot k index 0))).owned i u j r (is_up_to i u.object) ∙ a.uncalled i u j h r;
+  unowned = a.unowned;
 }
   where
     t : core.Spot

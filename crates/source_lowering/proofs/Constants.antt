@@ -34,7 +34,7 @@ use Rattle.source_lowering.specs.Lowered.{width_of}
 use Rattle.source_lowering.specs.Programs.{word_in, constant_word, constant_content}
 use Rattle.source_lowering.specs.Taken.{IsIntegerShape, IsNullable, TakesConstant}
 use Rattle.source_lowering.specs.Lowerable.{IsObject, TakesGlobal, TakesProgram}
-use Rattle.source_lowering.proofs.Relations.{at, Leads, Shown, Agree, Later, AreLed, Same}
+use Rattle.source_lowering.proofs.Relations.{at, Leads, Shown, Agree, Later, AreLed, Same, nothing}
 use Rattle.source_lowering.proofs.Keeping.{same_part, later_self, all_led_later, m_written}
 use Rattle.source_lowering.proofs.Operators.{modulo_small}
 use Rattle.source_lowering.proofs.Integers.{IsWordShape, limit, word_shown, object_word}
@@ -129,15 +129,15 @@ pub record Begins (w : World) (fs : Program) (n : ℕ) (c : core.Memory) (s : so
 one_stored : (w : World) (fs : Program) (n : ℕ) (initial : Initial) (shape : Shape) (i : ℕ) (m : source.Memory) (c : core.Memory)
     (s : Unit {0} → source.Memory → steps.Step) (k : core_steps.Step) → TakesGlobal shape initial → IsObject w.structs shape → Agree w m c
     → Leads w m c (global_shape initial shape) (heap_spot i) 0 → IsStored c initial shape i
-    → ((m' : source.Memory) → Agree w m' c → Later 0 m c m' c → Same w fs n (s tt m') k) → Same w fs n (global_stored w initial shape (heap_spot i) s m) k
-one_stored w fs n Initial.Unset shape i m c s k h object agree leads part go = go m agree (later_self 0 m c)
+    → ((m' : source.Memory) → Agree w m' c → Later nothing m c m' c → Same w fs n (s tt m') k) → Same w fs n (global_stored w initial shape (heap_spot i) s m) k
+one_stored w fs n Initial.Unset shape i m c s k h object agree leads part go = go m agree (later_self nothing m c)
 one_stored w fs n (Initial.Elements count) shape i m c s k h object agree leads part go = absurd h
 one_stored w fs n (Initial.Given constant) shape i m c s k h object agree leads part go =
     subst (λ z. Same w fs n z k) (sym (o.gives (λ vs. write_cells (heap_spot i) vs s) m))
     (write_same w fs n shape (width_of shape) m c (heap_spot i) 0 o.value x s k (plain_of w shape word) agree leads (o.shown m c)
     (λ y. go (m_written m (heap_spot i) shape o.value) (subst (λ z. Agree w (m_written m (heap_spot i) shape o.value) z) same
     y.agree)
-    (subst (λ z. Later 0 m c (m_written m (heap_spot i) shape o.value) z) same (y.later 0))))
+    (subst (λ z. Later nothing m c (m_written m (heap_spot i) shape o.value) z) same (y.later nothing))))
   where
     word : IsWordShape shape
     word = object_word w.structs shape object (constant_single constant shape h)
@@ -165,5 +165,5 @@ globals_same w fs n (tree.GlobalItem g ∷ items) i m c s k h agree led here sto
     one_stored w fs n g.initial (settled (written g.of)) i m c (λ u. globals_stored w items (suc i) s) k h.0.1 (object_settled w.structs g.of h.0.0) agree here.0
     stored.0
     (λ m' agree' later.
-    globals_same w fs n items (suc i) m' c s k h.1 agree' (all_led_later 0 w m m' c c w.globals later led) (all_led_later 0 w m m' c c
+    globals_same w fs n items (suc i) m' c s k h.1 agree' (all_led_later nothing w m m' c c w.globals later led) (all_led_later nothing w m m' c c
     (globals_from items (suc i)) later here.1) stored.1 begins)

@@ -1,5 +1,5 @@
 -- A struct's object is copied to a local: the source reads all cells and writes them one by one, and Core copies the object's parts at once.
-use Rattle.std.proofs.Common.{◌≡◌, ℕ, suc, ◌+◌, ◌<◌, List, [], ◌∷◌, length, Bool, true, false, not, nat_eq, Option, Some, None, refl, ap, ◌∙◌, subst, arith}
+use Rattle.std.proofs.Common.{◌≡◌, ℕ, suc, ◌+◌, ◌<◌, List, [], ◌∷◌, length, Bool, true, false, not, nat_eq, Option, Some, None, refl, sym, ap, ◌∙◌, subst, arith}
 use Rattle.std.specs.Prelude.{◌&&◌, ◌-◌, if◌then◌else◌, nat_lt, nat_le, slice_get}
 use Rattle.std.proofs.lemmas.Bool.{eq-eqb}
 use Rattle.std.proofs.lemmas.Bool.Decides.{nat_tests}
@@ -18,23 +18,28 @@ use Rattle.source_meaning.specs.Shapes.{
   ArrayShape,
 }
 use Rattle.source_meaning.specs.Memory as source
-use Rattle.source_meaning.specs.Memory.{Scalar, Spot, Holds, Cell, is_live, is_of, is_moved, any_moved, with_cell}
+use Rattle.source_meaning.specs.Memory.{Scalar, Spot, Holds, is_live, is_of, is_moved, any_moved}
 use Rattle.source_meaning.specs.Steps as steps
 use Rattle.source_meaning.specs.Steps.{World, check}
 use Rattle.source_meaning.specs.Values.{read_cells, take_cells, write_cells, put_content, value_held, is_lent}
 use Rattle.core_meaning.specs.Memory as core
-use Rattle.core_meaning.specs.Memory.{Content, Part, PartShape, Layout}
+use Rattle.core_meaning.specs.Memory.{Part, PartShape, Layout, Content}
 use Rattle.core_meaning.specs.Core.{Program}
 use Rattle.core_meaning.specs.Steps as core_steps
 use Rattle.core_meaning.specs.Operations.{same_object, cells_on, part_of, on_from, copied}
 use Rattle.core_meaning.proofs.Spots.{region_self}
-use Rattle.source_lowering.specs.Lowerable.{IsWordShape}
+use Rattle.source_meaning.specs.Conversions.{cells_of}
+use Rattle.source_lowering.specs.Layouts.{layout_of, first_part}
+use Rattle.source_lowering.specs.Lowered.{width_of}
+use Rattle.source_lowering.specs.Lowerable.{IsWordShape, IsObject, AreStructs}
 use Rattle.source_lowering.proofs.StructCells.{AreWordShapes}
-use Rattle.source_lowering.proofs.Relations.{at, HasShape, PartIs, AreCells, Shown, Agree, Later, Same}
-use Rattle.source_lowering.proofs.Keeping.{later_self, later_on, shown_later, later_written, agree_written, m_written, same_part}
+use Rattle.source_lowering.proofs.Relations.{at, HasShape, PartIs, AreCells, AreMade, PartsHold, Shown, Agree, Bound, nothing, IsFree, Later, Same}
+use Rattle.source_lowering.proofs.Keeping.{named_free, free_nothing, free_object, up_to, is_up_to, later_self, later_on, shown_later, later_written, agree_written, m_written, same_part}
 use Rattle.source_lowering.proofs.Runs.{stuck_same}
 use Rattle.source_lowering.proofs.Making.{cell_spot}
-use Rattle.source_lowering.proofs.Clearing.{held_still, new_object}
+use Rattle.source_lowering.proofs.Cells.{plain_of}
+use Rattle.source_lowering.proofs.Members.{core_beyond_on, core_beyond_zero}
+use Rattle.source_lowering.proofs.Clearing.{held_still, new_object, layout_first, made_at}
 
 -- ---- the source reads an object
 
@@ -99,38 +104,68 @@ read_all w fs n (x ∷ xs) m t s k cells go = by (is_live m t.region) refl
 -- ---- the source writes what Core's parts show already
 
 -- a cell's part shows a value
-pub record IsCellShown (w : World) (m : source.Memory) (c : core.Memory) (s : Spot) (shape : Shape) (v : Scalar) : Type 0 where
+pub record IsCellShown (w : World) (m : source.Memory) (c : core.Memory) (t : core.Spot) (shape : Shape) (v : Scalar) : Type 0 where
   pub part : Part
-  pub is : c.parts (at s) 0 ≡ Some part
+  pub is : c.parts t 0 ≡ Some part
   pub shown : Shown w m c shape v (part.content ∷ [])
 
-abbrev pub AllShown : World → source.Memory → core.Memory → Spot → List Shape → List Scalar → Type 0
-AllShown w m c s [] [] = Unit {0}
-AllShown w m c s (x ∷ xs) (v ∷ vs) = IsCellShown w m c s x v × AllShown w m c (source.beyond s 1) xs vs
-AllShown w m c s [] (v ∷ vs) = ⊥
-AllShown w m c s (x ∷ xs) [] = ⊥
+abbrev pub AllShown : World → source.Memory → core.Memory → core.Spot → List Shape → List Scalar → Type 0
+AllShown w m c t [] [] = Unit {0}
+AllShown w m c t (x ∷ xs) (v ∷ vs) = IsCellShown w m c t x v × AllShown w m c (core.beyond t 1) xs vs
+AllShown w m c t [] (v ∷ vs) = ⊥
+AllShown w m c t (x ∷ xs) [] = ⊥
 
-pub all_shown_later : (b : ℕ) (w : World) (m m' : source.Memory) (c : core.Memory) (s : Spot) (xs : List Shape) (vs : List Scalar) → Later b m c m' c
-    → AllShown w m c s xs vs → AllShown w m' c s xs vs
-all_shown_later b w m m' c s [] [] l h = tt
-all_shown_later b w m m' c s [] (v ∷ vs) l h = absurd h
-all_shown_later b w m m' c s (x ∷ xs) [] l h = absurd h
-all_shown_later b w m m' c s (x ∷ xs) (v ∷ vs) l h = (
-  record { part = h.0.part; is = h.0.is; shown = shown_later b w m m' c c x v (h.0.part.content ∷ []) l h.0.shown },
-  all_shown_later b w m m' c (source.beyond s 1) xs vs l h.1,
+-- later, where these parts are as they were
+pub all_shown_kept : (b : Bound) (w : World) (m m' : source.Memory) (c c' : core.Memory) (t : core.Spot) (xs : List Shape) (vs : List Scalar)
+    → Later b m c m' c' → ((i : ℕ) → i < length xs → c'.parts (core.beyond t i) 0 ≡ c.parts (core.beyond t i) 0)
+    → AllShown w m c t xs vs → AllShown w m' c' t xs vs
+all_shown_kept b w m m' c c' t [] [] l same h = tt
+all_shown_kept b w m m' c c' t [] (v ∷ vs) l same h = absurd h
+all_shown_kept b w m m' c c' t (x ∷ xs) [] l same h = absurd h
+all_shown_kept b w m m' c c' t (x ∷ xs) (v ∷ vs) l same h = (
+  record {
+    part = h.0.part;
+    is = subst (λ z. c'.parts z 0 ≡ c.parts z 0) (sym (core_beyond_zero t)) (same 0 (omega arith)) ∙ h.0.is;
+    shown = shown_later b w m m' c c' x v (h.0.part.content ∷ []) l h.0.shown;
+  },
+  all_shown_kept b w m m' c c' (core.beyond t 1) xs vs l
+      (λ i less.
+      subst (λ z. c'.parts z 0 ≡ c.parts z 0) (sym (core_beyond_on t 1 i (suc i) (omega arith))) (same (suc i) (omega (arith, less)))) h.1,
 )
 
-cells_kept : (b : ℕ) (m m' : source.Memory) (c : core.Memory) (s : Spot) (xs : List Shape) → Later b m c m' c → AreCells m s xs → AreCells m' s xs
+pub all_shown_later : (b : Bound) (w : World) (m m' : source.Memory) (c : core.Memory) (t : core.Spot) (xs : List Shape) (vs : List Scalar) → Later b m c m' c
+    → AllShown w m c t xs vs → AllShown w m' c t xs vs
+all_shown_later b w m m' c t xs vs l h = all_shown_kept b w m m' c c t xs vs l (λ i less. refl) h
+
+-- what the source's cells hold is shown
+pub held_shown : (w : World) (m : source.Memory) (c : core.Memory) (s : Spot) (xs : List Shape) (vs : List Scalar) → Agree w m c → AreWordShapes xs
+    → AllHeld m s xs vs → AllShown w m c (at s) xs vs
+held_shown w m c s [] [] a words h = tt
+held_shown w m c s [] (v ∷ vs) a words h = absurd h
+held_shown w m c s (x ∷ xs) [] a words h = absurd h
+held_shown w m c s (x ∷ xs) (v ∷ vs) a words h =
+    let here = a.cells s x v h.0 in
+    let word = (plain_of w x words.0).one m c v here.contents here.shown in
+    let hold : PartsHold c (at s) 0 (word.word ∷ []) = subst (λ z. PartsHold c (at s) 0 z) word.is here.held in (
+      record {
+        part = hold.0.0;
+        is = hold.0.1.0;
+        shown = subst (λ z. Shown w m c x v (z ∷ [])) (sym hold.0.1.1) (subst (λ z. Shown w m c x v z) word.is here.shown);
+      },
+      held_shown w m c (source.beyond s 1) xs vs a words.1 h.1,
+    )
+
+cells_kept : (b : Bound) (m m' : source.Memory) (c : core.Memory) (s : Spot) (xs : List Shape) → Later b m c m' c → AreCells m s xs → AreCells m' s xs
 cells_kept b m m' c s [] l h = tt
 cells_kept b m m' c s (x ∷ xs) l h = (l.shapes s x h.0, cells_kept b m m' c (source.beyond s 1) xs l h.1)
 
 -- one cell is written
 record IsHeld (w : World) (m : source.Memory) (c : core.Memory) (s : Spot) (shape : Shape) (v : Scalar) : Type 0 where
   agree : Agree w (m_written m s shape v) c
-  later : (b : ℕ) → Later b m c (m_written m s shape v) c
+  later : (b : Bound) → Later b m c (m_written m s shape v) c
 
 held_is : (w : World) (m : source.Memory) (c : core.Memory) (s : Spot) (shape : Shape) (v : Scalar) → Agree w m c → HasShape m s shape
-    → IsCellShown w m c s shape v → IsHeld w m c s shape v
+    → IsCellShown w m c (at s) shape v → IsHeld w m c s shape v
 held_is w m c s shape v a has one =
     let same = same_part c (at s) one.part one.is in
     record {
@@ -140,15 +175,15 @@ held_is w m c s shape v a has one =
           (later_written b m c s shape has.content (Holds v) one.part one.part.content has.is one.is);
     }
 
-pub write_all : (w : World) (fs : Program) (n b : ℕ) (xs : List Shape) (vs : List Scalar) (m : source.Memory) (c : core.Memory) (t : Spot)
-    (s : Unit {0} → source.Memory → steps.Step) (k : core_steps.Step) → is_live m t.region ≡ true → Agree w m c → AreCells m t xs → AllShown w m c t xs vs
+pub write_all : (w : World) (fs : Program) (n : ℕ) (b : Bound) (xs : List Shape) (vs : List Scalar) (m : source.Memory) (c : core.Memory) (t : Spot)
+    (s : Unit {0} → source.Memory → steps.Step) (k : core_steps.Step) → is_live m t.region ≡ true → Agree w m c → AreCells m t xs → AllShown w m c (at t) xs vs
     → ((m' : source.Memory) → Agree w m' c → Later b m c m' c → Same w fs n (s tt m') k) → Same w fs n (write_cells t vs s m) k
 write_all w fs n b [] [] m c t s k live a cells shown go = go m a (later_self b m c)
 write_all w fs n b [] (v ∷ vs) m c t s k live a cells shown go = absurd shown
 write_all w fs n b (x ∷ xs) [] m c t s k live a cells shown go = absurd shown
 write_all w fs n b (x ∷ xs) (v ∷ vs) m c t s k live a cells shown go = first (write_all w fs n b xs vs (m_written m t x v) c (source.beyond t 1) s k live held.agree
     (cells_kept b m (m_written m t x v) c (source.beyond t 1) xs (held.later b) cells.1)
-    (all_shown_later b w m (m_written m t x v) c (source.beyond t 1) xs vs (held.later b) shown.1)
+    (all_shown_later b w m (m_written m t x v) c (at (source.beyond t 1)) xs vs (held.later b) shown.1)
     (λ m' a' l. go m' a' (later_on b m (m_written m t x v) m' c c c (held.later b) l)))
   where
     held : IsHeld w m c t x v
@@ -202,51 +237,57 @@ copied_keeps l to from c u j offset width h =
     let one = copied_is l to from c u j (record { offset = offset; width = width; content = h.content }) h.is in
     record { content = one.content; is = one.is }
 
-copied_none : (l : Layout) (to from : core.Spot) (c : core.Memory) (u : core.Spot) (j : ℕ) → c.parts u j ≡ None → (copied l to from c).parts u j ≡ None
+pub copied_none : (l : Layout) (to from : core.Spot) (c : core.Memory) (u : core.Spot) (j : ℕ) → c.parts u j ≡ None → (copied l to from c).parts u j ≡ None
 copied_none l to from c u j e = rw e refl
 
-copied_other : (l : Layout) (to from : core.Spot) (c : core.Memory) (u : core.Spot) (j : ℕ) → same_object u to ≡ false
+pub copied_nowhere : (l : Layout) (to from : core.Spot) (c : core.Memory) (u : core.Spot) (j : ℕ) → cells_on (length l.cells) to u ≡ None
     → (copied l to from c).parts u j ≡ c.parts u j
-copied_other l to from c u j other = by (c.parts u j) refl
+copied_nowhere l to from c u j nowhere = by (c.parts u j) refl
   where
-    nowhere : cells_on (length l.cells) to u ≡ None
-    nowhere = ap (λ z. if z && (nat_le to.cell u.cell && nat_lt u.cell (to.cell + length l.cells)) then Some (u.cell - to.cell) else None) other
-
     by : (x : Option Part) → c.parts u j ≡ x → (copied l to from c).parts u j ≡ c.parts u j
     by None e = rw e refl
     by (Some p) e = rw (e, nowhere) refl
 
-pub copied_here : (l : Layout) (r : core.Region) (index : ℕ) (from : core.Spot) (c : core.Memory) (k j : ℕ) (xs : List PartShape) (x : PartShape) (p q : Part)
+pub copied_other : (l : Layout) (to from : core.Spot) (c : core.Memory) (u : core.Spot) (j : ℕ) → same_object u to ≡ false
+    → (copied l to from c).parts u j ≡ c.parts u j
+copied_other l to from c u j other = copied_nowhere l to from c u j
+    (ap (λ z. if z && (nat_le to.cell u.cell && nat_lt u.cell (to.cell + length l.cells)) then Some (u.cell - to.cell) else None) other)
+
+pub copied_here : (l : Layout) (to from : core.Spot) (c : core.Memory) (k j : ℕ) (xs : List PartShape) (x : PartShape) (p q : Part)
     → k < length l.cells → slice_get l.cells k ≡ Some xs → slice_get xs j ≡ Some x
-    → c.parts (record { region = r; object = index; cell = k }) j ≡ Some p → c.parts (core.beyond from k) j ≡ Some q
-    → (copied l (record { region = r; object = index; cell = 0 }) from c).parts (record { region = r; object = index; cell = k }) j
-    ≡ Some (record p { content = q.content })
-copied_here l r index from c k j xs x p q less is shape part there = rw (part, here, is, shape, there) refl
+    → c.parts (core.beyond to k) j ≡ Some p → c.parts (core.beyond from k) j ≡ Some q
+    → (copied l to from c).parts (core.beyond to k) j ≡ Some (record p { content = q.content })
+copied_here l to from c k j xs x p q less is shape part there = rw (part, here, is, shape, there) refl
   where
-    t : core.Spot
-    t = record { region = r; object = index; cell = 0 }
+    within_it : nat_lt (to.cell + k) (to.cell + length l.cells) ≡ true
+    within_it = grind (arith, nat_tests, less)
 
-    u : core.Spot
-    u = record { region = r; object = index; cell = k }
-
-    within : nat_lt k (0 + length l.cells) ≡ true
-    within = grind (arith, nat_tests, less)
-
-    after : nat_le 0 k ≡ true
+    after : nat_le to.cell (to.cell + k) ≡ true
     after = grind (arith, nat_tests)
 
-    none : k - 0 ≡ k
+    none : to.cell + k - to.cell ≡ k
     none = omega arith
 
-    here : cells_on (length l.cells) t u ≡ Some k
+    here : cells_on (length l.cells) to (core.beyond to k) ≡ Some k
     here =
-        ap (λ z. if (z && nat_eq index index) && (nat_le 0 k && nat_lt k (0 + length l.cells)) then Some (k - 0) else None) (region_self r) ∙
-        ap (λ z. if z && (nat_le 0 k && nat_lt k (0 + length l.cells)) then Some (k - 0) else None) (eq-eqb index index refl) ∙
-        ap (λ z. if z && nat_lt k (0 + length l.cells) then Some (k - 0) else None) after ∙
-        ap (λ z. if z then Some (k - 0) else None) within ∙ ap (λ z. Some z) none
+        ap (λ z. if (z && nat_eq to.object to.object) && (nat_le to.cell (to.cell + k) && nat_lt (to.cell + k) (to.cell + length l.cells)) then Some
+        (to.cell + k - to.cell) else None) (region_self to.region) ∙
+        ap (λ z. if z && (nat_le to.cell (to.cell + k) && nat_lt (to.cell + k) (to.cell + length l.cells)) then Some (to.cell + k - to.cell) else None)
+        (eq-eqb to.object to.object refl) ∙
+        ap (λ z. if z && nat_lt (to.cell + k) (to.cell + length l.cells) then Some (to.cell + k - to.cell) else None) after ∙
+        ap (λ z. if z then Some (to.cell + k - to.cell) else None) within_it ∙ ap (λ z. Some z) none
 
-pub copied_later : (b : ℕ) (m : source.Memory) (c : core.Memory) (l : Layout) (to from : core.Spot) → Later b m c m (copied l to from c)
-copied_later b m c l to from = record { shapes = λ s shape h. h; parts = copied_keeps l to from c; objects = λ k h. refl; begun = omega arith }
+pub copied_later : (b : Bound) (m : source.Memory) (c : core.Memory) (l : Layout) (to from : core.Spot) → IsFree b to
+    → Later b m c m (copied l to from c)
+copied_later b m c l to from free = record {
+  shapes = λ s shape h. h;
+  parts = copied_keeps l to from c;
+  objects = λ k h. refl;
+  begun = omega arith;
+  called = omega arith;
+  stands = λ k h. refl;
+  owned = λ k u j r h. copied_other l to from c u j (free_object b to u k free r h);
+}
 
 -- memories still agree where the source has no such object yet
 pub agree_copied : (w : World) (m : source.Memory) (c : core.Memory) (k index : ℕ) (from : core.Spot) (l : Layout) → Agree w m c
@@ -254,7 +295,7 @@ pub agree_copied : (w : World) (m : source.Memory) (c : core.Memory) (k index : 
 agree_copied w m c k index from l a made = record {
   cells = λ s shape v h. let one = a.cells s shape v h in record {
     contents = one.contents;
-    shown = shown_later 0 w m m c c' shape v one.contents (copied_later 0 m c l t from) one.shown;
+    shown = shown_later nothing w m m c c' shape v one.contents (copied_later nothing m c l t from (named_free nothing (cell_spot k index 0))) one.shown;
     held = held_still c c' (at s) 0 one.contents (λ i. copied_other l t from c (at s) i (new_object w m c k index s _ a made h)) one.held;
   };
   live = a.live;
@@ -262,6 +303,9 @@ agree_copied w m c k index from l a made = record {
   unmade = a.unmade;
   unentered = λ i u j h r. copied_none l t from c u j (a.unentered i u j h r);
   unbegun = a.unbegun;
+  uncalled = λ i u j h r.
+      (copied_later (up_to i) m c l t from (named_free (up_to i) (cell_spot k index 0))).owned i u j r (is_up_to i u.object) ∙ a.uncalled i u j h r;
+  unowned = a.unowned;
 }
   where
     t : core.Spot
@@ -269,3 +313,59 @@ agree_copied w m c k index from l a made = record {
 
     c' : core.Memory
     c' = copied l t from c
+
+-- the copied parts show what those that they come from do
+pub all_copied : (w : World) (m : source.Memory) (c : core.Memory) (to from : core.Spot) (byte : ℕ) (shape : Shape) (k : ℕ) (xs : List Shape)
+    (vs : List Scalar) → AreStructs w.unions w.structs → IsObject w.structs shape → AreMade c to byte (layout_of w shape).cells
+    → ((i : ℕ) → slice_get (cells_of w shape) (k + i) ≡ slice_get xs i) → AllShown w m c (core.beyond from k) xs vs
+    → AllShown w m (copied (layout_of w shape) to from c) (core.beyond to k) xs vs
+all_copied w m c to from byte shape k [] [] structs object made same held = tt
+all_copied w m c to from byte shape k [] (v ∷ vs) structs object made same held = absurd held
+all_copied w m c to from byte shape k (x ∷ xs) [] structs object made same held = absurd held
+all_copied w m c to from byte shape k (x ∷ xs) (v ∷ vs) structs object made same held = (
+  one,
+  subst (λ z. AllShown w m c' z xs vs) (sym (core_beyond_on to k 1 (suc k) next))
+      (all_copied w m c to from byte shape (suc k) xs vs structs object made (λ i. ap (slice_get (cells_of w shape)) (one_on k i) ∙ same (suc i))
+      (subst (λ z. AllShown w m c z xs vs) (core_beyond_on from k 1 (suc k) next) held.1)),
+)
+  where
+    layout : Layout
+    layout = layout_of w shape
+
+    c' : core.Memory
+    c' = copied layout to from c
+
+    next : k + 1 ≡ suc k
+    next = omega arith
+
+    one_on : (k i : ℕ) → suc k + i ≡ k + suc i
+    one_on k i = omega arith
+
+    no_more : (k : ℕ) → k ≡ k + 0
+    no_more k = omega arith
+
+    one : IsCellShown w m c' (core.beyond to k) x v
+    one =
+        let first = layout_first w shape k x structs object (ap (slice_get (cells_of w shape)) (no_more k) ∙ same 0) in
+        let y : PartShape = record { offset = first.offset; width = width_of x; first = first_part x } in
+        let there : PartIs c (core.beyond to k) 0 (byte + first.offset) (width_of x) =
+        made_at c to.region to.object to.cell byte k layout.cells y first.others made first.is in
+        let target : Part = record { offset = byte + first.offset; width = width_of x; content = there.content } in
+        let q : Part = held.0.part in
+        record {
+          part = record target { content = q.content };
+          is = copied_here layout to from c k 0 (y ∷ first.others) y target q first.less first.is refl there.is held.0.is;
+          shown = shown_later nothing w m m c c' x v (q.content ∷ []) (copied_later nothing m c layout to from (free_nothing to)) held.0.shown;
+        }
+
+-- an object as a whole
+pub whole_copied : (w : World) (m : source.Memory) (c : core.Memory) (to from : core.Spot) (byte : ℕ) (shape : Shape) (vs : List Scalar)
+    → AreStructs w.unions w.structs → IsObject w.structs shape → AreMade c to byte (layout_of w shape).cells → AllShown w m c from (cells_of w shape) vs
+    → AllShown w m (copied (layout_of w shape) to from c) to (cells_of w shape) vs
+whole_copied w m c to from byte shape vs structs object made held =
+    subst (λ z. AllShown w m (copied (layout_of w shape) to from c) z (cells_of w shape) vs) (sym (core_beyond_zero to))
+    (all_copied w m c to from byte shape 0 (cells_of w shape) vs structs object made (λ i. ap (slice_get (cells_of w shape)) (zero_on i))
+    (subst (λ z. AllShown w m c z (cells_of w shape) vs) (core_beyond_zero from) held))
+  where
+    zero_on : (i : ℕ) → 0 + i ≡ i
+    zero_on i = omega arith

@@ -39,8 +39,8 @@ use Rattle.core_meaning.specs.Meaning as meaning
 use Rattle.source_lowering.specs.Lowered.{width_of}
 use Rattle.source_lowering.specs.Programs.{named_here}
 use Rattle.source_lowering.specs.Layouts.{first_part}
-use Rattle.source_lowering.proofs.Relations.{at, PartIs, AreMade, ArePending, Shown, IsShown, Later, Place, Fits, SameAt, Next, AValue}
-use Rattle.source_lowering.proofs.Keeping.{later_on, later_less, shown_later, all_led_later, fits_later, m_written}
+use Rattle.source_lowering.proofs.Relations.{at, PartIs, AreMade, ArePending, Shown, IsShown, Later, Place, Fits, activation, within, around, SameAt, Next, AValue}
+use Rattle.source_lowering.proofs.Keeping.{later_on, later_items, shown_later, all_led_later, fits_later, m_written}
 use Rattle.source_lowering.proofs.Runs.{stuck_same}
 use Rattle.source_lowering.proofs.Integers.{IsWordShape}
 use Rattle.source_lowering.proofs.Cells.{IsPlain, plain_of, IsWritten, write_same}
@@ -59,13 +59,15 @@ with_local p name shape pending = record {
   outer = p.outer;
   made = suc p.made;
   pending = pending;
+  own = p.own;
+  owned = p.owned;
 }
 
 -- the part of the local to come
 pub part_to_come : (p : Place) (m : source.Memory) (c : Config) (shape : Shape) (shapes : List Shape) → IsPlain p.world shape (width_of shape)
     → p.pending ≡ shape ∷ shapes → Fits p m c → PartIs c.memory (at (local_spot p.frame p.made)) 0 0 (width_of shape)
 part_to_come p m c shape shapes plain e fits =
-    let all : ArePending p.world c.memory p.frame p.made (shape ∷ shapes) = subst (λ z. ArePending p.world c.memory p.frame p.made z) e fits.pending in
+    let all : ArePending p.world c.memory (core.Frame p.frame) p.made (shape ∷ shapes) = subst (λ z. ArePending p.world c.memory (core.Frame p.frame) p.made z) e fits.pending in
     let one : AreMade c.memory (at (local_spot p.frame p.made)) 0 (((record { offset = 0; width = width_of shape; first = first_part shape }) ∷ []) ∷ []) =
     subst (λ z. AreMade c.memory (at (local_spot p.frame p.made)) 0 z) plain.layout all.0 in
     one.0.0
@@ -81,24 +83,28 @@ pub local_fits : (p : Place) (m : source.Memory) (c : Config) (name : List ℕ) 
     → Fits (with_local p name shape shapes) (m_made m p.frame (object_with p.world g shape)) c
 local_fits p m c name shape shapes g e fits shown =
     let o : Object = object_with p.world g shape in
-    let later = grown_later m c.memory p.frame o fits.agree.unmade in
-    let all : ArePending p.world c.memory p.frame p.made (shape ∷ shapes) = subst (λ z. ArePending p.world c.memory p.frame p.made z) e fits.pending in
+    let later = grown_later (around p p.frame) m c.memory p.frame o (omega arith) fits.agree.unmade in
+    let all : ArePending p.world c.memory (core.Frame p.frame) p.made (shape ∷ shapes) = subst (λ z. ArePending p.world c.memory (core.Frame p.frame) p.made z) e fits.pending in
     record {
       agree = agree_made p.world m c.memory p.frame p.made o fits.agree fits.made fits.begun shown;
       blocks = fits.blocks;
       locals = (
         (cells_here m p.frame p.made g (cells_of p.world shape) fits.made, all.0),
-        all_led_later p.frame p.world m (m_made m p.frame o) c.memory c.memory p.locals later fits.locals,
+        all_led_later (around p p.frame) p.world m (m_made m p.frame o) c.memory c.memory p.locals later fits.locals,
       );
-      globals = all_led_later p.frame p.world m (m_made m p.frame o) c.memory c.memory p.world.globals later fits.globals;
+      globals = all_led_later (around p p.frame) p.world m (m_made m p.frame o) c.memory c.memory p.world.globals later fits.globals;
       begun = fits.begun;
       made = objects_here m p.frame o ∙ ap (λ z. z + 1) fits.made ∙ omega arith;
       pending = all.1;
+      own = fits.own;
+      called = fits.called;
+      stands = fits.stands;
+      owned = fits.owned;
     }
 
 -- what comes after a declaration
 pub record GoesOnIn (p q : Place) (n : ℕ) (m0 : source.Memory) (c0 : Config) (s : source.Memory → steps.Step) (k : Config → core_steps.Step) : Type 0 where
-  pub go : (m : source.Memory) (c : Config) → Fits q m c → Later p.frame m0 c0.memory m c.memory → ((j : ℕ) → c.temps j ≡ c0.temps j) → c.blocks ≡ c0.blocks
+  pub go : (m : source.Memory) (c : Config) → Fits q m c → Later (around p p.frame) m0 c0.memory m c.memory → ((j : ℕ) → c.temps j ≡ c0.temps j) → activation c ≡ activation c0
       → SameAt p n (s m) (k c)
 
 abbrev pub part_with : ℕ → Content → Part
@@ -173,23 +179,23 @@ local_with_same p n d scope name shape shapes vs then_act next m c rest after wo
     fits1 = local_fits p m c name shape shapes (λ s. source.Blank) pending fits
         (λ cell of u e. absurd (blank_holds (cells_of p.world shape) cell of u e))
 
-    later1 : Later p.frame m c.memory m1 c.memory
-    later1 = grown_later m c.memory p.frame (object_with p.world (λ s. source.Blank) shape) fits.agree.unmade
+    later1 : Later (around p p.frame) m c.memory m1 c.memory
+    later1 = grown_later (around p p.frame) m c.memory p.frame (object_with p.world (λ s. source.Blank) shape) (omega arith) fits.agree.unmade
 
     shown1 : Shown p.world m1 c.memory shape v.value (c.temps d ∷ [])
-    shown1 = shown_later p.frame p.world m m1 c.memory c.memory shape v.value (c.temps d ∷ []) later1 v.shown
+    shown1 = shown_later (around p p.frame) p.world m m1 c.memory c.memory shape v.value (c.temps d ∷ []) later1 v.shown
 
     stored : IsWritten p.world m1 c.memory shape spot 0 (width_of shape) v.value (c.temps d)
         → SameAt p n (then_act (with_binding scope name (Variable shape spot)) next (m_written m1 spot shape v.value)) code
     stored o =
         let c' : Config = with_memory (with_part c.memory (at spot) 0 (part_with (width_of shape) (c.temps d))) c in
         let m2 : source.Memory = m_written m1 spot shape v.value in
-        let more = o.later (suc p.frame) in
+        let more = o.later (within p) in
         subst (λ z. SameAt p n (then_act (with_binding scope name (Variable shape spot)) next m2) z)
         (sym (put_here c d p.made (width_of shape) p.frame p.outer o.old (meaning.statements rest after) fits.blocks o.live o.part ∙
         ap (λ z. meaning.statements rest after (with_memory (with_part c.memory (at spot) 0 (part_with (width_of shape) z)) c)) o.fits))
         (goes.go m2 c' (fits_later q m1 m2 c c' fits1 o.agree more refl)
-        (later_on p.frame m m1 m2 c.memory c.memory c'.memory later1 (later_less (suc p.frame) p.frame m1 m2 c.memory c'.memory (omega arith) more))
+        (later_on (around p p.frame) m m1 m2 c.memory c.memory c'.memory later1 (later_items p m1 m2 c c' more))
         (λ j. refl) refl)
 
     writes : SameAt p n (write_cells spot vs (λ u. then_act (with_binding scope name (Variable shape spot)) next) m1) code

@@ -59,6 +59,8 @@ pub record Known : Type 0 where
   pub outer : List ℕ
   pub made : ℕ
   pub pending : List Shape
+  pub own : ℕ
+  pub owned : List Shape
 
 abbrev pub place_in : Scope → Known → Place
 place_in scope k = record {
@@ -70,6 +72,8 @@ place_in scope k = record {
   outer = k.outer;
   made = k.made;
   pending = k.pending;
+  own = k.own;
+  owned = k.owned;
 }
 
 -- what holds of the names in a scope

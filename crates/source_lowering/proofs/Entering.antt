@@ -14,7 +14,7 @@ use Rattle.core_meaning.specs.Core.{Local}
 use Rattle.core_meaning.specs.Meaning.{with_objects}
 use Rattle.source_lowering.specs.Layouts.{layout_of}
 use Rattle.source_lowering.specs.Programs.{locals_of}
-use Rattle.source_lowering.proofs.Relations.{region_at, at, PartIs, AreShaped, AreMade, ArePending, PartsHold, Agree, Later}
+use Rattle.source_lowering.proofs.Relations.{region_at, at, PartIs, AreShaped, AreMade, ArePending, PartsHold, Agree, Bound, nothing, Later}
 use Rattle.core_meaning.proofs.Spots.{region_same, region_self}
 use Rattle.source_lowering.proofs.Keeping.{region_as, shown_later}
 
@@ -39,6 +39,10 @@ pub made_objects : (r : core.Region) (ls : List Local) (c : core.Memory) (q : co
 made_objects r [] c q e = refl
 made_objects r (l ∷ ls) c q e = made_objects r ls (with_object c r (blanks l.layout l.count)) q e ∙ ap (λ b. if b then c.objects r + 1 else c.objects q) e
 
+pub made_calls : (r : core.Region) (ls : List Local) (c : core.Memory) → (with_objects r ls c).calls ≡ c.calls
+made_calls r [] c = refl
+made_calls r (l ∷ ls) c = made_calls r ls (with_object c r (blanks l.layout l.count))
+
 -- ---- both enter
 
 abbrev pub source_in : source.Memory → source.Memory
@@ -61,15 +65,21 @@ entered_part : (w : World) (m : source.Memory) (c : core.Memory) (ls : List Loca
     → (core_in ls c).parts t j ≡ Some p
 entered_part w m c ls a t j p is = kept_by (core.same_region t.region (core.Frame c.activations)) ls c t j p refl a.unentered is
 
-pub entered_later : (b : ℕ) (w : World) (m : source.Memory) (c : core.Memory) (ls : List Local) → Agree w m c → Later b m c (source_in m) (core_in ls c)
+entered_own : (c : core.Memory) (ls : List Local) (k : ℕ) (t : core.Spot) (j : ℕ) → t.region ≡ core.Own k → (core_in ls c).parts t j ≡ c.parts t j
+entered_own c ls k t j r = made_parts (core.Frame c.activations) ls (core_opened c) t j (ap (λ z. core.same_region z (core.Frame c.activations)) r)
+
+pub entered_later : (b : Bound) (w : World) (m : source.Memory) (c : core.Memory) (ls : List Local) → Agree w m c → Later b m c (source_in m) (core_in ls c)
 entered_later b w m c ls a = record {
   shapes = λ s shape h. record { content = h.content; is = h.is };
   parts = λ t j o width h. record { content = h.content; is = entered_part w m c ls a t j _ h.is };
   objects = λ k h. refl;
   begun = omega arith;
+  called = subst (λ z. c.calls ≤ z) (sym (made_calls (core.Frame c.activations) ls (core_opened c))) (omega arith);
+  stands = λ k h. made_standing (core.Frame c.activations) ls (core_opened c) (core.Own k);
+  owned = λ k t j r h. entered_own c ls k t j r;
 }
 
-held_on : (c c' : core.Memory) (t : core.Spot) (j : ℕ) (cs : List Content) → ((t : core.Spot) (j : ℕ) (p : Part) → c.parts t j ≡ Some p
+pub held_on : (c c' : core.Memory) (t : core.Spot) (j : ℕ) (cs : List Content) → ((t : core.Spot) (j : ℕ) (p : Part) → c.parts t j ≡ Some p
     → c'.parts t j ≡ Some p) → PartsHold c t j cs → PartsHold c' t j cs
 held_on c c' t j [] e h = tt
 held_on c c' t j (x ∷ xs) e ((q, (is, holds)), others) = ((q, (e t j q is, holds)), held_on c c' t (j + 1) xs e others)
@@ -86,7 +96,7 @@ pub agree_entered : (w : World) (m : source.Memory) (c : core.Memory) (ls : List
 agree_entered w m c ls a = record {
   cells = λ s shape v h. let one = a.cells s shape v h in record {
     contents = one.contents;
-    shown = shown_later 0 w m (source_in m) c (core_in ls c) shape v one.contents (entered_later 0 w m c ls a) one.shown;
+    shown = shown_later nothing w m (source_in m) c (core_in ls c) shape v one.contents (entered_later nothing w m c ls a) one.shown;
     held = held_on c (core_in ls c) (at s) 0 one.contents (entered_part w m c ls a) one.held;
   };
   live = λ q.
@@ -105,6 +115,12 @@ agree_entered w m c ls a = record {
       let less : c.activations + 1 ≤ k = subst (λ z. z + 1 ≤ k) a.activations h in
       let two = a.unbegun k (omega (arith, h)) in
       (two.0, made_objects (core.Frame c.activations) ls (core_opened c) (core.Frame k) (later_frame k c.activations less) ∙ two.1);
+  uncalled = λ k t j h r.
+      let less : c.calls ≤ k = subst (λ z. z ≤ k) (made_calls (core.Frame c.activations) ls (core_opened c)) h in
+      entered_own c ls k t j r ∙ a.uncalled k t j less r;
+  unowned = λ k h.
+      let less : c.calls ≤ k = subst (λ z. z ≤ k) (made_calls (core.Frame c.activations) ls (core_opened c)) h in
+      made_objects (core.Frame c.activations) ls (core_opened c) (core.Own k) refl ∙ a.unowned k less;
 }
 
 -- ---- the objects that Core has made
@@ -185,18 +201,15 @@ cells_made c r index l k (x ∷ xs) count same h = (
     one_on : (k i : ℕ) → suc k + i ≡ k + suc i
     one_on k i = omega arith
 
-pending_made : (w : World) (ss : List Shape) (c : core.Memory) (k index : ℕ) → c.objects (core.Frame k) ≡ index
-    → ArePending w (with_objects (core.Frame k) (locals_of w ss) c) k index ss
-pending_made w [] c k index e = tt
-pending_made w (s ∷ ss) c k index e = (
+pub pending_made : (w : World) (ss : List Shape) (c : core.Memory) (r : core.Region) (index : ℕ) → c.objects r ≡ index
+    → ArePending w (with_objects r (locals_of w ss) c) r index ss
+pending_made w [] c r index e = tt
+pending_made w (s ∷ ss) c r index e = (
   cells_made (with_objects r (locals_of w ss) more) r index (layout_of w s) 0 (layout_of w s).cells (omega arith)
       (λ i. ap (slice_get (layout_of w s).cells) (zero_on i)) (λ cell j p e. record { content = p.content; is = here cell j ∙ e }),
-  pending_made w ss more k (suc index) next,
+  pending_made w ss more r (suc index) next,
 )
   where
-    r : core.Region
-    r = core.Frame k
-
     more : core.Memory
     more = with_object c r (blanks (layout_of w s) 1)
 
@@ -214,6 +227,6 @@ pending_made w (s ∷ ss) c k index e = (
 
 -- a block's locals are all to come
 pub pending_entered : (w : World) (m : source.Memory) (c : core.Memory) (ss : List Shape) → Agree w m c
-    → ArePending w (core_in (locals_of w ss) c) c.activations 0 ss
+    → ArePending w (core_in (locals_of w ss) c) (core.Frame c.activations) 0 ss
 pending_entered w m c ss a =
-    pending_made w ss (core_opened c) c.activations 0 (a.unbegun c.activations (subst (λ z. m.activations ≤ z) a.activations (omega arith))).1
+    pending_made w ss (core_opened c) (core.Frame c.activations) 0 (a.unbegun c.activations (subst (λ z. m.activations ≤ z) a.activations (omega arith))).1

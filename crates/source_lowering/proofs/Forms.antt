@@ -1,5 +1,5 @@
 -- One lemma a form: constants, operators, conversions, assignments.
-use Rattle.std.proofs.Common.{◌≡◌, ℕ, suc, ◌+◌, ◌%◌, ◌^◌, ◌<◌, List, [], ◌∷◌, ◌++◌, Bool, true, false, nat_lt, refl, sym, ap, ◌∙◌, subst, arith}
+use Rattle.std.proofs.Common.{◌≡◌, ℕ, ◌+◌, ◌%◌, ◌^◌, ◌<◌, List, [], ◌∷◌, ◌++◌, Bool, true, false, nat_lt, refl, sym, ap, ◌∙◌, subst, arith}
 use Rattle.std.specs.Prelude.{if◌then◌else◌}
 use Rattle.cyc_tree.specs.declared.expression.Operator.{Operator}
 use Rattle.cyc_tree.specs.declared.expression.Operator.TheVariants as operator
@@ -18,11 +18,11 @@ use Rattle.source_meaning.specs.Shapes.{
   ArrayShape,
 }
 use Rattle.source_meaning.specs.Memory as source
-use Rattle.source_meaning.specs.Memory.{IntegerType, AsInt, AsUnsigned, AsChar, Scalar, Integer, Spot}
+use Rattle.source_meaning.specs.Memory.{IntegerType, AsInt, AsUnsigned, AsChar, Scalar, Integer}
 use Rattle.source_meaning.specs.Steps as steps
-use Rattle.source_meaning.specs.Steps.{World, give, need, ◌>>=◌}
+use Rattle.source_meaning.specs.Steps.{give, need}
 use Rattle.source_meaning.specs.Operators as operators
-use Rattle.source_meaning.specs.Operators.{integers, operator_shape, common_shape, promoted_shape, truth_value}
+use Rattle.source_meaning.specs.Operators.{integers, operator_shape, common_shape, promoted_shape}
 use Rattle.source_meaning.specs.Conversions.{one, converted}
 use Rattle.source_meaning.specs.Values.{write_cells}
 use Rattle.source_meaning.specs.Places.{Sense, value_sense, given_by, assigned}
@@ -34,7 +34,7 @@ use Rattle.core_meaning.specs.Steps.{Config, with_temp}
 use Rattle.core_meaning.specs.Meaning as meaning
 use Rattle.core_meaning.specs.Operations.{does}
 use Rattle.source_lowering.specs.Lowered.{put, type_of, applied_to, operator_code, conversion_code}
-use Rattle.source_lowering.proofs.Relations.{Place, Fits, SameAt, Next, AreKept, LaterAt, Given, GoesOn, GivesAs}
+use Rattle.source_lowering.proofs.Relations.{Place, Fits, SameAt, Next, AreKept, LaterAt, Given, GoesOn, GivesAs, within}
 use Rattle.source_lowering.proofs.Keeping.{later_self, later_on}
 use Rattle.source_lowering.proofs.Runs.{put_all, stuck_same}
 use Rattle.source_lowering.proofs.Integers.{IsTaken, IsThin, limit, word_given, small_word, one_same, thin_same}
@@ -51,7 +51,7 @@ pub constant_gives : (p : Place) (n d : ℕ) (t : IntegerType) (v value : ℕ) �
 constant_gives p n d t v value e small = record {
   same = λ m c s rest next fits goes.
       put_value p n d m c m c (integer_shape t) (Integer t v ∷ []) (Word (value % 2 ^ 32)) s (meaning.statements rest next) fits
-      (later_self (suc p.frame) m c.memory) (λ k h. refl)
+      (later_self (within p) m c.memory) (λ k h. refl)
       (word_given p.world m c.memory t v (Word (value % 2 ^ 32)) small (ap (λ z. Word z) e)) goes;
 }
 
@@ -175,7 +175,7 @@ applied_gives p n d o a b sa sb ca cb taken1 taken2 left right = record {
                   (λ t2 w2 temp2 shape2 type2 small2.
                   operator_same p n d o sa sb t1 t2 w1 w2 m c m2 c2 s rest next shape1 type1 small1 shape2 type2 small2 (kept2 d (omega arith) ∙ temp1) temp2
                   fits2
-                  (later_on (suc p.frame) m m1 m2 c.memory c1.memory c2.memory later1 later2) (λ k h. kept2 k (omega (arith, h)) ∙ kept1 k h) goes)
+                  (later_on (within p) m m1 m2 c.memory c1.memory c2.memory later1 later2) (λ k h. kept2 k (omega (arith, h)) ∙ kept1 k h) goes)
                   (λ v o2.
                   thin_same p.world p.program n sb m2 c2.memory v (c2.temps (d + 1)) (λ y. third s (Integer t1 w1) y) _ o2
                   (λ x f. stuck_same p.world p.program n _) (λ t byte x full leads. stuck_same p.world p.program n _));
@@ -183,7 +183,7 @@ applied_gives p n d o a b sa sb ca cb taken1 taken2 left right = record {
             (λ u o1.
             right.same m1 c1 (λ ys. second s u ys) (put (operator_code o sa sb d) rest) next fits1 (record {
               go = λ m2 c2 vs2 fits2 later2 kept2 given2.
-                  let o1' = thin_later (suc p.frame) p.world m1 m2 c1.memory c2.memory sa u (c1.temps d) later2 o1 in
+                  let o1' = thin_later (within p) p.world m1 m2 c1.memory c2.memory sa u (c1.temps d) later2 o1 in
                   one_same p.world p.program n sb m2 c2.memory vs2 (c2.temps (d + 1)) (λ y. third s u y) _ taken2 given2
                   (λ t2 w2 temp2 shape2 type2 small2.
                   thin_same p.world p.program n sa m2 c2.memory u (c1.temps d) (λ z. third s z (Integer t2 w2)) _ o1'
@@ -191,7 +191,7 @@ applied_gives p n d o a b sa sb ca cb taken1 taken2 left right = record {
                   (λ v o2.
                   pointers_operated p n d o sa sb u v m c m2 c2 s rest next
                   (subst (λ z. IsThin p.world m2 c2.memory sa u z) (sym (kept2 d (omega arith))) o1') o2 fits2
-                  (later_on (suc p.frame) m m1 m2 c.memory c1.memory c2.memory later1 later2) (λ k h. kept2 k (omega (arith, h)) ∙ kept1 k h) goes);
+                  (later_on (within p) m m1 m2 c.memory c1.memory c2.memory later1 later2) (λ k h. kept2 k (omega (arith, h)) ∙ kept1 k h) goes);
             }));
       }));
 }

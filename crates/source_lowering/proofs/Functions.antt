@@ -48,7 +48,7 @@ use Rattle.source_meaning.specs.Shapes.{
   part_shapes,
 }
 use Rattle.source_meaning.specs.Memory as source
-use Rattle.source_meaning.specs.Memory.{AsInt, Integer, Scalar, state_is_live}
+use Rattle.source_meaning.specs.Memory.{AsInt, Integer, Scalar}
 use Rattle.source_meaning.specs.Steps as steps
 use Rattle.source_meaning.specs.Steps.{World, Routine, Scope, Flow, give}
 use Rattle.source_meaning.specs.Regions.{in_block}
@@ -56,57 +56,25 @@ use Rattle.source_meaning.specs.Statements as meaning_of
 use Rattle.source_meaning.specs.Programs.{is_main, result_of, result_at_end, with_arguments}
 use Rattle.core_meaning.specs.Memory as core
 use Rattle.core_meaning.specs.Memory.{Content, Word, with_standing}
-use Rattle.core_meaning.specs.Core.{Program, Function, Statements, NoStatements}
+use Rattle.core_meaning.specs.Core.{Program, Function, Statements, NoStatements, Local}
 use Rattle.core_meaning.specs.Steps as core_steps
 use Rattle.core_meaning.specs.Steps.{Config, with_temp}
 use Rattle.core_meaning.specs.Meaning as meaning
 use Rattle.core_meaning.specs.Meaning.{values_of, passed_in}
 use Rattle.source_lowering.specs.Lowered.{number_of, all_of, from_on}
-use Rattle.source_lowering.specs.Programs.{locals_of, block_shapes, end_code, body_code, function_code}
-use Rattle.source_lowering.proofs.Relations.{region_at, at, Shown, Agree, Later, AreLed, Same, Next, BothCalled, BothReturned}
-use Rattle.source_lowering.proofs.Keeping.{later_on, shown_later, held_same, all_led_later}
+use Rattle.source_lowering.specs.Programs.{locals_of, block_shapes, end_code, body_code, function_code, routine_values}
+use Rattle.source_lowering.proofs.Relations.{Shown, Agree, Later, AreLed, Same, Next, BothCalled, BothReturned, Bound, nothing}
+use Rattle.source_lowering.proofs.Keeping.{later_on, all_led_later, IsLess, later_less}
 use Rattle.source_lowering.proofs.Runs.{stuck_same, says_same}
 use Rattle.source_lowering.proofs.Integers.{IsTaken, word_shown}
 use Rattle.source_lowering.proofs.Names.{IsRoutine, IsPlainWorld}
 use Rattle.source_lowering.proofs.Entering.{source_in, entered_later}
-use Rattle.source_lowering.proofs.Calls.{AllGiven, ResultIs, Returning, EntersAs, CallsAs}
-use Rattle.source_lowering.proofs.Blocks.{result_later, entered_fits, next_out, after_out, ways_out}
+use Rattle.source_lowering.proofs.Owning.{own_gone, gone_later, gone_agree, own_later, own_agree, own_made, own_live, own_counted}
+use Rattle.source_lowering.proofs.Calls.{AllGiven, ResultIs, Returning, EntersAs, CallsAs, called_before}
+use Rattle.source_lowering.proofs.Blocks.{result_later, entered_fits, next_out, after_out, ways_out, HasOwn}
 use Rattle.source_lowering.proofs.EachExpression.{Known}
+use Rattle.source_lowering.proofs.EachWhole.{AreNumbered}
 use Rattle.source_lowering.proofs.EachStatement.{given_later, body_same}
-
--- ---- a change that the source doesn't see
-
-live_apart : (r : source.Region) (k : ℕ) (now : core.Standing) (c : core.Memory) → (with_standing c (core.Own k) now).standing (region_at r) ≡ c.standing
-    (region_at r)
-live_apart (source.Frame j) k now c = refl
-live_apart (source.Born j) k now c = refl
-
--- a function's own region stands otherwise, and calls are counted
-abbrev pub own_standing : core.Memory → ℕ → core.Standing → ℕ → core.Memory
-own_standing c k now calls = record (with_standing c (core.Own k) now) { calls = calls }
-
-own_later : (b : ℕ) (m : source.Memory) (c : core.Memory) (k : ℕ) (now : core.Standing) (calls : ℕ) → Later b m c m (own_standing c k now calls)
-own_later b m c k now calls = record {
-  shapes = λ s shape h. h;
-  parts = λ t j o w h. record { content = h.content; is = h.is };
-  objects = λ j h. refl;
-  begun =
-      omega arith;
-}
-
-own_agree : (w : World) (m : source.Memory) (c : core.Memory) (k : ℕ) (now : core.Standing) (calls : ℕ) → Agree w m c → Agree w m (own_standing c k now calls)
-own_agree w m c k now calls a = record {
-  cells = λ s shape v h. let one = a.cells s shape v h in record {
-    contents = one.contents;
-    shown = shown_later 0 w m m c (own_standing c k now calls) shape v one.contents (own_later 0 m c k now calls) one.shown;
-    held = held_same c (own_standing c k now calls) (at s) 0 one.contents (λ t j. refl) one.held;
-  };
-  live = λ r. a.live r ∙ ap core.is_live (sym (live_apart r k now c));
-  activations = a.activations;
-  unmade = a.unmade;
-  unentered = a.unentered;
-  unbegun = a.unbegun;
-}
 
 -- ---- what is passed
 
@@ -163,23 +131,23 @@ ended f number own k = λ exit. meaning.falls_to exit (meaning.statements (all_o
 -- a return, with a result
 returned_same : (w : World) (fs : Program) (n number own : ℕ) (f : Routine) (m0 : source.Memory) (c0 : core.Memory)
     (s : List Scalar → source.Memory → steps.Step) (k : List Content → core.Memory → core_steps.Step) (m : source.Memory) (c : Config) (vs : List Scalar)
-    (xs : List Content) → slice_get w.functions number ≡ Some f → Returning w fs n m0 c0 f.result s k → Agree w m c.memory
-    → Later m0.activations m0 c0 m c.memory → ResultIs w m c.memory f.result vs xs
+    (xs : List Content) → c0.calls ≤ own → slice_get w.functions number ≡ Some f → Returning w fs n m0 c0 f.result s k → Agree w m c.memory
+    → Later (called_before m0 c0) m0 c0 m c.memory → ResultIs w m c.memory f.result vs xs
     → Same w fs n (Says (events.Returned f.name) (s vs m)) (meaning.left number own k (core_steps.Returns xs) c)
-returned_same w fs n number own f m0 c0 s k m c vs xs numbered goes a l r =
-    let c' : core.Memory = own_standing c.memory own core.Dead c.memory.calls in
-    let more = own_later m0.activations m c.memory own core.Dead c.memory.calls in
+returned_same w fs n number own f m0 c0 s k m c vs xs first numbered goes a l r =
+    let c' : core.Memory = own_gone c.memory own in
+    let more = gone_later (called_before m0 c0) m c.memory own (omega (arith, first)) in
     says_same w fs n (events.Returned f.name) (core_steps.Returned number) (s vs m) (k xs (with_standing c.memory (core.Own own) core.Dead))
     (BothReturned number f numbered)
-    (goes.go m c' vs xs (own_agree w m c.memory own core.Dead c.memory.calls a) (later_on m0.activations m0 m m c0 c.memory c' l more)
-    (result_later m0.activations w m m c.memory c' f.result vs xs more r))
+    (goes.go m c' vs xs (gone_agree w m c.memory own a) (later_on (called_before m0 c0) m0 m m c0 c.memory c' l more)
+    (result_later (called_before m0 c0) w m m c.memory c' f.result vs xs more r))
 
 -- the end of a body without `return`
 end_same : (w : World) (fs : Program) (n number own : ℕ) (f : Routine) (m0 : source.Memory) (c0 : core.Memory) (s : List Scalar → source.Memory → steps.Step)
-    (k : List Content → core.Memory → core_steps.Step) (m : source.Memory) (c : Config) → slice_get w.functions number ≡ Some f → IsRoutine w f
-    → Returning w fs n m0 c0 f.result s k → Agree w m c.memory → Later m0.activations m0 c0 m c.memory
+    (k : List Content → core.Memory → core_steps.Step) (m : source.Memory) (c : Config) → c0.calls ≤ own → slice_get w.functions number ≡ Some f → IsRoutine w f
+    → Returning w fs n m0 c0 f.result s k → Agree w m c.memory → Later (called_before m0 c0) m0 c0 m c.memory
     → Same w fs n (left_by f s steps.Falls m) (ended f number own k core_steps.Falls c)
-end_same w fs n number own f m0 c0 s k m c numbered routine goes a l = by f.result refl routine.result
+end_same w fs n number own f m0 c0 s k m c first numbered routine goes a l = by f.result refl routine.result
   where
     again : List Scalar → source.Memory → steps.Step
     again vs m' = Says (events.Returned f.name) (s vs m')
@@ -188,7 +156,7 @@ end_same w fs n number own f m0 c0 s k m c numbered routine goes a l = by f.resu
     left = meaning.left number own k
 
     nothing : f.result ≡ VoidShape → Same w fs n (result_at_end f VoidShape again m) (meaning.statements (all_of (end_code VoidShape)) left c)
-    nothing e = returned_same w fs n number own f m0 c0 s k m c [] [] numbered goes a l (inr (record {
+    nothing e = returned_same w fs n number own f m0 c0 s k m c [] [] first numbered goes a l (inr (record {
       nothing = refl;
       value = record
           { void = e; none = refl };
@@ -197,7 +165,7 @@ end_same w fs n number own f m0 c0 s k m c numbered routine goes a l = by f.resu
     zero_result : f.result ≡ IntShape → Same w fs n (again (Integer AsInt 0 ∷ []) m) (meaning.statements (all_of (end_code IntShape)) left c)
     zero_result e =
         let c' : Config = with_temp 0 (Word 0) c in
-        returned_same w fs n number own f m0 c0 s k m c' (Integer AsInt 0 ∷ []) (c'.temps 0 ∷ []) numbered goes a l
+        returned_same w fs n number own f m0 c0 s k m c' (Integer AsInt 0 ∷ []) (c'.temps 0 ∷ []) first numbered goes a l
         (inl (record {
           content = c'.temps 0;
           alone = refl;
@@ -232,10 +200,11 @@ end_same w fs n number own f m0 c0 s k m c numbered routine goes a l = by f.resu
 -- ---- a function is entered
 
 -- the body's block, from memories that agree
-entered_same : (w : World) (fs : Program) (n number own : ℕ) (f : Routine) (vss : List (List Scalar)) (xs : List Content) (m : source.Memory)
+entered_same : (w : World) (fs : Program) (n number : ℕ) (f : Routine) (vss : List (List Scalar)) (xs : List Content) (m : source.Memory)
     (c : core.Memory) (c0 : Config) (s : List Scalar → source.Memory → steps.Step) (k : List Content → core.Memory → core_steps.Step)
     → IsPlainWorld w → CallsAs w fs n → slice_get w.functions number ≡ Some f → IsRoutine w f → Agree w m c0.memory → AreLed w m c0.memory w.globals
-    → AllGiven w m c0.memory (part_shapes f.parameters) vss xs → c0.temps ≡ passed_in xs → c0.blocks ≡ [] → Later m.activations m c m c0.memory
+    → AllGiven w m c0.memory (part_shapes f.parameters) vss xs → c0.temps ≡ passed_in xs → c0.blocks ≡ []
+    → HasOwn w c0 c.calls (routine_values w f) → Later (called_before m c) m c m c0.memory
     → Returning w fs n m c f.result s k
     → Same w fs n (in_block (λ frame. with_arguments f.parameters vss (meaning_of.block_items f.body) (record {
       world = w;
@@ -243,21 +212,21 @@ entered_same : (w : World) (fs : Program) (n number own : ℕ) (f : Routine) (vs
       frame = frame;
       result
           = f.result;
-    })) (left_by f s) m) (meaning.statements (body_code w f) (meaning.left number own k) c0)
-entered_same w fs n number own f vss xs m c c0 s k plain calls numbered routine agree led given temps blocks later goes =
-    body_same f.parameters f.body scope known (length f.parameters) n vss routine.parameters routine.body (record
+    })) (left_by f s) m) (meaning.statements (body_code w f) (meaning.left number c.calls k) c0)
+entered_same w fs n number f vss xs m c c0 s k plain calls numbered routine agree led given temps blocks has later goes =
+    body_same f.parameters f.body scope known (length f.parameters) n vss routine.parameters routine.body values_numbered (record
     { world = plain; locals = tt; words = tt }) routine.result calls (omega arith) refl
-    (source_in m) inside (next_out (left_by f s) m.activations) NoStatements (after_out (ended f number own k) c0)
-    (entered_fits w fs [] [] [] shapes m c0 agree blocks tt led)
-    (given_later 0 w m (source_in m) c0.memory inside.memory (part_shapes f.parameters) vss (values_of inside.temps (from_on 0 (length f.parameters)))
-    (entered_later 0 w m c0.memory (locals_of w shapes) agree)
+    (source_in m) inside (next_out (left_by f s) m.activations) NoStatements (after_out (ended f number c.calls k) c0)
+    (entered_fits w fs [] [] [] shapes m c0 c.calls (routine_values w f) agree blocks has tt led)
+    (given_later nothing w m (source_in m) c0.memory inside.memory (part_shapes f.parameters) vss (values_of inside.temps (from_on 0 (length f.parameters)))
+    (entered_later nothing w m c0.memory (locals_of w shapes) agree)
     (subst (λ z. AllGiven w m c0.memory (part_shapes f.parameters) vss z) (sym (ap (λ z. values_of z (from_on 0 (length f.parameters))) temps ∙ passed_first
     xs (length f.parameters) (many_given w m c0.memory f.parameters vss xs given))) given))
-    (ways_out w fs n m.activations shapes m c0 f.result (left_by f s) (ended f number own k) agree (omega arith) (record {
-      falls = λ m' c' a l e. end_same w fs n number own f m c s k m' c' numbered routine goes a (on m' c' l);
+    (ways_out w fs n inside_bound shapes m c0 f.result (left_by f s) (ended f number c.calls k) agree (omega arith) (record {
+      falls = λ m' c' a l e. end_same w fs n number c.calls f m c s k m' c' (omega arith) numbered routine goes a (on m' c' l);
       breaks = λ m' c' a l e. stuck_same w fs n _;
       continues = λ m' c' a l e. stuck_same w fs n _;
-      returns = λ m' c' vs ys a l e r. returned_same w fs n number own f m c s k m' c' vs ys numbered goes a (on m' c' l) r;
+      returns = λ m' c' vs ys a l e r. returned_same w fs n number c.calls f m c s k m' c' vs ys (omega arith) numbered goes a (on m' c' l) r;
     }))
   where
     scope : Scope
@@ -266,14 +235,28 @@ entered_same w fs n number own f vss xs m c c0 s k plain calls numbered routine 
     shapes : List Shape
     shapes = part_shapes f.parameters ++ block_shapes f.body
 
+    values_numbered : AreNumbered (routine_values w f) 0 (routine_values w f)
+    values_numbered i s e = ap (slice_get (routine_values w f)) (zero_on i) ∙ e
+      where
+        zero_on : (i : ℕ) → 0 + i ≡ i
+        zero_on i = omega arith
+
     known : Known
-    known = record { program = fs; names = []; outer = []; made = 0; pending = shapes }
+    known = record { program = fs; names = []; outer = []; made = 0; pending = shapes; own = c.calls; owned = routine_values w f }
 
     inside : Config
     inside = meaning.in_block (locals_of w shapes) c0
 
-    on : (m' : source.Memory) (c' : Config) → Later m.activations m c0.memory m' c'.memory → Later m.activations m c m' c'.memory
-    on m' c' l = later_on m.activations m m m' c c0.memory c'.memory later l
+    -- what the body keeps
+    inside_bound : Bound
+    inside_bound = record { frames = m.activations; standing = suc c.calls; own = c.calls; values = 0 }
+
+    less : IsLess (called_before m c) inside_bound
+    less = record { frames = omega arith; standing = omega arith; kept = λ k i h. h }
+
+    on : (m' : source.Memory) (c' : Config) → Later inside_bound m c0.memory m' c'.memory → Later (called_before m c) m c m' c'.memory
+    on m' c' l = later_on (called_before m c) m m m' c c0.memory c'.memory later
+        (later_less inside_bound (called_before m c) m m' c0.memory c'.memory less l)
 
 -- a call of a function by its number
 pub enters_same : (w : World) (fs : Program) (n : ℕ) → IsPlainWorld w → fs.functions ≡ map (function_code w) w.functions → CallsAs w fs n → EntersAs w fs n
@@ -282,13 +265,19 @@ enters_same w fs n plain functions calls = record {
       let number : ℕ = number_of w.functions name in
       let found : slice_get fs.functions number ≡ Some (function_code w f) = ap (λ z. slice_get z number) functions ∙ mapped w w.functions number f numbered in
       let c0 : Config = meaning.entered (function_code w f) xs c in
-      let more = own_later m.activations m c c.calls core.Live (c.calls + 1) in
+      let locals : List Local = locals_of w (routine_values w f) in
+      let more = own_later (called_before m c) w m c locals agree (omega arith) (omega arith) refl in
       let counted : nat_eq (length xs) (length f.parameters) ≡ true = eq-eqb (length xs) (length f.parameters) (many_given w m c f.parameters vss xs given) in
       rw (found, counted)
       (says_same w fs n (events.Called f.name) (core_steps.Called number) _ _ (BothCalled number f numbered)
-      (entered_same w fs n number c.calls f vss xs m c c0 s k plain calls numbered routine (own_agree w m c c.calls core.Live (c.calls + 1) agree)
-      (all_led_later m.activations w m m c c0.memory w.globals more led) (given_later m.activations w m m c c0.memory (part_shapes f.parameters) vss xs more
-      given) refl refl more goes));
+      (entered_same w fs n number f vss xs m c c0 s k plain calls numbered routine (own_agree w m c locals agree)
+      (all_led_later (called_before m c) w m m c c0.memory w.globals more led) (given_later (called_before m c) w m m c c0.memory (part_shapes f.parameters) vss xs more
+      given) refl refl (record {
+        is = refl;
+        called = own_counted c locals;
+        stands = own_live c locals;
+        values = own_made w m c (routine_values w f) agree;
+      }) more goes));
 }
 
 -- with each amount of fuel up to one

@@ -215,6 +215,8 @@ heap_agrees w items structs h = record {
   unmade = λ s e. free s.region s.object s.cell e;
   unentered = λ k t j less e. none_there t.region e t j;
   unbegun = λ k less. (refl, refl);
+  uncalled = λ k t j less e. none_owned t.region e t j;
+  unowned = λ k less. refl;
 }
   where
     c : core.Memory
@@ -250,6 +252,9 @@ heap_agrees w items structs h = record {
 
     none_in : (r : core.Region) (t : core.Spot) (j : ℕ) → Option Part
     none_in r t j = c.parts (record t { region = r }) j
+
+    none_owned : {k : ℕ} (r : core.Region) → r ≡ core.Own k → (t : core.Spot) (j : ℕ) → none_in r t j ≡ None
+    none_owned {k} r e t j = subst (λ z. none_in z t j ≡ None) (sym e) refl
 
     none_there : {k : ℕ} (r : core.Region) → r ≡ core.Frame k → (t : core.Spot) (j : ℕ) → none_in r t j ≡ None
     none_there {k} r e t j = subst (λ z. none_in z t j ≡ None) (sym e) refl

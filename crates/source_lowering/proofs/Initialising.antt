@@ -1,9 +1,8 @@
 -- A struct's local whose initializer is a place: the object there is copied to it.
-use Rattle.std.proofs.Common.{◌≡◌, ℕ, suc, ◌+◌, List, [], ◌∷◌, Bool, true, false, refl, sym, ap, ◌∙◌, subst, arith}
-use Rattle.std.specs.Prelude.{slice_get}
+use Rattle.std.proofs.Common.{◌≡◌, ℕ, List, [], ◌∷◌, Bool, true, false, refl, sym, ap, ◌∙◌, subst, arith}
 use Rattle.source_meaning.specs.Shapes.{Shape, StructShape, same_shape}
 use Rattle.source_meaning.specs.Memory as source
-use Rattle.source_meaning.specs.Memory.{Scalar, Spot, Holds, is_live, with_object, blank_object}
+use Rattle.source_meaning.specs.Memory.{Scalar, Spot, is_live, with_object, blank_object}
 use Rattle.source_meaning.specs.Steps as steps
 use Rattle.source_meaning.specs.Steps.{World, Variable, Scope, Flow, Act, check}
 use Rattle.source_meaning.specs.Conversions.{cells_of, converted}
@@ -11,80 +10,37 @@ use Rattle.source_meaning.specs.Values.{write_cells, take_cells}
 use Rattle.source_meaning.specs.Places.{Sense, with_binding}
 use Rattle.source_meaning.specs.Regions.{local_with, initialised}
 use Rattle.core_meaning.specs.Memory as core
-use Rattle.core_meaning.specs.Memory.{Content, Pointer, Part, PartShape, Layout}
+use Rattle.core_meaning.specs.Memory.{Pointer, Layout}
 use Rattle.core_meaning.specs.Core.{Statement, Do, LocalAddress, Copy, Statements, MoreStatements}
 use Rattle.core_meaning.specs.Steps as core_steps
 use Rattle.core_meaning.specs.Steps.{Config, with_temp, with_memory}
 use Rattle.core_meaning.specs.Operations.{does, are_laid, same_object, copied}
 use Rattle.core_meaning.specs.Meaning as meaning
-use Rattle.source_lowering.specs.Layouts.{layout_of, first_part}
-use Rattle.source_lowering.specs.Lowered.{width_of, put}
+use Rattle.source_lowering.specs.Layouts.{layout_of}
+use Rattle.source_lowering.specs.Lowered.{put}
 use Rattle.source_lowering.specs.Lowerable.{IsObject, AreStructs}
-use Rattle.source_lowering.proofs.StructCells.{shapes_in, AreWordShapes, HasCells, object_cells}
-use Rattle.source_lowering.proofs.Relations.{at, HasShape, PartIs, AreCells, AreMade, ArePending, Leads, Shown, Agree, Later, Place, Fits, SameAt, Next, PartsHold}
-use Rattle.source_lowering.proofs.Keeping.{later_on, later_less, shown_later, fits_later}
+use Rattle.source_lowering.proofs.StructCells.{shapes_in}
+use Rattle.source_lowering.proofs.Relations.{at, HasShape, AreCells, AreMade, ArePending, Agree, Later, Place, Fits, SameAt, Next, Bound, around, within}
+use Rattle.source_lowering.proofs.Keeping.{later_on, fits_later, named_free, later_items, blocks_of}
 use Rattle.source_lowering.proofs.Runs.{stuck_same}
-use Rattle.source_lowering.proofs.Cells.{plain_of}
-use Rattle.source_lowering.proofs.Members.{beyond_on, beyond_zero}
-use Rattle.source_lowering.proofs.Making.{local_spot, cell_spot, m_made, cells_here, grown_later}
-use Rattle.source_lowering.proofs.Clearing.{laid_there, object_apart, layout_first, made_at}
-use Rattle.source_lowering.proofs.Copying.{whole_taken, AllHeld, IsLiveFor, read_all, IsCellShown, AllShown, all_shown_later, write_all, copied_here, copied_later, agree_copied}
+use Rattle.source_lowering.proofs.Making.{local_spot, m_made, cells_here, grown_later}
+use Rattle.source_lowering.proofs.Clearing.{laid_there, object_apart}
+use Rattle.source_lowering.proofs.Copying.{
+  whole_taken,
+  IsLiveFor,
+  read_all,
+  AllShown,
+  held_shown,
+  all_shown_later,
+  write_all,
+  copied_later,
+  agree_copied,
+  whole_copied,
+}
 use Rattle.source_lowering.proofs.Declaring.{with_local, object_with, local_fits, blank_holds}
 use Rattle.source_lowering.proofs.Beginning.{BeginsIn}
 use Rattle.source_lowering.proofs.SameShapes.{shapes_same}
 use Rattle.source_lowering.proofs.Places.{IsPlaced}
-
--- the copied parts show what the source's cells hold
-all_copied : (w : World) (m : source.Memory) (c : core.Memory) (frame index : ℕ) (shape : Shape) (t : Spot) (k : ℕ) (xs : List Shape) (vs : List Scalar)
-    → AreStructs w.unions w.structs → IsObject w.structs shape → Agree w m c → AreMade c (at (cell_spot frame index 0)) 0 (layout_of w shape).cells
-    → ((i : ℕ) → slice_get (cells_of w shape) (k + i) ≡ slice_get xs i) → AreWordShapes xs → AllHeld m (source.beyond t k) xs vs
-    → AllShown w m (copied (layout_of w shape) (at (cell_spot frame index 0)) (at t) c) (cell_spot frame index k) xs vs
-all_copied w m c frame index shape t k [] [] structs object a made same words held = tt
-all_copied w m c frame index shape t k [] (v ∷ vs) structs object a made same words held = absurd held
-all_copied w m c frame index shape t k (x ∷ xs) [] structs object a made same words held = absurd held
-all_copied w m c frame index shape t k (x ∷ xs) (v ∷ vs) structs object a made same words held = (
-  one,
-  subst (λ z. AllShown w m c' (cell_spot frame index z) xs vs) next
-      (all_copied w m c frame index shape t (suc k) xs vs structs object a made (λ i. ap (slice_get (cells_of w shape)) (one_on k i) ∙ same (suc i)) words.1
-      (subst (λ z. AllHeld m z xs vs) (beyond_on t k 1 (suc k) (omega arith)) held.1)),
-)
-  where
-    layout : Layout
-    layout = layout_of w shape
-
-    c' : core.Memory
-    c' = copied layout (at (cell_spot frame index 0)) (at t) c
-
-    next : suc k ≡ k + 1
-    next = omega arith
-
-    one_on : (k i : ℕ) → suc k + i ≡ k + suc i
-    one_on k i = omega arith
-
-    no_more : (k : ℕ) → k ≡ k + 0
-    no_more k = omega arith
-
-    zero_on : (i : ℕ) → 0 + i ≡ i
-    zero_on i = omega arith
-
-    one : IsCellShown w m c' (cell_spot frame index k) x v
-    one =
-        let first = layout_first w shape k x structs object (ap (slice_get (cells_of w shape)) (no_more k) ∙ same 0) in
-        let y : PartShape = record { offset = first.offset; width = width_of x; first = first_part x } in
-        let there : PartIs c (at (cell_spot frame index k)) 0 (0 + first.offset) (width_of x) =
-        subst (λ z. PartIs c (at (cell_spot frame index z)) 0 (0 + first.offset) (width_of x)) (zero_on k)
-        (made_at c (core.Frame frame) index 0 0 k layout.cells y first.others made first.is) in
-        let target : Part = record { offset = 0 + first.offset; width = width_of x; content = there.content } in
-        let here = a.cells (source.beyond t k) x v held.0 in
-        let word = (plain_of w x words.0).one m c v here.contents here.shown in
-        let hold : PartsHold c (at (source.beyond t k)) 0 (word.word ∷ []) = subst (λ z. PartsHold c (at (source.beyond t k)) 0 z) word.is here.held in
-        let q : Part = hold.0.0 in
-        record {
-          part = record target { content = q.content };
-          is = copied_here layout (core.Frame frame) index (at t) c k 0 (y ∷ first.others) y target q first.less first.is refl there.is hold.0.1.0;
-          shown = shown_later 0 w m m c c' x v (q.content ∷ []) (copied_later 0 m c layout (at (cell_spot frame index 0)) (at t))
-              (subst (λ z. Shown w m c x v (z ∷ [])) (sym hold.0.1.1) (subst (λ z. Shown w m c x v z) word.is here.shown));
-        }
 
 copy_does : (c : Config) (index frame byte : ℕ) (outer : List ℕ) (t : core.Spot) (l : Layout) (next : Config → core_steps.Step) → c.blocks ≡ frame ∷ outer
     → c.temps 0 ≡ Pointer t byte → core.is_live (c.memory.standing (core.Frame frame)) ≡ true → core.is_live (c.memory.standing t.region) ≡ true
@@ -95,17 +51,17 @@ copy_does : (c : Config) (index frame byte : ℕ) (outer : List ℕ) (t : core.S
 copy_does c index frame byte outer t l next block temp live other laid laid_t apart = rw (block, temp, live, laid, other, laid_t, apart) refl
 
 -- a struct's local, whose value is that of an object
-pub struct_with_same : (p : Place) (n : ℕ) (scope : Scope) (name tag : List ℕ) (shapes : List Shape) (t : Spot) (byte : ℕ) (vs : List Scalar)
+pub struct_with_same : (p : Place) (n : ℕ) (scope : Scope) (name tag : List ℕ) (shapes : List Shape) (t : core.Spot) (byte : ℕ) (vs : List Scalar)
     (then_act : Scope → Act Flow) (next : Flow → source.Memory → steps.Step) (m : source.Memory) (c : Config) (rest : Statements) (after : Next)
     → scope.world ≡ p.world → scope.frame ≡ p.frame → AreStructs p.world.unions p.world.structs → IsObject p.world.structs (StructShape tag)
-    → p.pending ≡ StructShape tag ∷ shapes → Fits p m c → c.temps 0 ≡ Pointer (at t) byte → Leads p.world m c.memory (StructShape tag) t byte
-    → AllHeld m t (cells_of p.world (StructShape tag)) vs → is_live m t.region ≡ true
-    → same_object (at (local_spot p.frame p.made)) (at t) ≡ false
+    → p.pending ≡ StructShape tag ∷ shapes → Fits p m c → c.temps 0 ≡ Pointer t byte → AreMade c.memory t byte (layout_of p.world (StructShape tag)).cells
+    → AllShown p.world m c.memory t (cells_of p.world (StructShape tag)) vs → core.is_live (c.memory.standing t.region) ≡ true
+    → same_object (at (local_spot p.frame p.made)) t ≡ false
     → BeginsIn p (with_local p name (StructShape tag) shapes) n m c
     (λ m'. then_act (with_binding scope name (Variable (StructShape tag) (local_spot p.frame p.made))) next m') (meaning.statements rest after)
     → SameAt p n (local_with scope name (StructShape tag) vs then_act next m) (meaning.statements
     (MoreStatements (Do (LocalAddress 1 0 p.made)) (MoreStatements (Do (Copy 1 0 (layout_of p.world (StructShape tag)))) rest)) after c)
-struct_with_same p n scope name tag shapes t byte vs then_act next m c rest after world frame structs object pending fits temp leads held live apart goes =
+struct_with_same p n scope name tag shapes t byte vs then_act next m c rest after world frame structs object pending fits temp made held live apart goes =
     subst (λ z. SameAt p n (begun z scope.frame (next_of scope.frame)) code) (sym world)
     (subst (λ z. SameAt p n (begun p.world z (next_of z)) code) (sym frame)
     (by (is_live m (source.Frame p.frame)) refl))
@@ -136,20 +92,20 @@ struct_with_same p n scope name tag shapes t byte vs then_act next m c rest afte
     q : Place
     q = with_local p name shape shapes
 
-    all : ArePending p.world c.memory p.frame p.made (shape ∷ shapes)
-    all = subst (λ z. ArePending p.world c.memory p.frame p.made z) pending fits.pending
+    all : ArePending p.world c.memory (core.Frame p.frame) p.made (shape ∷ shapes)
+    all = subst (λ z. ArePending p.world c.memory (core.Frame p.frame) p.made z) pending fits.pending
 
     c1 : Config
-    c1 = with_memory (copied layout (at spot) (at t) c.memory) (with_temp 1 (Pointer (at spot) 0) c)
+    c1 = with_memory (copied layout (at spot) t c.memory) (with_temp 1 (Pointer (at spot) 0) c)
 
     agree1 : Agree p.world m c1.memory
-    agree1 = agree_copied p.world m c.memory p.frame p.made (at t) layout fits.agree fits.made
+    agree1 = agree_copied p.world m c.memory p.frame p.made t layout fits.agree fits.made
 
-    later1 : (b : ℕ) → Later b m c.memory m c1.memory
-    later1 b = copied_later b m c.memory layout (at spot) (at t)
+    later1 : (b : Bound) → Later b m c.memory m c1.memory
+    later1 b = copied_later b m c.memory layout (at spot) t (named_free b spot)
 
     fits1 : Fits p m c1
-    fits1 = fits_later p m m c c1 fits agree1 (later1 (suc p.frame)) refl
+    fits1 = fits_later p m m c c1 fits agree1 (later1 (within p)) refl
 
     m1 : source.Memory
     m1 = m_made m p.frame (object_with p.world (λ s. source.Blank) shape)
@@ -158,35 +114,27 @@ struct_with_same p n scope name tag shapes t byte vs then_act next m c rest afte
     fits2 = local_fits p m c1 name shape shapes (λ s. source.Blank) pending fits1
         (λ cell of u e. absurd (blank_holds (cells_of p.world shape) cell of u e))
 
-    later2 : Later p.frame m c1.memory m1 c1.memory
-    later2 = grown_later m c1.memory p.frame (object_with p.world (λ s. source.Blank) shape) fits.agree.unmade
+    later2 : Later (around p p.frame) m c1.memory m1 c1.memory
+    later2 = grown_later (around p p.frame) m c1.memory p.frame (object_with p.world (λ s. source.Blank) shape) (omega arith) fits.agree.unmade
 
-    has : HasCells p.world.unions p.world.structs shape
-    has = object_cells p.world.unions p.world.structs shape structs object
-
-    zero_on : (i : ℕ) → 0 + i ≡ i
-    zero_on i = omega arith
-
-    shown : AllShown p.world m1 c1.memory spot (cells_of p.world shape) vs
-    shown = all_shown_later p.frame p.world m m1 c1.memory spot (cells_of p.world shape) vs later2
-        (all_copied p.world m c.memory p.frame p.made shape t 0 (cells_of p.world shape) vs structs object fits.agree all.0
-        (λ i. ap (slice_get (cells_of p.world shape)) (zero_on i)) has.words
-        (subst (λ z. AllHeld m z (cells_of p.world shape) vs) (beyond_zero t) held))
+    shown : AllShown p.world m1 c1.memory (at spot) (cells_of p.world shape) vs
+    shown = all_shown_later (around p p.frame) p.world m m1 c1.memory (at spot) (cells_of p.world shape) vs later2
+        (whole_copied p.world m c.memory (at spot) t 0 shape vs structs object all.0 held)
 
     writes : is_live m (source.Frame p.frame) ≡ true
         → SameAt p n (write_cells spot vs (λ u. then_act (with_binding scope name (Variable shape spot)) next) m1) code
     writes here =
         subst (λ z. SameAt p n (write_cells spot vs (λ u. then_act (with_binding scope name (Variable shape spot)) next) m1) z)
-        (sym (copy_does c p.made p.frame byte p.outer (at t) layout (meaning.statements rest after) fits.blocks temp
-        (sym (fits.agree.live (source.Frame p.frame)) ∙ here) (sym (fits.agree.live t.region) ∙ live)
-        (laid_there c.memory (at spot) 0 layout.cells all.0) (laid_there c.memory (at t) byte layout.cells leads.1) apart))
-        (write_all p.world p.program n (suc p.frame) (cells_of p.world shape) vs m1 c1.memory spot
+        (sym (copy_does c p.made p.frame byte p.outer t layout (meaning.statements rest after) fits.blocks temp
+        (sym (fits.agree.live (source.Frame p.frame)) ∙ here) live
+        (laid_there c.memory (at spot) 0 layout.cells all.0) (laid_there c.memory t byte layout.cells made) apart))
+        (write_all p.world p.program n (within p) (cells_of p.world shape) vs m1 c1.memory spot
         (λ u. then_act (with_binding scope name (Variable shape spot)) next) (meaning.statements rest after c1) here fits2.agree
         (cells_here m p.frame p.made (λ s. source.Blank) (cells_of p.world shape) fits.made) shown
         (λ m2 agree2 more.
         goes.go m2 c1 (fits_later q m1 m2 c1 c1 fits2 agree2 more refl)
-        (later_on p.frame m m m2 c.memory c1.memory c1.memory (later1 p.frame)
-        (later_on p.frame m m1 m2 c1.memory c1.memory c1.memory later2 (later_less (suc p.frame) p.frame m1 m2 c1.memory c1.memory (omega arith) more)))
+        (later_on (around p p.frame) m m m2 c.memory c1.memory c1.memory (later1 (around p p.frame))
+        (later_on (around p p.frame) m m1 m2 c1.memory c1.memory c1.memory later2 (later_items p m1 m2 c1 c1 more)))
         refl))
 
     by : (b : Bool) → is_live m (source.Frame p.frame) ≡ b → SameAt p n (begun p.world p.frame (next_of p.frame)) code
@@ -198,7 +146,7 @@ struct_with_same p n scope name tag shapes t byte vs then_act next m c rest afte
         (with_object m (source.Frame p.frame) (blank_object (cells_of p.world shape)))) code) (sym fits.made) (writes e))
 
 -- what comes after a struct's initializer was converted: equal shapes, or the source is stuck
-converted_whole : (p : Place) (n : ℕ) (tag : List ℕ) (from : Shape) (vs : List Scalar) (s : List Scalar → source.Memory → steps.Step) (m : source.Memory)
+pub converted_whole : (p : Place) (n : ℕ) (tag : List ℕ) (from : Shape) (vs : List Scalar) (s : List Scalar → source.Memory → steps.Step) (m : source.Memory)
     (k : core_steps.Step) → (same_shape (StructShape tag) from ≡ true → SameAt p n (s vs m) k) → SameAt p n (converted p.world (StructShape tag) from vs s m) k
 converted_whole p n tag from vs s m k go = by vs (same_shape (StructShape tag) from) refl go
   where
@@ -212,7 +160,7 @@ converted_whole p n tag from vs s m k go = by vs (same_shape (StructShape tag) f
     by (v ∷ u ∷ us) true e go = rw e (go e)
 
 -- a struct's local with an initializer that names an object
-pub whole_same : (p : Place) (n : ℕ) (scope : Scope) (name tag : List ℕ) (shapes : List Shape) (e : Sense) (from : Shape) (code : List Statement)
+pub placed_begins : (p : Place) (n : ℕ) (scope : Scope) (name tag : List ℕ) (shapes : List Shape) (e : Sense) (from : Shape) (code : List Statement)
     (then_act : Scope → Act Flow) (next : Flow → source.Memory → steps.Step) (m : source.Memory) (c : Config) (rest : Statements) (after : Next)
     → scope.world ≡ p.world → scope.frame ≡ p.frame → AreStructs p.world.unions p.world.structs → IsObject p.world.structs (StructShape tag)
     → p.pending ≡ StructShape tag ∷ shapes → Fits p m c → IsPlaced p n 0 e from code
@@ -220,7 +168,7 @@ pub whole_same : (p : Place) (n : ℕ) (scope : Scope) (name tag : List ℕ) (sh
     (λ m'. then_act (with_binding scope name (Variable (StructShape tag) (local_spot p.frame p.made))) next m') (meaning.statements rest after)
     → SameAt p n (initialised scope name (StructShape tag) e then_act next m) (meaning.statements (put code
     (MoreStatements (Do (LocalAddress 1 0 p.made)) (MoreStatements (Do (Copy 1 0 (layout_of p.world (StructShape tag)))) rest))) after c)
-whole_same p n scope name tag shapes e from code then_act next m c rest after world frame structs object pending fits one goes =
+placed_begins p n scope name tag shapes e from code then_act next m c rest after world frame structs object pending fits one goes =
     subst (λ z. SameAt p n z whole) (sym (one.value convert m))
     (subst (λ z. SameAt p n (e.place (λ t. take_cells (cells_of p.world z) t convert) m) whole) (sym one.shape_is)
     (one.placed.same m c (λ t. take_cells (cells_of p.world from) t convert)
@@ -237,14 +185,16 @@ whole_same p n scope name tag shapes e from code then_act next m c rest after wo
           let same : StructShape tag ≡ from = shapes_same (StructShape tag) e.shape equal ∙ one.shape_is in
           let cells : cells_of p.world from ≡ has.first.shape ∷ shapes_in has.others = sym has.shapes ∙ ap shapes_in has.is in
           let here : HasShape m1 t has.first.shape = (subst (λ z. AreCells m1 t z) cells leads.0).0 in
-          struct_with_same p n scope name tag shapes t byte vs then_act next m1 c1 rest after world frame structs object pending fits1 temp
-          (subst (λ z. Leads p.world m1 c1.memory z t byte) (sym same) leads) (subst (λ z. AllHeld m1 t (cells_of p.world z) vs) (sym same) held)
-          (subst (λ z. IsLiveFor m1 t z) cells live)
+          struct_with_same p n scope name tag shapes (at t) byte vs then_act next m1 c1 rest after world frame structs object pending fits1 temp
+          (subst (λ z. AreMade c1.memory (at t) byte (layout_of p.world z).cells) (sym same) leads.1)
+          (subst (λ z. AllShown p.world m1 c1.memory (at t) (cells_of p.world z) vs) (sym same)
+          (held_shown p.world m1 c1.memory t (cells_of p.world from) vs fits1.agree has.words held))
+          (sym (fits1.agree.live t.region) ∙ subst (λ z. IsLiveFor m1 t z) cells live)
           (object_apart p.world m1 c1.memory p.frame p.made t _ fits1.agree fits1.made here.is)
           (record {
             go = λ m2 c2 fits2 later2 blocks2.
-                goes.go m2 c2 fits2 (later_on p.frame m m1 m2 c.memory c1.memory c2.memory
-                (later_less (suc p.frame) p.frame m m1 c.memory c1.memory (omega arith) later1) later2) (blocks2 ∙ fits1.blocks ∙ sym fits.blocks);
+                goes.go m2 c2 fits2 (later_on (around p p.frame) m m1 m2 c.memory c1.memory c2.memory
+                (later_items p m m1 c c1 later1) later2) (blocks2 ∙ blocks_of p m m1 c c1 fits fits1);
           })))));
     })))
   where

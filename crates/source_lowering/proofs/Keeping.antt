@@ -1,90 +1,47 @@
 -- What keeps the relation: a cell is written, moved or lent; a block is entered and left.
-use Rattle.std.proofs.Common.{
-  ◌≡◌,
-  ℕ,
-  ◌+◌,
-  ◌≤◌,
-  inl,
-  inr,
-  ⊎_elim,
-  suc,
-  List,
-  [],
-  ◌∷◌,
-  Bool,
-  true,
-  false,
-  nat_eq,
-  Option,
-  Some,
-  None,
-  refl,
-  sym,
-  ap,
-  ◌∙◌,
-  subst,
-  arith,
-}
+use Rattle.std.proofs.Common.{◌≡◌, ℕ, ◌+◌, ◌≤◌, ⊎_elim, List, [], ◌∷◌, Bool, true, false, nat_eq, Option, Some, None, refl, sym, ap, ◌∙◌, subst, arith}
 use Rattle.std.specs.Prelude.{◌&&◌, if◌then◌else◌}
 use Rattle.std.proofs.lemmas.Bool.{eqb-true, and_parts}
-use Rattle.source_meaning.specs.Shapes.{
-  Shape,
-  IntShape,
-  UnsignedShape,
-  CharShape,
-  VoidShape,
-  ThinShape,
-  FatShape,
-  HandleShape,
-  KeyShape,
-  StructShape,
-  UnionShape,
-  ArrayShape,
-}
+use Rattle.source_meaning.specs.Shapes.{Shape}
 use Rattle.source_meaning.specs.Memory as source
-use Rattle.source_meaning.specs.Memory.{Scalar, Spot, Holds, Cell, same_region, same_spot, with_cell, with_state, state_is_live, Live, Dead}
-use Rattle.source_meaning.specs.Steps.{World, Entity, Variable, Fixed, Binding}
-use Rattle.source_meaning.specs.Conversions.{cells_of, size_of}
+use Rattle.source_meaning.specs.Memory.{Scalar, Spot, Holds, Cell, same_region, same_spot, with_cell, with_state, state_is_live, Dead}
+use Rattle.source_meaning.specs.Steps.{World}
 use Rattle.source_meaning.proofs.Cases.{spot_is}
 use Rattle.core_meaning.specs.Memory as core
 use Rattle.core_meaning.specs.Memory.{Content, Part, with_part, with_standing}
-use Rattle.core_meaning.specs.Steps.{Config}
 use Rattle.core_meaning.proofs.Spots.{spot_same, spot_self}
-use Rattle.source_lowering.specs.Layouts.{layout_of}
-use Rattle.source_lowering.proofs.Relations.{
-  region_at,
-  at,
-  HasShape,
-  PartIs,
-  AreShaped,
-  AreCells,
-  Leads,
-  APointer,
-  AFat,
-  Shown,
-  PartsHold,
-  IsShown,
-  Agree,
-  Later,
-  Place,
-  Fits,
-  LaterAt,
-  AreMade,
-  ArePending,
-  IsLed,
-  AreLed,
+use Rattle.source_lowering.proofs.Relations.{region_at, at, HasShape, PartIs, Shown, PartsHold, IsShown, Agree, Bound, nothing, Later}
+pub use Rattle.source_lowering.proofs.Lasting.{
+  region_as,
+  spot_as,
+  named_free,
+  free_spot,
+  free_object,
+  free_nothing,
+  up_to,
+  is_up_to,
+  later_self,
+  later_on,
+  IsLess,
+  less_self,
+  later_less,
+  within_around,
+  around_items,
+  within_items,
+  made_later,
+  leads_later,
+  shown_later,
+  led_later,
+  all_led_later,
+  pending_later,
+  same_own,
+  same_blocks,
+  blocks_of,
+  fits_on,
+  later_around,
+  later_items,
+  fits_later,
 }
-
--- ---- spots
-
-pub region_as : (q r : source.Region) → core.same_region (region_at q) (region_at r) ≡ same_region q r
-region_as (source.Frame j) (source.Frame k) = refl
-region_as (source.Frame j) (source.Born k) = refl
-region_as (source.Born j) (source.Frame k) = refl
-region_as (source.Born j) (source.Born k) = refl
-
-pub spot_as : (s t : Spot) → core.same_spot (at s) (at t) ≡ same_spot s t
-spot_as s t = ap (λ b. b && (nat_eq s.object t.object && nat_eq s.cell t.cell)) (region_as s.region t.region)
 
 -- ---- cells
 
@@ -105,110 +62,9 @@ value_in v source.Lent = v
 abbrev cell : Shape → source.Content → Cell
 cell shape content = record { shape = shape; content = content }
 
--- ---- facts of earlier memories hold in later ones
-
-pub later_self : (b : ℕ) (m : source.Memory) (c : core.Memory) → Later b m c m c
-later_self b m c = record { shapes = λ s shape h. h; parts = λ t j o w h. h; objects = λ k h. refl; begun = omega arith }
-
-pub later_on : (b : ℕ) (m m' m'' : source.Memory) (c c' c'' : core.Memory) → Later b m c m' c' → Later b m' c' m'' c'' → Later b m c m'' c''
-later_on b m m' m'' c c' c'' x y = record {
-  shapes = λ s shape h. y.shapes s shape (x.shapes s shape h);
-  parts = λ t j o w h. y.parts t j o w (x.parts t j o w h);
-  objects = λ k h. y.objects k h ∙ x.objects k h;
-  begun = let f = x.begun in let g = y.begun in omega (arith, f, g);
-}
-
--- of fewer blocks less is said
-pub later_less : (b b' : ℕ) (m m' : source.Memory) (c c' : core.Memory) → b' ≤ b → Later b m c m' c' → Later b' m c m' c'
-later_less b b' m m' c c' less l = record { shapes = l.shapes; parts = l.parts; objects = λ k h. l.objects k (omega (arith, less, h)); begun = l.begun }
-
-shaped_later : (b : ℕ) (m m' : source.Memory) (c c' : core.Memory) (t : core.Spot) (byte j : ℕ) (xs : List core.PartShape) → Later b m c m' c'
-    → AreShaped c t byte j xs → AreShaped c' t byte j xs
-shaped_later b m m' c c' t byte j [] l h = tt
-shaped_later b m m' c c' t byte j (x ∷ xs) l (one, others) = (
-  l.parts t j (byte + x.offset) x.width one,
-  shaped_later b m m' c c' t byte (suc j) xs l others,
-)
-
-pub made_later : (b : ℕ) (m m' : source.Memory) (c c' : core.Memory) (t : core.Spot) (byte : ℕ) (xs : List (List core.PartShape)) → Later b m c m' c'
-    → AreMade c t byte xs → AreMade c' t byte xs
-made_later b m m' c c' t byte [] l h = tt
-made_later b m m' c c' t byte (x ∷ xs) l (one, others) =
-    (shaped_later b m m' c c' t byte 0 x l one, made_later b m m' c c' (core.beyond t 1) byte xs l others)
-
-cells_later : (b : ℕ) (m m' : source.Memory) (c c' : core.Memory) (s : Spot) (xs : List Shape) → Later b m c m' c' → AreCells m s xs → AreCells m' s xs
-cells_later b m m' c c' s [] l h = tt
-cells_later b m m' c c' s (x ∷ xs) l (one, others) = (l.shapes s x one, cells_later b m m' c c' (source.beyond s 1) xs l others)
-
-pub leads_later : (b : ℕ) (w : World) (m m' : source.Memory) (c c' : core.Memory) (shape : Shape) (s : Spot) (byte : ℕ) → Later b m c m' c'
-    → Leads w m c shape s byte → Leads w m' c' shape s byte
-leads_later b w m m' c c' shape s byte l h = (
-  cells_later b m m' c c' s (cells_of w shape) l h.0,
-  made_later b m m' c c' (at s) byte (layout_of w shape).cells l h.1,
-)
-
-pub shown_later : (b : ℕ) (w : World) (m m' : source.Memory) (c c' : core.Memory) (shape : Shape) (v : Scalar) (cs : List Content) → Later b m c m' c'
-    → Shown w m c shape v cs → Shown w m' c' shape v cs
-shown_later b w m m' c c' IntShape v cs l h = h
-shown_later b w m m' c c' UnsignedShape v cs l h = h
-shown_later b w m m' c c' CharShape v cs l h = h
-shown_later b w m m' c c' VoidShape v cs l h = h
-shown_later b w m m' c c' (ThinShape n o to) v cs l h =
-    ⊎_elim (λ x. inl x) (λ (p : APointer w m c to v cs). inr (record {
-      spot = p.spot;
-      byte = p.byte;
-      value = p.value;
-      shown = p.shown;
-      lies = p.lies;
-      leads = leads_later b w m m' c c' to p.spot p.byte l p.leads;
-    })) h
-shown_later b w m m' c c' (FatShape to) v cs l h =
-    ⊎_elim (λ x. inl x) (λ (p : AFat w m c to (size_of w to) v cs). inr (record {
-      span = p.span;
-      byte = p.byte;
-      value = p.value;
-      shown = p.shown;
-      small =
-          p.small;
-      leads = λ k less. leads_later b w m m' c c' to _ _ l (p.leads k less);
-    })) h
-shown_later b w m m' c c' HandleShape v cs l h = h
-shown_later b w m m' c c' KeyShape v cs l h = h
-shown_later b w m m' c c' (StructShape tag) v cs l h = h
-shown_later b w m m' c c' (UnionShape tag) v cs l h = h
-shown_later b w m m' c c' (ArrayShape count of) v cs l h = h
-
-pub led_later : (b : ℕ) (w : World) (m m' : source.Memory) (c c' : core.Memory) (e : Entity) → Later b m c m' c' → IsLed w m c e → IsLed w m' c' e
-led_later b w m m' c c' (Variable shape s) l h = leads_later b w m m' c c' shape s 0 l h
-led_later b w m m' c c' (Fixed shape v) l h = tt
-
-pub all_led_later : (b : ℕ) (w : World) (m m' : source.Memory) (c c' : core.Memory) (bs : List Binding) → Later b m c m' c' → AreLed w m c bs
-    → AreLed w m' c' bs
-all_led_later b w m m' c c' [] l h = tt
-all_led_later b w m m' c c' (x ∷ bs) l (one, others) = (led_later b w m m' c c' x.entity l one, all_led_later b w m m' c c' bs l others)
-
-pub pending_later : (b : ℕ) (w : World) (m m' : source.Memory) (c c' : core.Memory) (frame index : ℕ) (ss : List Shape) → Later b m c m' c'
-    → ArePending w c frame index ss → ArePending w c' frame index ss
-pending_later b w m m' c c' frame index [] l h = tt
-pending_later b w m m' c c' frame index (s ∷ ss) l (one, others) =
-    (made_later b m m' c c' _ 0 (layout_of w s).cells l one, pending_later b w m m' c c' frame (suc index) ss l others)
-
--- a place fits later memories that agree
-pub fits_later : (p : Place) (m m' : source.Memory) (c c' : Config) → Fits p m c → Agree p.world m' c'.memory → LaterAt p m c m' c' → c'.blocks ≡ c.blocks
-    → Fits p m' c'
-fits_later p m m' c c' f a l blocks = record {
-  agree = a;
-  blocks = blocks ∙ f.blocks;
-  locals = all_led_later (suc p.frame) p.world m m' c.memory c'.memory p.locals l f.locals;
-  globals = all_led_later (suc p.frame) p.world m m' c.memory c'.memory p.world.globals l f.globals;
-  begun = let g = f.begun in let h = l.begun in omega (arith, g, h);
-  made = l.objects p.frame (omega arith) ∙ f.made;
-  pending = pending_later (suc p.frame) p.world m m' c.memory c'.memory p.frame p.made p.pending l f.pending;
-}
-
 -- ---- a cell gets another content, and no part changes or one does
 
-shape_kept : (m : source.Memory) (s : Spot) (shape : Shape) (old new : source.Content) → m.cells s ≡ Some (cell shape old) → (t : Spot) (other : Shape)
+pub shape_kept : (m : source.Memory) (s : Spot) (shape : Shape) (old new : source.Content) → m.cells s ≡ Some (cell shape old) → (t : Spot) (other : Shape)
     → HasShape m t other → HasShape (with_cell m s (cell shape new)) t other
 shape_kept m s shape old new is t other has = by (same_spot t s) refl
   where
@@ -234,7 +90,7 @@ part_kept c s j old x is t i offset width p = by (core.same_spot t s && nat_eq i
         with_x y (Some q) = Some (record q { content = y })
     by false e = record { content = p.content; is = ap (λ b. if b then Some (record old { content = x }) else c.parts t i) e ∙ p.is }
 
-pub later_written : (b : ℕ) (m : source.Memory) (c : core.Memory) (s : Spot) (shape : Shape) (old new : source.Content) (part : Part) (x : Content)
+pub later_written : (b : Bound) (m : source.Memory) (c : core.Memory) (s : Spot) (shape : Shape) (old new : source.Content) (part : Part) (x : Content)
     → m.cells s ≡ Some (cell shape old) → c.parts (at s) 0 ≡ Some part → Later b m c (with_cell m s (cell shape new))
     (with_part c (at s) 0 (record part { content = x }))
 later_written b m c s shape old new part x is there = record {
@@ -243,6 +99,10 @@ later_written b m c s shape old new part x is there = record {
   objects =
       λ k h. refl;
   begun = omega arith;
+  called = omega arith;
+  stands = λ k h. refl;
+  owned = λ k t j r h.
+      ap (λ z. if z && nat_eq j 0 then Some (record part { content = x }) else c.parts t j) (free_spot b (at s) t k (named_free b s) r h);
 }
 
 none_if : (b : Bool) (x y : Option Cell) → b ≡ false → y ≡ None → (if b then x else y) ≡ None
@@ -260,7 +120,7 @@ held_other c s t p j (x ∷ xs) e ((q, (is, holds)), others) = (
 no_part : (c : core.Memory) (p : Part) → None ≡ Some p → ⊥
 no_part c p e = cc e
 
-unmade_kept : (m : source.Memory) (s : Spot) (shape : Shape) (old new : source.Content) → m.cells s ≡ Some (cell shape old)
+pub unmade_kept : (m : source.Memory) (s : Spot) (shape : Shape) (old new : source.Content) → m.cells s ≡ Some (cell shape old)
     → ((t : Spot) → m.objects t.region ≤ t.object → m.cells t ≡ None) → (t : Spot) → m.objects t.region ≤ t.object
     → (with_cell m s (cell shape new)).cells t ≡ None
 unmade_kept m s shape old new is unmade t h = by (same_spot t s) refl
@@ -297,7 +157,7 @@ pub agree_written : (w : World) (m : source.Memory) (c : core.Memory) (s : Spot)
     (x : Content) → Agree w m c → m.cells s ≡ Some (cell shape old) → c.parts (at s) 0 ≡ Some part → Shown w m c shape v (x ∷ [])
     → Agree w (m_written m s shape v) (c_written c s part x)
 agree_written w m c s shape old v part x a is there shown =
-    let later = later_written 0 m c s shape old (Holds v) part x is there in
+    let later = later_written nothing m c s shape old (Holds v) part x is there in
     record {
       cells = λ t other u h. by (same_spot t s) t other u later refl h;
       live = a.live;
@@ -305,16 +165,19 @@ agree_written w m c s shape old v part x a is there shown =
       unmade = unmade_kept m s shape old (Holds v) is a.unmade;
       unentered = unentered_kept c (at s) part x there a.unentered;
       unbegun = a.unbegun;
+      uncalled = λ k t j h r.
+          (later_written (up_to k) m c s shape old (Holds v) part x is there).owned k t j r (is_up_to k t.object) ∙ a.uncalled k t j h r;
+      unowned = a.unowned;
     }
   where
-    here : Later 0 m c (m_written m s shape v) (c_written c s part x) → IsShown w (m_written m s shape v) (c_written c s part x) s shape v
+    here : Later nothing m c (m_written m s shape v) (c_written c s part x) → IsShown w (m_written m s shape v) (c_written c s part x) s shape v
     here later = record {
       contents = x ∷ [];
-      shown = shown_later 0 w m (m_written m s shape v) c (c_written c s part x) shape v (x ∷ []) later shown;
+      shown = shown_later nothing w m (m_written m s shape v) c (c_written c s part x) shape v (x ∷ []) later shown;
       held = ((record part { content = x }, (rw (spot_self (at s)) refl, refl)), tt);
     }
 
-    by : (b : Bool) (t : Spot) (other : Shape) (u : Scalar) → Later 0 m c (m_written m s shape v) (c_written c s part x) → same_spot t s ≡ b
+    by : (b : Bool) (t : Spot) (other : Shape) (u : Scalar) → Later nothing m c (m_written m s shape v) (c_written c s part x) → same_spot t s ≡ b
         → (m_written m s shape v).cells t ≡ Some (cell other (Holds u)) → IsShown w (m_written m s shape v) (c_written c s part x) t other u
     by true t other u later e h =
         let same : Some (cell shape (Holds v)) ≡ Some (cell other (Holds u)) = sym (ap (λ b. if b then Some (cell shape (Holds v)) else m.cells t) e) ∙ h in
@@ -326,7 +189,7 @@ agree_written w m c s shape old v part x a is there shown =
         let one = a.cells t other u before in
         record {
           contents = one.contents;
-          shown = shown_later 0 w m (m_written m s shape v) c (c_written c s part x) other u one.contents later one.shown;
+          shown = shown_later nothing w m (m_written m s shape v) c (c_written c s part x) other u one.contents later one.shown;
           held = held_other c (at s) (at t) (record part { content = x }) 0 one.contents (spot_as t s ∙ e) one.held;
         }
 
@@ -337,13 +200,16 @@ live_by : (q r : source.Region) (b : Bool) (x : source.State) (y : core.Standing
 live_by q r true x y e h = rw (region_as q r, e) refl
 live_by q r false x y e h = rw (region_as q r, e) h
 
-pub left_later : (b : ℕ) (m : source.Memory) (c : core.Memory) (k : ℕ) → Later b m c (with_state m (source.Frame k) Dead)
+pub left_later : (b : Bound) (m : source.Memory) (c : core.Memory) (k : ℕ) → Later b m c (with_state m (source.Frame k) Dead)
     (with_standing c (core.Frame k) core.Dead)
 left_later b m c k = record {
   shapes = λ t sh g. record { content = g.content; is = g.is };
   parts = λ t j o x g. record { content = g.content; is = g.is };
   objects = λ j h. refl;
   begun = omega arith;
+  called = omega arith;
+  stands = λ j h. refl;
+  owned = λ j t i r h. refl;
 }
 
 pub agree_left : (w : World) (m : source.Memory) (c : core.Memory) (k : ℕ) → Agree w m c → Agree w (with_state m (source.Frame k) Dead)
@@ -351,7 +217,7 @@ pub agree_left : (w : World) (m : source.Memory) (c : core.Memory) (k : ℕ) →
 agree_left w m c k a = record {
   cells = λ s shape v h. let one = a.cells s shape v h in record {
     contents = one.contents;
-    shown = shown_later 0 w m (with_state m (source.Frame k) Dead) c (with_standing c (core.Frame k) core.Dead) shape v one.contents (left_later 0 m c k)
+    shown = shown_later nothing w m (with_state m (source.Frame k) Dead) c (with_standing c (core.Frame k) core.Dead) shape v one.contents (left_later nothing m c k)
         one.shown;
     held = held_same c (with_standing c (core.Frame k) core.Dead) (at s) 0 one.contents (λ t j. refl) one.held;
   };
@@ -360,6 +226,8 @@ agree_left w m c k a = record {
   unmade = a.unmade;
   unentered = a.unentered;
   unbegun = a.unbegun;
+  uncalled = a.uncalled;
+  unowned = a.unowned;
 }
 
 -- ---- a part that is written with what it has

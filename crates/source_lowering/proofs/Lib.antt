@@ -1,6 +1,7 @@
 pub mod Structs
 pub mod StructCells
 pub mod Relations
+pub mod Lasting
 pub mod Keeping
 pub mod Runs
 pub mod Integers
@@ -18,19 +19,28 @@ pub mod Forms
 pub mod Tests
 pub mod Places
 pub mod Initialising
+pub mod Overwriting
+pub mod Wholes
+pub mod MakingMembers
+pub mod MakingStructs
 pub mod Reaching
 pub mod Pointers
 pub mod Calls
 pub mod EachCall
 pub mod EachExpression
+pub mod EachWhole
 pub mod Statements
 pub mod Clearing
 pub mod Copying
 pub mod Declaring
 pub mod Beginning
+pub mod WholeStatements
 pub mod Blocks
 pub mod WrittenTypes
+pub mod EachDeclaration
+pub mod EachRun
 pub mod EachStatement
+pub mod Owning
 pub mod Functions
 pub mod Heap
 pub mod Constants
@@ -39,9 +49,13 @@ pub mod Costs
 pub mod PartCosts
 pub mod SuffixCosts
 pub mod ExpressionCosts
+pub mod WholeCosts
+pub mod WholeObjects
 pub mod LocalWords
 pub mod Bounded
 pub mod PlainShapes
 pub mod OfWords
+pub mod WithoutValues
 mod Samples
+mod WholeSamples
 mod SameShapes

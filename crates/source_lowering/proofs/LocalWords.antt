@@ -1,5 +1,5 @@
--- How many words the locals of a block take.
-use Rattle.std.proofs.Common.{◌≡◌, ℕ, ◌+◌, ◌*◌, List, [], ◌∷◌, refl, ap, ◌∙◌, arith}
+-- How many words objects of given shapes take.
+use Rattle.std.proofs.Common.{◌≡◌, ◌+◌, ◌*◌, List, [], ◌∷◌, refl, ap, ◌∙◌, arith}
 use Rattle.source_meaning.specs.Shapes.{
   Shape,
   IntShape,
@@ -17,15 +17,10 @@ use Rattle.source_meaning.specs.Shapes.{
 use Rattle.source_meaning.specs.Steps.{World}
 use Rattle.source_lowering.specs.Layouts.{extent_of}
 use Rattle.source_lowering.specs.Programs.{locals_of}
-use Rattle.source_lowering.specs.Bounds.{words_of, shape_words, local_words}
+use Rattle.source_lowering.specs.Bounds.{words_of, shape_words, value_words, local_words}
 use Rattle.source_lowering.proofs.Integers.{IsWordShape}
 
--- the words of objects of these shapes
-abbrev pub all_words : World → List Shape → ℕ
-all_words w [] = 0
-all_words w (s ∷ ss) = shape_words w s + all_words w ss
-
-pub many_words : (w : World) (ss : List Shape) → local_words (locals_of w ss) ≡ all_words w ss
+pub many_words : (w : World) (ss : List Shape) → local_words (locals_of w ss) ≡ value_words w ss
 many_words w [] = refl
 many_words w (s ∷ ss) =
     let a : 1 * (extent_of w s).size ≡ (extent_of w s).size = omega arith in

@@ -10,9 +10,9 @@ use Rattle.source_meaning.specs.Steps.{World}
 use Rattle.source_meaning.proofs.Cases.{region_itself, region_is}
 use Rattle.core_meaning.specs.Memory as core
 use Rattle.core_meaning.specs.Memory.{Content, Part, with_part}
-use Rattle.source_lowering.proofs.Relations.{region_at, at, PartIs, AreCells, IsShown, Agree, Later}
+use Rattle.source_lowering.proofs.Relations.{region_at, at, PartIs, AreCells, IsShown, Agree, Bound, nothing, IsFree, Later}
 use Rattle.core_meaning.proofs.Spots.{spot_same}
-use Rattle.source_lowering.proofs.Keeping.{held_other, region_as, shown_later}
+use Rattle.source_lowering.proofs.Keeping.{named_free, free_spot, up_to, is_up_to, held_other, region_as, shown_later}
 
 abbrev pub local_spot : ℕ → ℕ → Spot
 local_spot k index = record { region = source.Frame k; object = index; cell = 0 }
@@ -53,13 +53,16 @@ pub objects_here : (m : source.Memory) (k : ℕ) (o : Object) → (m_made m k o)
 objects_here m k o = ap (λ b. if b then m.objects (source.Frame k) + 1 else m.objects (source.Frame k)) (region_itself (source.Frame k))
 
 -- the blocks before this one have no more locals
-pub grown_later : (m : source.Memory) (c : core.Memory) (k : ℕ) (o : Object)
-    → ((s : Spot) → m.objects s.region ≤ s.object → m.cells s ≡ None) → Later k m c (m_made m k o) c
-grown_later m c k o unmade = record {
+pub grown_later : (b : Bound) (m : source.Memory) (c : core.Memory) (k : ℕ) (o : Object) → b.frames ≤ k
+    → ((s : Spot) → m.objects s.region ≤ s.object → m.cells s ≡ None) → Later b m c (m_made m k o) c
+grown_later b m c k o before unmade = record {
   shapes = λ s other h. record { content = h.content; is = made_cell m k o s _ unmade h.is };
   parts = λ t j o w h. h;
-  objects = λ j h. objects_other m j k o h;
+  objects = λ j h. objects_other m j k o (omega (arith, before, h));
   begun = omega arith;
+  called = omega arith;
+  stands = λ j h. refl;
+  owned = λ j t i r h. refl;
 }
 
 -- the new local's own cells
@@ -121,16 +124,18 @@ agree_made w m c k index o a e begun shown = record {
       let two = a.unbegun j h in
       let no : nat_eq j k ≡ false = grind (arith, nat_tests, h, begun) in
       (ap (λ b. if b then m.objects (source.Frame k) + 1 else m.objects (source.Frame j)) no ∙ two.0, two.1);
+  uncalled = a.uncalled;
+  unowned = a.unowned;
 }
   where
     m' : source.Memory
     m' = m_made m k o
 
-    later : Later k m c m' c
-    later = grown_later m c k o a.unmade
+    later : Later nothing m c m' c
+    later = grown_later nothing m c k o (omega arith) a.unmade
 
     kept : (s : Spot) (other : Shape) (v : Scalar) → IsShown w m c s other v → IsShown w m' c s other v
-    kept s other v one = record { contents = one.contents; shown = shown_later k w m m' c c other v one.contents later one.shown; held = one.held }
+    kept s other v one = record { contents = one.contents; shown = shown_later nothing w m m' c c other v one.contents later one.shown; held = one.held }
 
     here : (t : Spot) (other : Shape) (v : Scalar) → is_here m k t ≡ true → o t.cell ≡ Some (record { shape = other; content = Holds v })
         → IsShown w m' c t other v
@@ -181,9 +186,17 @@ ahead_kept c s old x is t i offset width p = by (core.same_spot t s && nat_eq i 
         record { content = x; is = ap (λ b. if b then Some (record old { content = x }) else c.parts t i) e ∙ ap (with_x x) here }
     by false e = record { content = p.content; is = ap (λ b. if b then Some (record old { content = x }) else c.parts t i) e ∙ p.is }
 
-pub ahead_later : (b : ℕ) (m : source.Memory) (c : core.Memory) (s : core.Spot) (old : Part) (x : Content) → c.parts s 0 ≡ Some old
+pub ahead_later : (b : Bound) (m : source.Memory) (c : core.Memory) (s : core.Spot) (old : Part) (x : Content) → IsFree b s → c.parts s 0 ≡ Some old
     → Later b m c m (with_part c s 0 (record old { content = x }))
-ahead_later b m c s old x is = record { shapes = λ t shape h. h; parts = ahead_kept c s old x is; objects = λ k h. refl; begun = omega arith }
+ahead_later b m c s old x free is = record {
+  shapes = λ t shape h. h;
+  parts = ahead_kept c s old x is;
+  objects = λ k h. refl;
+  begun = omega arith;
+  called = omega arith;
+  stands = λ k h. refl;
+  owned = λ k t j r h. ap (λ z. if z && nat_eq j 0 then Some (record old { content = x }) else c.parts t j) (free_spot b s t k free r h);
+}
 
 pub agree_ahead : (w : World) (m : source.Memory) (c : core.Memory) (s : Spot) (old : Part) (x : Content) → Agree w m c → m.cells s ≡ None
     → c.parts (at s) 0 ≡ Some old → Agree w m (with_part c (at s) 0 (record old { content = x }))
@@ -194,6 +207,9 @@ agree_ahead w m c s old x a none is = record {
   unmade = a.unmade;
   unentered = λ k t j h r. apart (core.same_spot t (at s) && nat_eq j 0) k t j refl h r;
   unbegun = a.unbegun;
+  uncalled = λ k t j h r.
+      (ahead_later (up_to k) m c (at s) old x (named_free (up_to k) s) is).owned k t j r (is_up_to k t.object) ∙ a.uncalled k t j h r;
+  unowned = a.unowned;
 }
   where
     c' : core.Memory
@@ -221,7 +237,7 @@ agree_ahead w m c s old x a none is = record {
         let one = a.cells t shape v h in
         record {
           contents = one.contents;
-          shown = shown_later 0 w m m c c' shape v one.contents (ahead_later 0 m c (at s) old x is) one.shown;
+          shown = shown_later nothing w m m c c' shape v one.contents (ahead_later nothing m c (at s) old x (named_free nothing s) is) one.shown;
           held =
               held_other c (at s) (at t) (record old { content = x }) 0 one.contents e one.held;
         }

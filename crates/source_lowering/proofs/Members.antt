@@ -101,7 +101,7 @@ beyond_on s a b c e = λ i. record s { cell = same i }
     same : s.cell + a + b ≡ s.cell + c
     same = omega (arith, e)
 
-core_beyond_on : (s : core.Spot) (a b c : ℕ) → a + b ≡ c → core.beyond (core.beyond s a) b ≡ core.beyond s c
+pub core_beyond_on : (s : core.Spot) (a b c : ℕ) → a + b ≡ c → core.beyond (core.beyond s a) b ≡ core.beyond s c
 core_beyond_on s a b c e = λ i. record s { cell = same i }
   where
     same : s.cell + a + b ≡ s.cell + c
@@ -113,7 +113,7 @@ beyond_zero s = λ i. record s { cell = same i }
     same : s.cell ≡ s.cell + 0
     same = omega arith
 
-core_beyond_zero : (s : core.Spot) → s ≡ core.beyond s 0
+pub core_beyond_zero : (s : core.Spot) → s ≡ core.beyond s 0
 core_beyond_zero s = λ i. record s { cell = same i }
   where
     same : s.cell ≡ s.cell + 0
@@ -234,6 +234,39 @@ next_after unions structs bytes so_far (p ∷ ps) h room =
     let more = all_placed (placed_in unions structs) (extent_in unions structs) (a + e.size) ps in
     let above = rounded_above so_far.size e.align in
     subst (λ z. so_far.size ≤ next_at bytes (map (moved a) z ++ more)) (sym h.0.is) (omega (arith, above))
+
+-- of members from one on, the first, and those after it
+pub parts_made : (c : core.Memory) (unions structs : List Layout) (bytes : ℕ) (so_far : Extent) (p : Part) (ps : List Part) (t : core.Spot) (b : ℕ)
+    → HaveCells unions structs (p ∷ ps) → (laid_out (extent_in unions structs) so_far (p ∷ ps)).size ≤ bytes
+    → AreMade c t b (padded (extent_in unions structs) bytes (all_placed (placed_in unions structs) (extent_in unions structs) so_far.size (p ∷ ps)))
+    → AreMade c t (b + rounded_up so_far.size (extent_in unions structs p.shape).align) (padded (extent_in unions structs)
+    (extent_in unions structs p.shape).size (placed_in unions structs p.shape)) × AreMade c (core.beyond t (length (cells_in structs p.shape))) b
+    (padded (extent_in unions structs) bytes (all_placed (placed_in unions structs) (extent_in unions structs)
+    (rounded_up so_far.size (extent_in unions structs p.shape).align + (extent_in unions structs p.shape).size) ps))
+parts_made c unions structs bytes so_far p ps t b h room made = (
+  made_moved c t b a (padded extent e.size (placed_in unions structs p.shape)) _
+      (padded_moved extent e.size bytes a (placed_in unions structs p.shape) others (next_after unions structs bytes next ps h.1 room)) made,
+  subst (λ z. AreMade c (core.beyond t z) b (padded extent bytes others)) count
+      (made_after c t b bytes extent (map (moved a) (placed_in unions structs p.shape)) others made),
+)
+  where
+    extent : Shape → Extent
+    extent = extent_in unions structs
+
+    e : Extent
+    e = extent_in unions structs p.shape
+
+    a : ℕ
+    a = rounded_up so_far.size e.align
+
+    next : Extent
+    next = record { size = a + e.size; align = max so_far.align e.align }
+
+    others : List Placed
+    others = all_placed (placed_in unions structs) (extent_in unions structs) (a + e.size) ps
+
+    count : length (map (moved a) (placed_in unions structs p.shape)) ≡ length (cells_in structs p.shape)
+    count = length-map (placed_in unions structs p.shape) (moved a) ∙ sym (shapes_count (placed_in unions structs p.shape)) ∙ ap length h.0.shapes
 
 member_made : (c : core.Memory) (unions structs : List Layout) (bytes : ℕ) (so_far : Extent) (ps : List Part) (f : List ℕ) (t : core.Spot) (b : ℕ)
     → HaveCells unions structs ps → (laid_out (extent_in unions structs) so_far ps).size ≤ bytes

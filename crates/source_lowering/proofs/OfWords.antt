@@ -36,13 +36,13 @@ use Rattle.source_lowering.specs.Lowered.{Named, static_shape, linked_shape}
 use Rattle.source_lowering.specs.Programs.{local_shape, named_here, outward, parameter_names}
 use Rattle.source_lowering.specs.Taken as words
 use Rattle.source_lowering.specs.Taken.{IsIntegerBase, IsVoidBase, IsThinSign, IsSharedRegion, AreThin, HasFirst, IsOfWords}
-use Rattle.source_lowering.specs.Lowerable.{HasBeginning, TakesPlace, Takes, TakesAll, TakesLinks, TakesInitializer, TakesDeclaration, TakesStatement, TakesItems, AreWords, TakesResult, GivesWord, GivesNothing, TakesFunction, TakesGlobal, TakesProgram, AreStructs, IsLowerable, TakesValue}
-use Rattle.source_lowering.proofs.PlainShapes.{bound_plain, call_plain, integer_plain, named_plain, no_tag, object_type, operator_plain, plain_single, pointee_plain, result_plain, type_plain, word_type, IsPlain, ArePlainNames, ArePlainBindings, ArePlainRoutines, IsPlainScope}
+use Rattle.source_lowering.specs.Lowerable.{HasBeginning, TakesPlace, Takes, TakesAll, TakesLinks, TakesInitializer, TakesDeclaration, TakesStatement, TakesItems, AreWords, TakesResult, GivesWord, GivesNothing, TakesFunction, TakesGlobal, TakesProgram, AreStructs, IsLowerable, TakesValue, TakesAssigned, TakesDropped, TakesRun, TakesCalled, TakesWhole}
+use Rattle.source_lowering.proofs.PlainShapes.{bound_plain, call_plain, integer_plain, named_plain, makes_none, no_tag, object_type, operator_plain, plain_single, pointee_plain, result_plain, type_plain, word_type, IsPlain, ArePlainNames, ArePlainBindings, ArePlainRoutines, IsPlainScope}
 
 -- ---- expressions
 
 mutual
-  place_plain : (w : World) (names : List Named) (e : Expression) → IsPlainScope w names → words.TakesPlace e → IsPlain (static_shape w names e)
+  pub place_plain : (w : World) (names : List Named) (e : Expression) → IsPlainScope w names → words.TakesPlace e → IsPlain (static_shape w names e)
   place_plain w names (Expression.Variable name) p h =
       named_plain names name.text (bound_to w.globals name.text) p.locals (bound_plain w.globals name.text p.globals)
   place_plain w names (Expression.Grouped at inner) p h = place_plain w names inner p h
@@ -51,7 +51,7 @@ mutual
   place_plain w names (Expression.Prefixed at _ operand) p h = absurd h
   place_plain w names _ p h = absurd h
 
-  shape_plain : (w : World) (names : List Named) (e : Expression) → IsPlainScope w names → words.Takes e → IsPlain (static_shape w names e)
+  pub shape_plain : (w : World) (names : List Named) (e : Expression) → IsPlainScope w names → words.Takes e → IsPlain (static_shape w names e)
   shape_plain w names (Expression.Number at value suffix) p h = integer_plain (number_type value suffix)
   shape_plain w names (Expression.Character at byte) p h = tt
   shape_plain w names (Expression.Null at) p h = tt
@@ -131,6 +131,25 @@ value_wide : (w : World) (names : List Named) (s : Shape) (e : Expression) → I
 value_wide w names (StructShape tag) e plain h = absurd plain
 value_wide w names _ e plain h = h
 
+assigned_wide : (w : World) (names : List Named) (s : Shape) (place value : Expression) → IsPlain s → Takes w names (Expression.Assign place value)
+    → TakesAssigned w names s place value
+assigned_wide w names (StructShape tag) place value plain h = absurd plain
+assigned_wide w names _ place value plain h = h
+
+dropped_wide : (w : World) (names : List Named) (s : Shape) (e : Expression) → IsPlain s → Takes w names e → TakesDropped w names s e
+dropped_wide w names (StructShape tag) e plain h = absurd plain
+dropped_wide w names _ e plain h = h
+
+run_wide : (w : World) (names : List Named) (e : Expression) → IsPlainScope w names → words.Takes e → TakesRun w names e
+run_wide w names (Expression.Assign place value) p h =
+    assigned_wide w names (static_shape w names place) place value (place_plain w names place p h.0)
+    (takes_wide w names (Expression.Assign place value) p h)
+run_wide w names (Expression.Grouped at inner) p h = run_wide w names inner p h
+run_wide w names (Expression.Call name arguments) p h =
+    let e = Expression.Call name arguments in
+    subst (λ z. TakesCalled z (TakesWhole w names e) (Takes w names e)) (sym (makes_none w name.text p.structs)) (takes_wide w names e p h)
+run_wide w names e p h = dropped_wide w names (static_shape w names e) e (shape_plain w names e p h) (takes_wide w names e p h)
+
 initializer_wide : (w : World) (names : List Named) (s : Shape) (i : Initializer) → IsPlainScope w names → IsPlain s → words.TakesInitializer s i
     → TakesInitializer w names s i
 initializer_wide w names s Initializer.Unset p plain h = begins_wide s h
@@ -142,11 +161,11 @@ declaration_wide w names (tree.Local of name initializer) p h =
     (object_type w.structs of h.0, initializer_wide w names (settled (written of)) initializer p (type_plain of h.0) h.1)
 declaration_wide w names _ p h = absurd h
 
-local_plain : (d : Declaration) → words.TakesDeclaration d → IsPlain (local_shape d)
+pub local_plain : (d : Declaration) → words.TakesDeclaration d → IsPlain (local_shape d)
 local_plain (tree.Local of name initializer) h = type_plain of h.0
 local_plain _ h = absurd h
 
-with_name : (w : World) (names : List Named) (name : List ℕ) (s : Shape) (index : ℕ) → IsPlain s → IsPlainScope w names
+pub with_name : (w : World) (names : List Named) (name : List ℕ) (s : Shape) (index : ℕ) → IsPlain s → IsPlainScope w names
     → IsPlainScope w (named_here name s index ∷ names)
 with_name w names name s index h p = record { locals = (h, p.locals); globals = p.globals; functions = p.functions; structs = p.structs }
 
@@ -154,7 +173,7 @@ names_outward : (names : List Named) → ArePlainNames names → ArePlainNames (
 names_outward [] h = tt
 names_outward (l ∷ ls) h = (h.0, names_outward ls h.1)
 
-scope_outward : (w : World) (names : List Named) → IsPlainScope w names → IsPlainScope w (outward names)
+pub scope_outward : (w : World) (names : List Named) → IsPlainScope w names → IsPlainScope w (outward names)
 scope_outward w names p = record { locals = names_outward names p.locals; globals = p.globals; functions = p.functions; structs = p.structs }
 
 mutual
@@ -162,7 +181,7 @@ mutual
       → TakesStatement w result names s
   statement_wide w result names (Statement.Empty at) p h = tt
   statement_wide w result names (Statement.Block at items) p h = items_wide w result (outward names) 0 items (scope_outward w names p) h
-  statement_wide w result names (Statement.Run e) p h = takes_wide w names e p h
+  statement_wide w result names (Statement.Run e) p h = run_wide w names e p h
   statement_wide w result names (Statement.If at condition body) p h =
       (takes_wide w names condition p h.0, statement_wide w result names body p h.1)
   statement_wide w result names (Statement.IfElse at condition body otherwise) p h =
@@ -191,7 +210,7 @@ parameters_wide : (ms : List Member) → words.AreWords ms → AreWords ms
 parameters_wide [] h = tt
 parameters_wide (m ∷ ms) h = (word_type m.of h.0, parameters_wide ms h.1)
 
-parameters_scope : (w : World) (ms : List Member) (index : ℕ) (names : List Named) → words.AreWords ms → IsPlainScope w names
+pub parameters_scope : (w : World) (ms : List Member) (index : ℕ) (names : List Named) → words.AreWords ms → IsPlainScope w names
     → IsPlainScope w (parameter_names (map part_of ms) index names)
 parameters_scope w [] index names h p = p
 parameters_scope w (m ∷ ms) index names h p =
@@ -257,10 +276,13 @@ functions_plain (tree.UnionItem u ∷ items) h = absurd h.0
 functions_plain (tree.GlobalItem g ∷ items) h = functions_plain items h.1
 functions_plain (tree.FunctionItem f ∷ items) h = (result_plain f.result h.0.result, functions_plain items h.1)
 
+-- its names, before any local
+pub words_scope : (p : tree.Program) → words.TakesProgram p → IsPlainScope (world_of p) []
+words_scope p h = record { locals = tt; globals = globals_plain p 0 h; functions = functions_plain p h; structs = no_structs p h }
+
 pub words_lowerable : (p : tree.Program) → IsOfWords p → IsLowerable p
 words_lowerable p h = record {
-  items = items_are (world_of p) p
-      (record { locals = tt; globals = globals_plain p 0 h.items; functions = functions_plain p h.items; structs = no_structs p h.items }) h.items;
+  items = items_are (world_of p) p (words_scope p h.items) h.items;
   structs = subst (λ z. AreStructs (world_of p).unions z) (sym (no_structs p h.items)) tt;
   strings = h.strings;
 }

@@ -1,5 +1,5 @@
 -- Places and the pointers to them: a variable, `*e`, what is read and stored there, and `&e`.
-use Rattle.std.proofs.Common.{◌≡◌, ℕ, suc, ◌+◌, inl, inr, ⊎_elim, List, [], ◌∷◌, ◌++◌, length, Bool, true, false, Some, None, refl, sym, ap, ◌∙◌, subst, arith}
+use Rattle.std.proofs.Common.{◌≡◌, ℕ, ◌+◌, inl, inr, ⊎_elim, List, [], ◌∷◌, ◌++◌, length, Bool, true, false, Some, None, refl, sym, ap, ◌∙◌, subst, arith}
 use Rattle.std.specs.Prelude.{nat_eq, slice_get}
 use Rattle.step_trees.specs.Trees.{Stops}
 use Rattle.std.proofs.lemmas.Bool.{eq-eqb, false≢true}
@@ -24,13 +24,13 @@ use Rattle.source_meaning.specs.Shapes.{
 use Rattle.source_meaning.specs.Memory as source
 use Rattle.source_meaning.specs.Memory.{Scalar, Thin, Spot}
 use Rattle.source_meaning.specs.Steps as steps
-use Rattle.source_meaning.specs.Steps.{World, give, ◌>>=◌}
+use Rattle.source_meaning.specs.Steps.{give, ◌>>=◌}
 use Rattle.source_meaning.specs.Conversions.{cells_of, one, accessed}
 use Rattle.source_meaning.specs.Values.{read_cells, take_cells, write_cells}
 use Rattle.source_meaning.specs.Places.{Sense, value_sense, place_sense, entity_sense, bound_to, or_else, given_by}
 use Rattle.source_meaning.specs.Programs.{heap_spot}
 use Rattle.core_meaning.specs.Memory as core
-use Rattle.core_meaning.specs.Memory.{Content, Null, Pointer, Part, with_part}
+use Rattle.core_meaning.specs.Memory.{Content, Null, Pointer, with_part}
 use Rattle.core_meaning.specs.Core.{Statement, Do, NullPointer, LocalAddress, DataAddress, Load, Store, Statements}
 use Rattle.core_meaning.specs.Steps as core_steps
 use Rattle.core_meaning.specs.Steps.{Config, with_temp, with_memory}
@@ -38,7 +38,7 @@ use Rattle.core_meaning.specs.Meaning as meaning
 use Rattle.core_meaning.specs.Operations.{does, fitting}
 use Rattle.source_lowering.specs.Lowered.{local_named, shape_by, put, width_of, distance, address_by, check_code, load_code, store_code}
 use Rattle.source_lowering.specs.Lowerable.{AreStructs}
-use Rattle.source_lowering.proofs.Relations.{at, LiesNear, Leads, AreLed, Place, Fits, SameAt, Next, AreKept, LaterAt, Given, GivesAs, AreLocals}
+use Rattle.source_lowering.proofs.Relations.{at, LiesNear, Leads, AreLed, Place, Fits, SameAt, Next, AreKept, LaterAt, Given, GivesAs, AreLocals, within}
 use Rattle.source_lowering.proofs.Keeping.{later_self, later_on, m_written}
 use Rattle.source_lowering.proofs.Runs.{stuck_same, stops_same, put_all}
 use Rattle.source_lowering.proofs.Integers.{IsTaken, IsTarget, IsWordShape, IsNoStruct, object_word, object_target, taken_no_struct, one_same, thin_same}
@@ -77,7 +77,7 @@ pointer_put : (p : Place) (n d : ℕ) (m : source.Memory) (c : Config) (shape : 
     (k : Config → core_steps.Step) → Fits p m c → LiesNear p.world shape 0 → Leads p.world m c.memory shape t 0 → PlaceGoesOn p n d m c shape s k
     → SameAt p n (s t m) (k (with_temp d (Pointer (at t) 0) c))
 pointer_put p n d m c shape t s k fits word leads goes =
-    goes.go m (with_temp d (Pointer (at t) 0) c) t 0 (temp_fits p m c d (Pointer (at t) 0) fits) (later_self (suc p.frame) m c.memory)
+    goes.go m (with_temp d (Pointer (at t) 0) c) t 0 (temp_fits p m c d (Pointer (at t) 0) fits) (later_self (within p) m c.memory)
     (kept_temp d d (Pointer (at t) 0) c c (omega arith) (λ k h. refl)) (put_temp d (Pointer (at t) 0) c) word leads
 
 addressed : (c : Config) (d out index frame : ℕ) (next : Config → core_steps.Step) → slice_get c.blocks out ≡ Some frame
@@ -254,7 +254,7 @@ place_stores p n d shape act code value placed = record {
             let word = object_word p.world.structs shape lies.object value in
             let same : c.temps d ≡ c1.temps d = sym (kept1 d (omega arith)) in
             let plain = plain_of p.world shape word in
-            let given1 = given_later (suc p.frame) p.world m m1 c.memory c1.memory shape vs (c.temps d) later1 given in
+            let given1 = given_later (within p) p.world m m1 c.memory c1.memory shape vs (c.temps d) later1 given in
             let v = value_of p.world m1 c1.memory shape vs (c1.temps d) word (subst (λ z. Given p.world m1 c1.memory shape vs z) same given1) in
             let step : core_steps.Step = does (Store (d + 1) (distance 0 0 (width_of shape)) d) (meaning.statements rest next) c1 in
             subst (λ z. SameAt p n (write_cells t z (λ u. s (given_by shape vs)) m1) step) (sym v.alone)
@@ -265,7 +265,7 @@ place_stores p n d shape act code value placed = record {
             (sym (stored_at c1 d (d + 1) (width_of shape) byte (at t) o.old (meaning.statements rest next) temp o.live o.part ∙
             ap (λ z. meaning.statements rest next (with_memory (with_part c1.memory (at t) 0 (part_at_byte byte (width_of shape) z)) c1)) o.fits))
             (written_on p n d shape m0 c0 m1 c1 t byte (width_of shape) vs s (meaning.statements rest next) v plain fits1
-            (later_on (suc p.frame) m0 m m1 c0.memory c.memory c1.memory later later1) (λ k h. kept1 k (omega (arith, h)) ∙ kept k h) goes o)));
+            (later_on (within p) m0 m m1 c0.memory c.memory c1.memory later later1) (λ k h. kept1 k (omega (arith, h)) ∙ kept k h) goes o)));
       }));
 }
 
@@ -309,6 +309,6 @@ null_agrees p n d = record { shape_is = refl; taken = (refl, tt); looks = gives;
     gives = record {
       same = λ m c s rest next fits goes.
           put_value p n d m c m c (ThinShape true Shared VoidShape) (Thin None ∷ []) Null s (meaning.statements rest next) fits
-          (later_self (suc p.frame) m c.memory) (λ k h. refl)
+          (later_self (within p) m c.memory) (λ k h. refl)
           (inl (record { value = Thin None; alone = refl; shown = inl (record { allowed = refl; value = refl; shown = refl }) })) goes;
     }

@@ -1,5 +1,5 @@
 -- Shapes, types and names of programs of words: none is a struct.
-use Rattle.std.proofs.Common.{◌≡◌, ℕ, List, [], ◌∷◌, Bool, true, false, Option, Some, sym, ap, subst}
+use Rattle.std.proofs.Common.{◌≡◌, ℕ, List, [], ◌∷◌, Bool, true, false, Option, Some, refl, sym, ap, subst}
 use Rattle.std.specs.Prelude.{bytes_eq, codes, if◌then◌else◌}
 use Rattle.cyc_tree.specs.declared.expression.Operator.{Operator}
 use Rattle.cyc_tree.specs.declared.expression.Operator.TheVariants as operator
@@ -37,6 +37,7 @@ use Rattle.source_meaning.specs.Calls.{function_of}
 use Rattle.source_meaning.specs.Programs.{integer_shape}
 use Rattle.source_meaning.specs.Memory.{IntegerType, AsInt, AsUnsigned, AsChar}
 use Rattle.source_lowering.specs.Lowered.{Named, local_named, entity_shape, shape_by, result_shape, call_shape}
+use Rattle.source_lowering.specs.Whole.{makes_struct}
 use Rattle.source_lowering.specs.Taken as words
 use Rattle.source_lowering.specs.Taken.{IsIntegerBase, IsVoidBase, IsThinSign, IsSharedRegion, AreThin, HasFirst, IsOfWords}
 use Rattle.source_lowering.specs.Lowerable.{IsNoStruct, IsKnownIn, IsObjectBase, IsObjectType, IsWordType}
@@ -214,3 +215,12 @@ call_plain w name h = by (bytes_eq name (codes "getchar")) (bytes_eq name (codes
 
 pub no_tag : (w : World) (name : List ℕ) → w.structs ≡ [] → has_tag w.structs name ≡ false
 no_tag w name e = ap (λ z. has_tag z name) e
+
+-- so no call makes one
+pub makes_none : (w : World) (name : List ℕ) → w.structs ≡ [] → makes_struct w name ≡ false
+makes_none w name e = by (bytes_eq name (codes "getchar")) (bytes_eq name (codes "putchar"))
+  where
+    by : (reads writes : Bool) → (if reads then false else (if writes then false else has_tag w.structs name)) ≡ false
+    by true writes = refl
+    by false true = refl
+    by false false = no_tag w name e

@@ -44,7 +44,7 @@ use Rattle.core_meaning.specs.Steps.{Config, with_temp}
 use Rattle.core_meaning.specs.Meaning as meaning
 use Rattle.core_meaning.specs.Operations.{same_place}
 use Rattle.source_lowering.specs.Lowered.{put, pointers_code, operator_code, turned_code}
-use Rattle.source_lowering.proofs.Relations.{at, region_at, ANull, APointer, Agree, Later, Place, Fits, SameAt, Next, AreKept, LaterAt, GoesOn}
+use Rattle.source_lowering.proofs.Relations.{at, region_at, ANull, APointer, Agree, Later, Place, Fits, SameAt, Next, AreKept, LaterAt, GoesOn, Bound}
 use Rattle.source_lowering.proofs.Keeping.{spot_as, shown_later}
 use Rattle.source_lowering.proofs.Runs.{stuck_same}
 use Rattle.source_lowering.proofs.Integers.{IsThin, null_is, pointer_is}
@@ -53,7 +53,7 @@ use Rattle.source_lowering.proofs.Values.{put_temp, temp_fits, kept_temp}
 use Rattle.source_lowering.proofs.Tests.{put_truth, turned_does}
 
 -- a pointer's value stays one in later memories
-pub thin_later : (b : ℕ) (w : World) (m m' : source.Memory) (c c' : core.Memory) (shape : Shape) (v : Scalar) (x : Content) → Later b m c m' c'
+pub thin_later : (b : Bound) (w : World) (m m' : source.Memory) (c c' : core.Memory) (shape : Shape) (v : Scalar) (x : Content) → Later b m c m' c'
     → IsThin w m c shape v x → IsThin w m' c' shape v x
 thin_later b w m m' c c' shape v x later o = record {
   may_be_null = o.may_be_null;

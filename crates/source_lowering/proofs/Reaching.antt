@@ -36,7 +36,7 @@ use Rattle.source_lowering.specs.Lowered.{
   suffixed_code,
 }
 use Rattle.source_lowering.specs.Lowerable.{IsObject, IsNoStruct, AreStructs, TakesMembers, TakesSuffixes}
-use Rattle.source_lowering.proofs.Relations.{at, LiesNear, Leads, Place, Fits, SameAt, Next, AreKept, LaterAt, Given, GivesAs}
+use Rattle.source_lowering.proofs.Relations.{at, LiesNear, Leads, Place, Fits, SameAt, Next, AreKept, LaterAt, Given, GivesAs, within}
 use Rattle.source_lowering.proofs.Keeping.{later_on, m_written}
 use Rattle.source_lowering.proofs.Runs.{put_all}
 use Rattle.source_lowering.proofs.Integers.{IsWordShape, word_taken, object_word}
@@ -217,7 +217,7 @@ reached_stores p n d cells bytes shape act code word reached = record {
             let u : Spot = source.beyond t cells in
             let same : c.temps d ≡ c1.temps d = sym (kept1 d (omega arith)) in
             let plain = plain_of p.world shape word in
-            let given1 = given_later (suc p.frame) p.world m m1 c.memory c1.memory shape vs (c.temps d) later1 given in
+            let given1 = given_later (within p) p.world m m1 c.memory c1.memory shape vs (c.temps d) later1 given in
             let v = value_of p.world m1 c1.memory shape vs (c1.temps d) word (subst (λ z. Given p.world m1 c1.memory shape vs z) same given1) in
             let step : core_steps.Step = does (Store (d + 1) (distance cells bytes (width_of shape)) d) (meaning.statements rest next) c1 in
             subst (λ z. SameAt p n (write_cells u z (λ w. s (given_by shape vs)) m1) step) (sym v.alone)
@@ -228,7 +228,7 @@ reached_stores p n d cells bytes shape act code word reached = record {
             (sym (stored_far c1 d (d + 1) cells bytes (width_of shape) byte (at t) o.old (meaning.statements rest next) temp o.live o.part ∙
             ap (λ z. meaning.statements rest next (with_memory (with_part c1.memory (at u) 0 (part_at_byte (byte + bytes) (width_of shape) z)) c1)) o.fits))
             (written_on p n d shape m0 c0 m1 c1 u (byte + bytes) (width_of shape) vs s (meaning.statements rest next) v plain fits1
-            (later_on (suc p.frame) m0 m m1 c0.memory c.memory c1.memory later later1) (λ k h. kept1 k (omega (arith, h)) ∙ kept k h) goes o)));
+            (later_on (within p) m0 m m1 c0.memory c.memory c1.memory later later1) (λ k h. kept1 k (omega (arith, h)) ∙ kept k h) goes o)));
       }));
 }
 

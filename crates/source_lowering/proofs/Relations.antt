@@ -92,11 +92,10 @@ AreCells m s (x ∷ xs) = HasShape m s x × AreCells m (source.beyond s 1) xs
 abbrev pub Leads : World → source.Memory → core.Memory → Shape → Spot → ℕ → Type 0
 Leads w m c shape s byte = AreCells m s (cells_of w shape) × AreMade c (at s) byte (layout_of w shape).cells
 
--- the objects of a block that the source makes later, from a number on, as Core has made them
-abbrev pub ArePending : World → core.Memory → ℕ → ℕ → List Shape → Type 0
-ArePending w c frame index [] = Unit {0}
-ArePending w c frame index (s ∷ ss) =
-    AreMade c (record { region = core.Frame frame; object = index; cell = 0 }) 0 (layout_of w s).cells × ArePending w c frame (suc index) ss
+-- the objects of a region, from a number on, as Core has made them: those of a block that the source makes later, and a function's unnamed values
+abbrev pub ArePending : World → core.Memory → core.Region → ℕ → List Shape → Type 0
+ArePending w c r index [] = Unit {0}
+ArePending w c r index (s ∷ ss) = AreMade c (record { region = r; object = index; cell = 0 }) 0 (layout_of w s).cells × ArePending w c r (suc index) ss
 
 -- ---- values: a scalar of a static shape, and the words that stand for it
 
@@ -175,13 +174,37 @@ pub record Agree (w : World) (m : source.Memory) (c : core.Memory) : Type 0 wher
   pub unmade : (s : Spot) → m.objects s.region ≤ s.object → m.cells s ≡ None
   pub unentered : (k : ℕ) (t : core.Spot) (j : ℕ) → c.activations ≤ k → t.region ≡ core.Frame k → c.parts t j ≡ None
   pub unbegun : (k : ℕ) → m.activations ≤ k → (m.objects (source.Frame k) ≡ 0) × (c.objects (core.Frame k) ≡ 0)
+  pub uncalled : (k : ℕ) (t : core.Spot) (j : ℕ) → c.calls ≤ k → t.region ≡ core.Own k → c.parts t j ≡ None
+  pub unowned : (k : ℕ) → c.calls ≤ k → c.objects (core.Own k) ≡ 0
 
--- Later memories have the layouts of earlier ones, and the blocks before one no more locals.
-pub record Later (b : ℕ) (m : source.Memory) (c : core.Memory) (m' : source.Memory) (c' : core.Memory) : Type 0 where
+-- What stays as it was: how many locals the blocks before one have, how the functions' own regions before one stand, and what the own regions before one hold,
+-- and so many values of that one.
+pub record Bound : Type 0 where
+  pub frames : ℕ
+  pub standing : ℕ
+  pub own : ℕ
+  pub values : ℕ
+
+abbrev pub nothing : Bound
+nothing = record { frames = 0; standing = 0; own = 0; values = 0 }
+
+-- a value of an own region stays as it was
+abbrev pub IsKept : Bound → (own value : ℕ) → Type 0
+IsKept b k i = (k ≤ b.own) × (k ≡ b.own → i < b.values)
+
+-- what is no such value
+abbrev pub IsFree : Bound → core.Spot → Type 0
+IsFree b t = (k : ℕ) → t.region ≡ core.Own k → IsKept b k t.object → ⊥
+
+-- Later memories have the layouts of earlier ones, and this much stays as it was.
+pub record Later (b : Bound) (m : source.Memory) (c : core.Memory) (m' : source.Memory) (c' : core.Memory) : Type 0 where
   pub shapes : (s : Spot) (shape : Shape) → HasShape m s shape → HasShape m' s shape
   pub parts : (t : core.Spot) (j offset width : ℕ) → PartIs c t j offset width → PartIs c' t j offset width
-  pub objects : (k : ℕ) → k < b → m'.objects (source.Frame k) ≡ m.objects (source.Frame k)
+  pub objects : (k : ℕ) → k < b.frames → m'.objects (source.Frame k) ≡ m.objects (source.Frame k)
   pub begun : m.activations ≤ m'.activations
+  pub called : c.calls ≤ c'.calls
+  pub stands : (k : ℕ) → k < b.standing → c'.standing (core.Own k) ≡ c.standing (core.Own k)
+  pub owned : (k : ℕ) (t : core.Spot) (j : ℕ) → t.region ≡ core.Own k → IsKept b k t.object → c'.parts t j ≡ c.parts t j
 
 -- ---- names in scope
 
@@ -208,7 +231,8 @@ AreLed w m c (b ∷ bs) = IsLed w m c b.entity × AreLed w m c bs
 
 -- ---- a point of both runs
 
--- What both have in common in a scope: the activation of its block, and those around it; how many locals it has, and the shapes of those to come.
+-- What both have in common in a scope: the activation of its block, and those around it; how many locals it has, and the shapes of those to come; the number of
+-- its function's activation, and the shapes of its unnamed values.
 pub record Place : Type 0 where
   pub world : World
   pub program : Program
@@ -218,6 +242,8 @@ pub record Place : Type 0 where
   pub outer : List ℕ
   pub made : ℕ
   pub pending : List Shape
+  pub own : ℕ
+  pub owned : List Shape
 
 pub record Fits (p : Place) (m : source.Memory) (c : Config) : Type 0 where
   pub agree : Agree p.world m c.memory
@@ -226,7 +252,11 @@ pub record Fits (p : Place) (m : source.Memory) (c : Config) : Type 0 where
   pub globals : AreLed p.world m c.memory p.world.globals
   pub begun : p.frame < m.activations
   pub made : m.objects (source.Frame p.frame) ≡ p.made
-  pub pending : ArePending p.world c.memory p.frame p.made p.pending
+  pub pending : ArePending p.world c.memory (core.Frame p.frame) p.made p.pending
+  pub own : c.own ≡ p.own
+  pub called : p.own < c.memory.calls
+  pub stands : core.is_live (c.memory.standing (core.Own p.own)) ≡ true
+  pub owned : ArePending p.world c.memory (core.Own p.own) 0 p.owned
 
 -- ---- runs
 
@@ -252,9 +282,24 @@ Next = Exit → Config → core_steps.Step
 abbrev pub AreKept : ℕ → Config → Config → Type 0
 AreKept d old new = (k : ℕ) → k < d → new.temps k ≡ old.temps k
 
--- nothing but locals of newer blocks was made in between
+-- a function's activation, and those of the blocks that it is in
+abbrev pub activation : Config → List ℕ
+activation c = c.own ∷ c.blocks
+
+-- what an expression keeps: nothing but locals of newer blocks is made, and all unnamed values stay
+abbrev pub within : Place → Bound
+within p = record { frames = suc p.frame; standing = suc p.own; own = suc p.own; values = 0 }
+
+-- what a statement keeps, where the blocks before one have no more locals then
+abbrev pub around : Place → ℕ → Bound
+around p b = record { frames = b; standing = suc p.own; own = p.own; values = 0 }
+
+-- what an expression that is a struct keeps: unnamed values before one
+abbrev pub before_value : Place → ℕ → Bound
+before_value p value = record { frames = suc p.frame; standing = suc p.own; own = p.own; values = value }
+
 abbrev pub LaterAt : Place → source.Memory → Config → source.Memory → Config → Type 0
-LaterAt p m0 c0 m c = Later (suc p.frame) m0 c0.memory m c.memory
+LaterAt p m0 c0 m c = Later (within p) m0 c0.memory m c.memory
 
 -- a value of one word
 pub record AValue (w : World) (m : source.Memory) (c : core.Memory) (shape : Shape) (vs : List Scalar) (x : Content) : Type 0 where

@@ -98,13 +98,13 @@ all_forms_taken = record {
 
 -- ---- pointers
 
-abbrev nullable : List tree.Pointer
+abbrev pub nullable : List tree.Pointer
 nullable = (record { sign = Nullable; region = None }) ∷ []
 
 abbrev not_null : List tree.Pointer
 not_null = (record { sign = NotNull; region = None }) ∷ []
 
-abbrev contents_of : Expression → Expression
+abbrev pub contents_of : Expression → Expression
 contents_of e = Expression.Prefixed 0 Dereference e
 
 abbrev address_of : Expression → Expression
@@ -161,13 +161,13 @@ null_read_runs = refl
 
 -- ---- structs
 
-abbrev struct_of : tree.Name → tree.TypeName
+abbrev pub struct_of : tree.Name → tree.TypeName
 struct_of tag = typed (tree.Struct tag []) []
 
-abbrev member : tree.TypeName → tree.Name → tree.Member
+abbrev pub member : tree.TypeName → tree.Name → tree.Member
 member of name = record { of = of; name = name }
 
-abbrev dot : Expression → tree.Name → Expression
+abbrev pub dot : Expression → tree.Name → Expression
 dot e f = Expression.Suffixed e (Dot f NoSuffixes)
 
 abbrev arrow : Expression → tree.Name → Expression
@@ -254,9 +254,9 @@ struct_forms_taken = record {
                             (
                               (((tt, ((refl, tt), tt)), tt), (refl, ((tt, tt), tt))),
                               (
-                                (record { pointers = tt; base = tt; known = refl }, (tt, ((refl, tt), (tt, (refl, tt))))),
+                                (record { pointers = tt; base = tt; known = refl }, ((tt, ((refl, tt), (tt, (refl, tt)))), refl)),
                                 (
-                                  (record { pointers = tt; base = tt; known = refl }, ((tt, ((refl, tt), tt)), tt)),
+                                  (record { pointers = tt; base = tt; known = refl }, (((tt, ((refl, tt), tt)), tt), refl)),
                                   (
                                     ((tt, (tt, tt)), (tt, tt)),
                                     ((((tt, (refl, (tt, tt))), tt), (((tt, (tt, tt)), tt), (((tt, (tt, tt)), tt), tt))), tt),

@@ -34,8 +34,8 @@ use Rattle.core_meaning.specs.Steps.{Config, Exit}
 use Rattle.core_meaning.specs.Meaning as meaning
 use Rattle.core_meaning.specs.Meaning.{values_of}
 use Rattle.source_lowering.specs.Lowered.{put, all_of, results_in, conversion_code}
-use Rattle.source_lowering.proofs.Relations.{Agree, Later, Place, Fits, SameAt, Same, Next, LaterAt, AValue, ANothing, Given, GivesAs}
-use Rattle.source_lowering.proofs.Keeping.{later_self, later_on, later_less, fits_later}
+use Rattle.source_lowering.proofs.Relations.{Agree, Bound, Later, Place, Fits, SameAt, Same, Next, activation, around, AValue, ANothing, Given, GivesAs}
+use Rattle.source_lowering.proofs.Keeping.{IsLess, less_self, around_items, later_self, later_on, later_less, later_around, blocks_of, fits_on}
 use Rattle.source_lowering.proofs.Runs.{turns_same, less_fuel, put_all}
 use Rattle.source_lowering.proofs.Integers.{IsTaken, IsWordShape}
 use Rattle.source_lowering.proofs.Values.{put_three}
@@ -45,27 +45,27 @@ use Rattle.source_lowering.proofs.Tests.{Decides, truth_decided}
 use Rattle.source_lowering.proofs.Calls.{ResultIs}
 
 -- What comes after a statement for each way out of it: with memories that agree, in which the blocks before one have no more locals, both go on alike.
-pub record WaysOn (w : World) (fs : Program) (n b : ℕ) (m0 : source.Memory) (c0 : Config) (result : Shape) (next : Flow → source.Memory → steps.Step)
+pub record WaysOn (w : World) (fs : Program) (n : ℕ) (b : Bound) (m0 : source.Memory) (c0 : Config) (result : Shape) (next : Flow → source.Memory → steps.Step)
     (falls_on : Config → core_steps.Step) (after : Next) : Type 0 where
-  pub falls : (m : source.Memory) (c : Config) → Agree w m c.memory → Later b m0 c0.memory m c.memory → c.blocks ≡ c0.blocks
+  pub falls : (m : source.Memory) (c : Config) → Agree w m c.memory → Later b m0 c0.memory m c.memory → activation c ≡ activation c0
       → Same w fs n (next steps.Falls m) (falls_on c)
-  pub breaks : (m : source.Memory) (c : Config) → Agree w m c.memory → Later b m0 c0.memory m c.memory → c.blocks ≡ c0.blocks
+  pub breaks : (m : source.Memory) (c : Config) → Agree w m c.memory → Later b m0 c0.memory m c.memory → activation c ≡ activation c0
       → Same w fs n (next steps.Breaks m) (after core_steps.Breaks c)
-  pub continues : (m : source.Memory) (c : Config) → Agree w m c.memory → Later b m0 c0.memory m c.memory → c.blocks ≡ c0.blocks
+  pub continues : (m : source.Memory) (c : Config) → Agree w m c.memory → Later b m0 c0.memory m c.memory → activation c ≡ activation c0
       → Same w fs n (next steps.Continues m) (after core_steps.Continues c)
   pub returns : (m : source.Memory) (c : Config) (vs : List Scalar) (xs : List Content) → Agree w m c.memory → Later b m0 c0.memory m c.memory
-      → c.blocks ≡ c0.blocks → ResultIs w m c.memory result vs xs → Same w fs n (next (steps.Returns vs) m) (after (core_steps.Returns xs) c)
+      → activation c ≡ activation c0 → ResultIs w m c.memory result vs xs → Same w fs n (next (steps.Returns vs) m) (after (core_steps.Returns xs) c)
 
 -- an act does the same as the code of a statement, or of a block's items; the blocks before one have no more locals then
 pub record RunsAs (p : Place) (n b : ℕ) (result : Shape) (act : Act Flow) (code : List Statement) : Type 0 where
   pub same : (m : source.Memory) (c : Config) (next : Flow → source.Memory → steps.Step) (rest : Statements) (after : Next) → Fits p m c
-      → WaysOn p.world p.program n b m c result next (meaning.statements rest after) after
+      → WaysOn p.world p.program n (around p b) m c result next (meaning.statements rest after) after
       → SameAt p n (act next m) (meaning.statements (put code rest) after c)
 
 -- ---- ways on
 
 -- with less fuel
-pub ways_less : (w : World) (fs : Program) (n j b : ℕ) (m0 : source.Memory) (c0 : Config) (result : Shape) (next : Flow → source.Memory → steps.Step)
+pub ways_less : (w : World) (fs : Program) (n j : ℕ) (b : Bound) (m0 : source.Memory) (c0 : Config) (result : Shape) (next : Flow → source.Memory → steps.Step)
     (falls_on : Config → core_steps.Step) (after : Next) → j ≤ n → WaysOn w fs n b m0 c0 result next falls_on after
     → WaysOn w fs j b m0 c0 result next falls_on after
 ways_less w fs n j b m0 c0 result next falls_on after less ways = record {
@@ -76,8 +76,8 @@ ways_less w fs n j b m0 c0 result next falls_on after less ways = record {
 }
 
 -- from a later point on
-pub ways_later : (w : World) (fs : Program) (n b b' : ℕ) (m0 m1 : source.Memory) (c0 c1 : Config) (result : Shape) (next : Flow → source.Memory → steps.Step)
-    (falls_on : Config → core_steps.Step) (after : Next) → b ≤ b' → Later b m0 c0.memory m1 c1.memory → c1.blocks ≡ c0.blocks
+pub ways_later : (w : World) (fs : Program) (n : ℕ) (b b' : Bound) (m0 m1 : source.Memory) (c0 c1 : Config) (result : Shape) (next : Flow → source.Memory → steps.Step)
+    (falls_on : Config → core_steps.Step) (after : Next) → IsLess b b' → Later b m0 c0.memory m1 c1.memory → activation c1 ≡ activation c0
     → WaysOn w fs n b m0 c0 result next falls_on after → WaysOn w fs n b' m1 c1 result next falls_on after
 ways_later w fs n b b' m0 m1 c0 c1 result next falls_on after less later blocks ways = record {
   falls = λ m c a l e. ways.falls m c a (on m c l) (e ∙ blocks);
@@ -90,7 +90,7 @@ ways_later w fs n b b' m0 m1 c0 c1 result next falls_on after less later blocks 
     on m c l = later_on b m0 m1 m c0.memory c1.memory c.memory later (later_less b' b m1 m c1.memory c.memory less l)
 
 -- for a part of a statement, whose own code ends where the statement's does
-pub ways_inside : (w : World) (fs : Program) (n b : ℕ) (m0 : source.Memory) (c0 : Config) (result : Shape) (next : Flow → source.Memory → steps.Step)
+pub ways_inside : (w : World) (fs : Program) (n : ℕ) (b : Bound) (m0 : source.Memory) (c0 : Config) (result : Shape) (next : Flow → source.Memory → steps.Step)
     (rest : Statements) (after : Next) → WaysOn w fs n b m0 c0 result next (meaning.statements rest after) after
     → WaysOn w fs n b m0 c0 result next (meaning.statements NoStatements (λ exit. meaning.falls_to exit (meaning.statements rest after) after))
     (λ exit. meaning.falls_to exit (meaning.statements rest after) after)
@@ -98,18 +98,14 @@ ways_inside w fs n b m0 c0 result next rest after ways = record { falls = ways.f
 
 -- ---- simple statements
 
--- what a place fits stays so where it is later
-pub blocks_of : (p : Place) (m : source.Memory) (m' : source.Memory) (c c' : Config) → Fits p m c → Fits p m' c' → c'.blocks ≡ c.blocks
-blocks_of p m m' c c' f g = g.blocks ∙ sym f.blocks
-
 pub falls_same : (p : Place) (n b : ℕ) (result : Shape) → RunsAs p n b result (give steps.Falls) []
-falls_same p n b result = record { same = λ m c next rest after fits ways. ways.falls m c fits.agree (later_self b m c.memory) refl }
+falls_same p n b result = record { same = λ m c next rest after fits ways. ways.falls m c fits.agree (later_self (around p b) m c.memory) refl }
 
 pub breaks_same : (p : Place) (n b : ℕ) (result : Shape) → RunsAs p n b result (give steps.Breaks) (Break ∷ [])
-breaks_same p n b result = record { same = λ m c next rest after fits ways. ways.breaks m c fits.agree (later_self b m c.memory) refl }
+breaks_same p n b result = record { same = λ m c next rest after fits ways. ways.breaks m c fits.agree (later_self (around p b) m c.memory) refl }
 
 pub continues_same : (p : Place) (n b : ℕ) (result : Shape) → RunsAs p n b result (give steps.Continues) (Continue ∷ [])
-continues_same p n b result = record { same = λ m c next rest after fits ways. ways.continues m c fits.agree (later_self b m c.memory) refl }
+continues_same p n b result = record { same = λ m c next rest after fits ways. ways.continues m c fits.agree (later_self (around p b) m c.memory) refl }
 
 -- an expression whose value is dropped
 pub run_same : (p : Place) (n : ℕ) (result : Shape) (e : Sense) (shape : Shape) (code : List Statement) → GivesAs p n 0 shape e.value code
@@ -117,7 +113,7 @@ pub run_same : (p : Place) (n : ℕ) (result : Shape) (e : Sense) (shape : Shape
 run_same p n result e shape code one = record {
   same = λ m c next rest after fits ways.
       one.same m c (λ vs. next steps.Falls) rest after fits (record {
-        go = λ m2 c2 vs fits2 later2 kept2 given2. ways.falls m2 c2 fits2.agree later2 (blocks_of p m m2 c c2 fits fits2);
+        go = λ m2 c2 vs fits2 later2 kept2 given2. ways.falls m2 c2 fits2.agree (later_around p m m2 c c2 later2) (blocks_of p m m2 c c2 fits fits2);
       });
 }
 
@@ -160,7 +156,7 @@ return_same p n result e from code taken one = record {
       ((converted_gives p n 0 result e from code taken one).same m c (λ us. next (steps.Returns us)) (put (Return (results_in result 0) ∷ []) rest) after fits
       (record {
         go = λ m2 c2 vs fits2 later2 kept2 given2.
-            ways.returns m2 c2 vs (values_of c2.temps (results_in result 0)) fits2.agree later2 (blocks_of p m m2 c c2 fits fits2)
+            ways.returns m2 c2 vs (values_of c2.temps (results_in result 0)) fits2.agree (later_around p m m2 c c2 later2) (blocks_of p m m2 c c2 fits fits2)
             (result_here p.world m2 c2 result vs taken given2);
       }));
 }
@@ -169,25 +165,25 @@ return_same p n result e from code taken one = record {
 pub leave_same : (p : Place) (n b : ℕ) (result : Shape) → result ≡ VoidShape → RunsAs p n b result (give (steps.Returns [])) (Return [] ∷ [])
 leave_same p n b result void = record {
   same = λ m c next rest after fits ways.
-      ways.returns m c [] [] fits.agree (later_self b m c.memory) refl (inr (record { nothing = refl; value = record { void = void; none = refl } }));
+      ways.returns m c [] [] fits.agree (later_self (around p b) m c.memory) refl (inr (record { nothing = refl; value = record { void = void; none = refl } }));
 }
 
 -- ---- one of two statements
 
 choice_by : (t : Bool) (p : Place) (n b : ℕ) (result : Shape) (first second : Act Flow) (these those : List Statement) (m : source.Memory) (c : Config)
     (next : Flow → source.Memory → steps.Step) (rest : Statements) (after : Next) → Decides t (c.temps 0) → RunsAs p n b result first these
-    → RunsAs p n b result second those → Fits p m c → WaysOn p.world p.program n b m c result next (meaning.statements rest after) after
+    → RunsAs p n b result second those → Fits p m c → WaysOn p.world p.program n (around p b) m c result next (meaning.statements rest after) after
     → SameAt p n (choose t first second next m) (meaning.statements (MoreStatements (If 0 (all_of these) (all_of those)) rest) after c)
 choice_by true p n b result first second these those m c next rest after decides one other fits ways =
     let inner : Next = λ exit. meaning.falls_to exit (meaning.statements rest after) after in
     subst (λ z. SameAt p n (first next m) z)
     (sym (decides.branches (meaning.statements (all_of these) inner c) (meaning.statements (all_of those) inner c)))
-    (one.same m c next NoStatements inner fits (ways_inside p.world p.program n b m c result next rest after ways))
+    (one.same m c next NoStatements inner fits (ways_inside p.world p.program n (around p b) m c result next rest after ways))
 choice_by false p n b result first second these those m c next rest after decides one other fits ways =
     let inner : Next = λ exit. meaning.falls_to exit (meaning.statements rest after) after in
     subst (λ z. SameAt p n (second next m) z)
     (sym (decides.branches (meaning.statements (all_of these) inner c) (meaning.statements (all_of those) inner c)))
-    (other.same m c next NoStatements inner fits (ways_inside p.world p.program n b m c result next rest after ways))
+    (other.same m c next NoStatements inner fits (ways_inside p.world p.program n (around p b) m c result next rest after ways))
 
 pub choice_same : (p : Place) (n : ℕ) (result : Shape) (condition : Sense) (shape : Shape) (test : List Statement) (first second : Act Flow)
     (these those : List Statement) → Agrees p n 0 condition shape test → RunsAs p n (suc p.frame) result first these
@@ -201,7 +197,8 @@ choice_same p n result condition shape test first second these those looks one o
       looks.taken looks.looks fits (record {
         go = λ m2 c2 t fits2 later2 kept2 decides2.
             choice_by t p n (suc p.frame) result first second these those m2 c2 next rest after decides2 one other fits2
-            (ways_later p.world p.program n (suc p.frame) (suc p.frame) m m2 c c2 result next (meaning.statements rest after) after (omega arith) later2
+            (ways_later p.world p.program n (around p (suc p.frame)) (around p (suc p.frame)) m m2 c c2 result next (meaning.statements rest after) after (less_self (around p (suc p.frame)))
+            (later_around p m m2 c c2 later2)
             (blocks_of p m m2 c c2 fits fits2) ways);
       }));
 }
@@ -212,14 +209,14 @@ pub sequence_same : (p : Place) (n : ℕ) (result : Shape) (first second : Act F
     → RunsAs p n p.frame result (first >>= λ flow. source_statements.falls_to flow second) (these ++ those)
 sequence_same p n result first second these those one other = record {
   same = λ m c next rest after fits ways.
-      let more = ways_later p.world p.program n p.frame (suc p.frame) m m c c result next (meaning.statements rest after) after (omega arith)
-      (later_self p.frame m c.memory) refl ways in
+      let more = ways_later p.world p.program n (around p p.frame) (around p (suc p.frame)) m m c c result next (meaning.statements rest after) after (around_items p)
+      (later_self (around p p.frame) m c.memory) refl ways in
       subst (λ z. SameAt p n (first (λ flow. source_statements.falls_to flow second next) m) (meaning.statements z after c)) (sym (put_all these those rest))
       (one.same m c (λ flow. source_statements.falls_to flow second next) (put those rest) after fits (record {
         falls = λ m2 c2 a l e.
-            other.same m2 c2 next rest after (fits_later p m m2 c c2 fits a l e)
-            (ways_later p.world p.program n p.frame p.frame m m2 c c2 result next (meaning.statements rest after) after (omega arith)
-            (later_less (suc p.frame) p.frame m m2 c.memory c2.memory (omega arith) l) e ways);
+            other.same m2 c2 next rest after (fits_on p m m2 c c2 fits a l e)
+            (ways_later p.world p.program n (around p p.frame) (around p p.frame) m m2 c c2 result next (meaning.statements rest after) after (less_self (around p p.frame))
+            (later_less (around p (suc p.frame)) (around p p.frame) m m2 c.memory c2.memory (around_items p) l) e ways);
         breaks = more.breaks;
         continues = more.continues;
         returns = more.returns;
@@ -231,22 +228,22 @@ sequence_same p n result first second these those one other = record {
 -- a loop does the same as its code, with so much fuel
 pub record LoopsAs (p : Place) (n : ℕ) (result : Shape) (scope : Scope) (condition : Expression) (body : tree.Statement) (code : Statement) : Type 0 where
   pub same : (m : source.Memory) (c : Config) (next : Flow → source.Memory → steps.Step) (after : Next) → Fits p m c
-      → WaysOn p.world p.program n (suc p.frame) m c result next (after core_steps.Falls) after
+      → WaysOn p.world p.program n (around p (suc p.frame)) m c result next (after core_steps.Falls) after
       → SameAt p n (source_statements.loop condition body scope next m) (meaning.statement code after c)
 
 -- a turn, after which comes the loop with less fuel
 turn_same : (p : Place) (n j : ℕ) (result : Shape) (scope : Scope) (condition : Expression) (body : tree.Statement) (test these : List Statement)
     (m : source.Memory) (c : Config) (next : Flow → source.Memory → steps.Step) (after : Next) → suc j ≤ n
     → RunsAs p j (suc p.frame) result (source_statements.statement body scope) these → LoopsAs p j result scope condition body
-    (While (all_of test) 0 (all_of these)) → Fits p m c → WaysOn p.world p.program n (suc p.frame) m c result next (after core_steps.Falls) after
+    (While (all_of test) 0 (all_of these)) → Fits p m c → WaysOn p.world p.program n (around p (suc p.frame)) m c result next (after core_steps.Falls) after
     → SameAt p j (programs.turned condition body scope next m) (meaning.turned (record { test = all_of test; flag = 0; body = all_of these }) after c)
 turn_same p n j result scope condition body test these m c next after less runs again fits ways =
-    let fewer = ways_less p.world p.program n j (suc p.frame) m c result next (after core_steps.Falls) after (omega (arith, less)) ways in
+    let fewer = ways_less p.world p.program n j (around p (suc p.frame)) m c result next (after core_steps.Falls) after (omega (arith, less)) ways in
     let code : Statement = While (all_of test) 0 (all_of these) in
-    let once : (m2 : source.Memory) (c2 : Config) → Agree p.world m2 c2.memory → LaterAt p m c m2 c2 → c2.blocks ≡ c.blocks
+    let once : (m2 : source.Memory) (c2 : Config) → Agree p.world m2 c2.memory → Later (around p (suc p.frame)) m c.memory m2 c2.memory → activation c2 ≡ activation c
     → SameAt p j (source_statements.loop condition body scope next m2) (meaning.statement code after c2) =
-    λ m2 c2 a l e. again.same m2 c2 next after (fits_later p m m2 c c2 fits a l e) (ways_later p.world p.program j (suc p.frame) (suc p.frame) m m2 c c2
-    result next (after core_steps.Falls) after (omega arith) l e fewer) in
+    λ m2 c2 a l e. again.same m2 c2 next after (fits_on p m m2 c c2 fits a l e) (ways_later p.world p.program j (around p (suc p.frame)) (around p (suc p.frame)) m m2 c c2
+    result next (after core_steps.Falls) after (less_self (around p (suc p.frame))) l e fewer) in
     runs.same m c (λ flow m2. source_statements.after_turn flow (source_statements.loop condition body scope) next m2) NoStatements
     (λ exit. meaning.after_turn exit (meaning.statement code after) after) fits (record {
       falls = once;
@@ -271,19 +268,20 @@ one_loop p n result scope condition body shape test these looks runs again = rec
       tested looks.taken looks.looks fits (record {
         go = λ m2 c2 t fits2 later2 kept2 decides2.
             by t m2 c2 next after decides2 fits2
-            (ways_later p.world p.program n (suc p.frame) (suc p.frame) m m2 c c2 result next (after core_steps.Falls) after (omega arith) later2
+            (ways_later p.world p.program n (around p (suc p.frame)) (around p (suc p.frame)) m m2 c c2 result next (after core_steps.Falls) after (less_self (around p (suc p.frame)))
+            (later_around p m m2 c c2 later2)
             (blocks_of p m m2 c c2 fits fits2) ways);
       });
 }
   where
     by : (t : Bool) (m : source.Memory) (c : Config) (next : Flow → source.Memory → steps.Step) (after : Next) → Decides t (c.temps 0) → Fits p m c
-        → WaysOn p.world p.program n (suc p.frame) m c result next (after core_steps.Falls) after
+        → WaysOn p.world p.program n (around p (suc p.frame)) m c result next (after core_steps.Falls) after
         → SameAt p n (choose t (steps.take_turn condition body scope) (give steps.Falls) next m)
         (meaning.branch (c.temps 0) (Turns (record { test = all_of test; flag = 0; body = all_of these }) after c) (after core_steps.Falls c))
     by false m c next after decides fits ways =
         subst (λ z. SameAt p n (next steps.Falls m) z)
         (sym (decides.branches (Turns (record { test = all_of test; flag = 0; body = all_of these }) after c) (after core_steps.Falls c)))
-        (ways.falls m c fits.agree (later_self (suc p.frame) m c.memory) refl)
+        (ways.falls m c fits.agree (later_self (around p (suc p.frame)) m c.memory) refl)
     by true m c next after decides fits ways =
         subst (λ z. SameAt p n (steps.take_turn condition body scope next m) z)
         (sym (decides.branches (Turns (record { test = all_of test; flag = 0; body = all_of these }) after c) (after core_steps.Falls c)))
@@ -312,5 +310,5 @@ loop_same p n result scope condition body shape test these looks runs = record {
   same = λ m c next rest after fits ways.
       (loops_to n p result scope condition body shape test these looks runs n (omega arith)).same m c next (λ exit. meaning.falls_to exit
       (meaning.statements rest after) after) fits
-      (ways_inside p.world p.program n (suc p.frame) m c result next rest after ways);
+      (ways_inside p.world p.program n (around p (suc p.frame)) m c result next rest after ways);
 }

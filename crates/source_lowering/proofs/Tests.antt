@@ -1,12 +1,12 @@
 -- Conditions: an operand that is tested, `&&`, `||` and `!`.
-use Rattle.std.proofs.Common.{◌≡◌, ℕ, suc, ◌+◌, List, [], ◌∷◌, ◌++◌, Bool, true, false, not, nat_eq, refl, sym, ap, ◌∙◌, subst, arith}
+use Rattle.std.proofs.Common.{◌≡◌, ℕ, ◌+◌, List, [], ◌∷◌, ◌++◌, Bool, true, false, not, nat_eq, refl, sym, ap, ◌∙◌, subst, arith}
 use Rattle.std.specs.Prelude.{if◌then◌else◌}
 use Rattle.std.proofs.lemmas.Bool.Decides.{nat_tests}
 use Rattle.source_meaning.specs.Shapes.{Shape, IntShape}
 use Rattle.source_meaning.specs.Memory as source
-use Rattle.source_meaning.specs.Memory.{IntegerType, AsInt, AsUnsigned, AsChar, Scalar, Integer}
+use Rattle.source_meaning.specs.Memory.{IntegerType, AsInt, AsUnsigned, AsChar, Scalar}
 use Rattle.source_meaning.specs.Steps as steps
-use Rattle.source_meaning.specs.Steps.{give, need, choose, ◌>>=◌}
+use Rattle.source_meaning.specs.Steps.{give, need, choose}
 use Rattle.source_meaning.specs.Operators.{truth_value, is_true}
 use Rattle.source_meaning.specs.Conversions.{one}
 use Rattle.source_meaning.specs.Places.{Sense}
@@ -22,7 +22,7 @@ use Rattle.core_meaning.specs.Steps.{Config, with_temp}
 use Rattle.core_meaning.specs.Meaning as meaning
 use Rattle.core_meaning.specs.Operations.{does}
 use Rattle.source_lowering.specs.Lowered.{put, all_of, truth_code, turned_code, word_code, not_code}
-use Rattle.source_lowering.proofs.Relations.{at, Place, Fits, SameAt, Next, AreKept, LaterAt, Given, GoesOn, GivesAs}
+use Rattle.source_lowering.proofs.Relations.{at, Place, Fits, SameAt, Next, AreKept, LaterAt, Given, GoesOn, GivesAs, within}
 use Rattle.source_lowering.proofs.Keeping.{later_on}
 use Rattle.source_lowering.proofs.Runs.{put_all}
 use Rattle.core_meaning.proofs.Results.{truth_below}
@@ -224,7 +224,7 @@ all_more p n d e es shape code others taken gives more = record {
         (truth_tested p n d e shape code m c (λ t. choose t (all_true es) (give false) (λ u. s (truth_value u ∷ []))) NoStatements after taken gives fits
         (record {
           go = λ m2 c2 w2 fits2 later2 kept2 temp2.
-              more.same m0 c0 m2 c2 w2 s rest next fits2 (later_on (suc p.frame) m0 m m2 c0.memory c.memory c2.memory later later2)
+              more.same m0 c0 m2 c2 w2 s rest next fits2 (later_on (within p) m0 m m2 c0.memory c.memory c2.memory later later2)
               (λ k h. kept2 k h ∙ kept k h) temp2 goes;
         })))
 
@@ -292,7 +292,7 @@ any_more p n d e es shape code others taken gives more = record {
         (truth_tested p n d e shape code m c (λ t. choose t (give true) (any_true es) (λ u. s (truth_value u ∷ []))) NoStatements after taken gives fits
         (record {
           go = λ m2 c2 w2 fits2 later2 kept2 temp2.
-              more.same m0 c0 m2 c2 w2 s rest next fits2 (later_on (suc p.frame) m0 m m2 c0.memory c.memory c2.memory later later2)
+              more.same m0 c0 m2 c2 w2 s rest next fits2 (later_on (within p) m0 m m2 c0.memory c.memory c2.memory later later2)
               (λ k h. kept2 k h ∙ kept k h) temp2 goes;
         })))
 

@@ -1,5 +1,5 @@
 -- Values in temporaries: what is put there, and what stays.
-use Rattle.std.proofs.Common.{◌≡◌, ℕ, suc, ◌<◌, ◌≤◌, inl, inr, ⊎_elim, List, [], ◌∷◌, ◌++◌, false, nat_eq, refl, sym, ap, ◌∙◌, subst, arith}
+use Rattle.std.proofs.Common.{◌≡◌, ℕ, ◌<◌, ◌≤◌, inl, inr, ⊎_elim, List, [], ◌∷◌, ◌++◌, false, nat_eq, refl, sym, ap, ◌∙◌, subst, arith}
 use Rattle.std.specs.Prelude.{if◌then◌else◌}
 use Rattle.std.proofs.lemmas.Bool.{eq-eqb}
 use Rattle.std.proofs.lemmas.Bool.Decides.{nat_tests}
@@ -14,7 +14,7 @@ use Rattle.core_meaning.specs.Core.{Statement, Statements}
 use Rattle.core_meaning.specs.Steps as core_steps
 use Rattle.core_meaning.specs.Steps.{Config, with_temp}
 use Rattle.source_lowering.specs.Lowered.{put}
-use Rattle.source_lowering.proofs.Relations.{Place, Fits, SameAt, AreKept, LaterAt, AValue, ANothing, Given, GoesOn, Later}
+use Rattle.source_lowering.proofs.Relations.{Place, Fits, SameAt, AreKept, LaterAt, AValue, ANothing, Given, GoesOn, Later, Bound, within}
 use Rattle.source_lowering.proofs.Keeping.{later_on, shown_later}
 use Rattle.source_lowering.proofs.Runs.{put_all}
 
@@ -35,11 +35,14 @@ temp_fits p m c d x f = record {
   globals = f.globals;
   begun = f.begun;
   made = f.made;
-  pending =
-      f.pending;
+  pending = f.pending;
+  own = f.own;
+  called = f.called;
+  stands = f.stands;
+  owned = f.owned;
 }
 
-pub given_later : (b : ℕ) (w : World) (m m' : source.Memory) (c c' : core.Memory) (shape : Shape) (vs : List Scalar) (x : Content) → Later b m c m' c'
+pub given_later : (b : Bound) (w : World) (m m' : source.Memory) (c c' : core.Memory) (shape : Shape) (vs : List Scalar) (x : Content) → Later b m c m' c'
     → Given w m c shape vs x → Given w m' c' shape vs x
 given_later b w m m' c c' shape vs x l given =
     ⊎_elim (λ (v : AValue w m c shape vs x). inl (record {
@@ -65,7 +68,7 @@ pub goes_later : (p : Place) (n d : ℕ) (m0 m1 : source.Memory) (c0 c1 : Config
     → LaterAt p m0 c0 m1 c1 → AreKept d c0 c1 → GoesOn p n d m0 c0 shape s k → GoesOn p n d m1 c1 shape s k
 goes_later p n d m0 m1 c0 c1 shape s k later kept goes = record {
   go = λ m c vs fits l g given.
-      goes.go m c vs fits (later_on (suc p.frame) m0 m1 m c0.memory c1.memory c.memory later l) (λ j h. g j h ∙ kept j h) given;
+      goes.go m c vs fits (later_on (within p) m0 m1 m c0.memory c1.memory c.memory later l) (λ j h. g j h ∙ kept j h) given;
 }
 
 -- three pieces of code, one after the other

@@ -1,12 +1,12 @@
 -- A variable, read and written: a local by one operation, a global by its address.
-use Rattle.std.proofs.Common.{◌≡◌, ℕ, suc, ◌+◌, inl, ⊎_elim, List, [], ◌∷◌, length, true, Some, None, refl, sym, ap, ◌∙◌, subst, arith}
+use Rattle.std.proofs.Common.{◌≡◌, ℕ, ◌+◌, inl, ⊎_elim, List, [], ◌∷◌, length, true, Some, None, refl, sym, ap, ◌∙◌, subst, arith}
 use Rattle.std.specs.Prelude.{slice_get}
 use Rattle.std.proofs.lemmas.Bool.{eq-eqb}
 use Rattle.source_meaning.specs.Shapes.{Shape, VoidShape}
 use Rattle.source_meaning.specs.Memory as source
 use Rattle.source_meaning.specs.Memory.{Scalar, Spot}
 use Rattle.source_meaning.specs.Steps as steps
-use Rattle.source_meaning.specs.Steps.{World, Entity, Variable, Fixed, Scope, Binding, give}
+use Rattle.source_meaning.specs.Steps.{World, give}
 use Rattle.source_meaning.specs.Conversions.{cells_of}
 use Rattle.source_meaning.specs.Values.{read_cells, write_cells}
 use Rattle.source_meaning.specs.Places.{Sense, no_sense, place_sense, entity_sense, bound_to, or_else, given_by}
@@ -35,6 +35,7 @@ use Rattle.source_lowering.proofs.Relations.{
   GoesOn,
   GivesAs,
   AreLocals,
+  within,
 }
 use Rattle.source_lowering.proofs.Keeping.{later_self, later_on, fits_later, shown_later, m_written}
 use Rattle.source_lowering.proofs.Runs.{stuck_same}
@@ -91,7 +92,7 @@ get_local p n d out index frame shape is_word block led = record {
       (λ v o.
       subst (λ z. SameAt p n (s (v ∷ []) m) z)
       (sym (got c d out index (width_of shape) frame o.content (meaning.statements rest next) (ap (λ z. slice_get z out) fits.blocks ∙ block) o.live o.part))
-      (put_value p n d m c m c shape (v ∷ []) o.content s (meaning.statements rest next) fits (later_self (suc p.frame) m c.memory) (λ k h. refl)
+      (put_value p n d m c m c shape (v ∷ []) o.content s (meaning.statements rest next) fits (later_self (within p) m c.memory) (λ k h. refl)
       (inl (record { value = v; alone = refl; shown = o.shown })) goes));
 }
 
@@ -109,7 +110,7 @@ load_global p n d number shape is_word led = record {
       subst (λ z. SameAt p n (s (v ∷ []) m) z)
       (sym (loaded here d d (width_of shape) number o.content (meaning.statements rest next) (put_temp d (Pointer (at (heap_spot number)) 0) c) o.live o.part))
       (put_value p n d m c m here shape (v ∷ []) o.content s (meaning.statements rest next) (temp_fits p m c d (Pointer (at (heap_spot number)) 0) fits)
-      (later_self (suc p.frame) m c.memory)
+      (later_self (within p) m c.memory)
       (kept_temp d d (Pointer (at (heap_spot number)) 0) c c (omega arith) (λ k h. refl))
       (inl (record { value = v; alone = refl; shown = o.shown })) goes));
 }
@@ -200,13 +201,13 @@ pub written_on : (p : Place) (n d : ℕ) (shape : Shape) (m0 : source.Memory) (c
 written_on p n d shape m0 c0 m c t byte width vs s k v plain fits later kept goes o =
     let m' : source.Memory = m_written m t shape v.value in
     let c' : Config = with_memory (with_part c.memory (at t) 0 (part_at_byte byte width (c.temps d))) c in
-    let more = o.later (suc p.frame) in
+    let more = o.later (within p) in
     subst (λ z. SameAt p n (s z m') (k c')) (sym (plain.given vs))
-    (goes.go m' c' vs (fits_later p m m' c c' fits o.agree more refl) (later_on (suc p.frame) m0 m m' c0.memory c.memory c'.memory later more) kept
+    (goes.go m' c' vs (fits_later p m m' c c' fits o.agree more refl) (later_on (within p) m0 m m' c0.memory c.memory c'.memory later more) kept
     (inl (record {
       value = v.value;
       alone = v.alone;
-      shown = shown_later (suc p.frame) p.world m m' c.memory c'.memory shape v.value (c.temps d ∷ []) more
+      shown = shown_later (within p) p.world m m' c.memory c'.memory shape v.value (c.temps d ∷ []) more
           v.shown;
     })))
 

@@ -28,7 +28,7 @@ use Rattle.source_meaning.specs.Shapes.{Shape}
 use Rattle.source_meaning.specs.Steps.{World, Routine}
 use Rattle.core_meaning.specs.Core as core
 use Rattle.source_lowering.specs.Layouts.{extent_of}
-use Rattle.source_lowering.specs.Programs.{local_shape, function_code}
+use Rattle.source_lowering.specs.Programs.{local_shape, function_code, routine_values}
 use Rattle.core_meaning.specs.Core.{Local, Do, If, While, Block, Break, Continue, Call, Return, Raise, Statements, NoStatements, MoreStatements, Function}
 
 -- ---- Core: words of a frame
@@ -208,9 +208,15 @@ routines_size (f ∷ fs) = 5 + (length f.parameters + item_size f.body) + routin
 abbrev pub code_bound : List Routine → ℕ
 code_bound fs = 4096 + 512 * routines_size fs
 
--- 128 bytes, and 16 for each word of parameters and locals and for each node and its value, which is one word or none
+-- the words of values
+abbrev pub value_words : World → List Shape → ℕ
+value_words w [] = 0
+value_words w (s ∷ ss) = shape_words w s + value_words w ss
+
+-- 128 bytes, and 16 for each word of parameters and locals, for each node and its value, which is one word or none, and for each word of a struct that is made
+-- or read whole
 abbrev pub frame_bound : World → Routine → ℕ
-frame_bound w f = 128 + 16 * (length f.parameters + (item_locals w f.body + item_nodes f.body))
+frame_bound w f = 128 + 16 * (length f.parameters + (item_locals w f.body + (item_nodes f.body + value_words w (routine_values w f))))
 
 -- each function's frame in Core is within its bound
 abbrev pub FramesFit : World → List Routine → Type 0

@@ -3,6 +3,7 @@ pub mod Members
 pub mod Lowered
 pub mod Programs
 pub mod Taken
+pub mod Whole
 pub mod Lowerable
 pub mod Bounds
 pub mod Agreeing

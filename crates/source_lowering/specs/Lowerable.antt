@@ -1,5 +1,5 @@
 -- Which programs lowering takes: functions, globals and locals of integers, of structs and of thin pointers to these, by the forms of the tree and by shapes.
-use Rattle.std.specs.Prelude.{◌≡◌, ◌≤◌, ℕ, suc, true, false, Some, None, List, [], ◌∷◌, length}
+use Rattle.std.specs.Prelude.{◌≡◌, ◌≤◌, ℕ, suc, Bool, true, false, Some, None, List, [], ◌∷◌, length}
 use Rattle.cyc_tree.specs.declared.expression.Prefix.{Prefix}
 use Rattle.cyc_tree.specs.declared.expression.Prefix.TheVariants as prefix
 use Rattle.cyc_tree.specs.Tree as tree
@@ -31,13 +31,14 @@ use Rattle.cyc_tree.specs.Tree.{
   Item,
   Program,
 }
-use Rattle.source_meaning.specs.Shapes.{Shape, Shared, IntShape, UnsignedShape, CharShape, VoidShape, ThinShape, FatShape, HandleShape, KeyShape, StructShape, UnionShape, ArrayShape, Part, Layout, part_shapes, has_tag, pointee, written, settled}
+use Rattle.source_meaning.specs.Shapes.{Shape, Shared, IntShape, UnsignedShape, CharShape, VoidShape, ThinShape, FatShape, HandleShape, KeyShape, StructShape, UnionShape, ArrayShape, Part, Layout, part_shapes, parts_of, has_tag, pointee, written, settled}
 use Rattle.source_meaning.specs.Sizes.{struct_extent}
 use Rattle.source_meaning.specs.Steps.{World, Routine}
 use Rattle.source_meaning.specs.Programs.{is_main, routine_of, world_of}
 use Rattle.source_meaning.specs.Strings.{program_strings}
 use Rattle.source_lowering.specs.Lowered.{Named, static_shape, member_shape, suffixed_shape}
 use Rattle.source_lowering.specs.Programs.{local_shape, named_here, outward, parameter_names}
+use Rattle.source_lowering.specs.Whole.{makes_struct}
 use Rattle.source_lowering.specs.Taken.{IsVoidType, AreThin, HasFirst, IsIntType, TakesConstant}
 
 -- ---- shapes
@@ -79,7 +80,12 @@ abbrev pub AreObjects : List Layout → List Shape → Type 0
 AreObjects structs [] = Unit {0}
 AreObjects structs (s ∷ ss) = IsObject structs s × AreObjects structs ss
 
--- what is no struct: an operand, and what is assigned, passed and returned
+-- one of these structs
+abbrev pub IsStructShape : List Layout → Shape → Type 0
+IsStructShape structs (StructShape tag) = (has_tag structs tag ≡ true)
+IsStructShape structs s = ⊥
+
+-- what is no struct: an operand, and what is passed and returned
 abbrev pub IsNoStruct : Shape → Type 0
 IsNoStruct (StructShape tag) = ⊥
 IsNoStruct s = Unit {0}
@@ -204,11 +210,56 @@ abbrev mutual
   TakesLinks w names NoLinks = Unit {0}
   TakesLinks w names (MoreLinks operator operand others) = Takes w names operand × TakesLinks w names others
 
+-- ---- structs as values
+
+-- an argument for a member of a shape, as a struct and as a word
+abbrev pub TakesMember : Shape → (whole word : Type 0) → Type 0
+TakesMember (StructShape tag) whole word = whole
+TakesMember s whole word = word
+
+abbrev mutual
+  -- a struct that is made of its members, or what names one
+  pub TakesWhole : World → List Named → Expression → Type 0
+  TakesWhole w names (Expression.Call name arguments) =
+      (makes_struct w name.text ≡ true) × TakesMade w names (parts_of w.structs name.text) arguments
+  TakesWhole w names (Expression.Grouped at inner) = TakesWhole w names inner
+  TakesWhole w names e = TakesPlace w names e × IsStructShape w.structs (static_shape w names e)
+
+  -- so many arguments, each a value for its member
+  pub TakesMade : World → List Named → List Part → Expressions → Type 0
+  TakesMade w names [] NoExpressions = Unit {0}
+  TakesMade w names [] (MoreExpressions first others) = ⊥
+  TakesMade w names (p ∷ ps) NoExpressions = ⊥
+  TakesMade w names (p ∷ ps) (MoreExpressions first others) = TakesMember p.shape (TakesWhole w names first) (Takes w names first) × TakesMade w names ps others
+
+-- what is assigned: a struct, or a word
+abbrev pub TakesAssigned : World → List Named → Shape → (place value : Expression) → Type 0
+TakesAssigned w names (StructShape tag) place value =
+    TakesPlace w names place × (TakesWhole w names value × IsStructShape w.structs (StructShape tag))
+TakesAssigned w names s place value = Takes w names (Expression.Assign place value)
+
+abbrev pub TakesDropped : World → List Named → Shape → Expression → Type 0
+TakesDropped w names (StructShape tag) e = TakesWhole w names e
+TakesDropped w names s e = Takes w names e
+
+-- what a name calls, by whether it makes a struct
+abbrev pub TakesCalled : Bool → (whole word : Type 0) → Type 0
+TakesCalled true whole word = whole
+TakesCalled false whole word = word
+
+-- an expression whose value is dropped: a struct that is assigned, made or read, or a word
+abbrev pub TakesRun : World → List Named → Expression → Type 0
+TakesRun w names (Expression.Assign place value) = TakesAssigned w names (static_shape w names place) place value
+TakesRun w names (Expression.Grouped at inner) = TakesRun w names inner
+TakesRun w names (Expression.Call name arguments) =
+    TakesCalled (makes_struct w name.text) (TakesWhole w names (Expression.Call name arguments)) (Takes w names (Expression.Call name arguments))
+TakesRun w names e = TakesDropped w names (static_shape w names e) e
+
 -- ---- statements
 
--- what a local of a shape is initialized with: a struct with what names one
+-- what a local of a shape is initialized with
 abbrev pub TakesValue : World → List Named → Shape → Expression → Type 0
-TakesValue w names (StructShape tag) e = TakesPlace w names e
+TakesValue w names (StructShape tag) e = TakesWhole w names e
 TakesValue w names s e = Takes w names e
 
 -- of a local of a shape
@@ -226,7 +277,7 @@ abbrev mutual
   pub TakesStatement : World → Shape → List Named → Statement → Type 0
   TakesStatement w result names (Statement.Empty at) = Unit {0}
   TakesStatement w result names (Statement.Block at items) = TakesItems w result (outward names) 0 items
-  TakesStatement w result names (Statement.Run e) = Takes w names e
+  TakesStatement w result names (Statement.Run e) = TakesRun w names e
   TakesStatement w result names (Statement.If at condition body) = Takes w names condition × TakesStatement w result names body
   TakesStatement w result names (Statement.IfElse at condition body otherwise) =
       Takes w names condition × (TakesStatement w result names body × TakesStatement w result names otherwise)

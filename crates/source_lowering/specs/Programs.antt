@@ -1,5 +1,5 @@
 -- What statements, functions, globals and programs are lowered to.
-use Rattle.std.specs.Prelude.{ℕ, suc, ◌%◌, Option, ◌^◌, Some, None, List, [], ◌∷◌, ◌++◌, map, slice_get, length, max, codes}
+use Rattle.std.specs.Prelude.{ℕ, suc, ◌+◌, ◌%◌, Bool, true, false, if◌then◌else◌, Option, ◌^◌, Some, None, List, [], ◌∷◌, ◌++◌, map, slice_get, length, max, codes}
 use Rattle.cyc_tree.specs.Tree as tree
 use Rattle.cyc_tree.specs.Tree.{Expression, Initializer, Declaration, Statement, BlockItems, NoItems, Declare, Execute, Initial, Item, Program}
 use Rattle.cyc_words.specs.Words.{difference_of}
@@ -55,6 +55,7 @@ use Rattle.core_meaning.specs.Core.{
   Datum,
 }
 use Rattle.source_lowering.specs.Layouts.{layout_of, local_of, first_part}
+use Rattle.source_lowering.specs.Whole.{is_made, run_code, run_values, whole_code, whole_values}
 use Rattle.source_lowering.specs.Lowered.{Named, number_of, static_shape, all_of, width_of, conversion_code, results_in, place_code, expression_code}
 
 -- ---- locals of a block
@@ -98,51 +99,87 @@ abbrev pub unset_code : World → Shape → ℕ → List core.Statement
 unset_code w (StructShape tag) index = Do (LocalAddress 0 0 index) ∷ Do (Clear 0 (layout_of w (StructShape tag)) 1) ∷ []
 unset_code w s index = Do (first_code s) ∷ Do (Put 0 index (width_of s) 0) ∷ []
 
--- a struct gets the parts of the object that its initializer names
-abbrev pub value_code : World → List Named → Shape → Expression → ℕ → List core.Statement
-value_code w names (StructShape tag) e index =
-    place_code w names e 0 ++ (Do (LocalAddress 1 0 index) ∷ Do (Copy 1 0 (layout_of w (StructShape tag))) ∷ [])
-value_code w names s e index =
+-- a pointer to what a struct begins as: to the object that its initializer names, or to the struct that it makes
+abbrev pub source_code : World → List Named → Bool → Expression → ℕ → List core.Statement
+source_code w names true e own = whole_code w names e 0 own
+source_code w names false e own = place_code w names e 0
+
+-- a struct gets the parts of that object
+abbrev pub value_code : World → List Named → Shape → Expression → (index own : ℕ) → List core.Statement
+value_code w names (StructShape tag) e index own =
+    source_code w names (is_made w e) e own ++ (Do (LocalAddress 1 0 index) ∷ Do (Copy 1 0 (layout_of w (StructShape tag))) ∷ [])
+value_code w names s e index own =
     expression_code w names e 0 ++ (conversion_code s (static_shape w names e) 0 ++ (Do (Put 0 index (width_of s) 0) ∷ []))
 
-abbrev pub declaration_code : World → List Named → Declaration → ℕ → List core.Statement
-declaration_code w names (tree.Local of name Initializer.Unset) index = unset_code w (settled (written of)) index
-declaration_code w names (tree.Local of name (Initializer.Elements count)) index = []
-declaration_code w names (tree.Local of name (Initializer.Value e)) index = value_code w names (settled (written of)) e index
-declaration_code w names (tree.Region at region handle) index = []
-declaration_code w names (tree.Open at region handle key) index = []
-declaration_code w names (tree.Alias at region of alias pointer) index = []
-declaration_code w names (tree.NewKey at region key) index = []
+-- the unnamed values of an initializer
+abbrev pub initial_values : World → List Named → Shape → Expression → List Shape
+initial_values w names (StructShape tag) e = (if is_made w e then whole_values w names e else [])
+initial_values w names s e = []
+
+abbrev pub declaration_code : World → List Named → Declaration → (index own : ℕ) → List core.Statement
+declaration_code w names (tree.Local of name Initializer.Unset) index own = unset_code w (settled (written of)) index
+declaration_code w names (tree.Local of name (Initializer.Elements count)) index own = []
+declaration_code w names (tree.Local of name (Initializer.Value e)) index own = value_code w names (settled (written of)) e index own
+declaration_code w names (tree.Region at region handle) index own = []
+declaration_code w names (tree.Open at region handle key) index own = []
+declaration_code w names (tree.Alias at region of alias pointer) index own = []
+declaration_code w names (tree.NewKey at region key) index own = []
+
+abbrev pub declaration_values : World → List Named → Declaration → List Shape
+declaration_values w names (tree.Local of name (Initializer.Value e)) = initial_values w names (settled (written of)) e
+declaration_values w names _ = []
+
+-- ---- unnamed values of statements, in the order of the text
+
+abbrev mutual
+  pub statement_values : World → List Named → Statement → List Shape
+  statement_values w names (Statement.Block at items) = item_values w (outward names) 0 items
+  statement_values w names (Statement.Run e) = run_values w names e
+  statement_values w names (Statement.If at condition body) = statement_values w names body
+  statement_values w names (Statement.IfElse at condition body otherwise) = statement_values w names body ++ statement_values w names otherwise
+  statement_values w names (Statement.While at condition body) = statement_values w names body
+  statement_values w names _ = []
+
+  -- the next local of the block has this number
+  pub item_values : World → List Named → ℕ → BlockItems → List Shape
+  item_values w names index NoItems = []
+  item_values w names index (Declare d others) =
+      declaration_values w names d ++ item_values w (named_here (tree.local_of d).text (local_shape d) index ∷ names) (suc index) others
+  item_values w names index (Execute s others) = statement_values w names s ++ item_values w names index others
 
 -- ---- statements, whose values are in the first temporary
 
 abbrev mutual
-  pub statement_code : World → Shape → List Named → Statement → List core.Statement
-  statement_code w result names (Statement.Empty at) = []
-  statement_code w result names (Statement.Block at items) =
-      Block (locals_of w (block_shapes items)) (all_of (items_code w result (outward names) 0 items)) ∷ []
-  statement_code w result names (Statement.Run e) = expression_code w names e 0
-  statement_code w result names (Statement.If at condition body) =
-      expression_code w names condition 0 ++ (If 0 (all_of (statement_code w result names body)) NoStatements ∷ [])
-  statement_code w result names (Statement.IfElse at condition body otherwise) =
+  -- the first of its unnamed values has this number
+  pub statement_code : World → Shape → List Named → ℕ → Statement → List core.Statement
+  statement_code w result names own (Statement.Empty at) = []
+  statement_code w result names own (Statement.Block at items) =
+      Block (locals_of w (block_shapes items)) (all_of (items_code w result (outward names) 0 own items)) ∷ []
+  statement_code w result names own (Statement.Run e) = run_code w names e own
+  statement_code w result names own (Statement.If at condition body) =
+      expression_code w names condition 0 ++ (If 0 (all_of (statement_code w result names own body)) NoStatements ∷ [])
+  statement_code w result names own (Statement.IfElse at condition body otherwise) =
       expression_code w names condition 0 ++
-      (If 0 (all_of (statement_code w result names body)) (all_of (statement_code w result names otherwise)) ∷ [])
-  statement_code w result names (Statement.While at condition body) =
-      While (all_of (expression_code w names condition 0)) 0 (all_of (statement_code w result names body)) ∷ []
-  statement_code w result names (Statement.Break at) = Break ∷ []
-  statement_code w result names (Statement.Continue at) = Continue ∷ []
-  statement_code w result names (Statement.Return at None) = Return [] ∷ []
-  statement_code w result names (Statement.Return at (Some e)) =
+      (If 0 (all_of (statement_code w result names own body))
+      (all_of (statement_code w result names (own + length (statement_values w names body)) otherwise)) ∷ [])
+  statement_code w result names own (Statement.While at condition body) =
+      While (all_of (expression_code w names condition 0)) 0 (all_of (statement_code w result names own body)) ∷ []
+  statement_code w result names own (Statement.Break at) = Break ∷ []
+  statement_code w result names own (Statement.Continue at) = Continue ∷ []
+  statement_code w result names own (Statement.Return at None) = Return [] ∷ []
+  statement_code w result names own (Statement.Return at (Some e)) =
       expression_code w names e 0 ++ (conversion_code result (static_shape w names e) 0 ++ (Return (results_in result 0) ∷ []))
-  statement_code w result names _ = []
+  statement_code w result names own _ = []
 
-  -- the items of a block; the next local has this number
-  pub items_code : World → Shape → List Named → ℕ → BlockItems → List core.Statement
-  items_code w result names index NoItems = []
-  items_code w result names index (Declare d others) =
-      declaration_code w names d index ++
-      items_code w result (named_here (tree.local_of d).text (local_shape d) index ∷ names) (suc index) others
-  items_code w result names index (Execute s others) = statement_code w result names s ++ items_code w result names index others
+  -- the items of a block; the next local has the first number, and the next unnamed value the second
+  pub items_code : World → Shape → List Named → (index own : ℕ) → BlockItems → List core.Statement
+  items_code w result names index own NoItems = []
+  items_code w result names index own (Declare d others) =
+      declaration_code w names d index own ++
+      items_code w result (named_here (tree.local_of d).text (local_shape d) index ∷ names) (suc index)
+      (own + length (declaration_values w names d)) others
+  items_code w result names index own (Execute s others) =
+      statement_code w result names own s ++ items_code w result names index (own + length (statement_values w names s)) others
 
 -- ---- functions
 
@@ -164,8 +201,12 @@ abbrev pub body_code : World → Routine → Statements
 body_code w f =
     MoreStatements
     (Block (locals_of w (part_shapes f.parameters ++ block_shapes f.body))
-    (all_of (parameters_code f.parameters 0 ++ items_code w f.result (parameter_names f.parameters 0 []) (length f.parameters) f.body)))
+    (all_of (parameters_code f.parameters 0 ++ items_code w f.result (parameter_names f.parameters 0 []) (length f.parameters) 0 f.body)))
     (all_of (end_code f.result))
+
+-- the structs that a function makes or reads whole
+abbrev pub routine_values : World → Routine → List Shape
+routine_values w f = item_values w (parameter_names f.parameters 0 []) (length f.parameters) f.body
 
 -- ---- how many temporaries code uses, and how many words it passes
 
@@ -180,6 +221,7 @@ operation_temporaries (Narrow t x) = max (suc t) (suc x)
 operation_temporaries (Apply o t x y) = max (suc t) (max (suc x) (suc y))
 operation_temporaries (NullPointer t) = suc t
 operation_temporaries (LocalAddress t out local) = suc t
+operation_temporaries (OwnAddress t object) = suc t
 operation_temporaries (DataAddress t object) = suc t
 operation_temporaries (Offset t p cells bytes) = max (suc t) (suc p)
 operation_temporaries (Get t out local width) = suc t
@@ -231,7 +273,7 @@ function_code w f = record {
   parameters = length f.parameters;
   temporaries = max (length f.parameters) (temporaries_of (body_code w f));
   passed = passed_by (body_code w f);
-  own = [];
+  own = locals_of w (routine_values w f);
   body = body_code w f;
 }
 

@@ -1,10 +1,9 @@
 //! From a program's tree to Core, as definitions, and the proof that Core does what the source does.
 //!
-//! specs/Lowered has the code of expressions, specs/Programs that of statements, functions and
-//! programs, specs/Lowerable says which programs are taken: those of functions, globals and locals of
-//! integers, of structs and of thin pointers to these, where no struct is assigned, passed or
-//! returned whole, but for a local that begins as a copy of one (specs/Taken has those without
-//! structs). specs/Agreeing has what is proved of these, `programs_are_the_same`, and specs/Bounds
+//! specs/Lowered has the code of expressions, specs/Whole that of structs as values, specs/Programs
+//! that of statements, functions and programs, specs/Lowerable says which programs are taken: those
+//! of functions, globals and locals of integers, of structs and of thin pointers to these
+//! (specs/Taken has those without structs). specs/Agreeing has what is proved of these, `programs_are_the_same`, and specs/Bounds
 //! the bounds on frames and code. There is no code but these laws. Stands on `source_meaning` and
 //! `core_meaning`.
 #![tactic(auto)]

@@ -6,16 +6,17 @@ use Rattle.source_meaning.specs.Shapes.{Shape, part_of, part_shapes}
 use Rattle.source_meaning.specs.Programs.{world_of, routine_of}
 use Rattle.core_meaning.specs.Core.{Block}
 use Rattle.source_lowering.specs.Lowered.{all_of}
-use Rattle.source_lowering.specs.Programs.{block_shapes, locals_of, parameter_names, parameters_code, items_code, end_code}
+use Rattle.source_lowering.specs.Programs.{block_shapes, locals_of, parameter_names, parameters_code, item_values, items_code, end_code}
 use Rattle.lower_checks.specs.Views.{shape_tree}
 use Rattle.lower_checks.specs.Visible.{names_of}
 use Rattle.lower_checks.specs.Refusals.{AreLocals}
 use Rattle.lower_checks.proofs.Taken.{block_locals, parameter_locals, all_locals}
-use Rattle.lower_checks.proofs.Bodies.{inside_of, body_of}
+use Rattle.lower_checks.proofs.Bodies.{as_many_shapes, inside_of, body_of}
 use Rattle.lower_checks.proofs.function.lower_body.Goals as goal
 
 pub returns-clause-code : goal.returns-clause-code
 returns-clause-code c =
+    λ unnamed.
     let w = world_of c.args.program.now in
     let f = routine_of (source_tree c.args.function.now) in
     let result = shape_tree c.of-shape.result in
@@ -40,11 +41,18 @@ returns-clause-code c =
     c.in_ok-lower_parameters.ensures.code
     ∙ ap (λ ms. map statement_tree c.new-inside.result.items ++ parameters_code (map part_of (map member_tree ms)) 0) c.deref-2.ensures.value
     ∙ ap (λ ss. map statement_tree ss ++ parameters_code f.parameters 0) c.new-inside.ensures.items in
-    let inside_is : inside ≡ first ++ items_code w f.result names (length taken) f.body =
-    c.in_ok-lower_items.ensures.code
-    ∙ ap (λ bs. first ++ items_code w result names count (items_of (map item_tree bs))) c.deref-3.ensures.value
-    ∙ ap (λ (s : Shape). first ++ items_code w s names count f.body) result_is
-    ∙ ap (λ (n : ℕ). first ++ items_code w f.result names n f.body) (sym (length-map c.in_ok-shapes.shapes.items shape_tree)) in
+    let count_is : count ≡ length f.parameters =
+    sym (length-map c.in_ok-shapes.shapes.items shape_tree) ∙ ap length taken_is ∙ as_many_shapes f.parameters in
+    let none_in : item_values w names count f.body ≡ [] =
+    ap (λ (n : ℕ). item_values w names n f.body) count_is ∙ ap (λ ns. item_values w ns (length f.parameters) f.body) names_are ∙ unnamed in
+    let inside_code : inside ≡ first ++ items_code w result names count 0 f.body =
+    subst
+    (λ bs. item_values w names count (items_of (map item_tree bs)) ≡ [] → inside ≡ first ++ items_code w result names count 0 (items_of (map item_tree bs)))
+    c.deref-3.ensures.value (c.in_ok-lower_items.ensures.code 0) none_in in
+    let inside_is : inside ≡ first ++ items_code w f.result names (length taken) 0 f.body =
+    inside_code
+    ∙ ap (λ (s : Shape). first ++ items_code w s names count 0 f.body) result_is
+    ∙ ap (λ (n : ℕ). first ++ items_code w f.result names n 0 f.body) (sym (length-map c.in_ok-shapes.shapes.items shape_tree)) in
     let shapes_are : shapes ≡ taken ++ block_shapes f.body =
     c.in_ok-lower_items.ensures.shapes ∙ ap (λ bs. taken ++ block_shapes (items_of (map item_tree bs))) c.deref-3.ensures.value in
     let locals_are : locals ≡ locals_of w shapes =

@@ -13,5 +13,6 @@ mod PlacedCells
 pub mod Sameness
 mod Spread
 mod StillMeasured
+mod StructBytes
 mod StructCells
 mod Pointers

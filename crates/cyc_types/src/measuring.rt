@@ -2,7 +2,9 @@
 
 ghost use Rattle.std.specs.Prelude.{◌≡◌, ◌≤◌, Some};
 ghost use Rattle.source_meaning.specs.Sizes.{extent_by, largest, no_extent};
-ghost use Rattle.source_typing.specs.Extents.{part_shapes};
+ghost use Rattle.cyc_tree.specs.Tree.{Structure};
+ghost use Rattle.source_typing.specs.Extents.{fits_bytes, part_shapes};
+ghost use Rattle.source_typing.specs.Tags.{struct_bytes};
 ghost use Rattle.cyc_types.specs.Bases.{base_type};
 ghost use Rattle.cyc_types.specs.Measures.{
   extent_in,
@@ -155,6 +157,13 @@ impl<'p> Tables<'p> {
             so_far = so_far.then(self.member_extent(member)?)?;
         }
         so_far.padded()
+    }
+
+    /// Whether a struct of these members has no more bytes than a type may have.
+    pub fn struct_fits(&self, members: &[Member]) -> bool
+        ensures { (s : Structure) → result ≡ fits_bytes (struct_bytes (tables_of self.now) s (members_of members.now)) }
+    {
+        self.struct_extent(members).is_some()
     }
 
     /// The bytes of a struct or union whose members are declared. None: too many.

@@ -143,7 +143,7 @@ takes_structs k t x h = by k.structs refl
 
 -- ---- tags
 
-named_by : (e : Option Entry) (at : ℕ) → regions_of_tag (as_tag e) ≡ 0 → tag_of e false at ≡ named_as (tag_name_of e) at
+pub named_by : (e : Option Entry) (at : ℕ) → regions_of_tag (as_tag e) ≡ 0 → tag_of e false at ≡ named_as (tag_name_of e) at
 named_by None at h = refl
 named_by (Some (OfTag t)) at h = by t.sound t.is_union
   where

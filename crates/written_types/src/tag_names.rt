@@ -1,6 +1,6 @@
 // What names mean where the tag of a struct or union is wanted.
 
-ghost use Rattle.std.specs.Prelude.{◌≡◌, ◌&&◌, IfOk, List, OnErr, bytes_eq, if◌then◌else◌, not, ℕ};
+ghost use Rattle.std.specs.Prelude.{◌≡◌, ◌&&◌, ◌||◌, IfOk, List, OnErr, bytes_eq, false, if◌then◌else◌, not, ℕ};
 ghost use Rattle.cyc_tree.specs.View.{type_tree};
 ghost use Rattle.source_typing.specs.Tables.{Tables};
 ghost use Rattle.type_verdicts.specs.Taken.{taken_of};
@@ -23,7 +23,8 @@ pub struct TagNames<'p> {
 impl<'p> TagNames<'p> {
     /// No name means anything.
     pub fn new(alloc: Global) -> Self
-        ensures { (x : List ℕ) → tag_named result x ≡ NoName }
+        ensures named { (x : List ℕ) → tag_named result x ≡ NoName }
+        ensures known { (x : List ℕ) → has_tag_name result x ≡ false }
     {
         TagNames {
             entries: IndexMap::new(alloc),
@@ -36,6 +37,8 @@ impl<'p> TagNames<'p> {
         ensures is_new { IfOk result (λ is_new. is_new ≡ not (has_tag_name self.old name.entry.now)) }
         ensures names { IfOk result (λ is_new. (x : List ℕ)
             → tag_named self.new x ≡ (if is_new && bytes_eq name.entry.now x then tag else tag_named self.old x)) }
+        ensures known { IfOk result (λ is_new. (x : List ℕ)
+            → has_tag_name self.new x ≡ (bytes_eq name.entry.now x || has_tag_name self.old x)) }
         ensures kept { OnErr result ((x : List ℕ) → tag_named self.new x ≡ tag_named self.old x) }
     {
         if self.entries.contains_key(name) {

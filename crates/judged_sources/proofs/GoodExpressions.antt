@@ -203,7 +203,7 @@ module _ (g : Env) (good : IsGood g) where
   suffixes_good (Dot f others) v b h =
       suffixes_good others (after v (member g f)) b
       (surely_after (λ w. IsGoodPlace g.regions.count w) (λ w. IsGoodPlace g.regions.count w) v (member g f) h
-      (λ a k. member_judged g f a.at a.type a.seat (tables_good g good) (object_value a.type k.type) k.seat))
+      (λ a k. member_judged g f a.at a.type a.seat (tables_good g good) (object_value a.type k.type) k.below k.seat))
   suffixes_good (Arrow f others) v b h =
       suffixes_good others (after v (arrow g f)) b
       (surely_after (λ w. IsGoodPlace g.regions.count w) (λ w. IsGoodPlace g.regions.count w) v (arrow g f) h
@@ -217,7 +217,7 @@ module _ (g : Env) (good : IsGood g) where
   suffixes_judged (Dot f others) v b s h =
       suffixes_good others (after v (member g f)) b
       (surely_after (λ w. IsSuffixable w) (λ w. IsGoodPlace g.regions.count w) v (member g f) h
-      (λ a k. member_judged g f a.at a.type a.seat (tables_good g good) k.type k.seat))
+      (λ a k. member_judged g f a.at a.type a.seat (tables_good g good) k.type k.below k.seat))
   suffixes_judged (Arrow f others) v b s h =
       suffixes_good others (after v (arrow g f)) b
       (surely_after (λ w. IsSuffixable w) (λ w. IsGoodPlace g.regions.count w) v (arrow g f) h

@@ -78,7 +78,7 @@ filled_object n Char s h k = record { object = tt; below = tt; shape = refl }
 filled_object n (Thin b r t) s h k =
     thin_filled n b r (or_found r (outer_region s)) t (filled_from t (pointee_of s)) (or_below n r (outer_region s) h.0 (outer_below n s k))
     (filled_object n t (pointee_of s) h.1 (pointee_below n s k))
-filled_object n (Struct tag []) s h k = record { object = refl; below = tt; shape = refl }
+filled_object n (Struct tag []) s h k = record { object = tt; below = tt; shape = refl }
 filled_object n (Struct tag (r ∷ rs)) s h k = absurd cc
 filled_object n _ s h k = absurd h
 

@@ -29,12 +29,10 @@ use Rattle.source_typing.specs.Fixing.{Fit, all_fits, first_fit, fixed_from, fix
 use Rattle.source_typing.specs.Places.{variable}
 use Rattle.source_typing.specs.Regions.{Level, Region, TheHeap, same_id}
 use Rattle.source_typing.specs.Scope.{Enclosing, Env, InRegion, Nowhere, Value, value}
-use Rattle.source_typing.specs.Tables.{Arrayed, Counter, Entry, OfBuiltin, OfFunction, OfOther, OfTag, OfValue, Stored, Tables, Tag, Unknown, argument, find}
+use Rattle.source_typing.specs.Tables.{Arrayed, Counter, Entry, OfBuiltin, OfFunction, OfOther, OfTag, OfValue, Stored, Tables, Unknown, argument, find}
 use Rattle.source_typing.specs.Types.{Char, Fat, Handle, Int, Key, Null, StaticType, Struct, Thin, Union, Unique, Unsigned, Void, renamed}
 use Rattle.source_typing.specs.Verdicts.{Faulty, Of, Unjudged, Verdict}
 use Rattle.source_typing.specs.Written.{Found, Is, IsUnique, Missing, if_sound}
-use Rattle.source_typing.proofs.CallsFit.{arguments_are}
-use Rattle.source_typing.proofs.Inversion.{of_is}
 use Rattle.source_safety.proofs.Fixed.{ValuesBelow, fixed_below, plain_below}
 use Rattle.source_safety.proofs.Words.{plain_renamed}
 use Rattle.judged_sources.specs.Good.{AllGood, IsGoodEntry, IsGoodSignature, IsGoodTag, IsValueType, SeatBelow, Surely}
@@ -192,19 +190,11 @@ result_judged count at rs t p h = record {
 pub called_judged : (g : Env) (at : ℕ) (u : Target) (vs : List Value) → g.enclosing ≡ InRegion TheHeap → IsGoodTarget u
     → ValuesBelow g.regions.count vs → Surely (λ v. IsGoodResult g.regions.count v) (called g at u vs)
 called_judged g at (ToStruct t) vs e h below =
-    surely_after (λ (rs : List Region). rs ≡ []) (λ v. IsGoodResult g.regions.count v) (arguments_fit g at t.regions (part_types t.parts) vs)
-    (λ rs. value at (Struct t.text rs))
-    (surely_since (λ (rs : List Region). AllBelow g.regions.count rs) (λ (rs : List Region). rs ≡ []) (arguments_fit g at t.regions (part_types t.parts) vs)
+    surely_after (λ (rs : List Region). AllBelow g.regions.count rs) (λ v. IsGoodResult g.regions.count v)
+    (arguments_fit g at t.regions (part_types t.parts) vs) (λ rs. value at (Struct t.text rs))
     (subst (λ (ps : List (Option StaticType)). Surely (λ (rs : List Region). AllBelow g.regions.count rs) (arguments_fit g at t.regions ps vs))
     (sym h.parts) (arguments_judged g at t.regions h.types vs e h.objects below))
-    (λ rs is k. no_variables g at t vs rs h.no_regions is))
-    (λ rs k. record { type = k; below = subst (λ (qs : List Region). AllBelow g.regions.count qs) (sym k) tt; nowhere = refl })
-  where
-    no_variables : (g : Env) (at : ℕ) (t : Tag) (vs : List Value) (rs : List Region) → t.regions ≡ 0 → arguments_fit g at t.regions (part_types t.parts) vs ≡ Of rs
-        → rs ≡ []
-    no_variables g at t vs rs none is =
-        sym (of_is [] rs (subst (λ (n : ℕ). fixed_from g.enclosing at (all_fits (part_types t.parts) vs) 0 n ≡ Of rs) none
-        (arguments_are g at t.regions (part_types t.parts) vs rs is).found))
+    (λ rs k. record { type = tt; below = k; nowhere = refl })
 called_judged g at (ToBuiltin n) vs e h below =
     surely_after (λ (rs : List Region). AllBelow g.regions.count rs) (λ v. IsGoodResult g.regions.count v) (arguments_fit g at 0 (builtin_parameters n) vs)
     (λ rs. value at Int)

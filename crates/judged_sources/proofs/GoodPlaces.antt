@@ -7,7 +7,7 @@ use Rattle.cyc_tree.specs.Tree as tree
 use Rattle.cyc_tree.specs.Tree.{Expression}
 use Rattle.source_lowering.specs.Taken.{Takes, TakesPlace}
 use Rattle.source_safety.specs.Entries.{AreObjects, IsObjectType}
-use Rattle.source_safety.specs.Named.{Below, TypeBelow}
+use Rattle.source_safety.specs.Named.{AllBelow, Below, TypeBelow}
 use Rattle.source_typing.specs.Conversions.{converts}
 use Rattle.source_typing.specs.Operators.{prefixed}
 use Rattle.source_typing.specs.Calls.{part_types}
@@ -122,13 +122,12 @@ prefixed_judged g e at prefix.AddressOf a h = address_judged g e at a.type a.sea
 -- ---- members
 
 -- a struct's member is a place of an object, where the struct is
-part_judged : (g : Env) (at : ℕ) (s : Seat) (tag : List ℕ) (rs : List Region) (x : tree.Name) → AllGood g.regions.count g.tables → rs ≡ []
+part_judged : (g : Env) (at : ℕ) (s : Seat) (tag : List ℕ) (rs : List Region) (x : tree.Name) → AllGood g.regions.count g.tables → AllBelow g.regions.count rs
     → SeatBelow g.regions.count s → Surely (λ v. IsGoodPlace g.regions.count v) (part_of g at s tag rs x)
-part_judged g at s tag rs x h none k = by (find g.tables tag) (found_good g.regions.count g.tables tag h)
+part_judged g at s tag rs x h below k = by (find g.tables tag) (found_good g.regions.count g.tables tag h)
   where
     typed : (u : StaticType) → IsObjectType u → IsGoodPlace g.regions.count (record { at = at; type = renamed (argument rs) u; seat = s })
-    typed u o = subst (λ (qs : List Region). IsGoodPlace g.regions.count (record { at = at; type = renamed (argument qs) u; seat = s })) (sym none)
-        (record { type = object_renamed (argument []) u o; below = object_below g.regions.count [] u o tt; seat = k })
+    typed u o = record { type = object_renamed (argument rs) u o; below = object_below g.regions.count rs u o below; seat = k }
 
     parts : (ps : List Part) (ts : List StaticType) → part_types ps ≡ map (λ (t : StaticType). Some t) ts → AreObjects ts
         → Surely (λ v. IsGoodPlace g.regions.count v) (part_found at s rs x.at (part_in ps x.text))
@@ -154,41 +153,41 @@ part_judged g at s tag rs x h none k = by (find g.tables tag) (found_good g.regi
     by (Some OfOther) h = tt
 
 pub member_judged : (g : Env) (x : tree.Name) (at : ℕ) (t : StaticType) (s : Seat) → AllGood g.regions.count g.tables → IsValueType t
-    → SeatBelow g.regions.count s → Surely (λ v. IsGoodPlace g.regions.count v) (member_of g x at t s)
-member_judged g x at t Nowhere h w k = tt
-member_judged g x at t InBlock h w k = absurd k
-member_judged g x at Int (In r) h w k = tt
-member_judged g x at Unsigned (In r) h w k = tt
-member_judged g x at Char (In r) h w k = tt
-member_judged g x at Void (In r) h w k = tt
-member_judged g x at Null (In r) h w k = tt
-member_judged g x at (Thin n q t) (In r) h w k = tt
-member_judged g x at (Fat q t) (In r) h w k = absurd w
-member_judged g x at (Unique n t) (In r) h w k = absurd w
-member_judged g x at (Handle q) (In r) h w k = tt
-member_judged g x at (Key q) (In r) h w k = absurd w
-member_judged g x at (Struct tag rs) (In r) h w k = part_judged g at (In r) tag rs x h w k
-member_judged g x at (Union tag rs) (In r) h w k = absurd w
+    → TypeBelow g.regions.count t → SeatBelow g.regions.count s → Surely (λ v. IsGoodPlace g.regions.count v) (member_of g x at t s)
+member_judged g x at t Nowhere h w b k = tt
+member_judged g x at t InBlock h w b k = absurd k
+member_judged g x at Int (In r) h w b k = tt
+member_judged g x at Unsigned (In r) h w b k = tt
+member_judged g x at Char (In r) h w b k = tt
+member_judged g x at Void (In r) h w b k = tt
+member_judged g x at Null (In r) h w b k = tt
+member_judged g x at (Thin n q t) (In r) h w b k = tt
+member_judged g x at (Fat q t) (In r) h w b k = absurd w
+member_judged g x at (Unique n t) (In r) h w b k = absurd w
+member_judged g x at (Handle q) (In r) h w b k = tt
+member_judged g x at (Key q) (In r) h w b k = absurd w
+member_judged g x at (Struct tag rs) (In r) h w b k = part_judged g at (In r) tag rs x h b k
+member_judged g x at (Union tag rs) (In r) h w b k = absurd w
 
-arrow_live_judged : (g : Env) (x : tree.Name) (at : ℕ) (b : Bool) (r : Region) (tag : List ℕ) (rs : List Region) → AllGood g.regions.count g.tables → rs ≡ []
-    → Below g.regions.count r → Surely (λ v. IsGoodPlace g.regions.count v) (arrow_live b g x at r tag rs)
-arrow_live_judged g x at true r tag rs h none k = part_judged g at (In r) tag rs x h none k
-arrow_live_judged g x at false r tag rs h none k = tt
+arrow_live_judged : (g : Env) (x : tree.Name) (at : ℕ) (b : Bool) (r : Region) (tag : List ℕ) (rs : List Region) → AllGood g.regions.count g.tables
+    → AllBelow g.regions.count rs → Below g.regions.count r → Surely (λ v. IsGoodPlace g.regions.count v) (arrow_live b g x at r tag rs)
+arrow_live_judged g x at true r tag rs h below k = part_judged g at (In r) tag rs x h below k
+arrow_live_judged g x at false r tag rs h below k = tt
 
 thin_arrow : (g : Env) (x : tree.Name) (at : ℕ) (n : Bool) (r : Region) (t : StaticType) → AllGood g.regions.count g.tables → IsObjectType t
-    → Below g.regions.count r → Surely (λ v. IsGoodPlace g.regions.count v) (arrow_of g x at (Thin n r t))
-thin_arrow g x at n r Int h w k = tt
-thin_arrow g x at n r Unsigned h w k = tt
-thin_arrow g x at n r Char h w k = tt
-thin_arrow g x at n r (Thin m q t) h w k = tt
-thin_arrow g x at n r (Struct tag rs) h w k = arrow_live_judged g x at (is_live g r) r tag rs h w k
-thin_arrow g x at n r Void h w k = absurd w
-thin_arrow g x at n r Null h w k = absurd w
-thin_arrow g x at n r (Fat q t) h w k = absurd w
-thin_arrow g x at n r (Unique m t) h w k = absurd w
-thin_arrow g x at n r (Handle q) h w k = tt
-thin_arrow g x at n r (Key q) h w k = absurd w
-thin_arrow g x at n r (Union tag rs) h w k = absurd w
+    → TypeBelow g.regions.count t → Below g.regions.count r → Surely (λ v. IsGoodPlace g.regions.count v) (arrow_of g x at (Thin n r t))
+thin_arrow g x at n r Int h w b k = tt
+thin_arrow g x at n r Unsigned h w b k = tt
+thin_arrow g x at n r Char h w b k = tt
+thin_arrow g x at n r (Thin m q t) h w b k = tt
+thin_arrow g x at n r (Struct tag rs) h w b k = arrow_live_judged g x at (is_live g r) r tag rs h b k
+thin_arrow g x at n r Void h w b k = absurd w
+thin_arrow g x at n r Null h w b k = absurd w
+thin_arrow g x at n r (Fat q t) h w b k = absurd w
+thin_arrow g x at n r (Unique m t) h w b k = absurd w
+thin_arrow g x at n r (Handle q) h w b k = tt
+thin_arrow g x at n r (Key q) h w b k = absurd w
+thin_arrow g x at n r (Union tag rs) h w b k = absurd w
 
 pub arrow_judged : (g : Env) (x : tree.Name) (at : ℕ) (t : StaticType) → AllGood g.regions.count g.tables → IsValueType t
     → TypeBelow g.regions.count t → Surely (λ v. IsGoodPlace g.regions.count v) (arrow_of g x at t)
@@ -197,7 +196,7 @@ arrow_judged g x at Unsigned h w b = tt
 arrow_judged g x at Char h w b = tt
 arrow_judged g x at Void h w b = tt
 arrow_judged g x at Null h w b = tt
-arrow_judged g x at (Thin n r t) h w b = thin_arrow g x at n r t h w b.0
+arrow_judged g x at (Thin n r t) h w b = thin_arrow g x at n r t h w b.1 b.0
 arrow_judged g x at (Fat r t) h w b = absurd w
 arrow_judged g x at (Unique n t) h w b = absurd w
 arrow_judged g x at (Handle r) h w b = tt

@@ -9,7 +9,7 @@ use Rattle.source_lowering.specs.Taken.{AreThin, IsSharedRegion, IsVoidBase, IsV
 use Rattle.source_meaning.specs.Shapes as shapes
 use Rattle.source_meaning.specs.Shapes.{Shared, ThinShape, VoidShape}
 use Rattle.source_safety.specs.Entries.{IsObjectType, IsPlain}
-use Rattle.source_safety.specs.Named.{Below, TypeBelow}
+use Rattle.source_safety.specs.Named.{AllBelow, Below, TypeBelow}
 use Rattle.source_safety.proofs.Entries.{object_plain}
 use Rattle.source_typing.specs.Functions.{AllSpotted, Spotted, Variables, fits_parameter, if_parameter, if_result, parameter_type, result_type, take_named}
 use Rattle.source_typing.specs.Functions.{take_spot, take_spots}
@@ -33,13 +33,16 @@ pub below_more : (n m : ℕ) (r : Region) → n ≤ m → Below n r → Below m 
 below_more n m TheHeap l h = tt
 below_more n m (Level k) l h = omega arith
 
+all_more : (n m : ℕ) (rs : List Region) → n ≤ m → AllBelow n rs → AllBelow m rs
+all_more n m [] l h = tt
+all_more n m (r ∷ rs) l h = (below_more n m r l h.0, all_more n m rs l h.1)
+
 pub object_more : (n m : ℕ) (t : StaticType) → n ≤ m → IsObjectType t → TypeBelow n t → TypeBelow m t
 object_more n m Int l w h = tt
 object_more n m Unsigned l w h = tt
 object_more n m Char l w h = tt
 object_more n m (Thin b r t) l w h = (below_more n m r l h.0, object_more n m t l w h.1)
-object_more n m (Struct tag []) l w h = tt
-object_more n m (Struct tag (r ∷ rs)) l w h = absurd cc
+object_more n m (Struct tag rs) l w h = all_more n m rs l h
 object_more n m (Handle r) l w h = below_more n m r l h
 object_more n m _ l w h = absurd w
 

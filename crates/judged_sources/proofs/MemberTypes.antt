@@ -171,7 +171,7 @@ member_typed g ds t u early tags e p k = by u k.good.object k.good.shape k.stand
     by (Key r) o s q = absurd o
     by (Struct tag rs) o s q =
         let z : (z : Tag) × (find g.tables tag ≡ Some (OfTag z)) = struct_found g t tag tags e s p in
-        (o, early tag z.0 z.1 q)
+        early tag z.0 z.1 q
     by (Union tag rs) o s q = absurd o
 
 pub record MembersGood (g : Env) (ds : List Declared) (ms : List tree.Member) : Type 0 where

@@ -180,7 +180,6 @@ module _ (bodies : BodiesJudged) (p : Program) (e : program_faults structures p 
       by false false q r k = record {
         named = found.texts x t h;
         no_union = s.no_union;
-        no_regions = s.no_regions;
         not_read = swapped (codes "getchar") x false q;
         not_written = swapped (codes "putchar") x false r;
         there = found.there x t h;

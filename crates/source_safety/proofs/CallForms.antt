@@ -144,7 +144,7 @@ module _ (n : ℕ) (d : Tables) (g : Env) (scope : Scope) (f : NameOf → Region
     called_entry at x (Some (OfValue Unknown)) t vs es v p there m k h e = absurd cc
     called_entry at x (Some (OfTag u)) t vs es v p there m k h e =
         let z : Structure scope.world x u = p x (OfTag u) m in
-        called_struct n d g scope f b structs i at x u vs es v z (tag_found g x u m) h
+        called_struct n d g scope f b structs i inside at x u vs es v z (tag_found g x u m) h
         (subst (λ (y : Target). rules_of_calls.called (within i g) at y vs ≡ Of v) (struct_is u.is_union u.sound u at t z.no_union k) e)
     called_entry at x (Some OfOther) t vs es v p there m k h e = absurd cc
     called_entry at x (Some (OfFunction s)) t vs es v p there m k h e =

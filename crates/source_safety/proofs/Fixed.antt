@@ -1,6 +1,6 @@
 -- What the region variables of a call stand for: regions that are in scope where the call is.
 use Rattle.std.proofs.Common.{◌≡◌, ℕ, zero, suc, Bool, true, false, Option, Some, None, List, [], ◌∷◌, sym, subst}
-use Rattle.std.specs.Prelude.{map, ◌++◌, ◌&&◌, slice_get, if◌then◌else◌}
+use Rattle.std.specs.Prelude.{map, ◌++◌, ◌&&◌, slice_get, bytes_eq, if◌then◌else◌}
 use Rattle.source_typing.specs.Regions.{TheHeap, Level, same_id}
 use Rattle.source_typing.specs.Scope.{Env, Enclosing, InRegion, InUnique, NotKnown, Value}
 use Rattle.source_typing.specs.Fixing.{Fit, fit, fit_all, fits_of, all_fits, first_fit, fixed_by, fixed_one, fixed_from, is_found, more}
@@ -25,6 +25,10 @@ pub argument_below : (n : ℕ) (rs : List NameOf) (a : NameOf) → AllBelow n rs
 argument_below n rs TheHeap h = tt
 argument_below n rs (Level k) h = listed_below n rs k h
 
+pub arguments_below : (n : ℕ) (rs qs : List NameOf) → AllBelow n rs → AllBelow n (map (argument rs) qs)
+arguments_below n rs [] h = tt
+arguments_below n rs (q ∷ qs) h = (argument_below n rs q h, arguments_below n rs qs h)
+
 pub object_below : (n : ℕ) (rs : List NameOf) (t : StaticType) → IsObjectType t → AllBelow n rs → TypeBelow n (renamed (argument rs) t)
 object_below n rs Int e h = tt
 object_below n rs Unsigned e h = tt
@@ -36,7 +40,7 @@ object_below n rs (Fat r t) e h = absurd e
 object_below n rs (Unique c t) e h = absurd e
 object_below n rs (Handle r) e h = argument_below n rs r h
 object_below n rs (Key r) e h = absurd e
-object_below n rs (Struct tag qs) e h = subst (λ (xs : List NameOf). AllBelow n (map (argument rs) xs)) (sym e) tt
+object_below n rs (Struct tag qs) e h = arguments_below n rs qs h
 object_below n rs (Union tag qs) e h = absurd e
 
 pub plain_below : (n : ℕ) (rs : List NameOf) (t : StaticType) → IsPlain t → AllBelow n rs → TypeBelow n (renamed (argument rs) t)
@@ -106,6 +110,31 @@ outer_below n (Some (Key r)) h = tt
 outer_below n (Some (Struct tag rs)) h = tt
 outer_below n (Some (Union tag rs)) h = tt
 
+-- the region arguments of a struct fix those at the same place
+fit_below : (n at : ℕ) (rs qs : List NameOf) → AllBelow n qs → FitsBelow n (fit_all at rs qs)
+fit_below n at [] qs h = tt
+fit_below n at (r ∷ rs) [] h = tt
+fit_below n at (r ∷ rs) (q ∷ qs) h = (h.0, fit_below n at rs qs h.1)
+
+same_below : (n : ℕ) (tag : List ℕ) (u : Option StaticType) → PartBelow n u → AllBelow n (arguments_of false tag u)
+same_below n tag None h = tt
+same_below n tag (Some Int) h = tt
+same_below n tag (Some Unsigned) h = tt
+same_below n tag (Some Char) h = tt
+same_below n tag (Some Void) h = tt
+same_below n tag (Some Null) h = tt
+same_below n tag (Some (Thin c r t)) h = tt
+same_below n tag (Some (Fat r t)) h = tt
+same_below n tag (Some (Unique c t)) h = tt
+same_below n tag (Some (Handle r)) h = tt
+same_below n tag (Some (Key r)) h = tt
+same_below n tag (Some (Struct other rs)) h = by (bytes_eq tag other)
+  where
+    by : (c : Bool) → AllBelow n (if c then rs else [])
+    by true = h
+    by false = tt
+same_below n tag (Some (Union other rs)) h = tt
+
 -- a handle's region fixes its parameter's
 handle_below : (n at : ℕ) (r : NameOf) (u : Option StaticType) → PartBelow n u → FitsBelow n (fits_of at (Handle r) u)
 handle_below n at r None h = tt
@@ -134,7 +163,7 @@ fits_below n at (Fat r t) u e h = absurd e
 fits_below n at (Unique c t) u e h = absurd e
 fits_below n at (Handle r) u e h = handle_below n at r u h
 fits_below n at (Key r) u e h = absurd e
-fits_below n at (Struct tag rs) u e h = subst (λ (qs : List NameOf). FitsBelow n (fit_all at qs (arguments_of false tag u))) (sym e) tt
+fits_below n at (Struct tag rs) u e h = fit_below n at rs (arguments_of false tag u) (same_below n tag u h)
 fits_below n at (Union tag rs) u e h = absurd e
 
 -- the arguments' types name regions in scope

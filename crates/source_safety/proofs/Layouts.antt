@@ -56,7 +56,7 @@ member_more d ds (Fat r t) h = h
 member_more d ds (Unique n t) h = h
 member_more d ds (Handle r) h = h
 member_more d ds (Key r) h = h
-member_more d ds (Struct tag rs) h = (h.0, declares_more (bytes_eq d.tag tag) (declares ds tag) h.1)
+member_more d ds (Struct tag rs) h = declares_more (bytes_eq d.tag tag) (declares ds tag) h
 member_more d ds (Union tag rs) h = h
 
 all_more : (d : Declared) (ds : List Declared) (ts : List StaticType) → AreMemberTypes ds ts → AreMemberTypes (d ∷ ds) ts
@@ -83,7 +83,7 @@ member_object ds (Fat r t) h = h
 member_object ds (Unique n t) h = h
 member_object ds (Handle r) h = h
 member_object ds (Key r) h = h
-member_object ds (Struct tag rs) h = h.0
+member_object ds (Struct tag rs) h = tt
 member_object ds (Union tag rs) h = h
 
 -- ---- a struct's cells are those of its members
@@ -102,7 +102,7 @@ cells_more d ds f (Handle r) h n = refl
 cells_more d ds f (Key r) h n = refl
 cells_more d ds f (Struct tag rs) h n =
     ap (λ (b : Bool). if b then flat_all (cells ds) (map (renamed (filled heap (map f rs))) d.parts) else struct_flat heap ds tag (map f rs))
-    (apart ds d.tag tag (bytes_eq d.tag tag) refl n h.1)
+    (apart ds d.tag tag (bytes_eq d.tag tag) refl n h)
 cells_more d ds f (Union tag rs) h n = refl
 
 all_cells_more : (d : Declared) (ds : List Declared) (f : names.Region → Region) (ts : List StaticType) → AreMemberTypes ds ts → declares ds d.tag ≡ false

@@ -41,6 +41,7 @@ pub mod Parameters
 pub mod Functions
 pub mod Entered
 pub mod First
+pub mod GlobalTypes
 pub mod Started
 pub mod Never
 pub mod Same

@@ -1,6 +1,6 @@
 -- Members of structs are places, and structs are made of their members' values.
-use Rattle.std.proofs.Common.{◌≡◌, ℕ, suc, ◌+◌, Bool, true, false, Option, Some, None, List, [], ◌∷◌, ◌++◌, refl, sym, ◌∙◌, ap, subst, arith}
-use Rattle.std.specs.Prelude.{map, length, bytes_eq, if◌then◌else◌}
+use Rattle.std.proofs.Common.{◌≡◌, ℕ, zero, suc, ◌+◌, Bool, true, false, Option, Some, None, List, [], ◌∷◌, ◌++◌, refl, sym, ◌∙◌, ap, subst, arith}
+use Rattle.std.specs.Prelude.{map, length, slice_get, bytes_eq, if◌then◌else◌}
 use Rattle.std.proofs.lemmas.List.{length-map}
 use Rattle.source_meaning.specs.Shapes as shapes
 use Rattle.source_meaning.specs.Shapes.{Shape, has_tag, parts_of, part_shape, part_shapes}
@@ -13,10 +13,10 @@ use Rattle.source_typing.specs.Calls.{part_types}
 use Rattle.source_typing.specs.Regions.{TheHeap, Level}
 use Rattle.source_typing.specs.Scope.{Env}
 use Rattle.source_typing.specs.Tables as typing
-use Rattle.source_typing.specs.Tables.{Entry, OfValue, OfTag, OfFunction, OfBuiltin, OfOther, Tag, find, as_tag, parts_of_tag, parts_in, part_in, argument}
+use Rattle.source_typing.specs.Tables.{Entry, OfValue, OfTag, OfFunction, OfBuiltin, OfOther, Tag, find, as_tag, parts_of_tag, parts_in, part_in, argument, or_heap}
 use Rattle.source_typing.specs.Types.{StaticType, Int, Unsigned, Char, Void, Null, Thin, Fat, Unique, Handle, Key, Struct, Union, renamed, shape_of}
 use Rattle.source_safety.specs.Entries.{IsObjectType, AreObjects, Structure}
-use Rattle.source_safety.specs.Flat.{Declared, Tables, filled, flat, flat_all}
+use Rattle.source_safety.specs.Flat.{Declared, Tables, or_region, filled, flat, flat_all}
 use Rattle.source_safety.specs.Structs.{AreMemberTypes, AreMembers}
 use Rattle.source_safety.proofs.Facts.{further, not_further}
 use Rattle.source_safety.proofs.Invariant.{RunType, heap, Owner, Ghost, Laid, HaveTypes}
@@ -29,7 +29,7 @@ use Rattle.source_safety.proofs.Layouts.{member_types, member_object, members_ty
 use Rattle.source_safety.proofs.Words.{object_twice, values_copied, grown_itself}
 use Rattle.source_safety.proofs.Calling.{Passes}
 
--- ---- types in a struct without region parameters
+-- ---- types in a struct
 
 -- names that stand for the same make the same types
 all_same : (f h : NameOf → Region) → ((a : NameOf) → f a ≡ h a) → (rs : List NameOf) → map f rs ≡ map h rs
@@ -50,22 +50,28 @@ renamed_same f h e (Key r) = ap (λ (q : Region). Key q) (e r)
 renamed_same f h e (Struct tag rs) = ap (λ (qs : List Region). Struct tag qs) (all_same f h e rs)
 renamed_same f h e (Union tag rs) = ap (λ (qs : List Region). Union tag qs) (all_same f h e rs)
 
--- all region names in a member's type are the heap
-in_heap : (f : NameOf → Region) → f TheHeap ≡ heap → (a : NameOf) → f (argument [] a) ≡ filled heap [] a
-in_heap f e TheHeap = e
-in_heap f e (Level k) = e
+-- the region names in a member's type stand for the arguments
+listed : (f : NameOf → Region) → f TheHeap ≡ heap → (rs : List NameOf) (k : ℕ) → f (or_heap (slice_get rs k)) ≡ or_region heap (slice_get (map f rs) k)
+listed f e [] k = e
+listed f e (r ∷ rs) zero = refl
+listed f e (r ∷ rs) (suc k) = listed f e rs k
+
+filled_is : (f : NameOf → Region) (rs : List NameOf) → f TheHeap ≡ heap → (a : NameOf) → f (argument rs a) ≡ filled heap (map f rs) a
+filled_is f rs e TheHeap = e
+filled_is f rs e (Level k) = listed f e rs k
 
 -- the type that a member has in a run
-pub member_run : (f : NameOf → Region) (t : StaticType) → f TheHeap ≡ heap → IsObjectType t → renamed f (renamed (argument []) t) ≡ renamed (filled heap []) t
-member_run f t e o =
-    object_twice f (argument []) t o ∙ renamed_same (λ a. f (argument [] a)) (filled heap []) (in_heap f e) t
+pub member_run : (f : NameOf → Region) (rs : List NameOf) (t : StaticType) → f TheHeap ≡ heap → IsObjectType t
+    → renamed f (renamed (argument rs) t) ≡ renamed (filled heap (map f rs)) t
+member_run f rs t e o =
+    object_twice f (argument rs) t o ∙ renamed_same (λ a. f (argument rs a)) (filled heap (map f rs)) (filled_is f rs e) t
 
-all_member_run : (f : NameOf → Region) (ds : List Declared) (ts : List StaticType) → f TheHeap ≡ heap → AreMemberTypes ds ts
-    → map (renamed f) (map (renamed (argument [])) ts) ≡ map (renamed (filled heap [])) ts
-all_member_run f ds [] e h = refl
-all_member_run f ds (t ∷ ts) e h =
-    let a : renamed f (renamed (argument []) t) ≡ renamed (filled heap []) t = member_run f t e (member_object ds t h.0) in
-    let c : map (renamed f) (map (renamed (argument [])) ts) ≡ map (renamed (filled heap [])) ts = all_member_run f ds ts e h.1 in
+all_member_run : (f : NameOf → Region) (rs : List NameOf) (ds : List Declared) (ts : List StaticType) → f TheHeap ≡ heap → AreMemberTypes ds ts
+    → map (renamed f) (map (renamed (argument rs)) ts) ≡ map (renamed (filled heap (map f rs))) ts
+all_member_run f rs ds [] e h = refl
+all_member_run f rs ds (t ∷ ts) e h =
+    let a : renamed f (renamed (argument rs) t) ≡ renamed (filled heap (map f rs)) t = member_run f rs t e (member_object ds t h.0) in
+    let c : map (renamed f) (map (renamed (argument rs)) ts) ≡ map (renamed (filled heap (map f rs))) ts = all_member_run f rs ds ts e h.1 in
     cc
 
 pub members_objects : (ds : List Declared) (ts : List StaticType) → AreMemberTypes ds ts → AreObjects ts
@@ -167,14 +173,14 @@ struct_there d world tables tag x part h e = by (find tables tag) refl e
 
 module _ (n : ℕ) (d : Tables) (g : Env) (scope : Scope) (f : NameOf → Region) (b : ℕ) (h : Structs d scope.world g.tables) where
   -- a member of a struct that is a place is a place in the same region
-  pub finds_member : (tag x : List ℕ) (part : typing.Part) (u : StaticType) (r : NameOf) (place : Act Spot) → part_in (parts_in g.tables tag) x ≡ Some part
-      → part.type ≡ Some u → Finds n d g scope f b (Struct tag []) r place
-      → Finds n d g scope f b (renamed (argument []) u) r
+  pub finds_member : (tag : List ℕ) (rs : List NameOf) (x : List ℕ) (part : typing.Part) (u : StaticType) (r : NameOf) (place : Act Spot) → part_in (parts_in g.tables tag) x ≡ Some part
+      → part.type ≡ Some u → Finds n d g scope f b (Struct tag rs) r place
+      → Finds n d g scope f b (renamed (argument rs) u) r
       (place >>= λ s. give (beyond s (cells_before (cells_of scope.world) (parts_of scope.world.structs tag) x)))
-  finds_member tag x part u r place e z finds = λ k w m i q. record {
+  finds_member tag rs x part u r place e z finds = λ k w m i q. record {
     by = λ next p. (finds k w m i q).by (λ s. next (beyond s (cells_before (cells_of scope.world) (parts_of scope.world.structs tag) x)))
         (λ s m1 y.
-        let at : PlaceOk d f (Struct tag []) r s y.ghost m1 = y.holds in
+        let at : PlaceOk d f (Struct tag rs) r s y.ghost m1 = y.holds in
         let q1 : Scene d g scope f b k y.ghost m1 = scene_later d g scope f b k w m y.ghost m1 y.inv y.grows q in
         p (beyond s (cells_before (cells_of scope.world) (parts_of scope.world.structs tag) x)) m1 (record {
           ghost = y.ghost;
@@ -191,14 +197,14 @@ module _ (n : ℕ) (d : Tables) (g : Env) (scope : Scope) (f : NameOf → Region
       found = member_found d.structs (parts_in g.tables tag) (parts_of scope.world.structs tag) (member_types d.structs tag) x part u there
           (members_typed d.structs tag h.in_order) e z
 
-      laid : f TheHeap ≡ heap → (s : Spot) (w : Ghost) → Laid w s (flat heap d (Struct tag []))
-          → Laid w (beyond s (cells_before (cells_of scope.world) (parts_of scope.world.structs tag) x)) (flat heap d (renamed f (renamed (argument []) u)))
+      laid : f TheHeap ≡ heap → (s : Spot) (w : Ghost) → Laid w s (flat heap d (Struct tag (map f rs)))
+          → Laid w (beyond s (cells_before (cells_of scope.world) (parts_of scope.world.structs tag) x)) (flat heap d (renamed f (renamed (argument rs) u)))
       laid p s w l =
           subst (λ (t : RunType). Laid w (beyond s (cells_before (cells_of scope.world) (parts_of scope.world.structs tag) x)) (flat heap d t))
-          (sym (member_run f u p found.object))
-          (member_laid d scope.world (filled heap []) w (agrees d scope.world g.tables h) s (parts_in g.tables tag) (parts_of scope.world.structs tag)
+          (sym (member_run f rs u p found.object))
+          (member_laid d scope.world (filled heap (map f rs)) w (agrees d scope.world g.tables h) s (parts_in g.tables tag) (parts_of scope.world.structs tag)
           (member_types d.structs tag) x part u there e z
-          (subst (λ (ts : List RunType). Laid w s ts) (struct_is d.structs tag [] h.in_order) l))
+          (subst (λ (ts : List RunType). Laid w s ts) (struct_is d.structs tag (map f rs) h.in_order) l))
 
   -- ---- structs are made
 
@@ -210,32 +216,32 @@ module _ (n : ℕ) (d : Tables) (g : Env) (scope : Scope) (f : NameOf → Region
   joined w by [] ys (t ∷ ts) us p q = absurd p
   joined w by (x ∷ xs) ys [] us p q = absurd p
 
-  flown_joined : (w : Ghost) (k : ℕ) (vss : List (List Scalar)) (ts : List StaticType) → AreObjects ts → Flown d w k vss (map (renamed (filled heap [])) ts)
-      → (to : ℕ → Owner) → HaveTypes d w to (calls.flat vss) (flat_all (flat heap d) (map (renamed (filled heap [])) ts))
-  flown_joined w k [] [] o p to = tt
-  flown_joined w k (vs ∷ vss) (t ∷ ts) o p to =
-      joined w to vs (calls.flat vss) (flat heap d (renamed (filled heap []) t)) (flat_all (flat heap d) (map (renamed (filled heap [])) ts))
-      (values_copied d w w (flying k 0) to vs (flat heap d (renamed (filled heap []) t)) (grown_itself w)
-      (all_copied d.structs (filled heap []) t h.in_order o.0) p.0)
-      (λ to2. flown_joined w (suc k) vss ts o.1 p.1 to2)
-  flown_joined w k [] (t ∷ ts) o p to = absurd p
-  flown_joined w k (vs ∷ vss) [] o p to = absurd p
+  flown_joined : (qs : List Region) (w : Ghost) (k : ℕ) (vss : List (List Scalar)) (ts : List StaticType) → AreObjects ts → Flown d w k vss (map (renamed (filled heap qs)) ts)
+      → (to : ℕ → Owner) → HaveTypes d w to (calls.flat vss) (flat_all (flat heap d) (map (renamed (filled heap qs)) ts))
+  flown_joined qs w k [] [] o p to = tt
+  flown_joined qs w k (vs ∷ vss) (t ∷ ts) o p to =
+      joined w to vs (calls.flat vss) (flat heap d (renamed (filled heap qs) t)) (flat_all (flat heap d) (map (renamed (filled heap qs)) ts))
+      (values_copied d w w (flying k 0) to vs (flat heap d (renamed (filled heap qs) t)) (grown_itself w)
+      (all_copied d.structs (filled heap qs) t h.in_order o.0) p.0)
+      (λ to2. flown_joined qs w (suc k) vss ts o.1 p.1 to2)
+  flown_joined qs w k [] (t ∷ ts) o p to = absurd p
+  flown_joined qs w k (vs ∷ vss) [] o p to = absurd p
 
-  pub gives_made : (tag : List ℕ) (act : Act (List (List Scalar)))
-      → Passes n d g scope f b (map (renamed (argument [])) (member_types d.structs tag)) act
-      → Gives n d g scope f b (Struct tag []) (act >>= λ vss. give (calls.flat vss))
-  gives_made tag act passes = λ k w m i q. record {
+  pub gives_made : (tag : List ℕ) (rs : List NameOf) (act : Act (List (List Scalar)))
+      → Passes n d g scope f b (map (renamed (argument rs)) (member_types d.structs tag)) act
+      → Gives n d g scope f b (Struct tag rs) (act >>= λ vss. give (calls.flat vss))
+  gives_made tag rs act passes = λ k w m i q. record {
     by = λ next p. (passes k w m i q).by (λ vss. next (calls.flat vss)) (λ vss m1 y.
         let q1 : Scene d g scope f b k y.ghost m1 = scene_later d g scope f b k w m y.ghost m1 y.inv y.grows q in
-        let flown : Flown d y.ghost k vss (map (renamed (filled heap [])) (member_types d.structs tag)) =
+        let flown : Flown d y.ghost k vss (map (renamed (filled heap (map f rs))) (member_types d.structs tag)) =
         subst (λ (ts : List RunType). Flown d y.ghost k vss ts)
-        (all_member_run f d.structs (member_types d.structs tag) q1.names.heap_is (members_typed d.structs tag h.in_order)) y.holds in
+        (all_member_run f rs d.structs (member_types d.structs tag) q1.names.heap_is (members_typed d.structs tag h.in_order)) y.holds in
         p (calls.flat vss) m1 (record {
           ghost = y.ghost;
           inv = y.inv;
           grows = y.grows;
-          holds = subst (λ (ts : List RunType). HaveTypes d y.ghost (flying k 0) (calls.flat vss) ts) (sym (struct_is d.structs tag [] h.in_order))
-              (flown_joined y.ghost k vss (member_types d.structs tag)
+          holds = subst (λ (ts : List RunType). HaveTypes d y.ghost (flying k 0) (calls.flat vss) ts) (sym (struct_is d.structs tag (map f rs) h.in_order))
+              (flown_joined (map f rs) y.ghost k vss (member_types d.structs tag)
               (members_objects d.structs (member_types d.structs tag) (members_typed d.structs tag h.in_order)) flown (flying k 0));
         }));
   }

@@ -5,9 +5,9 @@ use Rattle.std.proofs.lemmas.Option.{slice_get_within}
 use Rattle.cyc_tree.specs.Tree as tree
 use Rattle.cyc_tree.specs.Tree.{Item, Program}
 use Rattle.cyc_words.specs.Events.{SourceEnding}
-use Rattle.source_meaning.specs.Shapes.{Shape, IntShape, UnsignedShape, CharShape, ThinShape, HandleShape, StructShape, settled, written}
+use Rattle.source_meaning.specs.Shapes.{settled, written}
 use Rattle.source_meaning.specs.Memory.{Spot, Scalar, Object, Memory}
-use Rattle.source_meaning.specs.Steps.{Entity, Variable, Binding, World, Routine, Stops, ◌>>=◌, need}
+use Rattle.source_meaning.specs.Steps.{Variable, Binding, World, Routine, Stops, ◌>>=◌, need}
 use Rattle.source_meaning.specs.Conversions.{one, integer}
 use Rattle.source_meaning.specs.Places.{bound_to}
 use Rattle.source_meaning.specs.Calls.{function_of}
@@ -15,10 +15,10 @@ use Rattle.source_meaning.specs.Strings.{program_strings}
 use Rattle.source_meaning.specs.Programs.{heap_spot, heap_alone, global_object, global_objects, string_object, world_of, entered, start, source}
 use Rattle.source_typing.specs.Tables as typing
 use Rattle.source_typing.specs.Tables.{OfValue, OfFunction, Stored, Signature, find}
-use Rattle.source_typing.specs.Types.{Int, Unsigned, Char, Void, Null, Thin, Fat, Unique, Handle, Key, Struct, Union, StaticType, shape_of}
+use Rattle.source_typing.specs.Types.{Int, StaticType, shape_of}
 use Rattle.source_safety.specs.Flat.{Tables, flat}
 pub use Rattle.source_safety.specs.Programs.{GlobalFound, MainFound, ProgramJudged}
-use Rattle.source_safety.proofs.Invariant.{RunType, heap, Ghost, Laid, HaveTypes, Inv}
+use Rattle.source_safety.proofs.Invariant.{heap, Ghost, Laid, HaveTypes, Inv}
 use Rattle.source_safety.proofs.Runs.{Safe, Runs, not_stuck}
 use Rattle.source_safety.proofs.After.{flying}
 use Rattle.source_safety.proofs.Layouts.{Structs}
@@ -26,10 +26,12 @@ use Rattle.source_safety.proofs.Names.{NameOf, AllStand, AllOrdered}
 use Rattle.source_safety.proofs.Births.{known_live}
 use Rattle.source_safety.proofs.Scenes.{Globals}
 use Rattle.source_safety.proofs.Integers.{IsWord, word_of}
-use Rattle.source_safety.proofs.Entries.{IsObjectType, run_type, Enters, Invokes}
+use Rattle.source_safety.proofs.Entries.{run_type, Enters, Invokes}
 use Rattle.source_safety.proofs.Functions.{Sources}
 use Rattle.source_safety.proofs.Entered.{runs_entered, all_fuel}
 use Rattle.source_safety.proofs.First.{first_ghost, first_inv}
+use Rattle.std.proofs.lemmas.Slice.Eq.{bytes_eq-Decides}
+use Rattle.source_safety.proofs.GlobalTypes.{globals_typed}
 use Rattle.source_safety.proofs.Started.{Ready, TypedEntity, EachTyped, runs_globals}
 
 -- ---- the memory at the start
@@ -51,48 +53,25 @@ first_ready world (tree.FunctionItem f ∷ items) k os later h = first_ready wor
 
 -- ---- globals by their names
 
--- the type of an object of a run in which all regions are the heap, by its shape
-abbrev run_shaped : Shape → RunType
-run_shaped IntShape = Int
-run_shaped UnsignedShape = Unsigned
-run_shaped CharShape = Char
-run_shaped (ThinShape n owner to) = Thin n heap (run_shaped to)
-run_shaped HandleShape = Handle heap
-run_shaped (StructShape tag) = Struct tag []
-run_shaped _ = Void
-
-run_by_shape : (t : StaticType) → IsObjectType t → run_type t ≡ run_shaped (shape_of t)
-run_by_shape Int e = refl
-run_by_shape Unsigned e = refl
-run_by_shape Char e = refl
-run_by_shape Void e = absurd e
-run_by_shape Null e = absurd e
-run_by_shape (Thin n r t) e = ap (Thin n heap) (run_by_shape t e)
-run_by_shape (Fat r t) e = absurd e
-run_by_shape (Unique n t) e = absurd e
-run_by_shape (Handle r) e = refl
-run_by_shape (Key r) e = absurd e
-run_by_shape (Struct tag rs) e = ap (λ (qs : List NameOf). Struct tag (map (λ (a : NameOf). heap) qs)) e
-run_by_shape (Union tag rs) e = absurd e
-
-laid_entity : (d : Tables) (w : Ghost) (t : StaticType) (at : Spot) (e : Entity) → IsObjectType t → TypedEntity d w e → e ≡ Variable (shape_of t) at
-    → Laid w at (flat heap d (run_type t))
-laid_entity d w t at e object h q =
+laid_entity : (d : Tables) (tables : typing.Tables) (w : Ghost) (x : List ℕ) (t : StaticType) (r : NameOf) (at : Spot) (b : Binding) → TypedEntity d tables w b
+    → b.name ≡ x → find tables x ≡ Some (OfValue (Stored t r)) → b.entity ≡ Variable (shape_of t) at → Laid w at (flat heap d (run_type t))
+laid_entity d tables w x t r at b h name found q =
     let both : Variable (shape_of h.type) h.at ≡ Variable (shape_of t) at = sym h.is ∙ q in
     let shapes : shape_of h.type ≡ shape_of t = cc in
     let spots : h.at ≡ at = cc in
-    let same : run_type h.type ≡ run_type t = run_by_shape h.type h.object ∙ (ap run_shaped shapes ∙ sym (run_by_shape t object)) in
-    subst (λ (s : Spot). Laid w s (flat heap d (run_type t))) spots (subst (λ (u : RunType). Laid w h.at (flat heap d u)) same h.laid)
+    let same : t ≡ h.type = h.same t r (ap (find tables) name ∙ found) (sym shapes) in
+    subst (λ (s : Spot). Laid w s (flat heap d (run_type t))) spots (subst (λ (u : StaticType). Laid w h.at (flat heap d (run_type u))) (sym same) h.laid)
 
-laid_global : (d : Tables) (w : Ghost) (bs : List Binding) (x : List ℕ) (t : StaticType) (at : Spot) → IsObjectType t → EachTyped d w bs
-    → bound_to bs x ≡ Some (Variable (shape_of t) at) → Laid w at (flat heap d (run_type t))
-laid_global d w [] x t at object h e = absurd cc
-laid_global d w (b ∷ bs) x t at object h e = by (bytes_eq b.name x) (λ q. laid_global d w bs x t at object h.1 q) e
+laid_global : (d : Tables) (tables : typing.Tables) (w : Ghost) (bs : List Binding) (x : List ℕ) (t : StaticType) (r : NameOf) (at : Spot) → EachTyped d tables w bs
+    → find tables x ≡ Some (OfValue (Stored t r)) → bound_to bs x ≡ Some (Variable (shape_of t) at) → Laid w at (flat heap d (run_type t))
+laid_global d tables w [] x t r at h found e = absurd cc
+laid_global d tables w (b ∷ bs) x t r at h found e = by (bytes_eq b.name x) refl (λ q. laid_global d tables w bs x t r at h.1 found q) e
   where
-    by : (c : Bool) → (bound_to bs x ≡ Some (Variable (shape_of t) at) → Laid w at (flat heap d (run_type t)))
+    by : (c : Bool) → bytes_eq b.name x ≡ c → (bound_to bs x ≡ Some (Variable (shape_of t) at) → Laid w at (flat heap d (run_type t)))
         → (if c then Some b.entity else bound_to bs x) ≡ Some (Variable (shape_of t) at) → Laid w at (flat heap d (run_type t))
-    by true others q = laid_entity d w t at b.entity object h.0 (let z : b.entity ≡ Variable (shape_of t) at = cc in z)
-    by false others q = others q
+    by true z others q =
+        laid_entity d tables w x t r at b h.0 ((bytes_eq-Decides b.name x).0 z) found (let y : b.entity ≡ Variable (shape_of t) at = cc in y)
+    by false z others q = others q
 
 -- a function whose region variables all stand for the heap
 heap_stands : (d : Tables) (w : Ghost) (m : Memory) (rs : List NameOf) → Inv d w m → AllStand (λ a. heap) 0 w m rs
@@ -127,8 +106,8 @@ module _ (p : Program) (tables : typing.Tables) (judged : ProgramJudged p tables
     plain = judged.plain;
   }
 
-  all_globals : (w : Ghost) → EachTyped d w world.globals → Globals d tables world w
-  all_globals w h x t r at e q = laid_global d w world.globals x t at (judged.plain x (OfValue (Stored t r)) e) h q
+  all_globals : (w : Ghost) → EachTyped d tables w world.globals → Globals d tables world w
+  all_globals w h x t r at e q = laid_global d tables w world.globals x t r at h e q
 
   sources : Sources d world tables
   sources = record {
@@ -146,7 +125,7 @@ module _ (p : Program) (tables : typing.Tables) (judged : ProgramJudged p tables
   }
 
   -- `main` is entered once the globals are stored
-  runs_main : (n : ℕ) (w : Ghost) (m : Memory) → Inv d w m → EachTyped d w world.globals
+  runs_main : (n : ℕ) (w : Ghost) (m : Memory) → Inv d w m → EachTyped d tables w world.globals
       → Runs n (need (function_of world.functions (codes "main")) >>= λ f. entered f world [] >>= one >>= integer) m (λ status m'. Unit {0})
   runs_main n w m i each =
       let main : MainFound world tables = judged.main in
@@ -172,7 +151,7 @@ module _ (p : Program) (tables : typing.Tables) (judged : ProgramJudged p tables
   safe_start n =
       let os : List Object = global_objects world p ++ map string_object (program_strings p) in
       (runs_globals d n world tables structs (λ status m'. Unit {0}) p 0 first_ghost (heap_alone os)
-      (need (function_of world.functions (codes "main")) >>= λ f. entered f world [] >>= one >>= integer) judged.globals (first_inv d os)
+      (need (function_of world.functions (codes "main")) >>= λ f. entered f world [] >>= one >>= integer) (globals_typed world tables p judged.plain judged.globals) (first_inv d os)
       (first_ready world p 0 os (map string_object (program_strings p)) (λ i. ap (slice_get os) (omega arith)))
       (λ w m i keeps each. runs_main n w m i each)).by (λ status m. Stops (SourceEnding.Ended status)) (λ status m x. safe_ended n status)
 

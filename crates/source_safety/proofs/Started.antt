@@ -6,15 +6,15 @@ use Rattle.cyc_tree.specs.Tree.{Constant, Initial, Item}
 use Rattle.source_meaning.specs.Shapes.{Shape, written, settled}
 use Rattle.source_meaning.specs.Memory as memory
 use Rattle.source_meaning.specs.Memory.{Spot, Scalar, Integer, IntegerType, AsInt, AsUnsigned, AsChar, Holds, Blank, Live, Memory, beyond, first_cell, with_cell}
-use Rattle.source_meaning.specs.Steps.{Entity, Variable, Binding, World, Act, give, ◌>>=◌, ◌>>◌}
+use Rattle.source_meaning.specs.Steps.{Variable, Binding, World, Act, give, ◌>>=◌, ◌>>◌}
 use Rattle.source_meaning.specs.Conversions.{cells_of, converted}
 use Rattle.source_meaning.specs.Values.{write_cell, write_cells}
 use Rattle.source_meaning.specs.Programs.{heap_spot, globals_from, global_shape, constant_value, constant_shape, global_object, global_stored, globals_stored}
 use Rattle.source_typing.specs.Types.{StaticType, Int, Unsigned, Char, Void, Null, Thin, Fat, Unique, Handle, Key, Struct, Union, integer_type, shape_of}
 use Rattle.source_safety.specs.Flat.{Tables, flat}
-pub use Rattle.source_safety.specs.Programs.{IsNumber, IsNullConstant, IsFirst, InitialJudged, GlobalJudged, GlobalsJudged}
+pub use Rattle.source_safety.specs.Programs.{IsNumber, IsNullConstant, IsFirst, InitialJudged, GlobalJudged}
 use Rattle.source_typing.specs.Tables as typing
-use Rattle.source_typing.specs.Tables.{has_beginning}
+use Rattle.source_typing.specs.Tables.{OfValue, Stored, find, has_beginning}
 use Rattle.source_safety.specs.Entries.{IsObjectType, IsWordType}
 use Rattle.source_safety.proofs.Facts.{at_spot, same_at}
 use Rattle.source_safety.proofs.Invariant.{RunType, heap, Flying, Kept, Reached, Ghost, Laid, HasType, Inv}
@@ -26,6 +26,7 @@ use Rattle.source_safety.proofs.Objects.{filled, inv_filled}
 use Rattle.source_safety.proofs.Names.{NameOf}
 use Rattle.source_safety.proofs.Sound.{shape_renamed}
 use Rattle.source_safety.proofs.Entries.{run_type}
+use Rattle.source_safety.proofs.GlobalTypes.{GlobalsTyped}
 use Rattle.source_safety.proofs.Begun.{Typed, cells_typed, begun_slice}
 
 -- ---- the memory before a global is stored, and after
@@ -42,17 +43,18 @@ Ready world (tree.UnionItem s ∷ items) k w m = Ready world items k w m
 Ready world (tree.FunctionItem f ∷ items) k w m = Ready world items k w m
 
 -- a variable whose cells are there
-pub record TypedEntity (d : Tables) (w : Ghost) (e : Entity) : Type 0 where
+pub record TypedEntity (d : Tables) (tables : typing.Tables) (w : Ghost) (b : Binding) : Type 0 where
   pub type : StaticType
-  pub object : IsObjectType type
   pub at : Spot
-  pub is : e ≡ Variable (shape_of type) at
+  pub is : b.entity ≡ Variable (shape_of type) at
+  -- its type is the one that the tables have, if that has its shape
+  pub same : (t : StaticType) (r : NameOf) → find tables b.name ≡ Some (OfValue (Stored t r)) → shape_of t ≡ shape_of type → t ≡ type
   pub in_heap : at.region ≡ heap
   pub laid : Laid w at (flat heap d (run_type type))
 
-abbrev pub EachTyped : Tables → Ghost → List Binding → Type 0
-EachTyped d w [] = Unit {0}
-EachTyped d w (b ∷ bs) = TypedEntity d w b.entity × EachTyped d w bs
+abbrev pub EachTyped : Tables → typing.Tables → Ghost → List Binding → Type 0
+EachTyped d tables w [] = Unit {0}
+EachTyped d tables w (b ∷ bs) = TypedEntity d tables w b × EachTyped d tables w bs
 
 -- types that are there stay
 abbrev pub Keeps : Ghost → Ghost → Type 0
@@ -210,27 +212,27 @@ module _ {B : Type 0} (d : Tables) (n : ℕ) (world : World) (tables : typing.Ta
   given_shape t (Initial.Given c) s j = refl
 
   -- all globals get their values before what follows
-  pub runs_globals : (items : List Item) (k : ℕ) (w : Ghost) (m : Memory) (rest : Act B) → GlobalsJudged tables items → Inv d w m → Ready world items k w m
-      → ((w' : Ghost) (m' : Memory) → Inv d w' m' → Keeps w w' → EachTyped d w' (globals_from items k) → Runs n rest m' Q)
+  pub runs_globals : (items : List Item) (k : ℕ) (w : Ghost) (m : Memory) (rest : Act B) → GlobalsTyped tables items → Inv d w m → Ready world items k w m
+      → ((w' : Ghost) (m' : Memory) → Inv d w' m' → Keeps w w' → EachTyped d tables w' (globals_from items k) → Runs n rest m' Q)
       → Runs n (globals_stored world items k >> rest) m Q
   runs_globals [] k w m rest j i ready go = record { by = λ next q. (go w m i (λ s t e. e) tt).by next q }
   runs_globals (tree.GlobalItem x ∷ items) k w m rest j i ready go =
-      let u : StaticType = j.0.type in
-      let one = runs_one x.initial u items k w m (globals_stored world items (suc k) >> rest) j.0.object j.0.begins j.0.initial i ready.0
-      (λ c. ready.1 c ∙ ap (λ (s : Shape). global_object world x.initial s c) j.0.shape) ready.2 ready.3
+      let u : StaticType = j.0.judged.type in
+      let one = runs_one x.initial u items k w m (globals_stored world items (suc k) >> rest) j.0.judged.object j.0.judged.begins j.0.judged.initial i ready.0
+      (λ c. ready.1 c ∙ ap (λ (s : Shape). global_object world x.initial s c) j.0.judged.shape) ready.2 ready.3
       (λ w1 m1 i1 keeps laid ready1. runs_globals items (suc k) w1 m1 rest j.1 i1 ready1 (λ w2 m2 i2 keeps2 each.
       go w2 m2 i2 (λ s t e. keeps2 s t (keeps s t e)) (
         record {
           type = u;
-          object = j.0.object;
           at = heap_spot k;
-          is = ap (λ (s : Shape). Variable s (heap_spot k)) (given_shape u x.initial (settled (written x.of)) j.0.initial ∙ j.0.shape);
+          is = ap (λ (s : Shape). Variable s (heap_spot k)) (given_shape u x.initial (settled (written x.of)) j.0.judged.initial ∙ j.0.judged.shape);
+          same = j.0.same;
           in_heap = refl;
           laid = laid_kept w1 w2 (heap_spot k) (flat heap d (run_type u)) (λ s t e. keeps2 s (Reached t) e) laid;
         },
         each,
       ))) in
-      subst (λ (s : Shape). Runs n ((global_stored world x.initial s (heap_spot k) >> globals_stored world items (suc k)) >> rest) m Q) (sym j.0.shape)
+      subst (λ (s : Shape). Runs n ((global_stored world x.initial s (heap_spot k) >> globals_stored world items (suc k)) >> rest) m Q) (sym j.0.judged.shape)
       (record { by = λ next q. one.by next q })
   runs_globals (tree.StructItem s ∷ items) k w m rest j i ready go = runs_globals items k w m rest j i ready go
   runs_globals (tree.UnionItem s ∷ items) k w m rest j i ready go = runs_globals items k w m rest j i ready go

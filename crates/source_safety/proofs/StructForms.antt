@@ -1,5 +1,5 @@
 -- What members of structs and makings of structs denote, from what their parts do.
-use Rattle.std.proofs.Common.{◌≡◌, ℕ, Bool, true, false, Some, List, [], refl, sym, ◌∙◌, ap, subst}
+use Rattle.std.proofs.Common.{◌≡◌, ℕ, Bool, true, false, Some, List, refl, sym, ◌∙◌, ap, subst}
 use Rattle.std.specs.Prelude.{map, bytes_eq, codes, length, nat_eq, if◌then◌else◌}
 use Rattle.std.proofs.lemmas.Bool.{eqb-true}
 use Rattle.cyc_tree.specs.Tree as tree
@@ -19,23 +19,23 @@ use Rattle.source_typing.specs.Places as places
 use Rattle.source_typing.specs.Scope.{Env, Enclosing, Value, Seat, Nowhere, In, InBlock, is_live, value}
 use Rattle.source_typing.specs.Tables.{Entry, OfTag, Part, Tag, find, as_tag, parts_of_tag, parts_in, argument}
 use Rattle.source_typing.specs.Types.{StaticType, Int, Unsigned, Char, Void, Null, Thin, Fat, Unique, Handle, Key, Struct, Union, renamed, shape_of}
-use Rattle.source_typing.proofs.Inversion.{of_is, after_is}
+use Rattle.source_typing.proofs.Inversion.{after_is}
 use Rattle.source_typing.proofs.PlacesFit.{HasPart, MemberOf, ArrowTo, member_is, arrow_is}
 use Rattle.source_typing.proofs.CallsFit.{AllConvert, Arguments, arguments_are}
 use Rattle.source_safety.specs.Entries.{IsObjectType, Structure}
 use Rattle.source_safety.specs.Flat.{Tables}
-use Rattle.source_safety.specs.Named.{Below, TypeBelow}
+use Rattle.source_safety.specs.Named.{Below, AllBelow, TypeBelow}
 use Rattle.source_safety.specs.Structs.{AreMembers}
 use Rattle.source_safety.proofs.Names.{NameOf}
 use Rattle.source_safety.proofs.Sound.{shape_renamed, Gives, Finds}
 use Rattle.source_safety.proofs.Places.{sound_placed}
 use Rattle.source_safety.proofs.Layouts.{member_types, members_typed, members_at, Structs, agrees}
 use Rattle.source_safety.proofs.Words.{IsSimple, object_simple, object_renamed, object_copied}
-use Rattle.source_safety.proofs.Fixed.{object_below, within}
+use Rattle.source_safety.proofs.Fixed.{EnclosingBelow, object_below, within, fixed_within}
 use Rattle.source_safety.proofs.Calling.{AllPass, all_passed}
 use Rattle.source_safety.proofs.Members.{Found, member_found, struct_there, members_objects, members_known, members_shaped, finds_member, gives_made}
 use Rattle.source_safety.proofs.WordRules.{Valued, value_of}
-use Rattle.source_safety.proofs.Forms.{Denotes, denotes_value, denotes_contents, AllDenote, all_pass}
+use Rattle.source_safety.proofs.Forms.{Denotes, denotes_value, denotes_contents, AllDenote, values_below, all_pass}
 
 -- ---- what has members
 
@@ -107,14 +107,14 @@ module _ (n : ℕ) (d : Tables) (g : Env) (scope : Scope) (f : NameOf → Region
       → a.seat ≡ In r → HasPart (within i g) tag rs x (In r) v → Denotes n d g scope f b v (member scope.world e x)
   denotes_part i tag rs x r a v e h t s p = record {
     simple = object_simple v.type object;
-    below = subst (λ (y : StaticType). TypeBelow g.regions.count y) (sym type) (object_below g.regions.count [] p.type found.object tt);
+    below = subst (λ (y : StaticType). TypeBelow g.regions.count y) (sym type) (object_below g.regions.count rs p.type found.object below);
     outside = λ z. let y : v.seat ≡ In r = p.is.1 in cc;
     place = λ q z. (object, subst (λ (y : NameOf). Below g.regions.count y) (same r q (sym p.is.1 ∙ z)) (h.place r s).1);
     sound = subst (λ (ps : List shapes.Part). Sound ps) (sym parts)
         (sound_placed n d g scope f b (agrees d scope.world g.tables structs) v (part_shape (parts_of scope.world.structs tag) x) r _
-        (found.shape ∙ (sym (shape_renamed (argument []) p.type) ∙ ap shape_of (sym type))) p.is.1 (object_copied d f v.type structs.in_order object)
+        (found.shape ∙ (sym (shape_renamed (argument rs) p.type) ∙ ap shape_of (sym type))) p.is.1 (object_copied d f v.type structs.in_order object)
         (subst (λ (y : StaticType). Finds n d g scope f b y r (e.place >>= λ s. give (beyond s (cells_before (cells_of scope.world) (parts_of scope.world.structs tag) x))))
-        (sym type) (finds_member n d g scope f b structs tag x p.part p.type r e.place p.found p.typed place)));
+        (sym type) (finds_member n d g scope f b structs tag rs x p.part p.type r e.place p.found p.typed place)));
   }
     where
       Sound : List shapes.Part → Type 0
@@ -127,8 +127,8 @@ module _ (n : ℕ) (d : Tables) (g : Env) (scope : Scope) (f : NameOf → Region
       some : a.type ≡ Void → ⊥
       some z = let y : Struct tag rs ≡ Void = sym t ∙ z in cc
 
-      none : rs ≡ []
-      none = subst (λ (y : StaticType). IsSimple y) t h.simple
+      below : AllBelow g.regions.count rs
+      below = subst (λ (y : StaticType). TypeBelow g.regions.count y) t h.below
 
       parts : struct_parts scope.world e.shape ≡ parts_of scope.world.structs tag
       parts = ap (struct_parts scope.world) (h.sound.shape some ∙ ap shape_of t)
@@ -140,14 +140,14 @@ module _ (n : ℕ) (d : Tables) (g : Env) (scope : Scope) (f : NameOf → Region
       found = member_found d.structs (parts_in g.tables tag) (parts_of scope.world.structs tag) (member_types d.structs tag) x p.part p.type there
           (members_typed d.structs tag structs.in_order) p.found p.typed
 
-      type : v.type ≡ renamed (argument []) p.type
-      type = p.is.0 ∙ ap (λ (qs : List NameOf). renamed (argument qs) p.type) none
+      type : v.type ≡ renamed (argument rs) p.type
+      type = p.is.0
 
       object : IsObjectType v.type
-      object = subst IsObjectType (sym type) (object_renamed (argument []) p.type found.object)
+      object = subst IsObjectType (sym type) (object_renamed (argument rs) p.type found.object)
 
-      place : Finds n d g scope f b (Struct tag []) r e.place
-      place = subst (λ (y : StaticType). Finds n d g scope f b y r e.place) (t ∙ ap (Struct tag) none) (h.sound.place r s)
+      place : Finds n d g scope f b (Struct tag rs) r e.place
+      place = subst (λ (y : StaticType). Finds n d g scope f b y r e.place) t (h.sound.place r s)
 
   pub denotes_member : (i : Enclosing) (x : tree.Name) (a v : Value) (e : Sense) → Denotes n d g scope f b a e → places.member (within i g) x a ≡ Of v
       → Denotes n d g scope f b v (member scope.world e x.text)
@@ -173,28 +173,28 @@ module _ (n : ℕ) (d : Tables) (g : Env) (scope : Scope) (f : NameOf → Region
 
   -- ---- makings
 
-  pub called_struct : (i : Enclosing) (at : ℕ) (x : List ℕ) (t : Tag) (vs : List Value) (es : List Sense) (v : Value) → Structure scope.world x t
+  pub called_struct : (i : Enclosing) → EnclosingBelow g.regions.count i → (at : ℕ) (x : List ℕ) (t : Tag) (vs : List Value) (es : List Sense) (v : Value) → Structure scope.world x t
       → find g.tables x ≡ Some (OfTag t) → AllDenote n d g scope f b vs es → rules_of_calls.called (within i g) at (ToStruct t) vs ≡ Of v
       → Denotes n d g scope f b v (call_sense scope.world x es)
-  called_struct i at x t vs es v k there h e =
+  called_struct i inside at x t vs es v k there h e =
       let z : (rs : List NameOf) × (arguments_fit (within i g) at t.regions (part_types t.parts) vs ≡ Of rs) × (value at (Struct t.text rs) ≡ Of v) =
       after_is (arguments_fit (within i g) at t.regions (part_types t.parts) vs) (λ rs. value at (Struct t.text rs)) v e in
       let a : Arguments (within i g) (part_types t.parts) vs (fixed_from i at (all_fits (part_types t.parts) vs) 0 t.regions) z.0 =
       arguments_are (within i g) at t.regions (part_types t.parts) vs z.0 z.1 in
-      let none : [] ≡ z.0 =
-      of_is [] z.0 (subst (λ (c : ℕ). fixed_from i at (all_fits (part_types t.parts) vs) 0 c ≡ Of z.0) k.no_regions a.found) in
-      let valued : Valued v (Struct x []) =
-      subst (λ (qs : List NameOf). Valued v (Struct x qs)) (sym none) (subst (λ (y : List ℕ). Valued v (Struct y z.0)) k.named (value_of at (Struct t.text z.0) v z.2)) in
-      let pass : AllPass n d g scope f b (map shape_of types) (map (renamed (argument [])) types) es =
-      all_pass n d g scope f b [] types vs es (members_objects d.structs types (members_typed d.structs x structs.in_order))
+      let below : AllBelow g.regions.count z.0 =
+      fixed_within g.regions.count at t.regions i types vs z.0 inside (members_objects d.structs types (members_typed d.structs x structs.in_order))
+      (values_below n d g scope f b vs es h)
+      (subst (λ (ps : List (Rattle.std.specs.Prelude.Option StaticType)). fixed_from i at (all_fits ps vs) 0 t.regions ≡ Of z.0) known a.found) in
+      let valued : Valued v (Struct x z.0) = subst (λ (y : List ℕ). Valued v (Struct y z.0)) k.named (value_of at (Struct t.text z.0) v z.2) in
+      let pass : AllPass n d g scope f b (map shape_of types) (map (renamed (argument z.0)) types) es =
+      all_pass n d g scope f b z.0 types vs es (members_objects d.structs types (members_typed d.structs x structs.in_order))
       (eqb-true _ _ (subst (λ (ps : List (Rattle.std.specs.Prelude.Option StaticType)). nat_eq (length ps) (length vs) ≡ true) known a.count))
-      (subst (λ (qs : List NameOf). AllConvert g qs (map (λ (t : StaticType). Some t) types) vs) (sym none)
-      (subst (λ (ps : List (Rattle.std.specs.Prelude.Option StaticType)). AllConvert g z.0 ps vs) known a.convert)) h in
+      (subst (λ (ps : List (Rattle.std.specs.Prelude.Option StaticType)). AllConvert (within i g) z.0 ps vs) known a.convert) h in
       let made : Denotes n d g scope f b v (struct_made scope.world x es) =
-      denotes_value n d g scope f b v (Struct x []) (StructShape x) _ refl tt valued refl
-      (gives_made n d g scope f b structs x (converted_all scope.world (part_shapes (parts_of scope.world.structs x)) es)
-      (all_passed n d g scope f b (part_shapes (parts_of scope.world.structs x)) (map (renamed (argument [])) types) es
-      (subst (λ (ss : List Shape). AllPass n d g scope f b ss (map (renamed (argument [])) types) es) (sym shaped) pass))) in
+      denotes_value n d g scope f b v (Struct x z.0) (StructShape x) _ tt below valued refl
+      (gives_made n d g scope f b structs x z.0 (converted_all scope.world (part_shapes (parts_of scope.world.structs x)) es)
+      (all_passed n d g scope f b (part_shapes (parts_of scope.world.structs x)) (map (renamed (argument z.0)) types) es
+      (subst (λ (ss : List Shape). AllPass n d g scope f b ss (map (renamed (argument z.0)) types) es) (sym shaped) pass))) in
       subst (λ (c : Bool). Denotes n d g scope f b v (if c then value_sense IntShape (read_byte es)
       else (if bytes_eq x (codes "putchar") then value_sense IntShape (write_byte scope.world es)
       else (if has_tag scope.world.structs x then struct_made scope.world x es else called scope.world (function_of scope.world.functions x) es)))) (sym k.not_read)

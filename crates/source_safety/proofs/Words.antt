@@ -108,7 +108,7 @@ object_renamed h (Fat r t) e = absurd e
 object_renamed h (Unique n t) e = absurd e
 object_renamed h (Handle r) e = tt
 object_renamed h (Key r) e = absurd e
-object_renamed h (Struct tag rs) e = ap (map h) e
+object_renamed h (Struct tag rs) e = tt
 object_renamed h (Union tag rs) e = absurd e
 
 pub plain_renamed : (h : NameOf → NameOf) (t : StaticType) → IsPlain t → IsPlain (renamed h t)
@@ -122,7 +122,7 @@ plain_renamed h (Fat r t) e = absurd e
 plain_renamed h (Unique n t) e = absurd e
 plain_renamed h (Handle r) e = tt
 plain_renamed h (Key r) e = absurd e
-plain_renamed h (Struct tag rs) e = ap (map h) e
+plain_renamed h (Struct tag rs) e = tt
 plain_renamed h (Union tag rs) e = absurd e
 
 map_twice : (f : NameOf → Region) (h : NameOf → NameOf) (rs : List NameOf) → map f (map h rs) ≡ map (λ a. f (h a)) rs

@@ -1,5 +1,5 @@
--- What the names of a program of integers, thin pointers, structs and regions mean: variables, functions that take such values, structs, and the two functions that
--- every program has.
+-- What the names of a program of integers, thin pointers, structs and regions mean: variables, functions that take such values, structs, and the two
+-- functions that every program has.
 use Rattle.std.specs.Prelude.{◌≡◌, ℕ, true, false, ◌⊎◌, Some, List, [], ◌∷◌, map, bytes_eq, codes}
 use Rattle.source_meaning.specs.Shapes.{part_shapes, has_tag}
 use Rattle.source_meaning.specs.Steps.{Routine, World}
@@ -8,14 +8,14 @@ use Rattle.source_typing.specs.Tables as typing
 use Rattle.source_typing.specs.Tables.{Entry, OfValue, OfTag, OfFunction, OfBuiltin, Stored, Signature, Tag, find}
 use Rattle.source_typing.specs.Types.{StaticType, Int, Unsigned, Char, Void, Thin, Handle, Struct, shape_of}
 
--- What a variable may be of: an integer, a thin pointer to what a variable may be of, a handle, or a struct without region parameters.
+-- What a variable may be of: an integer, a thin pointer to what a variable may be of, a handle, or a struct.
 abbrev pub IsObjectType : StaticType → Type 0
 IsObjectType Int = Unit {0}
 IsObjectType Unsigned = Unit {0}
 IsObjectType Char = Unit {0}
 IsObjectType (Thin n r t) = IsObjectType t
 IsObjectType (Handle r) = Unit {0}
-IsObjectType (Struct tag rs) = (rs ≡ [])
+IsObjectType (Struct tag rs) = Unit {0}
 IsObjectType _ = ⊥
 
 -- a word's type: that of an integer or a pointer
@@ -58,11 +58,10 @@ Builtin x n =
 
 -- ---- structs
 
--- a struct of the program, without region parameters
+-- a struct of the program
 pub record Structure (world : World) (x : List ℕ) (t : Tag) : Type 0 where
   pub named : t.text ≡ x
   pub no_union : t.is_union ≡ false
-  pub no_regions : t.regions ≡ 0
   pub not_read : bytes_eq x (codes "getchar") ≡ false
   pub not_written : bytes_eq x (codes "putchar") ≡ false
   pub there : has_tag world.structs x ≡ true

@@ -1,4 +1,4 @@
--- Which statements of integers, thin pointers, structs and lexical regions are in order: the judgement of each of their expressions, in the scope where it stands.
+-- Which statements of integers, thin pointers, structs and lexical regions are in order: the judgement of each of their expressions, where it stands.
 use Rattle.std.specs.Prelude.{◌≡◌, ℕ, true, ◌||◌, Some, None, ◌∷◌}
 use Rattle.cyc_tree.specs.Operands.{ExpressionHasOperands}
 use Rattle.cyc_tree.specs.Tree as tree

@@ -1,4 +1,4 @@
--- Which programs of integers, thin pointers, structs and regions are in order: their structs, their globals, their functions and `main`, by what their names mean.
+-- Which programs of integers, thin pointers, structs and regions are in order: their structs, globals, functions and `main`, by what their names mean.
 use Rattle.std.specs.Prelude.{◌≡◌, ℕ, true, false, ◌⊎◌, Some, List, [], ◌∷◌, codes}
 use Rattle.cyc_tree.specs.Tree as tree
 use Rattle.cyc_tree.specs.Tree.{Constant, Initial, Item, Program}

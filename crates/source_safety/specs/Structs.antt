@@ -16,7 +16,7 @@ declares (d ∷ ds) tag = (if bytes_eq d.tag tag then true else declares ds tag)
 
 -- a member is a word, or a struct that was declared before
 abbrev pub IsMemberType : List Declared → StaticType → Type 0
-IsMemberType earlier (Struct tag rs) = (rs ≡ []) × (declares earlier tag ≡ true)
+IsMemberType earlier (Struct tag rs) = (declares earlier tag ≡ true)
 IsMemberType earlier t = IsObjectType t
 
 abbrev pub AreMemberTypes : List Declared → List StaticType → Type 0

@@ -1,0 +1,171 @@
+-- A global begins with the type that the tables have under its name, where that is one of its shape.
+use Rattle.std.proofs.Common.{◌≡◌, ℕ, zero, suc, Bool, true, false, ◌⊎◌, inl, inr, Option, Some, None, List, [], ◌∷◌, refl, sym, ◌∙◌, ap, subst}
+use Rattle.std.specs.Prelude.{bytes_eq, length}
+use Rattle.std.proofs.lemmas.Bool.{cases_Bool, false≢true}
+use Rattle.std.proofs.lemmas.Slice.Eq.{bytes_eq-Decides}
+use Rattle.cyc_tree.specs.Tree as tree
+use Rattle.cyc_tree.specs.Tree.{Constant, Initial, Item}
+use Rattle.source_meaning.specs.Shapes.{Shared, Shape, IntShape, UnsignedShape, CharShape, ThinShape, StructShape}
+use Rattle.source_meaning.specs.Steps.{World}
+use Rattle.source_typing.specs.Regions.{Region}
+use Rattle.source_typing.specs.Tables as typing
+use Rattle.source_typing.specs.Tables.{Entry, OfValue, OfTag, OfFunction, OfBuiltin, OfOther, Stored, Arrayed, Counter, Unknown, find, each_part, parts_in, begins, has_beginning}
+use Rattle.source_typing.specs.Types.{StaticType, Int, Unsigned, Char, Void, Null, Thin, Fat, Unique, Handle, Key, Struct, Union, shape_of}
+use Rattle.source_safety.specs.Entries.{IsObjectType, PlainTables}
+use Rattle.source_safety.specs.Programs.{IsNumber, IsNullConstant, IsFirst, InitialJudged, GlobalJudged, GlobalsJudged}
+use Rattle.source_safety.proofs.Layouts.{same_text}
+
+-- ---- whether two types have one shape
+
+abbrev SameShape : StaticType → StaticType → Type 0
+SameShape t u = (shape_of t ≡ shape_of u) ⊎ (shape_of t ≡ shape_of u → ⊥)
+
+thins_shaped : (n m : Bool) (r q : Region) (t u : StaticType) → SameShape t u → SameShape (Thin n r t) (Thin m q u)
+thins_shaped true true r q t u (inl e) = inl (ap (ThinShape true Shared) e)
+thins_shaped false false r q t u (inl e) = inl (ap (ThinShape false Shared) e)
+thins_shaped true false r q t u h = inr (λ z. cc)
+thins_shaped false true r q t u h = inr (λ z. cc)
+thins_shaped n m r q t u (inr k) = inr (λ z. k (let y : shape_of t ≡ shape_of u = cc in y))
+
+objects_shaped : (t u : StaticType) → IsObjectType t → IsObjectType u → SameShape t u
+objects_shaped Int Int e h = inl refl
+objects_shaped Int u e h = inr (λ z. cc)
+objects_shaped Unsigned Unsigned e h = inl refl
+objects_shaped Unsigned u e h = inr (λ z. cc)
+objects_shaped Char Char e h = inl refl
+objects_shaped Char u e h = inr (λ z. cc)
+objects_shaped (Handle r) (Handle q) e h = inl refl
+objects_shaped (Handle r) u e h = inr (λ z. cc)
+objects_shaped (Thin n r t) (Thin m q u) e h = thins_shaped n m r q t u (objects_shaped t u e h)
+objects_shaped (Thin n r t) (Unique m u) e h = absurd h
+objects_shaped (Thin n r t) Null e h = absurd h
+objects_shaped (Thin n r t) u e h = inr (λ z. cc)
+objects_shaped (Struct x rs) (Struct y qs) e h = elim (cases_Bool (bytes_eq x y)) [
+  | inl z ↦ inl (ap StructShape ((bytes_eq-Decides x y).0 z))
+  | inr z ↦ inr (λ k. let same : x ≡ y = cc in false≢true (sym z ∙ (ap (λ (a : List ℕ). bytes_eq a y) same ∙ same_text y)))
+]
+objects_shaped (Struct x rs) u e h = inr (λ z. cc)
+objects_shaped Void u e h = absurd e
+objects_shaped Null u e h = absurd e
+objects_shaped (Fat r t) u e h = absurd e
+objects_shaped (Unique n t) u e h = absurd e
+objects_shaped (Key r) u e h = absurd e
+objects_shaped (Union x rs) u e h = absurd e
+
+-- ---- how a variable begins goes by its shape
+
+abbrev begins_by : ℕ → typing.Tables → Shape → Bool
+begins_by n g IntShape = true
+begins_by n g UnsignedShape = true
+begins_by n g CharShape = true
+begins_by n g (ThinShape b owner to) = b
+begins_by zero g (StructShape tag) = true
+begins_by (suc n) g (StructShape tag) = each_part (begins n g) (parts_in g tag)
+begins_by n g s = false
+
+begins_shaped : (n : ℕ) (g : typing.Tables) (t : StaticType) → IsObjectType t → begins n g t ≡ begins_by n g (shape_of t)
+begins_shaped n g Int e = refl
+begins_shaped n g Unsigned e = refl
+begins_shaped n g Char e = refl
+begins_shaped n g Void e = absurd e
+begins_shaped n g Null e = absurd e
+begins_shaped n g (Thin b r t) e = refl
+begins_shaped n g (Fat r t) e = absurd e
+begins_shaped n g (Unique b t) e = absurd e
+begins_shaped n g (Handle r) e = refl
+begins_shaped n g (Key r) e = absurd e
+begins_shaped zero g (Struct tag rs) e = refl
+begins_shaped (suc n) g (Struct tag rs) e = refl
+begins_shaped n g (Union tag rs) e = absurd e
+
+abbrev FirstBy : Shape → Constant → Type 0
+FirstBy IntShape c = IsNumber c
+FirstBy UnsignedShape c = IsNumber c
+FirstBy CharShape c = IsNumber c
+FirstBy (ThinShape b owner to) c = IsNullConstant c
+FirstBy s c = ⊥
+
+to_shape : (t : StaticType) (c : Constant) → IsObjectType t → IsFirst t c → FirstBy (shape_of t) c
+to_shape Int c e h = h
+to_shape Unsigned c e h = h
+to_shape Char c e h = h
+to_shape Void c e h = absurd e
+to_shape Null c e h = absurd e
+to_shape (Thin b r t) c e h = h
+to_shape (Fat r t) c e h = absurd e
+to_shape (Unique b t) c e h = absurd e
+to_shape (Handle r) c e h = h
+to_shape (Key r) c e h = absurd e
+to_shape (Struct tag rs) c e h = h
+to_shape (Union tag rs) c e h = absurd e
+
+from_shape : (t : StaticType) (c : Constant) → IsObjectType t → FirstBy (shape_of t) c → IsFirst t c
+from_shape Int c e h = h
+from_shape Unsigned c e h = h
+from_shape Char c e h = h
+from_shape Void c e h = absurd e
+from_shape Null c e h = absurd e
+from_shape (Thin b r t) c e h = h
+from_shape (Fat r t) c e h = absurd e
+from_shape (Unique b t) c e h = absurd e
+from_shape (Handle r) c e h = h
+from_shape (Key r) c e h = absurd e
+from_shape (Struct tag rs) c e h = h
+from_shape (Union tag rs) c e h = absurd e
+
+initial_shaped : (t u : StaticType) (i : Initial) → IsObjectType t → IsObjectType u → shape_of t ≡ shape_of u → InitialJudged u i → InitialJudged t i
+initial_shaped t u Initial.Unset e h z j = tt
+initial_shaped t u (Initial.Elements n) e h z j = j
+initial_shaped t u (Initial.Given c) e h z j = from_shape t c e (subst (λ (s : Shape). FirstBy s c) (sym z) (to_shape u c h j))
+
+-- ---- globals
+
+-- a global whose type is the one that the tables have, if that has its shape
+pub record GlobalTyped (tables : typing.Tables) (x : tree.Global) : Type 0 where
+  pub judged : GlobalJudged tables x
+  pub same : (t : StaticType) (r : Region) → find tables x.name.text ≡ Some (OfValue (Stored t r)) → shape_of t ≡ shape_of judged.type → t ≡ judged.type
+
+abbrev pub GlobalsTyped : typing.Tables → List Item → Type 0
+GlobalsTyped tables [] = Unit {0}
+GlobalsTyped tables (tree.GlobalItem x ∷ items) = GlobalTyped tables x × GlobalsTyped tables items
+GlobalsTyped tables (tree.StructItem s ∷ items) = GlobalsTyped tables items
+GlobalsTyped tables (tree.UnionItem s ∷ items) = GlobalsTyped tables items
+GlobalsTyped tables (tree.FunctionItem f ∷ items) = GlobalsTyped tables items
+
+global_typed : (world : World) (tables : typing.Tables) (x : tree.Global) → PlainTables world tables → GlobalJudged tables x → GlobalTyped tables x
+global_typed world tables x plain j = by (find tables x.name.text) refl
+  where
+    one_type : (t u : StaticType) (r q : Region) → find tables x.name.text ≡ Some (OfValue (Stored t r)) → find tables x.name.text ≡ Some (OfValue (Stored u q)) → t ≡ u
+    one_type t u r q e h = let z : Some (OfValue (Stored t r)) ≡ Some (OfValue (Stored u q)) = sym e ∙ h in cc
+
+    as_listed : (t : StaticType) (r : Region) → find tables x.name.text ≡ Some (OfValue (Stored t r)) → IsObjectType t → SameShape t j.type → GlobalTyped tables x
+    as_listed t r e o (inl z) = record {
+      judged = record {
+        type = t;
+        object = o;
+        begins = begins_shaped (length tables) tables t o ∙ (ap (begins_by (length tables) tables) z ∙ (sym (begins_shaped (length tables) tables j.type j.object) ∙ j.begins));
+        shape = j.shape ∙ sym z;
+        initial = initial_shaped t j.type x.initial o j.object z j.initial;
+      };
+      same = λ u q h k. one_type u t q r h e;
+    }
+    as_listed t r e o (inr n) = record { judged = j; same = λ u q h k. absurd (n (ap shape_of (one_type t u r q e h) ∙ k)) }
+
+    by : (o : Option Entry) → find tables x.name.text ≡ o → GlobalTyped tables x
+    by (Some (OfValue (Stored t r))) e =
+        let o : IsObjectType t = plain x.name.text (OfValue (Stored t r)) e in as_listed t r e o (objects_shaped t j.type o j.object)
+    by None e = record { judged = j; same = λ u q h k. absurd cc }
+    by (Some (OfValue (Arrayed t r))) e = record { judged = j; same = λ u q h k. absurd cc }
+    by (Some (OfValue Counter)) e = record { judged = j; same = λ u q h k. absurd cc }
+    by (Some (OfValue Unknown)) e = record { judged = j; same = λ u q h k. absurd cc }
+    by (Some (OfTag t)) e = record { judged = j; same = λ u q h k. absurd cc }
+    by (Some (OfFunction s)) e = record { judged = j; same = λ u q h k. absurd cc }
+    by (Some (OfBuiltin n)) e = record { judged = j; same = λ u q h k. absurd cc }
+    by (Some OfOther) e = record { judged = j; same = λ u q h k. absurd cc }
+
+pub globals_typed : (world : World) (tables : typing.Tables) (items : List Item) → PlainTables world tables → GlobalsJudged tables items → GlobalsTyped tables items
+globals_typed world tables [] plain h = tt
+globals_typed world tables (tree.GlobalItem x ∷ items) plain h = (global_typed world tables x plain h.0, globals_typed world tables items plain h.1)
+globals_typed world tables (tree.StructItem s ∷ items) plain h = globals_typed world tables items plain h
+globals_typed world tables (tree.UnionItem s ∷ items) plain h = globals_typed world tables items plain h
+globals_typed world tables (tree.FunctionItem f ∷ items) plain h = globals_typed world tables items plain h

@@ -1,4 +1,4 @@
--- The six laws, by what is proved of expressions and of bodies.
+-- The laws, by what is proved of expressions and of bodies.
 use Rattle.std.proofs.Common.{◌≡◌, false, []}
 use Rattle.cyc_tree.specs.Tree.{Program}
 use Rattle.source_typing.specs.Answers.{program_faults}
@@ -7,7 +7,7 @@ use Rattle.source_typing.specs.Taken.{thin_pointers}
 use Rattle.source_lowering.specs.Taken.{IsOfWords}
 use Rattle.judged_sources.specs.Good.{BodiesJudged}
 use Rattle.judged_sources.specs.Laws.{AcceptedAreJudged, AcceptedAreLowerable, AcceptedAreNeverStuck, AcceptedHaveMain}
-use Rattle.judged_sources.specs.Laws.{AcceptedStructsAreJudged, AcceptedStructsAreNeverStuck}
+use Rattle.judged_sources.specs.Laws.{AcceptedStructsAreJudged, AcceptedStructsAreNeverStuck, AcceptedStructsHaveMain}
 use Rattle.judged_sources.proofs.GoodBodies.{bodies_judged}
 use Rattle.judged_sources.proofs.GoodExpressions.{expressions_judged}
 use Rattle.judged_sources.proofs.Programs as programs
@@ -39,3 +39,6 @@ structs_judged = programs.structs_judged bodies
 
 pub structs_never_stuck : AcceptedStructsAreNeverStuck
 structs_never_stuck = programs.structs_never_stuck bodies
+
+pub structs_have_main : AcceptedStructsHaveMain
+structs_have_main = programs.structs_have_main bodies

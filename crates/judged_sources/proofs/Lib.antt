@@ -32,4 +32,5 @@ pub mod GoodExpressions
 pub mod GoodDeclarations
 pub mod GoodBodies
 pub mod Joined
+pub mod Known
 pub mod StructSamples

@@ -44,7 +44,7 @@ use Rattle.source_safety.proofs.Never.{never_stuck}
 use Rattle.source_safety.proofs.Same.{judged_same}
 use Rattle.judged_sources.specs.Good.{AllGood, BodiesJudged, IsGoodEntry, IsGoodTag}
 use Rattle.judged_sources.specs.Laws.{AcceptedAreJudged, AcceptedAreLowerable, AcceptedAreNeverStuck, AcceptedHaveMain}
-use Rattle.judged_sources.specs.Laws.{AcceptedStructsAreJudged, AcceptedStructsAreNeverStuck}
+use Rattle.judged_sources.specs.Laws.{AcceptedStructsAreJudged, AcceptedStructsAreNeverStuck, AcceptedStructsHaveMain}
 use Rattle.judged_sources.proofs.StructsFound.{structs_found}
 use Rattle.judged_sources.proofs.AlignedTables.{AreAligned, tables_aligned}
 use Rattle.judged_sources.proofs.Found.{AllKnown, AreThinItems, FunctionFound, VariableFound, all_known, all_take, find_function, find_variable, globals_judged}
@@ -318,3 +318,7 @@ structs_judged bodies p e =
 
 pub structs_never_stuck : BodiesJudged → AcceptedStructsAreNeverStuck
 structs_never_stuck bodies p e = never_stuck p (tables_of false p) (structs_judged bodies p e)
+
+pub structs_have_main : BodiesJudged → AcceptedStructsHaveMain
+structs_have_main bodies p e =
+    let k : IsClean structures p = is_clean_program structures p e in main_below bodies p e (structs_found p k.taken k.tags k.names)

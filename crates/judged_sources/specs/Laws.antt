@@ -40,3 +40,8 @@ AcceptedStructsAreJudged = (p : Program) → program_faults structures p ≡ [] 
 abbrev pub AcceptedStructsAreNeverStuck : Type 0
 AcceptedStructsAreNeverStuck = (p : Program) → program_faults structures p ≡ []
     → (input : List ℕ) (n : ℕ) → (source p input n).ending ≡ SourceEnding.Stuck → ⊥
+
+-- the Core of each has the function that it begins with
+abbrev pub AcceptedStructsHaveMain : Type 0
+AcceptedStructsHaveMain = (p : Program) → program_faults structures p ≡ []
+    → (program_code p).main < length (program_code p).functions

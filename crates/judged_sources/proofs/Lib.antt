@@ -33,4 +33,6 @@ pub mod GoodDeclarations
 pub mod GoodBodies
 pub mod Joined
 pub mod Known
+pub mod LoweredForms
+pub mod LoweredCalls
 pub mod StructSamples

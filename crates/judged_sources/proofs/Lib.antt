@@ -35,4 +35,5 @@ pub mod Joined
 pub mod Known
 pub mod LoweredForms
 pub mod LoweredCalls
+pub mod LoweredMembers
 pub mod StructSamples

@@ -36,4 +36,5 @@ pub mod Known
 pub mod LoweredForms
 pub mod LoweredCalls
 pub mod LoweredMembers
+pub mod LoweredOperators
 pub mod StructSamples

@@ -37,4 +37,5 @@ pub mod LoweredForms
 pub mod LoweredCalls
 pub mod LoweredMembers
 pub mod LoweredOperators
+pub mod LoweredExpressions
 pub mod StructSamples

@@ -215,6 +215,7 @@ module _ (w : World) (names : List Named) where
     run = subst (λ b. TakesCalled b (TakesWhole w names (Expression.Call x es)) (Takes w names (Expression.Call x es)))
         (sym (makes_none w x.text n)) (n, k);
     place = λ z. absurd (false≢true (sym (ap (λ (y : Rattle.source_typing.specs.Scope.Seat). is_place y) d.seat) ∙ z));
+    outside = λ z. let y : Nowhere ≡ Rattle.source_typing.specs.Scope.InBlock = sym d.seat ∙ z in cc;
   }
 
   module _ (g : Env) where
@@ -262,6 +263,7 @@ module _ (w : World) (names : List Named) where
           value = subst (λ y. TakenAs w names y (Expression.Call x es)) (sym d.type) (one, made);
           run = subst (λ b. TakesCalled b (TakesWhole w names (Expression.Call x es)) (Takes w names (Expression.Call x es))) (sym one) (one, made);
           place = λ y. absurd (false≢true (sym (ap (λ (y : Rattle.source_typing.specs.Scope.Seat). is_place y) d.seat) ∙ y));
+          outside = λ y. let z : Nowhere ≡ Rattle.source_typing.specs.Scope.InBlock = sym d.seat ∙ y in cc;
         }
 
     pub call_taken : (x : Name) (es : Expressions) (o : Option Entry) (t : Target) (vs : List Value) (v : Value)

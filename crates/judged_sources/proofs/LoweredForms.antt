@@ -7,7 +7,7 @@ use Rattle.source_lowering.specs.Lowered.{Named, call_shape, named_shape, member
 use Rattle.source_meaning.specs.Shapes as shapes
 use Rattle.source_meaning.specs.Shapes.{Layout, Shape, StructShape, has_tag, parts_of}
 use Rattle.source_meaning.specs.Steps.{World}
-use Rattle.source_typing.specs.Scope.{Env, Value, is_place, meant}
+use Rattle.source_typing.specs.Scope.{Env, InBlock, Seat, Value, is_place, meant}
 use Rattle.source_typing.specs.Tables.{
   Arrayed,
   Counter,
@@ -129,6 +129,7 @@ module _ (w : World) (names : List Named) where
     pub value : TakenAs v.type e
     pub run : TakesRun w names e
     pub place : is_place v.seat ≡ true → TakenPlace e v.type
+    pub outside : v.seat ≡ InBlock → ⊥
 
   -- ---- by the type
 
@@ -186,6 +187,7 @@ module _ (w : World) (names : List Named) where
     value = subst (λ z. TakenAs z e) (sym q) (word_as t e h d);
     run = run (dropped_word t e h d);
     place = λ z. absurd (s z);
+    outside = λ z. s (ap (λ (y : Seat). is_place y) z);
   }
 
   -- a place is taken as a value too: as a struct, or as a word
@@ -226,15 +228,16 @@ module _ (w : World) (names : List Named) where
       by (shapes.UnionShape tag) word whole q = word tt
       by (shapes.ArrayShape n s) word whole q = word tt
 
-  pub taken_place : (e : Expression) (v : Value) (t : StaticType) → v.type ≡ t → TakenPlace e t → IsKnownValue w.structs t
+  pub taken_place : (e : Expression) (v : Value) (t : StaticType) → v.type ≡ t → (v.seat ≡ InBlock → ⊥) → TakenPlace e t → IsKnownValue w.structs t
       → (IsNoStruct (static_shape w names e) → Takes w names e)
       → (TakesPlace w names e × IsStructShape w.structs (static_shape w names e) → TakesWhole w names e)
       → (TakesDropped w names (static_shape w names e) e → TakesRun w names e) → IsTaken e v
-  taken_place e v t q p k word whole run = record {
+  taken_place e v t q o p k word whole run = record {
     known = subst (λ z. IsKnownValue w.structs z) (sym q) k;
     value = subst (λ z. TakenAs z e) (sym q) (place_value t e p word whole);
     run = run (place_dropped t e p word whole);
     place = λ s. subst (λ z. TakenPlace e z) (sym q) p;
+    outside = o;
   }
 
   -- ---- parentheses
@@ -260,4 +263,5 @@ module _ (w : World) (names : List Named) where
     value = grouped_as a.type at e h.value;
     run = h.run;
     place = λ z. let p : TakenPlace e a.type = h.place z in record { takes = p.takes; shape = p.shape; known = p.known };
+    outside = h.outside;
   }

@@ -32,29 +32,31 @@ module _ (w : World) (names : List Named) (g : Env) (scope : IsKnownScope w name
     shape : s ≡ shape_of v.type
     known : IsKnown w.structs (shape_of v.type)
     place : is_place v.seat ≡ true
+    outside : v.seat ≡ InBlock → ⊥
 
-  part_reached : (tag f : List ℕ) (rs : List Region) (at : Seat) (v : Value) → is_place at ≡ true → HasPart g tag rs f at v
+  part_reached : (tag f : List ℕ) (rs : List Region) (at : Seat) (v : Value) → is_place at ≡ true → (at ≡ InBlock → ⊥) → HasPart g tag rs f at v
       → Reached (member_shape w (StructShape tag) f) v
-  part_reached tag f rs at v p h =
+  part_reached tag f rs at v p o h =
       let k : KnownMember w tag f h.type = scope.members tag f h.part h.type h.found h.typed in
       let same : shape_of h.type ≡ shape_of v.type = sym (shape_renamed (argument rs) h.type) ∙ ap (λ (t : StaticType). shape_of t) (sym h.is.0) in
       record {
         shape = k.shape ∙ same;
         known = subst (λ s. IsKnown w.structs s) same k.known;
         place = ap (λ (s : Seat). is_place s) h.is.1 ∙ p;
+        outside = λ z. o (sym h.is.1 ∙ z);
       }
 
-  member_reached : (t : StaticType) (at : Seat) (s : Shape) (f : List ℕ) (v : Value) → s ≡ shape_of t → is_place at ≡ true → MemberOf g f t at v
+  member_reached : (t : StaticType) (at : Seat) (s : Shape) (f : List ℕ) (v : Value) → s ≡ shape_of t → is_place at ≡ true → (at ≡ InBlock → ⊥) → MemberOf g f t at v
       → Reached (member_shape w s f) v
-  member_reached (Struct tag rs) at s f v q p h = subst (λ z. Reached (member_shape w z f) v) (sym q) (part_reached tag f rs at v p h)
-  member_reached _ at s f v q p h = absurd h
+  member_reached (Struct tag rs) at s f v q p o h = subst (λ z. Reached (member_shape w z f) v) (sym q) (part_reached tag f rs at v p o h)
+  member_reached _ at s f v q p o h = absurd h
 
   -- what `->` is behind leads to a struct
   arrow_reached : (t : StaticType) (s : Shape) (f : List ℕ) (v : Value) → s ≡ shape_of t → IsKnownValue w.structs t → ArrowTo g f t v
       → IsNoStruct s × Reached (member_shape w (pointee s) f) v
   arrow_reached (Thin n r (Struct tag rs)) s f v q k h = (
     subst (λ z. IsNoStruct z) (sym q) tt,
-    subst (λ z. Reached (member_shape w (pointee z) f) v) (sym q) (part_reached tag f rs (In r) v refl h.1),
+    subst (λ z. Reached (member_shape w (pointee z) f) v) (sym q) (part_reached tag f rs (In r) v refl (λ z. cc) h.1),
   )
   arrow_reached (Fat r t) s f v q k h = absurd k
   arrow_reached (Unique n t) s f v q k h = absurd (let z : shapes.Alone ≡ shapes.Shared = k.0 in cc)
@@ -76,7 +78,7 @@ module _ (w : World) (names : List Named) (g : Env) (scope : IsKnownScope w name
   members_taken (Dot f es) a v s h p =
       let z : (b : Value) × (member g f a ≡ Of b) = suffixes_first g (member g f a) es v p in
       let m = member_is g f a.at a.type a.seat z.0 z.1 in
-      let r : Reached (member_shape w s f.text) z.0 = member_reached a.type a.seat s f.text z.0 h.shape m.0 m.1 in
+      let r : Reached (member_shape w s f.text) z.0 = member_reached a.type a.seat s f.text z.0 h.shape m.0 h.outside m.1 in
       let rest = members_taken es z.0 v (member_shape w s f.text) r (subst (λ (y : Verdict Value). judge_suffixes g y es ≡ Of v) z.1 p) in
       ((object_reached (member_shape w s f.text) z.0 r, rest.0), rest.1)
   members_taken (Arrow f es) a v s h p =
@@ -104,7 +106,7 @@ module _ (w : World) (names : List Named) (g : Env) (scope : IsKnownScope w name
       let z : (b : Value) × (member g f a ≡ Of b) = suffixes_first g (member g f a) es v p in
       let m = member_is g f a.at a.type a.seat z.0 z.1 in
       let k : TakenPlace w names e a.type = h.place m.0 in
-      let r = members_taken (Dot f es) a v (static_shape w names e) (record { shape = k.shape; known = k.known; place = m.0 }) p in
+      let r = members_taken (Dot f es) a v (static_shape w names e) (record { shape = k.shape; known = k.known; place = m.0; outside = h.outside }) p in
       ((k.takes, r.0), r.1)
   suffixes_taken e (Arrow f es) a v h p some =
       let z : (b : Value) × (arrow g f a ≡ Of b) = suffixes_first g (arrow g f a) es v p in
@@ -119,5 +121,5 @@ module _ (w : World) (names : List Named) (g : Env) (scope : IsKnownScope w name
       → IsTaken w names (Expression.Suffixed e es) v
   suffixed_taken e es a v h p some =
       let r = suffixes_taken e es a v h p some in
-      taken_place w names (Expression.Suffixed e es) v v.type refl (record { takes = r.0; shape = r.1.shape; known = r.1.known })
+      taken_place w names (Expression.Suffixed e es) v v.type refl r.1.outside (record { takes = r.0; shape = r.1.shape; known = r.1.known })
       (known_value w.structs v.type r.1.known) (λ z. (r.0, z)) (λ z. z) (λ z. z)

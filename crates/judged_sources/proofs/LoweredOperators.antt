@@ -198,39 +198,39 @@ module _ (w : World) (names : List Named) where
       by (Thin n r t) k d q =
           let p : TakenPlace w names (Expression.Prefixed at prefix.Dereference e) t =
           record { takes = d.takes; shape = ap pointee d.shape; known = k.1 } in
-          taken_place w names (Expression.Prefixed at prefix.Dereference e) v t q.1.0 p (known_value w.structs t k.1) (λ z. (d.takes, z)) (λ z. z) (λ z. z)
+          taken_place w names (Expression.Prefixed at prefix.Dereference e) v t q.1.0 (λ z. let y : In r ≡ InBlock = sym q.1.1 ∙ z in cc) p (known_value w.structs t k.1) (λ z. (d.takes, z)) (λ z. z) (λ z. z)
       by (Fat r t) k d q = absurd k
       by (Unique n t) k d q = absurd (let z : shapes.Alone ≡ shapes.Shared = k.0 in cc)
       by _ k d q = absurd q
 
   -- ---- `&e`
 
-  address_taken : (at : ℕ) (e : Expression) (a v : Value) → IsTaken w names e a → (a.seat ≡ InBlock → ⊥) → address at a ≡ Of v
+  address_taken : (at : ℕ) (e : Expression) (a v : Value) → IsTaken w names e a → address at a ≡ Of v
       → IsTaken w names (Expression.Prefixed at prefix.AddressOf e) v
-  address_taken at e a v h outside q = by a.seat refl q
+  address_taken at e a v h q = by a.seat refl q
     where
       by : (s : Seat) → a.seat ≡ s → Rattle.source_typing.specs.Places.address_of at a.type s ≡ Of v → IsTaken w names (Expression.Prefixed at prefix.AddressOf e) v
       by Nowhere z q = absurd cc
-      by InBlock z q = absurd (outside z)
+      by InBlock z q = absurd (h.outside z)
       by (In r) z q =
           let p : TakenPlace w names e a.type = h.place (ap (λ (s : Seat). is_place s) z) in
           taken_word w names (Expression.Prefixed at prefix.AddressOf e) v (Thin false r a.type) (value_of at (Thin false r a.type) v q).type
           (no_place v (value_of at (Thin false r a.type) v q).seat) tt (refl, p.known)
           (record { takes = p.takes; shape = ap (λ s. shapes.ThinShape false shapes.Shared s) p.shape }) (λ z. z)
 
-  pub prefixed_taken : (g : Env) (at : ℕ) (o : Prefix) (e : Expression) (a v : Value) → IsTaken w names e a → (a.seat ≡ InBlock → ⊥)
+  pub prefixed_taken : (g : Env) (at : ℕ) (o : Prefix) (e : Expression) (a v : Value) → IsTaken w names e a
       → prefixed g at o a ≡ Of v → IsTaken w names (Expression.Prefixed at o e) v
-  prefixed_taken g at prefix.Negate e a v h outside q =
+  prefixed_taken g at prefix.Negate e a v h q =
       signed_taken at prefix.Negate operator.Subtract e a v h q (λ z. z) refl subtracted (λ z. z)
-  prefixed_taken g at prefix.Complement e a v h outside q =
+  prefixed_taken g at prefix.Complement e a v h q =
       signed_taken at prefix.Complement operator.BitXor e a v h q (λ z. z) refl complemented (λ z. z)
-  prefixed_taken g at prefix.Not e a v h outside q =
+  prefixed_taken g at prefix.Not e a v h q =
       let r = tested_is at a v q in
       let k : TakenWord w names e a.type = word_is w names a.type e (testable_word a.type r.0) h.value in
       taken_word w names (Expression.Prefixed at prefix.Not e) v Int r.1
       (no_place v (fits_seat (Rattle.source_typing.specs.Types.is_testable a.type) at at Int v q)) tt tt (record { takes = k.takes; shape = refl }) (λ z. z)
-  prefixed_taken g at prefix.Dereference e a v h outside q = pointed_taken g at e a v h (contents_is g at a.type v q)
-  prefixed_taken g at prefix.AddressOf e a v h outside q = address_taken at e a v h outside q
+  prefixed_taken g at prefix.Dereference e a v h q = pointed_taken g at e a v h (contents_is g at a.type v q)
+  prefixed_taken g at prefix.AddressOf e a v h q = address_taken at e a v h q
 
   -- ---- assignments
 
@@ -264,6 +264,7 @@ module _ (w : World) (names : List Named) where
             (word_as w names a.type (Expression.Assign to from) i (record { takes = takes; shape = p.shape }));
         run = assigned_shape (static_shape w names to) to from none takes;
         place = λ z. absurd (no_place v s z);
+        outside = λ z. let y : Nowhere ≡ InBlock = sym s ∙ z in cc;
       }
 
   -- a struct is assigned: the assignment has no value
@@ -278,6 +279,7 @@ module _ (w : World) (names : List Named) where
         value = subst (λ z. TakenAs w names z (Expression.Assign to from)) (sym t) tt;
         run = subst (λ z. TakesAssigned w names z to from) (sym p.shape) (p.takes, (whole, p.known));
         place = λ z. absurd (no_place v s z);
+        outside = λ z. let y : Nowhere ≡ InBlock = sym s ∙ z in cc;
       }
 
   pub assign_taken : (g : Env) (to from : Expression) (a c v : Value) → IsTaken w names to a → IsTaken w names from c → assigned g a c ≡ Of v

@@ -1,0 +1,305 @@
+-- Each expression of integers, thin pointers and structs that was judged is taken by lowering, where all is known of each name in scope.
+use Rattle.std.proofs.Common.{◌≡◌, ℕ, Bool, true, false, Option, Some, None, List, [], ◌∷◌, refl, sym, subst, ap, ◌∙◌}
+use Rattle.std.specs.Prelude.{◌&&◌}
+use Rattle.cyc_tree.specs.declared.expression.Operator.{Operator}
+use Rattle.cyc_tree.specs.Places.{expression_place}
+use Rattle.cyc_tree.specs.Tree.{Expression, Expressions, Links, MoreExpressions, MoreLinks, Name, NoExpressions, NoLinks, NoSuffixes, Suffixes}
+use Rattle.source_lowering.specs.Lowerable.{TakesAll, TakesLinks}
+use Rattle.source_lowering.specs.Lowered.{Named, linked_shape, static_shape}
+use Rattle.source_meaning.specs.Calls.{number_type}
+use Rattle.source_meaning.specs.Expressions.{is_unique_region}
+use Rattle.source_meaning.specs.Memory.{IntegerType, AsInt, AsUnsigned, AsChar}
+use Rattle.source_meaning.specs.Operators.{operator_shape}
+use Rattle.source_meaning.specs.Programs.{integer_shape}
+use Rattle.source_meaning.specs.Shapes.{Shape}
+use Rattle.source_meaning.specs.Steps.{World}
+use Rattle.source_typing.specs.Calls.{target}
+use Rattle.source_typing.specs.Expressions.{judge, judge_all, judge_links, judge_suffixes, judge_tests}
+use Rattle.source_typing.specs.Fixing.{more}
+use Rattle.source_typing.specs.Operators.{applied, prefixed, tested_both}
+use Rattle.source_typing.specs.Places.{grouped, variable}
+use Rattle.source_typing.specs.Scope.{Env, In, InBlock, Nowhere, Value, meant, value}
+use Rattle.source_typing.specs.Tables.{Arrayed, Counter, Entry, OfBuiltin, OfFunction, OfOther, OfTag, OfValue, Stored, Tag, Unknown}
+use Rattle.source_typing.specs.Taken.{all_taken, are_linked, are_some, are_suffixed, if_taken, links_taken, suffixes_taken, taken, takes_handle, takes_made, takes_suffixes, structures}
+use Rattle.source_typing.specs.Taken.{made_taken}
+use Rattle.source_typing.specs.Types.{Char, Int, Null, StaticType, integer_type, is_testable, shape_of}
+use Rattle.source_typing.specs.Verdicts.{Of, Verdict, both, other_kind}
+use Rattle.source_typing.proofs.Inversion.{after_is, assign_is, both_is, call_is, links_first, of_is, prefix_is, suffixes_first, tests_first}
+use Rattle.source_typing.proofs.OperatorsFit.{applied_to_is, tested_both_is}
+use Rattle.source_safety.proofs.WordRules.{Valued, value_of}
+use Rattle.judged_sources.proofs.Known.{IsKnownValue, IsWord, known_value, testable_word}
+use Rattle.judged_sources.proofs.LoweredForms.{IsKnownScope, IsTaken, KnownEntry, TakenWord, taken_grouped, taken_place, taken_word, word_is}
+use Rattle.judged_sources.proofs.LoweredCalls.{AllTaken, call_taken}
+use Rattle.judged_sources.proofs.LoweredMembers.{suffixed_taken}
+use Rattle.judged_sources.proofs.LoweredOperators.{AreJoined, applied_seat, are_joined, assign_taken, no_place, prefixed_taken}
+
+number_shape : (i : IntegerType) → integer_shape i ≡ shape_of (integer_type i)
+number_shape AsInt = refl
+number_shape AsUnsigned = refl
+number_shape AsChar = refl
+
+number_word : (i : IntegerType) → IsWord (integer_type i)
+number_word AsInt = tt
+number_word AsUnsigned = tt
+number_word AsChar = tt
+
+number_known : (structs : List _) (i : IntegerType) → IsKnownValue structs (integer_type i)
+number_known structs AsInt = tt
+number_known structs AsUnsigned = tt
+number_known structs AsChar = tt
+
+no_kind : (c : Bool) (at : ℕ) (v : Value) → other_kind c at ≡ Of v → ⊥
+no_kind true at v e = cc
+no_kind false at v e = cc
+
+both_seat : (a b v : Value) → tested_both a b ≡ Of v → v.seat ≡ Nowhere
+both_seat a b v e = by (is_testable a.type && is_testable b.type) e
+  where
+    by : (c : Bool) → Rattle.source_typing.specs.Verdicts.after (Rattle.source_typing.specs.Verdicts.if_fits c a.at Int) (value a.at) ≡ Of v → v.seat ≡ Nowhere
+    by true q = (value_of a.at Int v q).seat
+    by false q = absurd cc
+
+-- a form with suffixes that is taken has some
+some_suffix : (es : Suffixes) → are_suffixed es && takes_suffixes structures es ≡ true → es ≡ NoSuffixes → ⊥
+some_suffix NoSuffixes q z = cc
+some_suffix (Rattle.cyc_tree.specs.Tree.Index x others) q z = cc
+some_suffix (Rattle.cyc_tree.specs.Tree.Dot f others) q z = cc
+some_suffix (Rattle.cyc_tree.specs.Tree.Arrow f others) q z = cc
+
+suffixes_kept : (e : Expression) (es : Suffixes) (b : Bool) → are_suffixed es && takes_suffixes structures es ≡ b
+    → if_taken b (expression_place e) (Expression.Suffixed (taken structures e) (suffixes_taken structures es)) ≡ Expression.Suffixed e es → b ≡ true
+suffixes_kept e es true q t = refl
+suffixes_kept e es false q t = absurd cc
+
+module _ (w : World) (names : List Named) (g : Env) (scope : IsKnownScope w names g) where
+  abbrev Is : Expression → Value → Type 0
+  Is e v = IsTaken w names e v
+
+  variable_taken : (x : Name) (o : Option Entry) (v : Value) → meant g x.text ≡ o → variable x.at o ≡ Of v → Is (Expression.Variable x) v
+  variable_taken x None v q e = absurd cc
+  variable_taken x (Some (OfValue (Stored t r))) v q e =
+      let k = scope.entries x.text (OfValue (Stored t r)) q in
+      let z : record { at = x.at; type = t; seat = In r } ≡ v = of_is (record { at = x.at; type = t; seat = In r }) v e in
+      taken_place w names (Expression.Variable x) v t (ap (λ (y : Value). y.type) (sym z))
+      (λ s. let y : In r ≡ InBlock = ap (λ (y : Value). y.seat) z ∙ s in cc)
+      (record { takes = tt; shape = k.0; known = k.1 }) (known_value w.structs t k.1) (λ y. y) (λ y. y) (λ y. y)
+  variable_taken x (Some (OfValue (Arrayed t r))) v q e = absurd (scope.entries x.text (OfValue (Arrayed t r)) q)
+  variable_taken x (Some (OfValue Counter)) v q e = absurd (scope.entries x.text (OfValue Counter) q)
+  variable_taken x (Some (OfValue Unknown)) v q e = absurd cc
+  variable_taken x (Some (OfTag t)) v q e = absurd (no_kind t.sound x.at v e)
+  variable_taken x (Some (OfFunction s)) v q e = absurd (no_kind s.sound x.at v e)
+  variable_taken x (Some (OfBuiltin n)) v q e = absurd cc
+  variable_taken x (Some OfOther) v q e = absurd cc
+
+  -- ---- several operands
+
+  -- of operands that are tested: those behind the first, and what all give
+  record Tested (es : Expressions) (a : Verdict Value) (v : Value) : Type 0 where
+    takes : TakesAll w names es
+    first : (x : Value) × (a ≡ Of x) × (is_testable x.type ≡ true)
+    type : v.type ≡ Int
+    seat : v.seat ≡ Nowhere
+
+  abbrev AreTested : Expressions → Verdict Value → Value → Type 0
+  AreTested NoExpressions a v = (a ≡ Of v)
+  AreTested (MoreExpressions e es) a v = Tested (MoreExpressions e es) a v
+
+  tested_more : (e : Expression) (es : Expressions) (a : Verdict Value) (x y c v : Value) → a ≡ Of x → Is e y → tested_both x y ≡ Of c
+      → both a (judge g e) tested_both ≡ Of c → AreTested es (both a (judge g e) tested_both) v → Tested (MoreExpressions e es) a v
+  tested_more e es a x y c v p h q b k =
+      let r = tested_both_is x y c q in
+      let t : TakenWord w names e y.type = word_is w names y.type e (testable_word y.type r.1) h.value in
+      by es k t.takes (x, p, r.0) r.2
+    where
+      by : (es : Expressions) → AreTested es (both a (judge g e) tested_both) v → Rattle.source_lowering.specs.Lowerable.Takes w names e
+          → (x : Value) × (a ≡ Of x) × (is_testable x.type ≡ true) → c.type ≡ Int → Tested (MoreExpressions e es) a v
+      by NoExpressions k t f i =
+          let z : c ≡ v = of_is c v (sym b ∙ k) in
+          record { takes = (t, tt); first = f; type = ap (λ (y : Value). y.type) (sym z) ∙ i; seat = ap (λ (y : Value). y.seat) (sym z) ∙ both_seat x y c q }
+      by (MoreExpressions d ds) k t f i = record { takes = (t, k.takes); first = f; type = k.type; seat = k.seat }
+
+  -- of operands that are joined from the left
+  record Joined (es : Links) (a : Verdict Value) (v : Value) : Type 0 where
+    takes : TakesLinks w names es
+    first : Value
+    is : a ≡ Of first
+    first_word : IsWord first.type
+    word : IsWord v.type
+    known : IsKnownValue w.structs v.type
+    seat : v.seat ≡ Nowhere
+    shape : (s : Shape) → s ≡ shape_of first.type → linked_shape w names es s ≡ shape_of v.type
+
+  abbrev AreLinked : Links → Verdict Value → Value → Type 0
+  AreLinked NoLinks a v = (a ≡ Of v)
+  AreLinked (MoreLinks o e es) a v = Joined (MoreLinks o e es) a v
+
+  linked_more : (o : Operator) (e : Expression) (es : Links) (a : Verdict Value) (x y c v : Value) → a ≡ Of x → IsKnownValue w.structs x.type → Is e y
+      → applied g o x y ≡ Of c → both a (judge g e) (applied g o) ≡ Of c → AreLinked es (both a (judge g e) (applied g o)) v
+      → Joined (MoreLinks o e es) a v
+  linked_more o e es a x y c v p n h q b k =
+      let j : AreJoined w.structs o x.type y.type c.type = are_joined w.structs g o x.type y.type c.type (applied_to_is g o x.at x.type y.type c q) n in
+      let t : TakenWord w names e y.type = word_is w names y.type e j.second h.value in
+      by es k j t
+    where
+      joined_shape : AreJoined w.structs o x.type y.type c.type → TakenWord w names e y.type → (s : Shape) → s ≡ shape_of x.type
+          → operator_shape o s (static_shape w names e) ≡ shape_of c.type
+      joined_shape j t s z =
+          ap (λ u. operator_shape o u (static_shape w names e)) z ∙ (ap (λ u. operator_shape o (shape_of x.type) u) t.shape ∙ j.shape)
+
+      by : (es : Links) → AreLinked es (both a (judge g e) (applied g o)) v → AreJoined w.structs o x.type y.type c.type → TakenWord w names e y.type
+          → Joined (MoreLinks o e es) a v
+      by NoLinks k j t =
+          let z : c ≡ v = of_is c v (sym b ∙ k) in
+          record {
+            takes = (t.takes, tt);
+            first = x;
+            is = p;
+            first_word = j.first;
+            word = subst (λ (y : Value). IsWord y.type) z j.word;
+            known = subst (λ (y : Value). IsKnownValue w.structs y.type) z j.known;
+            seat = ap (λ (y : Value). y.seat) (sym z) ∙ applied_seat g o x.at x.type y.type c q;
+            shape = λ s u. joined_shape j t s u ∙ ap (λ (y : Value). shape_of y.type) z;
+          }
+      by (MoreLinks o2 d ds) k j t =
+          let z : c ≡ k.first = of_is c k.first (sym b ∙ k.is) in
+          record {
+            takes = (t.takes, k.takes);
+            first = x;
+            is = p;
+            first_word = j.first;
+            word = k.word;
+            known = k.known;
+            seat = k.seat;
+            shape = λ s u. k.shape (operator_shape o s (static_shape w names e)) (joined_shape j t s u ∙ ap (λ (y : Value). shape_of y.type) z);
+          }
+
+  tests_whole : (x e : Expression) (es : Expressions) (a v : Value) → Is e a → Tested es (judge g e) v → judge g e ≡ Of a
+      → (Rattle.source_lowering.specs.Lowerable.Takes w names e × TakesAll w names es → TakenWord w names x Int)
+      → (Rattle.source_lowering.specs.Lowerable.TakesDropped w names (static_shape w names x) x → Rattle.source_lowering.specs.Lowerable.TakesRun w names x)
+      → Is x v
+  tests_whole x e es a v h k p word run =
+      let z : a ≡ k.first.0 = of_is a k.first.0 (sym p ∙ k.first.1) in
+      let t : TakenWord w names e a.type = word_is w names a.type e (testable_word a.type (ap (λ (y : Value). is_testable y.type) z ∙ k.first.2)) h.value in
+      taken_word w names x v Int k.type (no_place v k.seat) tt tt (word (t.takes, k.takes)) run
+
+  known_first : (a x : Value) (e : Expression) → Is e a → Of a ≡ Of x → IsKnownValue w.structs x.type
+  known_first a x e h q = subst (λ (y : Value). IsKnownValue w.structs y.type) (of_is a x q) h.known
+
+  -- ---- all of them
+
+  mutual
+    pub taken_is : (e : Expression) (v : Value) → taken structures e ≡ e → judge g e ≡ Of v → Is e v
+    taken_is (Expression.Number at n suffix) v t p =
+        let i : IntegerType = number_type n suffix in
+        let d : Valued v (integer_type i) = value_of at (integer_type i) v p in
+        taken_word w names (Expression.Number at n suffix) v (integer_type i) d.type (no_place v d.seat) (number_word i) (number_known w.structs i)
+        (record { takes = tt; shape = number_shape i }) (λ z. z)
+    taken_is (Expression.Character at byte) v t p =
+        let d : Valued v Char = value_of at Char v p in
+        taken_word w names (Expression.Character at byte) v Char d.type (no_place v d.seat) tt tt (record { takes = tt; shape = refl }) (λ z. z)
+    taken_is (Expression.Text at bytes) v t p = absurd cc
+    taken_is (Expression.Null at) v t p =
+        let d : Valued v Null = value_of at Null v p in
+        taken_word w names (Expression.Null at) v Null d.type (no_place v d.seat) tt tt (record { takes = tt; shape = refl }) (λ z. z)
+    taken_is (Expression.HeapRegion at) v t p = absurd cc
+    taken_is (Expression.UniqueRegion at) v t p = absurd cc
+    taken_is (Expression.Variable x) v t p = variable_taken x (meant g x.text) v refl p
+    taken_is (Expression.Call x es) v t p =
+        let i : all_taken structures es ≡ es = cc in
+        let z = call_is g x es v p in
+        call_taken w names g x es (meant g x.text) z.0 z.1 v (λ e q. scope.entries x.text e q) z.2 (all_are es z.1 i z.3) z.4
+    taken_is (Expression.MakeUnion tag f e) v t p = absurd cc
+    taken_is (Expression.NumElts at e) v t p = absurd cc
+    taken_is (Expression.Grouped at e) v t p =
+        let i : taken structures e ≡ e = cc in
+        let z = after_is (judge g e) (grouped at) v p in
+        subst (λ (y : Value). Is (Expression.Grouped at e) y) (of_is (record { at = at; type = z.0.type; seat = z.0.seat }) v z.2)
+        (taken_grouped w names at e z.0 (taken_is e z.0 i z.1))
+    taken_is (Expression.Suffixed e es) v t p =
+        let q : are_suffixed es && takes_suffixes structures es ≡ true = suffixes_kept e es (are_suffixed es && takes_suffixes structures es) refl t in
+        let u : if_taken true (expression_place e) (Expression.Suffixed (taken structures e) (suffixes_taken structures es)) ≡ Expression.Suffixed e es =
+        subst (λ b. if_taken b (expression_place e) (Expression.Suffixed (taken structures e) (suffixes_taken structures es)) ≡ Expression.Suffixed e es) q t in
+        let i : taken structures e ≡ e = cc in
+        let z = suffixes_first g (judge g e) es v p in
+        suffixed_taken w names g scope e es z.0 v (taken_is e z.0 i z.1) (subst (λ (y : Verdict Value). judge_suffixes g y es ≡ Of v) z.1 p) (some_suffix es q)
+    taken_is (Expression.Prefixed at o e) v t p =
+        let i : taken structures e ≡ e = by o t in
+        let z = prefix_is g at o e v p in
+        prefixed_taken w names g at o e z.0 v (taken_is e z.0 i z.1) z.2
+      where
+        by : (o : Rattle.cyc_tree.specs.declared.expression.Prefix.Prefix) → taken structures (Expression.Prefixed at o e) ≡ Expression.Prefixed at o e
+            → taken structures e ≡ e
+        by Rattle.cyc_tree.specs.declared.expression.Prefix.TheVariants.Negate t = cc
+        by Rattle.cyc_tree.specs.declared.expression.Prefix.TheVariants.Complement t = cc
+        by Rattle.cyc_tree.specs.declared.expression.Prefix.TheVariants.Not t = cc
+        by Rattle.cyc_tree.specs.declared.expression.Prefix.TheVariants.Dereference t = cc
+        by Rattle.cyc_tree.specs.declared.expression.Prefix.TheVariants.AddressOf t = cc
+    taken_is (Expression.New at new) v t p = absurd cc
+    taken_is (Expression.NewIn at h new) v t p = absurd (by (is_unique_region h) (takes_made structures new) t)
+      where
+        by : (b c : Bool) → if_taken (takes_handle structures b && c) at (Expression.NewIn at (taken structures h) (made_taken structures new))
+            ≡ Expression.NewIn at h new → ⊥
+        by true c t = cc
+        by false c t = cc
+    taken_is (Expression.Chain e NoLinks) v t p = absurd cc
+    taken_is (Expression.Chain e (MoreLinks o y es)) v t p =
+        let i : taken structures e ≡ e = cc in
+        let j : links_taken structures (MoreLinks o y es) ≡ MoreLinks o y es = cc in
+        let f = links_first g (judge g e) (MoreLinks o y es) v p in
+        let h : Is e f.0 = taken_is e f.0 i f.1 in
+        let k : Joined (MoreLinks o y es) (judge g e) v = links_are (MoreLinks o y es) (judge g e) v j (λ x q. known_first f.0 x e h (sym f.1 ∙ q)) p in
+        let z : f.0 ≡ k.first = of_is f.0 k.first (sym f.1 ∙ k.is) in
+        let s : TakenWord w names e f.0.type = word_is w names f.0.type e (subst (λ (x : Value). IsWord x.type) (sym z) k.first_word) h.value in
+        taken_word w names (Expression.Chain e (MoreLinks o y es)) v v.type refl (no_place v k.seat) k.word k.known
+        (record { takes = (s.takes, k.takes); shape = k.shape (static_shape w names e) (s.shape ∙ ap (λ (x : Value). shape_of x.type) z) }) (λ x. x)
+    taken_is (Expression.AllOf e NoExpressions) v t p = absurd cc
+    taken_is (Expression.AllOf e (MoreExpressions y es)) v t p =
+        let i : taken structures e ≡ e = cc in
+        let j : all_taken structures (MoreExpressions y es) ≡ MoreExpressions y es = cc in
+        let f = tests_first g (judge g e) (MoreExpressions y es) v p in
+        tests_whole (Expression.AllOf e (MoreExpressions y es)) e (MoreExpressions y es) f.0 v (taken_is e f.0 i f.1)
+        (tests_are (MoreExpressions y es) (judge g e) v j p) f.1 (λ z. record { takes = z; shape = refl }) (λ z. z)
+    taken_is (Expression.AnyOf e NoExpressions) v t p = absurd cc
+    taken_is (Expression.AnyOf e (MoreExpressions y es)) v t p =
+        let i : taken structures e ≡ e = cc in
+        let j : all_taken structures (MoreExpressions y es) ≡ MoreExpressions y es = cc in
+        let f = tests_first g (judge g e) (MoreExpressions y es) v p in
+        tests_whole (Expression.AnyOf e (MoreExpressions y es)) e (MoreExpressions y es) f.0 v (taken_is e f.0 i f.1)
+        (tests_are (MoreExpressions y es) (judge g e) v j p) f.1 (λ z. record { takes = z; shape = refl }) (λ z. z)
+    taken_is (Expression.Assign to from) v t p =
+        let i : taken structures to ≡ to = cc in
+        let j : taken structures from ≡ from = cc in
+        let z = assign_is g to from v p in
+        assign_taken w names g to from z.0 z.1 v (taken_is to z.0 i z.2) (taken_is from z.1 j z.3) z.4
+
+    all_are : (es : Expressions) (vs : List Value) → all_taken structures es ≡ es → judge_all g es ≡ Of vs → AllTaken w names es vs
+    all_are NoExpressions vs t p = subst (λ (ys : List Value). AllTaken w names NoExpressions ys) (of_is [] vs p) tt
+    all_are (MoreExpressions e es) vs t p =
+        let i : taken structures e ≡ e = cc in
+        let j : all_taken structures es ≡ es = cc in
+        let z = both_is (judge g e) (judge_all g es) more vs p in
+        subst (λ (ys : List Value). AllTaken w names (MoreExpressions e es) ys) (of_is (z.0 ∷ z.1) vs z.4) (taken_is e z.0 i z.2, all_are es z.1 j z.3)
+
+    tests_are : (es : Expressions) (a : Verdict Value) (v : Value) → all_taken structures es ≡ es → judge_tests g a es ≡ Of v → AreTested es a v
+    tests_are NoExpressions a v t p = p
+    tests_are (MoreExpressions e es) a v t p =
+        let i : taken structures e ≡ e = cc in
+        let j : all_taken structures es ≡ es = cc in
+        let b : Verdict Value = both a (judge g e) tested_both in
+        let z = tests_first g b es v p in
+        let y = both_is a (judge g e) tested_both z.0 z.1 in
+        tested_more e es a y.0 y.1 z.0 v y.2 (taken_is e y.1 i y.3) y.4 z.1 (tests_are es b v j p)
+
+    links_are : (es : Links) (a : Verdict Value) (v : Value) → links_taken structures es ≡ es → ((x : Value) → a ≡ Of x → IsKnownValue w.structs x.type)
+        → judge_links g a es ≡ Of v → AreLinked es a v
+    links_are NoLinks a v t n p = p
+    links_are (MoreLinks o e es) a v t n p =
+        let i : taken structures e ≡ e = cc in
+        let j : links_taken structures es ≡ es = cc in
+        let b : Verdict Value = both a (judge g e) (applied g o) in
+        let z = links_first g b es v p in
+        let y = both_is a (judge g e) (applied g o) z.0 z.1 in
+        let k : IsKnownValue w.structs z.0.type = (are_joined w.structs g o y.0.type y.1.type z.0.type
+        (applied_to_is g o y.0.at y.0.type y.1.type z.0 y.4) (n y.0 y.2)).known in
+        linked_more o e es a y.0 y.1 z.0 v y.2 (n y.0 y.2) (taken_is e y.1 i y.3) y.4 z.1
+        (links_are es b v j (λ x q. subst (λ (u : Value). IsKnownValue w.structs u.type) (of_is z.0 x (sym z.1 ∙ q)) k) p)

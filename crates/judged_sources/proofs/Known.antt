@@ -1,7 +1,6 @@
 -- Shapes of the values of a program of integers, thin pointers and structs: each struct in them, behind pointers too, is one of the program's.
-use Rattle.std.proofs.Common.{◌≡◌, ℕ, Bool, true, false, List, [], ◌∷◌, refl, sym, subst, ap, ◌∙◌}
-use Rattle.source_lowering.specs.Lowerable.{IsNoStruct, IsObject, IsTarget, Takes, TakesDropped, TakesWhole}
-use Rattle.source_lowering.specs.Lowered.{Named}
+use Rattle.std.proofs.Common.{◌≡◌, true, List, refl}
+use Rattle.source_lowering.specs.Lowerable.{IsNoStruct, IsObject, IsTarget}
 use Rattle.source_meaning.specs.Shapes.{
   ArrayShape,
   CharShape,
@@ -19,8 +18,6 @@ use Rattle.source_meaning.specs.Shapes.{
   VoidShape,
   has_tag,
 }
-use Rattle.source_meaning.specs.Steps.{World}
-use Rattle.cyc_tree.specs.Tree.{Expression}
 use Rattle.source_typing.specs.Converts.{Converts, Integers, NullToThin, Same, Thins}
 use Rattle.source_typing.specs.Regions.{Regions}
 use Rattle.source_typing.specs.Types.{

@@ -1,5 +1,5 @@
 -- Calls and makings of structs that lowering takes.
-use Rattle.std.proofs.Common.{◌≡◌, ℕ, suc, Bool, true, false, inl, inr, Option, Some, None, List, [], ◌∷◌, refl, sym, subst, ap, ◌∙◌, arith}
+use Rattle.std.proofs.Common.{◌≡◌, ℕ, Bool, true, false, inl, inr, Option, Some, None, List, [], ◌∷◌, refl, sym, subst, ap, ◌∙◌, arith}
 use Rattle.std.specs.Prelude.{bytes_eq, codes, if◌then◌else◌, length, map, nat_eq}
 use Rattle.std.proofs.lemmas.Bool.{eqb-true, false≢true}
 use Rattle.cyc_tree.specs.Tree.{Expression, Expressions, MoreExpressions, Name, NoExpressions}
@@ -17,9 +17,9 @@ use Rattle.source_typing.specs.Scope.{Env, Nowhere, Value, is_place, meant, valu
 use Rattle.source_typing.specs.Tables as typing
 use Rattle.source_typing.specs.Tables.{Arrayed, Counter, Entry, OfBuiltin, OfFunction, OfOther, OfTag, OfValue, Signature, Stored, Tag, Unknown, argument}
 use Rattle.source_typing.specs.Types.{Char, Fat, Handle, Int, Key, Null, StaticType, Struct, Thin, Union, Unique, Unsigned, Void, renamed, shape_of}
-use Rattle.source_typing.specs.Verdicts.{Of, unless_faulty}
+use Rattle.source_typing.specs.Verdicts.{Of}
 use Rattle.source_typing.specs.Written.{if_sound}
-use Rattle.source_typing.proofs.CallsFit.{AllConvert, Arguments, arguments_are}
+use Rattle.source_typing.proofs.CallsFit.{AllConvert, arguments_are}
 use Rattle.source_typing.proofs.Inversion.{after_is, of_is, unless_is}
 use Rattle.source_safety.specs.Entries.{Builtin}
 use Rattle.source_safety.specs.Structs.{AreMembers}
@@ -27,7 +27,7 @@ use Rattle.source_safety.proofs.Members.{members_known}
 use Rattle.source_safety.proofs.Sound.{shape_renamed}
 use Rattle.source_safety.proofs.WordRules.{Valued, value_of}
 use Rattle.judged_sources.proofs.Known.{IsKnown, IsKnownValue, IsStruct, IsWord, converts_struct, converts_word, known_value}
-use Rattle.judged_sources.proofs.LoweredForms.{AreKnown, AreWords, IsGiven, IsKnownScope, IsTaken, KnownEntry, KnownFunction, KnownTag, TakenAs, TakenWord, word_is, word_as}
+use Rattle.judged_sources.proofs.LoweredForms.{AreKnown, AreWords, IsGiven, IsTaken, KnownEntry, KnownFunction, KnownTag, TakenAs, word_is}
 
 -- other regions make no other kind of type
 word_renamed : (f : Region → Region) (t : StaticType) → IsWord t → IsWord (renamed f t)

@@ -13,22 +13,21 @@ use Rattle.source_meaning.specs.Operators.{operator_shape}
 use Rattle.source_meaning.specs.Programs.{integer_shape}
 use Rattle.source_meaning.specs.Shapes.{Shape}
 use Rattle.source_meaning.specs.Steps.{World}
-use Rattle.source_typing.specs.Calls.{target}
 use Rattle.source_typing.specs.Expressions.{judge, judge_all, judge_links, judge_suffixes, judge_tests}
 use Rattle.source_typing.specs.Fixing.{more}
-use Rattle.source_typing.specs.Operators.{applied, prefixed, tested_both}
+use Rattle.source_typing.specs.Operators.{applied, tested_both}
 use Rattle.source_typing.specs.Places.{grouped, variable}
 use Rattle.source_typing.specs.Scope.{Env, In, InBlock, Nowhere, Value, meant, value}
-use Rattle.source_typing.specs.Tables.{Arrayed, Counter, Entry, OfBuiltin, OfFunction, OfOther, OfTag, OfValue, Stored, Tag, Unknown}
-use Rattle.source_typing.specs.Taken.{all_taken, are_linked, are_some, are_suffixed, if_taken, links_taken, suffixes_taken, taken, takes_handle, takes_made, takes_suffixes, structures}
+use Rattle.source_typing.specs.Tables.{Arrayed, Counter, Entry, OfBuiltin, OfFunction, OfOther, OfTag, OfValue, Stored, Unknown}
+use Rattle.source_typing.specs.Taken.{all_taken, are_suffixed, if_taken, links_taken, suffixes_taken, taken, takes_handle, takes_made, takes_suffixes, structures}
 use Rattle.source_typing.specs.Taken.{made_taken}
-use Rattle.source_typing.specs.Types.{Char, Int, Null, StaticType, integer_type, is_testable, shape_of}
+use Rattle.source_typing.specs.Types.{Char, Int, Null, integer_type, is_testable, shape_of}
 use Rattle.source_typing.specs.Verdicts.{Of, Verdict, both, other_kind}
 use Rattle.source_typing.proofs.Inversion.{after_is, assign_is, both_is, call_is, links_first, of_is, prefix_is, suffixes_first, tests_first}
 use Rattle.source_typing.proofs.OperatorsFit.{applied_to_is, tested_both_is}
 use Rattle.source_safety.proofs.WordRules.{Valued, value_of}
 use Rattle.judged_sources.proofs.Known.{IsKnownValue, IsWord, known_value, testable_word}
-use Rattle.judged_sources.proofs.LoweredForms.{IsKnownScope, IsTaken, KnownEntry, TakenWord, taken_grouped, taken_place, taken_word, word_is}
+use Rattle.judged_sources.proofs.LoweredForms.{IsKnownScope, IsTaken, TakenWord, taken_grouped, taken_place, taken_word, word_is}
 use Rattle.judged_sources.proofs.LoweredCalls.{AllTaken, call_taken}
 use Rattle.judged_sources.proofs.LoweredMembers.{suffixed_taken}
 use Rattle.judged_sources.proofs.LoweredOperators.{AreJoined, applied_seat, are_joined, assign_taken, no_place, prefixed_taken}

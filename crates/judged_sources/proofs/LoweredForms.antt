@@ -1,6 +1,6 @@
 -- What lowering takes of an expression, by its type, where all is known of each name in scope.
-use Rattle.std.proofs.Common.{◌≡◌, ℕ, Bool, true, false, Option, Some, None, List, [], ◌∷◌, refl, sym, subst, ap, ◌∙◌}
-use Rattle.std.specs.Prelude.{bytes_eq, codes, map, if◌then◌else◌}
+use Rattle.std.proofs.Common.{◌≡◌, ℕ, true, false, Some, List, [], ◌∷◌, sym, subst, ap}
+use Rattle.std.specs.Prelude.{bytes_eq, codes, map}
 use Rattle.cyc_tree.specs.Tree.{Expression}
 use Rattle.source_lowering.specs.Lowerable.{IsNoStruct, IsStructShape, Takes, TakesDropped, TakesPlace, TakesRun, TakesWhole}
 use Rattle.source_lowering.specs.Lowered.{Named, call_shape, named_shape, member_shape, static_shape}

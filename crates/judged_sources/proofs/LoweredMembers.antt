@@ -1,6 +1,5 @@
 -- Members of structs that lowering takes: each leads to a place.
-use Rattle.std.proofs.Common.{◌≡◌, ℕ, Bool, true, false, List, [], ◌∷◌, refl, sym, subst, ap, ◌∙◌}
-use Rattle.std.specs.Prelude.{◌&&◌}
+use Rattle.std.proofs.Common.{◌≡◌, ℕ, true, List, refl, sym, subst, ap, ◌∙◌}
 use Rattle.cyc_tree.specs.Tree.{Arrow, Dot, Expression, Index, NoSuffixes, Suffixes}
 use Rattle.source_lowering.specs.Lowerable.{IsNoStruct, IsObject, TakesMembers, TakesSuffixes}
 use Rattle.source_lowering.specs.Lowered.{Named, member_shape, static_shape, suffixed_shape}
@@ -13,13 +12,13 @@ use Rattle.source_typing.specs.Places.{arrow, indexed, member}
 use Rattle.source_typing.specs.Regions.{Region}
 use Rattle.source_typing.specs.Scope.{Env, In, InBlock, Seat, Value, is_place}
 use Rattle.source_typing.specs.Tables.{argument}
-use Rattle.source_typing.specs.Types.{Char, Fat, Handle, Int, Key, Null, StaticType, Struct, Thin, Union, Unique, Unsigned, Void, renamed, shape_of}
-use Rattle.source_typing.specs.Verdicts.{Of, Verdict, after, both}
+use Rattle.source_typing.specs.Types.{Fat, StaticType, Struct, Thin, Unique, shape_of}
+use Rattle.source_typing.specs.Verdicts.{Of, Verdict, both}
 use Rattle.source_typing.proofs.Inversion.{both_is, of_is, suffixes_first}
 use Rattle.source_typing.proofs.PlacesFit.{ArrowTo, HasPart, MemberOf, Spans, arrow_is, indexed_is, member_is}
 use Rattle.source_safety.proofs.Sound.{shape_renamed}
 use Rattle.judged_sources.proofs.Known.{IsKnown, IsKnownValue, known_object, known_value}
-use Rattle.judged_sources.proofs.LoweredForms.{IsKnownScope, IsTaken, KnownMember, TakenAs, TakenPlace, TakenWord, taken_place, word_is}
+use Rattle.judged_sources.proofs.LoweredForms.{IsKnownScope, IsTaken, KnownMember, TakenPlace, TakenWord, taken_place, word_is}
 
 -- a shared thin pointer or another word leads to no bounds
 no_fat : (t : StaticType) (g : Env) (v : Value) (structs : List shapes.Layout) → IsKnownValue structs t → Spans g t v → ⊥

@@ -1,5 +1,5 @@
 -- Operators, pointers and assignments that lowering takes.
-use Rattle.std.proofs.Common.{◌≡◌, ℕ, Bool, true, false, inl, inr, List, [], ◌∷◌, refl, sym, subst, ap, ◌∙◌}
+use Rattle.std.proofs.Common.{◌≡◌, ℕ, Bool, true, false, List, refl, sym, subst, ap, ◌∙◌}
 use Rattle.std.specs.Prelude.{◌&&◌, ◌||◌}
 use Rattle.std.proofs.lemmas.Bool.{false≢true}
 use Rattle.cyc_tree.specs.declared.expression.Operator.{Operator}
@@ -15,7 +15,7 @@ use Rattle.source_meaning.specs.Shapes as shapes
 use Rattle.source_meaning.specs.Shapes.{IntShape, Shape, StructShape, pointee}
 use Rattle.source_meaning.specs.Steps.{World}
 use Rattle.source_typing.specs.Converts.{Converts, IsInteger}
-use Rattle.source_typing.specs.Operators.{applied_to, compared, compared_thin, fat_moved, if_equality, integers_joined, is_equality, is_move, on_integers, prefixed, promoted, signed, tested}
+use Rattle.source_typing.specs.Operators.{applied_to, compared, compared_thin, fat_moved, if_equality, integers_joined, is_equality, is_move, on_integers, prefixed, promoted, signed}
 use Rattle.source_typing.specs.Places.{address, assigned, assigned_in, assigned_type, contents}
 use Rattle.source_typing.specs.Regions.{Region}
 use Rattle.source_typing.specs.Scope.{Env, In, InBlock, Nowhere, Seat, Value, is_place, value}
@@ -41,9 +41,9 @@ use Rattle.source_typing.specs.Types.{
   shape_of,
 }
 use Rattle.source_typing.specs.Verdicts.{Of, after, if_fits}
-use Rattle.source_typing.proofs.Inversion.{of_is, unless_is}
+use Rattle.source_typing.proofs.Inversion.{unless_is}
 use Rattle.source_typing.proofs.OperatorsFit.{NullWith, OnFat, OnIntegers, OnThin, Operates, WithNull, signed_is, tested_is}
-use Rattle.source_typing.proofs.PlacesFit.{AddressOf, PointsTo, address_is, assigned_is, contents_is}
+use Rattle.source_typing.proofs.PlacesFit.{PointsTo, assigned_is, contents_is}
 use Rattle.source_safety.proofs.Integers.{integer_is, on_integers_is, operator_shaped}
 use Rattle.source_safety.proofs.Pointers.{equality_shape}
 use Rattle.source_safety.proofs.WordRules.{value_of}

@@ -4,7 +4,7 @@ use Rattle.std.specs.Prelude.{bytes_eq, codes, if◌then◌else◌, length, map,
 use Rattle.std.proofs.lemmas.Bool.{eqb-true, false≢true}
 use Rattle.cyc_tree.specs.Tree.{Expression, Expressions, MoreExpressions, Name, NoExpressions}
 use Rattle.source_lowering.specs.Lowerable.{Takes, TakesAll, TakesCalled, TakesMade, TakesMember, TakesRun, TakesWhole}
-use Rattle.source_lowering.specs.Lowered.{Named, call_shape, result_shape}
+use Rattle.source_lowering.specs.Lowered.{Named, call_shape, result_shape, static_shape}
 use Rattle.source_lowering.specs.Whole.{makes_struct}
 use Rattle.source_meaning.specs.Calls.{function_of}
 use Rattle.source_meaning.specs.Shapes as shapes
@@ -26,7 +26,7 @@ use Rattle.source_safety.specs.Structs.{AreMembers}
 use Rattle.source_safety.proofs.Members.{members_known}
 use Rattle.source_safety.proofs.Sound.{shape_renamed}
 use Rattle.source_safety.proofs.WordRules.{Valued, value_of}
-use Rattle.judged_sources.proofs.Known.{IsKnown, IsKnownValue, IsStruct, IsWord, converts_struct, converts_word, known_value}
+use Rattle.judged_sources.proofs.Known.{IsKnown, IsKnownValue, IsStruct, IsWord, converts_struct, converts_word, word_shape}
 use Rattle.judged_sources.proofs.LoweredForms.{AreKnown, AreWords, IsGiven, IsTaken, KnownEntry, KnownFunction, KnownTag, TakenAs, word_is}
 
 -- other regions make no other kind of type
@@ -149,7 +149,7 @@ module _ (w : World) (names : List Named) where
     where
       by : Rattle.std.specs.Prelude.◌⊎◌ (IsWord t) (IsStruct t) → TakesMember (shape_of t) (TakesWhole w names e) (Takes w names e)
       by (inl i) =
-          word_member (shape_of t) (TakesWhole w names e) (Takes w names e) (Rattle.judged_sources.proofs.Known.word_shape t i)
+          word_member (shape_of t) (TakesWhole w names e) (Takes w names e) (word_shape t i)
           (word_is w names v.type e (converts_word g.regions v.type (renamed (argument rs) t) c (word_renamed (argument rs) t i)) h.value).takes
       by (inr i) =
           let s : IsStruct (renamed (argument rs) t) = struct_renamed (argument rs) t i in
@@ -193,7 +193,7 @@ module _ (w : World) (names : List Named) where
   given_known f (Union tag rs) h = absurd h.1
 
   given_value : (f : Region → Region) (t : StaticType) (e : Expression) → IsGiven w.structs t → Takes w names e
-      → Rattle.source_lowering.specs.Lowered.static_shape w names e ≡ shape_of t → TakenAs w names (renamed f t) e
+      → static_shape w names e ≡ shape_of t → TakenAs w names (renamed f t) e
   given_value f Void e h k s = tt
   given_value f Null e h k s = record { takes = k; shape = s }
   given_value f (Struct tag rs) e h k s = absurd h.0

@@ -22,7 +22,7 @@ use Rattle.source_typing.specs.Tables.{Arrayed, Counter, Entry, OfBuiltin, OfFun
 use Rattle.source_typing.specs.Taken.{all_taken, are_suffixed, if_taken, links_taken, suffixes_taken, taken, takes_handle, takes_made, takes_suffixes, structures}
 use Rattle.source_typing.specs.Taken.{made_taken}
 use Rattle.source_typing.specs.Types.{Char, Int, Null, integer_type, is_testable, shape_of}
-use Rattle.source_typing.specs.Verdicts.{Of, Verdict, both, other_kind}
+use Rattle.source_typing.specs.Verdicts.{Of, Verdict, after, both, if_fits, other_kind}
 use Rattle.source_typing.proofs.Inversion.{after_is, assign_is, both_is, call_is, links_first, of_is, prefix_is, suffixes_first, tests_first}
 use Rattle.source_typing.proofs.OperatorsFit.{applied_to_is, tested_both_is}
 use Rattle.source_safety.proofs.WordRules.{Valued, value_of}
@@ -54,7 +54,7 @@ no_kind false at v e = cc
 both_seat : (a b v : Value) → tested_both a b ≡ Of v → v.seat ≡ Nowhere
 both_seat a b v e = by (is_testable a.type && is_testable b.type) e
   where
-    by : (c : Bool) → Rattle.source_typing.specs.Verdicts.after (Rattle.source_typing.specs.Verdicts.if_fits c a.at Int) (value a.at) ≡ Of v → v.seat ≡ Nowhere
+    by : (c : Bool) → after (if_fits c a.at Int) (value a.at) ≡ Of v → v.seat ≡ Nowhere
     by true q = (value_of a.at Int v q).seat
     by false q = absurd cc
 

@@ -16,30 +16,10 @@ use Rattle.source_meaning.specs.Shapes.{IntShape, Shape, StructShape, pointee}
 use Rattle.source_meaning.specs.Steps.{World}
 use Rattle.source_typing.specs.Converts.{Converts, IsInteger}
 use Rattle.source_typing.specs.Operators.{applied_to, compared, compared_thin, fat_moved, if_equality, integers_joined, is_equality, is_move, on_integers, prefixed, promoted, signed}
-use Rattle.source_typing.specs.Places.{address, assigned, assigned_in, assigned_type, contents}
+use Rattle.source_typing.specs.Places.{address, address_of, assigned, assigned_in, assigned_type}
 use Rattle.source_typing.specs.Regions.{Region}
 use Rattle.source_typing.specs.Scope.{Env, In, InBlock, Nowhere, Seat, Value, is_place, value}
-use Rattle.source_typing.specs.Types.{
-  Char,
-  Fat,
-  Handle,
-  Int,
-  Key,
-  Null,
-  StaticType,
-  Struct,
-  Thin,
-  Union,
-  Unique,
-  Unsigned,
-  Void,
-  integer_type,
-  is_integer,
-  is_null,
-  is_pointer,
-  is_same,
-  shape_of,
-}
+use Rattle.source_typing.specs.Types.{Char, Fat, Handle, Int, Key, Null, StaticType, Struct, Thin, Union, Unique, Unsigned, Void, integer_type, is_integer, is_null, is_pointer, is_same, is_testable, shape_of}
 use Rattle.source_typing.specs.Verdicts.{Of, after, if_fits}
 use Rattle.source_typing.proofs.Inversion.{unless_is}
 use Rattle.source_typing.proofs.OperatorsFit.{NullWith, OnFat, OnIntegers, OnThin, Operates, WithNull, signed_is, tested_is}
@@ -209,7 +189,7 @@ module _ (w : World) (names : List Named) where
       → IsTaken w names (Expression.Prefixed at prefix.AddressOf e) v
   address_taken at e a v h q = by a.seat refl q
     where
-      by : (s : Seat) → a.seat ≡ s → Rattle.source_typing.specs.Places.address_of at a.type s ≡ Of v → IsTaken w names (Expression.Prefixed at prefix.AddressOf e) v
+      by : (s : Seat) → a.seat ≡ s → address_of at a.type s ≡ Of v → IsTaken w names (Expression.Prefixed at prefix.AddressOf e) v
       by Nowhere z q = absurd cc
       by InBlock z q = absurd (h.outside z)
       by (In r) z q =
@@ -228,7 +208,7 @@ module _ (w : World) (names : List Named) where
       let r = tested_is at a v q in
       let k : TakenWord w names e a.type = word_is w names a.type e (testable_word a.type r.0) h.value in
       taken_word w names (Expression.Prefixed at prefix.Not e) v Int r.1
-      (no_place v (fits_seat (Rattle.source_typing.specs.Types.is_testable a.type) at at Int v q)) tt tt (record { takes = k.takes; shape = refl }) (λ z. z)
+      (no_place v (fits_seat (is_testable a.type) at at Int v q)) tt tt (record { takes = k.takes; shape = refl }) (λ z. z)
   prefixed_taken g at prefix.Dereference e a v h q = pointed_taken g at e a v h (contents_is g at a.type v q)
   prefixed_taken g at prefix.AddressOf e a v h q = address_taken at e a v h q
 

@@ -1,32 +1,22 @@
 -- Calls of functions whose arguments fit.
-use Rattle.std.specs.Prelude.{nat_le, option_map, ◌+◌, ◌*◌, ◌++◌, if◌then◌else◌}
-use Rattle.std.proofs.Common.{◌≡◌, ℕ, Bool, true, false, List, Option, Some, None, refl, ap, arith}
+use Rattle.std.specs.Prelude.{nat_le, ◌+◌, ◌*◌, ◌++◌, if◌then◌else◌}
+use Rattle.std.proofs.Common.{◌≡◌, ℕ, Bool, true, false, refl, ap, arith}
 use Rattle.std.proofs.lemmas.Bool.Decides.{nat_tests}
-use Rattle.source_typing.specs.Calls.{typed_result}
 use Rattle.source_typing.specs.Faults.{effect_rule, fault, outlives_rule, test}
-use Rattle.source_typing.specs.Regions.{Region}
-use Rattle.source_typing.specs.Tables.{argument}
-use Rattle.source_typing.specs.Types.{StaticType, renamed}
-use Rattle.judged_calls.specs.Converted.{given_of}
-use Rattle.source_typing.specs.Verdicts.{Verdict, unless_faulty}
-use Rattle.type_verdicts.specs.Verdicts.{Short, Wrong, shortened}
+use Rattle.source_typing.specs.Verdicts.{Of, unless_faulty}
+use Rattle.type_verdicts.specs.Verdicts.{Is, Short, Wrong, shortened}
 
 -- by both tests: Outlives is the earlier rule
-abbrev pub entered_by : {A : Type 0} → Bool → Bool → ℕ → Verdict A → Short A
+abbrev pub entered_by : {A : Type 0} → Bool → Bool → ℕ → A → Short A
 entered_by live false at v = Wrong (fault outlives_rule at)
 entered_by false true at v = Wrong (fault effect_rule at)
-entered_by true true at v = shortened v
+entered_by true true at v = Is v
 
-pub tests_entered : {A : Type 0} (live ordered : Bool) (at : ℕ) (v : Verdict A)
-    → shortened (unless_faulty (test live effect_rule at ++ test ordered outlives_rule at) v) ≡ entered_by live ordered at v
+pub tests_entered : {A : Type 0} (live ordered : Bool) (at : ℕ) (v : A)
+    → shortened (unless_faulty (test live effect_rule at ++ test ordered outlives_rule at) (Of v)) ≡ entered_by live ordered at v
 tests_entered true true at v = refl
 tests_entered true false at v = refl
 tests_entered false true at v = refl
 tests_entered false false at v =
     let later : nat_le (at * 16 + 8) (at * 16 + 7) ≡ false = grind (arith, nat_tests) in
     ap (λ (b : Bool). Wrong (if b then fault effect_rule at else fault outlives_rule at)) later
-
--- a result's type with what the variables stand for
-pub result_given : (at : ℕ) (rs : List Region) (o p : Option StaticType) → p ≡ option_map (renamed (argument rs)) o → given_of at p ≡ typed_result at rs o
-result_given at rs None p e = ap (given_of at) e
-result_given at rs (Some t) p e = ap (given_of at) e

@@ -16,4 +16,5 @@ returns c lenient g =
     subst (λ t. IfOk c.head_meaning.result
     (λ m. Means (Some (OfFunction (head_of lenient g (function_taken t (function_tree c.args.function.now))).signature)) (Some m)))
     c.thin_pointers.ensures
-    (c.head_meaning.ensures f (head_of lenient g f) (c.in_ok-head.ensures lenient g (λ h. absurd (true≢false (sym h ∙ untaken)))))
+    (c.head_meaning.ensures f (head_of lenient g f) (c.in_ok-head.ensures.head lenient g (λ h. absurd (true≢false (sym h ∙ untaken))))
+    (c.in_ok-head.ensures.judged untaken))

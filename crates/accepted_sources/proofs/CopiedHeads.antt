@@ -37,7 +37,7 @@ use Rattle.source_typing.specs.Taken.{
   only_taken,
   refused_type,
   structure_if,
-  takes_arguments,
+  takes_structure,
   takes_initial,
   takes_type,
   type_taken,
@@ -246,8 +246,8 @@ module _ (structs : Bool) where
   tag_parts_known g i union false s = (tt, tt)
 
   tag_known : (g : Tables) (i : ℕ) (x : Item) → IsNoOtherValue (judged_tag g i (item_taken k x)).entry.entry
-  tag_known g i (tree.StructItem s) = tag_parts_known g i false (structs && takes_arguments k s.regions) s
-  tag_known g i (tree.UnionItem u) = tag_parts_known g i true (false && takes_arguments k u.regions) u
+  tag_known g i (tree.StructItem s) = tag_parts_known g i false (takes_structure k structs s) s
+  tag_known g i (tree.UnionItem u) = tag_parts_known g i true (takes_structure k false u) u
   tag_known g i (tree.GlobalItem x) = tt
   tag_known g i (tree.FunctionItem f) = tt
 

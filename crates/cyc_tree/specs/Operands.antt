@@ -1,5 +1,6 @@
--- Facts of the grammar that the tree alone doesn't say: an operator that joins operands has at least two, and a form with suffixes has one.
-use Rattle.std.specs.Prelude.{Option, Some, None, [], ◌∷◌}
+-- Facts of the grammar that the tree alone doesn't say: an operator that joins operands has at least two, a form with suffixes has one, and a struct or union
+-- has a member.
+use Rattle.std.specs.Prelude.{List, Option, Some, None, [], ◌∷◌}
 use Rattle.cyc_tree.specs.Tree as tree
 use Rattle.cyc_tree.specs.Tree.{
   Expression,
@@ -45,6 +46,10 @@ AreSuffixed NoSuffixes = ⊥
 AreSuffixed (Index index others) = Unit {0}
 AreSuffixed (Dot member others) = Unit {0}
 AreSuffixed (Arrow member others) = Unit {0}
+
+abbrev pub AreSomeMembers : List tree.Member → Type 0
+AreSomeMembers [] = ⊥
+AreSomeMembers (first ∷ others) = Unit {0}
 
 -- ---- expressions
 
@@ -123,8 +128,10 @@ abbrev mutual
 -- ---- programs
 
 abbrev pub ItemHasOperands : Item → Type 0
+ItemHasOperands (tree.StructItem s) = AreSomeMembers s.members
+ItemHasOperands (tree.UnionItem u) = AreSomeMembers u.members
+ItemHasOperands (tree.GlobalItem x) = Unit {0}
 ItemHasOperands (tree.FunctionItem f) = ItemsHaveOperands f.body
-ItemHasOperands _ = Unit {0}
 
 abbrev pub HasOperands : Program → Type 0
 HasOperands [] = Unit {0}

@@ -10,7 +10,7 @@ use Rattle.source_typing.specs.Taken.{bounds_form, constant_form, constant_forms
 use Rattle.source_typing.specs.Taken.{effect_if, form_if, function_taken, global_if, initial_form, initial_taken}
 use Rattle.source_typing.specs.Taken.{item_forms, item_taken, member_taken, members_taken, only_taken}
 use Rattle.source_typing.specs.Taken.{refused_structure, refused_type, structure_if}
-use Rattle.source_typing.specs.Taken.{takes_arguments, takes_initial}
+use Rattle.source_typing.specs.Taken.{takes_structure, takes_initial}
 use Rattle.source_typing.specs.Taken.{takes_type, thin_pointers, type_taken}
 use Rattle.source_typing.proofs.Converting.{and_is}
 use Rattle.source_typing.proofs.Inversion.{none_of_both}
@@ -95,7 +95,7 @@ global_more false x q p =
 item_more : (x : Item) → item_taken thin_pointers x ≡ x → item_taken structures x ≡ x
 item_more (tree.StructItem s) p =
     let q : refused_structure s ≡ s = cc in
-    ap (λ z. tree.StructItem z) (structure_more (takes_arguments structures s.regions) s q)
+    ap (λ z. tree.StructItem z) (structure_more (takes_structure structures true s) s q)
 item_more (tree.UnionItem s) p = p
 item_more (tree.GlobalItem x) p =
     let q : global_if (takes_type thin_pointers x.of && takes_initial thin_pointers x.initial) x (initial_taken thin_pointers x.of x.initial) ≡ x = cc in

@@ -2,12 +2,14 @@
 use Rattle.std.proofs.Common.{◌≡◌, ℕ, suc, Bool, true, false, Option, Some, None, List, [], ◌∷◌, ◌++◌, refl, sym, subst, ap, ◌∙◌}
 use Rattle.std.specs.Prelude.{◌&&◌, bytes_eq, if◌then◌else◌, length}
 use Rattle.cyc_tree.specs.Tree as tree
+use Rattle.cyc_tree.specs.Operands.{AreSomeMembers}
 use Rattle.cyc_tree.specs.Tree.{Item}
 use Rattle.source_typing.specs.Faults.{Fault, is_clean}
 use Rattle.source_typing.specs.Programs.{Judged, all_tag_faults, bare_from, builtins, entries, first_entry, first_from, judged_tag, name_of, named}
 use Rattle.source_typing.specs.Tables.{Entry, Named, OfBuiltin, OfFunction, OfOther, OfTag, OfValue, Tables, Tag, as_tag, find}
 use Rattle.source_typing.specs.Tags.{head_faults, member_faults, region_parameters, repeated, struct_sized, tag_faults, tag_parts, tag_scope}
-use Rattle.source_typing.specs.Taken.{item_taken, members_taken, only_taken, refused_structure, structure_if, takes_arguments, structures}
+use Rattle.source_typing.specs.Taken.{are_members, item_taken, members_taken, only_taken, refused_member, refused_structure, structure_if}
+use Rattle.source_typing.specs.Taken.{structures, takes_arguments, takes_structure}
 use Rattle.source_typing.specs.Written.{argument_spots, regions_of_tag, spot}
 use Rattle.source_typing.proofs.Inversion.{none_of_both, own_is}
 use Rattle.judged_sources.specs.Good.{NamesBelow}
@@ -20,15 +22,19 @@ use Rattle.judged_sources.proofs.Tags.{judged_list}
 
 -- ---- structs that are taken
 
--- a struct without region parameters, all of whose members are taken as they are
+-- a struct without region parameters, which has a member, and all of whose members are taken as they are
 pub record StructTaken (s : tree.Structure) : Type 0 where
   pub regions : s.regions ≡ []
+  pub some : AreSomeMembers s.members
   pub members : members_taken structures s.members ≡ s.members
 
-struct_taken : (rs : List tree.RegionName) (s : tree.Structure) → s.regions ≡ rs
-    → structure_if (structures.structs && takes_arguments structures rs) s (members_taken structures s.members) ≡ s → StructTaken s
-struct_taken [] s q e = record { regions = q; members = ap (λ (z : tree.Structure). z.members) e }
-struct_taken (r ∷ rs) s q e = absurd (let a : [] ≡ s.regions = ap (λ (z : tree.Structure). z.regions) e in let b : [] ≡ r ∷ rs = a ∙ q in cc)
+struct_taken : (rs : List tree.RegionName) (ms : List tree.Member) (s : tree.Structure) → s.regions ≡ rs → s.members ≡ ms
+    → structure_if (structures.structs && (takes_arguments structures rs && are_members ms)) s (members_taken structures s.members) ≡ s → StructTaken s
+struct_taken [] (m ∷ ms) s q h e =
+    record { regions = q; some = subst AreSomeMembers (sym h) tt; members = ap (λ (z : tree.Structure). z.members) e }
+struct_taken [] [] s q h e =
+    absurd (let a : refused_member s.at [] ∷ [] ≡ s.members = ap (λ (z : tree.Structure). z.members) e in let b : refused_member s.at [] ∷ [] ≡ [] = a ∙ h in cc)
+struct_taken (r ∷ rs) ms s q h e = absurd (let a : [] ≡ s.regions = ap (λ (z : tree.Structure). z.regions) e in let b : [] ≡ r ∷ rs = a ∙ q in cc)
 
 -- structs, globals and functions alone
 abbrev pub IsSorted : Item → Type 0
@@ -43,8 +49,8 @@ AreSorted (x ∷ is) = IsSorted x × AreSorted is
 
 item_sorted : (g : Tables) (i : ℕ) (x : Item) → item_taken structures x ≡ x → (judged_tag g i x).faults ≡ [] → IsSorted x
 item_sorted g i (tree.StructItem s) e p =
-    let q : structure_if (structures.structs && takes_arguments structures s.regions) s (members_taken structures s.members) ≡ s = cc in
-    struct_taken s.regions s refl q
+    let q : structure_if (takes_structure structures true s) s (members_taken structures s.members) ≡ s = cc in
+    struct_taken s.regions s.members s refl refl q
 item_sorted g i (tree.UnionItem s) e p = let f : refused_structure s ≡ s = cc in absurd (refused_clean g i true s s f p)
 item_sorted g i (tree.GlobalItem x) e p = tt
 item_sorted g i (tree.FunctionItem f) e p = tt

@@ -17,7 +17,7 @@ use Rattle.source_typing.specs.Globals.{global_faults}
 use Rattle.source_typing.specs.Programs.{Judged, judged_tag, entries, builtins, first_from, bare_from, tags_from, judged_tags, all_tag_faults, tables_of}
 use Rattle.source_typing.specs.Programs.{item_faults, items_from, second_names, main_found, size_faults, faults_with, typing_faults}
 use Rattle.source_typing.specs.Left.{flow_faults}
-use Rattle.source_typing.specs.Taken.{Taken, whole, takes_type, takes_arguments, type_taken, refused_type, refused_structure, member_taken, members_taken}
+use Rattle.source_typing.specs.Taken.{Taken, whole, takes_type, takes_structure, type_taken, refused_type, refused_structure, member_taken, members_taken}
 use Rattle.source_typing.specs.Taken.{structure_if, takes_initial, constant_taken, initial_taken, global_if, effect_form, bounds_form, effect_if, bounds_if}
 use Rattle.source_typing.specs.Taken.{refused_constant, function_taken, item_taken, only_taken, constant_form, initial_form, form_if, item_forms}
 use Rattle.source_typing.specs.Taken.{constant_forms}
@@ -70,9 +70,9 @@ TagTaken k (tree.FunctionItem f) = Unit {0}
 
 tag_is_taken : (k : Taken) (g : Tables) (i : ℕ) (x : Item) → (judged_tag g i (item_taken k x)).faults ≡ [] → TagTaken k x
 tag_is_taken k g i (tree.StructItem s) p =
-    ap (λ z. tree.StructItem z) (structure_is_taken k g i false (k.structs && takes_arguments k s.regions) s p)
+    ap (λ z. tree.StructItem z) (structure_is_taken k g i false (takes_structure k k.structs s) s p)
 tag_is_taken k g i (tree.UnionItem s) p =
-    ap (λ z. tree.UnionItem z) (structure_is_taken k g i true (k.unions && takes_arguments k s.regions) s p)
+    ap (λ z. tree.UnionItem z) (structure_is_taken k g i true (takes_structure k k.unions s) s p)
 tag_is_taken k g i (tree.GlobalItem x) p = tt
 tag_is_taken k g i (tree.FunctionItem f) p = tt
 

@@ -1,10 +1,10 @@
 -- A program in which each form is taken has the operands that each text's tree has.
-use Rattle.std.proofs.Common.{◌≡◌, ℕ, Bool, true, false, Option, Some, None, List, [], ◌∷◌, refl, ap, subst}
+use Rattle.std.proofs.Common.{◌≡◌, ℕ, Bool, true, false, Option, Some, None, List, [], ◌∷◌, refl, sym, ap, subst}
 use Rattle.std.specs.Prelude.{◌&&◌}
 use Rattle.cyc_tree.specs.declared.expression.Prefix.{Prefix}
 use Rattle.cyc_tree.specs.Operands.{ExpressionHasOperands, AllHaveOperands, LinksHaveOperands, SuffixesHaveOperands, MadeHasOperands, HasOperands}
 use Rattle.cyc_tree.specs.Operands.{InitializerHasOperands, DeclarationHasOperands, ResultHasOperands, StatementHasOperands, ItemsHaveOperands}
-use Rattle.cyc_tree.specs.Operands.{ClausesHaveOperands, ItemHasOperands}
+use Rattle.cyc_tree.specs.Operands.{AreSomeMembers, ClausesHaveOperands, ItemHasOperands}
 use Rattle.cyc_tree.specs.Places.{expression_place}
 use Rattle.cyc_tree.specs.Tree as tree
 use Rattle.cyc_tree.specs.Tree.{Expression, Expressions, NoExpressions, MoreExpressions, Links, NoLinks, MoreLinks, Suffixes, NoSuffixes, Index, Dot, Arrow}
@@ -14,7 +14,7 @@ use Rattle.source_meaning.specs.Expressions.{is_unique_region}
 use Rattle.source_typing.specs.Taken.{Taken, refused, refused_statement, if_taken, takes_prefix, takes_suffixes, takes_made, takes_handle, taken, all_taken}
 use Rattle.source_typing.specs.Taken.{links_taken, suffixes_taken, made_taken, initializer_taken, takes_type, takes_initializer, declared_if}
 use Rattle.source_typing.specs.Taken.{declaration_taken, result_taken, statement_if, statement_taken, items_taken, clauses_taken, function_taken, item_taken}
-use Rattle.source_typing.specs.Taken.{only_taken, are_suffixed}
+use Rattle.source_typing.specs.Taken.{only_taken, are_suffixed, are_members, members_taken, refused_member, structure_if, takes_arguments, takes_structure}
 
 -- what stands as it is, and isn't what stands for other forms, is taken
 kept_form : (b : Bool) (at : ℕ) (x y : Expression) → if_taken b at x ≡ y → (refused at ≡ y → ⊥) → x ≡ y
@@ -159,10 +159,26 @@ module _ (k : Taken) where
 
   -- ---- items
 
+  -- a struct or union without members isn't taken, and what stands for it has one
+  no_members : (b : Bool) (s : tree.Structure) (ms : List tree.Member) → s.members ≡ ms
+      → structure_if (b && (takes_arguments k s.regions && are_members ms)) s (members_taken k s.members) ≡ s → AreSomeMembers ms
+  no_members b s (m ∷ ms) q t = tt
+  no_members b s [] q t = absurd (none b (takes_arguments k s.regions) (sym q) t)
+    where
+      none : (b a : Bool) → [] ≡ s.members → structure_if (b && (a && false)) s (members_taken k s.members) ≡ s → ⊥
+      none true true q t = let i : refused_member s.at [] ∷ [] ≡ s.members = ap (λ (z : tree.Structure). z.members) t in cc
+      none true false q t = let i : refused_member s.at [] ∷ [] ≡ s.members = ap (λ (z : tree.Structure). z.members) t in cc
+      none false a q t = let i : refused_member s.at [] ∷ [] ≡ s.members = ap (λ (z : tree.Structure). z.members) t in cc
+
+  structure_members : (b : Bool) (s : tree.Structure) → structure_if (takes_structure k b s) s (members_taken k s.members) ≡ s → AreSomeMembers s.members
+  structure_members b s t = no_members b s s.members refl t
+
   item_operands : (i : Item) → item_taken k i ≡ i → ItemHasOperands i
+  item_operands (tree.StructItem s) t = let is : structure_if (takes_structure k k.structs s) s (members_taken k s.members) ≡ s = cc in structure_members k.structs s is
+  item_operands (tree.UnionItem u) t = let is : structure_if (takes_structure k k.unions u) u (members_taken k u.members) ≡ u = cc in structure_members k.unions u is
+  item_operands (tree.GlobalItem x) t = tt
   item_operands (tree.FunctionItem f) t =
       let is : function_taken k f ≡ f = cc in items_operands f.body (ap (λ (g : tree.Function). g.body) is)
-  item_operands _ t = tt
 
   pub taken_has_operands : (p : Program) → only_taken k p ≡ p → HasOperands p
   taken_has_operands [] t = tt

@@ -235,7 +235,7 @@ taken_32 : first_fault integers
     ≡ Some (fault type_rule 22)
 taken_32 = refl
 
--- trees that no text has: an operand whose operator has no second one, and a primary without a suffix
+-- trees that no text has: an operand whose operator has no second one, a primary without a suffix, and a struct and a union without members
 operands_1 : first_fault whole ((main_at 0 (Execute (returns 13 (Expression.Chain (number 20 7) NoLinks)) NoItems) 23) ∷ []) ≡ Some (fault type_rule 20)
 operands_1 = refl
 
@@ -250,3 +250,11 @@ operands_3 = refl
 operands_4 : first_fault whole ((main_at 0 (Execute (returns 13 (Expression.Suffixed (number 20 7) NoSuffixes)) NoItems) 23) ∷ [])
     ≡ Some (fault type_rule 20)
 operands_4 = refl
+
+operands_5 : first_fault whole (tree.StructItem (record { at = 0; tag = name_at 7 "S"; regions = []; members = [] }) ∷ main_at 12 NoItems 23 ∷ [])
+    ≡ Some (fault type_rule 0)
+operands_5 = refl
+
+operands_6 : first_fault whole (tree.UnionItem (record { at = 0; tag = name_at 14 "U"; regions = []; members = [] }) ∷ main_at 20 NoItems 31 ∷ [])
+    ≡ Some (fault type_rule 0)
+operands_6 = refl

@@ -6,7 +6,7 @@ use Rattle.cyc_tree.specs.declared.name.Sign.{Sign}
 use Rattle.cyc_tree.specs.declared.name.Sign.TheVariants as sign
 use Rattle.cyc_tree.specs.declared.expression.Prefix.{Prefix}
 use Rattle.cyc_tree.specs.declared.expression.Prefix.TheVariants.{Negate, Not, Complement, Dereference, AddressOf}
-use Rattle.cyc_tree.specs.Operands.{AreSome, AreLinked, AreSuffixed, ExpressionHasOperands, AllHaveOperands, LinksHaveOperands, SuffixesHaveOperands}
+use Rattle.cyc_tree.specs.Operands.{AreSome, AreSomeMembers, AreLinked, AreSuffixed, ExpressionHasOperands, AllHaveOperands, LinksHaveOperands, SuffixesHaveOperands}
 use Rattle.cyc_tree.specs.Operands.{MadeHasOperands, InitializerHasOperands, DeclarationHasOperands, ResultHasOperands, StatementHasOperands}
 use Rattle.cyc_tree.specs.Operands.{ItemsHaveOperands, ClausesHaveOperands, ItemHasOperands, HasOperands}
 use Rattle.cyc_tree.specs.Places.{expression_place}
@@ -20,7 +20,7 @@ use Rattle.source_typing.specs.Taken.{takes_made, are_some, are_linked, are_suff
 use Rattle.source_typing.specs.Taken.{takes_handle, if_taken, taken, all_taken, links_taken, suffixes_taken, made_taken, initializer_taken, takes_initializer}
 use Rattle.source_typing.specs.Taken.{declared_if, declaration_taken, result_taken, statement_taken, items_taken, clauses_taken, member_taken}
 use Rattle.source_typing.specs.Taken.{members_taken, structure_if, constant_taken, initial_taken, takes_initial, global_if, function_taken, item_taken}
-use Rattle.source_typing.specs.Taken.{only_taken}
+use Rattle.source_typing.specs.Taken.{only_taken, are_members, takes_structure}
 use Rattle.source_typing.specs.Taken.{refused_type, takes_prefix, effect_form, bounds_form, effect_if, bounds_if, Taken}
 use Rattle.source_typing.specs.Taken.{constant_form, initial_form, form_if, constant_forms}
 use Rattle.source_typing.specs.Faults.{Fault}
@@ -242,6 +242,10 @@ members_whole : (ms : List tree.Member) → members_taken whole ms ≡ ms
 members_whole [] = refl
 members_whole (m ∷ ms) = let a : member_taken whole m ≡ m = member_whole m in let b : members_taken whole ms ≡ ms = members_whole ms in cc
 
+members_some : (ms : List tree.Member) → AreSomeMembers ms → are_members ms ≡ true
+members_some [] h = absurd h
+members_some (m ∷ ms) h = refl
+
 structure_whole : (b : Bool) (s : tree.Structure) → b ≡ true → structure_if b s (members_taken whole s.members) ≡ s
 structure_whole true s p = ap (λ (ms : List tree.Member). record s { members = ms }) (members_whole s.members)
 structure_whole false s p = absurd cc
@@ -308,8 +312,12 @@ function_whole f h =
     function_as_is whole f (type_whole f.result) (members_whole f.parameters) (effect_taken f.effect) (bounds_taken f.bounds) refl refl (items_whole f.body h)
 
 item_whole : (i : Item) → ItemHasOperands i → item_taken whole i ≡ i
-item_whole (tree.StructItem s) h = ap (λ z. tree.StructItem z) (structure_whole (takes_arguments whole s.regions) s (arguments_whole s.regions))
-item_whole (tree.UnionItem s) h = ap (λ z. tree.UnionItem z) (structure_whole (takes_arguments whole s.regions) s (arguments_whole s.regions))
+item_whole (tree.StructItem s) h =
+    ap (λ z. tree.StructItem z)
+    (structure_whole (takes_structure whole true s) s (both_true (arguments_whole s.regions) (members_some s.members h)))
+item_whole (tree.UnionItem s) h =
+    ap (λ z. tree.UnionItem z)
+    (structure_whole (takes_structure whole true s) s (both_true (arguments_whole s.regions) (members_some s.members h)))
 item_whole (tree.GlobalItem x) h =
     ap (λ z. tree.GlobalItem z)
     (global_whole (takes_type whole x.of && takes_initial whole x.initial) x

@@ -266,6 +266,15 @@ abbrev pub members_taken : Taken → List tree.Member → List tree.Member
 members_taken k [] = []
 members_taken k (m ∷ ms) = member_taken k m ∷ members_taken k ms
 
+-- A struct or union has a member: each text's tree has one. A tree without is a form that is never taken.
+abbrev pub are_members : List tree.Member → Bool
+are_members [] = false
+are_members (m ∷ ms) = true
+
+-- a struct or union, where its kind is taken or not
+abbrev pub takes_structure : Taken → Bool → tree.Structure → Bool
+takes_structure k kind s = kind && (takes_arguments k s.regions && are_members s.members)
+
 abbrev pub structure_if : Bool → tree.Structure → List tree.Member → tree.Structure
 structure_if true s ms = record s { members = ms }
 structure_if false s ms = refused_structure s
@@ -322,8 +331,8 @@ function_taken k f = record {
 }
 
 abbrev pub item_taken : Taken → Item → Item
-item_taken k (tree.StructItem s) = tree.StructItem (structure_if (k.structs && takes_arguments k s.regions) s (members_taken k s.members))
-item_taken k (tree.UnionItem u) = tree.UnionItem (structure_if (k.unions && takes_arguments k u.regions) u (members_taken k u.members))
+item_taken k (tree.StructItem s) = tree.StructItem (structure_if (takes_structure k k.structs s) s (members_taken k s.members))
+item_taken k (tree.UnionItem u) = tree.UnionItem (structure_if (takes_structure k k.unions u) u (members_taken k u.members))
 item_taken k (tree.GlobalItem x) = tree.GlobalItem (global_if (takes_type k x.of && takes_initial k x.initial) x (initial_taken k x.of x.initial))
 item_taken k (tree.FunctionItem f) = tree.FunctionItem (function_taken k f)
 

@@ -1,15 +1,15 @@
--- A program that tokens spell has operands wherever an operator joins some, and suffixes in each form that has them.
+-- A program that tokens spell has operands wherever an operator joins some, suffixes in each form that has them, and members in each struct and union.
 use Rattle.std.proofs.Common.{ℕ, List, [], ◌∷◌, Some, None}
 use Rattle.cyc_lexer.specs.declared.token.Sign.{Sign}
 use Rattle.cyc_tree.specs.Operands.{ExpressionHasOperands, AllHaveOperands, LinksHaveOperands, SuffixesHaveOperands, MadeHasOperands}
-use Rattle.cyc_tree.specs.Operands.{DeclarationHasOperands, StatementHasOperands, ItemsHaveOperands, ClausesHaveOperands, HasOperands}
+use Rattle.cyc_tree.specs.Operands.{DeclarationHasOperands, StatementHasOperands, ItemsHaveOperands, ClausesHaveOperands, HasOperands, AreSomeMembers}
 use Rattle.cyc_tree.specs.Tree as tree
 use Rattle.cyc_tree.specs.Tree.{Expression, Expressions, NoExpressions, MoreExpressions, Links, NoLinks, MoreLinks, Suffixes, NoSuffixes, Index, Dot, Arrow}
-use Rattle.cyc_tree.specs.Tree.{Made, One, Array, Declaration, BlockItems, NoItems, Declare, Execute, Clauses, NoClauses, MoreClauses, Item, Program}
+use Rattle.cyc_tree.specs.Tree.{Made, One, Array, Declaration, BlockItems, NoItems, Declare, Execute, Clauses, NoClauses, MoreClauses, Item, Member, Program}
 use Rattle.cyc_parser.specs.Phrases.{Tokens, Each}
 use Rattle.cyc_parser.specs.ExpressionGrammar.{IsExpression, AreArguments, AreOperands, AreLinks, AreSuffixes, IsMade}
 use Rattle.cyc_parser.specs.StatementGrammar.{IsDeclaration, IsStatement, AreItems, AreClauses}
-use Rattle.cyc_parser.specs.Grammar.{IsItem, IsProgram}
+use Rattle.cyc_parser.specs.Grammar.{AreMembers, IsItem, IsProgram}
 
 -- ---- expressions
 
@@ -123,10 +123,16 @@ mutual
 
 -- ---- programs
 
+some_members : (ms : List Member) (from to : Tokens) → AreMembers ms from to → AreSomeMembers ms
+some_members [] from to are = absurd are
+some_members (m ∷ ms) from to are = tt
+
 all_operands : (items : List Item) (from to : Tokens) → Each IsItem items from to → HasOperands items
 all_operands [] from to is = tt
-all_operands (tree.StructItem s ∷ items) from to (a, is, are) = (tt, all_operands items a to are)
-all_operands (tree.UnionItem u ∷ items) from to (a, is, are) = (tt, all_operands items a to are)
+all_operands (tree.StructItem s ∷ items) from to (a, (b, word, (c, d, named, under, has)), are) =
+    (some_members s.members d a has, all_operands items a to are)
+all_operands (tree.UnionItem u ∷ items) from to (a, (b, c, sign, word, (d, e, named, under, has)), are) =
+    (some_members u.members e a has, all_operands items a to are)
 all_operands (tree.GlobalItem g ∷ items) from to (a, is, are) = (tt, all_operands items a to are)
 all_operands (tree.FunctionItem f ∷ items) from to (a, (b, c, typed, named, (d, e, g, h, i, j, k, opened, takes, has, within, closed, begins, does, ends)), are) =
     (items_operands f.body j k does, all_operands items a to are)

@@ -11,6 +11,6 @@ use Rattle.source_lowering.specs.Bounds.{routines_size}
 abbrev pub TokensPay : Type 0
 TokensPay = (p : Program) (tokens : Tokens) → IsProgram p tokens → routines_size (world_of p).functions ≤ length tokens
 
--- its tree has operands wherever an operator joins some
+-- its tree has operands wherever an operator joins some, and members in each struct and union
 abbrev pub SpelledHasOperands : Type 0
 SpelledHasOperands = (p : Program) (tokens : Tokens) → IsProgram p tokens → HasOperands p

@@ -1,14 +1,14 @@
--- Where integers and thin pointers are taken, the first fault of a program is that of names, types, regions, effects and sizes.
+-- Of the forms that are taken today, the first fault of a program is that of names, types, regions, effects and sizes.
 use Rattle.std.proofs.Common.{◌≡◌, false, List, ◌++◌, sym, ap, ◌∙◌, append-nil}
 use Rattle.cyc_tree.specs.Tree.{Program}
 use Rattle.source_typing.specs.Answers.{effect_fault, first_fault}
 use Rattle.source_typing.specs.Faults.{Fault, earliest}
 use Rattle.source_typing.specs.Programs.{typing_faults}
-use Rattle.source_typing.specs.Taken.{constant_forms, only_taken, thin_pointers}
-use Rattle.accepted_sources.proofs.StillPrograms.{pointers_have_no_flow_faults}
+use Rattle.source_typing.specs.Taken.{constant_forms, only_taken, supported}
+use Rattle.accepted_sources.proofs.StillPrograms.{structs_have_no_flow_faults}
 
-pub first_is_of_effects : (p : Program) → effect_fault thin_pointers p ≡ first_fault thin_pointers p
+pub first_is_of_effects : (p : Program) → effect_fault supported p ≡ first_fault supported p
 first_is_of_effects p =
-    let typing = typing_faults false (only_taken thin_pointers p) in
-    ap (λ (fs : List Fault). earliest (constant_forms thin_pointers p ++ fs))
-    (sym (ap (λ (fs : List Fault). typing ++ fs) (pointers_have_no_flow_faults p) ∙ append-nil typing))
+    let typing = typing_faults false (only_taken supported p) in
+    ap (λ (fs : List Fault). earliest (constant_forms supported p ++ fs))
+    (sym (ap (λ (fs : List Fault). typing ++ fs) (structs_have_no_flow_faults p) ∙ append-nil typing))

@@ -1,9 +1,10 @@
 -- All that is promised of a program in which the rules find no fault.
 use Rattle.std.specs.Prelude.{false}
 use Rattle.compiled_sources.specs.Laws.{AllAcceptedDo}
-use Rattle.source_typing.specs.Taken.{thin_pointers}
+use Rattle.source_lowering.specs.Lowerable.{IsLowerable}
+use Rattle.source_typing.specs.Taken.{supported}
 use Rattle.judged_sources.proofs.GoodTables.{no_typing_faults}
-use Rattle.judged_sources.proofs.Joined.{lowerable, of_words}
+use Rattle.judged_sources.proofs.Joined as joined
 use Rattle.source_meaning.specs.Programs.{world_of}
 use Rattle.compiled_sources.proofs.Data.{data_plain}
 use Rattle.compiled_sources.proofs.LowerableDo.{lowerable_do}
@@ -11,8 +12,10 @@ use Rattle.compiled_sources.proofs.NamedApart.{named_apart}
 use Rattle.compiled_sources.proofs.DataWithin.{data_within}
 
 pub accepted_do : AllAcceptedDo
-accepted_do p e = record {
-  promised = lowerable_do p (lowerable p e) (named_apart false p (no_typing_faults thin_pointers p e));
-  plain = data_plain (world_of p) p (of_words p e).items;
-  data_within = data_within p e;
-}
+accepted_do p e =
+    let lowerable : IsLowerable p = joined.lowerable p e in
+    record {
+      promised = lowerable_do p lowerable (named_apart false p (no_typing_faults supported p e));
+      plain = data_plain (world_of p) p lowerable.structs lowerable.items;
+      data_within = data_within p e;
+    }

@@ -4,13 +4,29 @@ use Rattle.std.proofs.Common.{◌≡◌, ℕ, suc, ◌+◌, ◌^◌, ◌≤◌, 
 use Rattle.std.proofs.lemmas.Bool.{leb-true}
 use Rattle.cyc_tree.specs.Tree as tree
 use Rattle.cyc_tree.specs.Tree.{Initial, Item, Program}
-use Rattle.source_meaning.specs.Shapes.{Shape, written, settled}
+use Rattle.source_meaning.specs.Shapes.{
+  ArrayShape,
+  CharShape,
+  FatShape,
+  HandleShape,
+  IntShape,
+  KeyShape,
+  Shape,
+  StructShape,
+  ThinShape,
+  UnionShape,
+  UnsignedShape,
+  VoidShape,
+  settled,
+  written,
+}
 use Rattle.source_meaning.specs.Sizes.{rounded_up}
 use Rattle.source_meaning.specs.Programs.{world_of}
 use Rattle.source_meaning.specs.Steps.{World}
 use Rattle.source_meaning.specs.Strings.{item_strings}
 use Rattle.core_frames.specs.Selected.{rounded, bytes_of, end_from, datum_local, datum_locals}
 use Rattle.core_frames.specs.Running.{data_end}
+use Rattle.source_lowering.specs.Layouts.{extent_of}
 use Rattle.source_lowering.specs.Programs.{data_of, global_datum, program_code}
 use Rattle.source_typing.specs.Answers.{program_faults}
 use Rattle.source_typing.specs.Faults.{name_rule, test}
@@ -18,13 +34,11 @@ use Rattle.source_typing.specs.Globals.{Static, global_size, if_passed, item_sta
 use Rattle.source_typing.specs.Programs.{if_first, is_seen, second_names, statics_from, tables_of}
 use Rattle.source_typing.specs.Scope.{at_item}
 use Rattle.source_typing.specs.Tables.{Tables}
-use Rattle.source_typing.specs.Taken.{thin_pointers}
-use Rattle.source_typing.specs.Types.{Char, Int, StaticType, Thin, Unsigned, shape_of}
+use Rattle.source_typing.specs.Taken.{structures}
 use Rattle.source_typing.proofs.Inversion.{test_is, none_of_both}
-use Rattle.source_safety.specs.Entries.{IsWordType}
 use Rattle.judged_sources.proofs.GoodTables.{IsClean, is_clean_program}
-use Rattle.judged_sources.proofs.Joined.{globals_are_words}
-use Rattle.judged_sources.proofs.WordGlobals.{AreWordGlobals, WordGlobal}
+use Rattle.judged_sources.proofs.Joined.{sized}
+use Rattle.judged_sources.proofs.SizedGlobals.{AreSized}
 
 -- ---- the rule on sizes
 
@@ -68,33 +82,43 @@ unseen some seen x h e = by (is_seen some x) refl
 
 -- ---- globals
 
--- the bytes of an object that begins as a word
-word_global : (w : World) (t : StaticType) (i : Initial) → IsWordType t → bytes_of (datum_local (global_datum w i (shape_of t))) ≤ 4
-word_global w Int i h = omega arith
-word_global w Unsigned i h = omega arith
-word_global w Char i h = omega arith
-word_global w (Thin n r t) i h = omega arith
-word_global w _ i h = absurd h
+-- an object has the bytes of its shape
+datum_bytes : (w : World) (i : Initial) (s : Shape) → bytes_of (datum_local (global_datum w i s)) ≡ (extent_of w s).size
+datum_bytes w i IntShape = omega arith
+datum_bytes w i UnsignedShape = omega arith
+datum_bytes w i CharShape = omega arith
+datum_bytes w i VoidShape = omega arith
+datum_bytes w i (ThinShape may_be_null owner to) = omega arith
+datum_bytes w i (FatShape to) = omega arith
+datum_bytes w i HandleShape = omega arith
+datum_bytes w i KeyShape = omega arith
+datum_bytes w i (StructShape tag) = omega arith
+datum_bytes w i (UnionShape tag) = omega arith
+datum_bytes w i (ArrayShape count of) = omega arith
 
-global_small : (w : World) (g : Tables) (i : ℕ) (x : tree.Global) → WordGlobal g i x
-    → bytes_of (datum_local (global_datum w x.initial (settled (written x.of)))) ≤ 4
-global_small w g i x h = subst (λ (s : Shape). bytes_of (datum_local (global_datum w x.initial s)) ≤ 4) (sym h.shape) (word_global w h.type x.initial h.word)
-
--- an object of at most 4 bytes behind a multiple of 4
-next_rounded : (low so_far bytes : ℕ) → rounded low ≤ so_far → bytes ≤ 4 → rounded (rounded low + bytes) ≤ so_far + 8
-next_rounded low so_far bytes h b = omega (arith, h, b)
+-- an object behind a multiple of 4
+next_rounded : (low so_far bytes : ℕ) → rounded low ≤ so_far → rounded (rounded low + bytes) ≤ so_far + rounded_up bytes 8
+next_rounded low so_far bytes h = omega (arith, h)
 
 low_rounded : (low : ℕ) → low ≤ rounded low
 low_rounded low = omega arith
 
 module _ (g : Tables) (w : World) where
   -- from an offset on, where so much was counted before
-  within : (items : List Item) (i low so_far : ℕ) (some seen : List (List ℕ)) → AreSeen some seen → second_names seen items ≡ [] → AreWordGlobals g i items
+  within : (items : List Item) (i low so_far : ℕ) (some seen : List (List ℕ)) → AreSeen some seen → second_names seen items ≡ [] → AreSized w g i items
       → rounded low ≤ so_far → so_far ≤ 1048576 → total_faults so_far (statics_from false g i some items) ≡ []
       → end_from low (datum_locals (data_of w items)) ≤ 1048576
   within [] i low so_far some seen s n a h l e = omega (arith, low_rounded low, h, l)
-  within (tree.StructItem x ∷ items) i low so_far some seen s n a h l e = absurd a.0
-  within (tree.UnionItem x ∷ items) i low so_far some seen s n a h l e = absurd a.0
+  within (tree.StructItem x ∷ items) i low so_far some seen s n a h l e =
+      let names = none_of_both (test (not (is_seen seen x.tag.text)) name_rule x.tag.at) (second_names (x.tag.text ∷ seen) items) n in
+      let (next, above, below, none) = skipped (if_first (not (is_seen some x.tag.text)) (item_statics (at_item false g i) (tree.StructItem x)))
+      (statics_from false g (suc i) (x.tag.text ∷ some) items) so_far l e in
+      within items (suc i) low next (x.tag.text ∷ some) (x.tag.text ∷ seen) (one_more some seen x.tag.text s) names.1 a.1 (omega (arith, h, above)) below none
+  within (tree.UnionItem x ∷ items) i low so_far some seen s n a h l e =
+      let names = none_of_both (test (not (is_seen seen x.tag.text)) name_rule x.tag.at) (second_names (x.tag.text ∷ seen) items) n in
+      let (next, above, below, none) = skipped (if_first (not (is_seen some x.tag.text)) (item_statics (at_item false g i) (tree.UnionItem x)))
+      (statics_from false g (suc i) (x.tag.text ∷ some) items) so_far l e in
+      within items (suc i) low next (x.tag.text ∷ some) (x.tag.text ∷ seen) (one_more some seen x.tag.text s) names.1 a.1 (omega (arith, h, above)) below none
   within (tree.FunctionItem f ∷ items) i low so_far some seen s n a h l e =
       let names = none_of_both (test (not (is_seen seen f.name.text)) name_rule f.name.at) (second_names (f.name.text ∷ seen) items) n in
       let (next, above, below, none) = skipped (if_first (not (is_seen some f.name.text)) (item_statics (at_item false g i) (tree.FunctionItem f)))
@@ -107,17 +131,18 @@ module _ (g : Tables) (w : World) where
       let first : not (is_seen some x.name.text) ≡ true = unseen some seen x.name.text s (test_is (not (is_seen seen x.name.text)) name_rule x.name.at names.0) in
       let counted : total_faults so_far (statics ++ rest) ≡ [] = subst (λ b. total_faults so_far (if_first b statics ++ rest) ≡ []) first e in
       let one = first_within so_far x.of.at (rounded_up (global_size (at_item false g i) x) 8) (map static_string (item_strings (tree.GlobalItem x)) ++ rest) counted in
-      let bytes : rounded_up (global_size (at_item false g i) x) 8 ≡ 8 = a.0.eight in
       let (next, above, below, none) = skipped (map static_string (item_strings (tree.GlobalItem x))) rest
       (so_far + rounded_up (global_size (at_item false g i) x) 8) one.0 one.1 in
       let size : ℕ = bytes_of (datum_local (global_datum w x.initial (settled (written x.of)))) in
-      let room = next_rounded low so_far size h (global_small w g i x a.0) in
+      let bytes : rounded_up size 8 ≡ rounded_up (global_size (at_item false g i) x) 8 =
+      ap (λ (k : ℕ). rounded_up k 8) (datum_bytes w x.initial (settled (written x.of)) ∙ a.0) in
+      let room = next_rounded low so_far size h in
       within items (suc i) (rounded low + size) next (x.name.text ∷ some) (x.name.text ∷ seen) (one_more some seen x.name.text s) names.1 a.1
       (omega (arith, room, bytes, above)) below none
 
 -- where the rules find no fault, the data end within the limit
-pub data_within : (p : Program) → program_faults thin_pointers p ≡ [] → data_end (program_code p).data_objects ≤ 2 ^ 20
+pub data_within : (p : Program) → program_faults structures p ≡ [] → data_end (program_code p).data_objects ≤ 2 ^ 20
 data_within p e =
-    let clean : IsClean thin_pointers p = is_clean_program thin_pointers p e in
-    within (tables_of false p) (world_of p) p 0 0 0 [] (codes "getchar" ∷ codes "putchar" ∷ []) (λ x f. absurd cc) clean.names (globals_are_words p e) (omega arith)
+    let clean : IsClean structures p = is_clean_program structures p e in
+    within (tables_of false p) (world_of p) p 0 0 0 [] (codes "getchar" ∷ codes "putchar" ∷ []) (λ x f. absurd cc) clean.names (sized p e) (omega arith)
     (omega arith) clean.sizes

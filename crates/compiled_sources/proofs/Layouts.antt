@@ -22,6 +22,7 @@ use Rattle.source_meaning.specs.Steps.{World}
 use Rattle.core_meaning.specs.Memory.{PartShape, Layout, shape_in}
 use Rattle.core_frames.specs.Lies.{Apart}
 use Rattle.core_frames.specs.Layouts.{IsLayout, IsFull, IsNothing, IsZero}
+use Rattle.core_frames.specs.Statics.{AreJoined, parts_end, AreCellsJoined, cells_end}
 use Rattle.source_lowering.specs.Layouts.{pieces_of, part_shape_of, first_part, padding, next_at, padded, layout_of, placed_of, extent_of}
 use Rattle.source_lowering.specs.Lowered.{width_of}
 use Rattle.source_lowering.specs.Lowerable.{IsWordShape, IsObject, AreStructs}
@@ -189,6 +190,28 @@ each_has P [] k j s h e = absurd (no_part s e)
 each_has P (xs ∷ xss) zero j s h e = each_part P xs j s h.0 e
 each_has P (xs ∷ xss) (suc k) j s h e = each_has P xss k j s h.1 e
 
+-- ---- parts one behind the other
+
+abbrev IsByteOrWord : PartShape → Type 0
+IsByteOrWord x = (x.width ≡ 1) ⊎ (x.width ≡ 4)
+
+tile_joined : (from to : ℕ) (xs : List PartShape) → Tile from to xs → Each IsByteOrWord xs → AreJoined from xs
+tile_joined from to [] h e = tt
+tile_joined from to (x ∷ xs) h e = (h.0, e.0, tile_joined (from + x.width) to xs h.1 e.1)
+
+tile_end : (from to : ℕ) (xs : List PartShape) → Tile from to xs → parts_end from xs ≡ to
+tile_end from to [] h = h
+tile_end from to (x ∷ xs) h = tile_end (from + x.width) to xs h.1
+
+all_joined : (from to : ℕ) (xss : List (List PartShape)) → AllTile from to xss → EachOf IsByteOrWord xss → AreCellsJoined from xss
+all_joined from to [] h e = tt
+all_joined from to (xs ∷ xss) h e =
+    (tile_joined from h.0 xs h.1.0 e.0, subst (λ k. AreCellsJoined k xss) (sym (tile_end from h.0 xs h.1.0)) (all_joined h.0 to xss h.1.1 e.1))
+
+all_end : (from to : ℕ) (xss : List (List PartShape)) → AllTile from to xss → cells_end from xss ≡ to
+all_end from to [] h = h
+all_end from to (xs ∷ xss) h = ap (λ k. cells_end k xss) (tile_end from h.0 xs h.1.0) ∙ all_end h.0 to xss h.1.1
+
 -- ---- padded cells
 
 padding_tiles : (at to n : ℕ) → at + n ≡ to → Tile at to (padding at n)
@@ -308,6 +331,8 @@ pub record IsObjectLayout (l : Layout) : Type 0 where
   pub lies : IsLayout l
   pub full : IsFull l
   pub nothing : IsZero l
+  pub joined : AreCellsJoined 0 l.cells
+  pub whole : cells_end 0 l.cells ≡ l.bytes
 
 pub object_layout : (w : World) (s : Shape) → AreStructs w.unions w.structs → IsObject w.structs s → IsObjectLayout (layout_of w s)
 object_layout w s structs object = record {
@@ -322,6 +347,8 @@ object_layout w s structs object = record {
         record { cell = b.cell; part = b.part; shape = b.shape; has = record { is = b.has }; low = b.low; high = b.high };
   };
   nothing = record { nothing = λ cell part x has. each_has (λ z. IsNothing z.first) cells cell part x zeros has.is };
+  joined = all_joined 0 size cells tiles widths;
+  whole = all_end 0 size cells tiles;
 }
   where
     size : ℕ
@@ -351,6 +378,9 @@ object_layout w s structs object = record {
     evens : EachOf (IsEvenIn size) cells
     evens = cells_each w size ps (IsEvenIn size) (λ p. (p.shape ≡ CharShape) ⊎ ((p.offset % 4 ≡ 0) × ((extent_of w s).align ≡ 4))) (λ o. (inl refl, tt))
         (λ p word q. even_part size (extent_of w s).align p word ordered.aligned.even q) words (all_even (extent_of w s).align ps ordered.even)
+
+    widths : EachOf IsByteOrWord cells
+    widths = cells_each w size ps IsByteOrWord (λ p. Unit {0}) (λ o. (inl refl, tt)) (λ p word q. word_width p.shape word) words (all_any ps)
 
     zeros : EachOf (λ z. IsNothing z.first) cells
     zeros = cells_each w size ps (λ z. IsNothing z.first) (λ p. Unit {0}) (λ o. (tt, tt)) (λ p word q. word_nothing p.shape word) words (all_any ps)

@@ -1,5 +1,5 @@
 -- The code of structs as values names unnamed values of its function, where these are numbered among them.
-use Rattle.std.proofs.Common.{◌≡◌, ℕ, suc, ◌+◌, ◌<◌, ◌≤◌, List, [], ◌∷◌, ◌++◌, length, Bool, true, false, refl, arith, length-append}
+use Rattle.std.proofs.Common.{ℕ, suc, ◌+◌, ◌<◌, ◌≤◌, List, [], ◌∷◌, ◌++◌, length, Bool, true, false, arith, length-append}
 use Rattle.std.specs.Prelude.{if◌then◌else◌}
 use Rattle.cyc_tree.specs.Tree.{Expression, Expressions, NoExpressions, MoreExpressions}
 use Rattle.source_meaning.specs.Shapes.{
@@ -22,7 +22,7 @@ use Rattle.source_meaning.specs.Shapes.{
 use Rattle.source_meaning.specs.Sizes.{rounded_up}
 use Rattle.source_meaning.specs.Steps.{World}
 use Rattle.source_meaning.specs.Conversions.{cells_of}
-use Rattle.core_meaning.specs.Core.{Copy, Statement}
+use Rattle.core_meaning.specs.Core.{Statement}
 use Rattle.source_lowering.specs.Layouts.{extent_of}
 use Rattle.source_lowering.specs.Lowered.{Named, expression_code, place_code, static_shape}
 use Rattle.source_lowering.specs.Whole.{makes_struct, is_made, member_values, whole_values, made_values, copied_code, word_member_code, member_code, whole_code, members_code, assigned_code, assigned_values, dropped_code, dropped_values, run_code, run_values}

@@ -1,4 +1,4 @@
--- What holds of all programs of integers and thin pointers.
+-- What holds of all programs of integers, thin pointers and structs.
 use Rattle.std.specs.Prelude.{◌≡◌, ◌≤◌, ◌^◌, []}
 use Rattle.cyc_tree.specs.Tree.{Program}
 use Rattle.source_meaning.specs.Programs.{world_of}
@@ -6,7 +6,7 @@ use Rattle.core_frames.specs.Statics.{ArePlainData}
 use Rattle.source_lowering.specs.Lowerable.{IsLowerable}
 use Rattle.source_lowering.specs.Programs.{program_code}
 use Rattle.source_typing.specs.Answers.{program_faults}
-use Rattle.source_typing.specs.Taken.{thin_pointers}
+use Rattle.source_typing.specs.Taken.{supported}
 use Rattle.core_frames.specs.Running.{data_end}
 use Rattle.compiled_sources.specs.Promise.{AreNamedApart, LowerableDoes}
 
@@ -20,6 +20,6 @@ pub record AcceptedDoes (p : Program) : Type 0 where
   pub plain : ArePlainData (program_code p).data_objects
   pub data_within : data_end (program_code p).data_objects ≤ 2 ^ 20
 
--- that holds of each such program
+-- that holds of each program of the forms that are taken today in which the rules find no fault
 abbrev pub AllAcceptedDo : Type 0
-AllAcceptedDo = (p : Program) → program_faults thin_pointers p ≡ [] → AcceptedDoes p
+AllAcceptedDo = (p : Program) → program_faults supported p ≡ [] → AcceptedDoes p

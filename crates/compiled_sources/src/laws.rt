@@ -11,8 +11,8 @@ pub fn lowerable_do()
     ensures { AllLowerableDo }
 {}
 
-/// A law, with nothing to run: of each program in which the rules on functions and globals of integers and of thin pointers
-/// find no fault, `lowerable_do` holds, its data are numbers that fit their places, and they take no more bytes than the data of
+/// A law, with nothing to run: of each program of the forms that are taken today in which the rules find no fault,
+/// `lowerable_do` holds, its data are numbers that fit their places, and they take no more bytes than the data of
 /// an image may.
 pub fn accepted_do()
     ensures { AllAcceptedDo }

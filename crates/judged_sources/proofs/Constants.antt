@@ -3,7 +3,8 @@ use Rattle.std.proofs.Common.{◌≡◌, ℕ, ◌%◌, ◌^◌, Bool, true, fals
 use Rattle.std.specs.Prelude.{◌++◌}
 use Rattle.cyc_tree.specs.Tree.{Constant, Initial}
 use Rattle.cyc_words.specs.Words.{difference_of}
-use Rattle.source_lowering.specs.Taken.{HasFirst, IsIntegerShape, TakesConstant, TakesInitial}
+use Rattle.source_lowering.specs.Lowerable.{HasBeginning, TakesGlobal}
+use Rattle.source_lowering.specs.Taken.{IsIntegerShape, TakesConstant}
 use Rattle.source_meaning.specs.Calls.{number_type}
 use Rattle.source_meaning.specs.Memory.{AsChar, AsInt, AsUnsigned, IntegerType}
 use Rattle.source_safety.specs.Entries.{IsObjectType}
@@ -90,7 +91,7 @@ constant_good g (Constant.Null at) u w f e = null_good g.regions at at u w e
 
 pub record InitialGood (u : StaticType) (i : Initial) : Type 0 where
   pub first : InitialJudged u i
-  pub taken : HasFirst (shape_of u) → TakesInitial (shape_of u) i
+  pub taken : HasBeginning (shape_of u) → TakesGlobal (shape_of u) i
 
 pub initial_good : (g : Env) (i : Initial) (u : StaticType) → IsObjectType u → takes_initial structures i ≡ true
     → initial_form structures i ≡ [] → initial_faults g i (Of u) ≡ []

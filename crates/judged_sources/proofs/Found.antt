@@ -4,7 +4,6 @@ use Rattle.std.specs.Prelude.{bytes_eq, if◌then◌else◌}
 use Rattle.cyc_tree.specs.Operands.{HasOperands}
 use Rattle.cyc_tree.specs.Tree as tree
 use Rattle.cyc_tree.specs.Tree.{Initial, Item}
-use Rattle.source_lowering.specs.Taken.{TakesProgram}
 use Rattle.source_meaning.specs.Calls.{function_of}
 use Rattle.source_meaning.specs.Places.{bound_to}
 use Rattle.source_meaning.specs.Programs.{functions_of, global_shape, globals_from, heap_spot, routine_of}
@@ -17,12 +16,12 @@ use Rattle.source_typing.specs.Programs.{Judged, entries_with, items_from, named
 use Rattle.source_typing.specs.Regions.{Region, TheHeap}
 use Rattle.source_typing.specs.Scope.{at_item}
 use Rattle.source_typing.specs.Tables.{Named, OfBuiltin, OfFunction, OfOther, OfTag, OfValue, Signature, Stored, Tables, find}
-use Rattle.source_typing.specs.Taken.{function_taken, only_taken, takes_type, thin_pointers, structures}
+use Rattle.source_typing.specs.Taken.{function_taken, only_taken, structures}
 use Rattle.source_typing.specs.Types.{StaticType, shape_of}
 use Rattle.source_typing.proofs.Inversion.{none_of_both}
 use Rattle.judged_sources.specs.Good.{AllGood, BodiesJudged}
-use Rattle.judged_sources.proofs.Globals.{GlobalGood, global_takes}
-use Rattle.judged_sources.proofs.GoodFunctions.{FunctionGood, FunctionThin, function_good, function_takes}
+use Rattle.judged_sources.proofs.Globals.{GlobalGood}
+use Rattle.judged_sources.proofs.GoodFunctions.{FunctionGood, function_good}
 use Rattle.judged_sources.proofs.GoodTables.{AreHeaded}
 use Rattle.judged_sources.proofs.AlignedTables.{AreAligned, beginning_same, same_tags}
 use Rattle.judged_sources.proofs.Heads.{head_same}
@@ -70,27 +69,7 @@ module _ (bodies : BodiesJudged) where
         all_known g h (suc i) js is a s k.1 b o.1 d.1,
       )
 
--- ---- what lowering takes, and globals in their order
-
--- an item without structs
-abbrev pub IsThinItem : Item → Type 0
-IsThinItem (tree.StructItem s) = ⊥
-IsThinItem (tree.UnionItem s) = ⊥
-IsThinItem (tree.GlobalItem x) = (takes_type thin_pointers x.of ≡ true)
-IsThinItem (tree.FunctionItem f) = FunctionThin f
-
-abbrev pub AreThinItems : List Item → Type 0
-AreThinItems [] = Unit {0}
-AreThinItems (x ∷ is) = IsThinItem x × AreThinItems is
-
-pub all_take : (g h : Tables) (i : ℕ) (js : List Judged) (is : List Item) → AllKnown g h i js is → AreThinItems is → TakesProgram is
-all_take g h i [] [] k z = tt
-all_take g h i [] (x ∷ is) k z = absurd k
-all_take g h i (j ∷ js) [] k z = tt
-all_take g h i (j ∷ js) (tree.StructItem x ∷ is) k z = absurd z.0
-all_take g h i (j ∷ js) (tree.UnionItem x ∷ is) k z = absurd z.0
-all_take g h i (j ∷ js) (tree.GlobalItem x ∷ is) k z = (global_takes h i x k.0.1 z.0, all_take g h (suc i) js is k.1 z.1)
-all_take g h i (j ∷ js) (tree.FunctionItem f ∷ is) k z = (function_takes g i f k.0.good z.0, all_take g h (suc i) js is k.1 z.1)
+-- ---- globals in their order
 
 pub globals_judged : (g h : Tables) (i : ℕ) (js : List Judged) (is : List Item) → AreAligned g h → AllKnown g h i js is → GlobalsJudged g is
 globals_judged g h i [] [] s k = tt

@@ -1,35 +1,25 @@
--- A global without fault: an object that has a beginning, whose type names no region but the heap. Where it has no structs, lowering takes it, and tables
--- don't matter to it.
+-- A global without fault: an object that has a beginning, whose type names no region but the heap.
 use Rattle.std.proofs.Common.{◌≡◌, ℕ, Bool, true, false, Option, Some, None, List, [], ◌∷◌, refl, sym, subst, ap, ◌∙◌}
 use Rattle.std.specs.Prelude.{◌&&◌, not}
 use Rattle.cyc_tree.specs.Tree as tree
-use Rattle.cyc_tree.specs.Tree.{Constant, Initial, TypeName}
-use Rattle.source_lowering.specs.Taken as lowering
-use Rattle.source_lowering.specs.Taken.{TakesInitial}
-use Rattle.source_lowering.proofs.Integers.{IsWordShape}
-use Rattle.source_lowering.proofs.PlainShapes.{word_type}
-use Rattle.source_lowering.proofs.WrittenTypes.{word_settled}
-use Rattle.source_meaning.specs.Shapes as shapes
-use Rattle.source_safety.specs.Entries.{IsObjectType, IsWordType}
-use Rattle.source_meaning.specs.Sizes.{rounded_up}
+use Rattle.cyc_tree.specs.Tree.{Initial, TypeName}
 use Rattle.source_typing.specs.Declarations.{what_after, what_of}
-use Rattle.source_typing.specs.Extents.{variable_size}
 use Rattle.source_typing.specs.Faults.{Fault}
-use Rattle.source_typing.specs.Globals.{count_of, fitting_global, foreign_names, global_entry, global_faults, global_type, global_size, has_none, if_clean, initial_faults, typed_size}
+use Rattle.source_typing.specs.Globals.{count_of, fitting_global, foreign_names, global_entry, global_faults, global_type, has_none, if_clean, initial_faults, typed_size}
 use Rattle.source_typing.specs.Regions.{TheHeap}
 use Rattle.source_typing.specs.Scope.{Env, at_item}
 use Rattle.source_typing.specs.Tables.{OfValue, Stored, Tables, has_beginning}
 use Rattle.source_typing.specs.Tags.{settled_alone}
-use Rattle.source_typing.specs.Taken.{Taken, form_if, global_if, initial_form, initial_taken, item_forms, item_taken, takes_initial, takes_type, thin_pointers}
+use Rattle.source_typing.specs.Taken.{Taken, form_if, global_if, initial_form, initial_taken, item_forms, item_taken, takes_initial, takes_type}
 use Rattle.source_typing.specs.Taken.{structures}
-use Rattle.source_typing.specs.Types.{Handle, Char, Int, StaticType, Struct, Thin, Unsigned, Void, is_key, shape_of}
+use Rattle.source_typing.specs.Types.{StaticType, Void, is_key}
 use Rattle.source_typing.specs.Verdicts.{Faulty, Of, Unjudged, Verdict, after, faults_of}
 use Rattle.source_typing.specs.Written.{RegionNamed, Spot, spots_of, written}
 use Rattle.source_typing.proofs.Converting.{and_is}
 use Rattle.source_typing.proofs.Inversion.{none_of_both}
 use Rattle.judged_sources.specs.Good.{NamesBelow, Surely}
 use Rattle.judged_sources.proofs.Constants.{InitialGood, initial_good}
-use Rattle.judged_sources.proofs.GoodLocals.{IsFitting, begins_first, fitting_is}
+use Rattle.judged_sources.proofs.GoodLocals.{IsFitting, fitting_is}
 use Rattle.judged_sources.proofs.GoodTypes.{IsWritten, KnowsTags, in_scope_good}
 use Rattle.judged_sources.proofs.HeadTypes.{GivesNothing, GivesObject, ObjectGood, PlainGood, alone_good}
 use Rattle.judged_sources.proofs.Sure.{surely_after, surely_also, surely_is}
@@ -113,16 +103,6 @@ type_good g x tags e =
     (fitting_global g x.of.at (count_of x.initial) (has_none names)) (plain_good g.tables x tags e)
     (λ u k. variable_fits g x.of.at x.of (count_of x.initial) (has_none names) u k)
 
--- a type without structs is no struct
-pub thin_word : (t : TypeName) (u : StaticType) → IsObjectType u → lowering.IsWordType t → shapes.settled (shapes.written t) ≡ shape_of u → IsWordType u
-thin_word t Int o w s = tt
-thin_word t Unsigned o w s = tt
-thin_word t Char o w s = tt
-thin_word t (Thin b r u) o w s = o
-thin_word t (Struct tag rs) o w s = absurd (subst (λ z. IsWordShape z) s (word_settled t (word_type t w)))
-thin_word t (Handle q) o w s = absurd (subst (λ z. IsWordShape z) s (word_settled t (word_type t w)))
-thin_word t _ o w s = absurd o
-
 -- ---- all of it
 
 -- by these tables, its name means a variable in the heap
@@ -162,29 +142,10 @@ global_good g i x tags t f p =
           ∙ ap (λ (o : Option ℕ). OfValue (what_of TheHeap o (global_type s x))) n ∙ ap (λ (v : Verdict StaticType). OfValue (what_of TheHeap None v)) u.1;
     }
 
--- what lowering wants of it, where it has no structs
-pub global_takes : (g : Tables) (i : ℕ) (x : tree.Global) → GlobalGood g i x → takes_type thin_pointers x.of ≡ true → lowering.TakesItem (tree.GlobalItem x)
-global_takes g i x h k = (
-  h.good.taken k,
-  subst (λ s. TakesInitial s x.initial) (sym h.good.shape)
-      (h.initial.taken (begins_first g x.of h.type h.good.object (h.good.taken k) h.good.shape h.begins)),
-)
-
 -- ---- sizes
 
--- a word is rounded up to 8 bytes
-word_eight : (g : Env) (x : tree.Global) (t : StaticType) → IsWordType t → count_of x.initial ≡ None → rounded_up (typed_size g x (Of t)) 8 ≡ 8
-word_eight g x t w n = subst (λ (o : Option ℕ). rounded_up (variable_size g.tables o t) 8 ≡ 8) (sym n) (by t w)
-  where
-    by : (t : StaticType) → IsWordType t → rounded_up (variable_size g.tables None t) 8 ≡ 8
-    by Int w = refl
-    by Unsigned w = refl
-    by Char w = refl
-    by (Thin b r t) w = refl
-    by _ w = absurd w
-
 -- what its name means tells that it is without fault, and its type
-size_by_entry : (g : Env) (x : tree.Global) (t : StaticType) (fs : List Fault) (o : Option ℕ) (v : Verdict StaticType) → o ≡ None
+pub size_by_entry : (g : Env) (x : tree.Global) (t : StaticType) (fs : List Fault) (o : Option ℕ) (v : Verdict StaticType) → o ≡ None
     → OfValue (what_after fs (what_of TheHeap o v)) ≡ OfValue (Stored t TheHeap) → if_clean fs (typed_size g x v) ≡ typed_size g x (Of t)
 size_by_entry g x t [] None (Of u) n e = ap (λ z. typed_size g x (Of z)) (same u e)
   where
@@ -194,10 +155,3 @@ size_by_entry g x t [] None (Faulty f fs) n e = absurd cc
 size_by_entry g x t [] None Unjudged n e = absurd cc
 size_by_entry g x t [] (Some m) v n e = absurd cc
 size_by_entry g x t (f ∷ fs) o v n e = absurd cc
-
--- one of a word takes 8 bytes of the data, rounded up
-pub global_eight : (g : Tables) (i : ℕ) (x : tree.Global) (h : GlobalGood g i x) → IsWordType h.type → rounded_up (global_size (at_item false g i) x) 8 ≡ 8
-global_eight g i x h w =
-    let s : Env = at_item false g i in
-    ap (λ k. rounded_up k 8) (size_by_entry s x h.type (global_faults s x) (count_of x.initial) (global_type s x) h.uncounted h.entry)
-    ∙ word_eight s x h.type w h.uncounted

@@ -1,10 +1,9 @@
--- A statement without fault, where all is known of each name in scope, is in order, and lowering takes it; and so is the body of a function.
+-- A statement without fault, where all is known of each name in scope, is in order; and so is the body of a function.
 use Rattle.std.proofs.Common.{◌≡◌, ℕ, Bool, true, false, Some, None, [], refl, subst, ap, ◌∙◌}
 use Rattle.std.specs.Prelude.{◌&&◌, ◌||◌, ◌++◌}
 use Rattle.cyc_tree.specs.Operands.{ExpressionHasOperands, ItemsHaveOperands, StatementHasOperands}
 use Rattle.cyc_tree.specs.Places.{expression_place}
 use Rattle.cyc_tree.specs.Tree.{BlockItems, Declare, Execute, Expression, NoItems, Statement}
-use Rattle.source_lowering.specs.Taken.{Takes, TakesItems, TakesStatement}
 use Rattle.source_safety.specs.Entries.{IsPlain, IsObjectType}
 use Rattle.source_safety.specs.Judged.{Condition, ItemsJudged, Returned, StatementJudged}
 use Rattle.source_typing.specs.Conversions.{converts}
@@ -13,8 +12,8 @@ use Rattle.source_typing.specs.Expressions.{judge}
 use Rattle.source_typing.specs.Faults.{type_rule}
 use Rattle.source_typing.specs.Scope.{Env, Value, block_entered}
 use Rattle.source_typing.specs.Statements.{condition, condition_faults, in_a_loop, items_faults, returned, statement_faults}
-use Rattle.source_typing.specs.Taken.{declaration_taken, items_taken, statement_taken, taken, thin_pointers, structures}
-use Rattle.source_typing.specs.Types.{Handle, Char, Int, StaticType, Struct, Thin, Unsigned, Void, is_testable, shape_of}
+use Rattle.source_typing.specs.Taken.{declaration_taken, items_taken, statement_taken, taken, structures}
+use Rattle.source_typing.specs.Types.{Handle, Char, Int, StaticType, Struct, Thin, Unsigned, Void, is_testable}
 use Rattle.source_typing.specs.Verdicts.{Faulty, Of, Unjudged, Verdict, after, faults_of, if_fits}
 use Rattle.source_typing.specs.Ways.{ways_of}
 use Rattle.source_typing.proofs.Inversion.{none_of_both, test_is}
@@ -24,11 +23,6 @@ use Rattle.judged_sources.proofs.GoodScopes.{good_block, good_loop}
 use Rattle.judged_sources.proofs.GoodDeclarations.{converted_is, declaration_good, expression_good}
 
 -- ---- conditions and results
-
--- a condition, and lowering takes it
-pub record GoodCondition (g : Env) (e : Expression) : Type 0 where
-  pub judged : Condition g e
-  pub takes : taken thin_pointers e ≡ e → Takes e
 
 tested_is : (b : Bool) (at : ℕ) (v : Value) → faults_of (if_fits b at v) ≡ [] → b ≡ true
 tested_is true at v e = refl
@@ -70,48 +64,30 @@ nothing_returned g at (Struct tag rs) h e = absurd cc
 nothing_returned g at (Handle r) h e = absurd cc
 nothing_returned g at _ h e = absurd h
 
--- a result, and lowering takes it
-record GoodReturn (g : Env) (e : Expression) : Type 0 where
-  pub judged : Returned g e
-  pub takes : taken thin_pointers e ≡ e → Takes e
-
 -- ---- statements
-
--- what is in order, in a function that gives a type; where there are no structs, lowering takes it
-abbrev pub GoodStatement : Env → StaticType → Statement → Type 0
-GoodStatement g r x = StatementJudged g x × (statement_taken thin_pointers x ≡ x → TakesStatement (shape_of r) x)
-
-abbrev pub GoodItems : Env → StaticType → BlockItems → Type 0
-GoodItems g r x = ItemsJudged g x × (items_taken thin_pointers x ≡ x → TakesItems (shape_of r) x)
 
 module _ (expressions : ExpressionsJudged) where
   condition_good : (e : Expression) (g : Env) → IsGood g → taken structures e ≡ e → ExpressionHasOperands e → condition_faults g e ≡ []
-      → GoodCondition g e
+      → Condition g e
   condition_good e g h t o p =
       let at : ℕ = expression_place e in
       let a = expression_good expressions e g h t o (after_clean (judge g e) (condition at) p) in
       let d : faults_of (after (Of a.accepted.value) (condition at)) ≡ [] = subst (λ z. faults_of (after z (condition at)) ≡ []) a.accepted.judged p in
-      record {
-        judged = record { accepted = a.accepted; testable = tested_is (is_testable a.accepted.value.type) at a.accepted.value d };
-        takes = a.good.takes;
-      }
+      record { accepted = a.accepted; testable = tested_is (is_testable a.accepted.value.type) at a.accepted.value d }
 
   return_good : (e : Expression) (g : Env) (at : ℕ) (r : StaticType) → IsPlain r → g.result ≡ Some r → IsGood g → taken structures e ≡ e
       → ExpressionHasOperands e
       → returned g at g.result (Some (judge g e)) ≡ []
-      → GoodReturn g e
+      → Returned g e
   return_good e g at r k f h t o p =
       let q : returned g at (Some r) (Some (judge g e)) ≡ [] = subst (λ z. returned g at z (Some (judge g e)) ≡ []) f p in
       let a = expression_good expressions e g h t o (returned_clean g at r (judge g e) k q) in
       let b = returned_object g at r a.accepted.value k (subst (λ z. returned g at (Some r) (Some z) ≡ []) a.accepted.judged q) in
       record {
-        judged = record {
-          gives = r;
-          result = f;
-          object = b.0;
-          fitting = record { accepted = a.accepted; converts = converted_is g a.accepted.value r b.1 };
-        };
-        takes = a.good.takes;
+        gives = r;
+        result = f;
+        object = b.0;
+        fitting = record { accepted = a.accepted; converts = converted_is g a.accepted.value r b.1 };
       }
 
   mutual
@@ -119,97 +95,58 @@ module _ (expressions : ExpressionsJudged) where
         → statement_taken structures x ≡ x
         → StatementHasOperands x
         → statement_faults g c x ≡ []
-        → GoodStatement g r x
-    statement_good (Statement.Empty at) g c r k f h t o p = (tt, λ i. tt)
+        → StatementJudged g x
+    statement_good (Statement.Empty at) g c r k f h t o p = tt
     statement_good (Statement.Block at items) g c r k f h t o p =
-        let i : items_taken structures items ≡ items = cc in
-        let a = items_good items (block_entered g) c r k f (good_block g h) i o p in
-        (a.0, λ i. a.1 (let j : items_taken thin_pointers items ≡ items = cc in j))
+        let i : items_taken structures items ≡ items = cc in items_good items (block_entered g) c r k f (good_block g h) i o p
     statement_good (Statement.Run e) g c r k f h t o p =
-        let i : taken structures e ≡ e = cc in let a = expression_good expressions e g h i o p in
-        (a.accepted, λ i. a.good.takes (let j : taken thin_pointers e ≡ e = cc in j))
+        let i : taken structures e ≡ e = cc in (expression_good expressions e g h i o p).accepted
     statement_good (Statement.Exchange a b) g c r k f h t o p = absurd cc
     statement_good (Statement.If at e x) g c r k f h t o p =
         let i : taken structures e ≡ e = cc in
         let j : statement_taken structures x ≡ x = cc in
         let z = none_of_both (condition_faults g e) (statement_faults g c x) p in
-        let a = condition_good e g h i o.0 z.0 in
-        let b = statement_good x g c r k f h j o.1 z.1 in (
-          (a.judged, b.0),
-          λ i. (
-            a.takes (let j : taken thin_pointers e ≡ e = cc in j),
-            b.1 (let j : statement_taken thin_pointers x ≡ x = cc in j),
-          ),
-        )
+        (condition_good e g h i o.0 z.0, statement_good x g c r k f h j o.1 z.1)
     statement_good (Statement.IfElse at e x y) g c r k f h t o p =
         let i : taken structures e ≡ e = cc in
         let j : statement_taken structures x ≡ x = cc in
         let l : statement_taken structures y ≡ y = cc in
         let z = none_of_both (condition_faults g e ++ statement_faults g c x) (statement_faults g c y) p in
         let w = none_of_both (condition_faults g e) (statement_faults g c x) z.0 in
-        let a = condition_good e g h i o.0 w.0 in
-        let b = statement_good x g c r k f h j o.1.0 w.1 in
-        let d = statement_good y g c r k f h l o.1.1 z.1 in (
-          (a.judged, (b.0, d.0)),
-          λ i. (
-            a.takes (let j : taken thin_pointers e ≡ e = cc in j),
-            (b.1 (let j : statement_taken thin_pointers x ≡ x = cc in j), d.1 (let j : statement_taken thin_pointers y ≡ y = cc in j)),
-          ),
-        )
+        (condition_good e g h i o.0 w.0, (statement_good x g c r k f h j o.1.0 w.1, statement_good y g c r k f h l o.1.1 z.1))
     statement_good (Statement.While at e x) g c r k f h t o p =
         let i : taken structures e ≡ e = cc in
         let j : statement_taken structures x ≡ x = cc in
         let z = none_of_both (condition_faults g e) (statement_faults (in_a_loop g) c x) p in
-        let a = condition_good e g h i o.0 z.0 in
-        let b = statement_good x (in_a_loop g) c r k f (good_loop g h) j o.1 z.1 in (
-          (a.judged, b.0),
-          λ i. (
-            a.takes (let j : taken thin_pointers e ≡ e = cc in j),
-            b.1 (let j : statement_taken thin_pointers x ≡ x = cc in j),
-          ),
-        )
+        (condition_good e g h i o.0 z.0, statement_good x (in_a_loop g) c r k f (good_loop g h) j o.1 z.1)
     statement_good (Statement.Switch at e cs) g c r k f h t o p = absurd cc
-    statement_good (Statement.Break at) g c r k f h t o p = (test_is (g.in_loop || g.in_switch) type_rule at p, λ i. tt)
-    statement_good (Statement.Continue at) g c r k f h t o p = (test_is g.in_loop type_rule at p, λ i. tt)
+    statement_good (Statement.Break at) g c r k f h t o p = test_is (g.in_loop || g.in_switch) type_rule at p
+    statement_good (Statement.Continue at) g c r k f h t o p = test_is g.in_loop type_rule at p
     statement_good (Statement.Return at None) g c r k f h t o p =
-        let e = nothing_returned g at r k (subst (λ z. returned g at z None ≡ []) f p) in (f ∙ ap (λ z. Some z) e, λ i. ap (λ z. shape_of z) e)
+        f ∙ ap (λ z. Some z) (nothing_returned g at r k (subst (λ z. returned g at z None ≡ []) f p))
     statement_good (Statement.Return at (Some e)) g c r k f h t o p =
-        let i : taken structures e ≡ e = cc in let a = return_good e g at r k f h i o p in
-        (a.judged, λ i. a.takes (let j : taken thin_pointers e ≡ e = cc in j))
+        let i : taken structures e ≡ e = cc in return_good e g at r k f h i o p
     statement_good (Statement.FreeUnique at x) g c r k f h t o p = absurd cc
     statement_good (Statement.FreeKey at x) g c r k f h t o p = absurd cc
 
     pub items_good : (x : BlockItems) (g : Env) (c : Bool) (r : StaticType) → IsPlain r → g.result ≡ Some r → IsGood g → items_taken structures x ≡ x
         → ItemsHaveOperands x
         → items_faults g c x ≡ []
-        → GoodItems g r x
-    items_good NoItems g c r k f h t o p = (tt, λ i. tt)
+        → ItemsJudged g x
+    items_good NoItems g c r k f h t o p = tt
     items_good (Declare d others) g c r k f h t o p =
         let i : declaration_taken structures d ≡ d = cc in
         let j : items_taken structures others ≡ others = cc in
         let z = none_of_both (declare g d).faults (items_faults (declare g d).scope c others) p in
         let a = declaration_good expressions d g h i o.0 z.0 in
-        let b = items_good others (declare g d).scope c r k (a.result ∙ f) a.good j o.1 z.1 in (
-          (a.judged, b.0),
-          λ i. (
-            a.takes (let j : declaration_taken thin_pointers d ≡ d = cc in j),
-            b.1 (let j : items_taken thin_pointers others ≡ others = cc in j),
-          ),
-        )
+        (a.judged, items_good others (declare g d).scope c r k (a.result ∙ f) a.good j o.1 z.1)
     items_good (Execute x others) g c r k f h t o p =
         let i : statement_taken structures x ≡ x = cc in
         let j : items_taken structures others ≡ others = cc in
         let d : Bool = c && (ways_of x).falls in
         let z = none_of_both (statement_faults g c x) (items_faults g d others) p in
-        let a = statement_good x g c r k f h i o.0 z.0 in
-        let b = items_good others g d r k f h j o.1 z.1 in (
-          (a.0, b.0),
-          λ i. (
-            a.1 (let j : statement_taken thin_pointers x ≡ x = cc in j),
-            b.1 (let j : items_taken thin_pointers others ≡ others = cc in j),
-          ),
-        )
+        (statement_good x g c r k f h i o.0 z.0, items_good others g d r k f h j o.1 z.1)
 
   -- the body of each function in which the rules find no fault
   pub bodies_judged : BodiesJudged
-  bodies_judged items g gives h f k t o p = let a = items_good items g true gives k f h t o p in record { judged = a.0; takes = a.1 }
+  bodies_judged items g gives h f k t o p = items_good items g true gives k f h t o p

@@ -1,10 +1,9 @@
--- A declaration of a local without fault, where all is known of each name in scope: it is in order, lowering takes it, and all is known after it.
+-- A declaration of a local without fault, where all is known of each name in scope: it is in order, and all is known after it.
 use Rattle.std.proofs.Common.{◌≡◌, ℕ, Bool, true, false, None, [], refl, sym, subst, ap, ◌∙◌}
 use Rattle.std.specs.Prelude.{◌&&◌, ◌++◌}
 use Rattle.cyc_tree.specs.Operands.{DeclarationHasOperands, ExpressionHasOperands}
 use Rattle.cyc_tree.specs.Tree as tree
 use Rattle.cyc_tree.specs.Tree.{Expression, Initializer, TypeName}
-use Rattle.source_lowering.specs.Taken.{TakesDeclaration}
 use Rattle.source_safety.proofs.WithRegions.{regions_more}
 use Rattle.source_safety.specs.Judged.{Accepted, DeclarationJudged, extended}
 use Rattle.source_typing.specs.Conversions.{conversion, converts}
@@ -19,7 +18,6 @@ use Rattle.source_typing.specs.Taken.{
   taken,
   takes_initializer,
   takes_type,
-  thin_pointers,
 }
 use Rattle.source_typing.specs.Taken.{structures}
 use Rattle.source_typing.specs.Types.{StaticType}
@@ -29,14 +27,14 @@ use Rattle.source_typing.proofs.Inversion.{none_of_both}
 use Rattle.judged_sources.specs.Good.{ExpressionsJudged, IsGood, IsGoodValue, Surely}
 use Rattle.judged_sources.proofs.Sure.{surely_is}
 use Rattle.judged_sources.proofs.GoodScopes.{good_local, one_more}
-use Rattle.judged_sources.proofs.GoodLocals.{IsLocalType, local_begins, local_first, local_shape, set_good, unset_good}
+use Rattle.judged_sources.proofs.GoodLocals.{IsLocalType, local_begins, local_shape, set_good, unset_good}
 
 -- ---- expressions
 
 -- an expression without fault
 pub record GoodExpression (g : Env) (e : Expression) : Type 0 where
   pub accepted : Accepted g e
-  pub good : IsGoodValue g e accepted.value
+  pub good : IsGoodValue g accepted.value
 
 -- what is converted without fault
 pub converted_is : (g : Env) (v : Value) (t : StaticType) → converts g v t ≡ [] → Converts g.regions v.type t
@@ -46,8 +44,8 @@ module _ (expressions : ExpressionsJudged) where
   pub expression_good : (e : Expression) (g : Env) → IsGood g → taken structures e ≡ e → ExpressionHasOperands e → faults_of (judge g e) ≡ []
       → GoodExpression g e
   expression_good e g h t o p =
-      let s : Surely (λ v. IsGoodValue g e v) (judge g e) = subst (λ z. Surely (λ v. IsGoodValue g z v) (judge g z)) t (expressions e g h) in
-      let z = surely_is (λ v. IsGoodValue g e v) (judge g e) s p in
+      let s : Surely (λ v. IsGoodValue g v) (judge g e) = subst (λ z. Surely (λ v. IsGoodValue g v) (judge g z)) t (expressions e g h) in
+      let z = surely_is (λ v. IsGoodValue g v) (judge g e) s p in
       record { accepted = record { value = z.0; judged = z.1; is_taken = regions_more e t; operands = o }; good = z.2 }
 
 -- ---- what is in scope after a declaration
@@ -55,35 +53,18 @@ module _ (expressions : ExpressionsJudged) where
 -- a declaration that is in order, and what is known after it
 pub record GoodDeclaration (g : Env) (d : tree.Declaration) : Type 0 where
   pub judged : DeclarationJudged g d
-  pub takes : declaration_taken thin_pointers d ≡ d → TakesDeclaration d
   pub good : IsGood (declare g d).scope
   pub result : (declare g d).scope.result ≡ g.result
 
 -- ---- what isn't taken is at fault
 
 -- a local that isn't taken would be at fault
-local_taken : (b : Bool) (g : Env) (at : ℕ) (d e : tree.Declaration) → declared_if b at d ≡ e → (declare g e).faults ≡ [] → b ≡ true
+pub local_taken : (b : Bool) (g : Env) (at : ℕ) (d e : tree.Declaration) → declared_if b at d ≡ e → (declare g e).faults ≡ [] → b ≡ true
 local_taken true g at d e p q = refl
 local_taken false g at d e p q = absurd (by (subst (λ z. (declare g z).faults ≡ []) (sym p) q))
   where
     by : (declare g (declared_if false at d)).faults ≡ [] → ⊥
     by h = cc
-
--- the type of a local without structs
-local_thin : (g : Env) (t : TypeName) (x : tree.Name) (i : Initializer) → declaration_taken thin_pointers (tree.Local t x i) ≡ tree.Local t x i
-    → (declare g (tree.Local t x i)).faults ≡ [] → takes_type thin_pointers t ≡ true
-local_thin g t x i e p =
-    (and_is (takes_type thin_pointers t) (takes_initializer thin_pointers i)
-    (local_taken (takes_type thin_pointers t && takes_initializer thin_pointers i) g t.at (tree.Local t x (initializer_taken thin_pointers i)) (tree.Local t x i)
-    e p)).0
-
-value_thin : (t : TypeName) (x : tree.Name) (e : Expression) → takes_type thin_pointers t ≡ true
-    → declaration_taken thin_pointers (tree.Local t x (Initializer.Value e)) ≡ tree.Local t x (Initializer.Value e) → taken thin_pointers e ≡ e
-value_thin t x e k i =
-    let d : tree.Declaration = tree.Local t x (Initializer.Value (taken thin_pointers e)) in
-    let j : declared_if true t.at d ≡ tree.Local t x (Initializer.Value e) =
-    subst (λ b. declared_if (b && true) t.at d ≡ tree.Local t x (Initializer.Value e)) k i in
-    cc
 
 -- ---- locals
 
@@ -97,8 +78,6 @@ unset_declared g t x h e p =
     ap (λ v. with_local x (what_of g.frame None v) g) z.1 ∙ one_more x z.0 g f.1 in
     record {
       judged = record { type = z.0; object = z.2.object; below = z.2.below; begins = local_begins g t z.0 z.2; shape = z.2.shape; scope = scope };
-      takes = λ i.
-          let k : takes_type thin_pointers t ≡ true = local_thin g t x Initializer.Unset i p in (z.2.taken k, local_first g t z.0 z.2 k);
       good = subst (λ s. IsGood s) (sym scope) (good_local x z.0 g z.2.object z.2.below h);
       result = ap (λ (s : Env). s.result) scope;
     }
@@ -107,9 +86,8 @@ unset_declared g t x h e p =
 set_declared : (g : Env) (t : TypeName) (x : tree.Name) (e : Expression) → IsGood g → takes_type structures t ≡ true → GoodExpression g e
     → set_faults g (judge g e) (set_type g t (judge g e)) ≡ []
     → second g x ≡ []
-    → (declare g (tree.Local t x (Initializer.Value e))).faults ≡ []
     → GoodDeclaration g (tree.Local t x (Initializer.Value e))
-set_declared g t x e h k a p q r =
+set_declared g t x e h k a p q =
     let v : Value = a.accepted.value in
     let f : set_faults g (Of v) (set_type g t (Of v)) ≡ [] = subst (λ w. set_faults g w (set_type g t w) ≡ []) a.accepted.judged p in
     let b = none_of_both (faults_of (set_type g t (Of v)) ++ []) (converted_to g (Of v) (set_type g t (Of v))) f in
@@ -129,10 +107,6 @@ set_declared g t x e h k a p q r =
         shape = local_shape g t z.0 v.type z.2 a.good.type;
         scope = scope;
       };
-      takes = λ i. (
-        z.2.taken (local_thin g t x (Initializer.Value e) i r),
-        a.good.takes (value_thin t x e (local_thin g t x (Initializer.Value e) i r) i),
-      );
       good = subst (λ s. IsGood s) (sym scope) (good_local x z.0 g z.2.object z.2.below h);
       result = ap (λ (s : Env). s.result) scope;
     }
@@ -149,7 +123,7 @@ module _ (expressions : ExpressionsJudged) where
       let a = none_of_both (set_faults g v (set_type g t v)) (second g x) p in
       let b = none_of_both (faults_of (set_type g t v) ++ faults_of v) (converted_to g v (set_type g t v)) a.0 in
       let c = none_of_both (faults_of (set_type g t v)) (faults_of v) b.0 in
-      set_declared g t x e h k (expression_good expressions e g h j o c.1) a.0 a.1 p
+      set_declared g t x e h k (expression_good expressions e g h j o c.1) a.0 a.1
 
   pub declaration_good : (d : tree.Declaration) (g : Env) → IsGood g → declaration_taken structures d ≡ d → DeclarationHasOperands d
       → (declare g d).faults ≡ []

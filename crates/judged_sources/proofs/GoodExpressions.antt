@@ -4,7 +4,6 @@ use Rattle.std.specs.Prelude.{◌&&◌}
 use Rattle.cyc_tree.specs.declared.expression.Operator.{Operator}
 use Rattle.cyc_tree.specs.Tree.{Arrow, Dot, Expression, Expressions, Index, Links, MoreExpressions, MoreLinks, Name, NoExpressions, NoLinks, NoSuffixes}
 use Rattle.cyc_tree.specs.Tree.{Suffixes}
-use Rattle.source_lowering.specs.Taken.{TakesAll, TakesLinks}
 use Rattle.source_meaning.specs.Calls.{number_type}
 use Rattle.source_meaning.specs.Expressions.{is_unique_region}
 use Rattle.source_typing.specs.Calls.{called, target}
@@ -15,7 +14,7 @@ use Rattle.source_typing.specs.Places.{arrow, assigned, grouped, member, variabl
 use Rattle.source_typing.specs.Scope.{Env, Local, Nowhere, Value, in_scope, meant, value, with_locals}
 use Rattle.source_typing.specs.Tables.{Tables}
 use Rattle.source_safety.specs.Named.{TypeBelow}
-use Rattle.source_typing.specs.Taken.{all_taken, if_taken, links_taken, made_taken, taken, takes_handle, takes_made, suffixes_taken, takes_prefix, takes_suffixes, thin_pointers}
+use Rattle.source_typing.specs.Taken.{all_taken, if_taken, links_taken, made_taken, taken, takes_handle, takes_made, suffixes_taken, takes_prefix, takes_suffixes}
 use Rattle.source_typing.specs.Taken.{structures}
 use Rattle.source_typing.specs.Types.{Char, Null}
 use Rattle.source_typing.specs.Verdicts.{Verdict, after, both}
@@ -35,25 +34,12 @@ use Rattle.judged_sources.proofs.GoodNames.{
   variable_judged,
 }
 use Rattle.judged_sources.proofs.GoodOperators.{applied_judged, both_tested_judged, integer_judged, object_value}
-use Rattle.judged_sources.proofs.GoodPlaces.{TakesThin, arrow_judged, assigned_judged, member_judged, placed, prefixed_judged, valued}
+use Rattle.judged_sources.proofs.GoodPlaces.{arrow_judged, assigned_judged, member_judged, placed, prefixed_judged, valued}
 use Rattle.judged_sources.proofs.Sure.{surely_after, surely_also, surely_both}
 
 -- an expression of the forms that are taken
 abbrev kept : Expression → Expression
 kept e = taken structures e
-
--- all arguments, and all links, are taken by lowering where there are no structs
-abbrev TakesThinAll : Expressions → Type 0
-TakesThinAll es = all_taken thin_pointers es ≡ es → TakesAll es
-
-abbrev TakesThinLinks : Links → Type 0
-TakesThinLinks es = links_taken thin_pointers es ≡ es → TakesLinks es
-
-all_thin : (e : Expression) (es : Expressions) → TakesThin e → TakesThinAll es → TakesThinAll (MoreExpressions e es)
-all_thin e es h k i = let a : taken thin_pointers e ≡ e = cc in let b : all_taken thin_pointers es ≡ es = cc in (h a, k b)
-
-links_thin : (o : Operator) (e : Expression) (es : Links) → TakesThin e → TakesThinLinks es → TakesThinLinks (MoreLinks o e es)
-links_thin o e es h k i = let a : taken thin_pointers e ≡ e = cc in let b : links_taken thin_pointers es ≡ es = cc in (h a, k b)
 
 -- what is known of the names in scope is known of the program's names
 behind_locals : (n : ℕ) (ls : List Local) (g : Tables) → AllGood n (with_locals ls g) → AllGood n g
@@ -66,7 +52,7 @@ tables_good g h = behind_locals g.regions.count g.locals g.tables h.names
 module _ (g : Env) (good : IsGood g) where
   -- an expression is at fault, or it is in order
   abbrev Judged : Expression → Type 0
-  Judged e = Surely (λ v. IsGoodValue g e v) (judge g e)
+  Judged e = Surely (λ v. IsGoodValue g v) (judge g e)
 
   -- ---- forms that are not taken
 
@@ -80,53 +66,43 @@ module _ (g : Env) (good : IsGood g) where
 
   -- ---- operands that are joined from the left
 
-  -- what they give, where this holds of them
-  abbrev Joined : Type 0 → Value → Type 0
-  Joined T v = T × IsGoodResult g.regions.count v
+  -- what is known of the first of them, and of what some of them give
+  abbrev Begun : Value → Type 0
+  Begun v = IsValueType v.type
 
-  -- and what another operand may be joined to
-  abbrev Begun : Type 0 → Value → Type 0
-  Begun T v = T × IsValueType v.type
+  abbrev Joined : Value → Type 0
+  Joined v = IsGoodResult g.regions.count v
 
-  begun : (e : Expression) → Judged e → Surely (λ w. Begun (TakesThin e) w) (judge g e)
-  begun e h = surely_also (λ w. IsGoodValue g e w) (λ w. Begun (TakesThin e) w) (judge g e) h (λ w k. (k.takes, k.type))
+  begun : (e : Expression) → Judged e → Surely (λ w. Begun w) (judge g e)
+  begun e h = surely_also (λ w. IsGoodValue g w) (λ w. Begun w) (judge g e) h (λ w k. k.type)
 
-  still_begun : (T : Type 0) (v : Verdict Value) → Surely (λ w. Joined T w) v → Surely (λ w. Begun T w) v
-  still_begun T v h = surely_also (λ w. Joined T w) (λ w. Begun T w) v h (λ w k. (k.0, k.1.type))
+  still_begun : (v : Verdict Value) → Surely (λ w. Joined w) v → Surely (λ w. Begun w) v
+  still_begun v h = surely_also (λ w. Joined w) (λ w. Begun w) v h (λ w k. k.type)
 
-  tested_more : (T : Type 0) (v : Verdict Value) (y : Expression) → Surely (λ w. Begun T w) v → Judged y
-      → Surely (λ w. Joined (T × TakesThin y) w) (both v (judge g y) tested_both)
-  tested_more T v y h l =
-      surely_both (λ w. Begun T w) (λ w. IsGoodValue g y w) (λ w. Joined (T × TakesThin y) w) v (judge g y) tested_both h l
-      (λ a b c d. surely_also (λ w. IsGoodResult g.regions.count w) (λ w. Joined (T × TakesThin y) w) (tested_both a b)
-      (both_tested_judged g.regions.count a b) (λ w r. ((c.0, d.takes), r)))
+  tested_more : (v : Verdict Value) (y : Expression) → Surely (λ w. Begun w) v → Judged y → Surely (λ w. Joined w) (both v (judge g y) tested_both)
+  tested_more v y h l =
+      surely_both (λ w. Begun w) (λ w. IsGoodValue g w) (λ w. Joined w) v (judge g y) tested_both h l (λ a b c d. both_tested_judged g.regions.count a b)
 
-  applied_more : (o : Operator) (T : Type 0) (v : Verdict Value) (y : Expression) → Surely (λ w. Begun T w) v → Judged y
-      → Surely (λ w. Joined (T × TakesThin y) w) (both v (judge g y) (applied g o))
-  applied_more o T v y h l =
-      surely_both (λ w. Begun T w) (λ w. IsGoodValue g y w) (λ w. Joined (T × TakesThin y) w) v (judge g y) (applied g o) h l
-      (λ a b c d. surely_also (λ w. IsGoodResult g.regions.count w) (λ w. Joined (T × TakesThin y) w) (applied g o a b)
-      (applied_judged g.regions.count g o a.at a.type b.type c.1 d.type) (λ w r. ((c.0, d.takes), r)))
+  applied_more : (o : Operator) (v : Verdict Value) (y : Expression) → Surely (λ w. Begun w) v → Judged y
+      → Surely (λ w. Joined w) (both v (judge g y) (applied g o))
+  applied_more o v y h l =
+      surely_both (λ w. Begun w) (λ w. IsGoodValue g w) (λ w. Joined w) v (judge g y) (applied g o) h l
+      (λ a b c d. applied_judged g.regions.count g o a.at a.type b.type c d.type)
 
   -- ---- names and calls
 
   variable_good : (x : Name) → Judged (Expression.Variable x)
   variable_good x =
-      surely_also (λ v. IsGoodPlace g.regions.count v) (λ v. IsGoodValue g (Expression.Variable x) v) (variable x.at (meant g x.text))
-      (variable_judged g.regions.count x.at (meant g x.text) (found_good g.regions.count (in_scope g) x.text good.names))
-      (λ v h. placed g (Expression.Variable x) v (λ i. tt) (λ i. tt) h)
+      surely_also (λ v. IsGoodPlace g.regions.count v) (λ v. IsGoodValue g v) (variable x.at (meant g x.text))
+      (variable_judged g.regions.count x.at (meant g x.text) (found_good g.regions.count (in_scope g) x.text good.names)) (placed g)
 
-  -- arguments that lowering takes, whose types speak of regions in scope
-  abbrev Arguments : Expressions → List Value → Type 0
-  Arguments es vs = TakesThinAll es × ValuesBelow g.regions.count vs
-
-  call_good : (x : Name) (es : Expressions) → Surely (λ (vs : List Value). Arguments es vs) (judge_all g es) → Judged (Expression.Call x es)
+  call_good : (x : Name) (es : Expressions) → Surely (λ (vs : List Value). ValuesBelow g.regions.count vs) (judge_all g es) → Judged (Expression.Call x es)
   call_good x es h =
-      surely_both (λ u. IsGoodTarget u) (λ (vs : List Value). Arguments es vs) (λ v. IsGoodValue g (Expression.Call x es) v)
-      (target x.at (meant g x.text)) (judge_all g es) (called g x.at)
+      surely_both (λ u. IsGoodTarget u) (λ (vs : List Value). ValuesBelow g.regions.count vs) (λ v. IsGoodValue g v) (target x.at (meant g x.text))
+      (judge_all g es) (called g x.at)
       (target_judged g.regions.count x.at (meant g x.text) (found_good g.regions.count (in_scope g) x.text good.names)) h
-      (λ u vs c d. surely_also (λ v. IsGoodResult g.regions.count v) (λ v. IsGoodValue g (Expression.Call x es) v) (called g x.at u vs)
-      (called_judged g x.at u vs good.enclosing c d.1) (λ v r. valued g (Expression.Call x es) v (λ i. d.0 (let j : all_taken thin_pointers es ≡ es = cc in j)) r))
+      (λ u vs c d. surely_also (λ v. IsGoodResult g.regions.count v) (λ v. IsGoodValue g v) (called g x.at u vs)
+      (called_judged g x.at u vs good.enclosing c d) (valued g))
 
   -- ---- several operands
 
@@ -139,48 +115,34 @@ module _ (g : Env) (good : IsGood g) where
   LinksJudged NoLinks = Unit {0}
   LinksJudged (MoreLinks o e es) = Judged e × LinksJudged es
 
-  arguments_good : (es : Expressions) → AllJudged es → Surely (λ (vs : List Value). Arguments es vs) (judge_all g es)
-  arguments_good NoExpressions h = (λ i. tt, tt)
+  -- the types of arguments speak of regions in scope
+  arguments_good : (es : Expressions) → AllJudged es → Surely (λ (vs : List Value). ValuesBelow g.regions.count vs) (judge_all g es)
+  arguments_good NoExpressions h = tt
   arguments_good (MoreExpressions e es) h =
-      surely_both (λ v. IsGoodValue g e v) (λ (vs : List Value). Arguments es vs) (λ (vs : List Value). Arguments (MoreExpressions e es) vs) (judge g e)
-      (judge_all g es) more h.0 (arguments_good es h.1) (λ v vs c d. (all_thin e es c.takes d.0, (c.below, d.1)))
+      surely_both (λ v. IsGoodValue g v) (λ (vs : List Value). ValuesBelow g.regions.count vs) (λ (vs : List Value). ValuesBelow g.regions.count vs)
+      (judge g e) (judge_all g es) more h.0 (arguments_good es h.1) (λ v vs c d. (c.below, d))
 
   -- the operands behind the first two
-  tests_good : (es : Expressions) (T : Type 0) (v : Verdict Value) → AllJudged es → Surely (λ w. Joined T w) v
-      → Surely (λ w. Joined (T × TakesThinAll es) w) (judge_tests g v es)
-  tests_good NoExpressions T v h c =
-      surely_also (λ w. Joined T w) (λ w. Joined (T × TakesThinAll NoExpressions) w) v c (λ w d. ((d.0, λ i. tt), d.1))
-  tests_good (MoreExpressions e es) T v h c =
-      let w : Verdict Value = both v (judge g e) tested_both in
-      surely_also (λ z. Joined ((T × TakesThin e) × TakesThinAll es) z) (λ z. Joined (T × TakesThinAll (MoreExpressions e es)) z) (judge_tests g w es)
-      (tests_good es (T × TakesThin e) w h.1 (tested_more T v e (still_begun T v c) h.0)) (λ z d. ((d.0.0.0, all_thin e es d.0.0.1 d.0.1), d.1))
+  tests_good : (es : Expressions) (v : Verdict Value) → AllJudged es → Surely (λ w. Joined w) v → Surely (λ w. Joined w) (judge_tests g v es)
+  tests_good NoExpressions v h c = c
+  tests_good (MoreExpressions e es) v h c = tests_good es (both v (judge g e) tested_both) h.1 (tested_more v e (still_begun v c) h.0)
 
-  links_good : (es : Links) (T : Type 0) (v : Verdict Value) → LinksJudged es → Surely (λ w. Joined T w) v
-      → Surely (λ w. Joined (T × TakesThinLinks es) w) (judge_links g v es)
-  links_good NoLinks T v h c =
-      surely_also (λ w. Joined T w) (λ w. Joined (T × TakesThinLinks NoLinks) w) v c (λ w d. ((d.0, λ i. tt), d.1))
-  links_good (MoreLinks o e es) T v h c =
-      let w : Verdict Value = both v (judge g e) (applied g o) in
-      surely_also (λ z. Joined ((T × TakesThin e) × TakesThinLinks es) z) (λ z. Joined (T × TakesThinLinks (MoreLinks o e es)) z) (judge_links g w es)
-      (links_good es (T × TakesThin e) w h.1 (applied_more o T v e (still_begun T v c) h.0)) (λ z d. ((d.0.0.0, links_thin o e es d.0.0.1 d.0.1), d.1))
+  links_good : (es : Links) (v : Verdict Value) → LinksJudged es → Surely (λ w. Joined w) v → Surely (λ w. Joined w) (judge_links g v es)
+  links_good NoLinks v h c = c
+  links_good (MoreLinks o e es) v h c = links_good es (both v (judge g e) (applied g o)) h.1 (applied_more o v e (still_begun v c) h.0)
 
   -- two operands and others, of operators and of tests
   chain_good : (e : Expression) (o : Operator) (y : Expression) (es : Links) → Judged e → LinksJudged (MoreLinks o y es)
       → Judged (Expression.Chain e (MoreLinks o y es))
   chain_good e o y es h k =
       let v : Verdict Value = both (judge g e) (judge g y) (applied g o) in
-      surely_also (λ w. Joined ((TakesThin e × TakesThin y) × TakesThinLinks es) w) (λ w. IsGoodValue g (Expression.Chain e (MoreLinks o y es)) w) (judge_links g v es)
-      (links_good es (TakesThin e × TakesThin y) v k.1 (applied_more o (TakesThin e) (judge g e) y (begun e h) k.0))
-      (λ w c. valued g (Expression.Chain e (MoreLinks o y es)) w
-      (λ i. let a : taken thin_pointers e ≡ e = cc in let b : links_taken thin_pointers (MoreLinks o y es) ≡ MoreLinks o y es = cc in
-      (c.0.0.0 a, links_thin o y es c.0.0.1 c.0.1 b)) c.1)
+      surely_also (λ w. Joined w) (λ w. IsGoodValue g w) (judge_links g v es) (links_good es v k.1 (applied_more o (judge g e) y (begun e h) k.0)) (valued g)
 
-  tests_joined : (x e y : Expression) (es : Expressions) → (TakesThin e → TakesThinAll (MoreExpressions y es) → TakesThin x) → Judged e
-      → AllJudged (MoreExpressions y es) → Surely (λ w. IsGoodValue g x w) (judge_tests g (judge g e) (MoreExpressions y es))
-  tests_joined x e y es t h k =
+  tests_joined : (e y : Expression) (es : Expressions) → Judged e → AllJudged (MoreExpressions y es)
+      → Surely (λ w. IsGoodValue g w) (judge_tests g (judge g e) (MoreExpressions y es))
+  tests_joined e y es h k =
       let v : Verdict Value = both (judge g e) (judge g y) tested_both in
-      surely_also (λ w. Joined ((TakesThin e × TakesThin y) × TakesThinAll es) w) (λ w. IsGoodValue g x w) (judge_tests g v es)
-      (tests_good es (TakesThin e × TakesThin y) v k.1 (tested_more (TakesThin e) (judge g e) y (begun e h) k.0)) (λ w c. valued g x w (t c.0.0.0 (all_thin y es c.0.0.1 c.0.1)) c.1)
+      surely_also (λ w. Joined w) (λ w. IsGoodValue g w) (judge_tests g v es) (tests_good es v k.1 (tested_more (judge g e) y (begun e h) k.0)) (valued g)
 
   -- ---- suffixes
 
@@ -190,8 +152,8 @@ module _ (g : Env) (good : IsGood g) where
     below : TypeBelow g.regions.count v.type
     seat : SeatBelow g.regions.count v.seat
 
-  suffixable : (e : Expression) (v : Value) → IsGoodValue g e v → IsSuffixable v
-  suffixable e v h = record { type = h.type; below = h.below; seat = h.seat }
+  suffixable : (v : Value) → IsGoodValue g v → IsSuffixable v
+  suffixable v h = record { type = h.type; below = h.below; seat = h.seat }
 
   placed_suffixable : (v : Value) → IsGoodPlace g.regions.count v → IsSuffixable v
   placed_suffixable v h = record { type = object_value v.type h.type; below = h.below; seat = h.seat }
@@ -223,33 +185,24 @@ module _ (g : Env) (good : IsGood g) where
       (surely_after (λ w. IsSuffixable w) (λ w. IsGoodPlace g.regions.count w) v (arrow g f) h
       (λ a k. arrow_judged g f a.at a.type (tables_good g good) k.type k.below))
 
-  -- lowering takes none of them without structs
-  suffixed_thin : (e : Expression) (es : Suffixes) → AreSuffixed es → taken thin_pointers (Expression.Suffixed e es) ≡ Expression.Suffixed e es → ⊥
-  suffixed_thin e NoSuffixes s i = s
-  suffixed_thin e (Index index others) s i = cc
-  suffixed_thin e (Dot f others) s i = cc
-  suffixed_thin e (Arrow f others) s i = cc
-
-  suffixed_judged : (b : Bool) (at : ℕ) (e : Expression) (es : Suffixes) → AreSuffixed es
+  suffixed_judged : (b : Bool) (at : ℕ) (e : Expression) (es : Suffixes)
       → (b ≡ true → Surely (λ w. IsGoodPlace g.regions.count w) (judge g (Expression.Suffixed e es))) → Judged (if_taken b at (Expression.Suffixed e es))
-  suffixed_judged true at e es s h =
-      surely_also (λ w. IsGoodPlace g.regions.count w) (λ w. IsGoodValue g (Expression.Suffixed e es) w) (judge g (Expression.Suffixed e es)) (h refl)
-      (λ w k. placed g (Expression.Suffixed e es) w (λ i. absurd (suffixed_thin e es s i)) (λ i. absurd (suffixed_thin e es s i)) k)
-  suffixed_judged false at e es s h = tt
+  suffixed_judged true at e es h =
+      surely_also (λ w. IsGoodPlace g.regions.count w) (λ w. IsGoodValue g w) (judge g (Expression.Suffixed e es)) (h refl) (placed g)
+  suffixed_judged false at e es h = tt
 
   -- ---- expressions
 
   mutual
     pub expression_judged : (e : Expression) → Judged (kept e)
     expression_judged (Expression.Number at n suffix) =
-        surely_also (λ v. IsGoodResult g.regions.count v) (λ v. IsGoodValue g (Expression.Number at n suffix) v) (value at (number_typed n suffix))
-        (integer_judged g.regions.count at (number_typed n suffix) (type_integer (number_type n suffix)))
-        (λ v r. valued g (Expression.Number at n suffix) v (λ i. tt) r)
+        surely_also (λ v. IsGoodResult g.regions.count v) (λ v. IsGoodValue g v) (value at (number_typed n suffix))
+        (integer_judged g.regions.count at (number_typed n suffix) (type_integer (number_type n suffix))) (valued g)
     expression_judged (Expression.Character at byte) =
-        valued g (Expression.Character at byte) (record { at = at; type = Char; seat = Nowhere }) (λ i. tt) (record { type = tt; below = tt; nowhere = refl })
+        valued g (record { at = at; type = Char; seat = Nowhere }) (record { type = tt; below = tt; nowhere = refl })
     expression_judged (Expression.Text at bytes) = tt
     expression_judged (Expression.Null at) =
-        valued g (Expression.Null at) (record { at = at; type = Null; seat = Nowhere }) (λ i. tt) (record { type = tt; below = tt; nowhere = refl })
+        valued g (record { at = at; type = Null; seat = Nowhere }) (record { type = tt; below = tt; nowhere = refl })
     expression_judged (Expression.HeapRegion at) = tt
     expression_judged (Expression.UniqueRegion at) = tt
     expression_judged (Expression.Variable x) = variable_good x
@@ -257,30 +210,22 @@ module _ (g : Env) (good : IsGood g) where
     expression_judged (Expression.MakeUnion tag f e) = tt
     expression_judged (Expression.NumElts at e) = tt
     expression_judged (Expression.Grouped at e) =
-        surely_after (λ v. IsGoodValue g (kept e) v) (λ v. IsGoodValue g (Expression.Grouped at (kept e)) v) (judge g (kept e)) (grouped at)
-        (expression_judged e)
-        (λ a h. record {
-          type = h.type;
-          below = h.below;
-          seat = h.seat;
-          object = h.object;
-          takes = λ i. h.takes (let j : taken thin_pointers (kept e) ≡ kept e = cc in j);
-          place = λ i. h.place (let j : taken thin_pointers (kept e) ≡ kept e = cc in j);
-        })
+        surely_after (λ v. IsGoodValue g v) (λ v. IsGoodValue g v) (judge g (kept e)) (grouped at) (expression_judged e)
+        (λ a h. record { type = h.type; below = h.below; seat = h.seat; object = h.object })
     expression_judged (Expression.Suffixed e NoSuffixes) = tt
     expression_judged (Expression.Suffixed e (Index index others)) = tt
     expression_judged (Expression.Suffixed e (Dot f others)) =
-        suffixed_judged (takes_suffixes structures (Dot f others)) (expression_place e) (kept e) (suffixes_taken structures (Dot f others)) tt
+        suffixed_judged (takes_suffixes structures (Dot f others)) (expression_place e) (kept e) (suffixes_taken structures (Dot f others))
         (λ b. suffixes_judged (Dot f others) (judge g (kept e)) b tt
-        (surely_also (λ v. IsGoodValue g (kept e) v) (λ v. IsSuffixable v) (judge g (kept e)) (expression_judged e) (λ v h. suffixable (kept e) v h)))
+        (surely_also (λ v. IsGoodValue g v) (λ v. IsSuffixable v) (judge g (kept e)) (expression_judged e) suffixable))
     expression_judged (Expression.Suffixed e (Arrow f others)) =
-        suffixed_judged (takes_suffixes structures (Arrow f others)) (expression_place e) (kept e) (suffixes_taken structures (Arrow f others)) tt
+        suffixed_judged (takes_suffixes structures (Arrow f others)) (expression_place e) (kept e) (suffixes_taken structures (Arrow f others))
         (λ b. suffixes_judged (Arrow f others) (judge g (kept e)) b tt
-        (surely_also (λ v. IsGoodValue g (kept e) v) (λ v. IsSuffixable v) (judge g (kept e)) (expression_judged e) (λ v h. suffixable (kept e) v h)))
+        (surely_also (λ v. IsGoodValue g v) (λ v. IsSuffixable v) (judge g (kept e)) (expression_judged e) suffixable))
     expression_judged (Expression.Prefixed at o e) =
         if_kept (takes_prefix structures o) at (Expression.Prefixed at o (kept e))
-        (surely_after (λ v. IsGoodValue g (kept e) v) (λ v. IsGoodValue g (Expression.Prefixed at o (kept e)) v) (judge g (kept e)) (prefixed g at o)
-        (expression_judged e) (λ a h. prefixed_judged g (kept e) at o a h))
+        (surely_after (λ v. IsGoodValue g v) (λ v. IsGoodValue g v) (judge g (kept e)) (prefixed g at o) (expression_judged e)
+        (λ a h. prefixed_judged g at o a h))
     expression_judged (Expression.New at new) = tt
     expression_judged (Expression.NewIn at handle new) =
         made_refused (is_unique_region handle) (takes_made structures new) at (Expression.NewIn at (kept handle) (made_taken structures new))
@@ -289,20 +234,13 @@ module _ (g : Env) (good : IsGood g) where
         chain_good (kept e) o (kept y) (links_taken structures es) (expression_judged e) (each_linked (MoreLinks o y es))
     expression_judged (Expression.AllOf e NoExpressions) = tt
     expression_judged (Expression.AllOf e (MoreExpressions y es)) =
-        tests_joined (kept (Expression.AllOf e (MoreExpressions y es))) (kept e) (kept y) (all_taken structures es)
-        (λ t u i. let a : taken thin_pointers (kept e) ≡ kept e = cc in
-        let b : all_taken thin_pointers (all_taken structures (MoreExpressions y es)) ≡ all_taken structures (MoreExpressions y es) = cc in (t a, u b))
-        (expression_judged e) (each_judged (MoreExpressions y es))
+        tests_joined (kept e) (kept y) (all_taken structures es) (expression_judged e) (each_judged (MoreExpressions y es))
     expression_judged (Expression.AnyOf e NoExpressions) = tt
     expression_judged (Expression.AnyOf e (MoreExpressions y es)) =
-        tests_joined (kept (Expression.AnyOf e (MoreExpressions y es))) (kept e) (kept y) (all_taken structures es)
-        (λ t u i. let a : taken thin_pointers (kept e) ≡ kept e = cc in
-        let b : all_taken thin_pointers (all_taken structures (MoreExpressions y es)) ≡ all_taken structures (MoreExpressions y es) = cc in (t a, u b))
-        (expression_judged e) (each_judged (MoreExpressions y es))
+        tests_joined (kept e) (kept y) (all_taken structures es) (expression_judged e) (each_judged (MoreExpressions y es))
     expression_judged (Expression.Assign a b) =
-        surely_both (λ w. IsGoodValue g (kept a) w) (λ w. IsGoodValue g (kept b) w) (λ w. IsGoodValue g (Expression.Assign (kept a) (kept b)) w)
-        (judge g (kept a)) (judge g (kept b)) (assigned g) (expression_judged a) (expression_judged b)
-        (λ u v c d. assigned_judged g (kept a) (kept b) u v c d.takes)
+        surely_both (λ w. IsGoodValue g w) (λ w. IsGoodValue g w) (λ w. IsGoodValue g w) (judge g (kept a)) (judge g (kept b)) (assigned g)
+        (expression_judged a) (expression_judged b) (λ u v c d. assigned_judged g u v c)
 
     each_judged : (es : Expressions) → AllJudged (all_taken structures es)
     each_judged NoExpressions = tt

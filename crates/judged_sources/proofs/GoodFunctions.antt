@@ -4,19 +4,13 @@ use Rattle.std.proofs.Common.{◌≡◌, ℕ, Bool, true, false, ◌⊎◌, inl,
 use Rattle.std.specs.Prelude.{◌&&◌, ◌+◌, ◌||◌, bytes_eq, codes, map, nat_eq, not}
 use Rattle.std.proofs.lemmas.Bool.{not-true}
 use Rattle.cyc_tree.specs.Operands.{ItemsHaveOperands}
-use Rattle.cyc_tree.specs.declared.name.Sign.{Sign}
-use Rattle.cyc_tree.specs.declared.name.Sign.TheVariants as sign
 use Rattle.cyc_tree.specs.Tree as tree
-use Rattle.cyc_tree.specs.Tree.{TypeName}
-use Rattle.source_lowering.specs.Taken as lowering
-use Rattle.source_lowering.specs.Taken.{AreThin, IsIntType, IsIntegerBase, IsThinSign, TakesItems}
 use Rattle.source_meaning.specs.Calls.{function_of}
 use Rattle.source_meaning.specs.Programs.{is_main, routine_of}
-use Rattle.source_meaning.specs.Shapes as shapes
-use Rattle.source_meaning.specs.Shapes.{IntShape, Owner, Part, Shape, ThinShape, has_tag, part_of}
+use Rattle.source_meaning.specs.Shapes.{Part, has_tag, part_of}
 use Rattle.source_meaning.specs.Steps.{World}
 use Rattle.source_safety.specs.Entries.{AreObjects, Function}
-use Rattle.source_safety.specs.Judged.{extended}
+use Rattle.source_safety.specs.Judged.{ItemsJudged, extended}
 use Rattle.source_safety.specs.Named.{AllBelow, BoundsBelow, TypeBelow, TypesBelow}
 use Rattle.source_safety.specs.Programs.{FunctionJudged, name_alone, with_all}
 use Rattle.source_typing.specs.Faults.{name_rule, own_after, test, type_rule}
@@ -26,15 +20,15 @@ use Rattle.source_typing.specs.Scope.{Env, at_item, is_second, with_local}
 use Rattle.source_typing.specs.Statements.{items_faults}
 use Rattle.source_typing.specs.Tables.{Arrayed, Counter, Entry, OfBuiltin, OfFunction, OfOther, OfTag, OfValue, Signature, Stored, Tables, Unknown}
 use Rattle.source_typing.specs.Tags.{is_named, repeated}
-use Rattle.source_typing.specs.Taken.{function_taken, items_taken, takes_type, thin_pointers, structures}
-use Rattle.source_typing.specs.Types.{Int, StaticType, Void, is_void, shape_of}
+use Rattle.source_typing.specs.Taken.{function_taken, structures}
+use Rattle.source_typing.specs.Types.{Int, StaticType, Void, is_void}
 use Rattle.source_typing.specs.Ways.{ways_of_items}
 use Rattle.source_typing.proofs.Inversion.{none_of_both, own_is, test_is}
-use Rattle.judged_sources.specs.Good.{AllGood, BodiesJudged, BodyJudged, IsGood, IsGoodEntry}
+use Rattle.judged_sources.specs.Good.{AllGood, BodiesJudged, IsGood, IsGoodEntry}
 use Rattle.judged_sources.proofs.GoodScopes.{good_local, one_more, regions_up}
-use Rattle.judged_sources.proofs.HeadTypes.{below_more, void_shape, object_more}
+use Rattle.judged_sources.proofs.HeadTypes.{below_more, object_more}
 use Rattle.judged_sources.proofs.GoodTypes.{good_tags}
-use Rattle.judged_sources.proofs.Heads.{AreThinTypes, HeadGood, head_good}
+use Rattle.judged_sources.proofs.Heads.{HeadGood, head_good}
 use Rattle.source_safety.proofs.Surroundings.{type_up}
 
 -- ---- the scope of its parameters
@@ -71,7 +65,7 @@ all_good (p ∷ ps) [] g w b h = h
 all_good (p ∷ ps) (t ∷ ts) g w b h =
     all_good ps ts (extended g (name_alone p.name) t) w.1 b.1 (good_local (name_alone p.name) t g w.0 b.0 h)
 
-all_result : (ps : List Part) (ts : List StaticType) (g : Env) → (with_all ps ts g).result ≡ g.result
+pub all_result : (ps : List Part) (ts : List StaticType) (g : Env) → (with_all ps ts g).result ≡ g.result
 all_result [] ts g = refl
 all_result (p ∷ ps) [] g = refl
 all_result (p ∷ ps) (t ∷ ts) g = all_result ps ts (extended g (name_alone p.name) t)
@@ -120,8 +114,9 @@ outside_good g i f a k =
 pub record FunctionGood (g : Tables) (i : ℕ) (f : tree.Function) : Type 0 where
   pub clean : (head_of false g f).faults ≡ []
   pub head : HeadGood g f
-  pub body : BodyJudged (with_all (map part_of f.parameters) head.signature.types (function_scope false g i (head_of false g f))) head.signature.gives f.body
+  pub body : ItemsJudged (with_all (map part_of f.parameters) head.signature.types (function_scope false g i (head_of false g f))) f.body
   pub end : end_reached f (head_of false g f) ≡ false
+  pub faults : items_faults (with_all (map part_of f.parameters) head.signature.types (function_scope false g i (head_of false g f))) true f.body ≡ []
 
 module _ (bodies : BodiesJudged) where
   pub function_good : (g : Tables) (i : ℕ) (f : tree.Function) → AllGood 0 g → function_taken structures f ≡ f → ItemsHaveOperands f.body
@@ -149,60 +144,8 @@ module _ (bodies : BodiesJudged) where
         body = bodies f.body all k.signature.gives scope (all_result (map part_of f.parameters) k.signature.types inside ∙ k.signature.result)
             k.signature.plain (ap (λ (z : tree.Function). z.body) t) o (subst (λ (z : Env). items_faults z true f.body ≡ []) same b.1);
         end = not-true (end_reached f h) (test_is (not (end_reached f h)) type_rule f.end b.0);
+        faults = subst (λ (z : Env). items_faults z true f.body ≡ []) same b.1;
       }
-
--- ---- what lowering takes
-
-abbrev IsPointer : Shape → Type 0
-IsPointer (ThinShape b o s) = Unit {0}
-IsPointer _ = ⊥
-
-sign_thin : (x : Sign) (o : Owner) (s : Shape) → IsThinSign x → IsPointer (shapes.signed_shape x o s)
-sign_thin sign.Nullable o s k = tt
-sign_thin sign.NotNull o s k = tt
-sign_thin sign.Fat o s k = absurd k
-
-no_int : (s : Shape) → IsPointer s → shapes.settled s ≡ IntShape → ⊥
-no_int (ThinShape b o s) h e = cc
-no_int _ h e = h
-
-int_type : (t : TypeName) → lowering.TakesResult t → shapes.settled (shapes.written t) ≡ IntShape → IsIntType t
-int_type t (lowering.GivesNothing v) e = absurd (no (sym (void_shape t v) ∙ e))
-  where
-    no : shapes.VoidShape ≡ IntShape → ⊥
-    no p = cc
-int_type t (lowering.GivesWord w) e = by t.base t.pointers w.base w.pointers e
-  where
-    -- a pointer to a pointer is one
-    thin : (ps : List tree.Pointer) (s : Shape) → AreThin ps → IsPointer s → IsPointer (shapes.pointed ps s)
-    thin [] s k h = h
-    thin (p ∷ ps) s k h = thin ps (shapes.signed_shape p.sign (shapes.owner_of p.region) s) k.1 (sign_thin p.sign (shapes.owner_of p.region) s k.0.0)
-
-    by : (b : tree.Base) (ps : List tree.Pointer) → IsIntegerBase b → AreThin ps
-        → shapes.settled (shapes.written (record { at = t.at; base = b; pointers = ps })) ≡ IntShape
-        → IsIntType (record { at = t.at; base = b; pointers = ps })
-    by tree.Int [] i k e = record { pointers = refl; base = refl }
-    by tree.Unsigned [] i k e = absurd cc
-    by tree.Char [] i k e = absurd cc
-    by _ [] i k e = absurd i
-    by b (p ∷ ps) i k e =
-        absurd (no_int (shapes.pointed (p ∷ ps) (shapes.base_shape b))
-        (thin ps (shapes.signed_shape p.sign (shapes.owner_of p.region) (shapes.base_shape b)) k.1
-        (sign_thin p.sign (shapes.owner_of p.region) (shapes.base_shape b) k.0.0)) e)
-
--- a function without structs
-pub record FunctionThin (f : tree.Function) : Type 0 where
-  pub parameters : AreThinTypes f.parameters
-  pub result : takes_type thin_pointers f.result ≡ true
-  pub body : items_taken thin_pointers f.body ≡ f.body
-
-pub function_takes : (g : Tables) (i : ℕ) (f : tree.Function) → FunctionGood g i f → FunctionThin f → lowering.TakesFunction f
-function_takes g i f k z = record {
-  result = k.head.result.taken z.result;
-  main = λ e. int_type f.result (k.head.result.taken z.result) (k.head.result.shape ∙ ap (λ (t : StaticType). shape_of t) (k.head.main_gives e));
-  parameters = k.head.parameters z.parameters;
-  body = subst (λ (s : Shape). TakesItems s f.body) (sym k.head.result.shape) (k.body.takes z.body);
-}
 
 -- ---- what its name means
 
@@ -283,6 +226,6 @@ function_judged world g i x s f n k =
       result = k.head.signature.result;
       no_loop = refl;
       no_switch = refl;
-      body = k.body.judged;
+      body = k.body;
       ends = ends g i f k;
     }

@@ -3,11 +3,6 @@
 use Rattle.std.proofs.Common.{◌≡◌, ℕ, Bool, true, false, Option, Some, None, [], ◌∷◌, refl, sym, subst, ap, ◌∙◌}
 use Rattle.std.specs.Prelude.{◌&&◌, ◌||◌}
 use Rattle.cyc_tree.specs.Tree.{TypeName}
-use Rattle.source_lowering.specs.Taken as lowering
-use Rattle.source_lowering.specs.Taken.{HasFirst}
-use Rattle.source_lowering.proofs.Integers.{IsWordShape}
-use Rattle.source_lowering.proofs.PlainShapes.{word_type}
-use Rattle.source_lowering.proofs.WrittenTypes.{word_settled}
 use Rattle.source_meaning.specs.Shapes as shapes
 use Rattle.source_meaning.specs.Shapes.{ThinShape}
 use Rattle.source_safety.specs.Entries.{IsObjectType}
@@ -18,8 +13,8 @@ use Rattle.source_typing.specs.Extents.{fits_bytes, variable_size}
 use Rattle.source_typing.specs.Missing.{as_type, filled_from, or_found, outer_region, pointee_of, settled, thin_with}
 use Rattle.source_typing.specs.Regions.{Region}
 use Rattle.source_typing.specs.Scope.{Env, Value, in_scope}
-use Rattle.source_typing.specs.Tables.{Tables, has_beginning}
-use Rattle.source_typing.specs.Taken.{takes_type, thin_pointers, structures}
+use Rattle.source_typing.specs.Tables.{has_beginning}
+use Rattle.source_typing.specs.Taken.{takes_type, structures}
 use Rattle.source_typing.specs.Types.{Handle, Char, Fat, Int, Null, PartialType, StaticType, Struct, Thin, Unique, Unsigned, Void, shape_of}
 use Rattle.source_typing.specs.Verdicts.{Of, after, if_fits}
 use Rattle.source_typing.specs.Written.{Found, Is, IsUnique, Missing}
@@ -27,7 +22,7 @@ use Rattle.source_typing.proofs.Converting.{and_is}
 use Rattle.judged_sources.specs.Good.{IsGood, IsValueType, Surely}
 use Rattle.judged_sources.proofs.Sure.{surely_after, surely_also}
 use Rattle.judged_sources.proofs.GoodOperators.{object_value}
-use Rattle.judged_sources.proofs.GoodTypes.{FoundBelow, IsPartialObject, IsWritten, RegionBelow, WordIfThin, WritesNothing, WritesObject, WrittenObject}
+use Rattle.judged_sources.proofs.GoodTypes.{FoundBelow, IsPartialObject, IsWritten, RegionBelow, WritesNothing, WritesObject, WrittenObject}
 use Rattle.judged_sources.proofs.GoodTypes.{good_tags, in_scope_good}
 use Rattle.judged_sources.proofs.Settling.{IsOpen, IsSharedShape, settled_same}
 
@@ -111,7 +106,6 @@ fitting_is g at count fits t = by (fits && can_be g count t) refl (fits_bytes (v
 pub record IsLocalType (g : Env) (of : TypeName) (set : Bool) (t : StaticType) : Type 0 where
   pub object : IsObjectType t
   pub below : TypeBelow g.regions.count t
-  pub taken : WordIfThin of
   pub unowned : IsOpen (shapes.written of)
   pub shape : shapes.settled (shapes.written of) ≡ shape_of t
   pub begins : set || has_beginning g.tables t ≡ true
@@ -127,7 +121,6 @@ object_local g of at set s p w k =
     (λ u h. subst (λ z. IsLocalType g of set z) (sym h.same) (record {
       object = f.object;
       below = f.below;
-      taken = w.taken;
       unowned = w.unowned;
       shape = w.shape ∙ sym f.shape;
       begins = h.fits_it;
@@ -172,21 +165,6 @@ set_good g t v h k b e =
 
 pub local_begins : (g : Env) (of : TypeName) (t : StaticType) → IsLocalType g of false t → has_beginning g.tables t ≡ true
 local_begins g of t h = h.begins
-
--- what begins has a first value in the lowering too, where there are no structs
-pub begins_first : (g : Tables) (of : TypeName) (t : StaticType) → IsObjectType t → lowering.IsWordType of → shapes.settled (shapes.written of) ≡ shape_of t
-    → has_beginning g t ≡ true → HasFirst (shape_of t)
-begins_first g of Int o w s e = tt
-begins_first g of Unsigned o w s e = tt
-begins_first g of Char o w s e = tt
-begins_first g of (Thin b r t) o w s e = subst (λ z. HasFirst (ThinShape z shapes.Shared (shape_of t))) (sym e) tt
-begins_first g of (Struct tag rs) o w s e = absurd (subst (λ z. IsWordShape z) s (word_settled of (word_type of w)))
-begins_first g of (Handle q) o w s e = absurd cc
-begins_first g of _ o w s e = absurd o
-
-pub local_first : (g : Env) (of : TypeName) (t : StaticType) → IsLocalType g of false t → takes_type thin_pointers of ≡ true
-    → HasFirst (shapes.settled (shapes.written of))
-local_first g of t h i = subst (λ z. HasFirst z) (sym h.shape) (begins_first g.tables of t h.object (h.taken i) h.shape h.begins)
 
 -- ---- shapes
 

@@ -4,8 +4,6 @@ use Rattle.std.specs.Prelude.{bytes_eq, if◌then◌else◌, map}
 use Rattle.cyc_tree.specs.declared.expression.Prefix.{Prefix}
 use Rattle.cyc_tree.specs.declared.expression.Prefix.TheVariants as prefix
 use Rattle.cyc_tree.specs.Tree as tree
-use Rattle.cyc_tree.specs.Tree.{Expression}
-use Rattle.source_lowering.specs.Taken.{Takes, TakesPlace}
 use Rattle.source_safety.specs.Entries.{AreObjects, IsObjectType}
 use Rattle.source_safety.specs.Named.{AllBelow, Below, TypeBelow}
 use Rattle.source_typing.specs.Conversions.{converts}
@@ -14,7 +12,6 @@ use Rattle.source_typing.specs.Calls.{part_types}
 use Rattle.source_typing.specs.Places.{address_of, arrow_live, arrow_of, assigned, assigned_in, assigned_type, contents_of, in_live, member_of, part_found, part_of}
 use Rattle.source_typing.specs.Places.{part_typed}
 use Rattle.source_typing.specs.Tables.{Entry, OfBuiltin, OfFunction, OfOther, OfTag, OfValue, Part, argument, as_tag, find, part_in, parts_of_tag}
-use Rattle.source_typing.specs.Taken.{if_taken, taken, takes_prefix, thin_pointers}
 use Rattle.source_typing.specs.Regions.{Region}
 use Rattle.source_typing.specs.Scope.{Env, In, InBlock, Nowhere, Seat, Value, is_live, is_place, value}
 use Rattle.source_typing.specs.Types.{Char, Fat, Handle, Int, Key, Null, StaticType, Struct, Thin, Union, Unique, Unsigned, Void, renamed}
@@ -31,27 +28,18 @@ nowhere_place Nowhere n e = absurd cc
 nowhere_place (In r) n e = absurd cc
 nowhere_place InBlock n e = absurd cc
 
--- where there are no structs, lowering takes the expression
-abbrev pub TakesThin : Expression → Type 0
-TakesThin e = taken thin_pointers e ≡ e → Takes e
-
-abbrev pub TakesThinPlace : Expression → Type 0
-TakesThinPlace e = taken thin_pointers e ≡ e → TakesPlace e
-
 -- a value that is no place
-pub valued : (g : Env) (e : Expression) (v : Value) → TakesThin e → IsGoodResult g.regions.count v → IsGoodValue g e v
-valued g e v t h = record {
+pub valued : (g : Env) (v : Value) → IsGoodResult g.regions.count v → IsGoodValue g v
+valued g v h = record {
   type = h.type;
   below = h.below;
   seat = subst (λ (s : Seat). SeatBelow g.regions.count s) (sym h.nowhere) tt;
   object = λ p. nowhere_place v.seat h.nowhere p;
-  takes = t;
-  place = λ i p. nowhere_place v.seat h.nowhere p;
 }
 
 -- a place
-pub placed : (g : Env) (e : Expression) (v : Value) → TakesThin e → TakesThinPlace e → IsGoodPlace g.regions.count v → IsGoodValue g e v
-placed g e v t q h = record { type = object_value v.type h.type; below = h.below; seat = h.seat; object = λ p. h.type; takes = t; place = λ i p. q i }
+pub placed : (g : Env) (v : Value) → IsGoodPlace g.regions.count v → IsGoodValue g v
+placed g v h = record { type = object_value v.type h.type; below = h.below; seat = h.seat; object = λ p. h.type }
 
 -- ---- what a pointer leads to
 
@@ -75,49 +63,29 @@ contents_judged g at (Key r) w h = absurd w
 contents_judged g at (Struct tag rs) w h = tt
 contents_judged g at (Union tag rs) w h = absurd w
 
--- the operand of an expression without structs has none
-operand_taken : (at : ℕ) (o : Prefix) (e : Expression) → if_taken (takes_prefix thin_pointers o) at (Expression.Prefixed at o (taken thin_pointers e)) ≡ Expression.Prefixed at o e
-    → taken thin_pointers e ≡ e
-operand_taken at prefix.Negate e p = cc
-operand_taken at prefix.Not e p = cc
-operand_taken at prefix.Complement e p = cc
-operand_taken at prefix.Dereference e p = cc
-operand_taken at prefix.AddressOf e p = cc
-
 -- ---- addresses
 
 -- a pointer into the place's region
-address_judged : (g : Env) (e : Expression) (at : ℕ) (t : StaticType) (s : Seat) → (is_place s ≡ true → IsObjectType t) → TypeBelow g.regions.count t
-    → SeatBelow g.regions.count s → (taken thin_pointers e ≡ e → is_place s ≡ true → TakesPlace e)
-    → Surely (λ v. IsGoodValue g (Expression.Prefixed at prefix.AddressOf e) v) (address_of at t s)
-address_judged g e at t Nowhere w h k p = tt
-address_judged g e at t (In r) w h k p =
-    valued g (Expression.Prefixed at prefix.AddressOf e) (record { at = at; type = Thin false r t; seat = Nowhere }) (λ i. p (operand_taken at prefix.AddressOf e i) refl)
-    (record { type = w refl; below = (k, h); nowhere = refl })
-address_judged g e at t InBlock w h k p = absurd k
+address_judged : (g : Env) (at : ℕ) (t : StaticType) (s : Seat) → (is_place s ≡ true → IsObjectType t) → TypeBelow g.regions.count t
+    → SeatBelow g.regions.count s → Surely (λ v. IsGoodValue g v) (address_of at t s)
+address_judged g at t Nowhere w h k = tt
+address_judged g at t (In r) w h k =
+    valued g (record { at = at; type = Thin false r t; seat = Nowhere }) (record { type = w refl; below = (k, h); nowhere = refl })
+address_judged g at t InBlock w h k = absurd k
 
 -- ---- operators in front
 
-pub prefixed_judged : (g : Env) (e : Expression) (at : ℕ) (o : Prefix) (a : Value) → IsGoodValue g e a
-    → Surely (λ v. IsGoodValue g (Expression.Prefixed at o e) v) (prefixed g at o a)
-prefixed_judged g e at prefix.Negate a h =
-    surely_also (λ v. IsGoodResult g.regions.count v) (λ v. IsGoodValue g (Expression.Prefixed at prefix.Negate e) v) (prefixed g at prefix.Negate a)
-    (signed_judged g.regions.count at a)
-    (λ v k. valued g (Expression.Prefixed at prefix.Negate e) v (λ i. h.takes (operand_taken at prefix.Negate e i)) k)
-prefixed_judged g e at prefix.Complement a h =
-    surely_also (λ v. IsGoodResult g.regions.count v) (λ v. IsGoodValue g (Expression.Prefixed at prefix.Complement e) v)
-    (prefixed g at prefix.Complement a) (signed_judged g.regions.count at a)
-    (λ v k. valued g (Expression.Prefixed at prefix.Complement e) v (λ i. h.takes (operand_taken at prefix.Complement e i)) k)
-prefixed_judged g e at prefix.Not a h =
-    surely_also (λ v. IsGoodResult g.regions.count v) (λ v. IsGoodValue g (Expression.Prefixed at prefix.Not e) v) (prefixed g at prefix.Not a)
-    (tested_judged g.regions.count at a)
-    (λ v k. valued g (Expression.Prefixed at prefix.Not e) v (λ i. h.takes (operand_taken at prefix.Not e i)) k)
-prefixed_judged g e at prefix.Dereference a h =
-    surely_also (λ v. IsGoodPlace g.regions.count v) (λ v. IsGoodValue g (Expression.Prefixed at prefix.Dereference e) v)
-    (prefixed g at prefix.Dereference a) (contents_judged g at a.type h.type h.below)
-    (λ v k. placed g (Expression.Prefixed at prefix.Dereference e) v (λ i. h.takes (operand_taken at prefix.Dereference e i))
-    (λ i. h.takes (operand_taken at prefix.Dereference e i)) k)
-prefixed_judged g e at prefix.AddressOf a h = address_judged g e at a.type a.seat h.object h.below h.seat h.place
+pub prefixed_judged : (g : Env) (at : ℕ) (o : Prefix) (a : Value) → IsGoodValue g a → Surely (λ v. IsGoodValue g v) (prefixed g at o a)
+prefixed_judged g at prefix.Negate a h =
+    surely_also (λ v. IsGoodResult g.regions.count v) (λ v. IsGoodValue g v) (prefixed g at prefix.Negate a) (signed_judged g.regions.count at a) (valued g)
+prefixed_judged g at prefix.Complement a h =
+    surely_also (λ v. IsGoodResult g.regions.count v) (λ v. IsGoodValue g v) (prefixed g at prefix.Complement a) (signed_judged g.regions.count at a) (valued g)
+prefixed_judged g at prefix.Not a h =
+    surely_also (λ v. IsGoodResult g.regions.count v) (λ v. IsGoodValue g v) (prefixed g at prefix.Not a) (tested_judged g.regions.count at a) (valued g)
+prefixed_judged g at prefix.Dereference a h =
+    surely_also (λ v. IsGoodPlace g.regions.count v) (λ v. IsGoodValue g v) (prefixed g at prefix.Dereference a)
+    (contents_judged g at a.type h.type h.below) (placed g)
+prefixed_judged g at prefix.AddressOf a h = address_judged g at a.type a.seat h.object h.below h.seat
 
 -- ---- members
 
@@ -224,21 +192,16 @@ assigned_value t o = by t o
     by (Key r) o = absurd o
     by (Union tag rs) o = absurd o
 
-pub assigned_judged : (g : Env) (x y : Expression) (to from : Value) → IsGoodValue g x to → TakesThin y
-    → Surely (λ v. IsGoodValue g (Expression.Assign x y) v) (assigned g to from)
-assigned_judged g x y to from h k = by (is_place to.seat) refl
+pub assigned_judged : (g : Env) (to from : Value) → IsGoodValue g to → Surely (λ v. IsGoodValue g v) (assigned g to from)
+assigned_judged g to from h = by (is_place to.seat) refl
   where
-    takes : is_place to.seat ≡ true → TakesThin (Expression.Assign x y)
-    takes e i = let a : taken thin_pointers x ≡ x = cc in let b : taken thin_pointers y ≡ y = cc in (h.place a e, k b)
-
-    stored : is_place to.seat ≡ true → Surely (λ v. IsGoodValue g (Expression.Assign x y) v) (value to.at (given_type to.type))
+    stored : is_place to.seat ≡ true → Surely (λ v. IsGoodValue g v) (value to.at (given_type to.type))
     stored e =
-        valued g (Expression.Assign x y) (record { at = to.at; type = given_type to.type; seat = Nowhere }) (takes e)
+        valued g (record { at = to.at; type = given_type to.type; seat = Nowhere })
         (record { type = assigned_value to.type (h.object e); below = given_below g.regions.count to.type (h.object e) h.below; nowhere = refl })
 
-    by : (b : Bool) → is_place to.seat ≡ b → Surely (λ v. IsGoodValue g (Expression.Assign x y) v) (assigned_in b g to from)
+    by : (b : Bool) → is_place to.seat ≡ b → Surely (λ v. IsGoodValue g v) (assigned_in b g to from)
     by true e =
-        surely_unless (λ v. IsGoodValue g (Expression.Assign x y) v) (converts g from to.type) (value to.at (assigned_type g to.type))
-        (λ none. subst (λ (t : StaticType). Surely (λ v. IsGoodValue g (Expression.Assign x y) v) (value to.at t))
-        (sym (assigned_object g to.type (h.object e))) (stored e))
+        surely_unless (λ v. IsGoodValue g v) (converts g from to.type) (value to.at (assigned_type g to.type))
+        (λ none. subst (λ (t : StaticType). Surely (λ v. IsGoodValue g v) (value to.at t)) (sym (assigned_object g to.type (h.object e))) (stored e))
     by false e = tt

@@ -1,12 +1,10 @@
 -- The type of a local of these forms that is in order: an object's, whose region names are in scope, with the shape that it has as it is written.
 use Rattle.std.proofs.Common.{◌≡◌, ℕ, Bool, true, false, Option, Some, None, List, [], ◌∷◌, refl, sym, subst, ap, ◌∙◌}
 use Rattle.std.specs.Prelude.{◌&&◌, ◌++◌, bytes_eq, if◌then◌else◌, map, replicate}
-use Rattle.std.proofs.lemmas.Bool.{false≢true}
 use Rattle.cyc_tree.specs.declared.name.Sign.{Sign}
 use Rattle.cyc_tree.specs.declared.name.Sign.TheVariants as sign
 use Rattle.cyc_tree.specs.Tree as tree
 use Rattle.cyc_tree.specs.Tree.{Pointer, TypeName}
-use Rattle.source_lowering.specs.Taken as lowering
 use Rattle.source_lowering.specs.Taken.{AreThin, IsSharedRegion, IsThinSign, IsVoidType}
 use Rattle.source_meaning.specs.Shapes as shapes
 use Rattle.source_meaning.specs.Shapes.{Shape, ThinShape, owner_of, pointed, shared_owner, signed_shape}
@@ -14,7 +12,7 @@ use Rattle.source_safety.specs.Named.{Below}
 use Rattle.source_typing.specs.Faults.{Fault}
 use Rattle.source_typing.specs.Regions.{Region}
 use Rattle.source_typing.specs.Tables.{Arrayed, Counter, Entry, OfBuiltin, OfFunction, OfOther, OfTag, OfValue, Stored, Tables, Unknown, as_tag, find}
-use Rattle.source_typing.specs.Taken.{takes_base, takes_pointers, takes_region, takes_sign, takes_type, thin_pointers, structures}
+use Rattle.source_typing.specs.Taken.{takes_base, takes_pointers, takes_region, takes_sign, takes_type, structures}
 use Rattle.source_typing.specs.Types.{Char, Int, Key, PartialType, Struct, Thin, Unsigned, Void, same_bool, shape_of}
 use Rattle.source_typing.specs.Verdicts.{Faulty, Of, Unjudged, Verdict, unless_faulty}
 use Rattle.source_typing.specs.Written.{
@@ -165,13 +163,8 @@ IsPartialObject n (Thin b r t) = RegionBelow n r × IsPartialObject n t
 IsPartialObject n (Struct tag rs) = (rs ≡ [])
 IsPartialObject n _ = ⊥
 
--- a type without structs that lowering takes
-abbrev pub WordIfThin : TypeName → Type 0
-WordIfThin t = takes_type thin_pointers t ≡ true → lowering.IsWordType t
-
 pub record WrittenObject (n : ℕ) (t : TypeName) (p : PartialType) : Type 0 where
   pub object : IsPartialObject n p
-  pub taken : WordIfThin t
   pub unowned : IsOpen (shapes.written t)
   pub shape : shapes.settled (shapes.written t) ≡ shape_of p
 
@@ -190,7 +183,7 @@ abbrev pub PointedIfSome : ℕ → Shape → Option PartialType → Type 0
 PointedIfSome n s None = ⊥
 PointedIfSome n s (Some p) = IsPointed n s p
 
-owner_shared : (r : Option tree.RegionName) → IsSharedRegion r → shared_owner (owner_of r) ≡ shapes.Shared
+pub owner_shared : (r : Option tree.RegionName) → IsSharedRegion r → shared_owner (owner_of r) ≡ shapes.Shared
 owner_shared None h = refl
 owner_shared (Some (tree.Heap at)) h = refl
 owner_shared (Some (tree.Unique at)) h = absurd h
@@ -223,7 +216,7 @@ found_region n (Is q) b = b
 found_region n IsUnique b = tt
 found_region n Missing b = tt
 
-signed_open : (x : Sign) (r : Option tree.RegionName) (s : Shape) → IsThinSign x → IsSharedRegion r → IsOpen s → IsOpen (signed_shape x (owner_of r) s)
+pub signed_open : (x : Sign) (r : Option tree.RegionName) (s : Shape) → IsThinSign x → IsSharedRegion r → IsOpen s → IsOpen (signed_shape x (owner_of r) s)
 signed_open sign.Nullable r s k h o = (owner_shared r h, o)
 signed_open sign.NotNull r s k h o = (owner_shared r h, o)
 signed_open sign.Fat r s k h o = absurd k
@@ -256,11 +249,10 @@ no_pointer (p ∷ ps) (f ∷ fs) = refl
 -- ---- what is written
 
 -- an object's type; and `void`, which has no pointers
-object_written : (n : ℕ) (t : TypeName) (b : tree.Base) (o : Option PartialType) → AreThin t.pointers
-    → WordIfThin (record { at = t.at; base = b; pointers = t.pointers }) → PointedIfSome n (pointed t.pointers (shapes.base_shape b)) o
+object_written : (n : ℕ) (t : TypeName) (b : tree.Base) (o : Option PartialType) → AreThin t.pointers → PointedIfSome n (pointed t.pointers (shapes.base_shape b)) o
     → Surely (λ p. IsWritten n (record { at = t.at; base = b; pointers = t.pointers }) p) (type_built t.at o)
-object_written n t b None k i h = absurd h
-object_written n t b (Some p) k i h = WritesObject (record { object = h.object; taken = i; unowned = h.unowned; shape = h.shape })
+object_written n t b None k h = absurd h
+object_written n t b (Some p) k h = WritesObject (record { object = h.object; unowned = h.unowned; shape = h.shape })
 
 nothing_written : (n at place : ℕ) (ps : List Pointer) (fs : List Found) → AreFound n ps fs
     → Surely (λ p. IsWritten n (record { at = at; base = tree.Void; pointers = ps }) p) (type_built place (pointers_to ps fs (Some Void)))
@@ -276,14 +268,13 @@ pub written_good : (n : ℕ) (g : Tables) (t : TypeName) (fs : List Found) (bad 
 written_good n g t fs bad tags e h =
     let a = and_is (takes_base structures t.base) (takes_pointers structures t.pointers) e in by t.base a.0 (thin_pointers_are t.pointers a.1)
   where
-    built_object : (b : tree.Base) (p : PartialType) → AreThin t.pointers → WordIfThin (record { at = t.at; base = b; pointers = t.pointers })
-        → IsPointed n (shapes.base_shape b) p
+    built_object : (b : tree.Base) (p : PartialType) → AreThin t.pointers → IsPointed n (shapes.base_shape b) p
         → Surely (λ p. IsWritten n (record { at = t.at; base = b; pointers = t.pointers }) p)
         (unless_faulty bad (type_built t.at (pointers_to t.pointers fs (Some p))))
-    built_object b p k i w =
+    built_object b p k w =
         surely_unless (λ p. IsWritten n (record { at = t.at; base = b; pointers = t.pointers }) p) bad
         (type_built t.at (pointers_to t.pointers fs (Some p)))
-        (λ e. object_written n t b (pointers_to t.pointers fs (Some p)) k i (all_pointed n t.pointers fs p (shapes.base_shape b) k h w))
+        (λ e. object_written n t b (pointers_to t.pointers fs (Some p)) k (all_pointed n t.pointers fs p (shapes.base_shape b) k h w))
 
     struct : (tag : tree.Name) (v : Verdict ℕ) → AreThin t.pointers → Surely (λ m. m ≡ 0) v
         → Surely (λ p. IsWritten n (record { at = t.at; base = tree.Struct tag []; pointers = t.pointers }) p)
@@ -293,14 +284,14 @@ written_good n g t fs bad tags e h =
     struct tag (Of m) k s =
         subst (λ c. Surely (λ p. IsWritten n (record { at = t.at; base = tree.Struct tag []; pointers = t.pointers }) p)
         (written_on (record { at = t.at; base = tree.Struct tag []; pointers = t.pointers }) fs bad (Of c))) (sym s)
-        (built_object (tree.Struct tag []) (Struct tag.text []) k (λ q. absurd (false≢true q)) (record { object = refl; unowned = tt; shape = refl }))
+        (built_object (tree.Struct tag []) (Struct tag.text []) k (record { object = refl; unowned = tt; shape = refl }))
 
     by : (b : tree.Base) → takes_base structures b ≡ true → AreThin t.pointers
         → Surely (λ p. IsWritten n (record { at = t.at; base = b; pointers = t.pointers }) p)
         (written_with g (record { at = t.at; base = b; pointers = t.pointers }) (fs, bad))
-    by tree.Int q k = built_object tree.Int Int k (λ z. record { pointers = k; base = tt }) (record { object = tt; unowned = tt; shape = refl })
-    by tree.Unsigned q k = built_object tree.Unsigned Unsigned k (λ z. record { pointers = k; base = tt }) (record { object = tt; unowned = tt; shape = refl })
-    by tree.Char q k = built_object tree.Char Char k (λ z. record { pointers = k; base = tt }) (record { object = tt; unowned = tt; shape = refl })
+    by tree.Int q k = built_object tree.Int Int k (record { object = tt; unowned = tt; shape = refl })
+    by tree.Unsigned q k = built_object tree.Unsigned Unsigned k (record { object = tt; unowned = tt; shape = refl })
+    by tree.Char q k = built_object tree.Char Char k (record { object = tt; unowned = tt; shape = refl })
     by tree.Void q k =
         surely_unless (λ p. IsWritten n (record { at = t.at; base = tree.Void; pointers = t.pointers }) p) bad
         (type_built t.at (pointers_to t.pointers fs (Some Void))) (λ e. nothing_written n t.at t.at t.pointers fs h)

@@ -4,10 +4,9 @@ use Rattle.std.proofs.Common.{◌≡◌, ℕ, suc, ◌<◌, ◌≤◌, Bool, tru
 use Rattle.std.specs.Prelude.{bytes_eq, if◌then◌else◌, map, ◌||◌, ◌++◌}
 use Rattle.cyc_tree.specs.Tree as tree
 use Rattle.cyc_tree.specs.Tree.{Pointer, TypeName}
-use Rattle.source_lowering.specs.Taken as lowering
 use Rattle.source_lowering.specs.Taken.{AreThin, IsSharedRegion, IsVoidBase, IsVoidType}
 use Rattle.source_meaning.specs.Shapes as shapes
-use Rattle.source_meaning.specs.Shapes.{Shared, ThinShape, VoidShape}
+use Rattle.source_meaning.specs.Shapes.{VoidShape}
 use Rattle.source_safety.specs.Entries.{IsObjectType, IsPlain}
 use Rattle.source_safety.specs.Named.{AllBelow, Below, TypeBelow}
 use Rattle.source_safety.proofs.Entries.{object_plain}
@@ -16,13 +15,13 @@ use Rattle.source_typing.specs.Functions.{take_spot, take_spots}
 use Rattle.source_typing.specs.Regions.{Level, Region, TheHeap}
 use Rattle.source_typing.specs.Tables.{Tables}
 use Rattle.source_typing.specs.Tags.{settled_alone}
-use Rattle.source_typing.specs.Taken.{takes_base, takes_pointers, takes_type, thin_pointers, structures}
+use Rattle.source_typing.specs.Taken.{takes_base, takes_pointers, takes_type, structures}
 use Rattle.source_typing.specs.Types.{Handle, Char, Int, PartialType, StaticType, Struct, Thin, Unsigned, Void, is_void, shape_of}
 use Rattle.source_typing.specs.Verdicts.{after, if_fits}
 use Rattle.source_typing.specs.Written.{Found, Is, IsUnique, Missing, RegionNamed, Spot, find_region, spot, spots_of, written, written_with}
 use Rattle.source_typing.proofs.Converting.{and_is}
 use Rattle.judged_sources.specs.Good.{NamesBelow, Surely}
-use Rattle.judged_sources.proofs.GoodTypes.{AreFound, FoundBelow, IsWritten, KnowsTags, RegionBelow, WordIfThin, WritesNothing, WritesObject, in_scope_good}
+use Rattle.judged_sources.proofs.GoodTypes.{AreFound, FoundBelow, IsWritten, KnowsTags, RegionBelow, WritesNothing, WritesObject, in_scope_good}
 use Rattle.judged_sources.proofs.GoodTypes.{no_spots, thin_pointers_are, written_good}
 use Rattle.judged_sources.proofs.GoodLocals.{IsFilled, object_settled}
 use Rattle.judged_sources.proofs.Sure.{surely_after, surely_also}
@@ -132,7 +131,6 @@ type_spots_good g vs t tags e h =
 pub record ObjectGood (n : ℕ) (t : TypeName) (u : StaticType) : Type 0 where
   pub object : IsObjectType u
   pub below : TypeBelow n u
-  pub taken : WordIfThin t
   pub shape : shapes.settled (shapes.written t) ≡ shape_of u
 
 pub data PlainGood (n : ℕ) (t : TypeName) (u : StaticType) : Type 0 where
@@ -145,7 +143,6 @@ alone_good n at t p (WritesObject w) =
     surely_also (λ u. IsFilled n p u) (λ u. PlainGood n t u) (settled_alone at p) (object_settled n at p None w.object tt) (λ u f. GivesObject (record {
       object = f.object;
       below = f.below;
-      taken = w.taken;
       shape = w.shape ∙ sym f.shape;
     }))
 
@@ -191,7 +188,6 @@ result_good n g names t tags e h =
 pub record ResultGood (n : ℕ) (t : TypeName) (u : StaticType) : Type 0 where
   pub plain : IsPlain u
   pub below : TypeBelow n u
-  pub taken : takes_type thin_pointers t ≡ true → lowering.TakesResult t
   pub shape : shapes.settled (shapes.written t) ≡ shape_of u
 
 pub void_shape : (t : TypeName) → IsVoidType t → shapes.settled (shapes.written t) ≡ VoidShape
@@ -203,10 +199,9 @@ void_shape t h = subst (λ ps. shapes.settled (shapes.pointed ps (shapes.base_sh
 
 pub result_facts : (n : ℕ) (t : TypeName) (u : StaticType) → PlainGood n t u → ResultGood n t u
 result_facts n t u (GivesObject w) =
-    record { plain = object_plain u w.object; below = w.below; taken = λ i. lowering.GivesWord (w.taken i); shape = w.shape }
+    record { plain = object_plain u w.object; below = w.below; shape = w.shape }
 result_facts n t u (GivesNothing v e) = subst (λ z. ResultGood n t z) (sym e) (record {
   plain = tt;
   below = tt;
-  taken = λ i. lowering.GivesNothing v;
   shape = void_shape t v;
 })

@@ -4,7 +4,6 @@ use Rattle.std.proofs.Common.{◌≡◌, ℕ, zero, suc, ◌<◌, ◌≤◌, Boo
 use Rattle.std.specs.Prelude.{◌||◌, ◌++◌, if◌then◌else◌, map, not, replicate}
 use Rattle.cyc_tree.specs.Tree as tree
 use Rattle.cyc_tree.specs.Tree.{TypeName}
-use Rattle.source_lowering.specs.Taken as lowering
 use Rattle.source_meaning.specs.Shapes.{part_of, part_shapes}
 use Rattle.source_meaning.specs.Shapes as shapes
 use Rattle.source_safety.specs.Entries.{AreObjects}
@@ -18,7 +17,7 @@ use Rattle.source_typing.specs.Statements.{items_faults}
 use Rattle.source_typing.specs.Tables.{Tables, Tag, find, tag_in}
 use Rattle.source_typing.specs.Tags.{repeated, settled_alone}
 use Rattle.source_typing.specs.Taken.{Taken, bounds_form, bounds_if, effect_form, effect_if, function_taken, member_taken, members_taken, refused_type}
-use Rattle.source_typing.specs.Taken.{takes_type, thin_pointers, type_taken, structures}
+use Rattle.source_typing.specs.Taken.{takes_type, type_taken, structures}
 use Rattle.source_typing.specs.Types.{Int, PartialType, StaticType, shape_of}
 use Rattle.source_typing.specs.Verdicts.{Of, Verdict, after, faults_of, known}
 use Rattle.source_typing.specs.Written.{Found, RegionNamed, Spot, all_found, argument_spots, base_of, base_spots, regions_of_tag, spot, spots_of, tag_of, written}
@@ -86,13 +85,13 @@ no_forms f a b =
 
 -- ---- the faults of a head
 
-record HeadClean (g : Tables) (f : tree.Function) (ps : Parameters) (r : Verdict StaticType) : Type 0 where
-  main : main_faults f r ≡ []
-  parameters : all_faults ps.types ≡ []
-  once : repeated [] f.parameters ≡ []
-  result : faults_of r ≡ []
+pub record HeadClean (g : Tables) (f : tree.Function) (ps : Parameters) (r : Verdict StaticType) : Type 0 where
+  pub main : main_faults f r ≡ []
+  pub parameters : all_faults ps.types ≡ []
+  pub once : repeated [] f.parameters ≡ []
+  pub result : faults_of r ≡ []
 
-head_clean : (g : Tables) (f : tree.Function) → (head_of false g f).faults ≡ []
+pub head_clean : (g : Tables) (f : tree.Function) → (head_of false g f).faults ≡ []
     → HeadClean g f (read_parameters g (variables [] 0) f.parameters)
     (result_type g (read_parameters g (variables [] 0) f.parameters).variables_after.names f.result)
 head_clean g f p =
@@ -133,16 +132,11 @@ head_taken k g f none t p =
 
 -- ---- parameters
 
--- types without structs
-abbrev pub AreThinTypes : List tree.Member → Type 0
-AreThinTypes ms = AreTaken thin_pointers ms
-
 pub record ParametersGood (vs : Variables) (ms : List tree.Member) (ps : Parameters) : Type 0 where
   pub types : List StaticType
   pub known : map known ps.types ≡ map (λ t. Some t) types
   pub objects : AreObjects types
   pub below : TypesBelow ps.variables_after.count types
-  pub taken : AreThinTypes ms → lowering.AreWords ms
   pub shapes : part_shapes (map part_of ms) ≡ map shape_of types
   pub names : NamesBelow ps.variables_after.count ps.variables_after.names
   pub more : vs.count ≤ ps.variables_after.count
@@ -151,7 +145,7 @@ parameters_good : (g : Tables) (vs : Variables) (ms : List tree.Member) → Know
     → all_faults (read_parameters g vs ms).types ≡ []
     → ParametersGood vs ms (read_parameters g vs ms)
 parameters_good g vs [] tags t h p =
-    record { types = []; known = refl; objects = tt; below = tt; taken = λ i. tt; shapes = refl; names = h; more = omega arith }
+    record { types = []; known = refl; objects = tt; below = tt; shapes = refl; names = h; more = omega arith }
 parameters_good g vs (m ∷ ms) tags t h p =
     let s : AllSpotted = take_spots vs (spots_of g m.of) in
     let v : Verdict StaticType = parameter_type g m.of s in
@@ -169,7 +163,6 @@ parameters_good g vs (m ∷ ms) tags t h p =
       known = ap₂ (λ (o : Option StaticType) (os : List (Option StaticType)). o ∷ os) (ap (λ (w : Verdict StaticType). known w) first.1) rest.known;
       objects = (first.2.object, rest.objects);
       below = (object_more s.after_all.count n first.0 b first.2.object first.2.below, rest.below);
-      taken = λ i. (first.2.taken i.0, rest.taken i.1);
       shapes = ap₂ (λ (x : shapes.Shape) (xs : List shapes.Shape). x ∷ xs) first.2.shape rest.shapes;
       names = rest.names;
       more = omega (arith, a, b);
@@ -214,7 +207,6 @@ main_is false v ms e p = absurd cc
 
 pub record HeadGood (g : Tables) (f : tree.Function) : Type 0 where
   pub signature : IsGoodSignature (head_of false g f).signature
-  pub parameters : AreThinTypes f.parameters → lowering.AreWords f.parameters
   pub shapes : part_shapes (map part_of f.parameters) ≡ map shape_of signature.types
   pub result : ResultGood (head_of false g f).signature.regions f.result signature.gives
   pub main_takes : is_main f ≡ true → f.parameters ≡ []
@@ -249,7 +241,6 @@ head_good g f tags t p =
         plain = known_result.plain;
         gives_below = known_result.below;
       };
-      parameters = q.taken;
       shapes = q.shapes;
       result = known_result;
       main_takes = λ e. (main e).1;

@@ -5,7 +5,6 @@ pub mod GoodTypes
 pub mod GoodLocals
 pub mod Named
 pub mod HeadTypes
-pub mod NoTags
 pub mod MemberTypes
 pub mod HeadTags
 pub mod Tags
@@ -14,15 +13,11 @@ pub mod StructTags
 pub mod StructsFound
 pub mod Heads
 pub mod AlignedTables
-pub mod TakenMore
-pub mod ProgramsMore
 pub mod Constants
 pub mod Globals
-pub mod LoweredStrings
 pub mod GoodFunctions
 pub mod GoodTables
 pub mod Found
-pub mod WordGlobals
 pub mod Main
 pub mod Programs
 pub mod GoodNames
@@ -38,4 +33,13 @@ pub mod LoweredCalls
 pub mod LoweredMembers
 pub mod LoweredOperators
 pub mod LoweredExpressions
+pub mod LoweredTypes
+pub mod LoweredScopes
+pub mod LoweredBodies
+pub mod StructSizes
+pub mod LaidStructs
+pub mod LoweredHeads
+pub mod LoweredTables
+pub mod SizedGlobals
+pub mod LoweredPrograms
 pub mod StructSamples

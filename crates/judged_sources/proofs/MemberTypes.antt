@@ -74,16 +74,16 @@ member_good g t tags h e =
 
 -- ---- a struct's tag is one of the tables
 
-abbrev IsPointerShape : Shape → Type 0
+abbrev pub IsPointerShape : Shape → Type 0
 IsPointerShape (ThinShape b o s) = Unit {0}
 IsPointerShape _ = ⊥
 
-sign_pointer : (x : Sign) (o : Owner) (s : Shape) → IsThinSign x → IsPointerShape (shapes.signed_shape x o s)
+pub sign_pointer : (x : Sign) (o : Owner) (s : Shape) → IsThinSign x → IsPointerShape (shapes.signed_shape x o s)
 sign_pointer sign.Nullable o s k = tt
 sign_pointer sign.NotNull o s k = tt
 sign_pointer sign.Fat o s k = absurd k
 
-still_pointer : (ps : List Pointer) (s : Shape) → AreThin ps → IsPointerShape s → IsPointerShape (shapes.pointed ps s)
+pub still_pointer : (ps : List Pointer) (s : Shape) → AreThin ps → IsPointerShape s → IsPointerShape (shapes.pointed ps s)
 still_pointer [] s k h = h
 still_pointer (p ∷ ps) s k h =
     still_pointer ps (shapes.signed_shape p.sign (shapes.owner_of p.region) s) k.1 (sign_pointer p.sign (shapes.owner_of p.region) s k.0.0)

@@ -1,24 +1,20 @@
 -- A program of integers, thin pointers and structs in which the rules find no fault is in order by the rules' own tables: so it is never stuck, and it has its
--- `main`; and where it has no structs, lowering takes it.
+-- `main`.
 use Rattle.std.specs.Prelude.{bytes_eq, codes, if◌then◌else◌, length, map}
-use Rattle.std.proofs.Common.{◌≡◌, ℕ, suc, ◌<◌, Bool, true, false, inl, inr, Option, Some, List, [], ◌∷◌, refl, sym, subst, ap, ◌∙◌}
+use Rattle.std.proofs.Common.{◌≡◌, ℕ, ◌<◌, Bool, true, false, inl, inr, Option, Some, List, [], ◌∷◌, refl, sym, subst, ap, ◌∙◌}
 use Rattle.std.proofs.lemmas.List.{length-map}
 use Rattle.std.proofs.lemmas.Slice.Eq.{bytes_eq-Decides}
 use Rattle.cyc_tree.specs.Tree as tree
-use Rattle.cyc_tree.specs.Tree.{Item, Program}
+use Rattle.cyc_tree.specs.Tree.{Program}
 use Rattle.source_lowering.specs.Programs.{function_code, program_code}
-use Rattle.source_lowering.specs.Taken.{TakesProgram, IsOfWords}
-use Rattle.source_lowering.proofs.OfWords.{words_lowerable}
 use Rattle.source_meaning.specs.Programs.{routine_of, world_of}
 use Rattle.source_meaning.specs.Shapes.{part_of, part_shapes}
 use Rattle.source_meaning.specs.Steps.{World}
 use Rattle.source_safety.specs.Entries.{Builtin, Function, PlainEntry, Structure}
 use Rattle.source_safety.specs.Programs.{FunctionJudged, GlobalFound, MainFound, ProgramJudged}
 use Rattle.source_typing.specs.Answers.{program_faults}
-use Rattle.source_typing.specs.Functions.{function_faults, head_of}
-use Rattle.source_typing.specs.Globals.{global_faults}
-use Rattle.source_typing.specs.Programs.{builtins, entries, entries_with, items_from, judged_tags, tables_of}
-use Rattle.source_typing.specs.Scope.{at_item}
+use Rattle.source_typing.specs.Functions.{head_of}
+use Rattle.source_typing.specs.Programs.{builtins, entries, entries_with, judged_tags, tables_of}
 use Rattle.source_typing.specs.Regions.{Region}
 use Rattle.source_typing.specs.Tables.{
   Arrayed,
@@ -36,31 +32,22 @@ use Rattle.source_typing.specs.Tables.{
   Unknown,
   find,
 }
-use Rattle.source_typing.specs.Taken.{constant_forms, function_taken, item_forms, item_taken, only_taken, thin_pointers, structures}
+use Rattle.source_typing.specs.Taken.{structures}
 use Rattle.source_typing.specs.Types.{StaticType, shape_of}
-use Rattle.source_typing.proofs.Inversion.{none_of_both}
 use Rattle.source_typing.proofs.TakenOperands.{taken_has_operands}
 use Rattle.source_safety.proofs.Never.{never_stuck}
 use Rattle.source_safety.proofs.Same.{judged_same}
 use Rattle.judged_sources.specs.Good.{AllGood, BodiesJudged, IsGoodEntry, IsGoodTag}
-use Rattle.judged_sources.specs.Laws.{AcceptedAreJudged, AcceptedAreLowerable, AcceptedAreNeverStuck, AcceptedHaveMain}
-use Rattle.judged_sources.specs.Laws.{AcceptedStructsAreJudged, AcceptedStructsAreNeverStuck, AcceptedStructsHaveMain}
-use Rattle.judged_sources.proofs.StructsFound.{structs_found}
+use Rattle.judged_sources.specs.Laws.{AcceptedAreJudged, AcceptedAreNeverStuck, AcceptedHaveMain}
+use Rattle.judged_sources.proofs.StructsFound.{StructsFound, not_made, structs_found}
 use Rattle.judged_sources.proofs.AlignedTables.{AreAligned, tables_aligned}
-use Rattle.judged_sources.proofs.Found.{AllKnown, AreThinItems, FunctionFound, VariableFound, all_known, all_take, find_function, find_variable, globals_judged}
+use Rattle.judged_sources.proofs.Found.{AllKnown, FunctionFound, VariableFound, all_known, find_function, find_variable, globals_judged}
 use Rattle.judged_sources.proofs.Found.{no_builtin}
 use Rattle.judged_sources.proofs.GoodNames.{MeansGood, found_good}
 use Rattle.judged_sources.proofs.GoodFunctions.{FunctionNamed, function_is, function_judged}
 use Rattle.judged_sources.proofs.GoodTables.{AreHeaded, IsClean, all_headed, is_clean_program, tables_good}
-use Rattle.judged_sources.proofs.GoodTypes.{KnowsTags, good_tags}
-use Rattle.judged_sources.proofs.Globals.{GlobalTaken, global_taken}
-use Rattle.judged_sources.proofs.Heads.{HeadTaken, body_head_clean, head_taken}
+use Rattle.judged_sources.proofs.GoodTypes.{KnowsTags}
 use Rattle.judged_sources.proofs.Named.{builtins_known, entries_known}
-use Rattle.judged_sources.proofs.NoTags.{AreNoTags, no_tags}
-use Rattle.judged_sources.proofs.Tags.{StructsFound, none_structs}
-use Rattle.judged_sources.proofs.ProgramsMore.{faults_more}
-use Rattle.judged_sources.proofs.LoweredStrings.{program_silent}
-use Rattle.judged_sources.proofs.WordGlobals.{AreWordGlobals, word_globals}
 use Rattle.judged_sources.proofs.Main.{MainHere, find_main, number_below}
 
 -- ---- names
@@ -89,7 +76,7 @@ entry_by es x a c = (if a then Some (OfBuiltin 0) else (if c then Some (OfBuilti
 
 -- ---- a program in order, by its own tables
 
-module _ (bodies : BodiesJudged) (p : Program) (e : program_faults structures p ≡ []) (found : StructsFound p) where
+module _ (bodies : BodiesJudged) (p : Program) (e : program_faults structures p ≡ []) where
   abbrev tables : Tables
   tables = tables_of false p
 
@@ -105,6 +92,9 @@ module _ (bodies : BodiesJudged) (p : Program) (e : program_faults structures p 
   clean : IsClean structures p
   clean = is_clean_program structures p e
 
+  pub found : StructsFound p
+  found = structs_found p clean.taken clean.tags clean.names
+
   tags : KnowsTags heads
   tags = builtins_known (entries (judged_tags p)) (entries_known (judged_tags p) p found.named)
 
@@ -114,10 +104,10 @@ module _ (bodies : BodiesJudged) (p : Program) (e : program_faults structures p 
   headed : AreHeaded heads 0 (judged_tags p) p
   headed = all_headed tables heads 0 (judged_tags p) p tags same found.named clean.taken clean.forms clean.items
 
-  good : AllGood 0 tables
+  pub good : AllGood 0 tables
   good = tables_good heads (judged_tags p) p tags headed
 
-  known : AllKnown tables heads 0 (judged_tags p) p
+  pub known : AllKnown tables heads 0 (judged_tags p) p
   known = all_known bodies tables heads 0 (judged_tags p) p good same headed clean.taken (taken_has_operands structures p clean.taken) clean.items
 
   -- ---- names
@@ -138,7 +128,7 @@ module _ (bodies : BodiesJudged) (p : Program) (e : program_faults structures p 
   function_named x s h =
       let own : IsOwn items x (OfFunction s) = function_own x s h in
       let f : FunctionFound tables p x s = function_found x s h in
-      record { not_made = found.not_made x s h; found = f.found; not_read = own.not_read; not_written = own.not_written; signature = f.signature }
+      record { not_made = not_made p x (OfFunction s) found h (λ t z. cc); found = f.found; not_read = own.not_read; not_written = own.not_written; signature = f.signature }
 
   abbrev its_function : (x : List ℕ) (s : Signature) → find tables x ≡ Some (OfFunction s) → Function world x s
   its_function x s h =
@@ -229,7 +219,7 @@ module _ (bodies : BodiesJudged) (p : Program) (e : program_faults structures p 
         gives = f.good.head.main_gives f.named;
       }
 
-  judged : ProgramJudged p tables
+  pub judged : ProgramJudged p tables
   judged = record {
     structs = found.structs;
     plain = plain;
@@ -245,80 +235,14 @@ module _ (bodies : BodiesJudged) (p : Program) (e : program_faults structures p 
       let less = number_below world.functions (codes "main") (routine_of f.function) f.found in
       subst (λ (n : ℕ). (program_code p).main < n) (sym (length-map world.functions (function_code world))) less
 
-  words : AreThinItems p → AreWordGlobals tables 0 p
-  words z = word_globals tables 0 p (good_tags 0 tables good) z clean.taken clean.forms clean.items
-
-  takes : AreThinItems p → TakesProgram p
-  takes z = all_take tables heads 0 (judged_tags p) p known z
-
--- ---- programs without structs
-
--- its globals and functions are of thin pointers
-thin_items : (g : Tables) (i : ℕ) (is : List Item) → AreNoTags is → only_taken thin_pointers is ≡ is → constant_forms thin_pointers is ≡ []
-    → items_from false g i is ≡ [] → AreThinItems is
-thin_items g i [] n t f p = tt
-thin_items g i (tree.StructItem s ∷ is) n t f p = absurd n.0
-thin_items g i (tree.UnionItem s ∷ is) n t f p = absurd n.0
-thin_items g i (tree.GlobalItem x ∷ is) n t f p =
-    let a : item_taken thin_pointers (tree.GlobalItem x) ≡ tree.GlobalItem x = cc in
-    let b : only_taken thin_pointers is ≡ is = cc in
-    let c : (item_forms thin_pointers (tree.GlobalItem x) ≡ []) × (constant_forms thin_pointers is ≡ []) =
-    none_of_both (item_forms thin_pointers (tree.GlobalItem x)) (constant_forms thin_pointers is) f in
-    let d : (global_faults (at_item false g i) x ≡ []) × (items_from false g (suc i) is ≡ []) =
-    none_of_both (global_faults (at_item false g i) x) (items_from false g (suc i) is) p in
-    let k : GlobalTaken thin_pointers x = global_taken thin_pointers (at_item false g i) x a c.0 d.0 in
-    (k.type, thin_items g (suc i) is n.1 b c.1 d.1)
-thin_items g i (tree.FunctionItem x ∷ is) n t f p =
-    let a : function_taken thin_pointers x ≡ x = cc in
-    let b : only_taken thin_pointers is ≡ is = cc in
-    let d : (function_faults false g i x ≡ []) × (items_from false g (suc i) is ≡ []) =
-    none_of_both (function_faults false g i x) (items_from false g (suc i) is) p in
-    let k : HeadTaken thin_pointers x = head_taken thin_pointers g x refl a (body_head_clean g i x d.0) in
-    (record { parameters = k.parameters; result = k.result; body = ap (λ (y : tree.Function). y.body) a }, thin_items g (suc i) is n.1 b f d.1)
-
 -- ---- the laws
 
-module _ (bodies : BodiesJudged) (p : Program) (e : program_faults thin_pointers p ≡ []) where
-  none : AreNoTags p
-  none = let c : IsClean thin_pointers p = is_clean_program thin_pointers p e in no_tags p c.taken c.tags
-
-  thin_tags : StructsFound p
-  thin_tags = none_structs p none
-
-  thin : AreThinItems p
-  thin =
-      let c : IsClean thin_pointers p = is_clean_program thin_pointers p e in thin_items (tables_of false p) 0 p none c.taken c.forms c.items
-
 module _ (bodies : BodiesJudged) where
-  pub accepted_are_judged : AcceptedAreJudged
-  accepted_are_judged p e = judged bodies p (faults_more p e) (thin_tags bodies p e)
+  pub structs_judged : AcceptedAreJudged
+  structs_judged p e = judged bodies p e
 
-  pub accepted_are_of_words : (p : Program) → program_faults thin_pointers p ≡ [] → IsOfWords p
-  accepted_are_of_words p e =
-      let t : TakesProgram p = takes bodies p (faults_more p e) (thin_tags bodies p e) (thin bodies p e) in
-      record { items = t; strings = program_silent p t }
+  pub structs_never_stuck : AcceptedAreNeverStuck
+  structs_never_stuck p e = never_stuck p (tables_of false p) (structs_judged p e)
 
-  pub accepted_are_lowerable : AcceptedAreLowerable
-  accepted_are_lowerable p e = words_lowerable p (accepted_are_of_words p e)
-
-  pub accepted_are_never_stuck : AcceptedAreNeverStuck
-  accepted_are_never_stuck p e = never_stuck p (tables_of false p) (accepted_are_judged p e)
-
-  pub accepted_have_main : AcceptedHaveMain
-  accepted_have_main p e = main_below bodies p (faults_more p e) (thin_tags bodies p e)
-
-  pub accepted_globals_are_words : (p : Program) → program_faults thin_pointers p ≡ [] → AreWordGlobals (tables_of false p) 0 p
-  accepted_globals_are_words p e =
-      words bodies p (faults_more p e) (thin_tags bodies p e) (thin bodies p e)
-
--- with structs
-pub structs_judged : BodiesJudged → AcceptedStructsAreJudged
-structs_judged bodies p e =
-    let k : IsClean structures p = is_clean_program structures p e in judged bodies p e (structs_found p k.taken k.tags k.names)
-
-pub structs_never_stuck : BodiesJudged → AcceptedStructsAreNeverStuck
-structs_never_stuck bodies p e = never_stuck p (tables_of false p) (structs_judged bodies p e)
-
-pub structs_have_main : BodiesJudged → AcceptedStructsHaveMain
-structs_have_main bodies p e =
-    let k : IsClean structures p = is_clean_program structures p e in main_below bodies p e (structs_found p k.taken k.tags k.names)
+  pub structs_have_main : AcceptedHaveMain
+  structs_have_main p e = main_below bodies p e

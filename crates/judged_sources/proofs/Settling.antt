@@ -28,6 +28,7 @@ abbrev pub IsOpen : Shape → Type 0
 IsOpen IntShape = Unit {0}
 IsOpen UnsignedShape = Unit {0}
 IsOpen CharShape = Unit {0}
+IsOpen VoidShape = Unit {0}
 IsOpen (StructShape tag) = Unit {0}
 IsOpen (ThinShape may_be_null owner to) = (shared_owner owner ≡ Shared) × IsOpen to
 IsOpen _ = ⊥
@@ -64,7 +65,7 @@ settled_same (ThinShape m o to) VoidShape h g = refl
 settled_same (ThinShape m o to) HandleShape h g = refl
 settled_same (ThinShape m o to) (StructShape tag) h g = refl
 settled_same (ThinShape m o to) _ h g = absurd g
-settled_same VoidShape from h g = absurd h
+settled_same VoidShape from h g = refl
 settled_same (FatShape to) from h g = absurd h
 settled_same HandleShape from h g = absurd h
 settled_same KeyShape from h g = absurd h

@@ -5,35 +5,30 @@ use Rattle.std.proofs.lemmas.Bool.{false≢true}
 use Rattle.std.proofs.lemmas.Slice.Eq.{bytes_eq-Decides}
 use Rattle.cyc_tree.specs.Tree as tree
 use Rattle.cyc_tree.specs.Tree.{Item, Program}
-use Rattle.source_meaning.specs.Programs.{layout_of, structs_from, world_of}
+use Rattle.source_lowering.specs.Lowerable.{AreStructs}
+use Rattle.source_meaning.specs.Programs.{layout_of, structs_from, unions_of, world_of}
 use Rattle.source_meaning.specs.Shapes.{Layout, has_tag}
+use Rattle.source_safety.specs.Structs.{StructsJudged}
+use Rattle.source_typing.specs.Extents.{layouts_of, layouts_onto}
 use Rattle.source_typing.specs.Functions.{head_of}
 use Rattle.source_typing.specs.Globals.{global_entry}
 use Rattle.source_typing.specs.Programs.{Judged, all_tag_faults, bare_from, builtins, entries, entries_with, judged_tags}
 use Rattle.source_typing.specs.Programs.{second_names, tables_of}
 use Rattle.source_typing.specs.Scope.{at_item}
-use Rattle.source_typing.specs.Tables.{Named, OfBuiltin, OfFunction, OfTag, Signature, Tables, Tag, find}
+use Rattle.source_typing.specs.Tables.{Entry, Named, OfBuiltin, OfFunction, OfTag, Tables, Tag, find}
 use Rattle.source_typing.specs.Taken.{only_taken, structures}
+use Rattle.judged_sources.proofs.AlignedTables.{layouts_same, tables_aligned}
 use Rattle.judged_sources.proofs.Named.{AreNamed, builtins_known}
 use Rattle.judged_sources.proofs.TagOrder.{AreSorted, all_sorted, bare_known, first_alike}
-use Rattle.judged_sources.proofs.Tags.{StructsFound, behind_builtins, first_tables, judged_list, tags_are}
+use Rattle.judged_sources.proofs.Tags.{behind_builtins, first_tables, judged_list, tags_are}
+use Rattle.judged_sources.proofs.LaidStructs.{AllReached, bare_there, tag_stays}
+use Rattle.judged_sources.proofs.StructSizes.{bare_once, builtins_meant, named_once}
 use Rattle.judged_sources.proofs.StructTags.{Outcome, Unseen, all_steps, in_tables}
 
 -- tags that are found among the items
 record TagHere (x : List ℕ) (t : Tag) (is : List Item) : Type 0 where
   text : t.text ≡ x
   laid_out : (found : List Layout) → has_tag (structs_from is found) x ≡ true
-
-tag_stays : (is : List Item) (found : List Layout) (x : List ℕ) → has_tag found x ≡ true → has_tag (structs_from is found) x ≡ true
-tag_stays [] found x e = e
-tag_stays (tree.StructItem s ∷ is) found x e = tag_stays is (layout_of s ∷ found) x (by (bytes_eq s.tag.text x))
-  where
-    by : (c : Bool) → (if c then true else has_tag found x) ≡ true
-    by true = refl
-    by false = e
-tag_stays (tree.UnionItem s ∷ is) found x e = tag_stays is found x e
-tag_stays (tree.GlobalItem y ∷ is) found x e = tag_stays is found x e
-tag_stays (tree.FunctionItem f ∷ is) found x e = tag_stays is found x e
 
 tag_here : (hs : Tables) (i : ℕ) (js : List Judged) (is : List Item) (x : List ℕ) (t : Tag) → AreNamed js is
     → find (entries_with false hs i js is) x ≡ Some (OfTag t) → TagHere x t is
@@ -82,6 +77,30 @@ builtins_unseen g x e = by (bytes_eq (codes "getchar") x) (bytes_eq (codes "putc
     by false true p = absurd cc
     by false false p = refl
 
+-- what a program's tables have under the name of a struct, and what lowering wants of its structs
+pub record StructsFound (p : Program) : Type 0 where
+  pub named : AreNamed (judged_tags p) p
+  pub structs : StructsJudged (world_of p) (tables_of false p)
+  pub there : (x : List ℕ) (t : Tag) → find (tables_of false p) x ≡ Some (OfTag t) → has_tag (world_of p).structs x ≡ true
+  pub texts : (x : List ℕ) (t : Tag) → find (tables_of false p) x ≡ Some (OfTag t) → t.text ≡ x
+  pub tags : (x : List ℕ) → has_tag (world_of p).structs x ≡ true → (t : Tag) × (find (tables_of false p) x ≡ Some (OfTag t))
+  -- each is made of earlier ones, has a member and few bytes
+  pub lowered : AreStructs [] (world_of p).structs
+  pub reached : AllReached (world_of p).structs (world_of p).structs
+  pub no_unions : (world_of p).unions ≡ []
+  -- the rules lay out these structs, and no unions
+  pub layouts : layouts_of false (tables_of false p) ≡ (world_of p).structs
+  pub union_layouts : layouts_of true (tables_of false p) ≡ []
+
+-- what is no tag isn't that of a struct
+pub not_made : (p : Program) (x : List ℕ) (e : Entry) → StructsFound p → find (tables_of false p) x ≡ Some e → ((t : Tag) → e ≡ OfTag t → ⊥)
+    → has_tag (world_of p).structs x ≡ false
+not_made p x e h q n = by (has_tag (world_of p).structs x) (h.tags x)
+  where
+    by : (c : Bool) → (c ≡ true → (t : Tag) × (find (tables_of false p) x ≡ Some (OfTag t))) → c ≡ false
+    by false k = refl
+    by true k = let z = k refl in let y : Some e ≡ Some (OfTag z.0) = sym q ∙ z.1 in absurd (n z.0 cc)
+
 module _ (p : Program) (t : only_taken structures p ≡ p) (clean : all_tag_faults (judged_tags p) ≡ [])
     (names : second_names (codes "getchar" ∷ codes "putchar" ∷ []) p ≡ [])
   where
@@ -94,9 +113,11 @@ module _ (p : Program) (t : only_taken structures p ≡ p) (clean : all_tag_faul
     sorted : AreSorted p
     sorted = all_sorted (first_tables p) 0 [] p t list_clean
 
-    outcome : Outcome (tables_of false p) (judged_list (first_tables p) 0 [] p) p [] (0 + length p)
+    outcome : Outcome (world_of p).structs (tables_of false p) (judged_list (first_tables p) 0 [] p) p [] (0 + length p)
     outcome =
-        all_steps (tables_of false p) (bare_from 0 p) heads_tables (builtins_known (bare_from 0 p) (bare_known 0 p sorted)) 0 [] p [] []
+        all_steps (world_of p).structs (tables_of false p) (bare_from 0 p) heads_tables (builtins_known (bare_from 0 p) (bare_known 0 p sorted))
+        (λ x u e. bare_there 0 p [] x u sorted (behind_builtins (bare_from 0 p) x u e))
+        (bare_once (codes "getchar" ∷ codes "putchar" ∷ []) 0 p names) 0 [] p [] []
         (codes "getchar" ∷ codes "putchar" ∷ []) sorted (first_alike (first_tables p) 0 p) tt list_clean names
         (subst (λ (js : List Judged). Unseen (tables_of false p) (codes "getchar" ∷ codes "putchar" ∷ []) (entries_with false heads_tables 0 js p)) (tags_are p)
         (builtins_unseen (entries_with false heads_tables 0 (judged_tags p) p))) (record {
@@ -105,6 +126,7 @@ module _ (p : Program) (t : only_taken structures p ≡ p) (clean : all_tag_faul
           in_order = tt;
           laid_out = tt;
           in_tables = tt;
+          laid = record { in_order = tt; reached = tt; layouts = refl; unions = refl };
           seen_all = λ x e. absurd (false≢true e);
           few = omega arith;
         })
@@ -116,7 +138,22 @@ module _ (p : Program) (t : only_taken structures p ≡ p) (clean : all_tag_faul
     here x u e =
         tag_here heads_tables 0 (judged_tags p) p x u its_names (behind_builtins (entries_with false heads_tables 0 (judged_tags p) p) x u e)
 
-    -- what its tables have under the names of its structs
+    none : (is : List Item) → AreSorted is → unions_of is ≡ []
+    none [] k = refl
+    none (tree.StructItem s ∷ is) k = none is k.1
+    none (tree.UnionItem s ∷ is) k = absurd k.0
+    none (tree.GlobalItem x ∷ is) k = none is k.1
+    none (tree.FunctionItem f ∷ is) k = none is k.1
+
+    -- the tables lay out what is judged
+    meant : (union : Bool) → layouts_of union (tables_of false p) ≡ layouts_onto union [] (entries (judged_list (first_tables p) 0 [] p))
+    meant union =
+        let js : List Judged = judged_list (first_tables p) 0 [] p in
+        layouts_same union (tables_of false p) heads_tables (tables_aligned heads_tables (judged_tags p) p its_names)
+        ∙ (ap (λ (ks : List Judged). layouts_of union (builtins (entries ks))) (tags_are p)
+        ∙ ap (λ (g : Tables). layouts_onto union [] g)
+        (builtins_meant (entries js) (named_once (codes "getchar" ∷ codes "putchar" ∷ []) js p outcome.named names)))
+
     pub structs_found : StructsFound p
     structs_found = record {
       named = its_names;
@@ -130,10 +167,10 @@ module _ (p : Program) (t : only_taken structures p ≡ p) (clean : all_tag_faul
       };
       there = λ x u e. (here x u e).laid_out [];
       texts = λ x u e. (here x u e).text;
-      not_made = λ x s e. by x s e (has_tag (world_of p).structs x) (λ q. in_tables (tables_of false p) (world_of p).structs x outcome.in_tables q);
+      tags = λ x e. in_tables (tables_of false p) (world_of p).structs x outcome.in_tables e;
+      lowered = outcome.lowered.0;
+      reached = outcome.lowered.1;
+      no_unions = none p sorted;
+      layouts = meant false ∙ outcome.layouts;
+      union_layouts = meant true ∙ outcome.unions;
     }
-      where
-        by : (x : List ℕ) (s : Signature) → find (tables_of false p) x ≡ Some (OfFunction s) → (c : Bool)
-            → (c ≡ true → (u : Tag) × (find (tables_of false p) x ≡ Some (OfTag u))) → c ≡ false
-        by x s e true k = absurd (let z : (u : Tag) × (find (tables_of false p) x ≡ Some (OfTag u)) = k refl in let y : Some (OfFunction s) ≡ Some (OfTag z.0) = sym e ∙ z.1 in cc)
-        by x s e false k = refl

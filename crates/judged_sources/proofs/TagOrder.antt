@@ -17,7 +17,6 @@ use Rattle.judged_sources.proofs.GoodTypes.{IsKnownEntry, KnowsTags}
 use Rattle.judged_sources.proofs.HeadTags.{AreAlike, TablesAlike, heads_clean}
 use Rattle.judged_sources.proofs.MemberTypes.{AreMembersTaken, members_are_taken}
 use Rattle.judged_sources.proofs.Named.{named_known}
-use Rattle.judged_sources.proofs.NoTags.{refused_clean}
 use Rattle.judged_sources.proofs.Tags.{judged_list}
 
 -- ---- structs that are taken
@@ -35,6 +34,18 @@ struct_taken [] (m ∷ ms) s q h e =
 struct_taken [] [] s q h e =
     absurd (let a : refused_member s.at [] ∷ [] ≡ s.members = ap (λ (z : tree.Structure). z.members) e in let b : refused_member s.at [] ∷ [] ≡ [] = a ∙ h in cc)
 struct_taken (r ∷ rs) ms s q h e = absurd (let a : [] ≡ s.regions = ap (λ (z : tree.Structure). z.regions) e in let b : [] ≡ r ∷ rs = a ∙ q in cc)
+
+-- a struct or union that isn't taken is at fault
+refused_clean : (g : Tables) (i : ℕ) (u : Bool) (s t : tree.Structure) → refused_structure t ≡ s → tag_faults g i u s ≡ [] → ⊥
+refused_clean g i u s t e p = by (subst (λ z. tag_faults g i u z ≡ []) (sym e) p)
+  where
+    by : tag_faults g i u (refused_structure t) ≡ [] → ⊥
+    by p =
+        let r : tree.Structure = refused_structure t in
+        let a : ((region_parameters r).1 ++ member_faults (tag_scope g i r) u r.members) ++ repeated [] r.members ≡ [] =
+        (own_is (struct_sized g u r (tag_parts g i u r)) (((region_parameters r).1 ++ member_faults (tag_scope g i r) u r.members) ++ repeated [] r.members)
+        p).1 in
+        cc
 
 -- structs, globals and functions alone
 abbrev pub IsSorted : Item → Type 0
@@ -159,18 +170,18 @@ no_arguments g x t h e =
 -- ---- the faults of a struct
 
 pub record TagClean (g : Tables) (i : ℕ) (s : tree.Structure) : Type 0 where
+  pub sized : struct_sized g false s (tag_parts g i false s) ≡ []
   pub parameters : (region_parameters s).1 ≡ []
   pub members : member_faults (tag_scope g i s) false s.members ≡ []
   pub once : repeated [] s.members ≡ []
 
 pub tag_clean : (g : Tables) (i : ℕ) (s : tree.Structure) → tag_faults g i false s ≡ [] → TagClean g i s
 tag_clean g i s p =
-    let a : ((region_parameters s).1 ++ member_faults (tag_scope g i s) false s.members) ++ repeated [] s.members ≡ [] =
-    (own_is (struct_sized g false s (tag_parts g i false s)) (((region_parameters s).1 ++ member_faults (tag_scope g i s) false s.members) ++ repeated [] s.members)
-    p).1 in
-    let b = none_of_both ((region_parameters s).1 ++ member_faults (tag_scope g i s) false s.members) (repeated [] s.members) a in
+    let o = own_is (struct_sized g false s (tag_parts g i false s))
+    (((region_parameters s).1 ++ member_faults (tag_scope g i s) false s.members) ++ repeated [] s.members) p in
+    let b = none_of_both ((region_parameters s).1 ++ member_faults (tag_scope g i s) false s.members) (repeated [] s.members) o.1 in
     let c = none_of_both (region_parameters s).1 (member_faults (tag_scope g i s) false s.members) b.0 in
-    record { parameters = c.0; members = c.1; once = b.1 }
+    record { sized = o.0; parameters = c.0; members = c.1; once = b.1 }
 
 pub no_names : (g : Tables) (i : ℕ) (s : tree.Structure) → StructTaken s → NamesBelow 0 (tag_scope g i s).names
 no_names g i s h = subst (λ (rs : List tree.RegionName). NamesBelow 0 (Rattle.source_typing.specs.Tags.parameters_from 0 [] rs).0) (sym h.regions) tt

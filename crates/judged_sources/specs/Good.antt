@@ -2,7 +2,6 @@
 use Rattle.std.specs.Prelude.{◌≡◌, ℕ, true, false, Some, List, [], ◌∷◌, map}
 use Rattle.cyc_tree.specs.Operands.{ItemsHaveOperands}
 use Rattle.cyc_tree.specs.Tree.{BlockItems, Expression}
-use Rattle.source_lowering.specs.Taken.{Takes, TakesItems, TakesPlace}
 use Rattle.source_safety.specs.Entries.{AreObjects, IsObjectType, IsPlain}
 use Rattle.source_safety.specs.Judged.{ItemsJudged}
 use Rattle.source_safety.specs.Named.{Below, TypeBelow, TypesBelow}
@@ -12,8 +11,8 @@ use Rattle.source_typing.specs.Scope.{Env, In, InBlock, InRegion, Nowhere, Seat,
 use Rattle.source_typing.specs.Statements.{items_faults}
 use Rattle.source_typing.specs.Calls.{part_types}
 use Rattle.source_typing.specs.Tables.{Entry, OfBuiltin, OfFunction, OfTag, OfValue, Signature, Stored, Tables, Tag}
-use Rattle.source_typing.specs.Taken.{items_taken, taken, thin_pointers, structures}
-use Rattle.source_typing.specs.Types.{Null, StaticType, Void, shape_of}
+use Rattle.source_typing.specs.Taken.{items_taken, taken, structures}
+use Rattle.source_typing.specs.Types.{Null, StaticType, Void}
 use Rattle.source_typing.specs.Verdicts.{Faulty, Of, Unjudged, Verdict}
 use Rattle.source_typing.specs.Written.{RegionNamed}
 
@@ -84,27 +83,20 @@ SeatBelow count Nowhere = Unit {0}
 SeatBelow count (In r) = Below count r
 SeatBelow count InBlock = ⊥
 
--- What is known of an expression without fault. Where it has no structs, lowering takes it, and takes it as a place where it is one.
-pub record IsGoodValue (g : Env) (e : Expression) (v : Value) : Type 0 where
+-- what is known of an expression without fault
+pub record IsGoodValue (g : Env) (v : Value) : Type 0 where
   pub type : IsValueType v.type
   pub below : TypeBelow g.regions.count v.type
   pub seat : SeatBelow g.regions.count v.seat
   pub object : is_place v.seat ≡ true → IsObjectType v.type
-  pub takes : taken thin_pointers e ≡ e → Takes e
-  pub place : taken thin_pointers e ≡ e → is_place v.seat ≡ true → TakesPlace e
 
 -- each expression of these forms is at fault, or it is in order
 abbrev pub ExpressionsJudged : Type 0
-ExpressionsJudged = (e : Expression) (g : Env) → IsGood g
-    → (let given = taken structures e in Surely (λ v. IsGoodValue g given v) (judge g given))
+ExpressionsJudged = (e : Expression) (g : Env) → IsGood g → Surely (λ v. IsGoodValue g v) (judge g (taken structures e))
 
 -- ---- the body of a function that gives a type
-
-pub record BodyJudged (g : Env) (gives : StaticType) (items : BlockItems) : Type 0 where
-  pub judged : ItemsJudged g items
-  pub takes : items_taken thin_pointers items ≡ items → TakesItems (shape_of gives) items
 
 -- a body of these forms in which the rules find no fault is in order
 abbrev pub BodiesJudged : Type 0
 BodiesJudged = (items : BlockItems) (g : Env) (gives : StaticType) → IsGood g → g.result ≡ Some gives → IsPlain gives
-    → items_taken structures items ≡ items → ItemsHaveOperands items → items_faults g true items ≡ [] → BodyJudged g gives items
+    → items_taken structures items ≡ items → ItemsHaveOperands items → items_faults g true items ≡ [] → ItemsJudged g items

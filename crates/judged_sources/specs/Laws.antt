@@ -1,4 +1,4 @@
--- What holds of all programs of integers, thin pointers and structs in which the rules find no fault.
+-- What holds of all programs of the forms that are taken today in which the rules find no fault.
 use Rattle.std.specs.Prelude.{◌≡◌, ◌<◌, ℕ, false, List, [], length}
 use Rattle.cyc_tree.specs.Tree.{Program}
 use Rattle.cyc_words.specs.Events.{SourceEnding}
@@ -8,40 +8,22 @@ use Rattle.source_meaning.specs.Programs.{source}
 use Rattle.source_safety.specs.Programs.{ProgramJudged}
 use Rattle.source_typing.specs.Answers.{program_faults}
 use Rattle.source_typing.specs.Programs.{tables_of}
-use Rattle.source_typing.specs.Taken.{thin_pointers, structures}
-
--- ---- integers and thin pointers
+use Rattle.source_typing.specs.Taken.{supported}
 
 -- each phrase of each is judged, by the tables that the rules have of its names
 abbrev pub AcceptedAreJudged : Type 0
-AcceptedAreJudged = (p : Program) → program_faults thin_pointers p ≡ [] → ProgramJudged p (tables_of false p)
+AcceptedAreJudged = (p : Program) → program_faults supported p ≡ [] → ProgramJudged p (tables_of false p)
 
 -- lowering takes each
 abbrev pub AcceptedAreLowerable : Type 0
-AcceptedAreLowerable = (p : Program) → program_faults thin_pointers p ≡ [] → IsLowerable p
+AcceptedAreLowerable = (p : Program) → program_faults supported p ≡ [] → IsLowerable p
 
 -- none is ever stuck, on any input, with any fuel
 abbrev pub AcceptedAreNeverStuck : Type 0
-AcceptedAreNeverStuck = (p : Program) → program_faults thin_pointers p ≡ []
+AcceptedAreNeverStuck = (p : Program) → program_faults supported p ≡ []
     → (input : List ℕ) (n : ℕ) → (source p input n).ending ≡ SourceEnding.Stuck → ⊥
 
 -- the Core of each has the function that it begins with
 abbrev pub AcceptedHaveMain : Type 0
-AcceptedHaveMain = (p : Program) → program_faults thin_pointers p ≡ []
-    → (program_code p).main < length (program_code p).functions
-
--- ---- structs too
-
--- each phrase of each is judged, by the tables that the rules have of its names
-abbrev pub AcceptedStructsAreJudged : Type 0
-AcceptedStructsAreJudged = (p : Program) → program_faults structures p ≡ [] → ProgramJudged p (tables_of false p)
-
--- none is ever stuck, on any input, with any fuel
-abbrev pub AcceptedStructsAreNeverStuck : Type 0
-AcceptedStructsAreNeverStuck = (p : Program) → program_faults structures p ≡ []
-    → (input : List ℕ) (n : ℕ) → (source p input n).ending ≡ SourceEnding.Stuck → ⊥
-
--- the Core of each has the function that it begins with
-abbrev pub AcceptedStructsHaveMain : Type 0
-AcceptedStructsHaveMain = (p : Program) → program_faults structures p ≡ []
+AcceptedHaveMain = (p : Program) → program_faults supported p ≡ []
     → (program_code p).main < length (program_code p).functions

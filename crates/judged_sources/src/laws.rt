@@ -1,10 +1,9 @@
-// What holds of all programs of integers, thin pointers and structs in which the rules find no fault.
+// What holds of all programs of the forms that are taken today in which the rules find no fault.
 
 ghost use Rattle.judged_sources.specs.Laws.{AcceptedAreJudged, AcceptedAreLowerable, AcceptedAreNeverStuck, AcceptedHaveMain};
-ghost use Rattle.judged_sources.specs.Laws.{AcceptedStructsAreJudged, AcceptedStructsAreNeverStuck, AcceptedStructsHaveMain};
 
-/// A law, with nothing to run: a program in which the rules find no fault, where integers and thin pointers are taken, is in
-/// order by the rules' own tables of its names.
+/// A law, with nothing to run: a program in which the rules find no fault, where integers, thin pointers and structs without
+/// region parameters are taken, is in order by the rules' own tables of its names.
 pub fn accepted_are_judged()
     ensures { AcceptedAreJudged }
 {}
@@ -22,20 +21,4 @@ pub fn accepted_are_never_stuck()
 /// A law, with nothing to run: the Core that such a program is lowered to has the function that it begins with.
 pub fn accepted_have_main()
     ensures { AcceptedHaveMain }
-{}
-
-/// A law, with nothing to run: a program of structs too in which the rules find no fault is in order by the rules' own tables
-/// of its names.
-pub fn accepted_structs_are_judged()
-    ensures { AcceptedStructsAreJudged }
-{}
-
-/// A law, with nothing to run: no such program is ever stuck, on any input and with any fuel.
-pub fn accepted_structs_are_never_stuck()
-    ensures { AcceptedStructsAreNeverStuck }
-{}
-
-/// A law, with nothing to run: the Core that such a program is lowered to has the function that it begins with.
-pub fn accepted_structs_have_main()
-    ensures { AcceptedStructsHaveMain }
 {}

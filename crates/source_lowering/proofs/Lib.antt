@@ -53,9 +53,6 @@ pub mod WholeCosts
 pub mod WholeObjects
 pub mod LocalWords
 pub mod Bounded
-pub mod PlainShapes
-pub mod OfWords
-pub mod WithoutValues
 mod Samples
 mod WholeSamples
 mod SameShapes

@@ -3,8 +3,8 @@
 //! specs/Lowered has the code of expressions, specs/Whole that of structs as values, specs/Programs
 //! that of statements, functions and programs, specs/Lowerable says which programs are taken: those
 //! of functions, globals and locals of integers, of structs and of thin pointers to these
-//! (specs/Taken has those without structs). specs/Agreeing has what is proved of these, `programs_are_the_same`, and specs/Bounds
-//! the bounds on frames and code. There is no code but these laws. Stands on `source_meaning` and
+//! (specs/Taken has their types and constants). specs/Agreeing has what is proved of these, `programs_are_the_same`, and
+//! specs/Bounds the bounds on frames and code. There is no code but these laws. Stands on `source_meaning` and
 //! `core_meaning`.
 #![tactic(auto)]
 

@@ -1,5 +1,5 @@
 -- There are no strings where no arrays are taken.
-use Rattle.std.proofs.Common.{◌≡◌, ℕ, List, [], ◌∷◌, ◌++◌, Bool, true, false, refl, ap, ◌∙◌}
+use Rattle.std.proofs.Common.{◌≡◌, ℕ, List, [], ◌∷◌, ◌++◌, Bool, true, false, refl, subst, ap, ◌∙◌}
 use Rattle.std.specs.Prelude.{Option, Some, None, ◌&&◌, if◌then◌else◌}
 use Rattle.cyc_tree.specs.Places.{expression_place}
 use Rattle.cyc_tree.specs.Tree.{Array, Arrow, BlockItems, Clauses, Constant, Declare, Dot, Execute, Expression, Expressions, Index, Initial, Initializer, Item}
@@ -7,10 +7,10 @@ use Rattle.cyc_tree.specs.Tree.{Links, Made, MoreClauses, MoreExpressions, MoreL
 use Rattle.cyc_tree.specs.Tree.{Suffixes, TypeName}
 use Rattle.source_meaning.specs.Expressions.{is_unique_region}
 use Rattle.source_meaning.specs.Strings.{Literal, clauses_strings, constant_strings, declaration_strings, expression_strings, expressions_strings}
-use Rattle.source_meaning.specs.Strings.{initial_strings, initializer_strings, item_strings, items_strings, links_strings, made_strings, returned_strings}
+use Rattle.source_meaning.specs.Strings.{initial_strings, initializer_strings, item_strings, items_strings, links_strings, made_strings, program_strings, returned_strings}
 use Rattle.source_meaning.specs.Strings.{statement_strings, suffixes_strings}
 use Rattle.source_typing.specs.Taken.{Taken, all_taken, are_linked, are_some, are_suffixed, clauses_taken, constant_taken, declaration_taken, declared_if}
-use Rattle.source_typing.specs.Taken.{global_if, if_taken, initial_taken, initializer_taken, item_taken, items_taken, links_taken, made_taken}
+use Rattle.source_typing.specs.Taken.{global_if, if_taken, initial_taken, initializer_taken, item_taken, items_taken, links_taken, made_taken, only_taken}
 use Rattle.source_typing.specs.Taken.{refused_constant, result_taken, statement_if, statement_taken, suffixes_taken, taken, takes_handle, takes_initial}
 use Rattle.source_typing.specs.Taken.{takes_initializer, takes_made, takes_prefix, takes_suffixes, takes_type}
 use Rattle.cyc_tree.specs.Tree as tree
@@ -187,3 +187,11 @@ module _ (k : Taken) (none : k.arrays ≡ false) where
   item_silent (tree.GlobalItem x) =
       global_silent (takes_type k x.of && takes_initial k x.initial) x (initial_taken k x.of x.initial) (initial_silent x.of x.initial)
   item_silent (tree.FunctionItem f) = items_silent f.body
+
+  -- a program that is taken as it is
+  pub program_silent : (is : List Item) → only_taken k is ≡ is → program_strings is ≡ []
+  program_silent [] t = refl
+  program_silent (x ∷ is) t =
+      let a : item_taken k x ≡ x = cc in
+      let b : only_taken k is ≡ is = cc in
+      no_more (item_strings x) (program_strings is) (subst (λ (y : Item). item_strings y ≡ []) a (item_silent x)) (program_silent is b)

@@ -1,7 +1,7 @@
 // Which forms are taken.
 
 ghost use Rattle.std.specs.Prelude.{◌≡◌};
-ghost use Rattle.source_typing.specs.Taken.{thin_pointers};
+ghost use Rattle.source_typing.specs.Taken.{supported, thin_pointers};
 ghost use Rattle.type_verdicts.specs.Taken.{taken_of};
 
 /// Which forms of the language are taken beside integers and thin pointers.
@@ -17,5 +17,12 @@ impl Taken {
         ensures { taken_of result ≡ thin_pointers }
     {
         Taken { structs: false }
+    }
+
+    /// What the compiler and the evaluator take today.
+    pub fn supported() -> Taken
+        ensures { taken_of result ≡ supported }
+    {
+        Taken { structs: true }
     }
 }

@@ -1,18 +1,21 @@
 pub mod Converting
+pub mod FirstTags
 mod InCells
 mod InLayouts
 mod InOrder
 pub mod KindsUnder
 mod Laid
+pub mod LaterTags
 mod Lengths
 mod Measured
 mod MemberSteps
 mod NextMember
 pub mod Outermost
 mod PlacedCells
+mod Pointers
 pub mod Sameness
 mod Spread
 mod StillMeasured
 mod StructBytes
 mod StructCells
-mod Pointers
+pub mod WrittenTags

@@ -1,5 +1,5 @@
 -- Whether a struct of members has too many bytes, by what is known of the structs and unions that they are.
-use Rattle.std.proofs.Common.{◌≡◌, Bool, true, false, List, [], ◌∷◌, refl, sym, ap, ◌∙◌, cond}
+use Rattle.std.proofs.Common.{◌≡◌, Bool, true, false, List, [], ◌∷◌, refl, sym, ap, ◌∙◌}
 use Rattle.std.proofs.lemmas.Slice.Eq.{bytes_eq-Decides}
 use Rattle.std.specs.Prelude.{None, Option, Some, if◌then◌else◌, is_some}
 use Rattle.cyc_tree.specs.Tree.{Structure}

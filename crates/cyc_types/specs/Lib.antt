@@ -1,6 +1,7 @@
 pub mod Bases
 pub mod Cells
 pub mod Conversions
+pub mod FirstTags
 pub mod InOrder
 pub mod Known
 pub mod Laying

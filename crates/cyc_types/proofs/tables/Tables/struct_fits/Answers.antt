@@ -1,4 +1,4 @@
-use Rattle.std.proofs.Common.{◌≡◌, ap, refl, sym, ◌∙◌}
+use Rattle.std.proofs.Common.{◌≡◌, ap, refl, ◌∙◌}
 use Rattle.std.specs.Prelude.{None, Option, Some, is_some}
 use Rattle.cyc_types.specs.Measures.{measured}
 use Rattle.cyc_types.specs.Tags.{members_of}

@@ -1,0 +1,25 @@
+use Rattle.std.proofs.Common.{ap, sym, ◌∙◌}
+use Rattle.cyc_tree.specs.View.{type_tree}
+use Rattle.cyc_types.specs.Types.{static_type}
+use Rattle.type_verdicts.specs.Verdicts.{short_of}
+use Rattle.judged_tags.proofs.FirstKnown.{clean_short, head_as}
+use Rattle.judged_tags.proofs.heads.is_head_clean.Goals as goal
+
+pub returns-in-Of : goal.returns-in-Of
+returns-in-Of c g i bare =
+    c.fits_member.ensures
+    ∙ sym (ap (λ v. clean_short (short_of static_type v)) c.in-Of.is)
+    ∙ ap (λ s. clean_short s) (c.in_ok-of.ensures g (c.tag_of_type-tag.ensures g (λ h x. bare.0 x)))
+    ∙ sym (head_as c.args.taken g i c.args.names.now (type_tree c.args.of.now) bare)
+
+pub returns-in-Wrong : goal.returns-in-Wrong
+returns-in-Wrong c g i bare =
+    sym (ap (λ v. clean_short (short_of static_type v)) c.in-Wrong.is)
+    ∙ ap (λ s. clean_short s) (c.in_ok-of.ensures g (c.tag_of_type-tag.ensures g (λ h x. bare.0 x)))
+    ∙ sym (head_as c.args.taken g i c.args.names.now (type_tree c.args.of.now) bare)
+
+pub returns-in-NotJudged : goal.returns-in-NotJudged
+returns-in-NotJudged c g i bare =
+    sym (ap (λ v. clean_short (short_of static_type v)) c.in-NotJudged.is)
+    ∙ ap (λ s. clean_short s) (c.in_ok-of.ensures g (c.tag_of_type-tag.ensures g (λ h x. bare.0 x)))
+    ∙ sym (head_as c.args.taken g i c.args.names.now (type_tree c.args.of.now) bare)

@@ -1,0 +1,14 @@
+use Rattle.std.proofs.Common.{subst, sym}
+use Rattle.std.specs.Prelude.{Some}
+use Rattle.cyc_tree.specs.View.{program_item_tree}
+use Rattle.source_typing.specs.Programs.{judged_tag}
+use Rattle.source_typing.specs.Taken.{item_taken}
+use Rattle.type_verdicts.specs.Taken.{taken_of}
+use Rattle.judged_tags.specs.Tags.{IsFound}
+use Rattle.judged_tags.proofs.tags.judged_item.Goals as goal
+
+pub returns-in_ok-refused-in-Union : goal.returns-in_ok-refused-in-Union
+returns-in_ok-refused-in-Union c g stands =
+    let found = c.in_ok-refused-in-Union.ensures g in
+    subst (λ x. IsFound (judged_tag g c.args.order (item_taken (taken_of c.args.taken) (program_item_tree x))) (Some c.in_ok-refused-in-Union.refused))
+    (sym c.in-Union.is) (sym found.entry, found.fault)

@@ -1,0 +1,37 @@
+-- What is known of the names of a program before its tags are judged.
+use Rattle.std.specs.Prelude.{Bool, List, false, if◌then◌else◌, true, ℕ, ◌≡◌}
+use Rattle.cyc_tree.specs.Tree.{Program}
+use Rattle.source_typing.specs.Programs.{bare_from, builtins, first_from}
+use Rattle.source_typing.specs.Tables.{Tables, find}
+use Rattle.written_types.specs.Naming.{has_tag_name, tag_named}
+use Rattle.written_types.specs.Tagged.{IsNamed, tag_name_of}
+use Rattle.written_types.specs.declared.tag_names.TagNames.{TagNames}
+use Rattle.written_types.specs.declared.tagged.TagName.{TagName}
+use Rattle.written_types.specs.declared.tagged.TagName.TheVariants as code
+
+-- each name means what it means by the rules, and no tag has region parameters
+abbrev pub AreNames : TagNames → Tables → Type 0
+AreNames names g = (x : List ℕ) → IsNamed g x (tag_named names x)
+
+abbrev pub is_judged : TagName → Bool
+is_judged code.NotJudged = false
+is_judged n = true
+
+-- no tag is at fault
+abbrev pub AreBare : TagNames → Tables → Type 0
+AreBare names g = AreNames names g × ((x : List ℕ) → is_judged (tag_named names x) ≡ true)
+
+-- the tags of a program, and then with what is first known of them
+abbrev pub bare_tags : Program → Tables
+bare_tags items = builtins (bare_from 0 items)
+
+abbrev pub first_tags : Program → Tables
+first_tags items = builtins (first_from (bare_tags items) 0 items)
+
+-- what a name means: what was added of it, or else what it means in the rest
+abbrev pub named_since : TagNames → Tables → List ℕ → TagName
+named_since names rest x = (if has_tag_name names x then tag_named names x else tag_name_of (find rest x))
+
+-- all names, by those that were added and by the rest
+abbrev pub AreSince : TagNames → Tables → Tables → Type 0
+AreSince names rest all = (x : List ℕ) → named_since names rest x ≡ tag_name_of (find all x)

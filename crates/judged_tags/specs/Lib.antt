@@ -1,0 +1,3 @@
+pub mod FirstKnown
+pub mod Members
+pub mod Tags

@@ -1,0 +1,27 @@
+-- The members of a struct, one by one.
+use Rattle.std.specs.Prelude.{List, Option, ℕ, ◌≡◌, []}
+use Rattle.cyc_tree.specs.Tree.{Member, TypeName}
+use Rattle.source_typing.specs.Faults.{earliest}
+use Rattle.source_typing.specs.Tables.{Tables}
+use Rattle.source_typing.specs.Tags.{is_named, repeated, settled_alone}
+use Rattle.source_typing.specs.Types.{StaticType}
+use Rattle.source_typing.specs.Verdicts.{Verdict, after}
+use Rattle.source_typing.specs.Written.{written}
+use Rattle.type_verdicts.specs.Faults.{faults_of, first_of}
+use Rattle.type_verdicts.specs.declared.fault.Fault as code
+use Rattle.written_types.specs.Naming.{has_tag_name}
+use Rattle.written_types.specs.declared.tag_names.TagNames.{TagNames}
+
+-- a type that takes no missing regions from another one, where no region name is known
+abbrev pub type_alone : Tables → TypeName → Verdict StaticType
+type_alone g t = after (written g [] t) (settled_alone t.at)
+
+-- these are the names of these members
+abbrev pub AreNamed : List Member → TagNames → Type 0
+AreNamed before names = (x : List ℕ) → has_tag_name names x ≡ is_named before x
+
+-- what was found of second members of a name, with what is left: the rest of the members, after others with these names
+pub record RepeatedLeft (members : List Member) (found : Option code.Fault) (rest : List Member) (names : TagNames) : Type 0 where
+  pub before : List Member
+  pub are : AreNamed before names
+  pub is : first_of (faults_of found) (earliest (repeated before rest)) ≡ earliest (repeated [] members)

@@ -1,13 +1,12 @@
 -- What the rules say of a call's arguments, by what its variables are fixed to in code.
-use Rattle.std.specs.Prelude.{replicate, ◌++◌}
-use Rattle.std.proofs.Common.{◌≡◌, ℕ, true, Option, None, List, [], ◌∷◌, refl, sym, ◌∙◌, ap}
+use Rattle.std.specs.List.{list_all}
+use Rattle.std.specs.Prelude.{is_some, replicate}
+use Rattle.std.proofs.Common.{◌≡◌, ℕ, Option, Some, None, List, [], ◌∷◌, refl, sym, ◌∙◌, ap}
 use Rattle.cyc_types.specs.declared.ctype.CType.{CType}
-use Rattle.source_typing.specs.Calls.{all_convert, all_known, arguments_converted, if_all_known, partly_convert}
-use Rattle.source_typing.specs.Faults.{Fault}
+use Rattle.source_typing.specs.Calls.{all_known}
 use Rattle.source_typing.specs.Fixing.{Fit, fixed_from, fixed_known}
-use Rattle.source_typing.specs.Regions.{Region, TheHeap}
-use Rattle.source_typing.specs.Scope.{Enclosing, Env, InRegion, Value}
-use Rattle.source_typing.specs.Types.{StaticType}
+use Rattle.source_typing.specs.Regions.{TheHeap}
+use Rattle.source_typing.specs.Scope.{Enclosing, InRegion}
 use Rattle.source_typing.specs.Verdicts.{Of, unless_faulty}
 use Rattle.judged_calls.specs.Fitted.{parameter_types}
 use Rattle.judged_calls.specs.Fixings.{all_stand_for, fixed_with, fixing_faults, fixings_of, regions_by, which_are_known}
@@ -23,15 +22,8 @@ module _ (h : Enclosing) (at n : ℕ) (fits : List Fit) (fs : List (Option code.
   pub variables_known : fixed_known h at fits 0 n ≡ which_are_known (fixings_of fs)
   variables_known = ap (λ e. fixed_known e at fits 0 n) heap ∙ known_is at fits 0 n ∙ ap which_are_known (sym are)
 
-pub all_are_known : (ps : List CType) → all_known (parameter_types ps) ≡ true
-all_are_known [] = refl
-all_are_known (p ∷ ps) = all_are_known ps
-
--- with all variables in order, and with one at fault
-module _ (g : Env) (some : List (Option Region)) (ps : List (Option StaticType)) (vs : List Value) (rs : List Region) where
-  pub in_order : all_known ps ≡ true → arguments_converted g some ps vs (unless_faulty [] (Of rs)) ≡ unless_faulty (all_convert g rs ps vs) (Of rs)
-  in_order e = ap (λ b. unless_faulty (all_convert g rs ps vs) (if_all_known b rs)) e
-
-  pub at_fault : (f : Fault) (fs : List Fault)
-      → arguments_converted g some ps vs (unless_faulty (f ∷ fs) (Of rs)) ≡ unless_faulty ((f ∷ fs) ++ partly_convert g some ps vs) (Of rs)
-  at_fault f fs = refl
+-- whether all parameters are of known types
+pub known_parameters : (ps : List (Option CType)) → list_all (λ o. is_some o) ps ≡ all_known (parameter_types ps)
+known_parameters [] = refl
+known_parameters (None ∷ ps) = refl
+known_parameters (Some p ∷ ps) = known_parameters ps

@@ -19,7 +19,8 @@ use Rattle.source_typing.specs.Missing.{outer_region, pointee_of}
 use Rattle.source_typing.specs.Regions.{Level, Region, same_id}
 use Rattle.source_typing.specs.Types.{Char, Fat, Handle, Int, Key, Null, StaticType, Struct, Thin, Union, Unique, Unsigned, Void}
 use Rattle.source_typing.specs.Written.{Missing}
-use Rattle.judged_calls.specs.Fitted.{base_fits, fits_all, layer_fits, pointer_fits}
+use Rattle.judged_values.specs.declared.value.Value.{Value}
+use Rattle.judged_calls.specs.Fitted.{base_fits, fits_all, layer_fits, parameter_fits, pointer_fits}
 use Rattle.judged_calls.specs.Fixings.{Fixing, first_fixing, fixed_with, of_fit, or_else}
 use Rattle.judged_calls.proofs.Fixes.{Alike, first_both, with_alike, with_both}
 
@@ -247,9 +248,14 @@ pub no_pointer_fits : (at : ℕ) (ls : List Layer) → pointer_fits at ls [] ≡
 no_pointer_fits at [] = refl
 no_pointer_fits at (l ∷ ls) = refl
 
-pub no_fits : (ps : List CType) → fits_all ps [] ≡ []
+pub no_fits : (ps : List (Option CType)) → fits_all ps [] ≡ []
 no_fits [] = refl
-no_fits (p ∷ ps) = refl
+no_fits (None ∷ ps) = refl
+no_fits (Some p ∷ ps) = refl
+
+pub next_fits : (p : Option CType) (ps : List (Option CType)) (v : Value) (vs : List Value) → fits_all (p ∷ ps) (v ∷ vs) ≡ parameter_fits p v ++ fits_all ps vs
+next_fits None ps v vs = refl
+next_fits (Some p) ps v vs = refl
 
 pub no_argument_fits : (at : ℕ) (rs : List RegionId) → fit_all at (regions_of rs) [] ≡ []
 no_argument_fits at rs = fit_none at (regions_of rs)

@@ -1,5 +1,5 @@
 -- Regions of a parameter's type with those of an argument's, by the pointers of both in code.
-use Rattle.std.specs.Prelude.{List, Some, length, map, nat_eq, ℕ, if◌then◌else◌, [], ◌∷◌, ◌++◌, Option}
+use Rattle.std.specs.Prelude.{List, None, Some, length, map, nat_eq, option_map, ℕ, if◌then◌else◌, [], ◌∷◌, ◌++◌, Option}
 use Rattle.cyc_types.specs.Bases.{base_type}
 use Rattle.cyc_types.specs.Regions.{region_of}
 use Rattle.cyc_types.specs.Types.{static_type}
@@ -34,8 +34,13 @@ base_fits at t u = (if nat_eq (length t.layers.items) (length u.layers.items) th
 
 -- ---- a call's parameters and arguments, as the rules say them
 
-abbrev pub parameter_types : List CType → List (Option StaticType)
-parameter_types ps = map (λ t. Some (static_type t)) ps
+abbrev pub parameter_types : List (Option CType) → List (Option StaticType)
+parameter_types ps = map (option_map static_type) ps
 
-abbrev pub fits_all : List CType → List Value → List Fit
+-- a parameter of no known type fixes nothing
+abbrev pub parameter_fits : Option CType → Value → List Fit
+parameter_fits None v = []
+parameter_fits (Some t) v = fits_of v.at (static_type t) (Some (static_type v.of))
+
+abbrev pub fits_all : List (Option CType) → List Value → List Fit
 fits_all ps vs = all_fits (parameter_types ps) (map value_of vs)

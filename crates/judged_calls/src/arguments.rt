@@ -1,6 +1,7 @@
 // The conversions of a call's arguments.
 
-ghost use Rattle.std.specs.Prelude.{◌≡◌, IfOk, map};
+ghost use Rattle.std.specs.List.{list_all};
+ghost use Rattle.std.specs.Prelude.{◌≡◌, IfOk, is_some, map};
 ghost use Rattle.cyc_types.specs.Regions.{regions_of};
 ghost use Rattle.cyc_types.specs.Types.{static_type};
 ghost use Rattle.judged_values.specs.Values.{value_of};
@@ -59,21 +60,27 @@ fn is_whole(partly: bool, fixings: &[Option<Fixing>], parameter: &CType) -> bool
     }
 }
 
-/// The fault of an argument that is converted to a parameter's type, if any. Fails only where no host memory is left.
+/// The fault of an argument that is converted to a parameter's type, if any; to one of no known type there is none. Fails only where
+/// no host memory is left.
 fn argument_fault(
     scope: &Scope,
     fixings: &[Option<Fixing>],
     regions: &[RegionId],
     partly: bool,
-    parameter: &CType,
+    parameter: &Option<CType>,
     value: &Value,
 ) -> Result<Option<Fault>, AllocError>
     ensures { (g : Env) → Knows scope.now g → IfOk result (λ f. faults_of f
         ≡ earliest (argument_faults partly g (which_are_known (fixings_of fixings.now)) (regions_of regions.now) parameter.now value.now)) }
 {
-    let to = renamed_type(regions, parameter)?;
-    let fault = converted(scope, value, &to)?;
-    Ok(counted(is_whole(partly, fixings, parameter), fault))
+    match parameter {
+        Some(of) => {
+            let to = renamed_type(regions, of)?;
+            let fault = converted(scope, value, &to)?;
+            Ok(counted(is_whole(partly, fixings, of), fault))
+        }
+        None => Ok(None),
+    }
 }
 
 /// The fault of the arguments that is answered, if any. Fails only where no host memory is left.
@@ -82,7 +89,7 @@ fn conversions_fault(
     fixings: &[Option<Fixing>],
     regions: &[RegionId],
     partly: bool,
-    parameters: &[CType],
+    parameters: &[Option<CType>],
     arguments: &[Value],
 ) -> Result<Option<Fault>, AllocError>
     ensures { (g : Env) → Knows scope.now g → IfOk result (λ f. faults_of f
@@ -98,13 +105,30 @@ fn conversions_fault(
     Ok(found)
 }
 
-/// What the variables stand for, unless there is a fault.
-fn unless_found(fault: Option<Fault>, regions: Vec<RegionId>) -> Verdict<Vec<RegionId>>
-    ensures { short_of regions_in result ≡ short_unless (faults_of fault) (regions_in regions) }
+/// Whether the types of all parameters are known.
+fn are_known(parameters: &[Option<CType>]) -> bool
+    ensures { result ≡ list_all (λ of. is_some of) parameters.now }
+{
+    parameters.iter().all(|of| of.is_some())
+}
+
+/// What the variables stand for, unless there is a fault, and where all parameters are known.
+fn unless_found(
+    fault: Option<Fault>,
+    are_known: bool,
+    regions: Vec<RegionId>,
+) -> Verdict<Vec<RegionId>>
+    ensures { short_of regions_in result ≡ short_unless (faults_of fault) are_known (regions_in regions) }
 {
     match fault {
         Some(fault) => Verdict::Wrong(fault),
-        None => Verdict::Of(regions),
+        None => {
+            if are_known {
+                Verdict::Of(regions)
+            } else {
+                Verdict::NotJudged
+            }
+        }
     }
 }
 
@@ -114,7 +138,7 @@ pub(crate) fn arguments_fit(
     alloc: Global,
     at: u32,
     variables: u32,
-    parameters: &[CType],
+    parameters: &[Option<CType>],
     arguments: &[Value],
 ) -> Result<Verdict<Vec<RegionId>>, AllocError>
     ensures { (g : Env) → Knows scope.now g → IfOk result (λ v. short_of regions_in v
@@ -137,5 +161,6 @@ pub(crate) fn arguments_fit(
         parameters,
         arguments,
     )?;
-    Ok(unless_found(sooner(fixing, conversion), regions))
+    let are_known = are_known(parameters);
+    Ok(unless_found(sooner(fixing, conversion), are_known, regions))
 }

@@ -1,6 +1,6 @@
 // Calls.
 
-ghost use Rattle.std.specs.Prelude.{◌≡◌, ◌++◌, IfOk, List, map};
+ghost use Rattle.std.specs.Prelude.{◌≡◌, ◌++◌, IfOk, List, map, option_map};
 ghost use Rattle.cyc_types.specs.Regions.{regions_of};
 ghost use Rattle.cyc_types.specs.Types.{static_type};
 ghost use Rattle.judged_values.specs.Values.{value_of};
@@ -11,10 +11,11 @@ ghost use Rattle.source_typing.specs.Calls.{ToBuiltin, ToFunction, all_live, all
 ghost use Rattle.source_typing.specs.Faults.{effect_rule, outlives_rule, test};
 ghost use Rattle.source_typing.specs.Regions.{Region};
 ghost use Rattle.source_typing.specs.Scope.{Env, value};
-ghost use Rattle.source_typing.specs.Types.{Int};
+ghost use Rattle.source_typing.specs.Tables.{argument};
+ghost use Rattle.source_typing.specs.Types.{Int, renamed};
 ghost use Rattle.source_typing.specs.Verdicts.{after, unless_faulty};
 ghost use Rattle.type_verdicts.specs.Verdicts.{short_of, shortened};
-ghost use Rattle.judged_calls.specs.Converted.{regions_in};
+ghost use Rattle.judged_calls.specs.Converted.{given_of, regions_in};
 ghost use Rattle.judged_calls.specs.Fitted.{parameter_types};
 ghost use Rattle.judged_calls.specs.Targets.{target_of};
 ghost use Rattle.source_typing.specs.Verdicts as verdict;
@@ -69,11 +70,26 @@ fn are_ordered(
     Ok(true)
 }
 
+/// The value that a call has, where its type is known.
+fn given_if<'p>(at: u32, of: Option<CType<'p>>) -> Verdict<Value<'p>>
+    ensures { short_of value_of result ≡ shortened (given_of at (option_map static_type of.entry)) }
+{
+    match of {
+        Some(of) => given(at, of),
+        None => Verdict::NotJudged,
+    }
+}
+
 /// A call by whether the callee's effect is live and its bounds are in order.
 #[tactic(auto, using(crate::proofs::Entering::tests_entered))]
-fn entered<'p>(at: u32, are_live: bool, are_ordered: bool, of: CType<'p>) -> Verdict<Value<'p>>
+fn entered<'p>(
+    at: u32,
+    are_live: bool,
+    are_ordered: bool,
+    of: Option<CType<'p>>,
+) -> Verdict<Value<'p>>
     ensures { short_of value_of result
-        ≡ shortened (unless_faulty (test are_live effect_rule at ++ test are_ordered outlives_rule at) (value at (static_type of.entry))) }
+        ≡ shortened (unless_faulty (test are_live effect_rule at ++ test are_ordered outlives_rule at) (given_of at (option_map static_type of.entry))) }
 {
     if !are_ordered {
         Verdict::Wrong(Fault {
@@ -86,7 +102,20 @@ fn entered<'p>(at: u32, are_live: bool, are_ordered: bool, of: CType<'p>) -> Ver
             at,
         })
     } else {
-        given(at, of)
+        given_if(at, of)
+    }
+}
+
+/// The type of a result, where it is known, with what its region variables stand for. Fails only where no host memory is left.
+fn renamed_result<'p>(
+    regions: &[RegionId],
+    of: &Option<CType<'p>>,
+) -> Result<Option<CType<'p>>, AllocError>
+    ensures { IfOk result (λ o. option_map static_type o ≡ option_map (renamed (argument (regions_of regions.now))) (option_map static_type of.now)) }
+{
+    match of {
+        Some(of) => Ok(Some(renamed_type(regions, of)?)),
+        None => Ok(None),
     }
 }
 
@@ -102,7 +131,7 @@ fn call_entered<'p>(
 {
     let are_live = are_live(scope, regions, signature.effect.as_slice());
     let are_ordered = are_ordered(scope, regions, signature.bounds.as_slice())?;
-    let of = renamed_type(regions, &signature.result)?;
+    let of = renamed_result(regions, &signature.result)?;
     Ok(entered(at, are_live, are_ordered, of))
 }
 
@@ -152,12 +181,12 @@ fn builtin_entered<'p>(alloc: Global, at: u32, fit: Verdict<Vec<RegionId>>) -> V
 }
 
 /// The parameters of a function that every program has. Fails only where no host memory is left.
-fn builtin_parameters<'p>(alloc: Global, count: u32) -> Result<Vec<CType<'p>>, AllocError>
+fn builtin_parameters<'p>(alloc: Global, count: u32) -> Result<Vec<Option<CType<'p>>>, AllocError>
     ensures { IfOk result (λ types. parameter_types types.items ≡ builtin_parameters count) }
 {
     let mut types = Vec::new(alloc);
     'each: for _parameter in 0..count {
-        types.push(CType::plain(alloc, BaseType::Int))?;
+        types.push(Some(CType::plain(alloc, BaseType::Int)))?;
     }
     Ok(types)
 }

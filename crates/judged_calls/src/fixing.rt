@@ -7,7 +7,7 @@ ghost use Rattle.cyc_types.specs.Types.{static_type};
 ghost use Rattle.source_typing.specs.Faults.{earliest};
 ghost use Rattle.source_typing.specs.Fixing.{fit, fit_all, fits_of};
 ghost use Rattle.type_verdicts.specs.Faults.{faults_of};
-ghost use Rattle.judged_calls.specs.Fitted.{base_fits, fits_all, found_in, layer_fits, pointer_fits};
+ghost use Rattle.judged_calls.specs.Fitted.{base_fits, fits_all, found_in, layer_fits, parameter_fits, pointer_fits};
 ghost use Rattle.judged_calls.specs.Fixings.{fixed_with, fixing_faults, fixing_of, fixings_of, found_of, noted, regions_by};
 
 use cyc_types::{BaseType, CType, Layer, RegionId};
@@ -156,14 +156,24 @@ fn note_type(fixings: &mut Vec<Option<Fixing>>, mine: &CType, theirs: &CType, at
     );
 }
 
+/// Fixes what a parameter's type fixes, where it is known, by an argument's.
+#[tactic(auto, using(crate::proofs::Fixes::with_nothing))]
+fn note_parameter(fixings: &mut Vec<Option<Fixing>>, parameter: &Option<CType>, argument: &Value)
+    ensures { fixings_of fixings.new.items ≡ fixed_with (parameter_fits parameter.now argument.now) 0 (fixings_of fixings.old.items) }
+{
+    match parameter {
+        Some(of) => note_type(fixings, of, &argument.of, argument.at),
+        None => {}
+    }
+}
+
 /// Fixes what the parameters' types fix, by the arguments'.
-fn note_types(fixings: &mut Vec<Option<Fixing>>, parameters: &[CType], arguments: &[Value])
+fn note_types(fixings: &mut Vec<Option<Fixing>>, parameters: &[Option<CType>], arguments: &[Value])
     ensures { fixings_of fixings.new.items ≡ fixed_with (fits_all parameters.now arguments.now) 0 (fixings_of fixings.old.items) }
 {
     let count = parameters.len().min(arguments.len());
     'each: for index in 0..count {
-        let argument = &arguments[index];
-        note_type(fixings, &parameters[index], &argument.of, argument.at);
+        note_parameter(fixings, &parameters[index], &arguments[index]);
     }
 }
 
@@ -182,7 +192,7 @@ fn not_fixed(alloc: Global, variables: u32) -> Result<Vec<Option<Fixing>>, Alloc
 pub(crate) fn fixings_for(
     alloc: Global,
     variables: u32,
-    parameters: &[CType],
+    parameters: &[Option<CType>],
     arguments: &[Value],
 ) -> Result<Vec<Option<Fixing>>, AllocError>
     ensures { IfOk result (λ fixings. fixings_of fixings.items ≡ fixed_with (fits_all parameters.now arguments.now) 0 (replicate variables None)) }

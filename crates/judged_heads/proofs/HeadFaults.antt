@@ -139,15 +139,6 @@ form_found c v e ps ms vs h = absurd h
 
 -- ---- the head's own fault, or its parts'
 
--- a head without a fault has none in its parts
-pub none_in_parts : (f : Option found.Fault) (own fs : List rules.Fault) → f ≡ None → faults_of f ≡ earliest (own_after own fs) → fs ≡ []
-none_in_parts f own [] n e = refl
-none_in_parts f own (g ∷ fs) n e = absurd (by (earliest fs) (sym (ap faults_of n) ∙ e))
-  where
-    by : (o : Option rules.Fault) → None ≡ rules.sooner_of g o → ⊥
-    by None k = absurd cc
-    by (Some h) k = absurd cc
-
 none_after : (own fs : List rules.Fault) → earliest fs ≡ None → earliest own ≡ earliest (own_after own fs)
 none_after own [] e = refl
 none_after own (f ∷ fs) e = absurd (by (earliest fs) e)

@@ -1,5 +1,5 @@
 -- What a head says, by its parts.
-use Rattle.std.proofs.Common.{◌≡◌, Bool, false, Option, Some, None, List, [], ◌∷◌, ◌++◌, map, refl, sym, ap, subst, ◌∙◌, append-nil}
+use Rattle.std.proofs.Common.{◌≡◌, Bool, false, Option, Some, None, List, [], ◌∷◌, ◌++◌, map, refl, sym, ap, ◌∙◌, append-nil}
 use Rattle.cyc_types.specs.Types.{static_type}
 use Rattle.source_typing.specs.Faults.{earliest, own_after}
 use Rattle.source_typing.specs.Functions.{Variables, all_faults, all_of, effect_of, head_of, key_regions, levels_but, read_parameters, result_type, variables}
@@ -13,15 +13,13 @@ use Rattle.type_verdicts.specs.Faults.{faults_of}
 use Rattle.type_verdicts.specs.Taken.{taken_of}
 use Rattle.type_verdicts.specs.Verdicts.{short_of, shortened}
 use Rattle.type_verdicts.specs.declared.taken.Taken as code_taken
-use Rattle.judged_heads.proofs.HeadFaults.{none_in_parts, sound_found}
-use Rattle.judged_heads.proofs.ReadParameters.{all_in_order, is_in_order, known_same, names_same, no_keys, types_same}
-use Rattle.judged_heads.proofs.Plain.{result_plain}
-use Rattle.judged_heads.specs.Heads.{IsHead, IsJudged, effect_in}
-use Rattle.judged_heads.specs.Reading.{AllPlain, AreParameters, AreRead, IsPlain, bound_place, effect_place, form_at, is_whole, main_faults_of}
+use Rattle.judged_heads.proofs.HeadFaults.{sound_found}
+use Rattle.judged_heads.proofs.ReadParameters.{known_same, names_same, no_keys, types_same}
+use Rattle.judged_heads.specs.Heads.{IsHead, effect_in}
+use Rattle.judged_heads.specs.Reading.{AreParameters, AreRead, bound_place, effect_place, form_at, is_whole, main_faults_of}
 use Rattle.judged_heads.specs.declared.head.Head as code
 use Rattle.cyc_tree.specs.Tree as tree
 use Rattle.source_typing.specs.Verdicts as rules_of
-use Rattle.source_typing.proofs.Inversion.{none_of_both}
 
 -- ---- forms that aren't taken
 
@@ -96,21 +94,4 @@ module _ (k : code_taken.Taken) (lenient : Bool) (g : Tables) (f : tree.Function
         bounds = refl;
         fault = fault;
         sound = sound_found c.fault (head_of lenient g head).faults fault;
-      }
-
-  -- where structs aren't taken, each type of a head without a fault is in order
-  pub types_judged : k.structs ≡ false → AreRead k.structs g c.variables c.parameters.items head.parameters
-      → short_of static_type c.result ≡ shortened (result_type g c.variables.names head.result) → FaultFound → IsJudged c
-  types_judged none read is found =
-      let ps = read_parameters g (variables [] 0) head.parameters in
-      let ms = head.parameters in
-      let v : Verdict StaticType = result_type g c.variables.names head.result in
-      let parts = all_faults ps.types ++ repeated [] ms ++ rules_of.faults_of v in
-      let split : c.fault ≡ None → (all_faults ps.types ++ repeated [] ms ≡ []) × (rules_of.faults_of v ≡ []) =
-      λ n. none_of_both (all_faults ps.types ++ repeated [] ms) (rules_of.faults_of v)
-      (none_in_parts c.fault (main_faults_of f.name v ms) parts n (found v ms ps.types is read.parameters)) in
-      record {
-        in_order = λ n. all_in_order c.parameters.items ms ps.types read.parameters (subst (λ b. AllPlain b ps.types) none read.plain)
-            (none_of_both (all_faults ps.types) (repeated [] ms) (split n).0).0;
-        result_in_order = λ n. is_in_order c.result v is (subst (λ b. IsPlain b v) none (result_plain k g f.result c.variables.names)) (split n).1;
       }

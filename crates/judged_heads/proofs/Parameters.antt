@@ -1,7 +1,7 @@
 -- What parameters are as locals of the body's block.
 use Rattle.std.proofs.Common.{◌≡◌, ℕ, zero, suc, ◌+◌, ◌<◌, ◌≤◌, Bool, true, false, Option, Some, None}
 use Rattle.std.proofs.Common.{List, [], ◌∷◌, refl, sym, ◌∙◌, ap, subst, take, get_or, length, map, arith}
-use Rattle.std.specs.Prelude.{◌++◌, if◌then◌else◌}
+use Rattle.std.specs.Prelude.{◌++◌, if◌then◌else◌, option_map}
 use Rattle.std.proofs.lemmas.List.{map-append, take_all, take_more}
 use Rattle.cyc_types.specs.Regions.{region_of}
 use Rattle.cyc_types.specs.Types.{static_type}
@@ -18,12 +18,10 @@ use Rattle.scoped_names.specs.Means as means
 use Rattle.scoped_names.specs.declared.locals.What as local
 use Rattle.scoped_names.specs.declared.locals.What.TheVariants as variant
 use Rattle.scoped_names.specs.declared.scope.Scope.{Scope}
-use Rattle.type_verdicts.specs.declared.verdict.Verdict as verdict
-use Rattle.type_verdicts.specs.declared.verdict.Verdict.TheVariants as code
 use Rattle.judged_statements.specs.Contexts.{StandsIn, Suits}
 use Rattle.judged_statements.specs.declared.context.Context.{Context}
 use Rattle.judged_heads.specs.Bodies.{code_names, names_of, types_of}
-use Rattle.judged_heads.specs.Heads.{AllInOrder, IsInOrder, known_static}
+use Rattle.judged_heads.specs.Heads.{known_static}
 use Rattle.judged_heads.specs.declared.head.Parameter.{Parameter}
 use Rattle.cyc_tree.specs.Tree as tree
 
@@ -114,25 +112,8 @@ types_more ps i p h is =
     ∙ map-append (λ (q : Parameter). known_static q.of) (take i ps) (get_or ps i p ∷ [])
     ∙ ap (λ (q : Parameter). types_of (take i ps) ++ known_static q.of ∷ []) (sym is)
 
-order_at : (ps : List Parameter) (i : ℕ) (d : Parameter) → i < length ps → AllInOrder ps → IsInOrder (get_or ps i d).of
-order_at [] i d h all = absurd (omega (arith, h))
-order_at (p ∷ ps) zero d h all = all.0
-order_at (p ∷ ps) (suc i) d h all = order_at ps i d (omega (arith, h)) all.1
-
-pub in_order_at : (ps : List Parameter) (i : ℕ) (p : Parameter) → i < length ps → p ≡ get_or ps i p → AllInOrder ps → IsInOrder p.of
-in_order_at ps i p h is all = subst (λ (q : Parameter). IsInOrder q.of) (sym is) (order_at ps i p h all)
-
--- what is in order is known
-pub not_unknown : (v : verdict.Verdict CType) → IsInOrder v → None ≡ known_static v → ⊥
-not_unknown (code.Of t) h e = absurd cc
-not_unknown (code.Wrong f) h e = h
-not_unknown code.NotJudged h e = h
-
 -- one more type
-pub more_types : (ts : List CType) (t : CType) (known : List (Option StaticType)) (k : Option StaticType)
-    → map (λ (u : CType). Some (static_type u)) ts ≡ known → Some (static_type t) ≡ k
-    → map (λ (u : CType). Some (static_type u)) (ts ++ t ∷ []) ≡ known ++ k ∷ []
-more_types ts t known k e is =
-    map-append (λ (u : CType). Some (static_type u)) ts (t ∷ [])
-    ∙ ap (λ l. l ++ Some (static_type t) ∷ []) e
-    ∙ ap (λ o. known ++ o ∷ []) is
+pub more_types : (ts : List (Option CType)) (o : Option CType) (known : List (Option StaticType)) (k : Option StaticType)
+    → map (option_map static_type) ts ≡ known → option_map static_type o ≡ k → map (option_map static_type) (ts ++ o ∷ []) ≡ known ++ k ∷ []
+more_types ts o known k e is =
+    map-append (option_map static_type) ts (o ∷ []) ∙ ap (λ l. l ++ option_map static_type o ∷ []) e ∙ ap (λ p. known ++ p ∷ []) is

@@ -3,7 +3,7 @@ use Rattle.std.proofs.Common.{◌≡◌, ℕ, zero, suc, Bool, true, false, List
 use Rattle.std.specs.Prelude.{None, Option, Some, map}
 use Rattle.cyc_tree.specs.Tree.{TypeName}
 use Rattle.cyc_tree.specs.declared.name.Sign.{Sign}
-use Rattle.source_typing.specs.Functions.{Variables, if_parameter, if_result, parameter_type, result_type, take_spots}
+use Rattle.source_typing.specs.Functions.{Variables, if_parameter, parameter_type, take_spots}
 use Rattle.source_typing.specs.Missing.{as_type, fat_with, filled_from, thin_with, unique_with}
 use Rattle.source_typing.specs.Tables.{Tables}
 use Rattle.source_typing.specs.Tags.{settled_alone}
@@ -15,8 +15,6 @@ use Rattle.source_typing.specs.Written.{
   Is,
   IsUnique,
   Missing,
-  RegionNamed,
-  all_found,
   as_region,
   base_of,
   pointer_to,
@@ -155,23 +153,18 @@ after_plain s (Of t) rule h k = k t h
 alone_plain : (s : Bool) (at : ℕ) (v : Verdict PartialType) → IsPlain s v → IsPlain s (after v (settled_alone at))
 alone_plain s at v h = after_plain s v (settled_alone at) h (λ t k. type_plain s at (filled_from t None) (filled_plain t k))
 
--- ---- parameters and results
+-- ---- parameters
 
 abbrev pub parameter_at : Tables → Variables → TypeName → Verdict StaticType
 parameter_at g vs t = parameter_type g t (take_spots vs (spots_of g t))
 
--- a type on any base, and that of a parameter and of a result
+-- a parameter's type on any base
 module _ (s : Bool) (g : Tables) (t : TypeName) where
   as_parameter : (vs : Variables) → let x = take_spots vs (spots_of g t) in IsPlain s (written_with g t (x.found, x.faults)) → IsPlain s (parameter_at g vs t)
   as_parameter vs h =
       let x = take_spots vs (spots_of g t) in
       let v = written_with g t (x.found, x.faults) in
       after_plain s (after v (settled_alone t.at)) (if_parameter t.at) (alone_plain s t.at v h) (λ u k. fits_plain s _ t.at u k)
-
-  as_result : (names : List RegionNamed) → IsPlain s (written_with g t (all_found names (spots_of g t))) → IsPlain s (result_type g names t)
-  as_result names h =
-      let v = written_with g t (all_found names (spots_of g t)) in
-      after_plain s (after v (settled_alone t.at)) (if_result t.at) (alone_plain s t.at v h) (λ u k. fits_plain s _ t.at u k)
 
 module _ (k : code_taken.Taken) (g : Tables) (t : TypeName) where
   pub parameter_plain : (vs : Variables) → IsPlain k.structs (parameter_at g vs (type_taken (taken_of k) t))
@@ -190,22 +183,6 @@ module _ (k : code_taken.Taken) (g : Tables) (t : TypeName) where
           let x = take_spots vs (spots_of g t) in
           subst (λ u. IsPlain k.structs (parameter_at g vs u)) (sym (struct_type k t n e))
           (as_parameter k.structs g t vs (struct_plain k.structs g t n (x.found, x.faults) (takes_structs k t n e) (struct_is_base k t n e)))
-
-  pub result_plain : (names : List RegionNamed) → IsPlain k.structs (result_type g names (type_taken (taken_of k) t))
-  result_plain names = by (struct_taken (taken_of k) t) refl
-    where
-      of_base : (o : Option PartialType) → taken_base t ≡ o → IsPlain k.structs (result_type g names (type_taken thin_pointers t))
-      of_base None e = subst (λ u. IsPlain k.structs (result_type g names u)) (sym (not_taken t e)) tt
-      of_base (Some b) e =
-          subst (λ u. IsPlain k.structs (result_type g names u)) (sym (is_taken t b e))
-          (as_result k.structs g t names (written_plain k.structs g t b (all_found names (spots_of g t)) (base_taken t b e)))
-
-      by : (o : Option tree.Name) → struct_taken (taken_of k) t ≡ o → IsPlain k.structs (result_type g names (type_taken (taken_of k) t))
-      by None e = subst (λ u. IsPlain k.structs (result_type g names u)) (sym (other_type k t e)) (of_base (taken_base t) refl)
-      by (Some n) e =
-          subst (λ u. IsPlain k.structs (result_type g names u)) (sym (struct_type k t n e))
-          (as_result k.structs g t names
-          (struct_plain k.structs g t n (all_found names (spots_of g t)) (takes_structs k t n e) (struct_is_base k t n e)))
 
 pub refused_plain : (s : Bool) (g : Tables) (vs : Variables) (at : ℕ) → IsPlain s (parameter_at g vs (refused_type at))
 refused_plain s g vs at = tt

@@ -1,11 +1,11 @@
 -- Parameters that are read one by one.
-use Rattle.std.proofs.Common.{◌≡◌, Bool, false, true≢false, ◌+◌, ℕ, List, [], ◌∷◌, ◌++◌, drop, map, refl, sym, ap, subst, ◌∙◌, append_assoc}
+use Rattle.std.proofs.Common.{◌≡◌, Bool, ◌+◌, ℕ, List, [], ◌∷◌, ◌++◌, drop, map, refl, sym, ap, subst, ◌∙◌, append_assoc}
 use Rattle.std.specs.Prelude.{None, Option, Some, unwrap_or}
 use Rattle.cyc_types.specs.Types.{static_type}
 use Rattle.cyc_types.specs.declared.ctype.CType.{CType}
 use Rattle.cyc_tree.specs.View.{member_tree}
 use Rattle.source_typing.specs.Faults.{earliest, sooner_of}
-use Rattle.source_typing.specs.Functions.{Variables, all_faults, key_regions, parameter_type, read_parameters, take_spots, variables}
+use Rattle.source_typing.specs.Functions.{Variables, key_regions, parameter_type, read_parameters, take_spots, variables}
 use Rattle.source_typing.specs.Tables.{Tables}
 use Rattle.source_typing.specs.Taken.{Taken, member_taken, members_taken}
 use Rattle.source_typing.specs.Types.{Key, StaticType}
@@ -14,7 +14,7 @@ use Rattle.source_typing.specs.Written.{spots_of}
 use Rattle.type_verdicts.proofs.Shortened.{fault_same}
 use Rattle.type_verdicts.specs.Faults.{faults_of}
 use Rattle.type_verdicts.specs.Verdicts.{Is, NotJudged, Short, Wrong, fault_found, fault_in, short_of, shortened}
-use Rattle.judged_heads.specs.Heads.{AllInOrder, IsInOrder, known_static}
+use Rattle.judged_heads.specs.Heads.{known_static}
 use Rattle.judged_heads.specs.Reading.{AllPlain, AreParameters, AreRead, IsParameter, IsPlain}
 use Rattle.judged_heads.specs.declared.head.Parameter.{Parameter}
 use Rattle.cyc_tree.specs.Tree as tree
@@ -23,7 +23,6 @@ use Rattle.source_typing.specs.Faults as rules
 use Rattle.source_typing.specs.Verdicts as rules_of
 use Rattle.type_verdicts.specs.declared.verdict.Verdict as code
 use Rattle.type_verdicts.specs.declared.verdict.Verdict.TheVariants as variant
-use Rattle.source_typing.proofs.Inversion.{none_of_both}
 
 -- ---- a verdict in code and that of the rules
 
@@ -58,29 +57,7 @@ module _ (c : code.Verdict CType) (v : Verdict StaticType) (e : short_of static_
   pub fault_is : faults_of (fault_found c) ≡ earliest (rules_of.faults_of v)
   fault_is = fault_same static_type c ∙ ap (λ (s : Short StaticType). fault_in s) e ∙ fault_by_rules v
 
-  -- where structs aren't taken, what isn't at fault is in order
-  pub is_in_order : IsPlain false v → rules_of.faults_of v ≡ [] → IsInOrder c
-  is_in_order h n = by c v e h n
-    where
-      by : (d : code.Verdict CType) (w : Verdict StaticType) → short_of static_type d ≡ shortened w → IsPlain false w → rules_of.faults_of w ≡ []
-          → IsInOrder d
-      by (variant.Of t) w k p q = tt
-      by (variant.Wrong f) (Faulty g fs) k p q = absurd cc
-      by (variant.Wrong f) Unjudged k p q = absurd (true≢false (sym p))
-      by (variant.Wrong f) (Of t) k p q = absurd cc
-      by variant.NotJudged (Faulty g fs) k p q = absurd cc
-      by variant.NotJudged Unjudged k p q = absurd (true≢false (sym p))
-      by variant.NotJudged (Of t) k p q = absurd cc
-
 -- ---- all parameters
-
-pub all_in_order : (ps : List Parameter) (ms : List tree.Member) (vs : List (Verdict StaticType)) → AreParameters ps ms vs → AllPlain false vs
-    → all_faults vs ≡ [] → AllInOrder ps
-all_in_order [] [] [] h k e = tt
-all_in_order (p ∷ ps) (m ∷ ms) (v ∷ vs) h k e =
-    let both = none_of_both (rules_of.faults_of v) (all_faults vs) e in
-    (is_in_order p.of v h.0.typed k.0 both.0, all_in_order ps ms vs h.1 k.1 both.1)
-all_in_order ps ms vs h k e = absurd h
 
 pub names_same : (ps : List Parameter) (ms : List tree.Member) (vs : List (Verdict StaticType)) → AreParameters ps ms vs
     → map (λ (p : Parameter). p.name.now) ps ≡ map (λ (m : tree.Member). m.name.text) ms

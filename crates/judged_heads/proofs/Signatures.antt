@@ -1,9 +1,8 @@
 -- What the name of a function means, by its head.
 use Rattle.std.proofs.Common.{◌≡◌, true, false, Option, Some, None, [], refl, sym, ◌∙◌, ap, subst}
-use Rattle.std.specs.Prelude.{is_none, is_some, map}
+use Rattle.std.specs.Prelude.{is_none, is_some, map, option_map}
 use Rattle.cyc_types.specs.Regions.{regions_of}
 use Rattle.cyc_types.specs.Types.{static_type}
-use Rattle.cyc_types.specs.declared.ctype.CType.{CType}
 use Rattle.scoped_names.specs.Means.{Means, signature_of}
 use Rattle.scoped_names.specs.Means as means
 use Rattle.scoped_names.specs.declared.meaning.Meaning.TheVariants as code
@@ -12,15 +11,13 @@ use Rattle.scoped_types.specs.Fields.{pair_of}
 use Rattle.source_typing.specs.Functions as rules
 use Rattle.source_typing.specs.Tables.{OfFunction, Signature}
 use Rattle.type_verdicts.specs.declared.fault.Fault.{Fault}
-use Rattle.type_verdicts.specs.declared.verdict.Verdict.TheVariants as variant
-use Rattle.judged_heads.proofs.Parameters.{not_unknown}
 use Rattle.judged_heads.specs.Bodies.{types_of}
-use Rattle.judged_heads.specs.Heads.{IsHead, IsJudged, effect_in, known_static}
+use Rattle.judged_heads.specs.Heads.{IsHead, effect_in, known_static}
 use Rattle.judged_heads.specs.declared.head.Head as found
 use Rattle.cyc_tree.specs.Tree as tree
 
-same_signature : (s : head.Signature) (t : Signature) → s.regions ≡ t.regions → map (λ (u : CType). Some (static_type u)) s.parameters.items ≡ t.parameters
-    → Some (static_type s.result) ≡ t.result → regions_of s.effect.items ≡ t.effect → map pair_of s.bounds.items ≡ t.bounds → true ≡ t.sound
+same_signature : (s : head.Signature) (t : Signature) → s.regions ≡ t.regions → map (option_map static_type) s.parameters.items ≡ t.parameters
+    → option_map static_type s.result ≡ t.result → regions_of s.effect.items ≡ t.effect → map pair_of s.bounds.items ≡ t.bounds → true ≡ t.sound
     → signature_of s ≡ t
 same_signature s t a b c d e k = λ i. record { regions = a i; parameters = b i; result = c i; effect = d i; bounds = e i; sound = k i }
 
@@ -37,16 +34,12 @@ module _ (c : found.Head) (f : tree.Function) (h : rules.Head) (is : IsHead c f 
   unsound_means e = means.Means.UnsoundFunction h.signature (sym is.sound ∙ at_fault c.fault e)
 
   pub sound_means : (s : head.Signature) → c.fault ≡ None → s.regions ≡ c.variables.count
-      → map (λ (u : CType). Some (static_type u)) s.parameters.items ≡ types_of c.parameters.items → c.result ≡ variant.Of s.result
+      → map (option_map static_type) s.parameters.items ≡ types_of c.parameters.items → option_map static_type s.result ≡ known_static c.result
       → regions_of s.effect.items ≡ effect_in c.is_whole c.variables.count → s.bounds.items ≡ []
       → Means (Some (OfFunction h.signature)) (Some (code.Function s))
   sound_means s none regions parameters result effect bounds =
       subst (λ (t : Signature). Means (Some (OfFunction t)) (Some (code.Function s)))
       (same_signature s h.signature (regions ∙ is.count) (parameters ∙ is.types)
-      (sym (ap known_static result) ∙ is.result)
+      (result ∙ is.result)
       (effect ∙ is.effect) (ap (λ bs. map pair_of bs) bounds ∙ sym is.bounds) (sym (ap is_none none) ∙ is.sound))
       (means.Means.Function s)
-
-  -- a result that isn't in order is at fault
-  pub no_result : IsJudged c → c.fault ≡ None → None ≡ known_static c.result → Means (Some (OfFunction h.signature)) (Some code.NotKnown)
-  no_result judged none e = absurd (not_unknown c.result (judged.result_in_order none) e)

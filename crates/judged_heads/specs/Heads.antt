@@ -1,5 +1,5 @@
 -- What a head in code says, as the rules say it.
-use Rattle.std.specs.Prelude.{Bool, List, None, Option, Some, false, is_none, map, true, ℕ, ◌≡◌, [], ◌∷◌}
+use Rattle.std.specs.Prelude.{Bool, List, None, Option, Some, false, is_none, map, true, ℕ, ◌≡◌, []}
 use Rattle.cyc_types.specs.Types.{static_type}
 use Rattle.cyc_types.specs.declared.ctype.CType.{CType}
 use Rattle.source_typing.specs.Faults.{earliest}
@@ -20,15 +20,6 @@ known_static (variant.Of t) = Some (static_type t)
 known_static (variant.Wrong f) = None
 known_static variant.NotJudged = None
 
--- A phrase is in order.
-abbrev pub IsInOrder : verdict.Verdict CType → Type 0
-IsInOrder (variant.Of t) = Unit {0}
-IsInOrder v = ⊥
-
-abbrev pub AllInOrder : List Parameter → Type 0
-AllInOrder [] = Unit {0}
-AllInOrder (p ∷ ps) = IsInOrder p.of × AllInOrder ps
-
 -- all region variables, or none
 abbrev pub effect_in : Bool → ℕ → List Region
 effect_in true count = levels_but [] count
@@ -45,8 +36,3 @@ pub record IsHead (c : code.Head) (f : tree.Function) (h : rules.Head) : Type 0 
   pub bounds : h.signature.bounds ≡ []
   pub fault : faults_of c.fault ≡ earliest h.faults
   pub sound : is_none c.fault ≡ h.signature.sound
-
--- Each of its types is judged: where the head has no fault, its parameters and its result are in order.
-pub record IsJudged (c : code.Head) : Type 0 where
-  pub in_order : c.fault ≡ None → AllInOrder c.parameters.items
-  pub result_in_order : c.fault ≡ None → IsInOrder c.result

@@ -1,13 +1,13 @@
 // The heads of functions.
 
-ghost use Rattle.std.specs.Prelude.{◌≡◌, Bool, IfOk, bytes_eq, codes, false};
+ghost use Rattle.std.specs.Prelude.{◌≡◌, Bool, IfOk, bytes_eq, codes};
 ghost use Rattle.cyc_tree.specs.View.{effect_tree, function_tree};
 ghost use Rattle.source_typing.specs.Functions.{head_of};
 ghost use Rattle.source_typing.specs.Tables.{Tables};
 ghost use Rattle.source_typing.specs.Taken.{function_taken};
 ghost use Rattle.type_verdicts.specs.Taken.{taken_of};
 ghost use Rattle.written_types.specs.Naming.{AreTagNames};
-ghost use Rattle.judged_heads.specs.Heads.{IsHead, IsJudged};
+ghost use Rattle.judged_heads.specs.Heads.{IsHead};
 ghost use Rattle.judged_heads.specs.Reading.{is_whole};
 
 use crate::found::head_fault;
@@ -66,9 +66,8 @@ pub fn read_head<'p>(
     tags: &TagNames<'_>,
     function: &'p Function,
 ) -> Result<Head<'p>, AllocError>
-    ensures head { (lenient : Bool) (g : Tables) → AreTagNames taken tags.now g
+    ensures { (lenient : Bool) (g : Tables) → AreTagNames taken tags.now g
         → IfOk result (λ h. let f = function_taken (taken_of taken) (function_tree function.entry.now) in IsHead h f (head_of lenient g f)) }
-    ensures judged { taken.structs ≡ false → IfOk result IsJudged }
 {
     let parameters = Parameters::of(alloc, taken, tags, function)?;
     let tag = tag_of_type(taken, tags, &function.result);

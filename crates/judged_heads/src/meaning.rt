@@ -7,7 +7,7 @@ ghost use Rattle.source_typing.specs.Functions as rules;
 ghost use Rattle.source_typing.specs.Tables.{OfFunction};
 ghost use Rattle.scoped_names.specs.Means.{Means};
 ghost use Rattle.judged_heads.specs.Bodies.{types_of};
-ghost use Rattle.judged_heads.specs.Heads.{AllInOrder, IsHead, IsJudged, known_static};
+ghost use Rattle.judged_heads.specs.Heads.{IsHead, known_static};
 
 use crate::effect::effect_of;
 use crate::head::{Head, Parameter};
@@ -26,49 +26,47 @@ pub(crate) fn known_type<'a, 'p>(of: &'a Verdict<CType<'p>>) -> Option<&'a CType
     }
 }
 
-/// The types of parameters that are in order. Fails only where no host memory is left.
+/// A type of its own, where it is known. Fails only where no host memory is left.
+fn known_clone<'p>(of: &Verdict<CType<'p>>) -> Result<Option<CType<'p>>, AllocError>
+    ensures { IfOk result (λ o. option_map static_type o ≡ known_static of.now) }
+{
+    match known_type(of) {
+        Some(of) => Ok(Some(of.try_clone()?)),
+        None => Ok(None),
+    }
+}
+
+/// The types of parameters, where they are known. Fails only where no host memory is left.
 fn known_types<'p>(
     alloc: Global,
     parameters: &[Parameter<'p>],
-) -> Result<Vec<CType<'p>>, AllocError>
-    ensures { AllInOrder parameters.now → IfOk result (λ ts. map (λ t. Some (static_type t)) ts.items ≡ types_of parameters.now) }
+) -> Result<Vec<Option<CType<'p>>>, AllocError>
+    ensures { IfOk result (λ ts. map (option_map static_type) ts.items ≡ types_of parameters.now) }
 {
     let mut types = Vec::new(alloc);
     'each: for parameter in parameters {
-        if let Some(of) = known_type(&parameter.of) {
-            types.push(of.try_clone()?)?;
-        }
+        types.push(known_clone(&parameter.of)?)?;
     }
     Ok(types)
 }
 
-/// What the name of a function with this head means, where each type in it is judged: a function, where the head has no fault. Fails
-/// only where no host memory is left.
+/// What the name of a function with this head means: a function, where the head has no fault. Fails only where no host memory is left.
 pub fn head_meaning<'p>(alloc: Global, head: Head<'p>) -> Result<Meaning<'p>, AllocError>
-    ensures { (f : Function) (h : rules.Head) → IsHead head.entry f h → IsJudged head.entry
+    ensures { (f : Function) (h : rules.Head) → IsHead head.entry f h
         → IfOk result (λ m. Means (Some (OfFunction h.signature)) (Some m)) }
 {
-    let Head {
-        variables,
-        parameters,
-        result,
-        is_whole,
-        fault,
-    } = head;
-    if fault.is_some() {
+    if head.fault.is_some() {
         return Ok(Meaning::NotKnown);
     }
-    let regions = variables.count();
-    let parameters = known_types(alloc, parameters.as_slice())?;
-    let effect = effect_of(alloc, is_whole, regions)?;
-    match result {
-        Verdict::Of(result) => Ok(Meaning::Function(Signature {
-            regions,
-            parameters,
-            result,
-            effect,
-            bounds: Vec::new(alloc),
-        })),
-        Verdict::Wrong(_) | Verdict::NotJudged => Ok(Meaning::NotKnown),
-    }
+    let regions = head.variables.count();
+    let parameters = known_types(alloc, head.parameters.as_slice())?;
+    let effect = effect_of(alloc, head.is_whole, regions)?;
+    let result = known_clone(&head.result)?;
+    Ok(Meaning::Function(Signature {
+        regions,
+        parameters,
+        result,
+        effect,
+        bounds: Vec::new(alloc),
+    }))
 }

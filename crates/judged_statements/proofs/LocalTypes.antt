@@ -77,10 +77,10 @@ pointer_stands g item ls t l e = ap (stands_before g item) (by_outer ls t l e) �
 
 -- ---- the same by both tables
 
-record Alike (g h : Tables) (item : ℕ) (t : StaticType) : Type 0 where
-  begins : has_beginning g t ≡ has_beginning h t
-  stands : stands_before g item t ≡ stands_before h item t
-  size : size_of g t ≡ size_of h t
+pub record Alike (g h : Tables) (item : ℕ) (t : StaticType) : Type 0 where
+  pub begins : has_beginning g t ≡ has_beginning h t
+  pub stands : stands_before g item t ≡ stands_before h item t
+  pub size : size_of g t ≡ size_of h t
 
 tagless_alike : (g h : Tables) (item : ℕ) (t : StaticType) → is_tagless t ≡ true → Alike g h item t
 tagless_alike g h item Int e = record { begins = refl; stands = refl; size = refl }
@@ -110,7 +110,7 @@ stands_same g h item (Key r) e = refl
 stands_same g h item (Struct x rs) e = ap (tag_earlier item) (e x)
 stands_same g h item (Union x rs) e = ap (tag_earlier item) (e x)
 
-alike : (structs : Bool) (tables : code_tables.Tables) (g : Tables) (item : ℕ) (t : StaticType) → (structs ≡ true → HasTags tables g)
+pub alike : (structs : Bool) (tables : code_tables.Tables) (g : Tables) (item : ℕ) (t : StaticType) → (structs ≡ true → HasTags tables g)
     → allowed structs t ≡ true → Alike g (tables_of tables) item t
 alike true tables g item t has ok = record {
   begins = beginning_same tables g (has refl) t;
@@ -121,7 +121,7 @@ alike false tables g item t has ok = tagless_alike g (tables_of tables) item t o
 
 -- ---- the type of a local
 
-stands_is : (g : Env) (t : StaticType) → stands_earlier g t ≡ stands_before g.tables g.item t
+pub stands_is : (g : Env) (t : StaticType) → stands_earlier g t ≡ stands_before g.tables g.item t
 stands_is g Int = refl
 stands_is g Unsigned = refl
 stands_is g Char = refl

@@ -92,8 +92,9 @@ fn could_be(tables: &Tables, item: u32, of: &CType, set: bool) -> bool
     (set || tables.has_beginning(of)) && !of.is_void() && stands_before(tables, item, of)
 }
 
-/// The type of a local, at fault at this place where it doesn't fit.
-pub(crate) fn fitted<'p>(
+/// The type of a variable that is no array, at fault at this place where one after so many items can't be of it: with no value set it
+/// needs a beginning, it isn't `void`, a struct or union stands earlier, and it has at most 4,096 bytes.
+pub fn fitted<'p>(
     tables: &Tables,
     item: u32,
     of: CType<'p>,

@@ -11,4 +11,5 @@ mod returning;
 mod statement;
 
 pub use context::Context;
+pub use fitting::fitted;
 pub use statement::items_fault;

@@ -7,7 +7,7 @@ use Rattle.cyc_tree.specs.Tree as tree
 use Rattle.cyc_types.specs.Sameness.{HasTags}
 use Rattle.source_typing.specs.Scope.{Env, block_entered, is_second, meant, with_local, with_locals}
 use Rattle.source_typing.specs.Scope as rules
-use Rattle.source_typing.specs.Tables.{Entry, OfValue, Tables, find}
+use Rattle.source_typing.specs.Tables.{OfValue, find}
 use Rattle.source_typing.specs.Tables as rules_tables
 use Rattle.scoped_types.proofs.Extending.{block_begins}
 use Rattle.scoped_types.specs.Marks.{mark_of}

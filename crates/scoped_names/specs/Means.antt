@@ -1,5 +1,5 @@
 -- What names mean in code, as the rules say it.
-use Rattle.std.specs.Prelude.{None, Option, Some, false, map, true, ℕ, ◌≡◌}
+use Rattle.std.specs.Prelude.{None, Option, Some, false, map, option_map, true, ℕ, ◌≡◌}
 use Rattle.cyc_types.specs.Regions.{region_of, regions_of}
 use Rattle.cyc_types.specs.Types.{static_type}
 use Rattle.source_typing.specs.Tables.{Entry, OfBuiltin, OfFunction, OfTag, OfValue, Signature, Stored, Tag, Unknown}
@@ -19,8 +19,8 @@ use Rattle.cyc_types.specs.declared.region.RegionId.{RegionId}
 abbrev pub signature_of : head.Signature → Signature
 signature_of s = record {
   regions = s.regions;
-  parameters = map (λ t. Some (static_type t)) s.parameters.items;
-  result = Some (static_type s.result);
+  parameters = map (option_map static_type) s.parameters.items;
+  result = option_map static_type s.result;
   effect = regions_of s.effect.items;
   bounds = map pair_of s.bounds.items;
   sound = true;

@@ -7,8 +7,10 @@ use cyc_types::{CType, RegionId};
 pub struct Signature<'p> {
     /// How many region variables it has.
     pub regions: u32,
-    pub parameters: Vec<CType<'p>>,
-    pub result: CType<'p>,
+    /// The types of its parameters. None: of a struct whose declaration is at fault, so that it isn't known.
+    pub parameters: Vec<Option<CType<'p>>>,
+    /// The type of its result. None: as of a parameter.
+    pub result: Option<CType<'p>>,
     /// The regions that have to be live where it is called.
     pub effect: Vec<RegionId>,
     /// Pairs of regions of which the first one outlives the other.

@@ -39,7 +39,8 @@ returns c g h =
     ∙ ap (λ l. earliest (arguments_faults (is_some fixing) g some (regions_of l) ps vs)) c.as_slice-4.ensures.value
     ∙ ap (λ l. earliest (arguments_faults (is_some fixing) g some l ps vs)) stand in
     let count : nat_eq (length ps) (length vs) ≡ true = grind (arith, c.if-parameters-arguments.false) in
+    let known = c.are_known-are_known.result in
     c.unless_found.ensures
-    ∙ ap (λ o. short_unless (faults_of o) (regions_in regions)) c.sooner.ensures
-    ∙ ap (λ l. short_unless (faults_of (sooner_found fixing conversion)) l) stand
-    ∙ arguments_are g ps vs fs conversion c.args.at n fixing h.enclosing are count fault converted
+    ∙ ap (λ o. short_unless (faults_of o) known (regions_in regions)) c.sooner.ensures
+    ∙ ap (λ l. short_unless (faults_of (sooner_found fixing conversion)) known l) stand
+    ∙ arguments_are g ps vs fs conversion c.args.at n fixing known h.enclosing are count c.are_known-are_known.ensures fault converted

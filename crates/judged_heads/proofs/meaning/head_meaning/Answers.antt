@@ -1,16 +1,15 @@
-use Rattle.std.proofs.Common.{ap, subst, sym, ◌∙◌}
+use Rattle.std.proofs.Common.{ap, sym, ◌∙◌}
 use Rattle.judged_heads.specs.Bodies.{types_of}
-use Rattle.judged_heads.specs.Heads.{AllInOrder, effect_in}
+use Rattle.judged_heads.specs.Heads.{effect_in}
 use Rattle.judged_heads.proofs.Signatures.{none_at_fault, sound_means, unsound_means}
 use Rattle.judged_heads.proofs.meaning.head_meaning.Goals as goal
 
 pub returns-then-is_some : goal.returns-then-is_some
-returns-then-is_some c f h is judged = unsound_means c.args.head f h is (sym c.is_some.ensures ∙ c.if-is_some.true)
+returns-then-is_some c f h is = unsound_means c.args.head f h is (sym c.is_some.ensures ∙ c.if-is_some.true)
 
-pub returns-in-Of : goal.returns-in-Of
-returns-in-Of c f h is judged =
+pub returns : goal.returns
+returns c f h is =
     let none = none_at_fault c.args.head.fault (sym c.is_some.ensures ∙ c.if-is_some.false) in
-    let all = subst AllInOrder (sym c.as_slice.ensures.value) (judged.in_order none) in
     sound_means c.args.head f h is _ none c.count-regions.ensures
-    (c.in_ok-parameters.ensures all ∙ ap (λ ps. types_of ps) c.as_slice.ensures.value)
-    c.in-Of.is (c.in_ok-effect.ensures ∙ ap (effect_in c.args.head.is_whole) c.count-regions.ensures) c.new.ensures.items
+    (c.in_ok-parameters.ensures ∙ ap (λ ps. types_of ps) c.as_slice.ensures.value)
+    c.in_ok-result.ensures (c.in_ok-effect.ensures ∙ ap (effect_in c.args.head.is_whole) c.count-regions.ensures) c.new.ensures.items

@@ -5,15 +5,19 @@ use Rattle.std.proofs.lemmas.Slice.Eq.{bytes_eq-Decides}
 use Rattle.cyc_tree.specs.Tree.{Item, Program}
 use Rattle.source_typing.specs.Programs.{Judged, builtins, entries, entries_with, entry_with, judged_tags, name_of, tables_of}
 use Rattle.source_typing.specs.Tables.{Entry, Tables, find}
-use Rattle.source_typing.specs.Taken.{item_taken, only_taken, thin_pointers}
+use Rattle.source_typing.specs.Taken.{item_taken, only_taken}
+use Rattle.type_verdicts.specs.Taken.{taken_of}
 use Rattle.scoped_names.specs.Globals.{global_meaning}
 use Rattle.scoped_names.specs.Means.{Means, NoName}
 use Rattle.scoped_names.specs.declared.globals.Globals.{Globals}
 use Rattle.scoped_names.specs.declared.meaning.Meaning.{Meaning}
 use Rattle.scoped_names.specs.declared.meaning.Meaning.TheVariants.{Tag}
-use Rattle.program_types.specs.Names.{HasNoTag, IsNoTag, IsUnsound, Since}
+use Rattle.program_types.specs.Names.{HasNoTag, IsNoTag, Since}
+use Rattle.program_types.specs.Structs.{KnowsStructs, MeansTag}
+use Rattle.program_types.specs.declared.structs.Structs.{Structs}
 use Rattle.program_types.proofs.Items.{name_stays}
-use Rattle.program_types.proofs.Tags.{AllJudged, tags_judged}
+use Rattle.program_types.proofs.TagItems.{item_means}
+use Rattle.program_types.proofs.TagTables.{AreJudged, all_judged, knows_all}
 
 -- ---- one name more
 
@@ -22,9 +26,9 @@ abbrev pub IsAdded : Globals → Globals → List ℕ → Meaning → Bool → T
 IsAdded old new n m is_new = (x : List ℕ) → global_meaning new x ≡ (if is_new && bytes_eq n x then Some m else global_meaning old x)
 
 since_by : (same : Bool) (e : Entry) (m : Meaning) (all others : Option Entry) (old : Option Meaning) (is_new : Bool)
-    → (same ≡ true → is_new ≡ not (is_some old)) → Means (Some e) (Some m) → Since all old (if same then Some e else others)
-    → Since all (if is_new && same then Some m else old) others
-since_by true e m all others None true is_new means since = subst (λ o. Means o (Some m)) (sym since) means
+    → (same ≡ true → is_new ≡ not (is_some old)) → (same ≡ true → all ≡ Some e → Means (Some e) (Some m))
+    → Since all old (if same then Some e else others) → Since all (if is_new && same then Some m else old) others
+since_by true e m all others None true is_new means since = subst (λ o. Means o (Some m)) (sym since) (means refl since)
 since_by true e m all others None false is_new means since = let wrong : false ≡ true = is_new refl in absurd cc
 since_by true e m all others (Some w) true is_new means since = let wrong : true ≡ false = is_new refl in absurd cc
 since_by true e m all others (Some w) false is_new means since = since
@@ -33,13 +37,15 @@ since_by false e m all others None false is_new means since = since
 since_by false e m all others (Some w) true is_new means since = since
 since_by false e m all others (Some w) false is_new means since = since
 
+-- a name whose meaning is asked for where it is the first one
 pub since_added : (old new : Globals) (n text : List ℕ) (e : Entry) (m : Meaning) (is_new : Bool) (all : Option Entry) (others : Tables) (x : List ℕ)
-    → n ≡ text → is_new ≡ not (is_some (global_meaning old n)) → IsAdded old new n m is_new → Means (Some e) (Some m)
+    → n ≡ text → is_new ≡ not (is_some (global_meaning old n)) → IsAdded old new n m is_new → (text ≡ x → all ≡ Some e → Means (Some e) (Some m))
     → Since all (global_meaning old x) (find (record { name = text; entry = e } ∷ others) x) → Since all (global_meaning new x) (find others x)
 since_added old new n text e m is_new all others x is_text is_first added means since =
     subst (λ o. Since all o (find others x)) (sym (added x))
     (since_by (bytes_eq n x) e m all (find others x) (global_meaning old x) is_new
-    (λ same. is_first ∙ ap (λ y. not (is_some (global_meaning old y))) ((bytes_eq-Decides n x).0 same)) means
+    (λ same. is_first ∙ ap (λ y. not (is_some (global_meaning old y))) ((bytes_eq-Decides n x).0 same))
+    (λ same. means (sym is_text ∙ (bytes_eq-Decides n x).0 same))
     (subst (λ y. Since all (global_meaning old x) (find (record { name = y; entry = e } ∷ others) x)) (sym is_text) since))
 
 -- a name more that means no struct or union
@@ -52,62 +58,71 @@ untagged_added old new n m is_new added none untagged x u tag = by (is_new && by
 
 -- ---- the names of items
 
+-- a program's items as far as they are taken
+abbrev pub all_taken : Structs → Program → Program
+all_taken s p = only_taken (taken_of s.taken) p
+
+-- its structs and unions
+abbrev pub tags_taken : Structs → Program → Tables
+tags_taken s p = builtins (entries (judged_tags (all_taken s p)))
+
 -- what the tables say of the items from one on
-abbrev entries_from : Bool → Program → ℕ → List Judged → List Item → Tables
-entries_from l p k js items = entries_with l (builtins (entries (judged_tags (only_taken thin_pointers p)))) k js (only_taken thin_pointers items)
+abbrev pub entries_from : Structs → Bool → Program → ℕ → List Judged → List Item → Tables
+entries_from s l p k js items = entries_with l (tags_taken s p) k js (all_taken s items)
 
--- The names are those of the items before these, of which none means a struct or union in order, and each of these is judged as a tag.
-pub record Reached (p : Program) (k : ℕ) (items : List Item) (names : Globals) : Type 0 where
+abbrev pub AreSince : Structs → Program → ℕ → List Judged → List Item → Globals → Type 0
+AreSince s p k js items names = KnowsStructs s (tags_taken s p) → (l : Bool) (x : List ℕ)
+    → Since (find (tables_of l (all_taken s p)) x) (global_meaning names x) (find (entries_from s l p k js items) x)
+
+-- The names are those of the items before these, and each of these is judged as a tag; where structs aren't taken none means one in order.
+pub record Reached (s : Structs) (p : Program) (k : ℕ) (items : List Item) (names : Globals) : Type 0 where
   pub left : List Judged
-  pub judged : AllJudged items left
-  pub untagged : HasNoTag names
-  pub since : (l : Bool) (x : List ℕ)
-      → Since (find (tables_of l (only_taken thin_pointers p)) x) (global_meaning names x) (find (entries_from l p k left items) x)
+  pub judged : AreJudged (only_taken (taken_of s.taken) items) left
+  pub untagged : s.taken.structs ≡ false → HasNoTag names
+  pub since : AreSince s p k left items names
 
-pub reached_first : (p : Program) (names : Globals)
-    → ((others : Tables) (x : List ℕ) → Since (find (builtins others) x) (global_meaning names x) (find others x)) → HasNoTag names → Reached p 0 p names
-reached_first p names first untagged = record {
-  left = judged_tags (only_taken thin_pointers p);
-  judged = tags_judged p;
-  untagged = untagged;
-  since = λ l x. first (entries_from l p 0 (judged_tags (only_taken thin_pointers p)) p) x;
+pub reached_first : (s : Structs) (p : Program) (names : Globals)
+    → ((others : Tables) (x : List ℕ) → Since (find (builtins others) x) (global_meaning names x) (find others x)) → HasNoTag names → Reached s p 0 p names
+reached_first s p names first untagged = record {
+  left = judged_tags (all_taken s p);
+  judged = all_judged (all_taken s p);
+  untagged = λ e. untagged;
+  since = λ known l x. first (entries_from s l p 0 (judged_tags (all_taken s p)) p) x;
 }
 
-pub reached_next : (p : Program) (k : ℕ) (i : Item) (items : List Item) (old new : Globals) (n : List ℕ) (m : Meaning) (is_new : Bool)
-    → n ≡ (name_of i).text → is_new ≡ not (is_some (global_meaning old n)) → IsAdded old new n m is_new
-    → ((l : Bool) (g : Tables) (k : ℕ) (e : Entry) → IsUnsound i e → Means (Some (entry_with l g k e (item_taken thin_pointers i))) (Some m))
-    → IsNoTag m → Reached p k (i ∷ items) old → Reached p (k + 1) items new
-reached_next p k i items old new n m is_new is_name is_first added means no_tag reached =
-    let next : suc k ≡ k + 1 = omega arith in subst (λ y. Reached p y items new) next (by reached.left reached.judged reached.since)
+pub reached_next : (s : Structs) (p : Program) (k next : ℕ) (i : Item) (items : List Item) (old new : Globals) (n : List ℕ) (m : Meaning) (is_new : Bool)
+    → next ≡ k + 1 → n ≡ (name_of i).text → is_new ≡ not (is_some (global_meaning old n)) → IsAdded old new n m is_new
+    → ((l : Bool) (g : Tables) (e : Entry) → KnowsStructs s g → MeansTag s i e → Means (Some (entry_with l g k e (item_taken (taken_of s.taken) i))) (Some m))
+    → (s.taken.structs ≡ false → IsNoTag m) → Reached s p k (i ∷ items) old → Reached s p next items new
+reached_next s p k next i items old new n m is_new is_next is_name is_first added means no_tag reached =
+    let after : suc k ≡ next = omega (arith, is_next) in subst (λ y. Reached s p y items new) after (by reached.left reached.judged reached.since)
   where
-    by : (js : List Judged) → AllJudged (i ∷ items) js
-        → ((l : Bool) (x : List ℕ)
-        → Since (find (tables_of l (only_taken thin_pointers p)) x) (global_meaning old x) (find (entries_from l p k js (i ∷ items)) x))
-        → Reached p (suc k) items new
+    by : (js : List Judged) → AreJudged (item_taken (taken_of s.taken) i ∷ all_taken s items) js → AreSince s p k js (i ∷ items) old → Reached s p (suc k) items new
     by [] judged since = absurd judged
     by (j ∷ js) judged since = record {
       left = js;
       judged = judged.1;
-      untagged = untagged_added old new n m is_new added no_tag reached.untagged;
-      since = λ l x.
-          let g : Tables = builtins (entries (judged_tags (only_taken thin_pointers p))) in
-          let e : Entry = entry_with l g k j.entry.entry (item_taken thin_pointers i) in
-          let others : Tables = entries_from l p (suc k) js items in
-          let all : Option Entry = find (tables_of l (only_taken thin_pointers p)) x in
-          since_added old new n (name_of (item_taken thin_pointers i)).text e m is_new all others x (is_name ∙ ap (λ y. y.text) (name_stays i))
-          is_first added (means l g k j.entry.entry judged.0.unsound) (since l x);
+      untagged = λ e. untagged_added old new n m is_new added (no_tag e) (reached.untagged e);
+      since = λ known l x.
+          let t : Item = item_taken (taken_of s.taken) i in
+          let g : Tables = tags_taken s p in
+          let e : Entry = entry_with l g k j.entry.entry t in
+          let all : Tables = tables_of l (all_taken s p) in
+          let stays : (name_of i).text ≡ (name_of t).text = ap (λ y. y.text) (name_stays (taken_of s.taken) i) in
+          since_added old new n (name_of t).text e m is_new (find all x) (entries_from s l p (suc k) js items) x (is_name ∙ stays) is_first added
+          (λ same first. means l g j.entry.entry known
+          (item_means s l all g k i j judged.0 (knows_all s l (all_taken s p) known) (ap (find all) (stays ∙ same) ∙ first)))
+          (since known l x);
     }
 
 means_since : (all : Option Entry) (m : Option Meaning) → Since all m None → Means all m
 means_since all None since = subst (λ o. Means o None) (sym since) NoName
 means_since all (Some w) since = since
 
-pub reached_last : (p : Program) (k : ℕ) (names : Globals) → Reached p k [] names
-    → (l : Bool) (x : List ℕ) → Means (find (tables_of l (only_taken thin_pointers p)) x) (global_meaning names x)
-reached_last p k names reached l x = by reached.left reached.judged reached.since
+pub reached_last : (s : Structs) (p : Program) (k : ℕ) (names : Globals) → Reached s p k [] names → KnowsStructs s (tags_taken s p)
+    → (l : Bool) (x : List ℕ) → Means (find (tables_of l (all_taken s p)) x) (global_meaning names x)
+reached_last s p k names reached known l x = by reached.left reached.judged reached.since
   where
-    by : (js : List Judged) → AllJudged [] js
-        → ((l : Bool) (x : List ℕ) → Since (find (tables_of l (only_taken thin_pointers p)) x) (global_meaning names x) (find (entries_from l p k js []) x))
-        → Means (find (tables_of l (only_taken thin_pointers p)) x) (global_meaning names x)
-    by [] judged since = means_since (find (tables_of l (only_taken thin_pointers p)) x) (global_meaning names x) (since l x)
+    by : (js : List Judged) → AreJudged [] js → AreSince s p k js [] names → Means (find (tables_of l (all_taken s p)) x) (global_meaning names x)
+    by [] judged since = means_since (find (tables_of l (all_taken s p)) x) (global_meaning names x) (since known l x)
     by (j ∷ js) judged since = absurd judged

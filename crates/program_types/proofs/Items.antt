@@ -5,7 +5,10 @@ use Rattle.std.proofs.lemmas.List.{drop_more}
 use Rattle.cyc_tree.specs.Tree.{Initial, Item}
 use Rattle.source_typing.specs.Faults.{Fault, earliest}
 use Rattle.source_typing.specs.Programs.{name_of}
-use Rattle.source_typing.specs.Taken.{form_if, global_if, initial_form, initial_taken, item_taken, takes_initial, takes_type, thin_pointers}
+use Rattle.source_typing.specs.Taken.{Taken, form_if, global_if, initial_form, initial_taken, item_taken, members_taken, structure_if, takes_initial}
+use Rattle.source_typing.specs.Taken.{takes_structure, takes_type}
+use Rattle.type_verdicts.specs.Taken.{taken_of}
+use Rattle.type_verdicts.specs.declared.taken.Taken as code_taken
 use Rattle.type_verdicts.proofs.Earliest.{earliest_of_both, first_joined, found_sooner}
 use Rattle.type_verdicts.specs.Faults.{faults_of, first_of, sooner_found}
 use Rattle.cyc_tree.specs.Tree as tree
@@ -17,26 +20,30 @@ global_named : (b : Bool) (x : tree.Global) (i : Initial) → (global_if b x i).
 global_named true x i = refl
 global_named false x i = refl
 
+structure_named : (b : Bool) (s : tree.Structure) (ms : List tree.Member) → (structure_if b s ms).tag ≡ s.tag
+structure_named true s ms = refl
+structure_named false s ms = refl
+
 -- an item that isn't taken keeps its name
-pub name_stays : (i : Item) → name_of i ≡ name_of (item_taken thin_pointers i)
-name_stays (tree.StructItem s) = refl
-name_stays (tree.UnionItem s) = refl
-name_stays (tree.GlobalItem x) =
-    sym (global_named (takes_type thin_pointers x.of && takes_initial thin_pointers x.initial) x (initial_taken thin_pointers x.of x.initial))
-name_stays (tree.FunctionItem f) = refl
+pub name_stays : (k : Taken) (i : Item) → name_of i ≡ name_of (item_taken k i)
+name_stays k (tree.StructItem s) = sym (structure_named (takes_structure k k.structs s) s (members_taken k s.members))
+name_stays k (tree.UnionItem s) = sym (structure_named (takes_structure k k.unions s) s (members_taken k s.members))
+name_stays k (tree.GlobalItem x) = sym (global_named (takes_type k x.of && takes_initial k x.initial) x (initial_taken k x.of x.initial))
+name_stays k (tree.FunctionItem f) = refl
 
 -- ---- forms
 
 -- an array has no constant
-form_by : (t : Bool) (i : Initial) → form_if t (initial_form thin_pointers i) ≡ form_if (t && takes_initial thin_pointers i) (initial_form thin_pointers i)
-form_by true Initial.Unset = refl
-form_by true (Initial.Elements n) = refl
-form_by true (Initial.Given c) = refl
-form_by false i = refl
+form_by : (k : code_taken.Taken) (t : Bool) (i : Initial)
+    → form_if t (initial_form (taken_of k) i) ≡ form_if (t && takes_initial (taken_of k) i) (initial_form (taken_of k) i)
+form_by k true Initial.Unset = refl
+form_by k true (Initial.Elements n) = refl
+form_by k true (Initial.Given c) = refl
+form_by k false i = refl
 
-pub form_of_global : (x : tree.Global) → form_if (takes_type thin_pointers x.of) (initial_form thin_pointers x.initial)
-    ≡ form_if (takes_type thin_pointers x.of && takes_initial thin_pointers x.initial) (initial_form thin_pointers x.initial)
-form_of_global x = form_by (takes_type thin_pointers x.of) x.initial
+pub form_of_global : (k : code_taken.Taken) (x : tree.Global) → form_if (takes_type (taken_of k) x.of) (initial_form (taken_of k) x.initial)
+    ≡ form_if (takes_type (taken_of k) x.of && takes_initial (taken_of k) x.initial) (initial_form (taken_of k) x.initial)
+form_of_global k x = form_by k (takes_type (taken_of k) x.of) x.initial
 
 -- ---- the earliest fault of items
 

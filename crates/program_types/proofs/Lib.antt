@@ -1,9 +1,10 @@
-pub mod Tags
+pub mod TagTables
 pub mod GlobalTypes
 pub mod Globals
 pub mod Items
 pub mod ItemNames
+pub mod TagItems
 pub mod Scopes
 pub mod Seeing
-pub mod Sizes
+pub mod Statics
 pub mod Untagged

@@ -1,13 +1,15 @@
 -- Names that mean no struct or union in order.
 use Rattle.std.proofs.Common.{◌≡◌, ℕ, Bool, true, false, List, Option, Some, None, refl, sym, ◌∙◌, ap, true≢false}
-use Rattle.source_typing.specs.Tables.{Entry, OfFunction, OfTag, OfValue, Signature, What}
+use Rattle.source_typing.specs.Tables.{Entry, OfFunction, OfTag, OfValue, Signature, Tables, What}
 use Rattle.scoped_names.specs.Globals.{global_meaning}
 use Rattle.scoped_names.specs.Means.{Means}
 use Rattle.scoped_names.specs.Means as means
 use Rattle.scoped_names.specs.declared.globals.Globals.{Globals}
 use Rattle.scoped_names.specs.declared.meaning.Meaning.{Meaning}
-use Rattle.scoped_names.specs.declared.meaning.Meaning.TheVariants.{Builtin, FaultyTag, Tag}
+use Rattle.scoped_names.specs.declared.meaning.Meaning.TheVariants.{Builtin, Tag}
 use Rattle.program_types.specs.Names.{HasNoTag, IsNoTag}
+use Rattle.program_types.specs.Structs.{KnowsStructs}
+use Rattle.program_types.specs.declared.structs.Structs.{Structs}
 
 -- ---- one name
 
@@ -34,9 +36,6 @@ function_is_no_tag s m h u e = no_tag (Some (OfFunction s)) (Some m) h refl u (a
 pub builtin_is_no_tag : (n : ℕ) → IsNoTag (Builtin n)
 builtin_is_no_tag n u e = absurd cc
 
-pub faulty_is_no_tag : IsNoTag FaultyTag
-faulty_is_no_tag u e = absurd cc
-
 -- ---- all names
 
 pub none_untagged : (s : Globals) → ((x : List ℕ) → global_meaning s x ≡ None) → HasNoTag s
@@ -44,3 +43,9 @@ none_untagged s none x u e = by (sym (none x) ∙ e)
   where
     by : None ≡ Some (Tag u) → ⊥
     by h = absurd cc
+
+-- ---- where structs aren't taken
+
+-- nothing has to be known of them
+pub knows_untaken : (s : Structs) (g : Tables) → s.taken.structs ≡ false → KnowsStructs s g
+knows_untaken s g untaken = record { names = λ h. absurd (true≢false (sym h ∙ untaken)); tables = λ h. absurd (true≢false (sym h ∙ untaken)) }

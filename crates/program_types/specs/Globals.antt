@@ -1,47 +1,29 @@
 -- Globals as far as they are taken.
-use Rattle.std.specs.Prelude.{Bool, List, None, Option, Some, false, map, true, ℕ, ◌&&◌, ◌++◌}
+use Rattle.std.specs.Prelude.{Bool, List, None, Option, Some, false, map, true, ℕ, ◌≡◌, ◌&&◌, ◌++◌}
 use Rattle.cyc_tree.specs.Tree.{Global, Initial}
 use Rattle.source_typing.specs.Faults.{Fault}
 use Rattle.source_typing.specs.Globals.{count_of, foreign_names, has_none, initial_faults}
 use Rattle.source_typing.specs.Declarations.{what_after, what_of}
-use Rattle.source_typing.specs.Regions.{TheHeap}
+use Rattle.source_typing.specs.Regions.{Region, TheHeap}
 use Rattle.source_typing.specs.Scope.{Env}
-use Rattle.source_typing.specs.Tables.{Entry, OfValue}
-use Rattle.source_typing.specs.Taken.{global_if, initial_taken, takes_initial, takes_type, thin_pointers}
-use Rattle.source_typing.specs.Types.{Char, Int, StaticType, Thin, Unsigned}
-use Rattle.source_typing.specs.Verdicts.{Verdict, faults_of, if_fits}
-use Rattle.source_typing.specs.Written.{Spot, spot}
+use Rattle.source_meaning.specs.Sizes.{rounded_up}
+use Rattle.source_typing.specs.Extents.{fits_bytes, size_of}
+use Rattle.source_typing.specs.Tables.{Entry, OfValue, Tables}
+use Rattle.source_typing.specs.Taken.{global_if, initial_taken, takes_initial, takes_type, Taken}
+use Rattle.source_typing.specs.Types.{StaticType}
+use Rattle.source_typing.specs.Verdicts.{Of, Verdict, faults_of}
+use Rattle.source_typing.specs.Written.{Spot, find_region, spot}
 use Rattle.cyc_types.specs.declared.ctype.CType.{CType}
-use Rattle.cyc_types.specs.declared.layer.Layer.{Layer}
-use Rattle.cyc_types.specs.declared.layer.Layer.TheVariants as pointer
 use Rattle.cyc_types.specs.declared.region.RegionId.TheVariants.{Heap}
 use Rattle.scoped_names.specs.declared.meaning.Meaning.{Meaning}
 use Rattle.scoped_names.specs.declared.meaning.Meaning.TheVariants.{NotKnown, Variable}
 use Rattle.cyc_tree.specs.Tree as tree
 use Rattle.type_verdicts.specs.declared.fault.Fault as found
 
-abbrev pub global_taken : Global → Global
-global_taken x = global_if (takes_type thin_pointers x.of && takes_initial thin_pointers x.initial) x (initial_taken thin_pointers x.of x.initial)
+abbrev pub global_taken : Taken → Global → Global
+global_taken k x = global_if (takes_type k x.of && takes_initial k x.initial) x (initial_taken k x.of x.initial)
 
 -- ---- types
-
--- what a global may be: an integer, or a thin pointer that may be `NULL`
-abbrev pub begins_alone : StaticType → Bool
-begins_alone Int = true
-begins_alone Unsigned = true
-begins_alone Char = true
-begins_alone (Thin n r t) = n
-begins_alone t = false
-
--- a pointer alone
-abbrev pub thin_begins : Layer → Bool
-thin_begins (pointer.Thin n r) = n
-thin_begins (pointer.Fat r) = false
-thin_begins (pointer.Unique n) = false
-
--- else Type at the type
-abbrev pub if_begins : ℕ → StaticType → Verdict StaticType
-if_begins at t = if_fits (begins_alone t) at t
 
 -- the places of regions in pointers
 abbrev pub spots_in : List tree.Pointer → List Spot
@@ -57,6 +39,22 @@ is_unnamed (Some (tree.Heap at)) = true
 is_unnamed (Some (tree.Unique at)) = true
 is_unnamed (Some (tree.Named n)) = false
 
+-- the name of a region, where it is neither the heap nor the unique one
+abbrev pub named_region : Option tree.RegionName → Option tree.Name
+named_region None = None
+named_region (Some (tree.Heap at)) = None
+named_region (Some (tree.Unique at)) = None
+named_region (Some (tree.Named n)) = Some n
+
+-- the first of two regions
+abbrev pub or_region : Option Region → Option Region → Option Region
+or_region None o = o
+or_region (Some r) o = Some r
+
+-- the region of a name among those of pointers
+abbrev pub foreign_in : List tree.Pointer → List ℕ → Option Region
+foreign_in ps x = find_region (foreign_names (spots_in ps)) x
+
 -- ---- by what the type is
 
 -- what a global's name means, by the fault of what it begins with
@@ -69,3 +67,12 @@ faults_by g i v = faults_of v ++ initial_faults g i v
 
 abbrev pub entry_by : Env → Initial → Verdict StaticType → Entry
 entry_by g i v = OfValue (what_after (faults_by g i v) (what_of TheHeap (count_of i) v))
+
+-- how many bytes a global of a type has that is no array, rounded up to 8
+abbrev pub bytes_by : Tables → Verdict StaticType → ℕ
+bytes_by g (Of t) = rounded_up (size_of g t) 8
+bytes_by g v = 0
+
+-- a type has at most 4,096 bytes
+abbrev pub IsSized : Tables → Verdict StaticType → Type 0
+IsSized g v = (t : StaticType) → v ≡ Of t → fits_bytes (size_of g t) ≡ true

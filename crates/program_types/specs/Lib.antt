@@ -1,3 +1,4 @@
 pub mod Globals
 pub mod Names
 pub mod Programs
+pub mod Structs

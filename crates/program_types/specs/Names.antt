@@ -1,20 +1,11 @@
 -- What the names of items mean.
 use Rattle.std.specs.Prelude.{Bool, List, None, Option, Some, ℕ, ◌≡◌}
-use Rattle.cyc_tree.specs.Tree.{Item}
 use Rattle.source_typing.specs.Tables.{Entry}
 use Rattle.scoped_names.specs.Globals.{global_meaning}
 use Rattle.scoped_names.specs.Means.{Means}
 use Rattle.scoped_names.specs.declared.globals.Globals.{Globals}
 use Rattle.scoped_names.specs.declared.meaning.Meaning.{Meaning}
-use Rattle.scoped_names.specs.declared.meaning.Meaning.TheVariants.{FaultyTag, Tag}
-use Rattle.cyc_tree.specs.Tree as tree
-
--- what a struct or union means, which isn't taken
-abbrev pub IsUnsound : Item → Entry → Type 0
-IsUnsound (tree.StructItem s) e = Means (Some e) (Some FaultyTag)
-IsUnsound (tree.UnionItem s) e = Means (Some e) (Some FaultyTag)
-IsUnsound (tree.GlobalItem x) e = Unit {0}
-IsUnsound (tree.FunctionItem f) e = Unit {0}
+use Rattle.scoped_names.specs.declared.meaning.Meaning.TheVariants.{Tag}
 
 -- A name means in all tables what it means in code since the first ones of them, or else what it means in the others.
 abbrev pub Since : Option Entry → Option Meaning → Option Entry → Type 0

@@ -7,5 +7,7 @@
 mod global;
 mod names;
 mod program;
+mod sizes;
+mod structs;
 
 pub use program::program_fault;

@@ -1,22 +1,27 @@
 // What the names of a program mean.
 
-ghost use Rattle.std.specs.Prelude.{◌≡◌, Bool, IfOk, List, Some, ℕ};
+ghost use Rattle.std.specs.Prelude.{◌≡◌, ◌+◌, ◌∷◌, Bool, IfOk, List, OnOk, Some, false, not, ℕ};
 ghost use Rattle.cyc_tree.specs.View.{function_tree, name_tree, program_item_tree, program_tree};
 ghost use Rattle.source_typing.specs.Functions.{head_of};
-ghost use Rattle.source_typing.specs.Programs.{builtins, entry_with, name_of, tables_of};
+ghost use Rattle.source_typing.specs.Programs.{builtins, entries, entry_with, is_seen, judged_tags, name_of, tables_of};
 ghost use Rattle.source_typing.specs.Tables.{Entry, OfFunction, Tables, find};
-ghost use Rattle.source_typing.specs.Taken.{function_taken, item_taken, only_taken, thin_pointers};
+ghost use Rattle.source_typing.specs.Taken.{function_taken, item_taken, only_taken};
+ghost use Rattle.source_typing.specs.Taken as rules_taken;
+ghost use Rattle.type_verdicts.specs.Taken.{taken_of};
+ghost use Rattle.written_types.specs.Naming.{tag_named};
 ghost use Rattle.scoped_names.specs.Globals.{global_meaning};
 ghost use Rattle.scoped_names.specs.Means.{Means};
-ghost use Rattle.program_types.specs.Names.{HasNoTag, IsNoTag, IsUnsound, Since};
+ghost use Rattle.program_types.specs.Names.{HasNoTag, IsNoTag, Since};
+ghost use Rattle.program_types.specs.Programs.{AreSeen};
+ghost use Rattle.program_types.specs.Structs.{KnowsStructs, MeansTag, tag_meaning};
 
 use crate::global::{JudgedGlobal, judged_global};
+use crate::structs::Structs;
 use cyc_tree::{Function, Item, Name};
 use judged_heads::{head_meaning, read_head};
 use scoped_names::{Globals, Meaning};
 use std::alloc::{AllocError, Global};
-use type_verdicts::Taken;
-use written_types::TagNames;
+use written_types::TagName;
 
 /// The names of the functions that every program has, and what they mean. Fails only where no host memory is left.
 fn builtin_names<'p>(alloc: Global) -> Result<Globals<'p>, AllocError>
@@ -33,7 +38,7 @@ fn builtin_names<'p>(alloc: Global) -> Result<Globals<'p>, AllocError>
 #[tactic(auto, using(crate::proofs::Items::name_stays))]
 pub(crate) fn item_name(item: &Item) -> &Name
     ensures plain { name_tree result.now ≡ name_of (program_item_tree item.now) }
-    ensures taken { name_tree result.now ≡ name_of (item_taken thin_pointers (program_item_tree item.now)) }
+    ensures taken { (k : rules_taken.Taken) → name_tree result.now ≡ name_of (item_taken k (program_item_tree item.now)) }
 {
     match item {
         Item::Struct(structure) | Item::Union(structure) => &structure.tag,
@@ -43,46 +48,96 @@ pub(crate) fn item_name(item: &Item) -> &Name
 }
 
 /// What a function's name means. Fails only where no host memory is left.
-fn function_meaning<'p>(alloc: Global, function: &'p Function) -> Result<Meaning<'p>, AllocError>
-    ensures { (lenient : Bool) (g : Tables) → let f = function_taken thin_pointers (function_tree function.entry.now) in
+fn function_meaning<'p>(
+    alloc: Global,
+    structs: Structs<'_, 'p>,
+    function: &'p Function,
+) -> Result<Meaning<'p>, AllocError>
+    ensures { (lenient : Bool) (g : Tables) → KnowsStructs structs.entry g
+        → let f = function_taken (taken_of structs.entry.taken) (function_tree function.entry.now) in
         IfOk result (λ m. Means (Some (OfFunction (head_of lenient g f).signature)) (Some m)) }
 {
-    let tags = TagNames::new(alloc);
-    let head = read_head(alloc, Taken::thin_pointers(), &tags, function)?;
+    let head = read_head(alloc, structs.taken, structs.tags, function)?;
     head_meaning(alloc, head)
 }
 
-/// What an item's name means: a struct or union isn't taken, so that its name is one of a declaration at fault. Fails only where no host
-/// memory is left.
-fn item_meaning<'p>(alloc: Global, item: &'p Item) -> Result<Meaning<'p>, AllocError>
-    ensures means { (lenient : Bool) (g : Tables) (i : ℕ) (e : Entry) → IsUnsound (program_item_tree item.entry.now) e
-        → IfOk result (λ m. Means (Some (entry_with lenient g i e (item_taken thin_pointers (program_item_tree item.entry.now)))) (Some m)) }
-    ensures untagged { IfOk result IsNoTag }
+/// What the name of a struct or union means: one that isn't taken is one of a declaration at fault.
+fn tag_meaning<'p>(structs: Structs<'_, '_>, name: &Name) -> Meaning<'p>
+    ensures { result ≡ tag_meaning structs.entry.taken.structs (tag_named structs.entry.tags.now (name_tree name.now).text) }
+{
+    if !structs.taken.structs {
+        return Meaning::FaultyTag;
+    }
+    match structs.tags.of(&name.text) {
+        TagName::Tag(is_union) => Meaning::Tag(is_union),
+        TagName::NoName | TagName::NotJudged | TagName::Other => Meaning::FaultyTag,
+    }
+}
+
+/// What the name of an item after so many means. Fails only where no host memory is left.
+fn item_meaning<'p>(
+    alloc: Global,
+    structs: Structs<'_, 'p>,
+    index: u32,
+    item: &'p Item,
+) -> Result<Meaning<'p>, AllocError>
+    ensures means { (lenient : Bool) (g : Tables) (e : Entry) → KnowsStructs structs.entry g → MeansTag structs.entry (program_item_tree item.entry.now) e
+        → IfOk result (λ m. Means (Some (entry_with lenient g index e (item_taken (taken_of structs.entry.taken) (program_item_tree item.entry.now)))) (Some m)) }
+    ensures untagged { structs.entry.taken.structs ≡ false → IfOk result IsNoTag }
 {
     match item {
-        Item::Struct(_) | Item::Union(_) => Ok(Meaning::FaultyTag),
+        Item::Struct(structure) | Item::Union(structure) => {
+            Ok(tag_meaning(structs, &structure.tag))
+        }
         Item::Global(global) => {
-            let judged = judged_global(alloc, global)?;
+            let judged = judged_global(alloc, structs, index, global)?;
             let JudgedGlobal {
                 fault: _fault,
                 meaning,
+                bytes: _bytes,
             } = judged;
             Ok(meaning)
         }
-        Item::Function(function) => function_meaning(alloc, function),
+        Item::Function(function) => function_meaning(alloc, structs, function),
     }
 }
 
 /// What the names of a program's items mean, and those of the functions that every program has. Fails only where no host memory is left.
-pub(crate) fn program_names<'p>(alloc: Global, items: &'p [Item]) -> Result<Globals<'p>, AllocError>
-    ensures names { (lenient : Bool)
-        → IfOk result (λ names. (x : List ℕ) → Means (find (tables_of lenient (only_taken thin_pointers (program_tree items.entry.now))) x) (global_meaning names x)) }
-    ensures untagged { IfOk result HasNoTag }
+pub(crate) fn program_names<'p>(
+    alloc: Global,
+    structs: Structs<'_, 'p>,
+    items: &'p [Item],
+) -> Result<Globals<'p>, AllocError>
+    ensures names { (lenient : Bool) → let all = only_taken (taken_of structs.entry.taken) (program_tree items.entry.now) in
+        KnowsStructs structs.entry (builtins (entries (judged_tags all)))
+        → IfOk result (λ names. (x : List ℕ) → Means (find (tables_of lenient all) x) (global_meaning names x)) }
+    ensures untagged { structs.entry.taken.structs ≡ false → IfOk result HasNoTag }
 {
     let mut names = builtin_names(alloc)?;
+    let mut index = 0;
     'each: for item in items {
-        let meaning = item_meaning(alloc, item)?;
+        let meaning = item_meaning(alloc, structs, index, item)?;
         names.add(item_name(item).text.as_slice(), meaning)?;
+        index = next_index(index)?;
     }
     Ok(names)
+}
+
+/// The index after this one. One over a u32 is want of memory.
+pub(crate) fn next_index(index: u32) -> Result<u32, AllocError>
+    ensures { IfOk result (λ i. i ≡ index + 1) }
+{
+    match index.checked_add(1) {
+        Some(next) => Ok(next),
+        None => Err(AllocError),
+    }
+}
+
+/// Adds a name to those that are seen, and tells whether it is a new one. Fails only where no host memory is left.
+#[tactic(auto, using(crate::proofs::Seeing::seen_now, crate::proofs::Seeing::seen_more))]
+pub(crate) fn see<'p>(seen: &mut Globals<'p>, name: &'p [u8]) -> Result<bool, AllocError>
+    ensures is_new { (names : List (List ℕ)) → AreSeen names seen.old → IfOk result (λ b. b ≡ not (is_seen names name.entry.now)) }
+    ensures seen { (names : List (List ℕ)) → AreSeen names seen.old → OnOk result (AreSeen (name.entry.now ∷ names) seen.new) }
+{
+    seen.add(name, Meaning::NotKnown)
 }

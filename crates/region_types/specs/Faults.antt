@@ -3,11 +3,11 @@
 use Rattle.std.specs.Prelude.{◌≡◌, Option}
 use Rattle.cyc_tree.specs.Tree.{Program}
 use Rattle.source_typing.specs.Answers.{type_fault}
-use Rattle.source_typing.specs.Taken.{thin_pointers}
+use Rattle.source_typing.specs.Taken.{supported}
 use Rattle.type_verdicts.specs.Faults.{faults_of}
 use Rattle.type_verdicts.specs.declared.fault.Fault.{Fault}
 
 -- It is the earliest fault of the program by the rules without those on live regions and effects, and none where they find none. A form that isn't taken is
 -- Type at its first token.
 abbrev pub IsTypeFault : Option Fault → Program → Type 0
-IsTypeFault found program = faults_of found ≡ type_fault thin_pointers program
+IsTypeFault found program = faults_of found ≡ type_fault supported program

@@ -2,9 +2,9 @@
 use Rattle.std.proofs.Common.{◌≡◌, []}
 use Rattle.cyc_tree.specs.Tree.{Program}
 use Rattle.source_typing.specs.Answers.{program_faults}
-use Rattle.source_typing.specs.Taken.{thin_pointers}
+use Rattle.source_typing.specs.Taken.{supported}
 use Rattle.source_typing.proofs.TakenItems.{none_is}
 use Rattle.unique_flow.specs.Accepted.{IsAccepted}
 
-pub no_faults : (p : Program) → IsAccepted p → program_faults thin_pointers p ≡ []
-no_faults p accepted = none_is (program_faults thin_pointers p) accepted
+pub no_faults : (p : Program) → IsAccepted p → program_faults supported p ≡ []
+no_faults p accepted = none_is (program_faults supported p) accepted

@@ -2,8 +2,8 @@
 use Rattle.std.specs.Prelude.{◌≡◌, None}
 use Rattle.cyc_tree.specs.Tree.{Program}
 use Rattle.source_typing.specs.Answers.{first_fault}
-use Rattle.source_typing.specs.Taken.{thin_pointers}
+use Rattle.source_typing.specs.Taken.{supported}
 
 -- No rule finds a fault, where functions and globals of integers and of thin pointers are taken.
 abbrev pub IsAccepted : Program → Type 0
-IsAccepted program = first_fault thin_pointers program ≡ None
+IsAccepted program = first_fault supported program ≡ None

@@ -1,14 +1,24 @@
-use Rattle.std.proofs.Common.{sym, ◌∙◌}
+use Rattle.std.proofs.Common.{ap, sym, ◌∙◌}
 use Rattle.cyc_types.specs.Types.{static_type}
+use Rattle.judged_statements.proofs.Beginning.{allowed_is}
+use Rattle.source_typing.specs.Globals.{fitting_global}
+use Rattle.source_typing.specs.Scope.{at_item}
+use Rattle.std.specs.Prelude.{None}
 use Rattle.type_verdicts.proofs.Shortened.{after_of, after_unjudged, after_wrong}
-use Rattle.program_types.specs.Globals.{if_begins}
+use Rattle.type_verdicts.specs.Verdicts.{short_of}
 use Rattle.program_types.proofs.global.fitting.Goals as goal
 
 pub returns-in-Of : goal.returns-in-Of
-returns-in-Of c w e = c.fitted.ensures ∙ sym (after_of static_type c.args.of w (if_begins c.args.at) e c.in-Of.of c.in-Of.is)
+returns-in-Of c lenient g w known e ok =
+    let rule = fitting_global (at_item lenient g c.args.item) c.args.at None c.args.is_unnamed in
+    c.fitted_global.ensures lenient g known
+    (allowed_is c.args.structs.taken.structs w (static_type c.in-Of.of) (ap (short_of static_type) (sym c.in-Of.is) ∙ e) ok)
+    ∙ sym (after_of static_type c.args.of w rule e c.in-Of.of c.in-Of.is)
 
 pub returns-in-Wrong : goal.returns-in-Wrong
-returns-in-Wrong c w e = sym (after_wrong static_type c.args.of w (if_begins c.args.at) e c.in-Wrong.fault c.in-Wrong.is)
+returns-in-Wrong c lenient g w known e ok =
+    sym (after_wrong static_type c.args.of w (fitting_global (at_item lenient g c.args.item) c.args.at None c.args.is_unnamed) e c.in-Wrong.fault c.in-Wrong.is)
 
 pub returns-in-NotJudged : goal.returns-in-NotJudged
-returns-in-NotJudged c w e = sym (after_unjudged static_type c.args.of w (if_begins c.args.at) e c.in-NotJudged.is)
+returns-in-NotJudged c lenient g w known e ok =
+    sym (after_unjudged static_type c.args.of w (fitting_global (at_item lenient g c.args.item) c.args.at None c.args.is_unnamed) e c.in-NotJudged.is)

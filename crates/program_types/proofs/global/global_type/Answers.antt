@@ -1,38 +1,42 @@
-use Rattle.std.proofs.Common.{◌≡◌, [], ap, map, sym, ◌∙◌}
-use Rattle.cyc_tree.specs.View.{pointer_tree, type_tree}
-use Rattle.std.specs.Prelude.{Bool, if◌then◌else◌}
-use Rattle.source_typing.specs.Faults.{type_rule}
-use Rattle.source_typing.specs.Tags.{settled_alone}
-use Rattle.source_typing.specs.Taken.{refused_type, takes_type, thin_pointers, type_taken}
-use Rattle.source_typing.specs.Verdicts.{after, refuse}
-use Rattle.source_typing.specs.Written.{written}
-use Rattle.type_verdicts.specs.Verdicts.{short_of, shortened}
-use Rattle.written_types.specs.Written.{partial_type}
+use Rattle.std.proofs.Common.{◌≡◌, ap, map, subst, sym, ◌∙◌}
+use Rattle.std.specs.Prelude.{Bool, None, if◌then◌else◌}
 use Rattle.std.proofs.lemmas.Result.{IfOk-at_ok}
-use Rattle.program_types.proofs.GlobalTypes.{named_type, unnamed_type}
-use Rattle.program_types.specs.Globals.{if_begins, names_none}
+use Rattle.cyc_tree.specs.View.{pointer_tree, type_tree}
 use Rattle.cyc_tree.specs.Tree as tree
+use Rattle.judged_statements.proofs.Beginning.{written_allowed}
+use Rattle.source_typing.specs.Globals.{fitting_global}
+use Rattle.source_typing.specs.Scope.{at_item}
+use Rattle.source_typing.specs.Tags.{settled_alone}
+use Rattle.source_typing.specs.Taken.{refused_type, takes_type, type_taken}
+use Rattle.source_typing.specs.Verdicts.{after}
+use Rattle.source_typing.specs.Written.{written}
+use Rattle.type_verdicts.specs.Taken.{taken_of}
+use Rattle.type_verdicts.specs.Verdicts.{short_of, shortened}
+use Rattle.written_types.specs.Tagged.{TagIs}
+use Rattle.written_types.specs.Written.{partial_type}
+use Rattle.program_types.proofs.GlobalTypes.{alone_allowed, global_typed}
+use Rattle.program_types.specs.Globals.{foreign_in, names_none}
 use Rattle.program_types.proofs.global.global_type.Goals as goal
 
-pub returns-then-not-names_none : goal.returns-then-not-names_none
-returns-then-not-names_none c g x is taken alone =
-    ap (λ (t : tree.TypeName). shortened (refuse type_rule t.at)) (sym is)
-    ∙ ap (λ v. shortened v) (named_type g x taken
-    (ap (λ (t : tree.TypeName). names_none t.pointers) is ∙ sym (ap (λ ps. names_none (map pointer_tree ps)) c.deref.ensures.value)
-    ∙ sym c.names_none.ensures ∙ c.if-not-names_none.true))
-
 pub returns : goal.returns
-returns c g x is taken alone =
+returns c lenient g x known is taken alone =
+    let s = c.args.structs in
+    let k = taken_of s.taken in
     let t = type_tree c.args.of.now in
-    let same : type_taken thin_pointers t ≡ x.of =
-    ap (λ (b : Bool). if b then t else refused_type t.at) (sym (ap (λ u. takes_type thin_pointers u) is) ∙ taken) ∙ sym is
-    in
-    let w = written g.tables c.new-names.result (type_taken thin_pointers t) in
-    c.fitting.ensures (after w (settled_alone t.at)) (c.in_ok-settled.ensures w
-    (IfOk-at_ok (λ o. short_of partial_type o ≡ shortened w) c.in_ok-found.was (c.written.ensures g.tables)))
-    ∙ ap (λ ns. shortened (after (after (written g.tables ns (type_taken thin_pointers t)) (settled_alone t.at)) (if_begins t.at))) c.new-names.ensures
-    ∙ ap (λ u. shortened (after (after (written g.tables [] u) (settled_alone t.at)) (if_begins t.at))) same
-    ∙ ap (λ (u : tree.TypeName). shortened (after (after (written g.tables [] x.of) (settled_alone u.at)) (if_begins u.at))) (sym is)
-    ∙ ap (λ v. shortened v) (unnamed_type g x taken
-    (ap (λ (t : tree.TypeName). names_none t.pointers) is ∙ sym (ap (λ ps. names_none (map pointer_tree ps)) c.deref.ensures.value)
-    ∙ sym c.names_none.ensures ∙ c.if-not-names_none.false) alone)
+    let names = c.in_ok-names.names in
+    let item = at_item lenient g c.args.item in
+    let b = c.names_none-is_unnamed.result in
+    let same : type_taken k t ≡ x.of = ap (λ (b : Bool). if b then t else refused_type t.at) (sym (ap (λ u. takes_type k u) is) ∙ taken) ∙ sym is in
+    let tag = c.tag_of_type-tag.ensures g known.names in
+    let w = written g names (type_taken k t) in
+    c.fitting.ensures lenient g (after w (settled_alone t.at)) known
+    (c.in_ok-settled.ensures w (IfOk-at_ok (λ o. short_of partial_type o ≡ shortened w) c.in_ok-found.was (c.written_in.ensures g tag)))
+    (alone_allowed s.taken.structs t.at w (written_allowed g names s.taken t))
+    ∙ ap (λ u. shortened (after (after (written g names u) (settled_alone t.at)) (fitting_global item t.at None b))) same
+    ∙ ap (λ (u : tree.TypeName). shortened (after (after (written g names x.of) (settled_alone u.at)) (fitting_global item u.at None b))) (sym is)
+    ∙ ap (λ v. shortened v)
+    (global_typed s.taken item x names c.tag_of_type-tag.result b taken (subst (λ u. TagIs k g u c.tag_of_type-tag.result) (sym is) tag) alone
+    (λ y. c.in_ok-names.ensures y ∙ ap (λ ps. foreign_in (map pointer_tree ps) y) c.deref.ensures.value
+    ∙ ap (λ (u : tree.TypeName). foreign_in u.pointers y) (sym is))
+    (c.names_none-is_unnamed.ensures ∙ ap (λ ps. names_none (map pointer_tree ps)) c.deref-2.ensures.value
+    ∙ ap (λ (u : tree.TypeName). names_none u.pointers) (sym is)))

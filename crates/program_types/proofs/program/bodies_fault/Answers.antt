@@ -1,15 +1,18 @@
-use Rattle.std.proofs.Common.{◌≡◌, ap, false, sym, true≢false, ◌∙◌}
 use Rattle.cyc_tree.specs.View.{program_tree}
 use Rattle.source_typing.specs.Programs.{tables_of}
-use Rattle.source_typing.specs.Taken.{Taken, only_taken, thin_pointers}
+use Rattle.source_typing.specs.Taken.{only_taken}
+use Rattle.type_verdicts.specs.Taken.{taken_of}
+use Rattle.program_types.proofs.TagTables.{knows_all}
 use Rattle.program_types.proofs.program.bodies_fault.Goals as goal
 
 pub returns : goal.returns
-returns c =
-    let untaken : c.thin_pointers.result.structs ≡ false = ap (λ (k : Taken). k.structs) c.thin_pointers.ensures in
-    c.items_fault.ensures (tables_of c.args.lenient (only_taken thin_pointers (program_tree c.args.items.now))) record {
-      globals = c.in_ok-globals.ensures.names c.args.lenient;
-      tag_names = λ h. absurd (true≢false (sym h ∙ untaken));
-      tags = λ h. absurd (true≢false (sym h ∙ untaken));
-      untaken = λ e. c.in_ok-globals.ensures.untagged;
-    } c.thin_pointers.ensures
+returns c known =
+    let l = c.args.lenient in
+    let all = only_taken (taken_of c.args.structs.taken) (program_tree c.args.items.now) in
+    let knows = knows_all c.args.structs l all known in
+    c.items_fault.ensures (tables_of l all) record {
+      globals = c.in_ok-globals.ensures.names l known;
+      tag_names = knows.names;
+      tags = knows.tables;
+      untaken = c.in_ok-globals.ensures.untagged;
+    }

@@ -2,15 +2,17 @@ use Rattle.std.proofs.Common.{◌+◌, List, ap, drop, refl, ◌∙◌}
 use Rattle.cyc_tree.specs.View.{program_item_tree, program_tree}
 use Rattle.cyc_tree.specs.declared.item.Item as code_item
 use Rattle.source_typing.specs.Faults.{earliest}
-use Rattle.source_typing.specs.Taken.{constant_forms, thin_pointers, item_forms}
+use Rattle.source_typing.specs.Taken.{constant_forms, item_forms}
 use Rattle.type_verdicts.specs.Faults.{faults_of, first_of}
+use Rattle.type_verdicts.specs.Taken.{taken_of}
 use Rattle.program_types.proofs.Items.{next_found}
 use Rattle.program_types.proofs.program.forms_fault.Goals as goal
 
 pub each-preserved : goal.each-preserved
 each-preserved c =
-    let all = λ (l : List code_item.Item). constant_forms thin_pointers (program_tree l) in
+    let k = taken_of c.args.taken in
+    let all = λ (l : List code_item.Item). constant_forms k (program_tree l) in
     ap (λ o. first_of (faults_of o) (earliest (all (drop (c.each.item-index + 1) c.args.items.now)))) c.sooner-found.ensures
-    ∙ next_found all all (item_forms thin_pointers (program_item_tree c.item-item.result)) c.args.items.now c.each.item-index c.item-item.result c.each.found
+    ∙ next_found all all (item_forms k (program_item_tree c.item-item.result)) c.args.items.now c.each.item-index c.item-item.result c.each.found
     c.item_form.result c.each-test.true c.item-item.is c.item_form.ensures refl
     ∙ c.each.invariant

@@ -1,29 +1,30 @@
-use Rattle.std.proofs.Common.{◌≡◌, ◌+◌, ◌++◌, List, ap, arith, drop, subst, suc, ◌∙◌}
+use Rattle.std.proofs.Common.{◌≡◌, ◌+◌, ◌++◌, List, ap, arith, drop, suc, ◌∙◌}
 use Rattle.cyc_tree.specs.View.{program_item_tree, program_tree}
 use Rattle.cyc_tree.specs.declared.item.Item as code_item
 use Rattle.source_typing.specs.Faults.{earliest}
 use Rattle.source_typing.specs.Programs.{item_faults, items_from}
-use Rattle.source_typing.specs.Taken.{item_taken, only_taken, thin_pointers}
+use Rattle.source_typing.specs.Taken.{item_taken, only_taken}
 use Rattle.type_verdicts.specs.Faults.{faults_of, first_of}
+use Rattle.type_verdicts.specs.Taken.{taken_of}
 use Rattle.program_types.proofs.Items.{next_found}
 use Rattle.program_types.proofs.program.items_fault.Goals as goal
 
 pub each-preserved : goal.each-preserved
-each-preserved c =
+each-preserved c g known =
+    let taken = taken_of c.args.names.taken in
     let k = c.each.item-index in
+    let i = c.each.index in
     let items = c.args.items.now in
     let lenient = c.args.lenient in
     let fault = c.in_ok-item_fault.field-0 in
-    let one : suc k ≡ k + 1 = omega arith in
-    record {
-      at = c.in_ok-index.ensures ∙ ap (λ n. n + 1) c.each.invariant.at;
-      all = λ g known thin.
-          let before = λ (l : List code_item.Item). items_from lenient g k (only_taken thin_pointers (program_tree l)) in
-          let after = λ (l : List code_item.Item). items_from lenient g (k + 1) (only_taken thin_pointers (program_tree l)) in
-          let this = item_taken thin_pointers (program_item_tree c.item-item.result) in
-          ap (λ o. first_of (faults_of o) (earliest (after (drop (k + 1) items)))) c.sooner-found.ensures
-          ∙ next_found before after (item_faults lenient g k this) items k c.item-item.result c.each.found fault c.each-test.true c.item-item.is
-          (subst (λ i. faults_of fault ≡ earliest (item_faults lenient g i this)) c.each.invariant.at (c.in_ok-item_fault.ensures g known thin))
-          (ap (λ n. item_faults lenient g k this ++ items_from lenient g n (only_taken thin_pointers (program_tree (drop (k + 1) items)))) one)
-          ∙ c.each.invariant.all g known thin;
-    }
+    let one : suc i ≡ i + 1 = omega arith in
+    let before = λ (l : List code_item.Item). items_from lenient g i (only_taken taken (program_tree l)) in
+    let after = λ (l : List code_item.Item). items_from lenient g (i + 1) (only_taken taken (program_tree l)) in
+    let this = item_taken taken (program_item_tree c.item-item.result) in
+    ap (λ n. first_of (faults_of c.sooner-found.result) (earliest (items_from lenient g n (only_taken taken (program_tree (drop (k + 1) items))))))
+    c.in_ok-index.ensures
+    ∙ ap (λ o. first_of (faults_of o) (earliest (after (drop (k + 1) items)))) c.sooner-found.ensures
+    ∙ next_found before after (item_faults lenient g i this) items k c.item-item.result c.each.found fault c.each-test.true c.item-item.is
+    (c.in_ok-item_fault.ensures g known)
+    (ap (λ n. item_faults lenient g i this ++ items_from lenient g n (only_taken taken (program_tree (drop (k + 1) items)))) one)
+    ∙ c.each.invariant g known

@@ -4,16 +4,15 @@ use Rattle.judged_heads.specs.Bodies.{KnowsNames}
 use Rattle.source_typing.specs.Faults.{earliest}
 use Rattle.source_typing.specs.Programs.{items_from}
 use Rattle.source_typing.specs.Tables.{Tables}
-use Rattle.source_typing.specs.Taken.{only_taken, thin_pointers}
+use Rattle.source_typing.specs.Taken.{only_taken}
 use Rattle.type_verdicts.specs.Faults.{faults_of, first_of}
 use Rattle.type_verdicts.specs.Taken.{taken_of}
 use Rattle.program_types.proofs.program.items_fault.Given as goal
 
--- what was found, and the earliest fault of the rest, is the earliest of all; and as many items were judged as the index says
+-- what was found, and the earliest fault of the rest, is the earliest of all
 abbrev pub invariant-each : goal.invariant-each
-invariant-each l = record {
-  at : l.index ≡ l.item-index;
-  all : (g : Tables) → KnowsNames l.names g → taken_of l.names.taken ≡ thin_pointers
-      → first_of (faults_of l.found) (earliest (items_from l.lenient g l.item-index (only_taken thin_pointers (program_tree (drop l.item-index l.items)))))
-      ≡ earliest (items_from l.lenient g 0 (only_taken thin_pointers (program_tree l.items)));
-}
+invariant-each l =
+    (g : Tables) → KnowsNames l.names g
+    → first_of (faults_of l.found)
+    (earliest (items_from l.lenient g l.index (only_taken (taken_of l.names.taken) (program_tree (drop l.item-index l.items)))))
+    ≡ earliest (items_from l.lenient g 0 (only_taken (taken_of l.names.taken) (program_tree l.items)))

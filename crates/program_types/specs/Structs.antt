@@ -1,0 +1,31 @@
+-- When what is known in code of a program's structs, where its globals and heads are judged, is what the rules' tables know of them.
+use Rattle.std.specs.Prelude.{Bool, Some, false, true, ◌≡◌}
+use Rattle.cyc_types.specs.Sameness.{HasTags}
+use Rattle.source_typing.specs.Tables.{Entry, Tables}
+use Rattle.cyc_tree.specs.Tree.{Item}
+use Rattle.cyc_tree.specs.Tree as tree
+use Rattle.scoped_names.specs.Means.{Means}
+use Rattle.scoped_names.specs.declared.meaning.Meaning.{Meaning}
+use Rattle.scoped_names.specs.declared.meaning.Meaning.TheVariants.{FaultyTag, Tag}
+use Rattle.written_types.specs.Naming.{AreTagNames, tag_named}
+use Rattle.written_types.specs.declared.tagged.TagName.{TagName}
+use Rattle.written_types.specs.declared.tagged.TagName.TheVariants as named
+use Rattle.program_types.specs.declared.structs.Structs.{Structs}
+
+-- where structs are taken, each name means what it means by the rules where a tag is wanted, and so do structs and unions
+pub record KnowsStructs (s : Structs) (g : Tables) : Type 0 where
+  pub names : AreTagNames s.taken s.tags.now g
+  pub tables : s.taken.structs ≡ true → HasTags s.tables.now g
+
+-- what a struct's or union's name means, by whether structs are taken, and by what it means where a tag is wanted
+abbrev pub tag_meaning : Bool → TagName → Meaning
+tag_meaning true (named.Tag u) = Tag u
+tag_meaning true n = FaultyTag
+tag_meaning false n = FaultyTag
+
+-- so it does of an item with this entry, where the item is a struct or union
+abbrev pub MeansTag : Structs → Item → Entry → Type 0
+MeansTag s (tree.StructItem t) e = Means (Some e) (Some (tag_meaning s.taken.structs (tag_named s.tags.now t.tag.text)))
+MeansTag s (tree.UnionItem t) e = Means (Some e) (Some (tag_meaning s.taken.structs (tag_named s.tags.now t.tag.text)))
+MeansTag s (tree.GlobalItem x) e = Unit {0}
+MeansTag s (tree.FunctionItem f) e = Unit {0}

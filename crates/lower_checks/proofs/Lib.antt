@@ -1,10 +1,16 @@
 mod Arguments
 mod Bodies
+mod Dropped
 mod Items
 mod Linking
 mod Lists
 mod Lowerable
+mod Parts
 mod Pointers
 mod Promised
+mod Reaching
+mod StructLayouts
+mod Structs
 mod Tables
 mod Taken
+mod Wholes

@@ -45,3 +45,26 @@ choice_of before tested after condition these those body otherwise code tested_i
     ∙ ap (λ (ss : List Statement). before ++ (condition ++ (If 0 (all_of ss) (all_of those) ∷ []))) these_is
     ∙ ap (λ (ss : List Statement). before ++ (condition ++ (If 0 (all_of body) (all_of ss) ∷ []))) those_is
     ∙ ap (λ (ss : List Statement). before ++ ss) (sym code_is)
+
+-- code after code
+pub then_of :
+    (before first middle second after code : List Statement) → middle ≡ before ++ first → after ≡ middle ++ second → code ≡ first ++ second →
+    after ≡ before ++ code
+then_of before first middle second after code middle_is after_is code_is =
+    after_is ∙ ap (λ (ss : List Statement). ss ++ second) middle_is ∙ append_assoc before first second ∙ ap (λ (ss : List Statement). before ++ ss) (sym code_is)
+
+-- four times
+pub fourth_of :
+    (before a one b two c three d after code : List Statement) → one ≡ before ++ a → two ≡ one ++ b → three ≡ two ++ c → after ≡ three ++ d →
+    code ≡ (a ++ b) ++ (c ++ d) → after ≡ before ++ code
+fourth_of before a one b two c three d after code one_is two_is three_is after_is code_is =
+    then_of before (a ++ b) two (c ++ d) after code (then_of before a one b two (a ++ b) one_is two_is refl)
+    (then_of two c three d after (c ++ d) three_is after_is refl) code_is
+
+-- what is put together apart goes behind two
+pub third_of :
+    (before a one b two c apart after code : List Statement) → one ≡ before ++ a → two ≡ one ++ b → apart ≡ c → after ≡ two ++ apart →
+    code ≡ a ++ (b ++ c) → after ≡ before ++ code
+third_of before a one b two c apart after code one_is two_is apart_is after_is code_is =
+    then_of before a one (b ++ c) after code one_is
+    (then_of one b two c after (b ++ c) two_is (after_is ∙ ap (λ (ss : List Statement). two ++ ss) apart_is) refl) code_is

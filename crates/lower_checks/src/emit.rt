@@ -2,12 +2,13 @@
 
 ghost use Rattle.std.specs.Prelude.{◌≡◌, ◌++◌, [], ◌∷◌, OnOk, map};
 ghost use Rattle.core_meaning.specs.Core as core;
-ghost use Rattle.cyc_core.specs.Trees.{local_tree, operation_tree, statements_of, statement_tree};
+ghost use Rattle.cyc_core.specs.Trees.{layout_tree, local_tree, operation_tree, statements_of, statement_tree};
 ghost use Rattle.source_lowering.specs.Lowered.{all_of};
 ghost use Rattle.lower_checks.specs.Refusals.{NeverRefused};
 
 use crate::fault::LowerFault;
-use cyc_core::{Local, Operation, Statement, Temporary};
+use cyc_core::{Layout, Local, Operation, Statement, Temporary};
+use std::rc::Rc;
 
 /// Appends a statement.
 pub fn emit(body: &mut Vec<Statement>, statement: Statement) -> Result<(), LowerFault>
@@ -38,6 +39,33 @@ pub fn emit_operation(body: &mut Vec<Statement>, operation: Operation) -> Result
     ensures taken { NeverRefused result }
 {
     emit(body, Statement::Do(operation))
+}
+
+/// Appends a copy of an object of a layout to where the first pointer leads, from where the second leads.
+pub fn emit_copy(
+    body: &mut Vec<Statement>,
+    to: Temporary,
+    from: Temporary,
+    layout: Rc<Layout>,
+) -> Result<(), LowerFault>
+    ensures code { OnOk result
+        (map statement_tree body.new.items ≡ map statement_tree body.old.items ++ core.Do (core.Copy to.0 from.0 (layout_tree layout.value)) ∷ []) }
+    ensures taken { NeverRefused result }
+{
+    emit(body, Statement::Copy(to, from, layout))
+}
+
+/// Appends what makes the object of a layout to which a pointer leads what it begins as.
+pub fn emit_clear(
+    body: &mut Vec<Statement>,
+    pointer: Temporary,
+    layout: Rc<Layout>,
+) -> Result<(), LowerFault>
+    ensures code { OnOk result
+        (map statement_tree body.new.items ≡ map statement_tree body.old.items ++ core.Do (core.Clear pointer.0 (layout_tree layout.value) 1) ∷ []) }
+    ensures taken { NeverRefused result }
+{
+    emit(body, Statement::Clear(pointer, layout))
 }
 
 // a choice, as the tree of its parts

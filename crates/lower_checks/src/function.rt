@@ -1,6 +1,6 @@
 // Functions.
 
-ghost use Rattle.std.specs.Prelude.{◌≡◌, [], ◌++◌, OnOk, IfOk, map};
+ghost use Rattle.std.specs.Prelude.{◌≡◌, ◌++◌, OnOk, IfOk, map};
 ghost use Rattle.cyc_tree.specs.View.{member_tree, function_tree as source_tree};
 ghost use Rattle.cyc_core.specs.Trees.{statement_tree, body_tree, function_tree};
 ghost use Rattle.source_meaning.specs.Shapes.{part_of};
@@ -8,7 +8,7 @@ ghost use Rattle.source_meaning.specs.Programs.{world_of, routine_of};
 ghost use Rattle.source_lowering.specs.Programs.{parameter_names, parameters_code, end_code, body_code, routine_values, function_code};
 ghost use Rattle.lower_checks.specs.Views.{shape_tree};
 ghost use Rattle.lower_checks.specs.Visible.{names_of};
-ghost use Rattle.source_lowering.specs.Taken.{TakesFunction};
+ghost use Rattle.source_lowering.specs.Lowerable.{TakesFunction};
 ghost use Rattle.lower_checks.specs.Refusals.{NeverRefused};
 
 use crate::call::part_shapes;
@@ -16,7 +16,8 @@ use crate::emit::{emit, emit_block, emit_operation};
 use crate::fault::LowerFault;
 use crate::locals::Locals;
 use crate::names::{after, number};
-use crate::shape::{Shape, Target, locals_of};
+use crate::objects::locals_of;
+use crate::shape::{Shape, Target};
 use crate::statement::lower_items;
 use crate::table::Table;
 use crate::usage::{passed, temporaries};
@@ -64,21 +65,30 @@ fn lower_end(body: &mut Vec<Statement>, shape: Shape<'_>) -> Result<(), LowerFau
     }
 }
 
-/// What a function does that has no unnamed values.
+/// What a function does, and the shapes of its unnamed values.
+#[derive(Drop)]
+struct Lowered<'p> {
+    body: Vec<Statement>,
+    own: Vec<Shape<'p>>,
+}
+
+/// What a function does, and the shapes of its unnamed values.
 fn lower_body<'p>(
     alloc: Global,
     program: &Table<'p>,
     function: &'p Source,
-) -> Result<Vec<Statement>, LowerFault>
-    ensures code { let w = world_of program.now in
-        let f = routine_of (source_tree function.entry.now) in
-        routine_values w f ≡ [] → IfOk result (λ body. body_tree body.items ≡ body_code w f) }
-    ensures taken { TakesFunction (source_tree function.entry.now) → NeverRefused result }
+) -> Result<Lowered<'p>, LowerFault>
+    ensures code { let f = routine_of (source_tree function.entry.now) in
+        IfOk result (λ lowered. body_tree lowered.body.items ≡ body_code (world_of program.now) f) }
+    ensures values { let f = routine_of (source_tree function.entry.now) in
+        IfOk result (λ lowered. map shape_tree lowered.own.items ≡ routine_values (world_of program.now) f) }
+    ensures taken { TakesFunction (world_of program.now) (source_tree function.entry.now) → NeverRefused result }
 {
     let shape = Shape::of(&function.result);
     let mut shapes = part_shapes(alloc, &function.parameters)?;
     let mut locals = Locals::new(alloc);
     let mut inside = Vec::new(alloc);
+    let mut own = Vec::new(alloc);
     lower_parameters(&mut locals, &mut inside, &function.parameters)?;
     lower_items(
         alloc,
@@ -88,11 +98,12 @@ fn lower_body<'p>(
         &function.body,
         &mut shapes,
         &mut inside,
+        &mut own,
     )?;
     let mut body = Vec::new(alloc);
-    emit_block(&mut body, locals_of(alloc, &shapes)?, inside)?;
+    emit_block(&mut body, locals_of(alloc, program, &shapes)?, inside)?;
     lower_end(&mut body, shape)?;
-    Ok(body)
+    Ok(Lowered { body, own })
 }
 
 /// A number of temporaries as a u32. Refuses what is over the greatest u32.
@@ -106,26 +117,26 @@ fn count(temporaries: u64) -> Result<u32, LowerFault>
     }
 }
 
-/// A function that has no unnamed values, with as many temporaries as it has parameters or its code uses.
+/// A function, with as many temporaries as it has parameters or its code uses.
 pub fn lower_function<'p>(
     alloc: Global,
     program: &Table<'p>,
     function: &'p Source,
 ) -> Result<Function, LowerFault>
-    ensures code { let w = world_of program.now in
-        let f = routine_of (source_tree function.entry.now) in
-        routine_values w f ≡ [] → IfOk result (λ lowered. function_tree lowered ≡ function_code w f) }
-    ensures taken { TakesFunction (source_tree function.entry.now) → NeverRefused result }
+    ensures code { let f = routine_of (source_tree function.entry.now) in
+        IfOk result (λ lowered. function_tree lowered ≡ function_code (world_of program.now) f) }
+    ensures taken { TakesFunction (world_of program.now) (source_tree function.entry.now) → NeverRefused result }
 {
-    let body = lower_body(alloc, program, function)?;
+    let Lowered { body, own } = lower_body(alloc, program, function)?;
     let parameters = number(function.parameters.len())?;
     let temporaries = count(u64::max(u64::from(parameters), temporaries(&body)))?;
     let passed = number(passed(&body))?;
+    let own = locals_of(alloc, program, &own)?;
     Ok(Function {
         parameters,
         temporaries,
         passed,
-        own: Vec::new(alloc),
+        own,
         body,
     })
 }

@@ -3,20 +3,27 @@
 //! `lower` appends operation after operation: an expression leaves its value in a temporary, and its
 //! parts use the temporaries above it; a block's locals have numbers in it. The result is the Core
 //! program of `program_code` in `source_lowering`. Programs of functions, globals and locals of
-//! integers and of thin pointers are taken. Functions and globals are found by tables of their names.
+//! integers, of structs and of thin pointers to these are taken. Functions, globals and structs are
+//! found by tables of their names.
 //! Stands on `unique_flow`, `cyc_core`, `judged_sources`, `source_lowering`, `cyc_tree` and `indexmap`.
 #![tactic(auto)]
 
+mod assigned;
 mod call;
+mod declaration;
 mod emit;
 mod expression;
 mod fault;
 mod first;
 mod function;
 mod last;
+mod layouts;
 mod locals;
 mod mark;
+mod member;
 mod names;
+mod objects;
+mod operands;
 mod operator;
 mod program;
 mod shape;
@@ -26,5 +33,6 @@ mod table;
 mod usage;
 mod values;
 mod variable;
+mod whole;
 
 pub use program::lower;

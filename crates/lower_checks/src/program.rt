@@ -5,18 +5,19 @@ ghost use Rattle.cyc_tree.specs.View.{constant_tree, initial_tree, global_tree};
 ghost use Rattle.core_meaning.specs.Memory.{Word};
 ghost use Rattle.cyc_core.specs.Trees.{function_tree, datum_tree, program_tree};
 ghost use Rattle.source_meaning.specs.Shapes.{IntShape, UnsignedShape, CharShape, written, settled};
-ghost use Rattle.source_meaning.specs.Steps.{World};
 ghost use Rattle.source_meaning.specs.Programs.{world_of, functions_of};
 ghost use Rattle.source_lowering.specs.Programs.{function_code, constant_content, initial_content, global_datum, data_of, program_code};
-ghost use Rattle.source_lowering.specs.Taken.{IsWordType, TakesConstant, TakesInitial, TakesProgram};
+ghost use Rattle.source_lowering.specs.Taken.{TakesConstant};
+ghost use Rattle.source_lowering.specs.Lowerable.{IsLowerable, IsObject, IsObjectType, TakesGlobal, TakesProgram};
 ghost use Rattle.lower_checks.specs.Promise.{IsLoweringOf};
 ghost use Rattle.lower_checks.specs.Views.{shape_tree};
-ghost use Rattle.lower_checks.specs.Refusals.{IsLocal, NeverRefused};
+ghost use Rattle.lower_checks.specs.Refusals.{NeverRefused};
 
 use crate::fault::LowerFault;
 use crate::function::lower_function;
 use crate::shape::Shape;
 use crate::table::{Table, function_number};
+use crate::whole::struct_layout;
 use cyc_core::{Datum, Function, Program};
 use cyc_tree::{Constant, Global as Declared, Initial, Item, Program as Source};
 use cyc_words::sub32;
@@ -45,9 +46,9 @@ fn initial_word(initial: &Initial) -> Result<u32, LowerFault>
     ensures int { IfOk result (λ word. initial_content (initial_tree initial.now) IntShape ≡ Word word) }
     ensures unsigned { IfOk result (λ word. initial_content (initial_tree initial.now) UnsignedShape ≡ Word word) }
     ensures char { IfOk result (λ word. initial_content (initial_tree initial.now) CharShape ≡ Word (word % 256)) }
-    ensures taken_int { TakesInitial IntShape (initial_tree initial.now) → NeverRefused result }
-    ensures taken_unsigned { TakesInitial UnsignedShape (initial_tree initial.now) → NeverRefused result }
-    ensures taken_char { TakesInitial CharShape (initial_tree initial.now) → NeverRefused result }
+    ensures taken_int { TakesGlobal IntShape (initial_tree initial.now) → NeverRefused result }
+    ensures taken_unsigned { TakesGlobal UnsignedShape (initial_tree initial.now) → NeverRefused result }
+    ensures taken_char { TakesGlobal CharShape (initial_tree initial.now) → NeverRefused result }
 {
     match initial {
         Initial::None => Ok(0),
@@ -56,12 +57,16 @@ fn initial_word(initial: &Initial) -> Result<u32, LowerFault>
     }
 }
 
-/// A global of a shape, with what it begins with. Refuses what is no integer and no thin pointer.
-fn first_datum(shape: Shape<'_>, initial: &Initial) -> Result<Datum, LowerFault>
-    ensures datum { (w : World) →
-        let s = shape_tree shape.entry in
-        IfOk result (λ datum. datum_tree datum ≡ global_datum w (initial_tree initial.now) s) }
-    ensures taken { IsLocal (shape_tree shape.entry) → TakesInitial (shape_tree shape.entry) (initial_tree initial.now) → NeverRefused result }
+/// A global of a shape, with what it begins with. Refuses what is no integer, no thin pointer and no struct of the program.
+fn first_datum(
+    program: &Table<'_>,
+    shape: Shape<'_>,
+    initial: &Initial,
+) -> Result<Datum, LowerFault>
+    ensures datum { let w = world_of program.now in
+        IfOk result (λ datum. datum_tree datum ≡ global_datum w (initial_tree initial.now) (shape_tree shape.entry)) }
+    ensures taken { IsObject (world_of program.now).structs (shape_tree shape.entry) →
+        TakesGlobal (shape_tree shape.entry) (initial_tree initial.now) → NeverRefused result }
 {
     match shape {
         Shape::Thin(_, _, _) => match initial {
@@ -70,37 +75,38 @@ fn first_datum(shape: Shape<'_>, initial: &Initial) -> Result<Datum, LowerFault>
         },
         Shape::Char => Ok(Datum::Byte((initial_word(initial)? % 256) as u8)),
         Shape::Int | Shape::Unsigned => Ok(Datum::Word(initial_word(initial)?)),
+        Shape::Struct(_) => Ok(Datum::Whole(struct_layout(program, shape)?)),
         _ => Err(LowerFault::NotTaken),
     }
 }
 
-/// A global, with what it begins with. Refuses what is no integer and no thin pointer.
-#[tactic(auto, using(crate::proofs::Taken::type_local))]
-fn lower_global(global: &Declared) -> Result<Datum, LowerFault>
-    ensures datum { (w : World) →
-        let s = settled (written (global_tree global.now).of) in
-        IfOk result (λ datum. datum_tree datum ≡ global_datum w (global_tree global.now).initial s) }
-    ensures taken { let g = global_tree global.now in IsWordType g.of → TakesInitial (settled (written g.of)) g.initial → NeverRefused result }
+/// A global, with what it begins with. Refuses what is no integer, no thin pointer and no struct of the program.
+fn lower_global(program: &Table<'_>, global: &Declared) -> Result<Datum, LowerFault>
+    ensures datum { let g = global_tree global.now in
+        IfOk result (λ datum. datum_tree datum ≡ global_datum (world_of program.now) g.initial (settled (written g.of))) }
+    ensures taken { let g = global_tree global.now in
+        IsObjectType (world_of program.now).structs g.of → TakesGlobal (settled (written g.of)) g.initial → NeverRefused result }
 {
-    first_datum(Shape::of(&global.of), &global.initial)
+    first_datum(program, Shape::of(&global.of), &global.initial)
 }
 
-/// The globals, in their order. Refuses a struct, a union and what is no integer and no thin pointer.
-fn lower_globals(alloc: Global, program: &Source) -> Result<Vec<Datum>, LowerFault>
+/// The globals, in their order. Refuses a union, and a global that is no integer, no thin pointer and no struct of the program.
+fn lower_globals(alloc: Global, program: &Table<'_>) -> Result<Vec<Datum>, LowerFault>
     ensures globals { IfOk result (λ globals. map datum_tree globals.items ≡ data_of (world_of program.now) program.now) }
-    ensures taken { TakesProgram program.now → NeverRefused result }
+    ensures taken { TakesProgram (world_of program.now) program.now → NeverRefused result }
 {
     let items = program.items();
     let mut globals = Vec::new(alloc);
     'each: for item in items {
         match item {
             Item::Global(global) => {
-                if let Err(_) = globals.push(lower_global(global)?) {
+                if let Err(_) = globals.push(lower_global(program, global)?) {
                     return Err(LowerFault::Memory);
                 }
             }
             Item::Function(_) => {}
-            Item::Struct(_) | Item::Union(_) => return Err(LowerFault::NotTaken),
+            Item::Struct(_) => {}
+            Item::Union(_) => return Err(LowerFault::NotTaken),
         }
     }
     Ok(globals)
@@ -108,9 +114,9 @@ fn lower_globals(alloc: Global, program: &Source) -> Result<Vec<Datum>, LowerFau
 
 /// The functions, in their order.
 fn lower_functions(alloc: Global, program: &Table<'_>) -> Result<Vec<Function>, LowerFault>
-    ensures functions { TakesProgram program.now →
-        IfOk result (λ functions. map function_tree functions.items ≡ map (function_code (world_of program.now)) (functions_of program.now)) }
-    ensures taken { TakesProgram program.now → NeverRefused result }
+    ensures functions { let w = world_of program.now in
+        IfOk result (λ functions. map function_tree functions.items ≡ map (function_code w) (functions_of program.now)) }
+    ensures taken { TakesProgram (world_of program.now) program.now → NeverRefused result }
 {
     let items = program.items();
     let mut functions = Vec::new(alloc);
@@ -124,15 +130,16 @@ fn lower_functions(alloc: Global, program: &Table<'_>) -> Result<Vec<Function>, 
     Ok(functions)
 }
 
-/// The Core of a program's tree. Refuses a tree that has something else than functions, globals and locals of integers and of thin pointers.
+/// The Core of a program's tree. Refuses a tree that has something else than functions, globals and locals of integers, of structs and of
+/// thin pointers to these.
 fn lower_tree(alloc: Global, program: &Source) -> Result<Program, LowerFault>
-    ensures code { TakesProgram program.now → IfOk result (λ core. program_tree core ≡ program_code program.now) }
-    ensures taken { TakesProgram program.now → NeverRefused result }
+    ensures code { IfOk result (λ core. program_tree core ≡ program_code program.now) }
+    ensures taken { IsLowerable program.now → NeverRefused result }
 {
     let table = Table::new(alloc, program.items())?;
     let functions = lower_functions(alloc, &table)?;
     let main = function_number(program.items(), b"main".as_slice())?;
-    let globals = lower_globals(alloc, program)?;
+    let globals = lower_globals(alloc, &table)?;
     Ok(Program {
         functions,
         main,

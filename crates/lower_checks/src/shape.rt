@@ -1,21 +1,17 @@
 // Shapes, and what depends on them alone.
 
-ghost use Rattle.std.specs.Prelude.{◌≡◌, ◌∷◌, ◌++◌, [], suc, true, false, length, IfOk, OnOk, map, option_map};
+ghost use Rattle.std.specs.Prelude.{◌≡◌, ◌∷◌, ◌++◌, [], suc, true, false, length, OnOk, map, option_map};
 ghost use Rattle.cyc_tree.specs.View.{base_tree, pointer_tree, region_tree, type_tree};
 ghost use Rattle.source_meaning.specs.Shapes.{ThinShape, VoidShape, Shared, base_shape, owner_of, pointee, settled, shared_owner, signed_shape, written};
-ghost use Rattle.source_meaning.specs.Steps.{World};
-ghost use Rattle.source_lowering.specs.Layouts.{local_of};
 ghost use Rattle.source_lowering.specs.Lowered.{width_of, results_in};
-ghost use Rattle.source_lowering.specs.Programs.{locals_of};
-ghost use Rattle.cyc_core.specs.Trees.{bytes_of, local_tree, optional_tree};
+ghost use Rattle.cyc_core.specs.Trees.{bytes_of, optional_tree};
 ghost use Rattle.lower_checks.specs.declared.shape.Target.TheVariants.{Written};
 ghost use Rattle.lower_checks.specs.Views.{owner_tree, shape_tree, target_shape, target_tree};
-ghost use Rattle.lower_checks.specs.Refusals.{IsLocal, AreLocals, NeverRefused};
+ghost use Rattle.lower_checks.specs.Refusals.{NeverRefused};
 
 use crate::fault::LowerFault;
-use cyc_core::{Cell, Local, Temporary, Width};
+use cyc_core::{Temporary, Width};
 use cyc_tree::{Base, Pointer, RegionName, Sign, TypeName};
-use std::alloc::Global;
 
 /// Whether what a pointer leads to is owned by it alone.
 #[derive(Clone, Copy, PartialEq, Eq, Debug)]
@@ -169,19 +165,6 @@ impl<'p> Shape<'p> {
         }
     }
 
-    /// A local of the shape. Refuses what is no integer and no thin pointer.
-    pub fn local(self) -> Result<Local, LowerFault>
-        ensures local { (w : World) → IfOk result (λ local. local_tree local ≡ local_of w (shape_tree self.entry)) }
-        ensures taken { IsLocal (shape_tree self.entry) → NeverRefused result }
-    {
-        match self {
-            Shape::Char => Ok(Local::Scalar(Cell::Byte)),
-            Shape::Int | Shape::Unsigned => Ok(Local::Scalar(Cell::Word)),
-            Shape::Thin(_, _, _) => Ok(Local::Scalar(Cell::Pointer)),
-            _ => Err(LowerFault::NotTaken),
-        }
-    }
-
     /// Where a result of the shape goes.
     pub fn result_in(self, to: Temporary) -> Option<Temporary>
         ensures { optional_tree result ≡ results_in (shape_tree self.entry) to.0 }
@@ -203,19 +186,4 @@ pub fn add_shape<'p>(shapes: &mut Vec<Shape<'p>>, shape: Shape<'p>) -> Result<()
         Ok(()) => Ok(()),
         Err(_) => Err(LowerFault::Memory),
     }
-}
-
-/// Locals of these shapes. Refuses what is no integer and no thin pointer.
-pub fn locals_of(alloc: Global, shapes: &[Shape<'_>]) -> Result<Vec<Local>, LowerFault>
-    ensures locals { (w : World) → IfOk result (λ locals. map local_tree locals.items ≡ locals_of w (map shape_tree shapes.now)) }
-    ensures taken { AreLocals (map shape_tree shapes.now) → NeverRefused result }
-{
-    let mut locals = Vec::new(alloc);
-    'each: for shape in shapes {
-        let local = shape.local()?;
-        if let Err(_) = locals.push(local) {
-            return Err(LowerFault::Memory);
-        }
-    }
-    Ok(locals)
 }

@@ -1,21 +1,25 @@
-// The functions and globals of a program, by their names.
+// The functions, globals and structs of a program, by their names.
 
-ghost use Rattle.std.specs.Prelude.{◌≡◌, ℕ, suc, List, ◌∷◌, IfOk, OnOk, IfSome, option_map};
+ghost use Rattle.std.specs.Prelude.{◌≡◌, ℕ, suc, List, ◌∷◌, [], IfOk, OnOk, IfSome, option_copied, option_map};
 ghost use Rattle.cyc_tree.specs.Tree as tree;
 ghost use Rattle.cyc_tree.specs.View.{program_tree, function_tree, global_tree};
-ghost use Rattle.source_meaning.specs.Shapes.{written, settled};
+ghost use Rattle.source_meaning.specs.Shapes.{StructShape, written, settled};
 ghost use Rattle.source_meaning.specs.Steps.{Variable};
 ghost use Rattle.source_meaning.specs.Places.{bound_to, or_else};
 ghost use Rattle.source_meaning.specs.Calls.{function_of};
-ghost use Rattle.source_meaning.specs.Programs.{functions_of, routine_of, globals_from, global_shape, heap_spot};
+ghost use Rattle.source_meaning.specs.Programs.{functions_of, routine_of, globals_from, global_shape, heap_spot, structs_from, world_of};
 ghost use Rattle.source_lowering.specs.Lowered.{number_of};
+ghost use Rattle.lower_checks.specs.Structs.{IsFound, Knows};
 ghost use Rattle.lower_checks.specs.Views.{found_entity};
 ghost use Rattle.lower_checks.specs.Tables.{first_function, function_in, global_in};
-ghost use Rattle.source_lowering.specs.Taken.{TakesInitial, TakesProgram};
+ghost use Rattle.cyc_core.specs.Trees.{layout_tree};
+ghost use Rattle.source_lowering.specs.Layouts.{layout_of};
+ghost use Rattle.source_lowering.specs.Lowerable.{AreStructs, TakesGlobal, TakesProgram};
 ghost use Rattle.lower_checks.specs.Refusals.{NeverRefused};
 
 use crate::fault::LowerFault;
 use crate::first::Firsts;
+use crate::layouts::{Known, Structs};
 use crate::names::after;
 use crate::shape::Target;
 use cyc_tree::{Function, Global as Declared, Initial, Item};
@@ -36,12 +40,13 @@ pub struct Callee<'p> {
     pub number: u32,
 }
 
-/// A program, with its functions and globals by their names. A contract sees it as the program's tree.
+/// A program, with its functions, globals and structs by their names. A contract sees it as the program's tree.
 #[derive(Drop)]
 pub struct Table<'p> {
     items: &'p [Item],
     functions: Firsts<'p, Callee<'p>>,
     globals: Firsts<'p, Found<'p>>,
+    structs: Structs<'p>,
 }
 
 impl<'p> Model for Table<'p> {
@@ -57,7 +62,7 @@ impl<'p> Model for Table<'p> {
 
     ghost view = { λ t. program_tree t.items.now };
 
-    ghost invariant = { λ t. AreTables (program_tree t.items.now) t.functions t.globals };
+    ghost invariant = { λ t. AreTables (program_tree t.items.now) t.functions t.globals t.structs };
 }
 
 /// The first function of each name.
@@ -83,7 +88,7 @@ fn first_functions<'p>(
 fn global_entry<'p>(global: &'p Declared, object: u32) -> Result<Found<'p>, LowerFault>
     ensures entry { let g = global_tree global.entry.now in
         IfOk result (λ found. found_entity found ≡ Variable (global_shape g.initial (settled (written g.of))) (heap_spot object)) }
-    ensures taken { let g = global_tree global.entry.now in TakesInitial (settled (written g.of)) g.initial → NeverRefused result }
+    ensures taken { let g = global_tree global.entry.now in TakesGlobal (settled (written g.of)) g.initial → NeverRefused result }
 {
     if let Initial::Array(_) = &global.initial {
         return Err(LowerFault::NotTaken);
@@ -103,7 +108,7 @@ fn add_global<'p>(
     ensures added { OnOk result ((items : List tree.Item) (name : List ℕ) →
         or_else (global_in globals.new name) (bound_to (globals_from items (suc object)) name) ≡
         or_else (global_in globals.old name) (bound_to (globals_from (tree.GlobalItem (global_tree global.entry.now) ∷ items) object) name)) }
-    ensures taken { let g = global_tree global.entry.now in TakesInitial (settled (written g.of)) g.initial → NeverRefused result }
+    ensures taken { let g = global_tree global.entry.now in TakesGlobal (settled (written g.of)) g.initial → NeverRefused result }
 {
     let entity = global_entry(global, object)?;
     globals.add(&global.name.text, entity)?;
@@ -113,7 +118,7 @@ fn add_global<'p>(
 /// The first global of each name. Refuses arrays.
 fn first_globals<'p>(alloc: Global, items: &'p [Item]) -> Result<Firsts<'p, Found<'p>>, LowerFault>
     ensures first { IfOk result (λ globals. (name : List ℕ) → global_in globals name ≡ bound_to (globals_from (program_tree items.entry.now) 0) name) }
-    ensures taken { TakesProgram (program_tree items.entry.now) → NeverRefused result }
+    ensures taken { let p = program_tree items.entry.now in TakesProgram (world_of p) p → NeverRefused result }
 {
     let mut globals = Firsts::new(alloc);
     let mut object = 0;
@@ -126,18 +131,38 @@ fn first_globals<'p>(alloc: Global, items: &'p [Item]) -> Result<Firsts<'p, Foun
     Ok(globals)
 }
 
+/// The structs, each behind those that its members are. Refuses two of one tag, and structs with other members than integers, thin
+/// pointers and earlier structs.
+fn all_structs<'p>(alloc: Global, items: &'p [Item]) -> Result<Structs<'p>, LowerFault>
+    ensures structs { IfOk result (λ structs. Knows structs (structs_from (program_tree items.entry.now) [])) }
+    ensures taken { let p = program_tree items.entry.now in AreStructs (world_of p).unions (world_of p).structs → NeverRefused result }
+{
+    let mut structs = Structs::new(alloc);
+    'each: for item in items {
+        match item {
+            Item::Struct(structure) => structs.add(alloc, structure)?,
+            Item::Function(_) | Item::Global(_) | Item::Union(_) => {}
+        }
+    }
+    Ok(structs)
+}
+
 impl<'p> Table<'p> {
-    /// The tables of a program. Refuses a global array.
+    /// The tables of a program. Refuses a global array, two structs of one tag, and a struct with a member that is no integer, no thin
+    /// pointer and no earlier struct.
     pub fn new(alloc: Global, items: &'p [Item]) -> Result<Self, LowerFault>
         ensures program { IfOk result (λ table. table ≡ program_tree items.entry.now) }
-        ensures taken { TakesProgram (program_tree items.entry.now) → NeverRefused result }
+        ensures taken { let p = program_tree items.entry.now in
+            AreStructs (world_of p).unions (world_of p).structs → TakesProgram (world_of p) p → NeverRefused result }
     {
         let functions = first_functions(alloc, items)?;
         let globals = first_globals(alloc, items)?;
+        let structs = all_structs(alloc, items)?;
         Ok(Table {
             items,
             functions,
             globals,
+            structs,
         })
     }
 
@@ -146,6 +171,14 @@ impl<'p> Table<'p> {
         ensures { program_tree result.now ≡ self.now }
     {
         self.items
+    }
+
+    /// The struct of a tag.
+    pub fn struct_of(&self, tag: &[u8]) -> Option<&Known<'p>>
+        ensures found { IsFound (structs_from self.now []) tag.now (option_copied result) }
+        ensures layout { IfSome (option_copied result) (λ k. layout_tree k.layout.value ≡ layout_of (world_of self.now) (StructShape tag.now)) }
+    {
+        self.structs.of(tag)
     }
 
     /// The first function of a name.

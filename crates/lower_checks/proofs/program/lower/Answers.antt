@@ -1,24 +1,21 @@
 use Rattle.std.proofs.Common.{◌≡◌, ◌∙◌, sym, ap, subst}
 use Rattle.cyc_core.specs.Trees.{program_tree}
 use Rattle.source_lowering.specs.Programs.{program_code}
-use Rattle.source_lowering.specs.Taken.{TakesProgram}
-use Rattle.lower_checks.proofs.Lowerable.{is_of_words}
+use Rattle.source_lowering.specs.Lowerable.{IsLowerable}
+use Rattle.lower_checks.proofs.Lowerable.{is_lowerable}
 use Rattle.lower_checks.proofs.Promised.{is_lowering}
 use Rattle.lower_checks.proofs.program.lower.Goals as goal
 
 pub returns-in-Ok-clause-code : goal.returns-in-Ok-clause-code
-returns-in-Ok-clause-code c =
-    let taken = subst TakesProgram (sym c.program.ensures.same) (is_of_words c.args.checked.now c.program.ensures.accepted).items in
-    c.in-Ok.ensures.code taken ∙ ap program_code c.program.ensures.same
+returns-in-Ok-clause-code c = c.in-Ok.ensures.code ∙ ap program_code c.program.ensures.same
 
 pub returns-in-Ok-clause-promised : goal.returns-in-Ok-clause-promised
 returns-in-Ok-clause-promised c =
-    let taken = subst TakesProgram (sym c.program.ensures.same) (is_of_words c.args.checked.now c.program.ensures.accepted).items in
-    let same : program_tree c.in-Ok.core ≡ program_code c.args.checked.now = c.in-Ok.ensures.code taken ∙ ap program_code c.program.ensures.same in
+    let same : program_tree c.in-Ok.core ≡ program_code c.args.checked.now = c.in-Ok.ensures.code ∙ ap program_code c.program.ensures.same in
     is_lowering c.args.checked.now (program_tree c.in-Ok.core) c.program.ensures.accepted same
 
 pub unreachable-requires : goal.unreachable-requires
 unreachable-requires c =
     let taken = c.in-Err-NotTaken.ensures.taken
-    (subst TakesProgram (sym c.program.ensures.same) (is_of_words c.args.checked.now c.program.ensures.accepted).items) in
+    (subst IsLowerable (sym c.program.ensures.same) (is_lowerable c.args.checked.now c.program.ensures.accepted)) in
     absurd cc

@@ -1,30 +1,30 @@
-use Rattle.std.proofs.Common.{◌≡◌, ℕ, [], ◌++◌, length, map, drop}
+use Rattle.std.proofs.Common.{◌≡◌, ◌++◌, length, map, drop}
 use Rattle.cyc_tree.specs.View.{item_tree, items_of}
 use Rattle.cyc_core.specs.Trees.{statement_tree}
 use Rattle.source_meaning.specs.Programs.{world_of}
 use Rattle.source_lowering.specs.Programs.{block_shapes, item_values, items_code}
-use Rattle.source_lowering.specs.Taken.{TakesItems}
+use Rattle.source_lowering.specs.Lowerable.{TakesItems}
 use Rattle.lower_checks.specs.Views.{shape_tree}
 use Rattle.lower_checks.specs.Visible.{left, names_of}
 use Rattle.lower_checks.proofs.statement.+statement.Given as goal
 
--- what is appended, and the code of the items that are left among the locals so far, is the code of all, where no unnamed value is in them;
--- and so for the shapes
+-- what is appended, and the code of the items that are left among the locals so far, is the code of all; and so for the shapes
 abbrev pub invariant-lower_items-each : goal.invariant-lower_items-each
 invariant-lower_items-each l = record {
-  values : item_values (world_of l.program) (names_of l.initial.locals) (length l.initial.shapes.items) (items_of (map item_tree l.items)) ≡ [] →
-      item_values (world_of l.program) (names_of l.locals) (length l.shapes.items) (items_of (map item_tree (drop l.item-index l.items))) ≡ [];
-  code : (own : ℕ) →
-      item_values (world_of l.program) (names_of l.initial.locals) (length l.initial.shapes.items) (items_of (map item_tree l.items)) ≡ [] →
-      map statement_tree l.body.items ++
-      items_code (world_of l.program) (shape_tree l.shape) (names_of l.locals) (length l.shapes.items) own
+  code : map statement_tree l.body.items ++
+      items_code (world_of l.program) (shape_tree l.shape) (names_of l.locals) (length l.shapes.items) (length l.own.items)
       (items_of (map item_tree (drop l.item-index l.items))) ≡
       map statement_tree l.initial.body.items ++
-      items_code (world_of l.program) (shape_tree l.shape) (names_of l.initial.locals) (length l.initial.shapes.items) own
+      items_code (world_of l.program) (shape_tree l.shape) (names_of l.initial.locals) (length l.initial.shapes.items) (length l.initial.own.items)
       (items_of (map item_tree l.items));
+  values : map shape_tree l.own.items ++
+      item_values (world_of l.program) (names_of l.locals) (length l.shapes.items) (items_of (map item_tree (drop l.item-index l.items))) ≡
+      map shape_tree l.initial.own.items ++
+      item_values (world_of l.program) (names_of l.initial.locals) (length l.initial.shapes.items) (items_of (map item_tree l.items));
   shapes : map shape_tree l.shapes.items ++ block_shapes (items_of (map item_tree (drop l.item-index l.items))) ≡
       map shape_tree l.initial.shapes.items ++ block_shapes (items_of (map item_tree l.items));
   left : left l.locals ≡ left l.initial.locals;
-  taken : TakesItems (shape_tree l.shape) (items_of (map item_tree l.items)) →
-      TakesItems (shape_tree l.shape) (items_of (map item_tree (drop l.item-index l.items)));
+  taken : TakesItems (world_of l.program) (shape_tree l.shape) (names_of l.initial.locals) (length l.initial.shapes.items) (items_of (map item_tree l.items))
+      → TakesItems (world_of l.program) (shape_tree l.shape) (names_of l.locals) (length l.shapes.items)
+      (items_of (map item_tree (drop l.item-index l.items)));
 }

@@ -5,45 +5,49 @@ use Rattle.source_meaning.specs.Programs.{world_of}
 use Rattle.source_lowering.specs.Lowered.{linked_shape, links_code, all_code, any_code, arguments_code}
 use Rattle.lower_checks.specs.Views.{shape_tree}
 use Rattle.lower_checks.specs.Visible.{names_of}
-use Rattle.source_lowering.specs.Taken.{TakesAll, TakesLinks}
-use Rattle.lower_checks.proofs.expression.+expression.Given as goal
+use Rattle.source_lowering.specs.Lowerable.{TakesAll, TakesLinks}
+use Rattle.lower_checks.proofs.+expression.Given as goal
 
 -- what is appended, and the code of the links that are left, is the code of all
-abbrev pub invariant-lower_links-each : goal.invariant-lower_links-each
-invariant-lower_links-each l = record {
+abbrev pub invariant-operands::lower_links-each : goal.invariant-operands::lower_links-each
+invariant-operands::lower_links-each l = record {
   code : map statement_tree l.body.items ++
       links_code (world_of l.program) (names_of l.locals) (links_of (map link_tree (drop l.link-index l.links))) (shape_tree l.left) l.to.0 ≡
       map statement_tree l.initial.body.items ++
       links_code (world_of l.program) (names_of l.locals) (links_of (map link_tree l.links)) (shape_tree l.fn.first) l.to.0;
   shape : linked_shape (world_of l.program) (names_of l.locals) (links_of (map link_tree (drop l.link-index l.links))) (shape_tree l.left) ≡
       linked_shape (world_of l.program) (names_of l.locals) (links_of (map link_tree l.links)) (shape_tree l.fn.first);
-  taken : TakesLinks (links_of (map link_tree l.links)) → TakesLinks (links_of (map link_tree (drop l.link-index l.links)));
+  taken : TakesLinks (world_of l.program) (names_of l.locals) (links_of (map link_tree l.links)) →
+      TakesLinks (world_of l.program) (names_of l.locals) (links_of (map link_tree (drop l.link-index l.links)));
 }
 
 -- the same of operands
-abbrev pub invariant-lower_all-each : goal.invariant-lower_all-each
-invariant-lower_all-each l = record {
+abbrev pub invariant-operands::lower_all-each : goal.invariant-operands::lower_all-each
+invariant-operands::lower_all-each l = record {
   code : map statement_tree l.body.items ++
       all_code (world_of l.program) (names_of l.locals) (expressions_of (map expression_tree (drop l.operand-index l.operands))) l.to.0 ≡
       map statement_tree l.initial.body.items ++ all_code (world_of l.program) (names_of l.locals) (expressions_of (map expression_tree l.operands)) l.to.0;
-  taken : TakesAll (expressions_of (map expression_tree l.operands)) → TakesAll (expressions_of (map expression_tree (drop l.operand-index l.operands)));
+  taken : TakesAll (world_of l.program) (names_of l.locals) (expressions_of (map expression_tree l.operands)) →
+      TakesAll (world_of l.program) (names_of l.locals) (expressions_of (map expression_tree (drop l.operand-index l.operands)));
 }
 
-abbrev pub invariant-lower_any-each : goal.invariant-lower_any-each
-invariant-lower_any-each l = record {
+abbrev pub invariant-operands::lower_any-each : goal.invariant-operands::lower_any-each
+invariant-operands::lower_any-each l = record {
   code : map statement_tree l.body.items ++
       any_code (world_of l.program) (names_of l.locals) (expressions_of (map expression_tree (drop l.operand-index l.operands))) l.to.0 ≡
       map statement_tree l.initial.body.items ++ any_code (world_of l.program) (names_of l.locals) (expressions_of (map expression_tree l.operands)) l.to.0;
-  taken : TakesAll (expressions_of (map expression_tree l.operands)) → TakesAll (expressions_of (map expression_tree (drop l.operand-index l.operands)));
+  taken : TakesAll (world_of l.program) (names_of l.locals) (expressions_of (map expression_tree l.operands)) →
+      TakesAll (world_of l.program) (names_of l.locals) (expressions_of (map expression_tree (drop l.operand-index l.operands)));
 }
 
 -- and of arguments
-abbrev pub invariant-lower_arguments-each : goal.invariant-lower_arguments-each
-invariant-lower_arguments-each l = record {
+abbrev pub invariant-operands::lower_arguments-each : goal.invariant-operands::lower_arguments-each
+invariant-operands::lower_arguments-each l = record {
   code : map statement_tree l.body.items ++
       arguments_code (world_of l.program) (names_of l.locals) (map shape_tree l.left)
       (expressions_of (map expression_tree (drop l.argument-index l.arguments))) l.to.0 ≡
       map statement_tree l.initial.body.items ++
       arguments_code (world_of l.program) (names_of l.locals) (map shape_tree l.shapes) (expressions_of (map expression_tree l.arguments)) l.fn.first.0;
-  taken : TakesAll (expressions_of (map expression_tree l.arguments)) → TakesAll (expressions_of (map expression_tree (drop l.argument-index l.arguments)));
+  taken : TakesAll (world_of l.program) (names_of l.locals) (expressions_of (map expression_tree l.arguments)) →
+      TakesAll (world_of l.program) (names_of l.locals) (expressions_of (map expression_tree (drop l.argument-index l.arguments)));
 }

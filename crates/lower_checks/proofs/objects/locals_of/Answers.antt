@@ -1,9 +1,9 @@
 use Rattle.std.proofs.Common.{arith}
 use Rattle.std.proofs.lemmas.Grind.{common_steps}
-use Rattle.lower_checks.proofs.shape.locals_of.Goals as goal
+use Rattle.lower_checks.proofs.objects.locals_of.Goals as goal
 
 pub each-preserved : goal.each-preserved
 each-preserved c = record {
-  locals = λ w. grind (arith, common_steps, c.each.invariant.locals w, c.in_ok-local.ensures.local w);
+  locals = grind (arith, common_steps, c.each.invariant.locals, c.in_ok-local.ensures.local);
   taken = λ h. grind (arith, common_steps, c.each.invariant.taken h);
 }

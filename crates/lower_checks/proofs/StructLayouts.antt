@@ -1,0 +1,99 @@
+-- A struct of the table is laid out as its shape is.
+use Rattle.std.proofs.Common.{◌≡◌, ◌∙◌, ℕ, zero, suc, ◌+◌, ◌-◌, refl, sym, ap, arith, List, [], ◌∷◌, ◌++◌, map, Option, Some, None}
+use Rattle.std.specs.Prelude.{IfSome}
+use Rattle.source_meaning.specs.Shapes.{Shape, IntShape, UnsignedShape, CharShape, VoidShape, ThinShape, FatShape, HandleShape, KeyShape, StructShape, UnionShape, ArrayShape}
+use Rattle.source_meaning.specs.Sizes.{Extent, struct_extent}
+use Rattle.source_meaning.specs.Placing.{Placed, struct_placed}
+use Rattle.source_meaning.specs.Steps.{World}
+use Rattle.core_meaning.specs.Memory.{Blank, Content, PartShape, Layout, Null, Word}
+use Rattle.source_lowering.specs.Layouts as rules
+use Rattle.source_lowering.specs.Layouts.{extent_of, layout_of, next_at, padded, padding}
+use Rattle.cyc_core.specs.Trees.{bytes_of, cell_first, cell_parts, cell_width, layout_tree, padding_parts}
+use Rattle.cyc_core.specs.declared.layout.CellLayout.{CellLayout}
+use Rattle.cyc_core.specs.declared.operation.Cell.{Cell}
+use Rattle.cyc_core.specs.declared.operation.Cell.TheVariants as cell
+use Rattle.lower_checks.specs.declared.layouts.Known.{Known}
+use Rattle.lower_checks.specs.Structs.{CellAt, IsFound, IsKnown, all_filled, cell_for, laid_cell, next_cell, placed_cell}
+
+-- ---- one cell
+
+padding_same : (at n : ℕ) → padding_parts at n ≡ padding at n
+padding_same at zero = refl
+padding_same at (suc n) = ap (λ ps. record { offset = at; width = 1; first = Blank } ∷ ps) (padding_same (at + 1) n)
+
+-- a part, and the bytes behind it
+abbrev part_and : ℕ → ℕ → ℕ → Content → List PartShape → List PartShape
+part_and offset width next first behind = record { offset = offset; width = width; first = first } ∷ behind
+
+parts_same : (at width next : ℕ) (first : Content)
+    → part_and at width next first (padding_parts (at + width) (next - (at + width)))
+    ≡ part_and (at + 0) width next first (padding (at + width) (next - (at + width)))
+parts_same at width next first =
+    let here : at ≡ at + 0 = omega arith in
+    ap (part_and at width next first) (padding_same (at + width) (next - (at + width)))
+    ∙ ap (λ n. part_and n width next first (padding (at + width) (next - (at + width)))) here
+
+-- a cell in code, up to where the next one begins
+abbrev made_parts : ℕ → ℕ → Cell → List PartShape
+made_parts at next c = part_and at (bytes_of (cell_width c)) next (cell_first c) (padding_parts (at + bytes_of (cell_width c)) (next - (at + bytes_of (cell_width c))))
+
+-- a cell of a shape, up to where the next one begins
+abbrev shape_parts : World → ℕ → ℕ → Shape → List PartShape
+shape_parts w at next s =
+    rules.cell_parts (record { offset = at; shape = s }) ++ padding (at + (extent_of w s).size) (next - (at + (extent_of w s).size))
+
+shape_same : (w : World) (at next : ℕ) (s : Shape) (c : Cell) → cell_for s ≡ Some c → made_parts at next c ≡ shape_parts w at next s
+shape_same w at next IntShape c is = let c_is : c ≡ cell.Word = cc is in ap (made_parts at next) c_is ∙ parts_same at 4 next (Word 0)
+shape_same w at next UnsignedShape c is = let c_is : c ≡ cell.Word = cc is in ap (made_parts at next) c_is ∙ parts_same at 4 next (Word 0)
+shape_same w at next CharShape c is = let c_is : c ≡ cell.Byte = cc is in ap (made_parts at next) c_is ∙ parts_same at 1 next (Word 0)
+shape_same w at next VoidShape c is = absurd cc is
+shape_same w at next (ThinShape n o t) c is = let c_is : c ≡ cell.Pointer = cc is in ap (made_parts at next) c_is ∙ parts_same at 4 next Null
+shape_same w at next (FatShape t) c is = absurd cc is
+shape_same w at next HandleShape c is = absurd cc is
+shape_same w at next KeyShape c is = absurd cc is
+shape_same w at next (StructShape tag) c is = absurd cc is
+shape_same w at next (UnionShape tag) c is = absurd cc is
+shape_same w at next (ArrayShape n s) c is = absurd cc is
+
+-- ---- all cells
+
+next_is : (bytes : ℕ) (ps : List Placed) (cs : List CellLayout) → map placed_cell ps ≡ map laid_cell cs → next_cell bytes cs ≡ next_at bytes ps
+next_is bytes [] [] is = refl
+next_is bytes [] (c ∷ cs) is = absurd cc is
+next_is bytes (p ∷ ps) [] is = absurd cc is
+next_is bytes (p ∷ ps) (c ∷ cs) is =
+    let first : placed_cell p ≡ laid_cell c = cc is in
+    ap (λ (x : CellAt). x.offset) (sym first)
+
+cells_same : (w : World) (bytes : ℕ) (ps : List Placed) (cs : List CellLayout) → map placed_cell ps ≡ map laid_cell cs
+    → map cell_parts (all_filled bytes cs) ≡ padded (extent_of w) bytes ps
+cells_same w bytes [] [] is = refl
+cells_same w bytes [] (c ∷ cs) is = absurd cc is
+cells_same w bytes (p ∷ ps) [] is = absurd cc is
+cells_same w bytes (p ∷ ps) (c ∷ cs) is =
+    let first : placed_cell p ≡ laid_cell c = cc is in
+    let others : map placed_cell ps ≡ map laid_cell cs = cc is in
+    let at_is : c.offset ≡ p.offset = ap (λ (x : CellAt). x.offset) (sym first) in
+    let cell_is : cell_for p.shape ≡ Some c.cell = ap (λ (x : CellAt). x.cell) first in
+    ap (λ n. made_parts n (next_cell bytes cs) c.cell ∷ map cell_parts (all_filled bytes cs)) at_is
+    ∙ ap (λ n. made_parts p.offset n c.cell ∷ map cell_parts (all_filled bytes cs)) (next_is bytes ps cs others)
+    ∙ ap (λ these. these ∷ map cell_parts (all_filled bytes cs)) (shape_same w p.offset (next_at bytes ps) p.shape c.cell cell_is)
+    ∙ ap (λ rest. shape_parts w p.offset (next_at bytes ps) p.shape ∷ rest) (cells_same w bytes ps cs others)
+
+-- ---- a struct
+
+abbrev cells_and : List (List PartShape) → ℕ → Layout
+cells_and cells bytes = record { cells = cells; bytes = bytes }
+
+pub known_layout : (w : World) (tag : List ℕ) (k : Known) → IsKnown w.structs tag k → layout_tree k.layout.value ≡ layout_of w (StructShape tag)
+known_layout w tag k is =
+    let bytes = k.layout.value.bytes in
+    let size_is : bytes ≡ (struct_extent w.unions w.structs tag).size = ap (λ (e : Extent). e.size) (sym (is.room w.unions)) in
+    ap (λ (cs : List CellLayout). cells_and (map cell_parts cs) bytes) is.filled
+    ∙ ap (λ cells. cells_and cells bytes) (cells_same w bytes (struct_placed w.unions w.structs tag) k.layout.value.cells.items (is.cells w.unions))
+    ∙ ap (λ n. cells_and (padded (extent_of w) n (struct_placed w.unions w.structs tag)) n) size_is
+
+pub found_layout : (w : World) (tag : List ℕ) (found : Option Known) → IsFound w.structs tag found
+    → IfSome found (λ k. layout_tree k.layout.value ≡ layout_of w (StructShape tag))
+found_layout w tag None is = tt
+found_layout w tag (Some k) is = known_layout w tag k is

@@ -1,0 +1,20 @@
+use Rattle.std.proofs.Common.{◌≡◌, ◌∙◌, sym, ap, subst, rules, map, [], length}
+use Rattle.cyc_tree.specs.View.{function_tree as source_tree}
+use Rattle.source_meaning.specs.Programs.{world_of, routine_of}
+use Rattle.source_lowering.specs.Programs.{parameter_names, routine_values}
+use Rattle.source_lowering.specs.Lowerable.{AreObjects}
+use Rattle.source_lowering.proofs.WholeObjects.{item_objects}
+use Rattle.lower_checks.specs.Views.{shape_tree}
+use Rattle.lower_checks.proofs.function.lower_function.Goals as goal
+
+-- the unnamed values of a function that is taken are objects
+pub returns-in_err-own-clause-taken : goal.returns-in_err-own-clause-taken
+returns-in_err-own-clause-taken c =
+    λ h.
+    let w = world_of c.args.program.now in
+    let f = routine_of (source_tree c.args.function.now) in
+    let objects : AreObjects w.structs (routine_values w f) =
+    item_objects w f.result (parameter_names f.parameters 0 []) (length f.parameters) f.body h.body in
+    let values_are : map shape_tree c.deref-3.result.now ≡ routine_values w f = ap (map shape_tree) c.deref-3.ensures.value ∙ c.in_ok-body.ensures.values in
+    let values : AreObjects w.structs (map shape_tree c.deref-3.result.now) = subst (AreObjects w.structs) (sym values_are) objects in
+    search rules

@@ -1,0 +1,21 @@
+-- How far the code has come on the way to a member.
+use Rattle.std.specs.Prelude.{ℕ, List, [], ◌∷◌, ◌++◌, map}
+use Rattle.source_lowering.specs.Lowered.{Left, distance, width_of}
+use Rattle.core_meaning.specs.Core.{Statement, Do, Load}
+use Rattle.lower_checks.specs.Views.{target_shape}
+use Rattle.cyc_core.specs.Trees.{statement_tree}
+use Rattle.lower_checks.specs.declared.member.Reached.{Reached}
+use Rattle.lower_checks.specs.declared.member.Way.{Way}
+
+-- what lies so far on from where the pointer of some code leads
+abbrev pub reached_left : List Statement → Reached → ℕ → Left
+reached_left pointer r d = record {
+  shape = target_shape r.of;
+  value = pointer ++ (Do (Load d d (distance r.cells r.bytes (width_of (target_shape r.of)))) ∷ []);
+  pointer = pointer;
+  cells = r.cells;
+  bytes = r.bytes;
+}
+
+abbrev pub way_left : Way → ℕ → Left
+way_left way d = reached_left (map statement_tree way.code.items) way.reached d

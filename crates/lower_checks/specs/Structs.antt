@@ -1,0 +1,135 @@
+-- What the code knows of a program's structs: their members, and where their cells lie.
+use Rattle.std.specs.Prelude.{◌≡◌, ℕ, ◌+◌, ◌-◌, false, true, List, [], ◌∷◌, ◌++◌, length, map, Option, Some, None, bytes_eq, is_some}
+use Rattle.indexmap.specs.IndexMap.{get_by}
+use Rattle.cyc_tree.specs.View.{member_tree}
+use Rattle.source_meaning.specs.Shapes.{Shape, IntShape, UnsignedShape, CharShape, ThinShape, StructShape, Part, Layout, part_of, parts_of, has_tag}
+use Rattle.source_meaning.specs.Sizes.{Extent, rounded_up, struct_cells, struct_extent}
+use Rattle.source_meaning.specs.Placing.{Placed, struct_placed}
+use Rattle.cyc_core.specs.Trees.{bytes_of, cell_width}
+use Rattle.cyc_core.specs.declared.layout.CellLayout.{CellLayout}
+use Rattle.cyc_core.specs.declared.operation.Cell.{Cell}
+use Rattle.cyc_core.specs.declared.operation.Cell.TheVariants as cell
+use Rattle.lower_checks.specs.declared.layouts.Known.{Known}
+use Rattle.lower_checks.specs.declared.layouts.Room.{Room}
+use Rattle.lower_checks.specs.declared.layouts.Structs.{Structs}
+
+-- what a cell of a shape is made for; nothing where it is no integer and no thin pointer
+abbrev pub cell_for : Shape → Option Cell
+cell_for IntShape = Some cell.Word
+cell_for UnsignedShape = Some cell.Word
+cell_for CharShape = Some cell.Byte
+cell_for (ThinShape may_be_null owner to) = Some cell.Pointer
+cell_for _ = None
+
+-- a cell, so many bytes from the first
+pub record CellAt : Type 0 where
+  pub offset : ℕ
+  pub cell : Option Cell
+
+abbrev pub placed_cell : Placed → CellAt
+placed_cell p = record { offset = p.offset; cell = cell_for p.shape }
+
+abbrev pub laid_cell : CellLayout → CellAt
+laid_cell c = record { offset = c.offset; cell = Some c.cell }
+
+abbrev pub moved_cell : ℕ → CellAt → CellAt
+moved_cell by c = record { offset = by + c.offset; cell = c.cell }
+
+abbrev pub bytes_and : ℕ → ℕ → Extent
+bytes_and size align = record { size = size; align = align }
+
+-- how many bytes there are, and how they are aligned
+abbrev pub room_tree : Room → Extent
+room_tree r = bytes_and r.size (bytes_of r.align)
+
+-- where the next cell begins, or the object ends
+abbrev pub next_cell : ℕ → List CellLayout → ℕ
+next_cell bytes [] = bytes
+next_cell bytes (c ∷ cs) = c.offset
+
+-- a cell with the bytes up to a place
+abbrev pub filled : CellLayout → ℕ → CellLayout
+filled c next = record { offset = c.offset; cell = c.cell; padding = next - (c.offset + bytes_of (cell_width c.cell)) }
+
+-- cells with the bytes up to the next one, or to the object's end
+abbrev pub all_filled : ℕ → List CellLayout → List CellLayout
+all_filled bytes [] = []
+all_filled bytes (c ∷ cs) = filled c (next_cell bytes cs) ∷ all_filled bytes cs
+
+-- ---- what has room
+
+-- an integer, a thin pointer, or one of these structs
+abbrev pub HasRoom : List Layout → Shape → Type 0
+HasRoom structs (StructShape tag) = (has_tag structs tag ≡ true)
+HasRoom structs s = (is_some (cell_for s) ≡ true)
+
+abbrev pub HaveRoom : List Layout → List Part → Type 0
+HaveRoom structs [] = Unit {0}
+HaveRoom structs (p ∷ ps) = HasRoom structs p.shape × HaveRoom structs ps
+
+-- ---- what is known of one struct
+
+abbrev pub member_parts : Known → List Part
+member_parts k = map part_of (map member_tree k.members.now)
+
+abbrev pub known_room : Known → Extent
+known_room k = bytes_and k.layout.value.bytes (bytes_of k.align)
+
+-- a struct in code is the one of this tag
+pub record IsKnown (structs : List Layout) (tag : List ℕ) (k : Known) : Type 0 where
+  pub has : has_tag structs tag ≡ true
+  pub parts : parts_of structs tag ≡ member_parts k
+  pub members : HaveRoom structs (member_parts k)
+  pub count : length (struct_cells structs tag) ≡ length k.layout.value.cells.items
+  pub room : (unions : List Layout) → struct_extent unions structs tag ≡ known_room k
+  pub cells : (unions : List Layout) → map placed_cell (struct_placed unions structs tag) ≡ map laid_cell k.layout.value.cells.items
+  -- between cells there are their bytes of padding
+  pub filled : k.layout.value.cells.items ≡ all_filled k.layout.value.bytes k.layout.value.cells.items
+
+-- what is found at a tag: nothing where no struct has it
+abbrev pub IsFound : List Layout → List ℕ → Option Known → Type 0
+IsFound structs tag None = (has_tag structs tag ≡ false)
+IsFound structs tag (Some k) = IsKnown structs tag k
+
+-- what a table has at a tag
+abbrev pub struct_in : Structs → List ℕ → Option Known
+struct_in table tag = get_by (λ key. bytes_eq tag key.now) table.by_tag
+
+-- the table has these structs, and no others
+pub record Knows (table : Structs) (structs : List Layout) : Type 0 where
+  pub knows : (tag : List ℕ) → IsFound structs tag (struct_in table tag)
+
+-- ---- what is known of a shape by the table
+
+abbrev pub room_if : Option Known → Extent
+room_if None = bytes_and 0 1
+room_if (Some k) = known_room k
+
+abbrev pub cells_if : Option Known → List CellAt
+cells_if None = []
+cells_if (Some k) = map laid_cell k.layout.value.cells.items
+
+abbrev pub room_in : Structs → Shape → Extent
+room_in table CharShape = bytes_and 1 1
+room_in table (StructShape tag) = room_if (struct_in table tag)
+room_in table s = bytes_and 4 4
+
+abbrev pub cells_in : Structs → Shape → List CellAt
+cells_in table (StructShape tag) = cells_if (struct_in table tag)
+cells_in table s = record { offset = 0; cell = cell_for s } ∷ []
+
+-- an integer, a thin pointer, or a struct of the table
+abbrev pub IsLaid : Structs → Shape → Type 0
+IsLaid table (StructShape tag) = (is_some (struct_in table tag) ≡ true)
+IsLaid table s = (is_some (cell_for s) ≡ true)
+
+abbrev pub AreLaid : Structs → List Part → Type 0
+AreLaid table [] = Unit {0}
+AreLaid table (p ∷ ps) = IsLaid table p.shape × AreLaid table ps
+
+-- the cells of members, from so many bytes on
+abbrev pub laid_cells : Structs → ℕ → List Part → List CellAt
+laid_cells table so_far [] = []
+laid_cells table so_far (p ∷ ps) =
+    let at = rounded_up so_far (room_in table p.shape).align in
+    map (moved_cell at) (cells_in table p.shape) ++ laid_cells table (at + (room_in table p.shape).size) ps

@@ -1,0 +1,341 @@
+// The structs of a program by their tags: members, and where cells lie.
+
+ghost use Rattle.std.specs.Prelude.{◌≡◌, ◌+◌, ◌++◌, ◌∷◌, [], List, ℕ, IfOk, OnOk, None, Some, true, is_some, map, max, option_copied};
+ghost use Rattle.cyc_core.specs.Trees.{bytes_of};
+ghost use Rattle.cyc_tree.specs.View.{member_tree, structure_tree};
+ghost use Rattle.source_meaning.specs.Shapes.{Layout as Rules, part_of};
+ghost use Rattle.source_meaning.specs.Programs.{layout_of};
+ghost use Rattle.source_meaning.specs.Sizes.{laid_out, rounded_up};
+ghost use Rattle.source_lowering.specs.Lowerable.{IsStruct};
+ghost use Rattle.lower_checks.specs.Structs.{
+  AreLaid,
+  IsLaid,
+  Knows,
+  all_filled,
+  bytes_and,
+  cell_for,
+  cells_in,
+  filled,
+  known_room,
+  laid_cell,
+  laid_cells,
+  moved_cell,
+  next_cell,
+  room_in,
+  room_tree,
+  struct_in,
+};
+ghost use Rattle.lower_checks.specs.Views.{shape_tree};
+ghost use Rattle.lower_checks.specs.Refusals.{NeverRefused};
+
+use crate::fault::LowerFault;
+use crate::shape::Shape;
+use cyc_core::{Cell, CellLayout, Layout, Width};
+use cyc_tree::{Member, Structure};
+use indexmap::IndexMap;
+use std::alloc::Global;
+use std::rc::Rc;
+
+/// Bytes, and how they are aligned.
+#[derive(Clone, Copy)]
+pub struct Room {
+    pub size: u32,
+    pub align: Width,
+}
+
+/// A struct: its members, how it is aligned, and how it is laid out.
+#[derive(Drop)]
+pub struct Known<'p> {
+    pub members: &'p [Member],
+    pub align: Width,
+    pub layout: Rc<Layout>,
+}
+
+/// The structs of a program by their tags.
+#[derive(Drop)]
+pub struct Structs<'p> {
+    by_tag: IndexMap<&'p [u8], Known<'p>>,
+}
+
+/// Members that are laid: their cells, and their bytes.
+#[derive(Drop)]
+struct Laying {
+    cells: Vec<CellLayout>,
+    room: Room,
+}
+
+/// What a cell of a shape is made for. Refuses what is no integer and no thin pointer.
+fn cell_of(shape: Shape<'_>) -> Result<Cell, LowerFault>
+    ensures cell { IfOk result (λ cell. cell_for (shape_tree shape.entry) ≡ Some cell) }
+    ensures taken { is_some (cell_for (shape_tree shape.entry)) ≡ true → NeverRefused result }
+{
+    match shape {
+        Shape::Char => Ok(Cell::Byte),
+        Shape::Int | Shape::Unsigned => Ok(Cell::Word),
+        Shape::Thin(_, _, _) => Ok(Cell::Pointer),
+        _ => Err(LowerFault::NotTaken),
+    }
+}
+
+/// The sum of two numbers. Refuses what is over the greatest u32.
+pub fn sum(a: u32, b: u32) -> Result<u32, LowerFault>
+    ensures sum { IfOk result (λ sum. sum ≡ a + b) }
+    ensures taken { NeverRefused result }
+{
+    match a.checked_add(b) {
+        Some(sum) => Ok(sum),
+        None => Err(LowerFault::Memory),
+    }
+}
+
+/// How many bytes there are with those that follow for an alignment. Refuses what is over the greatest u32.
+pub fn rounded(size: u32, align: Width) -> Result<u32, LowerFault>
+    ensures rounded { IfOk result (λ next. next ≡ rounded_up size (bytes_of align)) }
+    ensures taken { NeverRefused result }
+{
+    match align {
+        Width::Byte => Ok(size),
+        Width::Word => Ok(sum(size, 3)? / 4 * 4),
+    }
+}
+
+/// The alignment of both.
+fn wider(a: Width, b: Width) -> Width
+    ensures { bytes_of result ≡ max (bytes_of a) (bytes_of b) }
+{
+    match a {
+        Width::Byte => b,
+        Width::Word => Width::Word,
+    }
+}
+
+/// Appends a cell.
+fn push_cell(cells: &mut Vec<CellLayout>, cell: CellLayout) -> Result<(), LowerFault>
+    ensures added { OnOk result (cells.new.items ≡ cells.old.items ++ cell ∷ []) }
+    ensures taken { NeverRefused result }
+{
+    match cells.push(cell) {
+        Ok(()) => Ok(()),
+        Err(_) => Err(LowerFault::Memory),
+    }
+}
+
+/// Appends cells, each so many bytes further on.
+fn push_moved(cells: &mut Vec<CellLayout>, by: u32, more: &[CellLayout]) -> Result<(), LowerFault>
+    ensures added { OnOk result (map laid_cell cells.new.items ≡ map laid_cell cells.old.items ++ map (moved_cell by) (map laid_cell more.now)) }
+    ensures taken { NeverRefused result }
+{
+    'each: for cell in more {
+        let moved = CellLayout {
+            offset: sum(by, cell.offset)?,
+            cell: cell.cell,
+            padding: 0,
+        };
+        push_cell(cells, moved)?;
+    }
+    Ok(())
+}
+
+/// A cell with the bytes up to a place.
+fn fill(cell: CellLayout, next: u32) -> CellLayout
+    ensures { result ≡ filled cell next }
+{
+    let width = match cell.cell.width() {
+        Width::Byte => 1,
+        Width::Word => 4,
+    };
+    CellLayout {
+        offset: cell.offset,
+        cell: cell.cell,
+        padding: next.saturating_sub(cell.offset).saturating_sub(width),
+    }
+}
+
+/// Where the next cell begins, or the object ends.
+fn next_of(cells: &[CellLayout], bytes: u32) -> u32
+    ensures { result ≡ next_cell bytes cells.now }
+{
+    match cells.first() {
+        Some(cell) => cell.offset,
+        None => bytes,
+    }
+}
+
+/// The cells, each with the bytes up to the next one, or to the object's end.
+fn fill_all(alloc: Global, cells: &[CellLayout], bytes: u32) -> Result<Vec<CellLayout>, LowerFault>
+    ensures cells { IfOk result (λ all. all.items ≡ all_filled bytes cells.now) }
+    ensures taken { NeverRefused result }
+{
+    let mut all = Vec::new(alloc);
+    let mut rest = cells;
+    'each: while let Some((first, others)) = rest.split_first() {
+        push_cell(&mut all, fill(*first, next_of(others, bytes)))?;
+        rest = others;
+    }
+    Ok(all)
+}
+
+/// A struct with these members, whose cells and bytes are these.
+fn known_of<'p>(
+    alloc: Global,
+    members: &'p [Member],
+    laying: Laying,
+) -> Result<Known<'p>, LowerFault>
+    ensures members { IfOk result (λ known. known.members ≡ members.entry) }
+    ensures size { IfOk result (λ known. known.layout.value.bytes ≡ rounded_up laying.room.size (bytes_of laying.room.align)) }
+    ensures align { IfOk result (λ known. known.align ≡ laying.room.align) }
+    ensures cells { IfOk result (λ known. known.layout.value.cells.items ≡ all_filled known.layout.value.bytes laying.cells.items) }
+    ensures taken { NeverRefused result }
+{
+    let align = laying.room.align;
+    let bytes = rounded(laying.room.size, align)?;
+    let cells = fill_all(alloc, &laying.cells, bytes)?;
+    match Rc::new(alloc, Layout { cells, bytes }) {
+        Ok(layout) => Ok(Known {
+            members,
+            align,
+            layout,
+        }),
+        Err(_) => Err(LowerFault::Memory),
+    }
+}
+
+impl<'p> Structs<'p> {
+    /// No structs.
+    pub fn new(alloc: Global) -> Self
+        ensures { (tag : List ℕ) → struct_in result tag ≡ None }
+    {
+        Structs {
+            by_tag: IndexMap::new(alloc),
+        }
+    }
+
+    /// The struct of a tag.
+    pub fn of(&self, tag: &[u8]) -> Option<&Known<'p>>
+        ensures { option_copied result ≡ struct_in self.now tag.now }
+    {
+        self.by_tag.get(tag)
+    }
+
+    /// The bytes of a shape. Refuses what is no integer, no thin pointer and no struct that is known.
+    fn room(&self, shape: Shape<'_>) -> Result<Room, LowerFault>
+        ensures room { IfOk result (λ room. room_tree room ≡ room_in self.now (shape_tree shape.entry)) }
+        ensures laid { OnOk result (IsLaid self.now (shape_tree shape.entry)) }
+        ensures taken { IsLaid self.now (shape_tree shape.entry) → NeverRefused result }
+    {
+        if let Shape::Struct(tag) = shape {
+            return match self.of(tag) {
+                Some(known) => Ok(Room {
+                    size: known.layout.bytes,
+                    align: known.align,
+                }),
+                None => Err(LowerFault::NotTaken),
+            };
+        }
+        match cell_of(shape)?.width() {
+            Width::Byte => Ok(Room {
+                size: 1,
+                align: Width::Byte,
+            }),
+            Width::Word => Ok(Room {
+                size: 4,
+                align: Width::Word,
+            }),
+        }
+    }
+
+    /// Appends the cells of a shape, so many bytes on. Refuses what is no integer, no thin pointer and no struct that is known.
+    fn push_shape(
+        &self,
+        cells: &mut Vec<CellLayout>,
+        at: u32,
+        shape: Shape<'_>,
+    ) -> Result<(), LowerFault>
+        ensures cells { OnOk result
+            (map laid_cell cells.new.items ≡ map laid_cell cells.old.items ++ map (moved_cell at) (cells_in self.now (shape_tree shape.entry))) }
+        ensures taken { IsLaid self.now (shape_tree shape.entry) → NeverRefused result }
+    {
+        if let Shape::Struct(tag) = shape {
+            return match self.of(tag) {
+                Some(known) => push_moved(cells, at, &known.layout.cells),
+                None => Err(LowerFault::NotTaken),
+            };
+        }
+        let cell = cell_of(shape)?;
+        push_cell(
+            cells,
+            CellLayout {
+                offset: at,
+                cell,
+                padding: 0,
+            },
+        )
+    }
+
+    /// Lays one more member. Refuses what is no integer, no thin pointer and no struct that is known.
+    fn lay(&self, laying: &mut Laying, shape: Shape<'_>) -> Result<(), LowerFault>
+        ensures size { let room = room_in self.now (shape_tree shape.entry) in
+            OnOk result (laying.new.room.size ≡ rounded_up laying.old.room.size room.align + room.size) }
+        ensures align { let room = room_in self.now (shape_tree shape.entry) in
+            OnOk result (bytes_of laying.new.room.align ≡ max (bytes_of laying.old.room.align) room.align) }
+        ensures cells { let room = room_in self.now (shape_tree shape.entry) in
+            OnOk result
+            (map laid_cell laying.new.cells.items ≡
+            map laid_cell laying.old.cells.items ++
+            map (moved_cell (rounded_up laying.old.room.size room.align)) (cells_in self.now (shape_tree shape.entry))) }
+        ensures laid { OnOk result (IsLaid self.now (shape_tree shape.entry)) }
+        ensures taken { IsLaid self.now (shape_tree shape.entry) → NeverRefused result }
+    {
+        let room = self.room(shape)?;
+        let at = rounded(laying.room.size, room.align)?;
+        let size = sum(at, room.size)?;
+        self.push_shape(&mut laying.cells, at, shape)?;
+        laying.room = Room {
+            size,
+            align: wider(laying.room.align, room.align),
+        };
+        Ok(())
+    }
+
+    /// Lays members. Refuses what is no integer, no thin pointer and no struct that is known.
+    fn lay_all(&self, alloc: Global, members: &[Member]) -> Result<Laying, LowerFault>
+        ensures room { let parts = map part_of (map member_tree members.now) in
+            IfOk result (λ laying.
+            bytes_and (rounded_up laying.room.size (bytes_of laying.room.align)) (bytes_of laying.room.align) ≡
+            laid_out (room_in self.now) (bytes_and 0 1) parts) }
+        ensures cells { let parts = map part_of (map member_tree members.now) in
+            IfOk result (λ laying. map laid_cell laying.cells.items ≡ laid_cells self.now 0 parts) }
+        ensures laid { OnOk result (AreLaid self.now (map part_of (map member_tree members.now))) }
+        ensures taken { AreLaid self.now (map part_of (map member_tree members.now)) → NeverRefused result }
+    {
+        let mut laying = Laying {
+            cells: Vec::new(alloc),
+            room: Room {
+                size: 0,
+                align: Width::Byte,
+            },
+        };
+        'each: for member in members {
+            self.lay(&mut laying, Shape::of(&member.of))?;
+        }
+        Ok(laying)
+    }
+
+    /// Adds a struct behind the others. Refuses one whose tag another one has, and one with a member that is no integer, no thin
+    /// pointer and no earlier struct.
+    #[tactic(auto, using(crate::proofs::Structs::new_tag, crate::proofs::Structs::members_laid))]
+    pub fn add(&mut self, alloc: Global, structure: &'p Structure) -> Result<(), LowerFault>
+        ensures added { OnOk result ((structs : List Rules) → Knows self.old structs → Knows self.new (layout_of (structure_tree structure.entry.now) ∷ structs)) }
+        ensures taken { (unions structs : List Rules) → Knows self.old structs → IsStruct unions structs (layout_of (structure_tree structure.entry.now)) → NeverRefused result }
+    {
+        if self.of(&structure.tag.text).is_some() {
+            return Err(LowerFault::NotTaken);
+        }
+        let laying = self.lay_all(alloc, &structure.members)?;
+        let known = known_of(alloc, &structure.members, laying)?;
+        match self.by_tag.insert(&structure.tag.text, known) {
+            Ok(_) => Ok(()),
+            Err(_) => Err(LowerFault::Memory),
+        }
+    }
+}

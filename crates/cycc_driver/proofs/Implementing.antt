@@ -18,7 +18,7 @@ use Rattle.rv32_machine.specs.Arrays.{Arrays, IsStart, areas_of, byte_at, state_
 use Rattle.judged_sources.proofs.Joined.{have_main, never_stuck}
 use Rattle.source_lowering.specs.Programs.{program_code}
 use Rattle.source_typing.specs.Answers.{program_faults}
-use Rattle.source_typing.specs.Taken.{thin_pointers}
+use Rattle.source_typing.specs.Taken.{supported}
 use Rattle.unique_flow.specs.Accepted.{IsAccepted}
 use Rattle.unique_flow.proofs.Accepted.{no_faults}
 use Rattle.cycc_driver.proofs.Small.{code_small, code_words, data_small, each_small, memory_small}
@@ -56,7 +56,7 @@ module _ (program : Program) (code statics : List ℕ) (parts : Contents) (layer
 
   pub implemented : IsAccepted program → IsImplementedBy program parts
   implemented accepted arena start small starts input are_bytes =
-      let faultless : program_faults thin_pointers program ≡ [] = no_faults program accepted in
+      let faultless : program_faults supported program ≡ [] = no_faults program accepted in
       let all = accepted_do program faultless in
       let does = all.promised in
       let begun : Begins (areas_of start) (place_of (lines_of program)) (lines_of program) (program_code program).data_objects (state_of start) =

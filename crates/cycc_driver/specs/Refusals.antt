@@ -11,7 +11,7 @@ use Rattle.type_verdicts.specs.declared.fault.FaultKind.{FaultKind}
 use Rattle.type_verdicts.specs.declared.fault.FaultKind.TheVariants as kind
 use Rattle.source_typing.specs.Answers.{first_fault}
 use Rattle.source_typing.specs.Faults as rules
-use Rattle.source_typing.specs.Taken.{thin_pointers}
+use Rattle.source_typing.specs.Taken.{supported}
 use Rattle.cycc_driver.specs.declared.fault.Place.{Place}
 use Rattle.cycc_driver.specs.declared.fault.CompileFault.{CompileFault}
 use Rattle.cycc_driver.specs.declared.fault.CompileFault.TheVariants as fault
@@ -42,7 +42,7 @@ pub record IsBroken (text : List ℕ) (k : FaultKind) (place : Place) : Type 0 w
   pub program : Program
   pub spelled : IsTextOf text program
   pub at : ℕ
-  pub first : first_fault thin_pointers program ≡ Some (rules.fault (number_of k) at)
+  pub first : first_fault supported program ≡ Some (rules.fault (number_of k) at)
   pub there : IsPlaceOf text at place
 
 -- Why a text is refused before its code is made.

@@ -166,7 +166,6 @@ pub const REFUSED: &str = "\
 /// Texts of functions and globals that are refused, in the form of `REFUSED`.
 pub const REFUSED_FUNCTIONS: &str = "\
 1:7: Name <- int x;
-1:1: Type <- struct S { int x; };$int main() { }
 1:1: Type <- void x;$int main() { }
 1:1: Type <- int @p;$int main() { }
 1:1: Type <- int a[3];$int main() { }

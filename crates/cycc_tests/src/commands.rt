@@ -5,6 +5,7 @@ use crate::command_cases::{
 };
 use crate::function_cases::{CALLS, CHARS, CONVERSION_EDGES, GLOBALS, OPERATOR_EDGES, UNSIGNED};
 use crate::pointer_cases::{POINTERS, REFUSED_POINTERS};
+use crate::struct_cases::{REFUSED_STRUCTS, STRUCT_SIZES, STRUCTS};
 use command_line::command_of;
 use cycc_answer::answer;
 use cycc_driver::{Counted, load};
@@ -122,6 +123,21 @@ fn pointers_run_as_by_their_meaning(rt: HostRuntime) -> Result<(), Fail> {
     expect_runs(&rt, POINTERS)
 }
 
+#[test]
+fn structs_run_as_by_their_meaning(rt: HostRuntime) -> Result<(), Fail> {
+    expect_runs(&rt, STRUCTS)
+}
+
+#[test]
+fn structs_have_so_many_bytes_at_most(rt: HostRuntime) -> Result<(), Fail> {
+    for line in STRUCT_SIZES.lines() {
+        let (wanted, source) = line.split_once(" <- ").ok_or("no source")?;
+        let found = shown(rt.alloc(), "cycc check IN", b"", source.as_bytes())?;
+        assert_eq!(rt; found.as_str(), wanted, "{source}");
+    }
+    Ok(())
+}
+
 /// Two functions without end: a call each time a byte is written.
 const ENDLESS: &[u8] = b"int f() { putchar(97); return f(); } int main() { return f(); }";
 
@@ -157,7 +173,12 @@ fn expect_refusals(rt: &(impl Abort + AllocGlobal), table: &str) -> Result<(), F
 
 #[test]
 fn refusals_have_their_places(rt: HostRuntime) -> Result<(), Fail> {
-    for table in [REFUSED, REFUSED_FUNCTIONS, REFUSED_POINTERS] {
+    for table in [
+        REFUSED,
+        REFUSED_FUNCTIONS,
+        REFUSED_POINTERS,
+        REFUSED_STRUCTS,
+    ] {
         expect_refusals(&rt, table)?;
     }
     Ok(())

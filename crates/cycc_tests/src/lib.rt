@@ -47,6 +47,8 @@ mod printed_names;
 #[cfg(test)]
 mod refused_texts;
 #[cfg(test)]
+mod struct_cases;
+#[cfg(test)]
 mod usage;
 #[cfg(test)]
 mod word_arithmetic;

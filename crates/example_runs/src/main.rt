@@ -16,7 +16,7 @@ use std::process::ExitCode;
 const MOST: u64 = 65536;
 
 /// The examples' names.
-const EXAMPLES: [&str; 25] = [
+const EXAMPLES: [&str; 28] = [
     "arithmetic",
     "bases",
     "bits",
@@ -30,13 +30,16 @@ const EXAMPLES: [&str; 25] = [
     "decimal",
     "echo",
     "fletcher",
+    "fractions",
     "hello",
     "hiding",
+    "list",
     "nesting",
     "ordered",
     "powers",
     "prime_table",
     "primes",
+    "records",
     "shortcut",
     "sums",
     "swap",

@@ -9,7 +9,7 @@ pub const STRUCTS: &str = "\
 1 | ended 5$ | - <- struct P { int x; int y; }; void f(struct P *p) { p->y = p->x + 1; } int main() { struct P a; a.x = 4; f(&a); return a.y; }
 0 | ended 0$ | - <- struct P { int x; int y; }; int main() { struct P a; return a.x + a.y; }
 1 | ended 9$ | - <- struct P { int x; int y; }; struct P g; int main() { g.x = g.x + 3; g.y = g.x * 2; return g.x + g.y; }
-1 | ended 200$ | - <- struct P { int x; int y; }; int main() { struct P a; struct P b; a.x = 1; a.y = 2; b = a; a.x = 7; return b.x * 10 + b.y + a.x * 100; }
+1 | ended 712$ | - <- struct P { int x; int y; }; int main() { struct P a; struct P b; a.x = 1; a.y = 2; b = a; a.x = 7; return b.x * 10 + b.y + a.x * 100; }
 1 | ended 56$ | - <- struct P { int x; int y; }; int main() { struct P a; a.x = 5; a.y = 6; struct P b = a; b.x = b.x + 1; return a.x * 10 + b.x; }
 1 | ended 44$ | - <- struct C { char a; int b; char c; }; int main() { struct C s; s.a = 300; s.b = 70000; s.c = 255; s.c = s.c + 1; return s.a + s.b % 1000 + s.c; }
 1 | ended 121$ | - <- struct I { char a; char b; }; struct O { char x; struct I i; char y; struct I j; int z; }; int main() { struct O o; o.x = 1; o.i.a = 2; o.i.b = 3; o.y = 4; o.j.a = 5; o.j.b = 6; o.z = 7; o.j = o.i; o.i.a = 9; return o.x + o.i.a * 2 + o.i.b * 3 + o.y * 4 + o.j.a * 5 + o.j.b * 6 + o.z * 7; }

@@ -1,20 +1,19 @@
 -- What no fault says of calls and makings.
-use Rattle.std.proofs.Common.{◌≡◌, ℕ, Bool, true, false, Option, Some, None, List, [], ◌∷◌, refl, ap, subst}
+use Rattle.std.proofs.Common.{◌≡◌, ℕ, Bool, true, false, Option, Some, None, List, [], ◌∷◌, refl, sym, ap, subst}
 use Rattle.std.specs.Prelude.{nat_eq, length, ◌++◌}
+use Rattle.std.proofs.lemmas.Bool.{false≢true}
 use Rattle.source_typing.specs.Faults.{Fault, test, effect_rule, outlives_rule}
-use Rattle.source_typing.specs.Verdicts.{Verdict, Faulty, Unjudged, Of, after, if_fits, unless_faulty}
+use Rattle.source_typing.specs.Verdicts.{Verdict, Faulty, Unjudged, Of, unless_faulty}
 use Rattle.source_typing.specs.Regions.{Region}
-use Rattle.source_typing.specs.Types.{StaticType, Thin, Unique, renamed, is_makeable}
-use Rattle.source_typing.specs.Tables.{Signature, argument}
+use Rattle.source_typing.specs.Types.{StaticType, renamed}
+use Rattle.source_typing.specs.Tables.{Signature, Tag, argument}
 use Rattle.source_typing.specs.Scope.{Env, Value}
 use Rattle.source_typing.specs.Conversions.{conversion, converts}
 use Rattle.source_typing.specs.Converts.{Converts}
 use Rattle.source_typing.specs.Fixing.{fixed_from, fixed_known, all_fits}
 use Rattle.source_typing.specs.Calls.{all_convert, partly_convert, all_known, if_all_known, arguments_converted, arguments_counted, arguments_fit, all_live}
-use Rattle.source_typing.specs.Calls.{all_ordered}
-use Rattle.source_typing.specs.Calls.{typed_result}
-use Rattle.source_typing.specs.Calls.{call_entered}
-use Rattle.source_typing.specs.Making.{Goal, To, ToUnique, NoHandle, made_to, made}
+use Rattle.source_typing.specs.Calls.{Target, ToFunction, ToStruct, all_ordered, call_entered, target_of_tag, typed_result}
+use Rattle.source_typing.specs.Written.{if_sound}
 use Rattle.source_typing.proofs.Inversion.{of_is, unless_is, test_is, none_of_both}
 use Rattle.source_typing.proofs.Converting.{conversion_is, broken_is}
 use Rattle.source_typing.proofs.OperatorsFit.{value_is}
@@ -113,23 +112,16 @@ pub arguments_are : (g : Env) (at n : ℕ) (ps : List (Option StaticType)) (vs :
     → Arguments g ps vs (fixed_from g.enclosing at (all_fits ps vs) 0 n) rs
 arguments_are g at n ps vs rs e = counted_is (nat_eq (length ps) (length vs)) g at n ps vs rs refl e
 
--- ---- makings
+-- ---- what is called
 
--- in a region, or in the unique one
-abbrev pub MadeTo : Goal → StaticType → StaticType → Type 0
-MadeTo (To r) t u = u ≡ Thin false r t
-MadeTo ToUnique t u = u ≡ Unique false t
-MadeTo NoHandle t u = ⊥
+pub sound_is : (c : Bool) (s : Signature) (t : Target) → if_sound c (Of (ToFunction s)) ≡ Of t → t ≡ ToFunction s
+sound_is true s t e = sym (of_is (ToFunction s) t e)
+sound_is false s t e = absurd cc
 
-made_to_is : (at : ℕ) (goal : Goal) (t : StaticType) (w : Value) → made_to at goal t ≡ Of w → MadeTo goal t w.type
-made_to_is at (To r) t w e = value_is at (Thin false r t) w e
-made_to_is at ToUnique t w e = value_is at (Unique false t) w e
-made_to_is at NoHandle t w e = absurd cc
-
-makeable_is : (b : Bool) (at : ℕ) (goal : Goal) (t : StaticType) (w : Value) → after (if_fits b at t) (made_to at goal) ≡ Of w
-    → (b ≡ true) × MadeTo goal t w.type
-makeable_is true at goal t w e = (refl, made_to_is at goal t w e)
-makeable_is false at goal t w e = absurd cc
-
-pub made_is : (at : ℕ) (goal : Goal) (v w : Value) → made at goal v ≡ Of w → (is_makeable v.type ≡ true) × MadeTo goal v.type w.type
-made_is at goal v w e = makeable_is (is_makeable v.type) at goal v.type w e
+pub struct_is : (c : Bool) (u : Tag) (at : ℕ) (t : Target) → c ≡ false → target_of_tag c u at ≡ Of t → t ≡ ToStruct u
+struct_is true u at t z e = absurd (false≢true (sym z))
+struct_is false u at t z e = by u.sound e
+  where
+    by : (b : Bool) → if_sound b (Of (ToStruct u)) ≡ Of t → t ≡ ToStruct u
+    by true q = sym (of_is (ToStruct u) t q)
+    by false q = absurd cc

@@ -8,10 +8,9 @@ use Rattle.source_typing.specs.Faults.{Fault, test, own_after}
 use Rattle.source_typing.specs.Verdicts.{Verdict, Faulty, Unjudged, Of, unless_faulty, after, both, if_fits}
 use Rattle.source_typing.specs.Scope.{Env, Value, meant}
 use Rattle.source_typing.specs.Places.{assigned, member, arrow, indexed}
-use Rattle.source_typing.specs.Operators.{prefixed, counted, applied, tested_both}
+use Rattle.source_typing.specs.Operators.{prefixed, applied, tested_both}
 use Rattle.source_typing.specs.Making.{Goal, To, ToUnique, NoHandle, with_goal}
-use Rattle.source_typing.specs.Calls.{Target, target, called, union_tag, union_made}
-use Rattle.source_typing.specs.Tables.{Tag, Part}
+use Rattle.source_typing.specs.Calls.{Target, target, called}
 use Rattle.source_typing.specs.Expressions.{judge, judge_all, judge_tests, judge_links, judge_suffixes}
 
 -- ---- verdicts
@@ -52,6 +51,10 @@ pub none_of_both : {A : Type 0} (xs ys : List A) → xs ++ ys ≡ [] → (xs ≡
 none_of_both [] ys e = (refl, e)
 none_of_both (x ∷ xs) ys e = absurd cc
 
+pub both_none : {A : Type 0} (xs ys : List A) → xs ≡ [] → ys ≡ [] → xs ++ ys ≡ []
+both_none [] ys a b = b
+both_none (x ∷ xs) ys a b = absurd cc
+
 pub own_is : (own parts : List Fault) → own_after own parts ≡ [] → (own ≡ []) × (parts ≡ [])
 own_is own [] e = (e, refl)
 own_is own (f ∷ fs) e = absurd cc
@@ -66,17 +69,9 @@ pub prefix_is : (g : Env) (at : ℕ) (o : Prefix) (e : Expression) (w : Value) �
     → (a : Value) × (judge g e ≡ Of a) × (prefixed g at o a ≡ Of w)
 prefix_is g at o e w p = after_is (judge g e) (prefixed g at o) w p
 
-pub numelts_is : (g : Env) (at : ℕ) (e : Expression) (w : Value) → judge g (Expression.NumElts at e) ≡ Of w
-    → (a : Value) × (judge g e ≡ Of a) × (counted at a ≡ Of w)
-numelts_is g at e w p = after_is (judge g e) (counted at) w p
-
 pub call_is : (g : Env) (x : tree.Name) (es : Expressions) (w : Value) → judge g (Expression.Call x es) ≡ Of w
     → (t : Target) × (vs : List Value) × (target x.at (meant g x.text) ≡ Of t) × (judge_all g es ≡ Of vs) × (called g x.at t vs ≡ Of w)
 call_is g x es w p = both_is (target x.at (meant g x.text)) (judge_all g es) (called g x.at) w p
-
-pub union_is : (g : Env) (tag f : tree.Name) (e : Expression) (w : Value) → judge g (Expression.MakeUnion tag f e) ≡ Of w
-    → (t : Tag × Part) × (v : Value) × (union_tag tag f (meant g tag.text) ≡ Of t) × (judge g e ≡ Of v) × (union_made g tag.at t v ≡ Of w)
-union_is g tag f e w p = both_is (union_tag tag f (meant g tag.text)) (judge g e) (union_made g tag.at) w p
 
 -- ---- chains, subscripts and members
 

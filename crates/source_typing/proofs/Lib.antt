@@ -1,5 +1,6 @@
 pub mod TakenWhole
 pub mod Inversion
+pub mod Entries
 pub mod Converting
 pub mod PlacesFit
 pub mod OperatorsFit
@@ -9,6 +10,7 @@ pub mod TakenStatements
 pub mod TakenItems
 pub mod TakenOperands
 pub mod NoStrings
+pub mod RegionNames
 mod SampleTrees
 mod AcceptedSamples1
 mod AcceptedSamples2

@@ -12,7 +12,7 @@ use Rattle.source_typing.specs.Scope.{Env, Value, Nowhere, value, is_live, outli
 use Rattle.source_typing.specs.Converts.{IsInteger}
 use Rattle.source_typing.specs.Operators.{promoted, on_integers, is_equality, is_move, compared_thin, compared, if_equality, fat_moved, integers_joined}
 use Rattle.source_typing.specs.Operators.{applied_to}
-use Rattle.source_typing.specs.Operators.{applied, tested_both, tested, signed, is_fat, counted}
+use Rattle.source_typing.specs.Operators.{tested_both, tested, signed, is_fat, counted}
 use Rattle.source_typing.proofs.Inversion.{of_is, unless_is, test_is, none_of_both}
 use Rattle.source_typing.proofs.Converting.{and_is, compare_is}
 
@@ -159,9 +159,6 @@ applied_to_is g o at (Handle r) b w e = joined_is (is_integer (Handle r) && is_i
 applied_to_is g o at (Key r) b w e = joined_is (is_integer (Key r) && is_integer b) g o at (Key r) b w refl e
 applied_to_is g o at (Struct tag rs) b w e = joined_is (is_integer (Struct tag rs) && is_integer b) g o at (Struct tag rs) b w refl e
 applied_to_is g o at (Union tag rs) b w e = joined_is (is_integer (Union tag rs) && is_integer b) g o at (Union tag rs) b w refl e
-
-pub applied_is : (g : Env) (o : Operator) (a b w : Value) → applied g o a b ≡ Of w → Operates g o a.type b.type w.type
-applied_is g o a b w e = applied_to_is g o a.at a.type b.type w e
 
 -- `&&` and `||`
 pub tested_both_is : (a b w : Value) → tested_both a b ≡ Of w → (is_testable a.type ≡ true) × (is_testable b.type ≡ true) × (w.type ≡ Int)

@@ -9,7 +9,7 @@ use Rattle.source_typing.specs.Scope.{Env, Value, Seat, Nowhere, In, InBlock, is
 use Rattle.source_typing.specs.Conversions.{conversion, converts}
 use Rattle.source_typing.specs.Converts.{Converts}
 use Rattle.source_typing.specs.Places.{in_live, contents_of, indexed_of, indexed, part_typed, part_found, part_of, member_of, arrow_live, arrow_of}
-use Rattle.source_typing.specs.Places.{address_of, assigned_type, assigned_in, assigned}
+use Rattle.source_typing.specs.Places.{assigned_type, assigned_in, assigned}
 use Rattle.source_typing.proofs.Inversion.{of_is, unless_is}
 use Rattle.source_typing.proofs.Converting.{conversion_is, broken_is}
 
@@ -194,19 +194,6 @@ arrow_is g f at (Handle r) w e = absurd cc
 arrow_is g f at (Key r) w e = absurd cc
 arrow_is g f at (Struct tag rs) w e = absurd cc
 arrow_is g f at (Union tag rs) w e = absurd cc
-
--- ---- `&e`
-
--- a pointer that is never NULL, in the place's region
-abbrev pub AddressOf : StaticType → Seat → StaticType → Type 0
-AddressOf t Nowhere u = ⊥
-AddressOf t (In r) u = u ≡ Thin false r t
-AddressOf t InBlock u = u ≡ Unique false t
-
-pub address_is : (at : ℕ) (t : StaticType) (s : Seat) (w : Value) → address_of at t s ≡ Of w → AddressOf t s w.type
-address_is at t Nowhere w e = absurd cc
-address_is at t (In r) w e = (is_at at (Thin false r t) Nowhere w e).0
-address_is at t InBlock w e = (is_at at (Unique false t) Nowhere w e).0
 
 -- ---- assignments
 

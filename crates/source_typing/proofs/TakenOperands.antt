@@ -3,7 +3,7 @@ use Rattle.std.proofs.Common.{◌≡◌, ℕ, Bool, true, false, Option, Some, N
 use Rattle.std.specs.Prelude.{◌&&◌}
 use Rattle.cyc_tree.specs.declared.expression.Prefix.{Prefix}
 use Rattle.cyc_tree.specs.Operands.{ExpressionHasOperands, AllHaveOperands, LinksHaveOperands, SuffixesHaveOperands, MadeHasOperands, HasOperands}
-use Rattle.cyc_tree.specs.Operands.{InitializerHasOperands, DeclarationHasOperands, ResultHasOperands, StatementHasOperands, ItemsHaveOperands}
+use Rattle.cyc_tree.specs.Operands.{DeclarationHasOperands, ResultHasOperands, StatementHasOperands, ItemsHaveOperands}
 use Rattle.cyc_tree.specs.Operands.{AreSomeMembers, ClausesHaveOperands, ItemHasOperands}
 use Rattle.cyc_tree.specs.Places.{expression_place}
 use Rattle.cyc_tree.specs.Tree as tree
@@ -12,9 +12,9 @@ use Rattle.cyc_tree.specs.Tree.{Made, One, Array, Initializer, Statement, BlockI
 use Rattle.cyc_tree.specs.Tree.{Program, TypeName, Name}
 use Rattle.source_meaning.specs.Expressions.{is_unique_region}
 use Rattle.source_typing.specs.Taken.{Taken, refused, refused_statement, if_taken, takes_prefix, takes_suffixes, takes_made, takes_handle, taken, all_taken}
-use Rattle.source_typing.specs.Taken.{links_taken, suffixes_taken, made_taken, initializer_taken, takes_type, takes_initializer, declared_if}
+use Rattle.source_typing.specs.Taken.{links_taken, suffixes_taken, made_taken, takes_type, takes_initializer, declared_if}
 use Rattle.source_typing.specs.Taken.{declaration_taken, result_taken, statement_if, statement_taken, items_taken, clauses_taken, function_taken, item_taken}
-use Rattle.source_typing.specs.Taken.{only_taken, are_suffixed, are_members, members_taken, refused_member, structure_if, takes_arguments, takes_structure}
+use Rattle.source_typing.specs.Taken.{only_taken, are_members, members_taken, refused_member, structure_if, takes_arguments, takes_structure}
 
 -- what stands as it is, and isn't what stands for other forms, is taken
 kept_form : (b : Bool) (at : ℕ) (x y : Expression) → if_taken b at x ≡ y → (refused at ≡ y → ⊥) → x ≡ y

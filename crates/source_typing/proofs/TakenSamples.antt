@@ -1,4 +1,4 @@
--- Where the program takes forms of integers alone: another form is Type at its first token.
+-- Where the program takes some of the forms: another form is Type at its first token.
 use Rattle.std.proofs.Common.{◌≡◌, refl, true, false, Some, None, [], ◌∷◌}
 use Rattle.std.specs.Prelude.{codes, replicate}
 use Rattle.cyc_tree.specs.declared.expression.Operator.TheVariants.{Less, Add, Subtract}
@@ -10,8 +10,7 @@ use Rattle.cyc_tree.specs.Tree.{Statement, NoItems, Declare, Execute, NoClauses,
 use Rattle.source_meaning.proofs.Trees.{pointer}
 use Rattle.source_typing.specs.Faults.{fault, name_rule, type_rule, region_rule}
 use Rattle.source_typing.specs.Answers.{first_fault}
-use Rattle.source_typing.specs.Taken.{whole}
-use Rattle.source_typing.specs.Taken.{integers}
+use Rattle.source_typing.specs.Taken.{integers, region_structures, structures, whole}
 use Rattle.source_typing.proofs.SampleTrees.{name_at, region_at, type_at, int_at, number, variable_at, returns, member, structure, global, bound}
 use Rattle.source_typing.proofs.SampleTrees.{routine, main_at, main_returns}
 
@@ -234,6 +233,67 @@ taken_32 : first_fault integers
     ((main_at 0 (Execute (Statement.Return 13 (Some (Expression.Prefixed 20 Negate (Expression.Grouped 21 (Expression.HeapRegion 22))))) NoItems) 36) ∷ [])
     ≡ Some (fault type_rule 22)
 taken_32 = refl
+
+-- where structs are taken and region parameters aren't, a struct with one is at fault, and its members are not judged
+-- struct S<`r> { struct T x; }; int main() { return 0; }
+taken_33 : first_fault structures
+    ((tree.StructItem (structure 0 (name_at 7 "S") (region_at 9 "r" ∷ []) ((member (type_at 15 (tree.Struct (name_at 22 "T") []) []) (name_at 24 "x")) ∷ [])))
+    ∷ (main_returns 30) ∷ [])
+    ≡ Some (fault type_rule 0)
+taken_33 = refl
+
+-- struct S<`r> { struct T x; }; int main() { return 0; }
+taken_34 : first_fault region_structures
+    ((tree.StructItem (structure 0 (name_at 7 "S") (region_at 9 "r" ∷ []) ((member (type_at 15 (tree.Struct (name_at 22 "T") []) []) (name_at 24 "x")) ∷ [])))
+    ∷ (main_returns 30) ∷ [])
+    ≡ Some (fault name_rule 22)
+taken_34 = refl
+
+-- so is a type with a region argument; where both are taken, its struct has no parameter for it
+-- struct S { int x; }; int main() { struct S<`H> x; return 0; }
+taken_35 : first_fault structures
+    ((tree.StructItem (structure 0 (name_at 7 "S") [] ((member (int_at 11) (name_at 15 "x")) ∷ []))) ∷ (main_at 21 (Declare (tree.Local (type_at 34
+    (tree.Struct (name_at 41 "S") (tree.Heap 43 ∷ [])) []) (name_at 47 "x") Initializer.Unset) (Execute (returns 50 (number 57 0)) NoItems)) 60) ∷ [])
+    ≡ Some (fault type_rule 34)
+taken_35 = refl
+
+-- struct S { int x; }; int main() { struct S<`H> x; return 0; }
+taken_36 : first_fault region_structures
+    ((tree.StructItem (structure 0 (name_at 7 "S") [] ((member (int_at 11) (name_at 15 "x")) ∷ []))) ∷ (main_at 21 (Declare (tree.Local (type_at 34
+    (tree.Struct (name_at 41 "S") (tree.Heap 43 ∷ [])) []) (name_at 47 "x") Initializer.Unset) (Execute (returns 50 (number 57 0)) NoItems)) 60) ∷ [])
+    ≡ Some (fault region_rule 34)
+taken_36 = refl
+
+-- struct S<`r> { int *`r p; }; int main() { struct S<`H> x; return 0; }
+taken_37 : first_fault region_structures
+    ((tree.StructItem (structure 0 (name_at 7 "S") (region_at 9 "r" ∷ []) ((member (type_at 15 tree.Int ((pointer sign.Nullable (Some (region_at 20 "r"))) ∷
+    [])) (name_at 23 "p")) ∷ []))) ∷ (main_at 29 (Declare (tree.Local (type_at 42 (tree.Struct (name_at 49 "S") (tree.Heap 51 ∷ [])) []) (name_at 55 "x")
+    Initializer.Unset) (Execute (returns 58 (number 65 0)) NoItems)) 68) ∷ [])
+    ≡ None
+taken_37 = refl
+
+-- struct S<`r> { int x; }; int main() { struct S<`H, `H> x; return 0; }
+taken_38 : first_fault region_structures
+    ((tree.StructItem (structure 0 (name_at 7 "S") (region_at 9 "r" ∷ []) ((member (int_at 15) (name_at 19 "x")) ∷ []))) ∷ (main_at 25 (Declare (tree.Local
+    (type_at 38 (tree.Struct (name_at 45 "S") (tree.Heap 47 ∷ tree.Heap 51 ∷ [])) []) (name_at 55 "x") Initializer.Unset) (Execute (returns 58 (number 65 0))
+    NoItems)) 68) ∷ [])
+    ≡ Some (fault region_rule 38)
+taken_38 = refl
+
+-- struct S<`r> { int x; }; int main() { struct S<`U> x; return 0; }
+taken_39 : first_fault region_structures
+    ((tree.StructItem (structure 0 (name_at 7 "S") (region_at 9 "r" ∷ []) ((member (int_at 15) (name_at 19 "x")) ∷ []))) ∷ (main_at 25 (Declare (tree.Local
+    (type_at 38 (tree.Struct (name_at 45 "S") (tree.Unique 47 ∷ [])) []) (name_at 51 "x") Initializer.Unset) (Execute (returns 54 (number 61 0)) NoItems)) 64)
+    ∷ [])
+    ≡ Some (fault region_rule 47)
+taken_39 = refl
+
+-- struct S<`r, `r> { int x; }; int main() { return 0; }
+taken_40 : first_fault region_structures
+    ((tree.StructItem (structure 0 (name_at 7 "S") (region_at 9 "r" ∷ region_at 13 "r" ∷ []) ((member (int_at 19) (name_at 23 "x")) ∷ []))) ∷ (main_returns 29)
+    ∷ [])
+    ≡ Some (fault region_rule 13)
+taken_40 = refl
 
 -- trees that no text has: an operand whose operator has no second one, a primary without a suffix, and a struct and a union without members
 operands_1 : first_fault whole ((main_at 0 (Execute (returns 13 (Expression.Chain (number 20 7) NoLinks)) NoItems) 23) ∷ []) ≡ Some (fault type_rule 20)

@@ -23,7 +23,7 @@ use Rattle.source_typing.specs.Taken.{members_taken, structure_if, constant_take
 use Rattle.source_typing.specs.Taken.{only_taken, are_members, takes_structure}
 use Rattle.source_typing.specs.Taken.{refused_type, takes_prefix, effect_form, bounds_form, effect_if, bounds_if, Taken}
 use Rattle.source_typing.specs.Taken.{constant_form, initial_form, form_if, constant_forms}
-use Rattle.source_typing.specs.Faults.{Fault}
+use Rattle.source_typing.proofs.Inversion.{both_none}
 
 -- ---- what is taken
 
@@ -343,15 +343,11 @@ form_whole true Initial.Unset = refl
 form_whole true (Initial.Elements n) = refl
 form_whole true (Initial.Given c) = constant_forms_whole c
 
-none_and : (fs gs : List Fault) → fs ≡ [] → gs ≡ [] → fs ++ gs ≡ []
-none_and [] gs a b = b
-none_and (f ∷ fs) gs a b = absurd cc
-
 pub forms_whole : (p : Program) → constant_forms whole p ≡ []
 forms_whole [] = refl
 forms_whole (tree.StructItem s ∷ others) = forms_whole others
 forms_whole (tree.UnionItem u ∷ others) = forms_whole others
 forms_whole (tree.FunctionItem f ∷ others) = forms_whole others
 forms_whole (tree.GlobalItem x ∷ others) =
-    none_and (form_if (takes_type whole x.of && takes_initial whole x.initial) (initial_form whole x.initial)) (constant_forms whole others)
+    both_none (form_if (takes_type whole x.of && takes_initial whole x.initial) (initial_form whole x.initial)) (constant_forms whole others)
     (form_whole (takes_type whole x.of && takes_initial whole x.initial) x.initial) (forms_whole others)

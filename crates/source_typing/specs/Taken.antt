@@ -15,11 +15,13 @@ use Rattle.cyc_tree.specs.Tree as tree
 use Rattle.cyc_tree.specs.declared.name.Sign.TheVariants as sign
 
 pub record Taken : Type 0 where
-  -- structs without region parameters, and their members
+  -- structs, and their members
   pub structs : Bool
   -- thin pointers, `NULL`, `*e`, `&e`
   pub pointers : Bool
-  -- the heap and lexical regions: handles, making, effects, bounds, region parameters
+  -- region parameters of structs, and the region arguments of their types
+  pub parameters : Bool
+  -- the heap and lexical regions: handles, making, effects, bounds
   pub regions : Bool
   -- fat pointers, arrays, strings, subscripts
   pub arrays : Bool
@@ -32,7 +34,7 @@ pub record Taken : Type 0 where
 
 -- functions and globals of integers, and all statements on integers
 abbrev pub integers : Taken
-integers = record { structs = false; pointers = false; regions = false; arrays = false; unions = false; unique = false; keys = false }
+integers = record { structs = false; pointers = false; parameters = false; regions = false; arrays = false; unions = false; unique = false; keys = false }
 
 -- those, and thin pointers to integers and to such pointers
 abbrev pub thin_pointers : Taken
@@ -42,17 +44,21 @@ thin_pointers = record integers { pointers = true }
 abbrev pub structures : Taken
 structures = record thin_pointers { structs = true }
 
+-- and structs with region parameters
+abbrev pub region_structures : Taken
+region_structures = record structures { parameters = true }
+
 -- and the heap and lexical regions: handles, makings, effects and bounds
 abbrev pub with_regions : Taken
-with_regions = record structures { regions = true }
+with_regions = record region_structures { regions = true }
 
 -- What the compiler and the evaluator take today: the one list that says so. Each further form of the language is added here.
 abbrev pub supported : Taken
-supported = structures
+supported = region_structures
 
 -- the whole language
 abbrev pub whole : Taken
-whole = record { structs = true; pointers = true; regions = true; arrays = true; unions = true; unique = true; keys = true }
+whole = record { structs = true; pointers = true; parameters = true; regions = true; arrays = true; unions = true; unique = true; keys = true }
 
 -- ---- what is always at fault at a place
 
@@ -87,7 +93,7 @@ refused_constant (p ∷ ps) at = Constant.Number at 0 false
 
 abbrev pub takes_arguments : Taken → List tree.RegionName → Bool
 takes_arguments k [] = true
-takes_arguments k (r ∷ rs) = k.regions
+takes_arguments k (r ∷ rs) = k.parameters
 
 abbrev pub takes_base : Taken → tree.Base → Bool
 takes_base k tree.Int = true

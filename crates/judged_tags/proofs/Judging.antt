@@ -1,30 +1,32 @@
 -- How a struct is judged, from its members.
 use Rattle.std.proofs.Common.{◌≡◌, ℕ, Bool, true, false, List, [], ◌∷◌, ◌++◌, refl, sym, ap, ◌∙◌, append_assoc}
 use Rattle.std.specs.List.{list_all}
-use Rattle.std.specs.Prelude.{None, Option, Some, if◌then◌else◌, is_none, is_some, not, ◌&&◌, ◌||◌}
+use Rattle.std.specs.Prelude.{None, Option, Some, if◌then◌else◌, is_none, is_some, length, not, ◌&&◌, ◌||◌}
 use Rattle.cyc_tree.specs.Tree.{Structure, TypeName}
 use Rattle.cyc_types.specs.Tags.{member_of, members_of}
 use Rattle.cyc_types.specs.declared.tag.Member.{Member}
 use Rattle.source_typing.specs.Extents.{fits_bytes}
 use Rattle.source_typing.specs.Faults.{Fault, earliest, own_after, size_rule, sooner_of, test}
-use Rattle.source_typing.specs.Scope.{Env, at_item}
+use Rattle.source_typing.proofs.RegionNames.{written_alike}
+use Rattle.source_typing.specs.Scope.{Env}
 use Rattle.source_typing.specs.Tables.{OfTag, Part, Tables}
-use Rattle.source_typing.specs.Tags.{all_typed, member_faults, member_type, parts_by, repeated, struct_bytes, struct_sized, tag_entry, tag_faults}
-use Rattle.source_typing.specs.Taken.{Taken, are_members, refused_type, takes_arguments, takes_structure, takes_type, type_taken}
+use Rattle.source_typing.specs.Tags.{all_typed, member_faults, member_fitting, member_type, parts_by, region_parameters, repeated, settled_alone}
+use Rattle.source_typing.specs.Tags.{struct_bytes, struct_sized, tag_entry, tag_faults, tag_scope}
+use Rattle.source_typing.specs.Taken.{Taken, refused_type, takes_type, type_taken}
 use Rattle.source_typing.specs.Types.{StaticType}
-use Rattle.source_typing.specs.Verdicts.{Faulty, Of, Unjudged, Verdict, faults_of, known}
+use Rattle.source_typing.specs.Verdicts.{Faulty, Of, Unjudged, Verdict, after, faults_of, known}
+use Rattle.source_typing.specs.Written.{RegionNamed}
 use Rattle.type_verdicts.proofs.Earliest.{earliest_of_both, first_joined, found_sooner, sooner_some}
 use Rattle.type_verdicts.proofs.Shortened.{shortened_after}
 use Rattle.type_verdicts.specs.Faults.{first_of, sooner_found}
-use Rattle.type_verdicts.specs.Taken.{taken_of}
 use Rattle.type_verdicts.specs.Verdicts.{Is, Short, fault_in, short_after, shortened}
-use Rattle.judged_tags.specs.Members.{type_alone}
+use Rattle.judged_tags.specs.Members.{scoped, type_alone}
+use Rattle.judged_tags.specs.Parameters.{SameNames}
 use Rattle.judged_tags.specs.Tags.{fits_as, known_short, member_by, or_own}
-use Rattle.judged_tags.proofs.FirstKnown.{clean_none}
+use Rattle.judged_tags.proofs.HeadTypes.{clean_none}
 use Rattle.cyc_tree.specs.Tree as tree
 use Rattle.type_verdicts.specs.Faults as found
 use Rattle.type_verdicts.specs.declared.fault.Fault as code
-use Rattle.type_verdicts.specs.declared.taken.Taken as code_taken
 
 -- ---- what is known of a phrase
 
@@ -73,7 +75,24 @@ module _ (e : Env) (m : tree.Member) (ms : List tree.Member) (of : Short StaticT
       ∙ ap (first_of found) (sym (earliest_of_both (faults_of (member_type e false m.of)) (member_faults e false ms)))
       ∙ so_far
 
--- ---- a struct
+-- by region names that mean the same
+module _ (g : Tables) (i : ℕ) (a b : List RegionNamed) (same : SameNames a b) where
+  type_alike : (t : TypeName) → member_type (scoped g i a) false t ≡ member_type (scoped g i b) false t
+  type_alike t = ap (λ v. after (after v (settled_alone t.at)) (member_fitting (scoped g i b) false t.at)) (written_alike a b same g t)
+
+  pub parts_alike : (ms : List tree.Member) → parts_by (scoped g i a) false ms ≡ parts_by (scoped g i b) false ms
+  parts_alike [] = refl
+  parts_alike (m ∷ ms) =
+      ap (λ (v : Verdict StaticType). record { name = m.name.text; type = known v } ∷ parts_by (scoped g i a) false ms) (type_alike m.of)
+      ∙ ap (λ (ps : List Part). record { name = m.name.text; type = known (member_type (scoped g i b) false m.of) } ∷ ps) (parts_alike ms)
+
+  pub faults_alike : (ms : List tree.Member) → member_faults (scoped g i a) false ms ≡ member_faults (scoped g i b) false ms
+  faults_alike [] = refl
+  faults_alike (m ∷ ms) =
+      ap (λ v. faults_of v ++ member_faults (scoped g i a) false ms) (type_alike m.of)
+      ∙ ap (λ fs. faults_of (member_type (scoped g i b) false m.of) ++ fs) (faults_alike ms)
+
+-- ---- faults
 
 -- the faults that were found, or else its own
 pub earliest_own : (own fs : List Fault) → earliest (own_after own fs) ≡ or_own (earliest fs) (earliest own)
@@ -86,62 +105,89 @@ earliest_own own (f ∷ fs) = by (earliest fs)
 
 -- ---- a member's type
 
+-- by what its type alone is
+pub type_by : (k : Taken) (g : Tables) (names : List RegionNamed) (t : TypeName) (declared : StaticType → Bool) (s : Short StaticType)
+    → s ≡ shortened (type_alone g names (type_taken k t))
+    → short_after s (λ a. shortened (fits_as declared (type_taken k t).at a)) ≡ shortened (member_by declared g names (type_taken k t))
+type_by k g names t declared s is =
+    ap (λ o. short_after o (λ a. shortened (fits_as declared (type_taken k t).at a))) is
+    ∙ sym (shortened_after (type_alone g names (type_taken k t)) (fits_as declared (type_taken k t).at))
+
 -- one whose type alone is in order
-pub type_fits : (k : Taken) (g : Tables) (t : TypeName) (declared : StaticType → Bool) (s : StaticType) → Is s ≡ shortened (type_alone g (type_taken k t))
-    → shortened (fits_as declared t.at s) ≡ shortened (member_by declared g (type_taken k t))
-type_fits k g t declared s is =
-    ap (λ at. shortened (fits_as declared at s)) (sym (taken_at k t))
-    ∙ ap (λ o. short_after o (λ a. shortened (fits_as declared (type_taken k t).at a))) is
-    ∙ sym (shortened_after (type_alone g (type_taken k t)) (fits_as declared (type_taken k t).at))
+pub type_fits : (k : Taken) (g : Tables) (names : List RegionNamed) (t : TypeName) (declared : StaticType → Bool) (s : StaticType)
+    → Is s ≡ shortened (type_alone g names (type_taken k t)) → shortened (fits_as declared t.at s) ≡ shortened (member_by declared g names (type_taken k t))
+type_fits k g names t declared s is =
+    ap (λ at. shortened (fits_as declared at s)) (sym (taken_at k t)) ∙ type_by k g names t declared (Is s) is
 
--- ---- a struct that is taken
+-- ---- a struct
 
-pub regions_none : (k : code_taken.Taken) (s : Structure) → takes_structure (taken_of k) (taken_of k).structs s ≡ true → s.regions ≡ []
-regions_none k s h = by k.structs s.regions h
-  where
-    by : (structs : Bool) (rs : List tree.RegionName) → (structs && (takes_arguments (taken_of k) rs && are_members s.members)) ≡ true → rs ≡ []
-    by structs [] h = refl
-    by true (r ∷ rs) h = absurd cc
-    by false (r ∷ rs) h = absurd cc
+-- a struct with other members
+abbrev pub with_members : Structure → List tree.Member → Structure
+with_members s ms = record s { members = ms }
 
--- a struct without region parameters
-abbrev pub plain_struct : ℕ → tree.Name → List tree.Member → Structure
-plain_struct at tag ms = record { at = at; tag = tag; regions = []; members = ms }
-
-module _ (g here : Tables) (i at : ℕ) (tag : tree.Name) (ms : List tree.Member) (ps : List Part) (fault second now : Option code.Fault)
-    (parts : ps ≡ parts_by (at_item false g i) false ms)
-    (of_members : found.faults_of fault ≡ earliest (member_faults (at_item false g i) false ms))
+module _ (g here : Tables) (i : ℕ) (s : Structure) (ms : List tree.Member) (names : List RegionNamed) (ps : List Part)
+    (regions fault second now : Option code.Fault) (same : SameNames names (region_parameters s).0)
+    (of_regions : found.faults_of regions ≡ earliest (region_parameters s).1) (parts : ps ≡ parts_by (scoped g i names) false ms)
+    (of_members : found.faults_of fault ≡ earliest (member_faults (scoped g i names) false ms))
     (of_second : found.faults_of second ≡ earliest (repeated [] ms))
     (bytes : (s : Structure) (ps : List Part) → struct_bytes g s ps ≡ struct_bytes here s ps)
     (is : found.faults_of now
-    ≡ or_own (found.faults_of (sooner_found fault second)) (earliest (struct_sized here false (plain_struct at tag ms) ps))) where
-  abbrev others : List Fault
-  others = member_faults (at_item false g i) false ms ++ repeated [] ms
+    ≡ or_own (found.faults_of (sooner_found regions (sooner_found fault second))) (earliest (struct_sized here false (with_members s ms) ps))) where
+  abbrev e : Env
+  e = tag_scope g i (with_members s ms)
 
-  pub struct_fault : found.faults_of now ≡ earliest (tag_faults g i false (plain_struct at tag ms))
+  abbrev own : List Fault
+  own = member_faults e false ms ++ repeated [] ms
+
+  here_parts : ps ≡ parts_by e false ms
+  here_parts = parts ∙ parts_alike g i names (region_parameters s).0 same ms
+
+  own_found : found.faults_of (sooner_found fault second) ≡ earliest own
+  own_found =
+      found_sooner fault second
+      ∙ ap (λ o. first_of o (found.faults_of second)) (of_members ∙ ap earliest (faults_alike g i names (region_parameters s).0 same ms))
+      ∙ ap (first_of (earliest (member_faults e false ms))) of_second
+      ∙ sym (earliest_of_both (member_faults e false ms) (repeated [] ms))
+
+  abbrev all : List Fault
+  all = (region_parameters s).1 ++ member_faults e false ms ++ repeated [] ms
+
+  parts_found : found.faults_of (sooner_found regions (sooner_found fault second)) ≡ earliest all
+  parts_found =
+      found_sooner regions (sooner_found fault second)
+      ∙ ap (λ o. first_of o (found.faults_of (sooner_found fault second))) of_regions
+      ∙ ap (first_of (earliest (region_parameters s).1)) own_found
+      ∙ sym (earliest_of_both (region_parameters s).1 own)
+      ∙ ap earliest (sym (append_assoc (region_parameters s).1 (member_faults e false ms) (repeated [] ms)))
+
+  pub struct_fault : found.faults_of now ≡ earliest (tag_faults g i false (with_members s ms))
   struct_fault =
       is
-      ∙ ap (λ o. or_own o (earliest (struct_sized here false (plain_struct at tag ms) ps)))
-      (found_sooner fault second
-      ∙ ap (λ o. first_of o (found.faults_of second)) of_members
-      ∙ ap (first_of (earliest (member_faults (at_item false g i) false ms))) of_second
-      ∙ sym (earliest_of_both (member_faults (at_item false g i) false ms) (repeated [] ms)))
-      ∙ ap (λ ps. or_own (earliest others) (earliest (struct_sized here false (plain_struct at tag ms) ps))) parts
-      ∙ ap (λ n. or_own (earliest others)
-      (earliest (test (not (all_typed (parts_by (at_item false g i) false ms)) || fits_bytes n) size_rule tag.at)))
-      (sym (bytes (plain_struct at tag ms) (parts_by (at_item false g i) false ms)))
-      ∙ sym (earliest_own (struct_sized g false (plain_struct at tag ms) (parts_by (at_item false g i) false ms)) others)
+      ∙ ap (λ o. or_own o (earliest (struct_sized here false (with_members s ms) ps))) parts_found
+      ∙ ap (λ ps. or_own (earliest all) (earliest (struct_sized here false (with_members s ms) ps))) here_parts
+      ∙ ap (λ n. or_own (earliest all)
+      (earliest (test (not (all_typed (parts_by e false ms)) || fits_bytes n) size_rule s.tag.at)))
+      (sym (bytes (with_members s ms) (parts_by e false ms)))
+      ∙ sym (earliest_own (struct_sized g false (with_members s ms) (parts_by e false ms)) all)
 
-  pub struct_entry : (sound : Bool) → sound ≡ is_none now
-      → OfTag (record { text = tag.text; is_union = false; order = i; regions = 0; parts = ps; sound = sound })
-      ≡ tag_entry g i false (plain_struct at tag ms)
-  struct_entry sound is_sound =
-      ap (λ (ps : List Part). OfTag (record { text = tag.text; is_union = false; order = i; regions = 0; parts = ps; sound = sound })) parts
-      ∙ ap (λ (b : Bool). OfTag (record {
-        text = tag.text;
+  pub struct_entry : (sound : Bool) (n : ℕ) → sound ≡ is_none now → n ≡ length s.regions
+      → OfTag (record { text = s.tag.text; is_union = false; order = i; regions = n; parts = ps; sound = sound })
+      ≡ tag_entry g i false (with_members s ms)
+  struct_entry sound n is_sound count =
+      ap (λ (ps : List Part). OfTag (record { text = s.tag.text; is_union = false; order = i; regions = n; parts = ps; sound = sound })) here_parts
+      ∙ ap (λ (n : ℕ). OfTag (record {
+        text = s.tag.text;
         is_union = false;
         order = i;
-        regions = 0;
-        parts = parts_by (at_item false g i) false ms;
+        regions = n;
+        parts = parts_by e false ms;
+        sound = sound;
+      })) count
+      ∙ ap (λ (b : Bool). OfTag (record {
+        text = s.tag.text;
+        is_union = false;
+        order = i;
+        regions = length s.regions;
+        parts = parts_by e false ms;
         sound = b;
-      })) (is_sound ∙ clean_none now (tag_faults g i false (plain_struct at tag ms)) struct_fault)
+      })) (is_sound ∙ clean_none now (tag_faults g i false (with_members s ms)) struct_fault)

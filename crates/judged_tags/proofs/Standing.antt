@@ -14,15 +14,13 @@ use Rattle.source_typing.specs.Declarations.{tag_earlier}
 use Rattle.source_typing.specs.Programs.{Judged, builtins, entries, first_entry, first_from, judged_tag, name_of}
 use Rattle.source_typing.specs.Tables.{Entry, Named, OfBuiltin, OfFunction, OfOther, OfTag, OfValue, Tables, Tag, as_tag, each_part, find, parts_of_tag, tag_in}
 use Rattle.source_typing.specs.Tags.{tag_scope}
-use Rattle.source_typing.specs.Taken.{item_taken, members_taken, only_taken}
-use Rattle.source_typing.specs.Written.{regions_of_tag}
+use Rattle.source_typing.specs.Taken.{item_taken, only_taken}
 use Rattle.type_verdicts.specs.Taken.{taken_of}
 use Rattle.type_verdicts.specs.declared.taken.Taken as code_taken
 use Rattle.written_types.specs.Naming.{has_tag_name, tag_named}
 use Rattle.written_types.specs.Tagged.{IsNamed, tag_name_of}
 use Rattle.written_types.specs.declared.tag_names.TagNames.{TagNames}
 use Rattle.written_types.specs.declared.tagged.TagName.{TagName}
-use Rattle.judged_tags.proofs.FirstKnown.{no_regions}
 use Rattle.judged_tags.proofs.NextNames.{entries_more, find_both, or_else}
 use Rattle.judged_tags.specs.FirstKnown.{AreNames, AreSince, bare_tags, first_tags}
 use Rattle.judged_tags.specs.Tags.{AreAllJudged, AreBefore, AreJudged, IsBefore, IsFound, JudgedTo, StandsAt, found_parts, known_name, or_first}
@@ -45,7 +43,7 @@ before_own i (n ∷ ns) (own, others) = (by n.entry own, before_own i ns others)
 
 -- of one that is found
 abbrev if_before : ℕ → Option Entry → Type 0
-if_before i (Some (OfTag t)) = (nat_lt t.order i ≡ true) × (t.regions ≡ 0)
+if_before i (Some (OfTag t)) = (nat_lt t.order i ≡ true)
 if_before i o = Unit {0}
 
 found_before : (i : ℕ) (g : Tables) (x : List ℕ) → AreBefore i g → if_before i (find g x)
@@ -62,17 +60,6 @@ found_before i (n ∷ ns) x (own, others) = by (bytes_eq n.name x) (found_before
     by : (b : Bool) → if_before i (find ns x) → if_before i (if b then Some n.entry else find ns x)
     by true later = of n.entry own
     by false later = later
-
-plain_before : (i : ℕ) (o : Option Entry) → if_before i o → regions_of_tag (as_tag o) ≡ 0
-plain_before i None before = refl
-plain_before i (Some (OfTag t)) before = before.1
-plain_before i (Some (OfValue w)) before = refl
-plain_before i (Some (OfFunction s)) before = refl
-plain_before i (Some (OfBuiltin k)) before = refl
-plain_before i (Some OfOther) before = refl
-
-pub plain_all : (i : ℕ) (g : Tables) (x : List ℕ) → AreBefore i g → regions_of_tag (tag_in g x) ≡ 0
-plain_all i g x before = plain_before i (find g x) (found_before i g x before)
 
 -- ---- tags that stand later
 
@@ -130,7 +117,7 @@ named_both (Some e) later n m is others = sym (ap (λ n. or_first n m) is ∙ or
 
 earlier_both : (i : ℕ) (o later : Option Entry) → if_before i o → if_later i later → is_some (as_tag (or_else o later)) ≡ true
     → tag_earlier i (as_tag (or_else o later)) ≡ is_some (as_tag o)
-earlier_both i (Some (OfTag t)) later before after h = before.0
+earlier_both i (Some (OfTag t)) later before after h = before
 earlier_both i (Some (OfValue w)) later before after h = absurd cc
 earlier_both i (Some (OfFunction s)) later before after h = absurd cc
 earlier_both i (Some (OfBuiltin k)) later before after h = absurd cc
@@ -141,11 +128,6 @@ earlier_both i None (Some (OfValue w)) before after h = absurd cc
 earlier_both i None (Some (OfFunction s)) before after h = absurd cc
 earlier_both i None (Some (OfBuiltin k)) before after h = absurd cc
 earlier_both i None (Some OfOther) before after h = absurd cc
-
-plain_both : (o later : Option Entry) → regions_of_tag (as_tag o) ≡ 0 → (o ≡ None → regions_of_tag (as_tag later) ≡ 0)
-    → regions_of_tag (as_tag (or_else o later)) ≡ 0
-plain_both None later own others = others refl
-plain_both (Some e) later own others = own
 
 module _ (k : code_taken.Taken) (all : Program) (i : ℕ) (items : Program) (done : JudgedTags) (first : TagNames)
     (to : JudgedTo all i (only_taken (taken_of k) items) done) (names : AreNames first (first_tags all)) where
@@ -167,10 +149,6 @@ module _ (k : code_taken.Taken) (all : Program) (i : ℕ) (items : Program) (don
         ap tag_name_of (find_both before later x)
         ∙ named_both (find before x) (find later x) (tag_named done.names x) (tag_named first x) (to.are.names x)
         (λ h. ap tag_name_of (sym (left_of x h)) ∙ (names x).is);
-    plain =
-        ap (λ o. regions_of_tag (as_tag o)) (find_both before later x)
-        ∙ plain_both (find before x) (find later x) (plain_all i before x are_before)
-        (λ h. ap (λ o. regions_of_tag (as_tag o)) (sym (left_of x h)) ∙ (names x).plain);
   }
 
   earlier_at : (x : List ℕ) → is_some (tag_in (before ++ later) x) ≡ true
@@ -208,7 +186,7 @@ before_more i [] n before own = (own, tt)
 before_more i (m ∷ ms) n (of, others) own = (by m.entry of, before_more i ms n others own)
   where
     by : (e : Entry) → IsBefore i m.name e → IsBefore (suc i) m.name e
-    by (OfTag t) (own, (below, plain)) = (own, (grind (arith, nat_tests, below), plain))
+    by (OfTag t) (own, below) = (own, grind (arith, nat_tests, below))
     by (OfValue w) own = tt
     by (OfFunction s) own = tt
     by (OfBuiltin k) own = tt
@@ -219,8 +197,8 @@ below_next i = grind (arith, nat_tests)
 
 judged_before : (k : code_taken.Taken) (g : Tables) (i : ℕ) (item : Item)
     → let j = judged_tag g i (item_taken (taken_of k) item) in IsBefore (suc i) j.entry.name j.entry.entry
-judged_before k g i (tree.StructItem s) = (refl, (below_next i, no_regions k s (members_taken (taken_of k) s.members)))
-judged_before k g i (tree.UnionItem s) = (refl, (below_next i, refl))
+judged_before k g i (tree.StructItem s) = (refl, below_next i)
+judged_before k g i (tree.UnionItem s) = (refl, below_next i)
 judged_before k g i (tree.GlobalItem x) = tt
 judged_before k g i (tree.FunctionItem f) = tt
 
@@ -287,11 +265,7 @@ judged_first all done are = record {
     by x false false h = refl
 
 pub judged_last : (all : Program) (i : ℕ) (done : JudgedTags) → JudgedTo all i [] done → AreAllJudged all done
-judged_last all i done to = record {
-  are = subst (λ js. AreJudged js done) to.goes to.are;
-  plain = λ x. subst (λ js. regions_of_tag (tag_in (builtins (entries js)) x) ≡ 0) to.goes
-      (plain_all i (builtins (entries to.js)) x (tt, (tt, to.before)));
-}
+judged_last all i done to = record { are = subst (λ js. AreJudged js done) to.goes to.are }
 
 -- what the functions are that every program has
 pub known_builtins : (names : TagNames) → ((others : Tables) → AreSince names others (builtins others)) → (x : List ℕ)

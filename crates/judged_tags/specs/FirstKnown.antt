@@ -1,6 +1,6 @@
 -- What is known of the names of a program before its tags are judged.
-use Rattle.std.specs.Prelude.{Bool, List, false, if◌then◌else◌, true, ℕ, ◌≡◌}
-use Rattle.cyc_tree.specs.Tree.{Program}
+use Rattle.std.specs.Prelude.{Bool, List, false, if◌then◌else◌, length, true, ℕ, ◌≡◌, [], ◌∷◌}
+use Rattle.cyc_tree.specs.Tree.{Program, RegionName}
 use Rattle.source_typing.specs.Programs.{bare_from, builtins, first_from}
 use Rattle.source_typing.specs.Tables.{Tables, find}
 use Rattle.written_types.specs.Naming.{has_tag_name, tag_named}
@@ -9,17 +9,27 @@ use Rattle.written_types.specs.declared.tag_names.TagNames.{TagNames}
 use Rattle.written_types.specs.declared.tagged.TagName.{TagName}
 use Rattle.written_types.specs.declared.tagged.TagName.TheVariants as code
 
--- each name means what it means by the rules, and no tag has region parameters
+-- each name means what it means by the rules
 abbrev pub AreNames : TagNames → Tables → Type 0
 AreNames names g = (x : List ℕ) → IsNamed g x (tag_named names x)
 
 abbrev pub is_judged : TagName → Bool
-is_judged code.NotJudged = false
+is_judged (code.NotJudged n) = false
 is_judged n = true
 
 -- no tag is at fault
 abbrev pub AreBare : TagNames → Tables → Type 0
 AreBare names g = AreNames names g × ((x : List ℕ) → is_judged (tag_named names x) ≡ true)
+
+-- how many region parameters a tag has that asks for the region arguments that are written, if any are
+abbrev pub count_by : ℕ → List RegionName → ℕ
+count_by n [] = n
+count_by n (r ∷ rs) = length (r ∷ rs)
+
+-- what a name means where the count of these region arguments doesn't matter
+abbrev pub any_count : TagName → List RegionName → TagName
+any_count (code.Tag union n) rs = code.Tag union (count_by n rs)
+any_count n rs = n
 
 -- the tags of a program, and then with what is first known of them
 abbrev pub bare_tags : Program → Tables

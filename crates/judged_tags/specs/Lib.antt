@@ -1,3 +1,4 @@
 pub mod FirstKnown
 pub mod Members
+pub mod Parameters
 pub mod Tags

@@ -1,20 +1,25 @@
 -- The members of a struct, one by one.
-use Rattle.std.specs.Prelude.{List, Option, ℕ, ◌≡◌, []}
+use Rattle.std.specs.Prelude.{List, Option, false, ℕ, ◌≡◌, []}
 use Rattle.cyc_tree.specs.Tree.{Member, TypeName}
 use Rattle.source_typing.specs.Faults.{earliest}
+use Rattle.source_typing.specs.Scope.{Env, at_item}
 use Rattle.source_typing.specs.Tables.{Tables}
 use Rattle.source_typing.specs.Tags.{is_named, repeated, settled_alone}
 use Rattle.source_typing.specs.Types.{StaticType}
 use Rattle.source_typing.specs.Verdicts.{Verdict, after}
-use Rattle.source_typing.specs.Written.{written}
+use Rattle.source_typing.specs.Written.{RegionNamed, written}
 use Rattle.type_verdicts.specs.Faults.{faults_of, first_of}
 use Rattle.type_verdicts.specs.declared.fault.Fault as code
 use Rattle.written_types.specs.Naming.{has_tag_name}
 use Rattle.written_types.specs.declared.tag_names.TagNames.{TagNames}
 
--- a type that takes no missing regions from another one, where no region name is known
-abbrev pub type_alone : Tables → TypeName → Verdict StaticType
-type_alone g t = after (written g [] t) (settled_alone t.at)
+-- an item's scope, with these region names
+abbrev pub scoped : Tables → ℕ → List RegionNamed → Env
+scoped g i names = record (at_item false g i) { names = names }
+
+-- a type that takes no missing regions from another one
+abbrev pub type_alone : Tables → List RegionNamed → TypeName → Verdict StaticType
+type_alone g names t = after (written g names t) (settled_alone t.at)
 
 -- these are the names of these members
 abbrev pub AreNamed : List Member → TagNames → Type 0

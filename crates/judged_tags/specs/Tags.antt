@@ -11,7 +11,7 @@ use Rattle.source_typing.specs.Tables.{Entry, Named, OfOther, OfTag, Part, Table
 use Rattle.source_typing.specs.Tags.{fits_member, struct_bytes, tag_entry, tag_faults}
 use Rattle.source_typing.specs.Types.{StaticType}
 use Rattle.source_typing.specs.Verdicts.{Verdict, after, if_fits}
-use Rattle.source_typing.specs.Written.{regions_of_tag}
+use Rattle.source_typing.specs.Written.{RegionNamed}
 use Rattle.type_verdicts.specs.Faults.{faults_of}
 use Rattle.type_verdicts.specs.Verdicts.{Is, NotJudged, Short, Wrong}
 use Rattle.written_types.specs.Naming.{has_tag_name, tag_named}
@@ -35,7 +35,7 @@ or_first n first = n
 abbrev pub known_name : TagNames → TagNames → List ℕ → TagName
 known_name judged first x = or_first (tag_named judged x) (tag_named first x)
 
--- each name means what it means by the rules, and no tag has region parameters
+-- each name means what it means by the rules
 abbrev pub AreKnown : TagNames → TagNames → Tables → Type 0
 AreKnown judged first g = (x : List ℕ) → IsNamed g x (known_name judged first x)
 
@@ -45,8 +45,8 @@ AreKnown judged first g = (x : List ℕ) → IsNamed g x (known_name judged firs
 abbrev pub fits_as : (StaticType → Bool) → ℕ → StaticType → Verdict StaticType
 fits_as declared at t = if_fits (fits_member false t && declared t) at t
 
-abbrev pub member_by : (StaticType → Bool) → Tables → TypeName → Verdict StaticType
-member_by declared g t = after (type_alone g t) (fits_as declared t.at)
+abbrev pub member_by : (StaticType → Bool) → Tables → List RegionNamed → TypeName → Verdict StaticType
+member_by declared g names t = after (type_alone g names t) (fits_as declared t.at)
 
 abbrev pub known_short : Short StaticType → Option StaticType
 known_short (Is t) = Some t
@@ -93,9 +93,9 @@ pub record AreJudged (js : List Judged) (done : code_tags.JudgedTags) : Type 0 w
   pub tables : tables_of done.tables ≡ tags_first (builtins (entries js))
   pub fault : faults_of done.fault ≡ earliest (all_tag_faults js)
 
--- a struct or union that was judged before so many items: it has its own name, and no region parameters
+-- a struct or union that was judged before so many items: it has its own name
 abbrev pub IsBefore : ℕ → List ℕ → Entry → Type 0
-IsBefore i x (OfTag t) = (t.text ≡ x) × ((nat_lt t.order i ≡ true) × (t.regions ≡ 0))
+IsBefore i x (OfTag t) = (t.text ≡ x) × (nat_lt t.order i ≡ true)
 IsBefore i x e = Unit {0}
 
 abbrev pub AreBefore : ℕ → Tables → Type 0
@@ -114,4 +114,3 @@ pub record JudgedTo (all : Program) (i : ℕ) (rest : Program) (done : code_tags
 -- all are judged
 pub record AreAllJudged (all : Program) (done : code_tags.JudgedTags) : Type 0 where
   pub are : AreJudged (judged_tags all) done
-  pub plain : (x : List ℕ) → regions_of_tag (tag_in (builtins (entries (judged_tags all))) x) ≡ 0

@@ -1,24 +1,27 @@
 // What is known of the names of a program before its tags are judged.
 
-ghost use Rattle.std.specs.Prelude.{◌≡◌, ◌&&◌, ◌++◌, IfOk, Some, [], false, if◌then◌else◌, map, ℕ};
+ghost use Rattle.std.specs.Prelude.{◌≡◌, ◌&&◌, ◌++◌, IfOk, List, Some, [], false, if◌then◌else◌, length, map, true, ℕ};
+ghost use Rattle.cyc_tree.specs.Tree as tree;
 ghost use Rattle.cyc_tree.specs.Tree.{StructItem};
-ghost use Rattle.cyc_tree.specs.View.{member_tree, name_tree, program_item_tree, program_tree, structure_tree, type_tree};
+ghost use Rattle.cyc_tree.specs.View.{base_tree, member_tree, name_tree, program_item_tree, program_tree, region_tree, structure_tree, type_tree};
 ghost use Rattle.source_typing.specs.Faults.{is_clean};
 ghost use Rattle.source_typing.specs.Programs.{bare_entry, builtins, first_entry, name_of};
-ghost use Rattle.source_typing.specs.Scope.{at_item};
 ghost use Rattle.source_typing.specs.Tables.{Tables};
-ghost use Rattle.source_typing.specs.Tags.{head_faults, head_type, repeated};
-ghost use Rattle.source_typing.specs.Taken.{item_taken, members_taken, only_taken, takes_structure, type_taken};
+ghost use Rattle.source_typing.specs.Tags.{head_entry, head_faults, head_type, repeated};
+ghost use Rattle.source_typing.specs.Taken.{item_taken, members_taken, only_taken, structure_if, takes_structure, type_taken};
 ghost use Rattle.source_typing.specs.Verdicts as rules;
 ghost use Rattle.source_typing.specs.Taken as rules_taken;
 ghost use Rattle.type_verdicts.specs.Taken.{taken_of};
+ghost use Rattle.written_types.specs.Arguments.{written_arguments};
 ghost use Rattle.written_types.specs.Tagged.{tag_name_of};
-ghost use Rattle.type_verdicts.specs.declared.taken.Taken as code_taken;
 ghost use Rattle.written_types.specs.declared.tagged.TagName.TheVariants.{NotJudged, Tag};
-ghost use Rattle.judged_tags.specs.FirstKnown.{AreBare, AreNames, AreSince, bare_tags, first_tags};
+ghost use Rattle.judged_tags.specs.FirstKnown.{AreBare, AreNames, AreSince, any_count, bare_tags, count_by, first_tags};
+ghost use Rattle.judged_tags.specs.Members.{scoped};
 
 use crate::member::{fits_member, repeated_fault, type_alone};
-use cyc_tree::{Item, Member, Name, Structure, TypeName};
+use crate::parameters::region_parameters;
+use cyc_tree::{Base, Item, Member, Name, RegionName, Structure, TypeName};
+use scoped_types::RegionNames;
 use std::alloc::{AllocError, Global};
 use type_verdicts::{Taken, Verdict};
 use written_types::{TagName, TagNames, tag_of_type};
@@ -44,40 +47,134 @@ pub(crate) fn item_name(item: &Item) -> &Name
     }
 }
 
-/// What an item's name means by its own.
-fn bare_name(item: &Item) -> TagName
-    ensures { (k : rules_taken.Taken) (i : ℕ) → result ≡ tag_name_of (Some (bare_entry i (item_taken k (program_item_tree item.now)))) }
+/// Whether a struct is taken.
+pub(crate) fn takes_struct(taken: Taken, structure: &Structure) -> bool
+    ensures { result ≡ takes_structure (taken_of taken) (taken_of taken).structs (structure_tree structure.now) }
 {
-    match item {
-        Item::Struct(_) => TagName::Tag(false),
-        Item::Union(_) => TagName::Tag(true),
-        Item::Global(_) | Item::Function(_) => TagName::Other,
+    taken.structs
+        && (taken.parameters || structure.regions.is_empty())
+        && !structure.members.is_empty()
+}
+
+/// How many these are. A number over a u32 is want of memory.
+fn count_of(regions: &[RegionName]) -> Result<u32, AllocError>
+    ensures { IfOk result (λ n. n ≡ length (map region_tree regions.now)) }
+{
+    match u32::try_from(regions.len()) {
+        Ok(count) => Ok(count),
+        Err(_) => Err(AllocError),
     }
 }
 
-/// What the names of a program mean, where no tag is judged. Fails only where no host memory is left.
-pub(crate) fn bare_names<'p>(alloc: Global, items: &'p [Item]) -> Result<TagNames<'p>, AllocError>
-    ensures { (k : code_taken.Taken) → IfOk result (λ names. AreBare names (bare_tags (only_taken (taken_of k) (program_tree items.entry.now)))) }
+/// How many region parameters a struct has: one that isn't taken has none.
+fn parameter_count(taken: Taken, structure: &Structure) -> Result<u32, AllocError>
+    ensures { (ms : List tree.Member) → IfOk result (λ n. n ≡ length (structure_if
+        (takes_structure (taken_of taken) (taken_of taken).structs (structure_tree structure.now)) (structure_tree structure.now) ms).regions) }
+{
+    if takes_struct(taken, structure) {
+        let count = count_of(&structure.regions)?;
+        Ok(count)
+    } else {
+        Ok(0)
+    }
+}
+
+/// What the tag of a struct means by its own.
+fn bare_struct(taken: Taken, structure: &Structure) -> Result<TagName, AllocError>
+    ensures { (i : ℕ) → IfOk result (λ n. n
+        ≡ tag_name_of (Some (bare_entry i (item_taken (taken_of taken) (StructItem (structure_tree structure.now)))))) }
+{
+    let regions = parameter_count(taken, structure)?;
+    Ok(TagName::Tag {
+        is_union: false,
+        regions,
+    })
+}
+
+/// What an item's name means by its own. Fails only where a struct has 2^32 region parameters.
+fn bare_name(taken: Taken, item: &Item) -> Result<TagName, AllocError>
+    ensures { (i : ℕ) → IfOk result (λ n. n ≡ tag_name_of (Some (bare_entry i (item_taken (taken_of taken) (program_item_tree item.now))))) }
+{
+    match item {
+        Item::Struct(structure) => bare_struct(taken, structure),
+        Item::Union(_) => Ok(TagName::Tag {
+            is_union: true,
+            regions: 0,
+        }),
+        Item::Global(_) | Item::Function(_) => Ok(TagName::Other),
+    }
+}
+
+/// What the names of a program mean, where no tag is judged. Fails only where no host memory is left, or a struct has 2^32 region
+/// parameters.
+pub(crate) fn bare_names<'p>(
+    alloc: Global,
+    taken: Taken,
+    items: &'p [Item],
+) -> Result<TagNames<'p>, AllocError>
+    ensures { IfOk result (λ names. AreBare names (bare_tags (only_taken (taken_of taken) (program_tree items.entry.now)))) }
 {
     let mut names = builtin_names(alloc)?;
     'each: for item in items {
-        names.add(&item_name(item).text, bare_name(item))?;
+        let name = bare_name(taken, item)?;
+        names.add(&item_name(item).text, name)?;
     }
     Ok(names)
 }
 
-/// Whether a member has none of the faults that hang on no other tag. Fails only where no host memory is left.
+/// How many region parameters a tag has that asks for these region arguments, if there are any. Fails only where there are 2^32.
+fn count_by(regions: u32, arguments: &[RegionName]) -> Result<u32, AllocError>
+    ensures { IfOk result (λ n. n ≡ count_by regions (map region_tree arguments.now)) }
+{
+    if arguments.is_empty() {
+        return Ok(regions);
+    }
+    let count = count_of(arguments)?;
+    Ok(count)
+}
+
+/// How many region parameters a tag has that asks for the region arguments of a struct's type, if there are any. Fails only where there
+/// are 2^32.
+fn count_in(regions: u32, base: &Base) -> Result<u32, AllocError>
+    ensures { IfOk result (λ n. n ≡ count_by regions (written_arguments (base_tree base.now))) }
+{
+    match base {
+        Base::Struct(_, arguments) => {
+            let count = count_by(regions, arguments)?;
+            Ok(count)
+        }
+        _ => Ok(regions),
+    }
+}
+
+/// What the tag of a type means where the count of its region arguments doesn't matter. Fails only where there are 2^32.
+fn any_count(tag: TagName, of: &TypeName) -> Result<TagName, AllocError>
+    ensures { IfOk result (λ n. n ≡ any_count tag (written_arguments (type_tree of.now).base)) }
+{
+    match tag {
+        TagName::Tag { is_union, regions } => {
+            let regions = count_in(regions, &of.base)?;
+            Ok(TagName::Tag { is_union, regions })
+        }
+        TagName::NoName | TagName::NotJudged(_) | TagName::Other => Ok(tag),
+    }
+}
+
+/// Whether a member has none of the faults that hang on no other tag, where these region names are in scope. Fails only where no host
+/// memory is left.
 fn is_head_clean(
     alloc: Global,
     taken: Taken,
-    names: &TagNames<'_>,
+    tags: &TagNames<'_>,
+    names: &RegionNames<'_>,
     of: &TypeName,
 ) -> Result<bool, AllocError>
-    ensures { (g : Tables) (i : ℕ) → AreBare names.now g → IfOk result (λ b. b
-        ≡ is_clean (rules.faults_of (head_type (at_item false g i) false (type_taken (taken_of taken) (type_tree of.now))))) }
+    ensures { (g : Tables) (i : ℕ) → AreBare tags.now g → IfOk result (λ b. b
+        ≡ is_clean (rules.faults_of (head_type (scoped g i names.now) false (type_taken (taken_of taken) (type_tree of.now))))) }
 {
-    let tag = tag_of_type(taken, names, of);
-    match type_alone(alloc, taken, tag, of)? {
+    let tag = tag_of_type(taken, tags, of);
+    let asked = any_count(tag, of)?;
+    match type_alone(alloc, taken, asked, names, of)? {
         Verdict::Of(of) => Ok(fits_member(&of)),
         Verdict::Wrong(_) => Ok(false),
         Verdict::NotJudged => Ok(true),
@@ -91,94 +188,114 @@ fn are_both(one: bool, other: bool) -> bool
     one && other
 }
 
-/// Whether members have none of the faults that hang on no other tag. Fails only where no host memory is left.
+/// Whether members have none of the faults that hang on no other tag, where these region names are in scope. Fails only where no host
+/// memory is left.
 fn are_heads_clean(
     alloc: Global,
     taken: Taken,
-    names: &TagNames<'_>,
+    tags: &TagNames<'_>,
+    names: &RegionNames<'_>,
     members: &[Member],
 ) -> Result<bool, AllocError>
-    ensures { (g : Tables) (i : ℕ) → AreBare names.now g → IfOk result (λ b. b
-        ≡ is_clean (head_faults (at_item false g i) false (members_taken (taken_of taken) (map member_tree members.now)))) }
+    ensures { (g : Tables) (i : ℕ) → AreBare tags.now g → IfOk result (λ b. b
+        ≡ is_clean (head_faults (scoped g i names.now) false (members_taken (taken_of taken) (map member_tree members.now)))) }
 {
     let mut clean = true;
     'each: for member in members {
-        let own = is_head_clean(alloc, taken, names, &member.of)?;
+        let own = is_head_clean(alloc, taken, tags, names, &member.of)?;
         clean = are_both(clean, own);
     }
     Ok(clean)
 }
 
-/// Whether a struct that is taken has none of the faults that hang on no other tag. Fails only where no host memory is left.
-fn is_struct_clean(
+/// Whether members have none of the faults that hang on no other tag, and each name once, where these region names are in scope. Fails
+/// only where no host memory is left.
+fn are_members_clean(
     alloc: Global,
     taken: Taken,
-    names: &TagNames<'_>,
+    tags: &TagNames<'_>,
+    names: &RegionNames<'_>,
     members: &[Member],
 ) -> Result<bool, AllocError>
-    ensures { (g : Tables) (i : ℕ) → AreBare names.now g → IfOk result (λ b. b
-        ≡ is_clean (head_faults (at_item false g i) false (members_taken (taken_of taken) (map member_tree members.now))
+    ensures { (g : Tables) (i : ℕ) → AreBare tags.now g → IfOk result (λ b. b
+        ≡ is_clean (head_faults (scoped g i names.now) false (members_taken (taken_of taken) (map member_tree members.now))
         ++ repeated [] (members_taken (taken_of taken) (map member_tree members.now)))) }
 {
-    let clean = are_heads_clean(alloc, taken, names, members)?;
+    let clean = are_heads_clean(alloc, taken, tags, names, members)?;
     let second = repeated_fault(alloc, members)?;
     Ok(are_both(clean, second.is_none()))
 }
 
-/// Whether a struct is taken.
-pub(crate) fn takes_struct(taken: Taken, structure: &Structure) -> bool
-    ensures { result ≡ takes_structure (taken_of taken) (taken_of taken).structs (structure_tree structure.now) }
-{
-    taken.structs && structure.regions.is_empty() && !structure.members.is_empty()
-}
-
-/// What the tag of a struct means that is taken, by whether its declaration has no fault.
-pub(crate) fn struct_name(clean: bool) -> TagName
-    ensures { result ≡ (if clean then Tag false else NotJudged) }
+/// What the tag of a struct means that is taken and has so many region parameters, by whether its declaration has no fault.
+pub(crate) fn struct_name(clean: bool, regions: u32) -> TagName
+    ensures { result ≡ (if clean then Tag false regions else NotJudged regions) }
 {
     if clean {
-        TagName::Tag(false)
+        TagName::Tag {
+            is_union: false,
+            regions,
+        }
     } else {
-        TagName::NotJudged
+        TagName::NotJudged(regions)
     }
 }
 
-/// What the tag of a struct is first known to mean. Fails only where no host memory is left.
+/// What the tag of a struct that is taken is first known to mean. Fails only where no host memory is left, or it has 2^32 region
+/// parameters.
+fn taken_head(
+    alloc: Global,
+    taken: Taken,
+    tags: &TagNames<'_>,
+    structure: &Structure,
+) -> Result<TagName, AllocError>
+    ensures { (g : Tables) (i : ℕ) → AreBare tags.now g → let s = structure_tree structure.now in
+        IfOk result (λ n. n ≡ tag_name_of (Some (head_entry g i false (structure_if true s (members_taken (taken_of taken) s.members))))) }
+{
+    let parameters = region_parameters(alloc, &structure.regions)?;
+    let clean = are_members_clean(alloc, taken, tags, &parameters.names, &structure.members)?;
+    Ok(struct_name(
+        are_both(parameters.fault.is_none(), clean),
+        parameters.count,
+    ))
+}
+
+/// What the tag of a struct is first known to mean. Fails only where no host memory is left, or it has 2^32 region parameters.
 fn head_of_struct(
     alloc: Global,
     taken: Taken,
-    names: &TagNames<'_>,
+    tags: &TagNames<'_>,
     structure: &Structure,
 ) -> Result<TagName, AllocError>
-    ensures { (g : Tables) (i : ℕ) → AreBare names.now g → IfOk result (λ n. n
+    ensures { (g : Tables) (i : ℕ) → AreBare tags.now g → IfOk result (λ n. n
         ≡ tag_name_of (Some (first_entry g i (item_taken (taken_of taken) (StructItem (structure_tree structure.now)))))) }
 {
-    if !takes_struct(taken, structure) {
-        return Ok(TagName::NotJudged);
+    if takes_struct(taken, structure) {
+        let name = taken_head(alloc, taken, tags, structure)?;
+        Ok(name)
+    } else {
+        Ok(TagName::NotJudged(0))
     }
-    let clean = is_struct_clean(alloc, taken, names, &structure.members)?;
-    Ok(struct_name(clean))
 }
 
-/// What an item's name is first known to mean. Fails only where no host memory is left.
+/// What an item's name is first known to mean. Fails only where no host memory is left, or a struct has 2^32 region parameters.
 fn head_name(
     alloc: Global,
     taken: Taken,
-    names: &TagNames<'_>,
+    tags: &TagNames<'_>,
     item: &Item,
 ) -> Result<TagName, AllocError>
-    ensures { (g : Tables) (i : ℕ) → AreBare names.now g → IfOk result (λ n. n
+    ensures { (g : Tables) (i : ℕ) → AreBare tags.now g → IfOk result (λ n. n
         ≡ tag_name_of (Some (first_entry g i (item_taken (taken_of taken) (program_item_tree item.now))))) }
 {
     match item {
-        Item::Struct(structure) => head_of_struct(alloc, taken, names, structure),
-        Item::Union(_) => Ok(TagName::NotJudged),
+        Item::Struct(structure) => head_of_struct(alloc, taken, tags, structure),
+        Item::Union(_) => Ok(TagName::NotJudged(0)),
         Item::Global(_) | Item::Function(_) => Ok(TagName::Other),
     }
 }
 
 /// What the names of a program are first known to mean, by what they mean where no tag is judged: a tag is at fault here where its
-/// fault hangs on no other tag. Fails only where no host memory is left.
+/// fault hangs on no other tag. Fails only where no host memory is left, or a struct has 2^32 region parameters.
 pub(crate) fn head_names<'p>(
     alloc: Global,
     taken: Taken,

@@ -3,7 +3,7 @@
 ghost use Rattle.std.specs.Prelude.{◌≡◌, IfOk, [], false, map};
 ghost use Rattle.cyc_tree.specs.View.{member_tree, type_tree};
 ghost use Rattle.cyc_types.specs.Types.{static_type};
-ghost use Rattle.source_typing.specs.Faults.{earliest, name_rule, test};
+ghost use Rattle.source_typing.specs.Faults.{earliest};
 ghost use Rattle.source_typing.specs.Tables.{Tables};
 ghost use Rattle.source_typing.specs.Tags.{fits_member, repeated};
 ghost use Rattle.source_typing.specs.Taken.{type_taken};
@@ -13,6 +13,7 @@ ghost use Rattle.type_verdicts.specs.Verdicts.{short_of, shortened};
 ghost use Rattle.written_types.specs.Tagged.{TagIs};
 ghost use Rattle.judged_tags.specs.Members.{type_alone};
 
+use crate::parameters::unless_new;
 use cyc_tree::{Member, TypeName};
 use cyc_types::CType;
 use scoped_types::RegionNames;
@@ -20,18 +21,18 @@ use std::alloc::{AllocError, Global};
 use type_verdicts::{Fault, FaultKind, Taken, Verdict, sooner};
 use written_types::{TagName, TagNames, settled_alone, written_in};
 
-/// The type of a member, by what its tag means. Fails only where no host memory is left.
+/// The type of a member, by what its tag means, where these region names are in scope. Fails only where no host memory is left.
 pub(crate) fn type_alone<'p>(
     alloc: Global,
     taken: Taken,
     tag: TagName,
+    names: &RegionNames<'_>,
     of: &'p TypeName,
 ) -> Result<Verdict<CType<'p>>, AllocError>
     ensures { (g : Tables) → TagIs (taken_of taken) g (type_tree of.entry.now) tag → IfOk result (λ v. short_of static_type v
-        ≡ shortened (type_alone g (type_taken (taken_of taken) (type_tree of.entry.now)))) }
+        ≡ shortened (type_alone g names.now (type_taken (taken_of taken) (type_tree of.entry.now)))) }
 {
-    let names = RegionNames::new(alloc);
-    let found = written_in(alloc, taken, tag, &names, of)?;
+    let found = written_in(alloc, taken, tag, names, of)?;
     let settled = settled_alone(found, of.at)?;
     Ok(settled)
 }
@@ -43,20 +44,6 @@ pub(crate) fn fits_member(of: &CType<'_>) -> bool
     !of.is_void() && !of.is_key()
 }
 
-/// A second name, where it isn't new.
-fn unless_new(is_new: bool, at: u32) -> Option<Fault>
-    ensures { faults_of result ≡ earliest (test is_new name_rule at) }
-{
-    if is_new {
-        None
-    } else {
-        Some(Fault {
-            kind: FaultKind::Name,
-            at,
-        })
-    }
-}
-
 /// The earliest fault of second members of a name. Fails only where no host memory is left.
 pub(crate) fn repeated_fault(alloc: Global, members: &[Member]) -> Result<Option<Fault>, AllocError>
     ensures { IfOk result (λ f. faults_of f ≡ earliest (repeated [] (map member_tree members.now))) }
@@ -65,7 +52,7 @@ pub(crate) fn repeated_fault(alloc: Global, members: &[Member]) -> Result<Option
     let mut found = None;
     'each: for member in members {
         let is_new = names.add(&member.name.text, TagName::Other)?;
-        found = sooner(found, unless_new(is_new, member.name.at));
+        found = sooner(found, unless_new(is_new, FaultKind::Name, member.name.at));
     }
     Ok(found)
 }

@@ -9,7 +9,6 @@ ghost use Rattle.cyc_types.specs.Tables.{tables_of};
 ghost use Rattle.cyc_types.specs.Tags.{member_of, members_of};
 ghost use Rattle.cyc_types.specs.Types.{static_type};
 ghost use Rattle.source_typing.specs.Faults.{earliest};
-ghost use Rattle.source_typing.specs.Scope.{at_item};
 ghost use Rattle.source_typing.specs.Tables.{Tables as TheTables};
 ghost use Rattle.source_typing.specs.Tags.{all_typed, member_faults, member_type, parts_by, struct_sized};
 ghost use Rattle.source_typing.specs.Taken.{members_taken, refused_structure, structure_if, takes_structure, type_taken};
@@ -17,12 +16,15 @@ ghost use Rattle.type_verdicts.specs.Faults.{faults_of, first_of};
 ghost use Rattle.type_verdicts.specs.Taken.{taken_of};
 ghost use Rattle.type_verdicts.specs.Verdicts.{fault_in, short_of, shortened};
 ghost use Rattle.written_types.specs.Tagged.{TagIs};
+ghost use Rattle.judged_tags.specs.Members.{scoped};
 ghost use Rattle.judged_tags.specs.Tags.{AreKnown, IsTag, StandsAt, fits_as, known_name, known_short, member_by, or_own};
 
 use crate::heads::takes_struct;
 use crate::member::{fits_member, repeated_fault, type_alone};
+use crate::parameters::region_parameters;
 use cyc_tree::{Member, Name, Structure, TypeName};
 use cyc_types::{CType, Member as TagMember, Tables, Tag};
+use scoped_types::RegionNames;
 use std::alloc::{AllocError, Global};
 use type_verdicts::{Fault, FaultKind, Taken, Verdict, sooner};
 use written_types::{TagName, TagNames, struct_tag};
@@ -61,18 +63,19 @@ fn fitting_member<'p>(of: CType<'p>, at: u32, tables: &Tables<'p>) -> Verdict<CT
     }
 }
 
-/// A member's type, by what its tag means and by the structs that are declared. Fails only where no host memory is left.
+/// A member's type, by what its tag means and by the structs that are declared, where these region names are in scope. Fails only where no host memory is left.
 fn type_by_tag<'p>(
     alloc: Global,
     taken: Taken,
     tag: TagName,
+    names: &RegionNames<'_>,
     tables: &Tables<'p>,
     of: &'p TypeName,
 ) -> Result<Verdict<CType<'p>>, AllocError>
     ensures { (g : TheTables) → TagIs (taken_of taken) g (type_tree of.entry.now) tag → IfOk result (λ v. short_of static_type v
-        ≡ shortened (member_by (has_declared (tables_of tables.now)) g (type_taken (taken_of taken) (type_tree of.entry.now)))) }
+        ≡ shortened (member_by (has_declared (tables_of tables.now)) g names.now (type_taken (taken_of taken) (type_tree of.entry.now)))) }
 {
-    let found = type_alone(alloc, taken, tag, of)?;
+    let found = type_alone(alloc, taken, tag, names, of)?;
     match found {
         Verdict::Of(member) => Ok(fitting_member(member, of.at, tables)),
         Verdict::Wrong(fault) => Ok(Verdict::Wrong(fault)),
@@ -80,18 +83,19 @@ fn type_by_tag<'p>(
     }
 }
 
-/// A member's type. Fails only where no host memory is left.
+/// A member's type, where these region names are in scope. Fails only where no host memory is left.
 fn member_type<'p>(
     alloc: Global,
     taken: Taken,
     known: Known<'_, 'p>,
+    names: &RegionNames<'_>,
     of: &'p TypeName,
 ) -> Result<Verdict<CType<'p>>, AllocError>
     ensures { (g : TheTables) (i : ℕ) → StandsAt known.entry.judged.now known.entry.first.now (tables_of known.entry.tables.now) i g → IfOk result (λ v. short_of static_type v
-        ≡ shortened (member_type (at_item false g i) false (type_taken (taken_of taken) (type_tree of.entry.now)))) }
+        ≡ shortened (member_type (scoped g i names.now) false (type_taken (taken_of taken) (type_tree of.entry.now)))) }
 {
     let tag = known_tag(taken, known.judged, known.first, of);
-    let found = type_by_tag(alloc, taken, tag, known.tables, of)?;
+    let found = type_by_tag(alloc, taken, tag, names, known.tables, of)?;
     Ok(found)
 }
 
@@ -139,24 +143,25 @@ impl<'p> JudgedMembers<'p> {
     }
 }
 
-/// The members of a struct. Fails only where no host memory is left.
+/// The members of a struct, where these region names are in scope. Fails only where no host memory is left.
 fn judged_members<'p>(
     alloc: Global,
     taken: Taken,
     known: Known<'_, 'p>,
+    names: &RegionNames<'_>,
     members: &'p [Member],
 ) -> Result<JudgedMembers<'p>, AllocError>
     ensures parts { (g : TheTables) (i : ℕ) → StandsAt known.entry.judged.now known.entry.first.now (tables_of known.entry.tables.now) i g → IfOk result (λ r.
-        members_of r.members.items ≡ parts_by (at_item false g i) false (members_taken (taken_of taken) (map member_tree members.entry.now))) }
+        members_of r.members.items ≡ parts_by (scoped g i names.now) false (members_taken (taken_of taken) (map member_tree members.entry.now))) }
     ensures fault { (g : TheTables) (i : ℕ) → StandsAt known.entry.judged.now known.entry.first.now (tables_of known.entry.tables.now) i g → IfOk result (λ r.
-        faults_of r.fault ≡ earliest (member_faults (at_item false g i) false (members_taken (taken_of taken) (map member_tree members.entry.now)))) }
+        faults_of r.fault ≡ earliest (member_faults (scoped g i names.now) false (members_taken (taken_of taken) (map member_tree members.entry.now)))) }
 {
     let mut judged = JudgedMembers {
         members: Vec::new(alloc),
         fault: None,
     };
     'each: for member in members {
-        let of = member_type(alloc, taken, known, &member.of)?;
+        let of = member_type(alloc, taken, known, names, &member.of)?;
         judged.add(&member.name.text, of)?;
     }
     Ok(judged)
@@ -205,7 +210,7 @@ pub(crate) struct JudgedTag<'p> {
     pub(crate) fault: Option<Fault>,
 }
 
-/// A struct that is taken. Fails only where no host memory is left.
+/// A struct that is taken. Fails only where no host memory is left, or it has 2^32 region parameters.
 fn taken_struct<'p>(
     alloc: Global,
     taken: Taken,
@@ -218,19 +223,16 @@ fn taken_struct<'p>(
         → IfOk result (λ r. IsTag g order false (structure_if true (structure_tree structure.entry.now)
         (members_taken (taken_of taken) (structure_tree structure.entry.now).members)) r) }
 {
-    let judged = judged_members(alloc, taken, known, &structure.members)?;
+    let parameters = region_parameters(alloc, &structure.regions)?;
+    let judged = judged_members(alloc, taken, known, &parameters.names, &structure.members)?;
     let second = repeated_fault(alloc, &structure.members)?;
     let JudgedMembers { members, fault } = judged;
-    let fault = or_size(
-        known.tables,
-        &members,
-        &structure.tag,
-        sooner(fault, second),
-    );
+    let parts = sooner(parameters.fault, sooner(fault, second));
+    let fault = or_size(known.tables, &members, &structure.tag, parts);
     let tag = Tag {
         is_union: false,
         order,
-        regions: 0,
+        regions: parameters.count,
         members,
         sound: fault.is_none(),
     };
@@ -265,7 +267,7 @@ pub(crate) fn refused_tag<'p>(
     Ok(JudgedTag { tag, fault })
 }
 
-/// A struct. Fails only where no host memory is left.
+/// A struct. Fails only where no host memory is left, or it has 2^32 region parameters.
 pub(crate) fn judged_struct<'p>(
     alloc: Global,
     taken: Taken,

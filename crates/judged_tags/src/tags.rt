@@ -1,6 +1,6 @@
 // The structs of a program, as they are judged.
 
-ghost use Rattle.std.specs.Prelude.{◌≡◌, ◌+◌, ◌++◌, ◌∷◌, IfOk, List, None, OnOk, Some, [], false, if◌then◌else◌, true};
+ghost use Rattle.std.specs.Prelude.{◌≡◌, ◌++◌, ◌∷◌, IfOk, List, None, OnOk, Some, [], false, if◌then◌else◌, true};
 ghost use Rattle.cyc_tree.specs.View.{program_item_tree, program_tree};
 ghost use Rattle.cyc_types.specs.Known.{has_declared};
 ghost use Rattle.cyc_types.specs.Sameness.{HasTags};
@@ -18,6 +18,7 @@ ghost use Rattle.judged_tags.specs.FirstKnown.{AreNames, first_tags};
 ghost use Rattle.judged_tags.specs.Tags.{AreAllJudged, AreJudged, IsFound, StandsAt, found_parts, tag_if};
 
 use crate::heads::{bare_names, builtin_names, head_names, item_name};
+use crate::parameters::next_number;
 use crate::structure::{JudgedTag, Known, judged_struct, refused_tag};
 use cyc_tree::Item;
 use cyc_types::{TableFault, Tables, Tag};
@@ -59,9 +60,12 @@ fn found_name(found: &Option<JudgedTag<'_>>) -> TagName
     match found {
         Some(found) => {
             if found.tag.sound {
-                TagName::Tag(found.tag.is_union)
+                TagName::Tag {
+                    is_union: found.tag.is_union,
+                    regions: found.tag.regions,
+                }
             } else {
-                TagName::NotJudged
+                TagName::NotJudged(found.tag.regions)
             }
         }
         None => TagName::Other,
@@ -155,16 +159,6 @@ fn judged_item<'p>(
     }
 }
 
-/// A number more. A number over a u32 is want of memory.
-fn next_order(order: u32) -> Result<u32, AllocError>
-    ensures { IfOk result (λ next. next ≡ order + 1) }
-{
-    match order.checked_add(1) {
-        Some(next) => Ok(next),
-        None => Err(AllocError),
-    }
-}
-
 /// No item, with the functions that every program has. Fails only where no host memory is left.
 fn no_tags<'p>(alloc: Global) -> Result<JudgedTags<'p>, AllocError>
     ensures { IfOk result (AreJudged []) }
@@ -198,7 +192,7 @@ fn judged_items<'p>(
         };
         let found = judged_item(alloc, taken, known, order, item)?;
         done.add(&item_name(item).text, found)?;
-        order = next_order(order)?;
+        order = next_number(order)?;
     }
     Ok(done)
 }
@@ -218,7 +212,7 @@ pub fn judged_tags<'p>(
     ensures tables { let all = only_taken (taken_of taken) (program_tree items.entry.now) in
         IfOk result (λ done. taken.structs ≡ true → HasTags done.tables (builtins (entries (judged_tags all)))) }
 {
-    let bare = bare_names(alloc, items)?;
+    let bare = bare_names(alloc, taken, items)?;
     let first = head_names(alloc, taken, &bare, items)?;
     let done = judged_items(alloc, taken, &first, items)?;
     Ok(done)

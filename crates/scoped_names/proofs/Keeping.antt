@@ -47,21 +47,21 @@ pub not_declared : (x : tree.Name) (w : rules_tables.What) (g : Env) → is_seco
 not_declared x w g e = ap (λ b. if b then g else and_local x.text w g) e
 
 -- a local is no tag, and hides one of its name
-local_no_tag : (v : What) (u : Bool) → Some (of_local v) ≡ Some (code.Tag u) → ⊥
-local_no_tag (local.Variable t r) u e = absurd cc
-local_no_tag local.NotKnown u e = absurd cc
+local_no_tag : (v : What) (u : Bool) (n : ℕ) → Some (of_local v) ≡ Some (code.Tag u n) → ⊥
+local_no_tag (local.Variable t r) u n e = absurd cc
+local_no_tag local.NotKnown u n e = absurd cc
 
-no_tag : (b : Bool) (o : Option What) (m : Option Meaning) (u : Bool) (v : What) → (local_or o m ≡ Some (code.Tag u) → ⊥)
-    → local_or (if b then Some v else o) m ≡ Some (code.Tag u) → ⊥
-no_tag true o m u v none e = local_no_tag v u e
-no_tag false o m u v none e = none e
+no_tag : (b : Bool) (o : Option What) (m : Option Meaning) (u : Bool) (n : ℕ) (v : What) → (local_or o m ≡ Some (code.Tag u n) → ⊥)
+    → local_or (if b then Some v else o) m ≡ Some (code.Tag u n) → ⊥
+no_tag true o m u n v none e = local_no_tag v u n e
+no_tag false o m u n v none e = none e
 
 module _ (s : Scope) (g : Env) (h : Knows s g) where
   with_local_known : (x : List ℕ) (w : rules_tables.What) (v : What) → WhatIs w v → Knows (with_known x v s) (and_local x w g)
   with_local_known x w v is = record {
     names = λ y. by (bytes_eq x y) y;
     tags = h.tags;
-    untaken = λ e y u. no_tag (bytes_eq x y) (find_what s.locals y) (global_meaning s.globals.now y) u v (h.untaken e y u);
+    untaken = λ e y u n. no_tag (bytes_eq x y) (find_what s.locals y) (global_meaning s.globals.now y) u n v (h.untaken e y u n);
     regions = h.regions;
     lenient = h.lenient;
     enclosing = h.enclosing;

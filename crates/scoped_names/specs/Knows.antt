@@ -34,7 +34,7 @@ pub record Knows (s : Scope) (g : Env) : Type 0 where
   pub names : (x : List ℕ) → Means (meant g x) (means_in s x)
   pub tags : s.taken.structs ≡ true → HasTags s.tables.now g.tables
   -- where structs aren't taken, no name means a sound one
-  pub untaken : s.taken.structs ≡ false → (x : List ℕ) (u : Bool) → means_in s x ≡ Some (code.Tag u) → ⊥
+  pub untaken : s.taken.structs ≡ false → (x : List ℕ) (u : Bool) (n : ℕ) → means_in s x ≡ Some (code.Tag u n) → ⊥
   pub regions : AreThose s.regions g.regions
   pub lenient : s.lenient ≡ g.lenient
   pub enclosing : g.enclosing ≡ InRegion TheHeap

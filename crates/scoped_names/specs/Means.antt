@@ -31,12 +31,11 @@ abbrev pub meaning_of : Named → Meaning
 meaning_of (named.Variable t r) = code.Variable t.now r
 meaning_of (named.Function s) = code.Function s.now
 meaning_of (named.Builtin n) = code.Builtin n
-meaning_of (named.Tag u) = code.Tag u
-meaning_of named.FaultyTag = code.FaultyTag
+meaning_of (named.Tag u n) = code.Tag u n
+meaning_of (named.FaultyTag n) = code.FaultyTag n
 meaning_of named.NotKnown = code.NotKnown
 
--- What the rules know of a name, and what is known of it in code. A name of no known type and a function at fault are those that aren't known; structs and
--- unions are those without region parameters.
+-- What the rules know of a name, and what is known of it in code. A name of no known type and a function at fault are those that aren't known.
 pub data Means : Option Entry → Option Meaning → Type 0 where
   NoName : Means None None
   Variable : (t : CType) (r : RegionId) → Means (Some (OfValue (Stored (static_type t) (region_of r)))) (Some (code.Variable t r))
@@ -44,8 +43,8 @@ pub data Means : Option Entry → Option Meaning → Type 0 where
   Builtin : (n : ℕ) → Means (Some (OfBuiltin n)) (Some (code.Builtin n))
   UnknownValue : Means (Some (OfValue Unknown)) (Some code.NotKnown)
   UnsoundFunction : (s : Signature) → s.sound ≡ false → Means (Some (OfFunction s)) (Some code.NotKnown)
-  SoundTag : (t : Tag) → t.sound ≡ true → t.regions ≡ 0 → Means (Some (OfTag t)) (Some (code.Tag t.is_union))
-  UnsoundTag : (t : Tag) → t.sound ≡ false → t.regions ≡ 0 → Means (Some (OfTag t)) (Some code.FaultyTag)
+  SoundTag : (t : Tag) → t.sound ≡ true → Means (Some (OfTag t)) (Some (code.Tag t.is_union t.regions))
+  UnsoundTag : (t : Tag) → t.sound ≡ false → Means (Some (OfTag t)) (Some (code.FaultyTag t.regions))
 
 -- what the rules know of a local, and what is known of it in code
 pub data WhatIs : rules.What → What → Type 0 where

@@ -26,10 +26,14 @@ pub enum Meaning<'p> {
     Function(Signature<'p>),
     /// A function that every program has, with so many parameters.
     Builtin(u32),
-    /// A struct or union whose declaration has no fault; whether it is a union.
-    Tag(bool),
-    /// A struct or union whose declaration is at fault.
-    FaultyTag,
+    /// A struct or union whose declaration has no fault.
+    Tag {
+        is_union: bool,
+        /// How many region parameters it has.
+        regions: u32,
+    },
+    /// A struct or union whose declaration is at fault; how many region parameters it has.
+    FaultyTag(u32),
     /// A global or a function whose declaration is at fault.
     NotKnown,
 }

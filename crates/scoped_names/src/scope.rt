@@ -24,10 +24,14 @@ pub enum Named<'a, 'p> {
     Function(&'a Signature<'p>),
     /// A function that every program has, with so many parameters.
     Builtin(u32),
-    /// A struct or union whose declaration has no fault; whether it is a union.
-    Tag(bool),
-    /// A struct or union whose declaration is at fault.
-    FaultyTag,
+    /// A struct or union whose declaration has no fault.
+    Tag {
+        is_union: bool,
+        /// How many region parameters it has.
+        regions: u32,
+    },
+    /// A struct or union whose declaration is at fault; how many region parameters it has.
+    FaultyTag(u32),
     /// A local, a global or a function whose declaration is at fault.
     NotKnown,
 }
@@ -63,8 +67,11 @@ fn named_global<'a, 'p>(meaning: &'a Meaning<'p>) -> Named<'a, 'p>
         Meaning::Variable(stored, region) => Named::Variable(stored, *region),
         Meaning::Function(signature) => Named::Function(signature),
         Meaning::Builtin(count) => Named::Builtin(*count),
-        Meaning::Tag(is_union) => Named::Tag(*is_union),
-        Meaning::FaultyTag => Named::FaultyTag,
+        Meaning::Tag { is_union, regions } => Named::Tag {
+            is_union: *is_union,
+            regions: *regions,
+        },
+        Meaning::FaultyTag(regions) => Named::FaultyTag(*regions),
         Meaning::NotKnown => Named::NotKnown,
     }
 }

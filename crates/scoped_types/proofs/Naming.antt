@@ -19,11 +19,11 @@ same_bytes x y = (lists_equiv nat_eq_equiv).symm x y
 -- ---- what is found
 
 -- what is found, or else this
-abbrev or_this : Option Region → Option Region → Option Region
+abbrev pub or_this : Option Region → Option Region → Option Region
 or_this (Some r) o = Some r
 or_this None o = o
 
-found_before : (ns : List RegionNamed) (n : RegionNamed) (x : List ℕ)
+pub found_before : (ns : List RegionNamed) (n : RegionNamed) (x : List ℕ)
     → find_region (ns ++ n ∷ []) x ≡ or_this (find_region ns x) (if bytes_eq n.name x then Some n.id else None)
 found_before [] n x = refl
 found_before (m ∷ ns) n x = by (bytes_eq m.name x) (found_before ns n x)

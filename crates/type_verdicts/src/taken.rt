@@ -7,8 +7,10 @@ ghost use Rattle.type_verdicts.specs.Taken.{taken_of};
 /// Which forms of the language are taken beside integers and thin pointers.
 #[derive(Clone, Copy, Debug)]
 pub struct Taken {
-    /// Structs without region parameters, and their members.
+    /// Structs, and their members.
     pub structs: bool,
+    /// Region parameters of structs, and region arguments of their types.
+    pub parameters: bool,
 }
 
 impl Taken {
@@ -16,13 +18,19 @@ impl Taken {
     pub fn thin_pointers() -> Taken
         ensures { taken_of result ≡ thin_pointers }
     {
-        Taken { structs: false }
+        Taken {
+            structs: false,
+            parameters: false,
+        }
     }
 
     /// What the compiler and the evaluator take today.
     pub fn supported() -> Taken
         ensures { taken_of result ≡ supported }
     {
-        Taken { structs: true }
+        Taken {
+            structs: true,
+            parameters: true,
+        }
     }
 }

@@ -3,3 +3,5 @@ pub mod Pointers
 pub mod Parameters
 pub mod Structs
 pub mod Naming
+pub mod Places
+pub mod Counting

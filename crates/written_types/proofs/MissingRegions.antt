@@ -1,22 +1,25 @@
 -- A type with its missing regions from another one, pointer by pointer.
-use Rattle.std.proofs.Common.{◌≡◌, ◌<◌, ◌-◌, ◌+◌, ℕ, zero, suc, List, [], ◌∷◌, drop, get_or, length, map, take, refl, sym, ap, ◌∙◌, arith}
-use Rattle.std.specs.Prelude.{None, Option, Some}
+use Rattle.std.proofs.Common.{◌≡◌, ◌<◌, ◌-◌, ◌+◌, ℕ, false, zero, suc, List, [], ◌∷◌, ◌++◌, drop, get_or, length, take, refl, sym, ap, ◌∙◌, arith}
+use Rattle.std.specs.Prelude.{None, Option, Some, option_map, slice_get}
 use Rattle.std.proofs.lemmas.List.{drop_more, length-take, take-take}
-use Rattle.source_typing.specs.Missing.{as_type, filled_arguments, filled_from, outer_region, pointee_of, settled}
+use Rattle.std.proofs.lemmas.Option.{slice_get-map}
+use Rattle.source_typing.specs.Missing.{arguments_of, as_type, filled_arguments, filled_from, outer_region, pointee_of, settled}
 use Rattle.source_typing.specs.Regions.{Region}
 use Rattle.source_typing.specs.Written.{Found}
-use Rattle.source_typing.specs.Types.{PartialType, StaticType, Struct, Union}
+use Rattle.source_typing.specs.Types.{PartialType, StaticType}
 use Rattle.cyc_types.proofs.Converting.{by_outer}
 use Rattle.cyc_types.specs.Bases.{base_type}
 use Rattle.cyc_types.specs.Layers.{last_or, outermost, pointed, pointer_to}
-use Rattle.cyc_types.specs.Regions.{regions_of}
+use Rattle.cyc_types.specs.Regions.{region_of, regions_of}
 use Rattle.cyc_types.specs.declared.base.BaseType.{BaseType}
 use Rattle.cyc_types.specs.declared.base.BaseType.TheVariants as base
 use Rattle.cyc_types.specs.declared.layer.Layer.{Layer}
 use Rattle.cyc_types.specs.declared.layer.Layer.TheVariants as pointer
+use Rattle.cyc_types.specs.declared.region.RegionId.{RegionId}
 use Rattle.type_verdicts.specs.Verdicts.{shortened}
-use Rattle.written_types.specs.Settling.{all_from, layer_from, outer_found, reached}
-use Rattle.written_types.specs.Written.{partial_base, partial_to, partial_under}
+use Rattle.written_types.specs.Settling.{all_from, argument_from, layer_from, outer_found, reached}
+use Rattle.written_types.specs.Written.{partial_base, partial_regions, partial_to, partial_under}
+use Rattle.written_types.specs.declared.base.WrittenBase.{WrittenBase}
 use Rattle.written_types.specs.declared.layer.WrittenLayer.{WrittenLayer}
 use Rattle.written_types.specs.declared.layer.WrittenLayer.TheVariants as code
 
@@ -75,6 +78,37 @@ taken_less m k ks =
     ap (λ n. take n (take (length ks) (k ∷ ks))) e
     ∙ take-take (length (k ∷ ks) - suc m) (length ks) (k ∷ ks) (omega arith)
 
+-- what a pointer leads to has one pointer less
+inner_leads : (k : Layer) (ks : List Layer) (t : StaticType) → pointee_of (Some (pointed t (k ∷ ks))) ≡ Some (pointed t (take (length ks) (k ∷ ks)))
+inner_leads k ks t =
+    let one : length (k ∷ ks) - 1 ≡ length ks = omega arith in
+    ap (λ u. pointee_of (Some u)) (by_outer (k ∷ ks) t (last_or k ks) refl)
+    ∙ ap (λ n. pointee_of (Some (pointer_to (last_or k ks) (pointed t (take n (k ∷ ks)))))) one
+    ∙ pointer_leads (last_or k ks) (pointed t (take (length ks) (k ∷ ks)))
+
+-- so many pointers lead to the base, and others to none
+pub base_reached : (n : ℕ) (ks : List Layer) (t : StaticType) → length ks ≡ n → reached n (Some (pointed t ks)) ≡ Some t
+base_reached zero [] t e = refl
+base_reached zero (k ∷ ks) t e = absurd (omega (arith, e))
+base_reached (suc n) [] t e = absurd (omega (arith, e))
+base_reached (suc n) (k ∷ ks) t e =
+    ap (reached n) (inner_leads k ks t) ∙ base_reached n (take (length ks) (k ∷ ks)) t (omega (arith, e, length-take (length ks) (k ∷ ks)))
+
+no_arguments : (tag : List ℕ) (l : Layer) (t : StaticType) → arguments_of false tag (Some (pointer_to l t)) ≡ []
+no_arguments tag (pointer.Thin n r) t = refl
+no_arguments tag (pointer.Fat r) t = refl
+no_arguments tag (pointer.Unique n) t = refl
+
+pub none_at : (n : ℕ) (ks : List Layer) (b : BaseType) (tag : List ℕ) → (length ks ≡ n → ⊥)
+    → arguments_of false tag (reached n (Some (pointed (base_type b) ks))) ≡ []
+none_at zero [] b tag h = absurd (h refl)
+none_at zero (k ∷ ks) b tag h =
+    ap (λ u. arguments_of false tag (Some u)) (by_outer (k ∷ ks) (base_type b) (last_or k ks) refl) ∙ no_arguments tag (last_or k ks) _
+none_at (suc n) [] b tag h = ap (λ s. arguments_of false tag s) (ap (reached n) (base_leads b) ∙ none_reached n)
+none_at (suc n) (k ∷ ks) b tag h =
+    ap (λ s. arguments_of false tag (reached n s)) (inner_leads k ks (base_type b))
+    ∙ none_at n (take (length ks) (k ∷ ks)) b tag (λ e. h (omega (arith, e, length-take (length ks) (k ∷ ks))))
+
 whole_taken : (ls : List Layer) → take (length ls) ls ≡ ls
 whole_taken [] = refl
 whole_taken (l ∷ ls) = ap (λ ks. l ∷ ks) (whole_taken ls)
@@ -116,22 +150,6 @@ pointers_filled (l ∷ ls) p s =
     ∙ ap (all_from ls s) (pointer_filled l p (reached (length ls) s)
     ∙ ap (λ o. layer_from l (outer_region (reached (length ls) s)) (filled_from p o)) (reached_more (length ls) s))
 
-arguments_kept : (rs others : List Region) → filled_arguments (map (λ r. Some r) rs) others ≡ rs
-arguments_kept [] others = refl
-arguments_kept (r ∷ rs) [] = ap (λ qs. r ∷ qs) (arguments_kept rs [])
-arguments_kept (r ∷ rs) (o ∷ others) = ap (λ qs. r ∷ qs) (arguments_kept rs others)
-
-base_filled : (b : BaseType) (s : Option StaticType) → filled_from (partial_base b) s ≡ Some (base_type b)
-base_filled base.Int s = refl
-base_filled base.Unsigned s = refl
-base_filled base.Char s = refl
-base_filled base.Void s = refl
-base_filled base.Null s = refl
-base_filled (base.Handle r) s = refl
-base_filled (base.Key r) s = refl
-base_filled (base.Struct tag rs) s = ap (λ qs. Some (Struct tag.now qs)) (arguments_kept (regions_of rs.items) _)
-base_filled (base.Union tag rs) s = ap (λ qs. Some (Union tag.now qs)) (arguments_kept (regions_of rs.items) _)
-
 pub none_from : (ls : List WrittenLayer) (s : Option StaticType) → all_from ls s None ≡ None
 none_from [] s = refl
 none_from (code.Thin n r ∷ ls) s = none_from ls s
@@ -147,8 +165,40 @@ next_filled ls i d s u f o h from is =
     ∙ ap (λ ks. all_from ks s (Some u)) (sym (drop_more ls i d h))
 
 -- what is answered of a base under pointers, by the pointers that were found
-pub settles : (b : BaseType) (ls : List WrittenLayer) (at : ℕ) (s found : Option StaticType) → found ≡ all_from ls s (Some (base_type b))
+pub settles : (b : WrittenBase) (ls : List WrittenLayer) (at : ℕ) (s found : Option StaticType) (t : StaticType)
+    → Some t ≡ filled_from (partial_base b) (reached (length ls) s) → found ≡ all_from ls s (Some t)
     → shortened (as_type at found) ≡ shortened (settled at (partial_under (partial_base b) ls) s)
-settles b ls at s found e =
-    ap (λ o. shortened (as_type at o))
-    (e ∙ ap (all_from ls s) (sym (base_filled b (reached (length ls) s))) ∙ sym (pointers_filled ls (partial_base b) s))
+settles b ls at s found t filled e =
+    ap (λ o. shortened (as_type at o)) (e ∙ ap (all_from ls s) filled ∙ sym (pointers_filled ls (partial_base b) s))
+
+-- ---- arguments with regions from others
+
+arguments_from : (a : Option Region) (rs : List (Option Region)) (others : List Region) (i : ℕ)
+    → filled_arguments (a ∷ rs) (drop i others) ≡ argument_from a (slice_get others i) ∷ filled_arguments rs (drop (suc i) others)
+arguments_from None rs [] zero = refl
+arguments_from None rs [] (suc i) = refl
+arguments_from (Some r) rs [] zero = refl
+arguments_from (Some r) rs [] (suc i) = refl
+arguments_from None rs (o ∷ others) zero = refl
+arguments_from (Some r) rs (o ∷ others) zero = refl
+arguments_from a rs (o ∷ others) (suc i) = arguments_from a rs others i
+
+regions_more : (filled : List RegionId) (r : RegionId) (rest : List Region) → regions_of (filled ++ r ∷ []) ++ rest ≡ regions_of filled ++ region_of r ∷ rest
+regions_more [] r rest = refl
+regions_more (f ∷ filled) r rest = ap (λ rs. region_of f ∷ rs) (regions_more filled r rest)
+
+-- one argument more
+pub argument_filled : (rs : List (Option RegionId)) (i : ℕ) (a : Option RegionId) (others filled : List RegionId) (r : RegionId)
+    → drop i rs ≡ a ∷ drop (i + 1) rs → region_of r ≡ argument_from (option_map region_of a) (option_map region_of (slice_get others i))
+    → regions_of (filled ++ r ∷ []) ++ filled_arguments (partial_regions (drop (i + 1) rs)) (drop (i + 1) (regions_of others))
+    ≡ regions_of filled ++ filled_arguments (partial_regions (drop i rs)) (drop i (regions_of others))
+argument_filled rs i a others filled r e is =
+    let rest = partial_regions (drop (i + 1) rs) in
+    let left = drop (suc i) (regions_of others) in
+    let one : i + 1 ≡ suc i = omega arith in
+    ap (λ n. regions_of (filled ++ r ∷ []) ++ filled_arguments rest (drop n (regions_of others))) one
+    ∙ regions_more filled r (filled_arguments rest left)
+    ∙ ap (λ q. regions_of filled ++ q ∷ filled_arguments rest left)
+    (is ∙ ap (λ o. argument_from (option_map region_of a) o) (sym (slice_get-map region_of others i)))
+    ∙ ap (λ qs. regions_of filled ++ qs) (sym (arguments_from (option_map region_of a) rest (regions_of others) i))
+    ∙ sym (ap (λ bs. regions_of filled ++ filled_arguments (partial_regions bs) (drop i (regions_of others))) e)

@@ -22,7 +22,7 @@ use Rattle.cyc_tree.specs.Tree as tree
 -- ---- a pointer's region
 
 -- a region that is taken is never at fault
-no_fault_named : (vs : Variables) (n : tree.Name) (o : Option Region) → (take_named vs n o).faults ≡ []
+pub no_fault_named : (vs : Variables) (n : tree.Name) (o : Option Region) → (take_named vs n o).faults ≡ []
 no_fault_named vs n None = refl
 no_fault_named vs n (Some r) = refl
 

@@ -184,11 +184,19 @@ next_led b ls l p ps f fs r e k = by (can_lead b) refl
 
 -- ---- regions by their names
 
-before_found : (x : Found × List rules.Fault) (y : List Found × List rules.Fault) → (found_before x y).0 ≡ x.0 ∷ y.0
+pub before_found : (x : Found × List rules.Fault) (y : List Found × List rules.Fault) → (found_before x y).0 ≡ x.0 ∷ y.0
 before_found (f, fs) (g, gs) = refl
 
-before_faults : (x : Found × List rules.Fault) (y : List Found × List rules.Fault) → (found_before x y).1 ≡ x.1 ++ y.1
+pub before_faults : (x : Found × List rules.Fault) (y : List Found × List rules.Fault) → (found_before x y).1 ≡ x.1 ++ y.1
 before_faults (f, fs) (g, gs) = refl
+
+pub joined : (a b : Option Fault) (gs : List rules.Fault)
+    → first_of (faults_of (sooner_found a b)) (earliest gs) ≡ first_of (faults_of a) (earliest (listed b ++ gs))
+joined None None gs = refl
+joined None (Some g) gs = refl
+joined (Some f) None gs = refl
+joined (Some f) (Some g) gs =
+    ap (λ o. first_of o (earliest gs)) (found_sooner (Some f) (Some g)) ∙ sym (earliest_of_both (fault_of f ∷ fault_of g ∷ []) gs)
 
 module _ (names : List RegionNamed) (ps : List Pointer) (i : ℕ) (x : Pointer) (e : drop i ps ≡ x ∷ drop (i + 1) ps) where
   pub taken_next : takes_pointers thin_pointers (pointer_trees (drop i ps)) ≡ true → takes_pointers thin_pointers (pointer_trees (drop (i + 1) ps)) ≡ true
@@ -228,14 +236,6 @@ module _ (names : List RegionNamed) (ps : List Pointer) (i : ℕ) (x : Pointer) 
       ∙ ap (λ fs. first_of (faults_of found) (earliest (fs ++ others.1))) (sym is)
       ∙ ap (λ fs. first_of (faults_of found) (earliest fs)) (sym (before_faults (found_by names (option_map region_tree x.region) true) others))
       ∙ sym (ap (λ qs. first_of (faults_of found) (earliest (all_found names (pointer_spots qs)).1)) e)
-    where
-      joined : (a b : Option Fault) (gs : List rules.Fault)
-          → first_of (faults_of (sooner_found a b)) (earliest gs) ≡ first_of (faults_of a) (earliest (listed b ++ gs))
-      joined None None gs = refl
-      joined None (Some g) gs = refl
-      joined (Some f) None gs = refl
-      joined (Some f) (Some g) gs =
-          ap (λ o. first_of o (earliest gs)) (found_sooner (Some f) (Some g)) ∙ sym (earliest_of_both (fault_of f ∷ fault_of g ∷ []) gs)
 
 pub first_none : (o : Option rules.Fault) → first_of o None ≡ o
 first_none None = refl

@@ -1,48 +1,53 @@
 -- Types of structs that are taken, and their tags.
 use Rattle.std.proofs.Common.{◌≡◌, ℕ, Bool, true, false, List, [], ◌∷◌, ◌++◌, map, refl, sym, ap, ◌∙◌}
-use Rattle.std.specs.Prelude.{None, Option, Some, if◌then◌else◌, is_some, replicate, unwrap_or, ◌&&◌, ◌||◌}
+use Rattle.std.specs.Prelude.{None, Option, Some, if◌then◌else◌, is_none, is_some, replicate, ◌&&◌, ◌||◌}
 use Rattle.cyc_tree.specs.Tree.{Name, TypeName}
-use Rattle.source_typing.specs.Faults.{earliest, sooner_of}
 use Rattle.source_typing.specs.Functions.{Variables, parameter_type, take_spots}
 use Rattle.source_typing.specs.Tables.{Entry, OfBuiltin, OfFunction, OfOther, OfTag, OfValue, Tables, as_tag, find}
-use Rattle.source_typing.specs.Taken.{Taken, refused_type, takes_base, takes_pointers, takes_type, thin_pointers, type_taken}
-use Rattle.source_typing.specs.Types.{PartialType, same_bool}
-use Rattle.source_typing.specs.Verdicts.{Faulty, Of, Verdict, unless_faulty}
+use Rattle.source_typing.specs.Taken.{Taken, refused_type, takes_arguments, takes_base, takes_pointers, takes_type, thin_pointers, type_taken}
+use Rattle.source_typing.specs.Types.{same_bool}
+use Rattle.source_typing.specs.Verdicts.{Of}
 use Rattle.source_typing.specs.Written.{
   Found,
   RegionNamed,
   Spot,
   all_found,
   any_missing,
+  argument_spots,
   base_of,
   base_spots,
   if_sound,
   of_kind,
-  pointers_to,
   regions_of_tag,
   spot,
   spots_of,
   tag_of,
-  type_built,
   written,
   written_on,
   written_with,
 }
-use Rattle.type_verdicts.specs.Faults.{first_of}
 use Rattle.type_verdicts.specs.Taken.{taken_of}
-use Rattle.type_verdicts.specs.Verdicts.{Is, NotJudged, Wrong, short_wrong, shortened}
+use Rattle.type_verdicts.specs.Verdicts.{Is, shortened}
 use Rattle.type_verdicts.specs.declared.taken.Taken as code_taken
-use Rattle.written_types.proofs.Parameters.{no_faults}
-use Rattle.written_types.proofs.Pointers.{taken_misses}
-use Rattle.written_types.specs.Parameters.{as_parameter}
-use Rattle.written_types.specs.Reading.{can_lead, led, pointer_taken}
-use Rattle.written_types.specs.Tagged.{IsNamed, TagIs, named_as, parameter_by, pointers_found, spotted_by, struct_base, struct_in, struct_on, struct_taken, tag_name_of}
-use Rattle.written_types.specs.declared.layer.WrittenLayer.{WrittenLayer}
+use Rattle.written_types.specs.Arguments.{spots_by, written_arguments}
+use Rattle.written_types.specs.Reading.{pointer_taken}
+use Rattle.written_types.specs.Tagged.{
+  IsNamed,
+  TagIs,
+  named_as,
+  parameter_by,
+  regions_named,
+  spotted_by,
+  struct_base,
+  struct_in,
+  struct_spots,
+  struct_taken,
+  tag_name_of,
+}
 use Rattle.written_types.specs.declared.tagged.TagName.{TagName}
 use Rattle.written_types.specs.declared.tagged.TagName.TheVariants as code
 use Rattle.cyc_tree.specs.Tree as tree
 use Rattle.source_typing.specs.Faults as rules
-use Rattle.source_typing.specs.Types as type
 
 -- ---- what is taken
 
@@ -53,17 +58,12 @@ same_pointers k (p ∷ ps) = ap (λ b. pointer_taken p && b) (same_pointers k ps
 
 other_base : (k : code_taken.Taken) (b : tree.Base) (m : Bool) → (if m then struct_base (taken_of k) b else None) ≡ None
     → (takes_base (taken_of k) b && m) ≡ (takes_base thin_pointers b && m)
-other_base k (tree.Struct tag []) m h = by k.structs m h
+other_base k (tree.Struct tag rs) m h = by (k.structs && takes_arguments (taken_of k) rs) m h
   where
-    by : (s m : Bool) → (if m then (if s then Some tag else None) else None) ≡ None → ((s && true) && m) ≡ false
+    by : (s m : Bool) → (if m then (if s then Some tag else None) else None) ≡ None → (s && m) ≡ false
     by true true h = absurd cc
     by true false h = refl
     by false m h = refl
-other_base k (tree.Struct tag (r ∷ rs)) m h = by k.structs m
-  where
-    by : (s m : Bool) → ((s && false) && m) ≡ false
-    by true m = refl
-    by false m = refl
 other_base k tree.Int m h = refl
 other_base k tree.Unsigned m h = refl
 other_base k tree.Char m h = refl
@@ -81,19 +81,19 @@ other_type k t h = ap (λ (c : Bool). if c then t else refused_type t.at) (other
 
 record OfStruct (k : Taken) (b : tree.Base) (m : Bool) (x : Name) : Type 0 where
   taken : takes_base k b ≡ true
-  base : b ≡ tree.Struct x []
+  base : b ≡ tree.Struct x (written_arguments b)
   pointers : m ≡ true
 
 of_struct : (k : code_taken.Taken) (b : tree.Base) (m : Bool) (x : Name) → (if m then struct_base (taken_of k) b else None) ≡ Some x
     → OfStruct (taken_of k) b m x
 of_struct k b false x h = absurd cc
-of_struct k (tree.Struct tag []) true x h = by k.structs refl h
+of_struct k (tree.Struct tag rs) true x h = by (k.structs && takes_arguments (taken_of k) rs) refl h
   where
-    by : (s : Bool) → k.structs ≡ s → (if s then Some tag else None) ≡ Some x → OfStruct (taken_of k) (tree.Struct tag []) true x
+    by : (s : Bool) → (k.structs && takes_arguments (taken_of k) rs) ≡ s → (if s then Some tag else None) ≡ Some x
+        → OfStruct (taken_of k) (tree.Struct tag rs) true x
     by true e h =
-        let same : tag ≡ x = cc in record { taken = ap (λ b. b && true) e; base = ap (λ y. tree.Struct y []) same; pointers = refl }
+        let same : tag ≡ x = cc in record { taken = e; base = ap (λ y. tree.Struct y rs) same; pointers = refl }
     by false e h = absurd cc
-of_struct k (tree.Struct tag (r ∷ rs)) true x h = absurd cc
 of_struct k tree.Int true x h = absurd cc
 of_struct k tree.Unsigned true x h = absurd cc
 of_struct k tree.Char true x h = absurd cc
@@ -107,8 +107,8 @@ none_taken k t x e h = by t.base (takes_pointers (taken_of k) t.pointers) h
   where
     by : (b : tree.Base) (m : Bool) → (if m then struct_base (taken_of k) b else None) ≡ Some x → ⊥
     by b false h = absurd cc
-    by (tree.Struct tag []) true h = let none : None ≡ Some x = ap (λ (s : Bool). if s then Some tag else None) (sym e) ∙ h in absurd cc
-    by (tree.Struct tag (r ∷ rs)) true h = absurd cc
+    by (tree.Struct tag rs) true h =
+        let none : None ≡ Some x = ap (λ (s : Bool). if s && takes_arguments (taken_of k) rs then Some tag else None) (sym e) ∙ h in absurd cc
     by tree.Int true h = absurd cc
     by tree.Unsigned true h = absurd cc
     by tree.Char true h = absurd cc
@@ -127,7 +127,7 @@ module _ (k : code_taken.Taken) (t : TypeName) (x : Name) (h : struct_taken (tak
   pub struct_type : type_taken (taken_of k) t ≡ t
   struct_type = ap (λ (c : Bool). if c then t else refused_type t.at) struct_takes
 
-  pub struct_is_base : t.base ≡ tree.Struct x []
+  pub struct_is_base : t.base ≡ tree.Struct x (written_arguments t.base)
   struct_is_base = struct_is.base
 
   pub struct_pointers : takes_pointers thin_pointers t.pointers ≡ true
@@ -143,127 +143,68 @@ takes_structs k t x h = by k.structs refl
 
 -- ---- tags
 
-pub named_by : (e : Option Entry) (at : ℕ) → regions_of_tag (as_tag e) ≡ 0 → tag_of e false at ≡ named_as (tag_name_of e) at
-named_by None at h = refl
-named_by (Some (OfTag t)) at h = by t.sound t.is_union
+pub named_by : (e : Option Entry) (at : ℕ) → tag_of e false at ≡ named_as (tag_name_of e) at
+named_by None at = refl
+named_by (Some (OfTag t)) at = by t.sound t.is_union
   where
-    by : (s u : Bool) → if_sound s (of_kind (same_bool u false) t at) ≡ named_as (if s then code.Tag u else code.NotJudged) at
+    by : (s u : Bool) → if_sound s (of_kind (same_bool u false) t at) ≡ named_as (if s then code.Tag u t.regions else code.NotJudged t.regions) at
     by true true = refl
-    by true false = ap Of h
+    by true false = refl
     by false u = refl
-named_by (Some (OfValue w)) at h = refl
-named_by (Some (OfFunction s)) at h = refl
-named_by (Some (OfBuiltin n)) at h = refl
-named_by (Some OfOther) at h = refl
+named_by (Some (OfValue w)) at = refl
+named_by (Some (OfFunction s)) at = refl
+named_by (Some (OfBuiltin n)) at = refl
+named_by (Some OfOther) at = refl
+
+-- how many region parameters a name's tag has
+pub regions_by : (e : Option Entry) → regions_of_tag (as_tag e) ≡ regions_named (tag_name_of e)
+regions_by None = refl
+regions_by (Some (OfTag t)) = by t.sound
+  where
+    by : (s : Bool) → t.regions ≡ regions_named (if s then code.Tag t.is_union t.regions else code.NotJudged t.regions)
+    by true = refl
+    by false = refl
+regions_by (Some (OfValue w)) = refl
+regions_by (Some (OfFunction s)) = refl
+regions_by (Some (OfBuiltin n)) = refl
+regions_by (Some OfOther) = refl
+
+-- a name that is one of a struct
+pub named_of : (n : TagName) (at m : ℕ) → Is m ≡ shortened (named_as n at) → (named_as n at ≡ Of m) × (m ≡ regions_named n)
+named_of (code.Tag false k) at m h = let same : m ≡ k = cc in (ap Of (sym same), same)
+named_of (code.Tag true k) at m h = absurd cc
+named_of code.NoName at m h = absurd cc
+named_of (code.NotJudged k) at m h = absurd cc
+named_of code.Other at m h = absurd cc
 
 -- ---- a type
 
 with_found : (g : Tables) (t : TypeName) (x : List Found × List rules.Fault) → written_with g t x ≡ written_on t x.0 x.1 (base_of g t.base)
 with_found g t (fs, bad) = refl
 
-module _ (g : Tables) (t : TypeName) (x : Name) (n : TagName) (base : t.base ≡ tree.Struct x []) (named : IsNamed g x.text n) where
+module _ (g : Tables) (t : TypeName) (x : Name) (n : TagName) (base : t.base ≡ tree.Struct x (written_arguments t.base)) (named : IsNamed g x.text n) where
   tag_is : base_of g t.base ≡ named_as n x.at
-  tag_is = ap (base_of g) base ∙ named_by (find g x.text) x.at named.plain ∙ ap (λ n. named_as n x.at) named.is
+  tag_is = ap (base_of g) base ∙ named_by (find g x.text) x.at ∙ ap (λ n. named_as n x.at) named.is
 
-  pub struct_spots : spots_of g t ≡ map (λ q. spot true q.region) t.pointers
-  struct_spots =
+  arguments_are : (rs : List tree.RegionName) → argument_spots g x rs ≡ spots_by (regions_named n) rs
+  arguments_are [] = ap (λ m. replicate m (spot false None)) (regions_by (find g x.text) ∙ ap regions_named named.is)
+  arguments_are (r ∷ rs) = refl
+
+  pub spots_are_by : spots_of g t ≡ struct_spots (regions_named n) t
+  spots_are_by =
       ap (λ b. base_spots g b ++ map (λ q. spot true q.region) t.pointers) base
-      ∙ ap (λ m. replicate m (spot false None) ++ map (λ q. spot true q.region) t.pointers) named.plain
+      ∙ ap (λ ss. ss ++ map (λ q. spot true q.region) t.pointers) (arguments_are (written_arguments t.base))
 
-  pub struct_with : (y : List Found × List rules.Fault) → struct_on t x y.0 y.1 n ≡ written_with g t y
-  struct_with y =
-      ap (λ b. written_on (record { at = t.at; base = b; pointers = t.pointers }) y.0 y.1 (named_as n x.at)) (sym base)
-      ∙ ap (written_on t y.0 y.1) (sym tag_is)
-      ∙ sym (with_found g t y)
+  pub struct_with : (y : List Found × List rules.Fault) → written_on t y.0 y.1 (named_as n x.at) ≡ written_with g t y
+  struct_with y = ap (written_on t y.0 y.1) (sym tag_is) ∙ sym (with_found g t y)
 
 pub struct_written : (k : code_taken.Taken) (g : Tables) (names : List RegionNamed) (t : TypeName) (x : Name) (n : TagName)
     → struct_taken (taken_of k) t ≡ Some x → TagIs (taken_of k) g t n → struct_in names t x n ≡ written g names (type_taken (taken_of k) t)
 struct_written k g names t x n h tag =
     let base = struct_is_base k t x h in
-    struct_with g t x n base (tag x h) (pointers_found names t)
-    ∙ ap (λ ss. written_with g t (all_found names ss)) (sym (struct_spots g t x n base (tag x h)))
+    struct_with g t x n base (tag x h) (all_found names (struct_spots (regions_named n) t))
+    ∙ ap (λ ss. written_with g t (all_found names ss)) (sym (spots_are_by g t x n base (tag x h)))
     ∙ sym (ap (λ u. written g names u) (struct_type k t x h))
-
--- ---- what is answered, by what is answered of the tag
-
-wrong_first : {A : Type 0} (f : rules.Fault) (o : Option rules.Fault) → short_wrong {A = A} (sooner_of f o) ≡ Wrong (unwrap_or (sooner_of f o) f)
-wrong_first f None = refl
-wrong_first f (Some g) = refl
-
-pub struct_right : (t : TypeName) (x : Name) (fs : List Found) (bad : List rules.Fault) (n : TagName) (m : ℕ) → Is m ≡ shortened (named_as n x.at)
-    → unless_faulty bad (type_built t.at (pointers_to t.pointers fs (Some (type.Struct x.text [])))) ≡ struct_on t x fs bad n
-struct_right t x fs bad (code.Tag false) m h = refl
-struct_right t x fs bad (code.Tag true) m h = absurd cc
-struct_right t x fs bad code.NoName m h = absurd cc
-struct_right t x fs bad code.NotJudged m h = absurd cc
-struct_right t x fs bad code.Other m h = absurd cc
-
-faulty_first : (t : TypeName) (fs : List Found) (bad : List rules.Fault) (e f : rules.Fault) → Wrong f ≡ shortened (let v : Verdict ℕ = Faulty e [] in v)
-    → short_wrong (first_of (Some f) (earliest bad)) ≡ shortened (written_on t fs bad (Faulty e []))
-faulty_first t fs bad e f h = let same : f ≡ e = cc in ap (λ y. short_wrong (sooner_of y (earliest bad))) same ∙ wrong_first e (earliest bad)
-
-pub struct_wrong : (t : TypeName) (x : Name) (fs : List Found) (bad : List rules.Fault) (n : TagName) (f : rules.Fault) → Wrong f ≡ shortened (named_as n x.at)
-    → short_wrong (first_of (Some f) (earliest bad)) ≡ shortened (struct_on t x fs bad n)
-struct_wrong t x fs bad (code.Tag false) f h = absurd cc
-struct_wrong t x fs bad (code.Tag true) f h = faulty_first (record { at = t.at; base = tree.Struct x []; pointers = t.pointers }) fs bad _ f h
-struct_wrong t x fs bad code.NoName f h = faulty_first (record { at = t.at; base = tree.Struct x []; pointers = t.pointers }) fs bad _ f h
-struct_wrong t x fs bad code.NotJudged f h = absurd cc
-struct_wrong t x fs bad code.Other f h = faulty_first (record { at = t.at; base = tree.Struct x []; pointers = t.pointers }) fs bad _ f h
-
-pub struct_unjudged : (t : TypeName) (x : Name) (fs : List Found) (bad : List rules.Fault) (n : TagName) → NotJudged ≡ shortened (named_as n x.at)
-    → short_wrong (earliest bad) ≡ shortened (struct_on t x fs bad n)
-struct_unjudged t x fs bad (code.Tag false) h = absurd cc
-struct_unjudged t x fs bad (code.Tag true) h = absurd cc
-struct_unjudged t x fs bad code.NoName h = absurd cc
-struct_unjudged t x fs [] code.NotJudged h = refl
-struct_unjudged t x fs (f ∷ bad) code.NotJudged h = wrong_first f (earliest bad)
-struct_unjudged t x fs bad code.Other h = absurd cc
-
--- ---- a parameter
-
-module _ (g : Tables) (vs : Variables) (t : TypeName) (x : Name) (n : TagName) (base : t.base ≡ tree.Struct x []) (named : IsNamed g x.text n)
-    (taken : takes_pointers thin_pointers t.pointers ≡ true) where
-  abbrev spots : List Spot
-  spots = map (λ q. spot true q.region) t.pointers
-
-  pub struct_after : (take_spots vs spots).after_all ≡ (take_spots vs (spots_of g t)).after_all
-  struct_after = sym (ap (λ ss. (take_spots vs ss).after_all) (struct_spots g t x n base named))
-
-  as_struct : as_parameter t.at (struct_on t x (take_spots vs spots).found [] n) ≡ parameter_type g t (take_spots vs (spots_of g t))
-  as_struct =
-      ap (λ fs. as_parameter t.at (struct_on t x (take_spots vs spots).found fs n)) (sym (no_faults vs t.pointers taken))
-      ∙ ap (as_parameter t.at) (struct_with g t x n base named ((take_spots vs spots).found, (take_spots vs spots).faults))
-      ∙ ap (λ ss. parameter_type g t (take_spots vs ss)) (sym (struct_spots g t x n base named))
-
-  pub right_parameter : (b : PartialType) (ls : List WrittenLayer) (m : ℕ) → Is m ≡ shortened (named_as n x.at) → b ≡ type.Struct x.text []
-      → pointers_to t.pointers (take_spots vs spots).found (Some b) ≡ led (can_lead b) b ls
-      → shortened (as_parameter t.at (type_built t.at (led (can_lead b) b ls))) ≡ shortened (parameter_type g t (take_spots vs (spots_of g t)))
-  right_parameter b ls m h is built =
-      ap (λ o. shortened (as_parameter t.at (type_built t.at o)))
-      (sym built ∙ ap (λ b. pointers_to t.pointers (take_spots vs spots).found (Some b)) is)
-      ∙ ap (λ v. shortened (as_parameter t.at v)) (struct_right t x (take_spots vs spots).found [] n m h)
-      ∙ ap (λ v. shortened v) as_struct
-
-  pub wrong_parameter : (f : rules.Fault) → Wrong f ≡ shortened (named_as n x.at)
-      → Wrong f ≡ shortened (parameter_type g t (take_spots vs (spots_of g t)))
-  wrong_parameter f h = by n h ∙ ap (λ v. shortened v) as_struct
-    where
-      by : (n : TagName) → Wrong f ≡ shortened (named_as n x.at) → Wrong f ≡ shortened (as_parameter t.at (struct_on t x (take_spots vs spots).found [] n))
-      by (code.Tag false) h = absurd cc
-      by (code.Tag true) h = let same : f ≡ rules.fault rules.type_rule x.at = cc in ap (λ y. Wrong y) same
-      by code.NoName h = let same : f ≡ rules.fault rules.name_rule x.at = cc in ap (λ y. Wrong y) same
-      by code.NotJudged h = absurd cc
-      by code.Other h = let same : f ≡ rules.fault rules.type_rule x.at = cc in ap (λ y. Wrong y) same
-
-  pub unjudged_parameter : NotJudged ≡ shortened (named_as n x.at) → NotJudged ≡ shortened (parameter_type g t (take_spots vs (spots_of g t)))
-  unjudged_parameter h = by n h ∙ ap (λ v. shortened v) as_struct
-    where
-      by : (n : TagName) → NotJudged ≡ shortened (named_as n x.at) → NotJudged ≡ shortened (as_parameter t.at (struct_on t x (take_spots vs spots).found [] n))
-      by (code.Tag false) h = absurd cc
-      by (code.Tag true) h = absurd cc
-      by code.NoName h = absurd cc
-      by code.NotJudged h = refl
-      by code.Other h = absurd cc
 
 -- ---- where structs may be taken
 
@@ -285,25 +226,23 @@ own_parameter k g vs t x h = sym (ap (λ u. parameter_type g u (take_spots vs (s
 
 -- ---- missing regions
 
-pub struct_misses : (k : code_taken.Taken) (g : Tables) (t : TypeName) (x : Name) (n : TagName) → struct_taken (taken_of k) t ≡ Some x → TagIs (taken_of k) g t n
-    → any_missing (map (λ q. spot true q.region) t.pointers) ≡ any_missing (spots_of g (type_taken (taken_of k) t))
+pub struct_misses : (k : code_taken.Taken) (g : Tables) (t : TypeName) (x : Name) (n : TagName)
+    → struct_taken (taken_of k) t ≡ Some x → TagIs (taken_of k) g t n
+    → any_missing (struct_spots (regions_named n) t) ≡ any_missing (spots_of g (type_taken (taken_of k) t))
 struct_misses k g t x n h tag =
-    ap any_missing (sym (struct_spots g t x n (struct_is_base k t x h) (tag x h))) ∙ sym (ap (λ u. any_missing (spots_of g u)) (struct_type k t x h))
+    ap any_missing (sym (spots_are_by g t x n (struct_is_base k t x h) (tag x h))) ∙ sym (ap (λ u. any_missing (spots_of g u)) (struct_type k t x h))
 
--- the types of pointers that are taken, of a struct or of what is taken without them
-pub any_misses : (k : code_taken.Taken) (g : Tables) (t : TypeName) (n : TagName) → takes_type (taken_of k) t ≡ true → TagIs (taken_of k) g t n
-    → any_missing (map (λ q. spot true q.region) t.pointers) ≡ any_missing (spots_of g (type_taken (taken_of k) t))
-any_misses k g t n takes tag = by (struct_taken (taken_of k) t) refl
+pub other_misses : (k : code_taken.Taken) (g : Tables) (t : TypeName) → struct_taken (taken_of k) t ≡ None
+    → any_missing (spots_of g (type_taken thin_pointers t)) ≡ any_missing (spots_of g (type_taken (taken_of k) t))
+other_misses k g t h = sym (ap (λ u. any_missing (spots_of g u)) (other_type k t h))
+
+pub missing_both : (ss ts : List Spot) → (any_missing ss || any_missing ts) ≡ any_missing (ss ++ ts)
+missing_both [] ts = refl
+missing_both (s ∷ ss) ts = by (is_none s.written) (missing_both ss ts)
   where
-    by : (o : Option Name) → struct_taken (taken_of k) t ≡ o
-        → any_missing (map (λ q. spot true q.region) t.pointers) ≡ any_missing (spots_of g (type_taken (taken_of k) t))
-    by (Some x) h = struct_misses k g t x n h tag
-    by None h =
-        taken_misses g t (sym (other_takes k t h) ∙ takes) ∙ sym (ap (λ u. any_missing (spots_of g u)) (other_type k t h))
-
-pub none_misses : (k : code_taken.Taken) (g : Tables) (t : TypeName) → takes_type (taken_of k) t ≡ false
-    → true ≡ any_missing (spots_of g (type_taken (taken_of k) t))
-none_misses k g t h = sym (ap (λ (c : Bool). any_missing (spots_of g (if c then t else refused_type t.at))) h)
+    by : (b : Bool) → (any_missing ss || any_missing ts) ≡ any_missing (ss ++ ts) → ((b || any_missing ss) || any_missing ts) ≡ (b || any_missing (ss ++ ts))
+    by true h = refl
+    by false h = h
 
 -- whether a type is taken
 pub takes_either : (k : code_taken.Taken) (t : TypeName) → (is_some (struct_taken (taken_of k) t) || takes_type thin_pointers t) ≡ takes_type (taken_of k) t

@@ -1,3 +1,4 @@
+pub mod Arguments
 pub mod Settling
 pub mod Reading
 pub mod Written

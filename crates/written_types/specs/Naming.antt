@@ -19,6 +19,6 @@ has_tag_name s x = is_some (tag_entry s x)
 abbrev pub tag_named : TagNames → List ℕ → TagName
 tag_named s x = unwrap_or (tag_entry s x) code.NoName
 
--- where structs are taken, each name means what it means by the rules, and no tag has region parameters
+-- where structs are taken, each name means what it means by the rules where a tag is wanted
 abbrev pub AreTagNames : code_taken.Taken → TagNames → Tables → Type 0
 AreTagNames k names g = k.structs ≡ true → (x : List ℕ) → IsNamed g x (tag_named names x)

@@ -1,6 +1,8 @@
 -- Pointers with their missing regions from another type's.
 use Rattle.std.specs.Prelude.{List, None, Option, Some, length, option_map, suc, zero, ℕ, [], ◌∷◌}
 use Rattle.source_typing.specs.Missing.{fat_with, or_found, outer_region, pointee_of, thin_with, unique_with}
+use Rattle.source_typing.specs.Regions.{Region}
+use Rattle.source_typing.specs.Tables.{or_heap}
 use Rattle.source_typing.specs.Types.{StaticType}
 use Rattle.source_typing.specs.Written.{Found, Is, IsUnique, Missing}
 use Rattle.cyc_types.specs.Regions.{region_of}
@@ -26,6 +28,11 @@ abbrev pub layer_from : WrittenLayer → Found → Option StaticType → Option 
 layer_from (code.Thin n r) f t = thin_with n (or_found (option_map region_of r) f) t
 layer_from (code.Fat r) f t = fat_with (or_found (option_map region_of r) f) t
 layer_from (code.Unique n) f t = unique_with n t
+
+-- a region argument, the one at the same place where it is missing, and else the heap
+abbrev pub argument_from : Option Region → Option Region → Region
+argument_from (Some r) o = r
+argument_from None o = or_heap o
 
 -- pointers with their missing regions from a type, the outermost last
 abbrev pub all_from : List WrittenLayer → Option StaticType → Option StaticType → Option StaticType

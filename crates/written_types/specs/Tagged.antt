@@ -1,13 +1,20 @@
 -- Types of structs as they are read: whether they are taken, and what their tags mean.
-use Rattle.std.specs.Prelude.{List, None, Option, Some, false, if◌then◌else◌, map, true, ℕ, ◌≡◌, []}
+use Rattle.std.specs.Prelude.{Bool, List, None, Option, Some, false, if◌then◌else◌, length, map, true, ℕ, ◌≡◌, ◌&&◌, ◌++◌}
 use Rattle.cyc_tree.specs.Tree.{Name, TypeName}
-use Rattle.source_typing.specs.Faults.{Fault, name_rule, type_rule}
+use Rattle.cyc_types.specs.declared.region.RegionId.{RegionId}
+use Rattle.source_typing.specs.Faults.{Fault, earliest, name_rule, region_rule, type_rule}
 use Rattle.source_typing.specs.Functions.{AllSpotted, Variables, parameter_type, take_spots}
-use Rattle.source_typing.specs.Tables.{Entry, OfTag, Tables, find, tag_in}
-use Rattle.source_typing.specs.Taken.{Taken, takes_pointers, type_taken}
+use Rattle.source_typing.specs.Tables.{Entry, OfTag, Tables, find}
+use Rattle.source_typing.specs.Taken.{Taken, takes_arguments, takes_pointers, type_taken}
 use Rattle.source_typing.specs.Types.{PartialType, StaticType}
 use Rattle.source_typing.specs.Verdicts.{Of, Unjudged, Verdict, refuse, unless_faulty}
-use Rattle.source_typing.specs.Written.{Found, RegionNamed, all_found, pointers_to, regions_of_tag, spot, spots_of, type_built, written_on}
+use Rattle.source_typing.specs.Written.{Found, RegionNamed, Spot, all_found, as_region, pointers_to, spot, spots_of, type_built, written_on}
+use Rattle.type_verdicts.specs.Faults.{faults_of}
+use Rattle.type_verdicts.specs.declared.fault.Fault as code_fault
+use Rattle.written_types.specs.Arguments.{spots_by, written_arguments}
+use Rattle.written_types.specs.Reading.{can_lead, led}
+use Rattle.written_types.specs.Written.{partial_regions}
+use Rattle.written_types.specs.declared.layer.WrittenLayer.{WrittenLayer}
 use Rattle.written_types.specs.declared.tagged.TagName.{TagName}
 use Rattle.written_types.specs.declared.tagged.TagName.TheVariants as code
 use Rattle.cyc_tree.specs.Tree as tree
@@ -15,7 +22,7 @@ use Rattle.cyc_tree.specs.Tree as tree
 -- ---- what is taken
 
 abbrev pub struct_base : Taken → tree.Base → Option Name
-struct_base k (tree.Struct tag []) = (if k.structs then Some tag else None)
+struct_base k (tree.Struct tag rs) = (if k.structs && takes_arguments k rs then Some tag else None)
 struct_base k b = None
 
 -- the tag of a type of structs that is taken
@@ -27,24 +34,30 @@ struct_taken k t = (if takes_pointers k t.pointers then struct_base k t.base els
 -- what a name means where a tag is wanted
 abbrev pub tag_name_of : Option Entry → TagName
 tag_name_of None = code.NoName
-tag_name_of (Some (OfTag t)) = (if t.sound then code.Tag t.is_union else code.NotJudged)
+tag_name_of (Some (OfTag t)) = (if t.sound then code.Tag t.is_union t.regions else code.NotJudged t.regions)
 tag_name_of (Some e) = code.Other
 
--- a name means this, and has no region parameters
+-- how many region parameters it has
+abbrev pub regions_named : TagName → ℕ
+regions_named (code.Tag u n) = n
+regions_named (code.NotJudged n) = n
+regions_named code.NoName = 0
+regions_named code.Other = 0
+
+-- a name means this
 pub record IsNamed (g : Tables) (x : List ℕ) (n : TagName) : Type 0 where
   pub is : tag_name_of (find g x) ≡ n
-  pub plain : regions_of_tag (tag_in g x) ≡ 0
 
 -- the tag of a type of structs that is taken means this
 abbrev pub TagIs : Taken → Tables → TypeName → TagName → Type 0
 TagIs k g t n = (x : Name) → struct_taken k t ≡ Some x → IsNamed g x.text n
 
--- the tag of a struct without region parameters, by what its name means
+-- the tag of a struct, with its count of region parameters, by what its name means
 abbrev pub named_as : TagName → ℕ → Verdict ℕ
 named_as code.NoName at = refuse name_rule at
-named_as (code.Tag false) at = Of 0
-named_as (code.Tag true) at = refuse type_rule at
-named_as code.NotJudged at = Unjudged
+named_as (code.Tag false n) at = Of n
+named_as (code.Tag true n) at = refuse type_rule at
+named_as (code.NotJudged n) at = Unjudged
 named_as code.Other at = refuse type_rule at
 
 -- ---- types
@@ -58,12 +71,31 @@ abbrev pub pointed_on : List RegionNamed → TypeName → PartialType → Verdic
 pointed_on names t b =
     unless_faulty (pointers_found names t).1 (type_built t.at (pointers_to t.pointers (pointers_found names t).0 (Some b)))
 
--- the type's pointers on the struct of a tag
-abbrev pub struct_on : TypeName → Name → List Found → List Fault → TagName → Verdict PartialType
-struct_on t x fs bad n = written_on (record { at = t.at; base = tree.Struct x []; pointers = t.pointers }) fs bad (named_as n x.at)
+-- ---- a type of structs
+
+-- what was read in code of its region arguments and pointers, where its tag has so many region parameters, by the regions that were found and their faults
+pub record IsRead (t : TypeName) (n : ℕ) (y : List Found × List Fault) (arguments : List (Option RegionId)) (layers : List WrittenLayer)
+    (bad : Option code_fault.Fault) : Type 0 where
+  pub of_base : List Found
+  pub of_pointers : List Found
+  pub found : y.0 ≡ of_base ++ of_pointers
+  pub count : length of_base ≡ length (spots_by n (written_arguments t.base))
+  pub regions : partial_regions arguments ≡ map as_region of_base
+  pub pointers : (b : PartialType) → pointers_to t.pointers of_pointers (Some b) ≡ led (can_lead b) b layers
+  pub fault : faults_of bad ≡ earliest y.1
+
+-- the places of its regions, where its tag has so many region parameters
+abbrev pub struct_spots : ℕ → TypeName → List Spot
+struct_spots n t = spots_by n (written_arguments t.base) ++ map (λ q. spot true q.region) t.pointers
+
+-- a wrong count of region arguments
+abbrev pub if_counted : ℕ → Bool → Verdict PartialType → Verdict PartialType
+if_counted at true v = v
+if_counted at false v = refuse region_rule at
 
 abbrev pub struct_in : List RegionNamed → TypeName → Name → TagName → Verdict PartialType
-struct_in names t x n = struct_on t x (pointers_found names t).0 (pointers_found names t).1 n
+struct_in names t x n =
+    written_on t (all_found names (struct_spots (regions_named n) t)).0 (all_found names (struct_spots (regions_named n) t)).1 (named_as n x.at)
 
 -- ---- parameters, where they are taken
 

@@ -1,9 +1,11 @@
 -- Types as a text writes them in code, as the rules say them.
-use Rattle.std.specs.Prelude.{List, Some, option_map, [], ◌∷◌}
-use Rattle.source_typing.specs.Types.{Fat, PartialType, Thin, Unique, renamed}
-use Rattle.cyc_types.specs.Bases.{base_type}
+use Rattle.std.specs.Prelude.{List, Option, map, option_map, [], ◌∷◌}
+use Rattle.source_typing.specs.Regions.{Region}
+use Rattle.source_typing.specs.Types.{Char, Fat, Int, PartialType, Struct, Thin, Unique, Unsigned, Void}
 use Rattle.cyc_types.specs.Regions.{region_of}
-use Rattle.cyc_types.specs.declared.base.BaseType.{BaseType}
+use Rattle.cyc_types.specs.declared.region.RegionId.{RegionId}
+use Rattle.written_types.specs.declared.base.WrittenBase.{WrittenBase}
+use Rattle.written_types.specs.declared.base.WrittenBase.TheVariants as base
 use Rattle.written_types.specs.declared.layer.WrittenLayer.{WrittenLayer}
 use Rattle.written_types.specs.declared.layer.WrittenLayer.TheVariants as code
 use Rattle.written_types.specs.declared.settling.WrittenType.{WrittenType}
@@ -19,9 +21,17 @@ abbrev pub partial_under : PartialType → List WrittenLayer → PartialType
 partial_under t [] = t
 partial_under t (l ∷ ls) = partial_under (partial_to l t) ls
 
--- a type that is no pointer: none of its regions is missing
-abbrev pub partial_base : BaseType → PartialType
-partial_base b = renamed (λ r. Some r) (base_type b)
+-- region arguments that may be missing
+abbrev pub partial_regions : List (Option RegionId) → List (Option Region)
+partial_regions rs = map (λ r. option_map region_of r) rs
+
+-- a type that is no pointer
+abbrev pub partial_base : WrittenBase → PartialType
+partial_base base.Int = Int
+partial_base base.Unsigned = Unsigned
+partial_base base.Char = Char
+partial_base base.Void = Void
+partial_base (base.Struct tag rs) = Struct tag.now (partial_regions rs.items)
 
 abbrev pub partial_type : WrittenType → PartialType
 partial_type w = partial_under (partial_base w.base) w.layers.items

@@ -1,24 +1,18 @@
 // Types in the heads of functions.
 
 ghost use Rattle.std.specs.Prelude.{◌≡◌, ◌&&◌, ◌||◌, IfOk};
-ghost use Rattle.cyc_tree.specs.View.{type_tree};
 ghost use Rattle.cyc_types.specs.Types.{static_type};
-ghost use Rattle.source_typing.specs.Functions.{fits_parameter, result_type};
-ghost use Rattle.source_typing.specs.Tables.{Tables};
+ghost use Rattle.source_typing.specs.Functions.{fits_parameter};
 ghost use Rattle.source_typing.specs.Tags.{settled_alone};
-ghost use Rattle.source_typing.specs.Taken.{thin_pointers, type_taken};
 ghost use Rattle.source_typing.specs.Types.{PartialType, StaticType, is_void};
 ghost use Rattle.source_typing.specs.Verdicts as rules;
 ghost use Rattle.type_verdicts.specs.Verdicts.{short_of, shortened};
 ghost use Rattle.written_types.specs.Reading.{if_scalar};
 ghost use Rattle.written_types.specs.Written.{partial_type};
 
-use crate::reading::written;
 use crate::settling::{WrittenType, settled};
-use cyc_tree::TypeName;
 use cyc_types::CType;
-use scoped_types::RegionNames;
-use std::alloc::{AllocError, Global};
+use std::alloc::AllocError;
 use type_verdicts::{Fault, FaultKind, Verdict};
 
 /// A type that takes no missing regions from another one. Fails only where no host memory is left.
@@ -70,19 +64,4 @@ pub(crate) fn fitting<'p>(of: Verdict<CType<'p>>, at: u32, takes_void: bool) -> 
         Verdict::Wrong(fault) => Verdict::Wrong(fault),
         Verdict::NotJudged => Verdict::NotJudged,
     }
-}
-
-/// The type of a result: `void`, or a scalar other than a union. Its missing regions are the heap. Fails only where no host memory is
-/// left.
-pub fn result_type<'p>(
-    alloc: Global,
-    names: &RegionNames<'_>,
-    of: &TypeName,
-) -> Result<Verdict<CType<'p>>, AllocError>
-    ensures { (g : Tables) → IfOk result (λ v. short_of static_type v
-        ≡ shortened (result_type g names.now (type_taken thin_pointers (type_tree of.now)))) }
-{
-    let found = written(alloc, names, of)?;
-    let settled = settled_alone(found, of.at)?;
-    Ok(fitting(settled, of.at, true))
 }

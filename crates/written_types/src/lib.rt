@@ -1,9 +1,12 @@
 //! Types as a text writes them, and what they are once their missing regions are found.
 //!
 //! What is said of them are the definitions of `source_typing`, on which it stands, where integers and thin pointers are taken,
-//! and structs without region parameters where they may be (`Taken`): a function here answers the verdict that the rules have.
+//! and structs, with or without region parameters, where they may be (`Taken`): a function here answers the verdict that the rules
+//! have.
 #![tactic(auto)]
 
+mod arguments;
+mod base;
 mod heading;
 mod layer;
 mod reading;
@@ -12,9 +15,10 @@ mod tag_names;
 mod tagged;
 mod variables;
 
-pub use heading::{result_type, settled_alone};
+pub use arguments::written_arguments;
+pub use base::{WrittenArguments, WrittenBase};
+pub use heading::settled_alone;
 pub use layer::WrittenLayer;
-pub use reading::{misses_region, takes_type, written};
 pub use settling::{WrittenLayers, WrittenType, settled};
 pub use tag_names::{TagNames, tag_of_type};
 pub use tagged::{

@@ -15,24 +15,25 @@ ghost use Rattle.written_types.specs.Reading.{can_lead, found_of, led, listed, m
 ghost use Rattle.written_types.specs.Tagged.{pointed_on};
 ghost use Rattle.written_types.specs.Written.{partial_base, partial_to, partial_type};
 
+use crate::base::{WrittenBase, can_lead};
 use crate::layer::WrittenLayer;
 use crate::settling::{WrittenLayers, WrittenType};
 use cyc_tree::{Base, Pointer, RegionName, Sign, TypeName};
-use cyc_types::{BaseType, RegionId};
+use cyc_types::RegionId;
 use scoped_types::RegionNames;
 use smallvec::SmallVec;
 use std::alloc::{AllocError, Global};
 use type_verdicts::{Fault, FaultKind, Verdict, sooner};
 
 /// A base that is taken. None: it isn't.
-fn plain_base<'p>(base: &Base) -> Option<BaseType<'p>>
+fn plain_base<'p>(base: &Base) -> Option<WrittenBase<'p>>
     ensures { option_map partial_base result ≡ plain_of (base_tree base.now) }
 {
     match base {
-        Base::Int => Some(BaseType::Int),
-        Base::Unsigned => Some(BaseType::Unsigned),
-        Base::Char => Some(BaseType::Char),
-        Base::Void => Some(BaseType::Void),
+        Base::Int => Some(WrittenBase::Int),
+        Base::Unsigned => Some(WrittenBase::Unsigned),
+        Base::Char => Some(WrittenBase::Char),
+        Base::Void => Some(WrittenBase::Void),
         Base::Struct(_, _) | Base::Union(_, _) | Base::Handle(_) | Base::Key(_) => None,
     }
 }
@@ -60,7 +61,7 @@ fn takes_each(pointers: &[Pointer]) -> bool
 }
 
 /// The base of a type that is taken. None: the type isn't.
-pub(crate) fn taken_base<'p>(of: &TypeName) -> Option<BaseType<'p>>
+pub(crate) fn taken_base<'p>(of: &TypeName) -> Option<WrittenBase<'p>>
     ensures { option_map partial_base result ≡ taken_base (type_tree of.now) }
 {
     if takes_pointers(&of.pointers) {
@@ -91,17 +92,10 @@ pub(crate) fn layer_of(sign: Sign, region: Option<RegionId>) -> WrittenLayer
     }
 }
 
-/// Whether a pointer may lead to a base.
-fn can_lead(base: &BaseType<'_>) -> bool
-    ensures { result ≡ can_lead (partial_base base.now) }
-{
-    !matches!(base, BaseType::Void | BaseType::Key(_))
-}
-
 /// The type of pointers on a base, at fault at this place where no pointer leads to the base.
 pub(crate) fn built<'p>(
     at: u32,
-    base: BaseType<'p>,
+    base: WrittenBase<'p>,
     layers: WrittenLayers,
 ) -> Verdict<WrittenType<'p>>
     ensures { let b = partial_base base.entry in short_of partial_type result ≡ shortened (type_built at (led (can_lead b) b layers.items)) }
@@ -153,7 +147,7 @@ pub(crate) fn regions_fault(names: &RegionNames<'_>, pointers: &[Pointer]) -> Op
 }
 
 /// The pointers with the regions that are found.
-fn named_layers(
+pub(crate) fn named_layers(
     alloc: Global,
     names: &RegionNames<'_>,
     pointers: &[Pointer],
@@ -177,7 +171,7 @@ fn takes_base(base: &Base) -> bool
 }
 
 /// Whether a type is taken.
-pub fn takes_type(of: &TypeName) -> bool
+pub(crate) fn takes_type(of: &TypeName) -> bool
     ensures { result ≡ takes_type thin_pointers (type_tree of.now) }
 {
     takes_base(&of.base) && takes_pointers(&of.pointers)
@@ -191,7 +185,7 @@ pub(crate) fn any_misses(pointers: &[Pointer]) -> bool
 }
 
 /// Whether a region of a type is missing; that of one that isn't taken is.
-pub fn misses_region(of: &TypeName) -> bool
+pub(crate) fn misses_region(of: &TypeName) -> bool
     ensures { (g : Tables) → result ≡ any_missing (spots_of g (type_taken thin_pointers (type_tree of.now))) }
 {
     if takes_type(of) {
@@ -202,11 +196,11 @@ pub fn misses_region(of: &TypeName) -> bool
 }
 
 /// The pointers of a type on a base.
-pub(crate) fn pointers_on<'p>(
+fn pointers_on<'p>(
     alloc: Global,
     names: &RegionNames<'_>,
     of: &TypeName,
-    base: BaseType<'p>,
+    base: WrittenBase<'p>,
 ) -> Result<Verdict<WrittenType<'p>>, AllocError>
     ensures { takes_pointers thin_pointers (type_tree of.now).pointers ≡ true → IfOk result (λ v. short_of partial_type v
         ≡ shortened (pointed_on names.now (type_tree of.now) (partial_base base.entry))) }
@@ -225,7 +219,7 @@ fn on_base<'p>(
     alloc: Global,
     names: &RegionNames<'_>,
     of: &TypeName,
-    base: BaseType<'p>,
+    base: WrittenBase<'p>,
 ) -> Result<Verdict<WrittenType<'p>>, AllocError>
     ensures { (g : Tables) → taken_base (type_tree of.now) ≡ Some (partial_base base.entry) → IfOk result (λ v. short_of partial_type v
         ≡ shortened (written g names.now (type_taken thin_pointers (type_tree of.now)))) }
@@ -236,7 +230,7 @@ fn on_base<'p>(
 
 /// A type as a text writes it. One that isn't taken is at fault at its first token; an unknown region name is at fault at the name,
 /// of several the earliest; and a pointer to `void` is at fault at its type. Fails only where no host memory is left.
-pub fn written<'p>(
+pub(crate) fn written<'p>(
     alloc: Global,
     names: &RegionNames<'_>,
     of: &TypeName,

@@ -9,8 +9,9 @@ ghost use Rattle.type_verdicts.specs.Verdicts.{short_of, shortened};
 ghost use Rattle.written_types.specs.Settling.{all_from, outer_found, reached};
 ghost use Rattle.written_types.specs.Written.{partial_type};
 
+use crate::base::WrittenBase;
 use crate::layer::WrittenLayer;
-use cyc_types::{BaseType, CType, Layer, Layers};
+use cyc_types::{CType, Layer, Layers};
 use smallvec::SmallVec;
 use std::alloc::{AllocError, Global};
 use type_verdicts::{Fault, FaultKind, Verdict};
@@ -21,7 +22,7 @@ pub type WrittenLayers = SmallVec<WrittenLayer, 2>;
 /// A type as a text writes it: a base, and the pointers to it from the base outwards.
 #[derive(Debug, Drop)]
 pub struct WrittenType<'p> {
-    pub base: BaseType<'p>,
+    pub base: WrittenBase<'p>,
     pub layers: WrittenLayers,
 }
 
@@ -82,8 +83,13 @@ pub fn settled<'p>(
         ≡ shortened (settled at (partial_type written.entry) (option_map (λ s. static_type s.now) source.entry))) }
 {
     let WrittenType { base, layers } = written;
-    match layers_from(*layers.allocator(), layers.as_slice(), source)? {
-        Some(layers) => Ok(Verdict::Of(CType { base, layers })),
+    let alloc = *layers.allocator();
+    let filled = base.filled(alloc, source, layers.len())?;
+    match layers_from(alloc, layers.as_slice(), source)? {
+        Some(layers) => Ok(Verdict::Of(CType {
+            base: filled,
+            layers,
+        })),
         None => Ok(Verdict::Wrong(Fault {
             kind: FaultKind::Typing,
             at,

@@ -1,24 +1,36 @@
-// Types of structs without region parameters, where they are taken.
+// Types of structs, where they are taken.
 
-ghost use Rattle.std.specs.Prelude.{◌≡◌, ◌||◌, IfOk, OnOk, is_some, option_map, true};
+ghost use Rattle.std.specs.Prelude.{◌≡◌, ◌||◌, IfOk, List, is_some, option_map, true};
+ghost use Rattle.cyc_tree.specs.Tree.{Struct};
 ghost use Rattle.cyc_tree.specs.View.{name_tree, type_tree};
 ghost use Rattle.cyc_types.specs.Types.{static_type};
 ghost use Rattle.source_typing.specs.Functions.{result_type};
 ghost use Rattle.source_typing.specs.Tables.{Tables};
 ghost use Rattle.source_typing.specs.Taken.{takes_pointers, takes_type, thin_pointers, type_taken};
-ghost use Rattle.source_typing.specs.Written.{any_missing, spots_of, written};
+ghost use Rattle.source_typing.specs.Types.{PartialType};
+ghost use Rattle.source_typing.specs.Types as type;
+ghost use Rattle.source_typing.specs.Written.{Found, any_missing, spots_of, type_built, written, written_on};
+ghost use Rattle.source_typing.specs.Faults as rules;
 ghost use Rattle.type_verdicts.specs.Taken.{taken_of};
 ghost use Rattle.type_verdicts.specs.Verdicts.{short_of, shortened};
-ghost use Rattle.written_types.specs.Tagged.{TagIs, named_as, struct_in, struct_taken};
-ghost use Rattle.written_types.specs.Written.{partial_type};
+ghost use Rattle.written_types.specs.Arguments.{count_meets, written_arguments};
+ghost use Rattle.written_types.specs.Reading.{led};
+ghost use Rattle.written_types.specs.Tagged.{IsRead, TagIs, if_counted, named_as, regions_named, struct_in, struct_spots, struct_taken};
+ghost use Rattle.written_types.specs.Written.{partial_regions, partial_type};
 
+use crate::arguments::{
+    arguments_fault, count_fits, found_arguments, misses_argument, written_arguments,
+};
+use crate::base::{WrittenArguments, WrittenBase};
 use crate::heading::{fitting, settled_alone};
-use crate::reading::{any_misses, pointers_on, regions_fault, takes_pointers, takes_type, written};
-use crate::settling::WrittenType;
+use crate::reading::{
+    any_misses, built, misses_region, named_layers, regions_fault, takes_pointers, takes_type,
+    written,
+};
+use crate::settling::{WrittenLayers, WrittenType};
 use cyc_tree::{Base, Name, TypeName};
-use cyc_types::{BaseType, CType};
+use cyc_types::CType;
 use scoped_types::RegionNames;
-use smallvec::SmallVec;
 use std::alloc::{AllocError, Global};
 use type_verdicts::{Fault, FaultKind, Taken, Verdict, sooner};
 
@@ -27,12 +39,28 @@ use type_verdicts::{Fault, FaultKind, Taken, Verdict, sooner};
 pub enum TagName {
     /// Nothing.
     NoName,
-    /// A struct or union whose declaration has no fault; whether it is a union.
-    Tag(bool),
-    /// A struct or union whose declaration is at fault.
-    NotJudged,
+    /// A struct or union whose declaration has no fault.
+    Tag {
+        is_union: bool,
+        /// How many region parameters it has.
+        regions: u32,
+    },
+    /// A struct or union whose declaration is at fault; how many region parameters it has.
+    NotJudged(u32),
     /// What is neither struct nor union.
     Other,
+}
+
+impl TagName {
+    /// How many region parameters it has.
+    pub fn regions(self) -> u32
+        ensures { result ≡ regions_named self }
+    {
+        match self {
+            TagName::Tag { regions, .. } | TagName::NotJudged(regions) => regions,
+            TagName::NoName | TagName::Other => 0,
+        }
+    }
 }
 
 /// The tag of a type of structs that is taken. None: it is another type, or isn't taken.
@@ -44,7 +72,7 @@ pub fn struct_tag<'p>(taken: Taken, of: &'p TypeName) -> Option<&'p Name>
     }
     match &of.base {
         Base::Struct(tag, arguments) => {
-            if taken.structs && arguments.is_empty() {
+            if taken.structs && (taken.parameters || arguments.is_empty()) {
                 Some(tag)
             } else {
                 None
@@ -55,7 +83,7 @@ pub fn struct_tag<'p>(taken: Taken, of: &'p TypeName) -> Option<&'p Name>
 }
 
 /// The tag of a struct, with its count of region parameters, by what its name means.
-pub(crate) fn named_struct(tag: TagName, at: u32) -> Verdict<u32>
+fn named_struct(tag: TagName, at: u32) -> Verdict<u32>
     ensures { short_of (λ n. n) result ≡ shortened (named_as tag at) }
 {
     match tag {
@@ -63,12 +91,60 @@ pub(crate) fn named_struct(tag: TagName, at: u32) -> Verdict<u32>
             kind: FaultKind::Name,
             at,
         }),
-        TagName::Tag(false) => Verdict::Of(0),
-        TagName::NotJudged => Verdict::NotJudged,
-        TagName::Tag(true) | TagName::Other => Verdict::Wrong(Fault {
+        TagName::Tag {
+            is_union: false,
+            regions,
+        } => Verdict::Of(regions),
+        TagName::NotJudged(_) => Verdict::NotJudged,
+        TagName::Tag { is_union: true, .. } | TagName::Other => Verdict::Wrong(Fault {
             kind: FaultKind::Typing,
             at,
         }),
+    }
+}
+
+/// A type of structs with so many region parameters, by its region arguments and pointers as they were read.
+fn counted<'p>(
+    count: u32,
+    of: &'p TypeName,
+    name: &'p Name,
+    arguments: WrittenArguments,
+    layers: WrittenLayers,
+) -> Verdict<WrittenType<'p>>
+    ensures { (b : PartialType) → b ≡ type.Struct (name_tree name.entry.now).text (partial_regions arguments.items)
+        → let t = type_tree of.entry.now in short_of partial_type result
+        ≡ shortened (if_counted t.at (count_meets (written_arguments t.base) count) (type_built t.at (led true b layers.items))) }
+{
+    if count_fits(written_arguments(&of.base), count) {
+        built(of.at, WrittenBase::Struct(&name.text, arguments), layers)
+    } else {
+        Verdict::Wrong(Fault {
+            kind: FaultKind::Region,
+            at: of.at,
+        })
+    }
+}
+
+/// A type of structs, by what its tag means, and by its region arguments, pointers and their earliest fault as they were read.
+pub(crate) fn struct_of<'p>(
+    tag: TagName,
+    of: &'p TypeName,
+    name: &'p Name,
+    arguments: WrittenArguments,
+    layers: WrittenLayers,
+    fault: Option<Fault>,
+) -> Verdict<WrittenType<'p>>
+    ensures { (y : List Found × List rules.Fault) → let t = type_tree of.entry.now in let x = name_tree name.entry.now in
+        t.base ≡ Struct x (written_arguments t.base) → IsRead t (regions_named tag) y arguments.items layers.items fault
+        → short_of partial_type result ≡ shortened (written_on t y.0 y.1 (named_as tag x.at)) }
+{
+    match named_struct(tag, name.at) {
+        Verdict::Of(count) => match fault {
+            Some(fault) => Verdict::Wrong(fault),
+            None => counted(count, of, name, arguments, layers),
+        },
+        Verdict::Wrong(own) => Verdict::wrong_if(sooner(Some(own), fault)),
+        Verdict::NotJudged => Verdict::wrong_if(fault),
     }
 }
 
@@ -80,20 +156,18 @@ fn written_struct<'p>(
     of: &'p TypeName,
     name: &'p Name,
 ) -> Result<Verdict<WrittenType<'p>>, AllocError>
-    ensures { takes_pointers thin_pointers (type_tree of.entry.now).pointers ≡ true → IfOk result (λ v. short_of partial_type v
-        ≡ shortened (struct_in names.now (type_tree of.entry.now) (name_tree name.entry.now) tag)) }
+    ensures { let t = type_tree of.entry.now in let x = name_tree name.entry.now in
+        t.base ≡ Struct x (written_arguments t.base) → takes_pointers thin_pointers t.pointers ≡ true
+        → IfOk result (λ v. short_of partial_type v ≡ shortened (struct_in names.now t x tag)) }
 {
-    match named_struct(tag, name.at) {
-        Verdict::Of(_) => {
-            let base = BaseType::Struct(&name.text, SmallVec::new(alloc));
-            pointers_on(alloc, names, of, base)
-        }
-        Verdict::Wrong(fault) => {
-            let earliest = sooner(Some(fault), regions_fault(names, &of.pointers));
-            Ok(Verdict::wrong_if(earliest))
-        }
-        Verdict::NotJudged => Ok(Verdict::wrong_if(regions_fault(names, &of.pointers))),
-    }
+    let written = written_arguments(&of.base);
+    let arguments = found_arguments(alloc, names, tag.regions(), written)?;
+    let layers = named_layers(alloc, names, &of.pointers)?;
+    let fault = sooner(
+        arguments_fault(names, written),
+        regions_fault(names, &of.pointers),
+    );
+    Ok(struct_of(tag, of, name, arguments, layers, fault))
 }
 
 /// A type as a text writes it, where structs may be taken: the tag of a struct means this. A type that isn't taken is at fault at its
@@ -128,15 +202,21 @@ pub fn takes_type_in(taken: Taken, of: &TypeName) -> bool
     struct_tag(taken, of).is_some() || takes_type(of)
 }
 
+/// Whether a region of a type of structs is missing, by what its tag means.
+fn misses_in_struct(tag: TagName, of: &TypeName) -> bool
+    ensures { let t = type_tree of.now in result ≡ any_missing (struct_spots (regions_named tag) t) }
+{
+    misses_argument(written_arguments(&of.base), tag.regions()) || any_misses(&of.pointers)
+}
+
 /// Whether a region of a type is missing, where structs may be taken; that of one that isn't taken is.
 pub fn misses_region_in(taken: Taken, tag: TagName, of: &TypeName) -> bool
     ensures { (g : Tables) → TagIs (taken_of taken) g (type_tree of.now) tag
         → result ≡ any_missing (spots_of g (type_taken (taken_of taken) (type_tree of.now))) }
 {
-    if takes_type_in(taken, of) {
-        any_misses(&of.pointers)
-    } else {
-        true
+    match struct_tag(taken, of) {
+        Some(_) => misses_in_struct(tag, of),
+        None => misses_region(of),
     }
 }
 

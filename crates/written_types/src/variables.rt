@@ -1,6 +1,6 @@
 // The region variables of a function's head.
 
-ghost use Rattle.std.specs.Prelude.{◌≡◌, IfOk, None, OnErr, OnOk, Some, [], is_none, option_map, suc, true};
+ghost use Rattle.std.specs.Prelude.{◌≡◌, IfOk, None, OnErr, OnOk, Some, [], false, is_none, map, option_map, replicate, suc, true};
 ghost use Rattle.cyc_tree.specs.Tree.{Named, Struct};
 ghost use Rattle.cyc_tree.specs.View.{name_tree, region_tree, type_tree};
 ghost use Rattle.cyc_types.specs.Regions.{region_of};
@@ -10,20 +10,23 @@ ghost use Rattle.source_typing.specs.Regions.{Level};
 ghost use Rattle.source_typing.specs.Tables.{Tables};
 ghost use Rattle.source_typing.specs.Taken.{refused_type, takes_pointers, takes_region, thin_pointers};
 ghost use Rattle.source_typing.specs.Types.{PartialType};
-ghost use Rattle.source_typing.specs.Written.{Is, find_region, pointers_to, spots_of, type_built};
+ghost use Rattle.source_typing.specs.Written.{Is, as_region, find_region, pointers_to, spot, spots_of, type_built};
 ghost use Rattle.type_verdicts.specs.Taken.{taken_of};
 ghost use Rattle.type_verdicts.specs.Verdicts.{short_of, shortened};
+ghost use Rattle.written_types.specs.Arguments.{named_spots, spots_by, written_arguments};
 ghost use Rattle.written_types.specs.Parameters.{as_parameter, parameter_in, refused_at, spotted_in};
 ghost use Rattle.written_types.specs.Reading.{can_lead, led, pointer_spots, pointer_trees, taken_base};
 ghost use Rattle.written_types.specs.Tagged.{IsNamed, TagIs, parameter_by, spotted_by};
-ghost use Rattle.written_types.specs.Written.{partial_base};
+ghost use Rattle.written_types.specs.Written.{partial_base, partial_regions};
 
+use crate::arguments::{unique_faults, written_arguments};
+use crate::base::{WrittenArguments, WrittenBase};
 use crate::heading::{fitting, settled_alone};
 use crate::reading::{built, layer_of, taken_base};
 use crate::settling::WrittenLayers;
-use crate::tagged::{TagName, named_struct, struct_tag};
+use crate::tagged::{TagName, struct_of, struct_tag};
 use cyc_tree::{Name, Pointer, RegionName, TypeName};
-use cyc_types::{BaseType, CType, RegionId};
+use cyc_types::{CType, RegionId};
 use scoped_types::RegionNames;
 use smallvec::SmallVec;
 use std::alloc::{AllocError, Global};
@@ -48,7 +51,7 @@ impl<'p> Model for RegionVariables<'p> {
 /// The type of a parameter: of these pointers on a base.
 fn parameter_of<'p>(
     at: u32,
-    base: BaseType<'p>,
+    base: WrittenBase<'p>,
     layers: WrittenLayers,
 ) -> Result<Verdict<CType<'p>>, AllocError>
     ensures { let b = partial_base base.entry in IfOk result (λ v. short_of static_type v
@@ -173,7 +176,7 @@ impl<'p> RegionVariables<'p> {
         &mut self,
         alloc: Global,
         of: &'p TypeName,
-        base: BaseType<'p>,
+        base: WrittenBase<'p>,
     ) -> Result<Verdict<CType<'p>>, AllocError>
         ensures found { (g : Tables) → taken_base (type_tree of.entry.now) ≡ Some (partial_base base.entry)
             → IfOk result (λ v. short_of static_type v ≡ shortened (parameter_in g self.old (type_tree of.entry.now))) }
@@ -187,7 +190,7 @@ impl<'p> RegionVariables<'p> {
 
     /// The type of a parameter: a scalar other than a union. Its missing regions, and the first of each name, are fresh variables. A
     /// type that isn't taken is at fault at its first token, and has one missing region. Fails only where no host memory is left.
-    pub fn parameter(
+    fn parameter(
         &mut self,
         alloc: Global,
         of: &'p TypeName,
@@ -201,6 +204,75 @@ impl<'p> RegionVariables<'p> {
         }
     }
 
+    /// The region of a parameter's argument. None: it is the unique one.
+    fn take_argument(&mut self, argument: &'p RegionName) -> Result<Option<RegionId>, AllocError>
+        ensures found { IfOk result (λ r. option_map region_of r ≡ as_region (take_spot self.old (Some (region_tree argument.entry.now)) false).found) }
+        ensures after { OnOk result (self.new ≡ (take_spot self.old (Some (region_tree argument.entry.now)) false).after_it) }
+    {
+        match argument {
+            RegionName::Named(name) => {
+                let region = self.take_named(name)?;
+                Ok(Some(region))
+            }
+            RegionName::Heap(_) => Ok(Some(RegionId::Heap)),
+            RegionName::Unique(_) => Ok(None),
+        }
+    }
+
+    /// The written arguments of a parameter's struct, with their regions. Fails only where no host memory is left.
+    fn take_named_arguments(
+        &mut self,
+        alloc: Global,
+        arguments: &'p [RegionName],
+    ) -> Result<WrittenArguments, AllocError>
+        ensures found { IfOk result (λ found. partial_regions found.items
+            ≡ map as_region (take_spots self.old (named_spots (map region_tree arguments.entry.now))).found) }
+        ensures after { OnOk result (self.new ≡ (take_spots self.old (named_spots (map region_tree arguments.entry.now))).after_all) }
+    {
+        let mut found = SmallVec::new(alloc);
+        'each: for argument in arguments {
+            let region = self.take_argument(argument)?;
+            found.push(region)?;
+        }
+        Ok(found)
+    }
+
+    /// So many missing arguments, with fresh variables. Fails only where no host memory is left.
+    fn fresh_arguments(&mut self, alloc: Global, count: u32) -> Result<WrittenArguments, AllocError>
+        ensures found { IfOk result (λ found. partial_regions found.items ≡ map as_region (take_spots self.old (replicate count (spot false None))).found) }
+        ensures after { OnOk result (self.new ≡ (take_spots self.old (replicate count (spot false None))).after_all) }
+    {
+        let mut found = SmallVec::new(alloc);
+        let mut left = count;
+        'each: while left > 0 {
+            let region = self.fresh()?;
+            found.push(Some(region))?;
+            left -= 1;
+        }
+        Ok(found)
+    }
+
+    /// The arguments of a parameter's struct with their regions, fresh variables for so many where none is written. Fails only where no
+    /// host memory is left.
+    fn take_arguments(
+        &mut self,
+        alloc: Global,
+        count: u32,
+        arguments: &'p [RegionName],
+    ) -> Result<WrittenArguments, AllocError>
+        ensures found { IfOk result (λ found. partial_regions found.items
+            ≡ map as_region (take_spots self.old (spots_by count (map region_tree arguments.entry.now))).found) }
+        ensures after { OnOk result (self.new ≡ (take_spots self.old (spots_by count (map region_tree arguments.entry.now))).after_all) }
+    {
+        if arguments.is_empty() {
+            let found = self.fresh_arguments(alloc, count)?;
+            Ok(found)
+        } else {
+            let found = self.take_named_arguments(alloc, arguments)?;
+            Ok(found)
+        }
+    }
+
     /// The type of a parameter of pointers to a struct, which is taken, by what its tag means.
     fn on_struct(
         &mut self,
@@ -209,24 +281,19 @@ impl<'p> RegionVariables<'p> {
         of: &'p TypeName,
         name: &'p Name,
     ) -> Result<Verdict<CType<'p>>, AllocError>
-        ensures found { (g : Tables) → IsNamed g name.entry.now.text.items tag → (type_tree of.entry.now).base ≡ Struct (name_tree name.entry.now) []
-            → takes_pointers thin_pointers (type_tree of.entry.now).pointers ≡ true
-            → IfOk result (λ v. short_of static_type v
-            ≡ shortened (parameter_type g (type_tree of.entry.now) (take_spots self.old (spots_of g (type_tree of.entry.now))))) }
-        ensures after { (g : Tables) → IsNamed g name.entry.now.text.items tag → (type_tree of.entry.now).base ≡ Struct (name_tree name.entry.now) []
-            → takes_pointers thin_pointers (type_tree of.entry.now).pointers ≡ true
-            → OnOk result (self.new ≡ (take_spots self.old (spots_of g (type_tree of.entry.now))).after_all) }
+        ensures found { (g : Tables) → let t = type_tree of.entry.now in let x = name_tree name.entry.now in
+            IsNamed g x.text tag → t.base ≡ Struct x (written_arguments t.base) → takes_pointers thin_pointers t.pointers ≡ true
+            → IfOk result (λ v. short_of static_type v ≡ shortened (parameter_type g t (take_spots self.old (spots_of g t)))) }
+        ensures after { (g : Tables) → let t = type_tree of.entry.now in let x = name_tree name.entry.now in
+            IsNamed g x.text tag → t.base ≡ Struct x (written_arguments t.base) → takes_pointers thin_pointers t.pointers ≡ true
+            → OnOk result (self.new ≡ (take_spots self.old (spots_of g t)).after_all) }
     {
+        let written = written_arguments(&of.base);
+        let arguments = self.take_arguments(alloc, tag.regions(), written)?;
         let layers = self.take_layers(alloc, &of.pointers)?;
-        match named_struct(tag, name.at) {
-            Verdict::Of(_) => {
-                let base = BaseType::Struct(&name.text, SmallVec::new(alloc));
-                let parameter = parameter_of(of.at, base, layers)?;
-                Ok(parameter)
-            }
-            Verdict::Wrong(fault) => Ok(Verdict::Wrong(fault)),
-            Verdict::NotJudged => Ok(Verdict::NotJudged),
-        }
+        let found = struct_of(tag, of, name, arguments, layers, unique_faults(written));
+        let settled = settled_alone(found, of.at)?;
+        Ok(fitting(settled, of.at, false))
     }
 
     /// The type of a parameter, where structs may be taken: the tag of a struct means this. Fails only where no host memory is left.

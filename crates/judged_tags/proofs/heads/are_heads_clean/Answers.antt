@@ -3,18 +3,18 @@ use Rattle.std.specs.Prelude.{◌&&◌}
 use Rattle.std.proofs.lemmas.List.{drop_all, drop_more}
 use Rattle.cyc_tree.specs.View.{member_tree, type_tree}
 use Rattle.source_typing.specs.Faults.{is_clean}
-use Rattle.source_typing.specs.Scope.{at_item}
 use Rattle.source_typing.specs.Tags.{head_faults, head_type}
 use Rattle.source_typing.specs.Taken.{members_taken, type_taken}
 use Rattle.source_typing.specs.Verdicts.{faults_of}
 use Rattle.type_verdicts.specs.Taken.{taken_of}
-use Rattle.judged_tags.proofs.FirstKnown.{and_true, clean_next}
+use Rattle.judged_tags.proofs.HeadTypes.{and_true, clean_next}
+use Rattle.judged_tags.specs.Members.{scoped}
 use Rattle.judged_tags.proofs.heads.are_heads_clean.Goals as goal
 
 pub each-preserved : goal.each-preserved
 each-preserved c g i bare =
     let k = taken_of c.args.taken in
-    let e = at_item false g i in
+    let e = scoped g i c.args.names.now in
     let all = c.args.members.now in
     let at = c.each.member-index in
     let m = c.member-item.result in
@@ -28,7 +28,7 @@ each-preserved c g i bare =
 pub returns : goal.returns
 returns c g i bare =
     let k = taken_of c.args.taken in
-    let e = at_item false g i in
+    let e = scoped g i c.args.names.now in
     let all = c.args.members.now in
     sym (and_true c.each.clean)
     ∙ sym (ap (λ ms. c.each.clean && is_clean (head_faults e false (members_taken k (map member_tree ms))))

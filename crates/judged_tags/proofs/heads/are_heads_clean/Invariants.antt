@@ -2,16 +2,16 @@ use Rattle.std.proofs.Common.{◌≡◌, ℕ, drop, false, map}
 use Rattle.std.specs.Prelude.{◌&&◌}
 use Rattle.cyc_tree.specs.View.{member_tree}
 use Rattle.source_typing.specs.Faults.{is_clean}
-use Rattle.source_typing.specs.Scope.{at_item}
 use Rattle.source_typing.specs.Tables.{Tables}
 use Rattle.source_typing.specs.Tags.{head_faults}
 use Rattle.source_typing.specs.Taken.{members_taken}
 use Rattle.type_verdicts.specs.Taken.{taken_of}
 use Rattle.judged_tags.specs.FirstKnown.{AreBare}
+use Rattle.judged_tags.specs.Members.{scoped}
 use Rattle.judged_tags.proofs.heads.are_heads_clean.Given as goal
 
 -- those so far and the rest are all of them
 abbrev pub invariant-each : goal.invariant-each
-invariant-each l = (g : Tables) (i : ℕ) → AreBare l.names g
-    → (l.clean && is_clean (head_faults (at_item false g i) false (members_taken (taken_of l.taken) (map member_tree (drop l.member-index l.members)))))
-    ≡ is_clean (head_faults (at_item false g i) false (members_taken (taken_of l.taken) (map member_tree l.members)))
+invariant-each l = (g : Tables) (i : ℕ) → AreBare l.tags g
+    → (l.clean && is_clean (head_faults (scoped g i l.names) false (members_taken (taken_of l.taken) (map member_tree (drop l.member-index l.members)))))
+    ≡ is_clean (head_faults (scoped g i l.names) false (members_taken (taken_of l.taken) (map member_tree l.members)))

@@ -9,8 +9,8 @@ use Rattle.judged_tags.proofs.FirstKnown.{bare_names, since_next}
 use Rattle.judged_tags.proofs.heads.bare_names.Goals as goal
 
 pub each-preserved : goal.each-preserved
-each-preserved c kind =
-    let k = taken_of kind in
+each-preserved c =
+    let k = taken_of c.args.taken in
     let items = c.args.items.now in
     let all = only_taken k (program_tree items) in
     let at = c.each.item-index in
@@ -18,17 +18,17 @@ each-preserved c kind =
     let one : suc at ≡ at + 1 = omega arith in
     subst (λ n. AreSince c.add.new.self (bare_from n (only_taken k (program_tree (drop (at + 1) items)))) (bare_tags all)) one
     (since_next (bare_tags all) (bare_from (suc at) (only_taken k (program_tree (drop (at + 1) items)))) (name_of item).text
-    c.deref.result.now (bare_entry at item) c.bare_name.result c.each.names c.add.new.self c.in_ok-add.field-0
-    (c.deref.ensures.value ∙ ap (λ n. n.text) (c.item_name.ensures k)) (c.bare_name.ensures k at)
+    c.deref.result.now (bare_entry at item) c.in_ok-name.name c.each.names c.add.new.self c.in_ok-add.field-0
+    (c.deref.ensures.value ∙ ap (λ n. n.text) (c.item_name.ensures k)) (c.in_ok-name.ensures at)
     c.in_ok-add.ensures.is_new c.in_ok-add.ensures.names c.in_ok-add.ensures.known
     (subst (λ r. AreSince c.each.names (bare_from at (only_taken k (program_tree r))) (bare_tags all))
-    (drop_more items at c.item-item.result c.each-test.true ∙ ap (λ y. y ∷ drop (at + 1) items) (sym c.item-item.is)) (c.each.invariant kind)))
+    (drop_more items at c.item-item.result c.each-test.true ∙ ap (λ y. y ∷ drop (at + 1) items) (sym c.item-item.is)) c.each.invariant))
 
 pub returns : goal.returns
-returns c kind =
-    let k = taken_of kind in
+returns c =
+    let k = taken_of c.args.taken in
     let items = c.args.items.now in
     let all = only_taken k (program_tree items) in
-    bare_names kind (program_tree items) c.each.names
+    bare_names c.args.taken (program_tree items) c.each.names
     (subst (λ r. AreSince c.each.names (bare_from c.each.item-index (only_taken k (program_tree r))) (bare_tags all))
-    (drop_all c.each.item-index items (omega (arith, c.each-test.false))) (c.each.invariant kind))
+    (drop_all c.each.item-index items (omega (arith, c.each-test.false))) c.each.invariant)

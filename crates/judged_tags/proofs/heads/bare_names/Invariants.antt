@@ -3,12 +3,11 @@ use Rattle.cyc_tree.specs.View.{program_tree}
 use Rattle.source_typing.specs.Programs.{bare_from}
 use Rattle.source_typing.specs.Taken.{only_taken}
 use Rattle.type_verdicts.specs.Taken.{taken_of}
-use Rattle.type_verdicts.specs.declared.taken.Taken as code_taken
 use Rattle.judged_tags.specs.FirstKnown.{AreSince, bare_tags}
 use Rattle.judged_tags.proofs.heads.bare_names.Given as goal
 
 -- the names of the items so far, and those of the rest, are all
 abbrev pub invariant-each : goal.invariant-each
-invariant-each l = (k : code_taken.Taken) →
-    AreSince l.names (bare_from l.item-index (only_taken (taken_of k) (program_tree (drop l.item-index l.items))))
-    (bare_tags (only_taken (taken_of k) (program_tree l.items)))
+invariant-each l =
+    AreSince l.names (bare_from l.item-index (only_taken (taken_of l.taken) (program_tree (drop l.item-index l.items))))
+    (bare_tags (only_taken (taken_of l.taken) (program_tree l.items)))

@@ -1,20 +1,16 @@
-use Rattle.std.proofs.Common.{[], ap, map, sym, ◌++◌, ◌∙◌}
-use Rattle.std.specs.Prelude.{false, if◌then◌else◌}
-use Rattle.cyc_tree.specs.View.{member_tree, structure_tree}
-use Rattle.source_typing.specs.Faults.{is_clean}
-use Rattle.source_typing.specs.Scope.{at_item}
-use Rattle.source_typing.specs.Tags.{head_faults, repeated}
-use Rattle.source_typing.specs.Taken.{members_taken}
+use Rattle.std.proofs.Common.{ap, sym, ◌∙◌}
+use Rattle.std.specs.Prelude.{Some}
+use Rattle.cyc_tree.specs.Tree.{StructItem}
+use Rattle.cyc_tree.specs.View.{structure_tree}
+use Rattle.source_typing.specs.Programs.{first_entry}
+use Rattle.source_typing.specs.Taken.{members_taken, structure_if}
 use Rattle.type_verdicts.specs.Taken.{taken_of}
-use Rattle.written_types.specs.declared.tagged.TagName.TheVariants as code
-use Rattle.judged_tags.proofs.FirstKnown.{taken_struct}
+use Rattle.written_types.specs.Tagged.{tag_name_of}
 use Rattle.judged_tags.proofs.heads.head_of_struct.Goals as goal
 
-pub returns : goal.returns
-returns c g i bare =
-    let k = taken_of c.args.taken in
-    c.struct_name.ensures
-    ∙ ap (λ b. if b then code.Tag false else code.NotJudged) (c.in_ok-clean.ensures g i bare)
-    ∙ ap (λ ms. if is_clean (head_faults (at_item false g i) false (members_taken k (map member_tree ms)) ++ repeated [] (members_taken k (map member_tree ms)))
-    then code.Tag false else code.NotJudged) c.deref.ensures.value
-    ∙ sym (taken_struct c.args.taken g i (structure_tree c.args.structure.now) (sym c.takes_struct.ensures ∙ c.if-not-takes_struct.false))
+pub returns-in_ok-name : goal.returns-in_ok-name
+returns-in_ok-name c g i bare =
+    let s = structure_tree c.args.structure.now in
+    let ms = members_taken (taken_of c.args.taken) s.members in
+    c.in_ok-name.ensures g i bare
+    ∙ sym (ap (λ b. tag_name_of (Some (first_entry g i (StructItem (structure_if b s ms))))) (sym c.takes_struct.ensures ∙ c.if-takes_struct.true))

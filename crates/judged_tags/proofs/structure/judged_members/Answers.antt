@@ -4,20 +4,20 @@ use Rattle.cyc_tree.specs.View.{member_tree}
 use Rattle.cyc_types.specs.Tags.{members_of}
 use Rattle.cyc_types.specs.Types.{static_type}
 use Rattle.source_typing.specs.Faults.{earliest}
-use Rattle.source_typing.specs.Scope.{at_item}
 use Rattle.source_typing.specs.Tags.{member_faults, parts_by}
 use Rattle.source_typing.specs.Taken.{member_taken, members_taken}
 use Rattle.type_verdicts.proofs.Earliest.{first_none}
 use Rattle.type_verdicts.specs.Faults.{faults_of, first_of}
 use Rattle.type_verdicts.specs.Taken.{taken_of}
 use Rattle.type_verdicts.specs.Verdicts.{short_of}
+use Rattle.judged_tags.specs.Members.{scoped}
 use Rattle.judged_tags.proofs.Judging.{fault_next, parts_next}
 use Rattle.judged_tags.proofs.structure.judged_members.Goals as goal
 
 pub each-preserved : goal.each-preserved
 each-preserved c g i stands =
     let k = taken_of c.args.taken in
-    let e = at_item false g i in
+    let e = scoped g i c.args.names.now in
     let all = c.args.members.now in
     let at = c.each.member-index in
     let m = member_taken k (member_tree c.member-item.result) in
@@ -38,7 +38,7 @@ each-preserved c g i stands =
 pub returns-clause-parts : goal.returns-clause-parts
 returns-clause-parts c g i stands =
     let k = taken_of c.args.taken in
-    let e = at_item false g i in
+    let e = scoped g i c.args.names.now in
     let all = c.args.members.now in
     let before = members_of c.each.judged.members.items in
     sym (append-nil before)
@@ -48,7 +48,7 @@ returns-clause-parts c g i stands =
 pub returns-clause-fault : goal.returns-clause-fault
 returns-clause-fault c g i stands =
     let k = taken_of c.args.taken in
-    let e = at_item false g i in
+    let e = scoped g i c.args.names.now in
     let all = c.args.members.now in
     let found = faults_of c.each.judged.fault in
     sym (first_none found)

@@ -2,14 +2,14 @@ use Rattle.std.proofs.Common.{ap, false, sym, ◌∙◌}
 use Rattle.cyc_tree.specs.View.{type_tree}
 use Rattle.cyc_types.proofs.WrittenTags.{member_declared}
 use Rattle.cyc_types.specs.Tables.{tables_of}
-use Rattle.source_typing.specs.Scope.{at_item}
 use Rattle.source_typing.specs.Taken.{type_taken}
 use Rattle.type_verdicts.specs.Taken.{taken_of}
 use Rattle.type_verdicts.specs.Verdicts.{shortened}
+use Rattle.judged_tags.specs.Members.{scoped}
 use Rattle.judged_tags.proofs.structure.member_type.Goals as goal
 
 pub returns : goal.returns
 returns c g i stands =
     c.in_ok-found.ensures g (c.known_tag-tag.ensures g stands.names)
-    ∙ ap (λ v. shortened v) (sym (member_declared (at_item false g i) (tables_of c.args.known.tables.now) false
+    ∙ ap (λ v. shortened v) (sym (member_declared (scoped g i c.args.names.now) (tables_of c.args.known.tables.now) false
     (type_taken (taken_of c.args.taken) (type_tree c.args.of.now)) stands.earlier))

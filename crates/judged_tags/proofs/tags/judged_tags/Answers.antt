@@ -6,7 +6,7 @@ use Rattle.type_verdicts.specs.Taken.{taken_of}
 use Rattle.judged_tags.proofs.tags.judged_tags.Goals as goal
 
 pub judged_items-requires : goal.judged_items-requires
-judged_items-requires c = record { first = c.in_ok-first.ensures (c.in_ok-bare.ensures c.args.taken) }
+judged_items-requires c = record { first = c.in_ok-first.ensures c.in_ok-bare.ensures }
 
 pub returns-clause-tables : goal.returns-clause-tables
 returns-clause-tables c structs =

@@ -1,28 +1,49 @@
-use Rattle.std.proofs.Common.{ap, ◌∙◌}
+use Rattle.std.proofs.Common.{◌≡◌, List, ap, map, sym, true, ◌∙◌}
 use Rattle.std.specs.Prelude.{Some}
-use Rattle.cyc_tree.specs.View.{name_tree, type_tree}
+use Rattle.cyc_tree.specs.View.{region_tree, type_tree}
 use Rattle.source_typing.specs.Faults.{earliest}
-use Rattle.source_typing.specs.Written.{all_found}
-use Rattle.type_verdicts.proofs.Earliest.{found_sooner}
-use Rattle.type_verdicts.proofs.Shortened.{wrong_same}
-use Rattle.type_verdicts.specs.Faults.{fault_of, faults_of, first_of}
-use Rattle.type_verdicts.specs.Verdicts.{short_of, short_wrong}
-use Rattle.written_types.specs.Reading.{pointer_spots}
-use Rattle.written_types.specs.Tagged.{pointers_found}
-use Rattle.written_types.specs.Written.{partial_type}
-use Rattle.written_types.proofs.Structs.{struct_wrong}
+use Rattle.source_typing.specs.Taken.{takes_pointers, thin_pointers}
+use Rattle.source_typing.specs.Written.{Found, Spot, all_found, as_region, pointers_to, spot}
+use Rattle.type_verdicts.proofs.Earliest.{earliest_of_both, found_sooner}
+use Rattle.type_verdicts.specs.Faults.{faults_of, first_of}
+use Rattle.written_types.proofs.Places.{faults_both, found_both, found_each, written_faults}
+use Rattle.written_types.specs.Arguments.{named_spots, spots_by, written_arguments}
+use Rattle.written_types.specs.Reading.{pointer_spots, pointer_trees}
+use Rattle.written_types.specs.Tagged.{IsRead, regions_named, struct_spots}
+use Rattle.source_typing.specs.Faults as rules
 use Rattle.written_types.proofs.tagged.written_struct.Goals as goal
 
-pub returns-in-Wrong : goal.returns-in-Wrong
-returns-in-Wrong c h =
+pub returns : goal.returns
+returns c base taken =
+    let names = c.args.names.now in
     let t = type_tree c.args.of.now in
-    let x = name_tree c.args.name.now in
-    let f = c.in-Wrong.fault in
-    let found = pointers_found c.args.names.now t in
-    ap (short_of partial_type) c.wrong_if.ensures
-    ∙ wrong_same partial_type c.sooner-earliest.result
-    ∙ ap (λ o. short_wrong (faults_of o)) c.sooner-earliest.ensures
-    ∙ ap (λ o. short_wrong o) (found_sooner (Some f) c.regions_fault.result)
-    ∙ ap (λ o. short_wrong (first_of (Some (fault_of f)) o))
-    (c.regions_fault.ensures ∙ ap (λ ps. earliest (all_found c.args.names.now (pointer_spots ps)).1) c.deref-in-Wrong.ensures.value)
-    ∙ struct_wrong t x found.0 found.1 c.args.tag (fault_of f) c.in-Wrong.ensures
+    let n = regions_named c.args.tag in
+    let rs = written_arguments t.base in
+    let own : List Spot = spots_by n rs in
+    let others : List Spot = map (λ q. spot true q.region) t.pointers in
+    let y : List Found × List rules.Fault = all_found names (struct_spots n t) in
+    let all : takes_pointers thin_pointers (pointer_trees c.deref.result.now) ≡ true =
+    ap (λ ps. takes_pointers thin_pointers (pointer_trees ps)) c.deref.ensures.value ∙ taken in
+    let bad_own : faults_of c.arguments_fault.result ≡ earliest (all_found names own).1 =
+    c.arguments_fault.ensures ∙ ap (λ qs. earliest (all_found names (named_spots qs)).1) c.written_arguments-written.ensures
+    ∙ ap earliest (sym (written_faults names n rs)) in
+    let bad_others : faults_of c.regions_fault.result ≡ earliest (all_found names others).1 =
+    c.regions_fault.ensures ∙ ap (λ ps. earliest (all_found names (pointer_spots ps)).1) c.deref-2.ensures.value in
+    let read : IsRead t n y c.in_ok-arguments.arguments.items c.in_ok-layers.layers.items c.sooner-fault.result = record {
+      of_base = (all_found names own).0;
+      of_pointers = (all_found names others).0;
+      found = found_both names own others;
+      count = found_each names own;
+      regions = c.in_ok-arguments.ensures
+          ∙ ap (λ k. map as_region (all_found names (spots_by k (map region_tree c.written_arguments-written.result.now))).0) c.regions.ensures
+          ∙ ap (λ qs. map as_region (all_found names (spots_by n qs)).0) c.written_arguments-written.ensures;
+      pointers = λ b. sym (ap (λ ps. pointers_to (pointer_trees ps) (all_found names (pointer_spots ps)).0 (Some b)) c.deref.ensures.value)
+          ∙ c.in_ok-layers.ensures b all;
+      fault = ap faults_of c.sooner-fault.ensures
+          ∙ found_sooner c.arguments_fault.result c.regions_fault.result
+          ∙ ap (λ o. first_of o (faults_of c.regions_fault.result)) bad_own
+          ∙ ap (λ o. first_of (earliest (all_found names own).1) o) bad_others
+          ∙ sym (earliest_of_both (all_found names own).1 (all_found names others).1)
+          ∙ ap earliest (sym (faults_both names own others));
+    } in
+    c.struct_of.ensures y base read

@@ -1,35 +1,81 @@
-use Rattle.std.proofs.Common.{◌≡◌, [], ap, map, sym, true, ◌∙◌}
+use Rattle.std.proofs.Common.{◌≡◌, ◌++◌, List, ap, map, sym, true, ◌∙◌}
 use Rattle.std.specs.Prelude.{Some}
-use Rattle.cyc_tree.specs.View.{name_tree, type_tree}
-use Rattle.cyc_types.specs.Regions.{regions_of}
-use Rattle.source_typing.specs.Functions.{take_spots}
+use Rattle.std.proofs.lemmas.List.{append-nil}
+use Rattle.cyc_tree.specs.View.{name_tree, region_tree, type_tree}
+use Rattle.source_typing.specs.Faults.{earliest}
+use Rattle.source_typing.specs.Functions.{Variables, parameter_type, take_spots}
+use Rattle.source_typing.specs.Tags.{settled_alone}
 use Rattle.source_typing.specs.Taken.{takes_pointers, thin_pointers}
-use Rattle.source_typing.specs.Types.{PartialType, Struct}
-use Rattle.source_typing.specs.Written.{pointers_to}
+use Rattle.source_typing.specs.Verdicts.{after}
+use Rattle.source_typing.specs.Written.{Found, Spot, as_region, pointers_to, spot, written_with}
+use Rattle.type_verdicts.specs.Verdicts.{shortened}
+use Rattle.written_types.proofs.Parameters.{no_faults}
+use Rattle.written_types.proofs.Places.{after_both, bad_both, taken_both, taken_each, taken_faults}
+use Rattle.written_types.proofs.Structs.{spots_are_by, struct_with}
+use Rattle.written_types.specs.Arguments.{spots_by, unique_faults, written_arguments}
 use Rattle.written_types.specs.Reading.{pointer_spots, pointer_trees}
-use Rattle.written_types.proofs.Structs.{right_parameter, unjudged_parameter, wrong_parameter}
+use Rattle.written_types.specs.Tagged.{IsRead, regions_named, struct_spots}
+use Rattle.source_typing.specs.Faults as rules
 use Rattle.written_types.proofs.variables.RegionVariables.on_struct.Goals as goal
 
-pub returns-in_ok-parameter-in-Of-clause-found : goal.returns-in_ok-parameter-in-Of-clause-found
-returns-in_ok-parameter-in-Of-clause-found c g named base taken =
+pub returns-clause-found : goal.returns-clause-found
+returns-clause-found c g named base taken =
     let t = type_tree c.args.of.now in
     let x = name_tree c.args.name.now in
-    let vs = c.args.self.now in
-    let b : PartialType = Struct c.deref-in-Of.result.now (map (λ r. Some r) (regions_of c.new.result.items)) in
-    let is : b ≡ Struct x.text [] =
-    ap (λ tag. Struct tag (map (λ r. Some r) (regions_of c.new.result.items))) c.deref-in-Of.ensures.value
-    ∙ ap (λ rs. Struct x.text (map (λ r. Some r) (regions_of rs))) c.new.ensures.items in
+    let vs : Variables = c.args.self.now in
+    let n = regions_named c.args.tag in
+    let rs = written_arguments t.base in
+    let own : List Spot = spots_by n rs in
+    let others : List Spot = map (λ q. spot true q.region) t.pointers in
+    let mid : Variables = (take_spots vs own).after_all in
+    let y : List Found × List rules.Fault = ((take_spots vs (struct_spots n t)).found, (take_spots vs (struct_spots n t)).faults) in
+    let after_own : c.take_arguments.new.self ≡ mid =
+    c.in_ok-arguments.ensures.after
+    ∙ ap (λ k. (take_spots vs (spots_by k (map region_tree c.written_arguments-written.result.now))).after_all) c.regions.ensures
+    ∙ ap (λ qs. (take_spots vs (spots_by n qs)).after_all) c.written_arguments-written.ensures in
     let all : takes_pointers thin_pointers (pointer_trees c.deref.result.now) ≡ true =
     ap (λ ps. takes_pointers thin_pointers (pointer_trees ps)) c.deref.ensures.value ∙ taken in
-    c.in_ok-parameter-in-Of.ensures
-    ∙ right_parameter g vs t x c.args.tag base named taken b c.in_ok-layers.layers.items c.in-Of.field-0 c.in-Of.ensures is
-    (sym (ap (λ ps. pointers_to (pointer_trees ps) (take_spots vs (pointer_spots ps)).found (Some b)) c.deref.ensures.value)
-    ∙ c.in_ok-layers.ensures.found b all)
+    let read : IsRead t n y c.in_ok-arguments.arguments.items c.in_ok-layers.layers.items c.unique_faults.result = record {
+      of_base = (take_spots vs own).found;
+      of_pointers = (take_spots mid others).found;
+      found = taken_both vs own others;
+      count = taken_each vs own;
+      regions = c.in_ok-arguments.ensures.found
+          ∙ ap (λ k. map as_region (take_spots vs (spots_by k (map region_tree c.written_arguments-written.result.now))).found) c.regions.ensures
+          ∙ ap (λ qs. map as_region (take_spots vs (spots_by n qs)).found) c.written_arguments-written.ensures;
+      pointers = λ b. sym
+          (ap (λ ps. pointers_to (pointer_trees ps) (take_spots c.take_arguments.new.self (pointer_spots ps)).found (Some b)) c.deref.ensures.value
+          ∙ ap (λ v. pointers_to t.pointers (take_spots v others).found (Some b)) after_own)
+          ∙ c.in_ok-layers.ensures.found b all;
+      fault = c.unique_faults.ensures
+          ∙ ap (λ qs. earliest (unique_faults qs)) c.written_arguments-written.ensures
+          ∙ ap earliest (sym (append-nil (unique_faults rs)))
+          ∙ ap (λ fs. earliest (unique_faults rs ++ fs)) (sym (no_faults mid t.pointers taken))
+          ∙ ap (λ fs. earliest (fs ++ (take_spots mid others).faults)) (sym (taken_faults vs n rs))
+          ∙ ap earliest (sym (bad_both vs own others));
+    } in
+    let w = written_with g t y in
+    c.fitting.ensures (after w (settled_alone t.at))
+    (c.in_ok-settled.ensures w (c.struct_of-found.ensures y base read ∙ ap (λ v. shortened v) (struct_with g t x c.args.tag base named y)))
+    ∙ ap (λ ss. shortened (parameter_type g t (take_spots vs ss))) (sym (spots_are_by g t x c.args.tag base named))
 
-pub returns-in-Wrong-clause-found : goal.returns-in-Wrong-clause-found
-returns-in-Wrong-clause-found c g named base taken =
-    wrong_parameter g c.args.self.now (type_tree c.args.of.now) (name_tree c.args.name.now) c.args.tag base named taken _ c.in-Wrong.ensures
-
-pub returns-in-NotJudged-clause-found : goal.returns-in-NotJudged-clause-found
-returns-in-NotJudged-clause-found c g named base taken =
-    unjudged_parameter g c.args.self.now (type_tree c.args.of.now) (name_tree c.args.name.now) c.args.tag base named taken c.in-NotJudged.ensures
+pub returns-clause-after : goal.returns-clause-after
+returns-clause-after c g named base taken =
+    let t = type_tree c.args.of.now in
+    let x = name_tree c.args.name.now in
+    let vs : Variables = c.args.self.now in
+    let n = regions_named c.args.tag in
+    let rs = written_arguments t.base in
+    let own : List Spot = spots_by n rs in
+    let others : List Spot = map (λ q. spot true q.region) t.pointers in
+    let after_own : c.take_arguments.new.self ≡ (take_spots vs own).after_all =
+    c.in_ok-arguments.ensures.after
+    ∙ ap (λ k. (take_spots vs (spots_by k (map region_tree c.written_arguments-written.result.now))).after_all) c.regions.ensures
+    ∙ ap (λ qs. (take_spots vs (spots_by n qs)).after_all) c.written_arguments-written.ensures in
+    let all : takes_pointers thin_pointers (pointer_trees c.deref.result.now) ≡ true =
+    ap (λ ps. takes_pointers thin_pointers (pointer_trees ps)) c.deref.ensures.value ∙ taken in
+    c.in_ok-layers.ensures.after all
+    ∙ ap (λ ps. (take_spots c.take_arguments.new.self (pointer_spots ps)).after_all) c.deref.ensures.value
+    ∙ ap (λ v. (take_spots v others).after_all) after_own
+    ∙ sym (after_both vs own others)
+    ∙ ap (λ ss. (take_spots vs ss).after_all) (sym (spots_are_by g t x c.args.tag base named))

@@ -2,19 +2,19 @@ use Rattle.std.proofs.Common.{[], ap, map, sym, ◌∙◌, false}
 use Rattle.std.specs.Prelude.{◌&&◌}
 use Rattle.cyc_tree.specs.View.{member_tree}
 use Rattle.source_typing.specs.Faults.{earliest, is_clean}
-use Rattle.source_typing.specs.Scope.{at_item}
 use Rattle.source_typing.specs.Tags.{head_faults, repeated}
 use Rattle.source_typing.specs.Taken.{members_taken}
 use Rattle.type_verdicts.specs.Taken.{taken_of}
-use Rattle.judged_tags.proofs.FirstKnown.{clean_none, clean_of_both, none_told}
+use Rattle.judged_tags.proofs.HeadTypes.{clean_none, clean_of_both, none_told}
 use Rattle.judged_tags.proofs.Members.{repeated_taken}
-use Rattle.judged_tags.proofs.heads.is_struct_clean.Goals as goal
+use Rattle.judged_tags.specs.Members.{scoped}
+use Rattle.judged_tags.proofs.heads.are_members_clean.Goals as goal
 
 pub returns : goal.returns
 returns c g i bare =
     let k = taken_of c.args.taken in
     let ms = map member_tree c.args.members.now in
-    let heads = head_faults (at_item false g i) false (members_taken k ms) in
+    let heads = head_faults (scoped g i c.args.names.now) false (members_taken k ms) in
     c.are_both.ensures
     ∙ ap (λ b. b && c.is_none.result) (c.in_ok-clean.ensures g i bare)
     ∙ ap (λ b. is_clean heads && b)

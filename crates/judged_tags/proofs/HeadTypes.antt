@@ -1,0 +1,288 @@
+-- The types of members before tags are judged, where no tag is at fault and the count of region arguments doesn't matter.
+use Rattle.std.proofs.Common.{◌≡◌, ℕ, Bool, true, false, List, [], ◌∷◌, ◌++◌, refl, sym, ap, subst, ◌∙◌, append_assoc, arith}
+use Rattle.std.proofs.lemmas.Bool.Decides.{nat_tests}
+use Rattle.std.proofs.lemmas.List.{length-map, length-replicate}
+use Rattle.std.proofs.lemmas.Slice.Eq.{bytes_eq-Decides}
+use Rattle.std.specs.Prelude.{None, Option, Some, if◌then◌else◌, is_none, is_some, length, nat_eq, not, ◌&&◌}
+use Rattle.cyc_tree.specs.Tree.{TypeName}
+use Rattle.source_typing.proofs.RegionNames.{all_alike}
+use Rattle.source_typing.specs.Faults.{Fault, earliest, is_clean}
+use Rattle.source_typing.specs.Tables.{OfOther, OfTag, Tables, as_tag, find}
+use Rattle.source_typing.specs.Tags.{argument_count, fits_member, head_built, head_entry, head_faults, head_fitting, head_type, region_parameters}
+use Rattle.source_typing.specs.Tags.{repeated, settled_alone}
+use Rattle.source_typing.specs.Taken.{refused_type, takes_base, takes_type, thin_pointers, type_taken}
+use Rattle.source_typing.specs.Types.{PartialType, StaticType}
+use Rattle.source_typing.specs.Verdicts.{Faulty, Of, Unjudged, Verdict, after, both, faults_of, if_fits, unless_faulty}
+use Rattle.source_typing.specs.Written.{Found, RegionNamed, all_found, base_of, built, count_fits, counted_type}
+use Rattle.source_typing.specs.Written.{regions_of_tag, spot, spots_of, tag_of, type_built, written_on, written_with}
+use Rattle.type_verdicts.proofs.Earliest.{sooner_none}
+use Rattle.type_verdicts.specs.Taken.{taken_of}
+use Rattle.type_verdicts.specs.Verdicts.{Is, NotJudged, Short, Wrong, shortened}
+use Rattle.type_verdicts.specs.declared.taken.Taken as code_taken
+use Rattle.written_types.specs.Arguments.{written_arguments}
+use Rattle.written_types.specs.Tagged.{IsNamed, TagIs, named_as, regions_named, struct_taken, tag_name_of}
+use Rattle.written_types.specs.declared.tag_names.TagNames.{TagNames}
+use Rattle.written_types.specs.declared.tagged.TagName.{TagName}
+use Rattle.written_types.specs.declared.tagged.TagName.TheVariants as code
+use Rattle.written_types.proofs.Structs.{named_by, other_type, regions_by, struct_is_base, struct_type}
+use Rattle.judged_tags.specs.FirstKnown.{AreBare, any_count, count_by, is_judged}
+use Rattle.judged_tags.specs.Members.{scoped, type_alone}
+use Rattle.judged_tags.specs.Parameters.{SameNames}
+use Rattle.cyc_tree.specs.Tree as tree
+use Rattle.type_verdicts.specs.Faults as code_faults
+use Rattle.type_verdicts.specs.declared.fault.Fault as code_fault
+
+-- ---- a member's type, where no tag is at fault
+
+abbrev pub clean_short : Short StaticType → Bool
+clean_short (Wrong f) = false
+clean_short NotJudged = true
+clean_short (Is t) = fits_member false t
+
+settled_as : (at : ℕ) (v : Verdict StaticType) → is_clean (faults_of (after v (head_fitting false at))) ≡ clean_short (shortened v)
+settled_as at (Faulty f fs) = refl
+settled_as at Unjudged = refl
+settled_as at (Of t) = by (fits_member false t)
+  where
+    by : (b : Bool) → is_clean (faults_of (if_fits b at t)) ≡ b
+    by true = refl
+    by false = refl
+
+built_as : (at n : ℕ) (v : Verdict PartialType)
+    → is_clean (faults_of (after (both (let w : Verdict ℕ = Of n in w) v (λ n p. settled_alone at p)) (head_fitting false at)))
+    ≡ clean_short (shortened (after v (settled_alone at)))
+built_as at n (Faulty f fs) = refl
+built_as at n Unjudged = refl
+built_as at n (Of p) = settled_as at (settled_alone at p)
+
+-- what is known of the type of a member by tables, and by tables in which its tag asks for the region arguments that it has
+module _ (g h : Tables) (i : ℕ) (names : List RegionNamed) (t : TypeName) where
+  abbrev pub IsAs : Type 0
+  IsAs = is_clean (faults_of (head_type (scoped g i names) false t)) ≡ clean_short (shortened (type_alone h names t))
+
+  abbrev left : Verdict ℕ → Verdict PartialType → Bool
+  left v w = is_clean (faults_of (after (both v w (λ n p. settled_alone t.at p)) (head_fitting false t.at)))
+
+  abbrev right : Verdict PartialType → Bool
+  right w = clean_short (shortened (after w (settled_alone t.at)))
+
+  with_spots : (spots_of g t ≡ spots_of h t)
+      → ((x : List Found × List Fault) → left (base_of g t.base) (head_built g t x) ≡ right (written_with h t x)) → IsAs
+  with_spots same by = by (all_found names (spots_of g t)) ∙ ap (λ ss. right (written_with h t (all_found names ss))) same
+
+  of_right : spots_of g t ≡ spots_of h t → (n m : ℕ) → base_of g t.base ≡ Of n → base_of h t.base ≡ Of m
+      → ((fs : List Found) → counted_type t fs m (count_fits t.base m) ≡ type_built t.at (built t.base (argument_count g t.base) t.pointers fs)) → IsAs
+  of_right same n m e f counted = with_spots same by
+    where
+      by : (x : List Found × List Fault) → left (base_of g t.base) (head_built g t x) ≡ right (written_with h t x)
+      by (fs, bad) =
+          ap (λ v. left v (head_built g t (fs, bad))) e
+          ∙ built_as t.at n (unless_faulty bad (type_built t.at (built t.base (argument_count g t.base) t.pointers fs)))
+          ∙ ap (λ w. right (unless_faulty bad w)) (sym (counted fs))
+          ∙ ap (λ v. right (written_on t fs bad v)) (sym f)
+
+  of_wrong : spots_of g t ≡ spots_of h t → (x : Fault) (others : List Fault) → base_of g t.base ≡ Faulty x others → base_of h t.base ≡ Faulty x others
+      → IsAs
+  of_wrong same x others e f = with_spots same by
+    where
+      either : (w : Verdict PartialType) → left (Faulty x others) w ≡ false
+      either (Faulty y hs) = refl
+      either Unjudged = refl
+      either (Of p) = refl
+
+      by : (y : List Found × List Fault) → left (base_of g t.base) (head_built g t y) ≡ right (written_with h t y)
+      by (fs, bad) =
+          ap (λ v. left v (head_built g t (fs, bad))) e ∙ either (head_built g t (fs, bad)) ∙ ap (λ v. right (written_on t fs bad v)) (sym f)
+
+-- ---- a type of another base than a struct's
+
+plain_as : (g : Tables) (i : ℕ) (names : List RegionNamed) (at : ℕ) (b : tree.Base) (ps : List tree.Pointer) (m : Bool)
+    → (takes_base thin_pointers b && m) ≡ true → IsAs g g i names (record { at = at; base = b; pointers = ps })
+plain_as g i names at tree.Int ps m e = of_right g g i names (record { at = at; base = tree.Int; pointers = ps }) refl 0 0 refl refl (λ fs. refl)
+plain_as g i names at tree.Unsigned ps m e = of_right g g i names (record { at = at; base = tree.Unsigned; pointers = ps }) refl 0 0 refl refl (λ fs. refl)
+plain_as g i names at tree.Char ps m e = of_right g g i names (record { at = at; base = tree.Char; pointers = ps }) refl 0 0 refl refl (λ fs. refl)
+plain_as g i names at tree.Void ps m e = of_right g g i names (record { at = at; base = tree.Void; pointers = ps }) refl 0 0 refl refl (λ fs. refl)
+plain_as g i names at (tree.Struct tag rs) ps m e = absurd cc
+plain_as g i names at (tree.Union tag rs) ps m e = absurd cc
+plain_as g i names at (tree.Handle r) ps m e = absurd cc
+plain_as g i names at (tree.Key r) ps m e = absurd cc
+
+other_as : (g : Tables) (i : ℕ) (names : List RegionNamed) (t : TypeName) → IsAs g g i names (type_taken thin_pointers t)
+other_as g i names t = by (takes_type thin_pointers t) refl
+  where
+    by : (b : Bool) → takes_type thin_pointers t ≡ b → IsAs g g i names (if b then t else refused_type t.at)
+    by true h = plain_as g i names t.at t.base t.pointers _ h
+    by false h = of_right g g i names (refused_type t.at) refl 0 0 refl refl (λ fs. refl)
+
+-- ---- a struct's
+
+-- a name that means this alone
+abbrev entry_of : List ℕ → TagName → Tables
+entry_of x code.NoName = []
+entry_of x (code.Tag u n) =
+    record { name = x; entry = OfTag (record { text = x; is_union = u; order = 0; regions = n; parts = []; sound = true }) } ∷ []
+entry_of x (code.NotJudged n) =
+    record { name = x; entry = OfTag (record { text = x; is_union = false; order = 0; regions = n; parts = []; sound = false }) } ∷ []
+entry_of x code.Other = record { name = x; entry = OfOther } ∷ []
+
+entry_named : (x : List ℕ) (n : TagName) → tag_name_of (find (entry_of x n) x) ≡ n
+entry_named x code.NoName = refl
+entry_named x (code.Tag u n) =
+    ap (λ (b : Bool). tag_name_of (if b then Some (OfTag (record { text = x; is_union = u; order = 0; regions = n; parts = []; sound = true })) else None))
+    ((bytes_eq-Decides x x).1 refl)
+entry_named x (code.NotJudged n) =
+    ap (λ (b : Bool). tag_name_of (if b then Some (OfTag (record { text = x; is_union = false; order = 0; regions = n; parts = []; sound = false })) else None))
+    ((bytes_eq-Decides x x).1 refl)
+entry_named x code.Other = ap (λ (b : Bool). tag_name_of (if b then Some OfOther else None)) ((bytes_eq-Decides x x).1 refl)
+
+-- the tables by which a struct's type is read: where region arguments are written, its tag asks for so many
+abbrev asked : Tables → List ℕ → TagName → List tree.RegionName → Tables
+asked g x n [] = g
+asked g x n (r ∷ rs) = entry_of x (any_count n (r ∷ rs))
+
+no_arguments : (n : TagName) → any_count n [] ≡ n
+no_arguments code.NoName = refl
+no_arguments (code.Tag u m) = refl
+no_arguments (code.NotJudged m) = refl
+no_arguments code.Other = refl
+
+asked_named : (g : Tables) (x : List ℕ) (n : TagName) (rs : List tree.RegionName) → tag_name_of (find g x) ≡ n
+    → tag_name_of (find (asked g x n rs) x) ≡ any_count n rs
+asked_named g x n [] h = h ∙ sym (no_arguments n)
+asked_named g x n (r ∷ rs) h = entry_named x (any_count n (r ∷ rs))
+
+same_spots : (g : Tables) (at : ℕ) (x : tree.Name) (n : TagName) (rs : List tree.RegionName) (ps : List tree.Pointer)
+    → let t : TypeName = record { at = at; base = tree.Struct x rs; pointers = ps } in spots_of g t ≡ spots_of (asked g x.text n rs) t
+same_spots g at x n [] ps = refl
+same_spots g at x n (r ∷ rs) ps = refl
+
+same_count : (n : ℕ) → nat_eq n n ≡ true
+same_count n = grind (arith, nat_tests)
+
+-- the tag asks for the arguments that are there
+asks_fit : (x : tree.Name) (m : ℕ) (rs : List tree.RegionName) → count_fits (tree.Struct x rs) (count_by m rs) ≡ true
+asks_fit x m [] = refl
+asks_fit x m (r ∷ rs) = same_count (length (r ∷ rs))
+
+asks_all : (g : Tables) (x : tree.Name) (u : Bool) (m : ℕ) (rs : List tree.RegionName) → tag_name_of (find g x.text) ≡ code.Tag u m
+    → count_by m rs ≡ argument_count g (tree.Struct x rs)
+asks_all g x u m [] h =
+    sym (length-replicate (regions_of_tag (as_tag (find g x.text))) (spot false None) ∙ regions_by (find g x.text) ∙ ap regions_named h)
+asks_all g x u m (r ∷ rs) h = sym (length-map (r ∷ rs) (λ r. spot false (Some r)))
+
+struct_as : (g : Tables) (i : ℕ) (names : List RegionNamed) (at : ℕ) (x : tree.Name) (rs : List tree.RegionName) (ps : List tree.Pointer) (n : TagName)
+    → tag_name_of (find g x.text) ≡ n → is_judged n ≡ true
+    → IsAs g (asked g x.text n rs) i names (record { at = at; base = tree.Struct x rs; pointers = ps })
+struct_as g i names at x rs ps n named judged =
+    by n named (named_by (find g x.text) x.at ∙ ap (λ n. named_as n x.at) named) judged
+    (named_by (find (asked g x.text n rs) x.text) x.at ∙ ap (λ n. named_as n x.at) (asked_named g x.text n rs named))
+  where
+    t : TypeName
+    t = record { at = at; base = tree.Struct x rs; pointers = ps }
+
+    by : (n : TagName) → tag_name_of (find g x.text) ≡ n → tag_of (find g x.text) false x.at ≡ named_as n x.at → is_judged n ≡ true
+        → tag_of (find (asked g x.text n rs) x.text) false x.at ≡ named_as (any_count n rs) x.at → IsAs g (asked g x.text n rs) i names t
+    by (code.NotJudged m) named e h f = absurd cc
+    by code.NoName named e h f = of_wrong g (asked g x.text code.NoName rs) i names t (same_spots g at x code.NoName rs ps) _ [] e f
+    by code.Other named e h f = of_wrong g (asked g x.text code.Other rs) i names t (same_spots g at x code.Other rs ps) _ [] e f
+    by (code.Tag true m) named e h f = of_wrong g (asked g x.text (code.Tag true m) rs) i names t (same_spots g at x (code.Tag true m) rs ps) _ [] e f
+    by (code.Tag false m) named e h f =
+        of_right g (asked g x.text (code.Tag false m) rs) i names t (same_spots g at x (code.Tag false m) rs ps) m (count_by m rs) e f
+        (λ fs. ap (counted_type t fs (count_by m rs)) (asks_fit x m rs)
+        ∙ ap (λ (n : ℕ). type_built at (built (tree.Struct x rs) n ps fs)) (asks_all g x false m rs named))
+
+-- by which tables the type of a member is read, where its tag means this
+pub record HeadAs (k : code_taken.Taken) (g : Tables) (i : ℕ) (names : List RegionNamed) (t : TypeName) (n : TagName) : Type 0 where
+  pub by : Tables
+  pub tag : TagIs (taken_of k) by t n
+  pub is : IsAs g by i names (type_taken (taken_of k) t)
+
+none_some : (x : tree.Name) → None ≡ Some x → ⊥
+none_some x e = absurd cc
+
+same_some : (x y : tree.Name) → Some x ≡ Some y → x ≡ y
+same_some x y e = cc
+
+pub head_as : (k : code_taken.Taken) (g : Tables) (i : ℕ) (names : List RegionNamed) (tags : TagNames) (t : TypeName) (n : TagName) → AreBare tags g
+    → TagIs (taken_of k) g t n → HeadAs k g i names t (any_count n (written_arguments t.base))
+head_as k g i names tags t n bare tag = by (struct_taken (taken_of k) t) refl
+  where
+    rs : List tree.RegionName
+    rs = written_arguments t.base
+
+    by : (o : Option tree.Name) → struct_taken (taken_of k) t ≡ o → HeadAs k g i names t (any_count n rs)
+    by None h = record {
+      by = g;
+      tag = λ x taken. absurd (none_some x (sym h ∙ taken));
+      is = subst (IsAs g g i names) (sym (other_type k t h)) (other_as g i names t);
+    }
+    by (Some x) h =
+        let named = (tag x h).is in
+        let judged = ap is_judged (sym named ∙ (bare.0 x.text).is) ∙ bare.1 x.text in
+        record {
+          by = asked g x.text n rs;
+          tag = λ y taken. subst (λ (z : tree.Name). IsNamed (asked g x.text n rs) z.text (any_count n rs)) (same_some x y (sym h ∙ taken))
+              (record { is = asked_named g x.text n rs named });
+          is =
+              subst (IsAs g (asked g x.text n rs) i names) (sym (struct_type k t x h))
+              (subst (λ b. IsAs g (asked g x.text n rs) i names (record { at = t.at; base = b; pointers = t.pointers })) (sym (struct_is_base k t x h))
+              (struct_as g i names t.at x rs t.pointers n named judged));
+        }
+
+-- ---- members
+
+pub clean_of_both : (fs gs : List Fault) → is_clean (fs ++ gs) ≡ (is_clean fs && is_clean gs)
+clean_of_both [] gs = refl
+clean_of_both (f ∷ fs) gs = refl
+
+-- so far, with one more
+pub clean_next : (clean own : Bool) (fs gs : List Fault) → own ≡ is_clean fs → ((clean && own) && is_clean gs) ≡ (clean && is_clean (fs ++ gs))
+clean_next true own fs gs e = ap (λ b. b && is_clean gs) e ∙ sym (clean_of_both fs gs)
+clean_next false own fs gs e = refl
+
+pub and_true : (b : Bool) → (b && true) ≡ b
+and_true true = refl
+and_true false = refl
+
+pub none_told : {A : Type 0} (o : Option A) (b : Bool) → is_some o ≡ not b → b ≡ is_none o
+none_told None true h = refl
+none_told None false h = absurd cc
+none_told (Some a) true h = absurd cc
+none_told (Some a) false h = refl
+
+-- no fault is answered where there is none
+pub clean_none : (o : Option code_fault.Fault) (fs : List Fault) → code_faults.faults_of o ≡ earliest fs → is_none o ≡ is_clean fs
+clean_none None [] e = refl
+clean_none None (f ∷ fs) e = absurd (sooner_none f (earliest fs) e)
+clean_none (Some x) [] e = absurd cc
+clean_none (Some x) (f ∷ fs) e = refl
+
+-- by region names that mean the same
+module _ (g : Tables) (i : ℕ) (a b : List RegionNamed) (same : SameNames a b) where
+  type_alike : (t : TypeName) → head_type (scoped g i a) false t ≡ head_type (scoped g i b) false t
+  type_alike t =
+      ap (λ x. after (both (base_of g t.base) (head_built g t x) (λ n p. settled_alone t.at p)) (head_fitting false t.at)) (all_alike a b same (spots_of g t))
+
+  pub heads_alike : (ms : List tree.Member) → head_faults (scoped g i a) false ms ≡ head_faults (scoped g i b) false ms
+  heads_alike [] = refl
+  heads_alike (m ∷ ms) =
+      ap (λ v. faults_of v ++ head_faults (scoped g i a) false ms) (type_alike m.of)
+      ∙ ap (λ fs. faults_of (head_type (scoped g i b) false m.of) ++ fs) (heads_alike ms)
+
+-- ---- a struct
+
+-- the name of a struct that is taken, by what was read of its region parameters and members
+pub struct_head : (g : Tables) (i : ℕ) (s : tree.Structure) (ms : List tree.Member) (names : List RegionNamed) (regions : Option code_fault.Fault)
+    (sound own : Bool) (count : ℕ) → SameNames names (region_parameters s).0 → code_faults.faults_of regions ≡ earliest (region_parameters s).1
+    → count ≡ length s.regions → own ≡ is_clean (head_faults (scoped g i names) false ms ++ repeated [] ms) → sound ≡ (is_none regions && own)
+    → (if sound then code.Tag false count else code.NotJudged count) ≡ tag_name_of (Some (head_entry g i false (record s { members = ms })))
+struct_head g i s ms names regions sound own count same of_regions counted is all =
+    ap (λ (b : Bool). if b then code.Tag false count else code.NotJudged count)
+    (all
+    ∙ ap (λ b. b && own) (clean_none regions (region_parameters s).1 of_regions)
+    ∙ ap (λ b. is_clean (region_parameters s).1 && b)
+    (is ∙ ap (λ fs. is_clean (fs ++ repeated [] ms)) (heads_alike g i names (region_parameters s).0 same ms))
+    ∙ sym (clean_of_both (region_parameters s).1 (head_faults (scoped g i (region_parameters s).0) false ms ++ repeated [] ms))
+    ∙ ap is_clean (sym (append_assoc (region_parameters s).1 (head_faults (scoped g i (region_parameters s).0) false ms) (repeated [] ms))))
+    ∙ ap (λ (n : ℕ). if is_clean ((region_parameters s).1 ++ head_faults (scoped g i (region_parameters s).0) false ms ++ repeated [] ms)
+    then code.Tag false n else code.NotJudged n) counted

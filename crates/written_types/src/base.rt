@@ -1,0 +1,120 @@
+// What types begin with as a text writes them.
+
+ghost use Rattle.std.specs.Prelude.{◌≡◌, ◌+◌, IfOk, Some, false, option_map, slice_get};
+ghost use Rattle.source_typing.specs.Missing.{arguments_of, filled_arguments, filled_from};
+ghost use Rattle.cyc_types.specs.Bases.{base_type};
+ghost use Rattle.cyc_types.specs.Regions.{region_of, regions_of};
+ghost use Rattle.cyc_types.specs.Types.{static_type};
+ghost use Rattle.written_types.specs.Reading.{can_lead};
+ghost use Rattle.written_types.specs.Settling.{argument_from, reached};
+ghost use Rattle.written_types.specs.Written.{partial_base, partial_regions};
+
+use cyc_types::{BaseType, CType, RegionArguments, RegionId};
+use smallvec::SmallVec;
+use std::alloc::{AllocError, Global};
+
+/// The region arguments of a struct as a text writes them. None: it is missing.
+pub type WrittenArguments = SmallVec<Option<RegionId>, 2>;
+
+/// A type that is no pointer, as a text writes it.
+#[derive(Debug, Drop)]
+pub enum WrittenBase<'p> {
+    Int,
+    Unsigned,
+    Char,
+    Void,
+    /// A struct by its tag.
+    Struct(&'p [u8], WrittenArguments),
+}
+
+/// Whether a pointer may lead to a base.
+pub(crate) fn can_lead(base: &WrittenBase<'_>) -> bool
+    ensures { result ≡ can_lead (partial_base base.now) }
+{
+    !matches!(base, WrittenBase::Void)
+}
+
+/// The region arguments of a struct of this tag. Of another type there are none.
+fn arguments_of<'a>(base: &'a BaseType<'_>, tag: &[u8]) -> &'a [RegionId]
+    ensures { regions_of result.now ≡ arguments_of false tag.now (Some (base_type base.now)) }
+{
+    match base {
+        BaseType::Struct(other, arguments) => {
+            if tag == *other {
+                arguments.as_slice()
+            } else {
+                &[]
+            }
+        }
+        _ => &[],
+    }
+}
+
+/// The region arguments of the struct of this tag to which a type leads through so many pointers. Of another type there are none.
+fn arguments_at<'a>(source: Option<&'a CType<'_>>, depth: usize, tag: &[u8]) -> &'a [RegionId]
+    ensures { regions_of result.now ≡ arguments_of false tag.now (reached depth (option_map (λ s. static_type s.now) source.entry)) }
+{
+    match source {
+        Some(of) => {
+            if of.layers.len() == depth {
+                arguments_of(&of.base, tag)
+            } else {
+                &[]
+            }
+        }
+        None => &[],
+    }
+}
+
+/// An argument, the one at its place of others where it is missing, and the heap where there is none.
+fn argument_from(argument: &Option<RegionId>, others: &[RegionId], place: usize) -> RegionId
+    ensures { region_of result ≡ argument_from (option_map region_of argument.now) (option_map region_of (slice_get others.now place)) }
+{
+    match (argument, others.get(place)) {
+        (Some(region), _) => *region,
+        (None, Some(region)) => *region,
+        (None, None) => RegionId::Heap,
+    }
+}
+
+/// The arguments, with missing ones from others.
+fn filled_arguments(
+    alloc: Global,
+    arguments: &[Option<RegionId>],
+    others: &[RegionId],
+) -> Result<RegionArguments, AllocError>
+    ensures { IfOk result (λ rs. regions_of rs.items ≡ filled_arguments (partial_regions arguments.now) (regions_of others.now)) }
+{
+    let mut filled = SmallVec::new(alloc);
+    let mut place = 0;
+    'each: for argument in arguments {
+        filled.push(argument_from(argument, others, place))?;
+        place += 1;
+    }
+    Ok(filled)
+}
+
+impl<'p> WrittenBase<'p> {
+    /// The base with its missing regions from what a type leads to through so many pointers. Fails only where no host memory is left.
+    pub(crate) fn filled(
+        &self,
+        alloc: Global,
+        source: Option<&CType<'_>>,
+        depth: usize,
+    ) -> Result<BaseType<'p>, AllocError>
+        ensures { IfOk result (λ b. Some (base_type b)
+            ≡ filled_from (partial_base self.now) (reached depth (option_map (λ s. static_type s.now) source.entry))) }
+    {
+        Ok(match self {
+            WrittenBase::Int => BaseType::Int,
+            WrittenBase::Unsigned => BaseType::Unsigned,
+            WrittenBase::Char => BaseType::Char,
+            WrittenBase::Void => BaseType::Void,
+            WrittenBase::Struct(tag, arguments) => {
+                let others = arguments_at(source, depth, tag);
+                let filled = filled_arguments(alloc, arguments.as_slice(), others)?;
+                BaseType::Struct(*tag, filled)
+            }
+        })
+    }
+}

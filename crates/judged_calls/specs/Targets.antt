@@ -8,16 +8,12 @@ use Rattle.scoped_names.specs.Means.{signature_of}
 use Rattle.judged_calls.specs.declared.target.Target as code
 use Rattle.judged_calls.specs.declared.target.Target.TheVariants as target
 
--- structs are those without region parameters
-abbrev pub without_regions : Tag → Tag
-without_regions t = record t { regions = 0 }
-
 abbrev pub target_of : code.Target → Target
 target_of (target.Builtin n) = ToBuiltin n
-target_of (target.Struct x t) = ToStruct (without_regions (tag_of x.now t.now))
+target_of (target.Struct x t) = ToStruct (tag_of x.now t.now)
 target_of (target.Function s) = ToFunction (signature_of s.now)
 
 -- a struct that is made, where there is one of its name
 abbrev pub struct_in : Option Tag → Verdict Target
 struct_in None = Unjudged
-struct_in (Some t) = Of (ToStruct (without_regions t))
+struct_in (Some t) = Of (ToStruct t)

@@ -30,7 +30,7 @@ use std::alloc::{AllocError, Global};
 use type_verdicts::{Fault, FaultKind, Verdict};
 
 /// The value of a call that is in order.
-fn given<'p>(at: u32, of: CType<'p>) -> Verdict<Value<'p>>
+pub(crate) fn given<'p>(at: u32, of: CType<'p>) -> Verdict<Value<'p>>
     ensures { short_of value_of result ≡ shortened (value at (static_type of.entry)) }
 {
     Verdict::Of(Value {

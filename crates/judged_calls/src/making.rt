@@ -1,101 +1,86 @@
 // Structs that are made of their members.
 
-ghost use Rattle.std.specs.List.{list_all};
-ghost use Rattle.std.specs.Prelude.{◌≡◌, IfOk, is_some, map};
+ghost use Rattle.std.specs.Prelude.{◌≡◌, IfOk, List, map, option_map};
 ghost use Rattle.cyc_types.specs.Regions.{regions_of};
-ghost use Rattle.cyc_types.specs.Tags.{tag_of};
+ghost use Rattle.cyc_types.specs.Tags.{members_of, tag_of};
+ghost use Rattle.cyc_types.specs.Types.{static_type};
 ghost use Rattle.judged_values.specs.Values.{value_of};
 ghost use Rattle.scoped_names.specs.Knows.{Knows};
-ghost use Rattle.source_typing.specs.Calls.{ToStruct, called};
-ghost use Rattle.source_typing.specs.Faults.{earliest};
-ghost use Rattle.source_typing.specs.Scope.{Env};
-ghost use Rattle.type_verdicts.specs.Faults.{faults_of};
+ghost use Rattle.source_typing.specs.Calls.{ToStruct, called, part_types};
+ghost use Rattle.source_typing.specs.Regions.{Region};
+ghost use Rattle.source_typing.specs.Scope.{Env, value};
+ghost use Rattle.source_typing.specs.Types.{Struct};
+ghost use Rattle.source_typing.specs.Verdicts as verdict;
+ghost use Rattle.source_typing.specs.Verdicts.{after};
 ghost use Rattle.type_verdicts.specs.Verdicts.{short_of, shortened};
-ghost use Rattle.judged_calls.specs.Made.{made_by, member_faults, members_faults};
-ghost use Rattle.judged_calls.specs.Targets.{without_regions};
+ghost use Rattle.judged_calls.specs.Converted.{regions_in};
+ghost use Rattle.judged_calls.specs.Fitted.{parameter_types};
 
+use crate::arguments::arguments_fit;
+use crate::call::given;
 use cyc_types::{BaseType, CType, Member, RegionId, Tag};
-use judged_values::{Seat, Value, converted, renamed_type};
+use judged_values::Value;
 use scoped_names::Scope;
 use smallvec::SmallVec;
 use std::alloc::{AllocError, Global};
-use type_verdicts::{Fault, FaultKind, Verdict, sooner};
+use type_verdicts::Verdict;
 
-/// The fault of an argument that is converted to a member's type, if any; to one of no known type there is none.
-fn member_fault(
-    scope: &Scope,
-    regions: &[RegionId],
-    member: &Member,
-    value: &Value,
-) -> Result<Option<Fault>, AllocError>
-    ensures { (g : Env) → Knows scope.now g → IfOk result (λ f. faults_of f ≡ earliest (member_faults g (regions_of regions.now) member.now value.now)) }
+/// The type of a member, where it is known. Fails only where no host memory is left.
+fn member_type<'p>(member: &Member<'p>) -> Result<Option<CType<'p>>, AllocError>
+    ensures { IfOk result (λ of. option_map static_type of ≡ option_map static_type member.now.of) }
 {
     match &member.of {
-        Some(of) => {
-            let to = renamed_type(regions, of)?;
-            let fault = converted(scope, value, &to)?;
-            Ok(fault)
-        }
+        Some(of) => Ok(Some(of.try_clone()?)),
         None => Ok(None),
     }
 }
 
-/// The fault of the arguments that is answered, if any.
-fn members_fault(
-    scope: &Scope,
-    regions: &[RegionId],
-    members: &[Member],
-    arguments: &[Value],
-) -> Result<Option<Fault>, AllocError>
-    ensures { (g : Env) → Knows scope.now g
-        → IfOk result (λ f. faults_of f ≡ earliest (members_faults g (regions_of regions.now) members.now arguments.now)) }
+/// The types of members, which are a making's parameters. Fails only where no host memory is left.
+fn member_types<'p>(
+    alloc: Global,
+    members: &[Member<'p>],
+) -> Result<Vec<Option<CType<'p>>>, AllocError>
+    ensures { IfOk result (λ types. parameter_types types.items ≡ part_types (members_of members.now)) }
 {
-    let count = members.len().min(arguments.len());
-    let mut found = None;
-    'each: for index in 0..count {
-        let member = &members[index];
-        let own = member_fault(scope, regions, member, &arguments[index])?;
-        found = sooner(found, own);
+    let mut types = Vec::new(alloc);
+    'each: for member in members {
+        types.push(member_type(member)?)?;
     }
-    Ok(found)
+    Ok(types)
 }
 
-/// Whether all members are of known types.
-fn are_known(members: &[Member]) -> bool
-    ensures { result ≡ list_all (λ m. is_some m.of) members.now }
+/// A struct by what its region parameters stand for. Fails only where no host memory is left.
+fn struct_of<'p>(
+    alloc: Global,
+    at: u32,
+    text: &'p [u8],
+    regions: &[RegionId],
+) -> Result<Verdict<Value<'p>>, AllocError>
+    ensures { IfOk result (λ v. short_of value_of v ≡ shortened (value at (Struct text.entry.now (regions_of regions.now)))) }
 {
-    members.iter().all(|member| member.of.is_some())
+    let arguments = SmallVec::from_slice(alloc, regions)?;
+    let base = BaseType::Struct(text, arguments);
+    Ok(given(at, CType::plain(alloc, base)))
 }
 
-/// A struct, unless an argument is at fault.
+/// A struct by whether the arguments fit its members. Fails only where no host memory is left.
 fn made<'p>(
     alloc: Global,
     at: u32,
     text: &'p [u8],
-    fault: Option<Fault>,
-    are_known: bool,
-) -> Verdict<Value<'p>>
-    ensures { short_of value_of result ≡ made_by (faults_of fault) are_known at text.entry.now }
+    fit: Verdict<Vec<RegionId>>,
+) -> Result<Verdict<Value<'p>>, AllocError>
+    ensures { (v : verdict.Verdict (List Region)) → short_of regions_in fit ≡ shortened v
+        → IfOk result (λ r. short_of value_of r ≡ shortened (after v (λ rs. value at (Struct text.entry.now rs)))) }
 {
-    match fault {
-        Some(fault) => Verdict::Wrong(fault),
-        None => {
-            if are_known {
-                let base = BaseType::Struct(text, SmallVec::new(alloc));
-                Verdict::Of(Value {
-                    at,
-                    of: CType::plain(alloc, base),
-                    seat: Seat::Nowhere,
-                })
-            } else {
-                Verdict::NotJudged
-            }
-        }
+    match fit {
+        Verdict::Wrong(fault) => Ok(Verdict::Wrong(fault)),
+        Verdict::NotJudged => Ok(Verdict::NotJudged),
+        Verdict::Of(regions) => struct_of(alloc, at, text, regions.as_slice()),
     }
 }
 
-/// A struct that is made of arguments. Fails only where no host memory is left.
-#[tactic(auto, using(crate::proofs::StructsMade::made_miscounted))]
+/// A struct that is made of arguments, which fix its region parameters. Fails only where no host memory is left.
 pub(crate) fn struct_called<'p>(
     scope: &Scope<'_, 'p>,
     alloc: Global,
@@ -105,16 +90,10 @@ pub(crate) fn struct_called<'p>(
     arguments: &[Value<'p>],
 ) -> Result<Verdict<Value<'p>>, AllocError>
     ensures { (g : Env) → Knows scope.now g → IfOk result (λ v. short_of value_of v
-        ≡ shortened (called g at (ToStruct (without_regions (tag_of text.entry.now tag.now))) (map value_of arguments.now))) }
+        ≡ shortened (called g at (ToStruct (tag_of text.entry.now tag.now)) (map value_of arguments.now))) }
 {
-    let members = tag.members.as_slice();
-    if members.len() != arguments.len() {
-        return Ok(Verdict::Wrong(Fault {
-            kind: FaultKind::Typing,
-            at,
-        }));
-    }
-    let regions = Vec::new(alloc);
-    let fault = members_fault(scope, regions.as_slice(), members, arguments)?;
-    Ok(made(alloc, at, text, fault, are_known(members)))
+    let parameters = member_types(alloc, tag.members.as_slice())?;
+    let types = parameters.as_slice();
+    let fit = arguments_fit(scope, alloc, at, tag.regions, types, arguments)?;
+    made(alloc, at, text, fit)
 }

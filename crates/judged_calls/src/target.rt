@@ -1,6 +1,6 @@
 // What is called.
 
-ghost use Rattle.std.specs.Prelude.{◌≡◌, Option, Some, false, option_map};
+ghost use Rattle.std.specs.Prelude.{◌≡◌, Option, Some, false, option_map, ℕ};
 ghost use Rattle.cyc_types.specs.Tables.{tables_of};
 ghost use Rattle.source_typing.specs.Calls.{target};
 ghost use Rattle.source_typing.specs.Scope.{Env, meant};
@@ -43,7 +43,7 @@ fn target_by<'a, 'p>(
     made: Verdict<Target<'a, 'p>>,
 ) -> Verdict<Target<'a, 'p>>
     ensures { (e : Option Entry) → Means e (option_map meaning_of named.entry)
-        → (option_map meaning_of named.entry ≡ Some (code.Tag false) → short_of target_of made.entry ≡ shortened (target at e))
+        → ((n : ℕ) → option_map meaning_of named.entry ≡ Some (code.Tag false n) → short_of target_of made.entry ≡ shortened (target at e))
         → short_of target_of result ≡ shortened (target at e) }
 {
     match named {
@@ -51,14 +51,19 @@ fn target_by<'a, 'p>(
             kind: FaultKind::Name,
             at,
         }),
-        Some(Named::Variable(_, _) | Named::Tag(true)) => Verdict::Wrong(Fault {
+        Some(Named::Variable(_, _) | Named::Tag { is_union: true, .. }) => Verdict::Wrong(Fault {
             kind: FaultKind::Typing,
             at,
         }),
-        Some(Named::Tag(false)) => made,
+        Some(
+            Named::Tag {
+                is_union: false,
+                ..
+            },
+        ) => made,
         Some(Named::Function(signature)) => Verdict::Of(Target::Function(signature)),
         Some(Named::Builtin(parameters)) => Verdict::Of(Target::Builtin(parameters)),
-        Some(Named::FaultyTag | Named::NotKnown) => Verdict::NotJudged,
+        Some(Named::FaultyTag(_) | Named::NotKnown) => Verdict::NotJudged,
     }
 }
 

@@ -40,14 +40,14 @@ module _ (c : code.Head) (f : tree.Function) (h : rules.Head) (is : IsHead c f h
 
   module _ (lenient : Bool) (g : Tables) (i : ℕ) (s : Scope) (alone : s.locals ≡ []) where
     pub begins : KnowsGlobals s.globals.now g → (s.taken.structs ≡ true → HasTags s.tables.now g)
-        → (s.taken.structs ≡ false → (x : List ℕ) (u : Bool) → global_meaning s.globals.now x ≡ Some (meaning.Tag u) → ⊥) → s.lenient ≡ lenient
+        → (s.taken.structs ≡ false → (x : List ℕ) (u : Bool) (n : ℕ) → global_meaning s.globals.now x ≡ Some (meaning.Tag u n) → ⊥) → s.lenient ≡ lenient
         → AreThose s.regions (with_scope (entry_regions h.signature.regions h.signature.effect h.signature.bounds))
         → Knows s (function_scope lenient g i h)
     begins globals tags untaken same regions = record {
       names = λ x. subst (λ m. Means (find g x) (local_or m (global_meaning s.globals.now x)))
           (sym (ap (λ ls. find_what ls x) alone)) (globals x);
       tags = tags;
-      untaken = λ e x u m. untaken e x u (ap (λ ls. local_or (find_what ls x) (global_meaning s.globals.now x)) (sym alone) ∙ m);
+      untaken = λ e x u n m. untaken e x u n (ap (λ ls. local_or (find_what ls x) (global_meaning s.globals.now x)) (sym alone) ∙ m);
       regions = regions;
       lenient = same;
       enclosing = refl;

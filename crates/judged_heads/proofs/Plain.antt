@@ -17,6 +17,8 @@ use Rattle.source_typing.specs.Written.{
   Missing,
   as_region,
   base_of,
+  count_fits,
+  counted_type,
   pointer_to,
   pointers_to,
   spots_of,
@@ -29,6 +31,7 @@ use Rattle.judged_heads.specs.Reading.{IsPlain, NoKey, NoKeyIn}
 use Rattle.type_verdicts.specs.Taken.{taken_of}
 use Rattle.type_verdicts.specs.declared.taken.Taken as code_taken
 use Rattle.written_types.proofs.Structs.{other_type, struct_is_base, struct_type, takes_structs}
+use Rattle.written_types.specs.Arguments.{written_arguments}
 use Rattle.written_types.specs.Tagged.{struct_taken}
 use Rattle.written_types.proofs.Pointers.{base_taken, is_taken, not_taken, taken_built}
 use Rattle.written_types.specs.Reading.{plain_of, taken_base}
@@ -90,19 +93,25 @@ arguments_plain (suc n) x args ps [] = tt
 arguments_plain (suc n) x args ps (f ∷ fs) = arguments_plain n x (args ++ f ∷ []) ps fs
 
 -- where structs are taken, one may be left unjudged
-tagged_plain : (s : Bool) (at : ℕ) (x : tree.Name) (ps : List tree.Pointer) (fs : List Found) (bad : List rules.Fault) (v : Verdict ℕ) → s ≡ true
-    → IsPlain s (written_on (record { at = at; base = tree.Struct x []; pointers = ps }) fs bad v)
-tagged_plain s at x ps fs bad (Faulty f others) h = tt
-tagged_plain s at x ps fs bad Unjudged h = unless_plain s bad Unjudged h
-tagged_plain s at x ps fs bad (Of n) h =
-    let o = with_arguments n (Struct x.text) [] ps fs in
-    unless_plain s bad (type_built at o) (built_plain s at o (arguments_plain n x.text [] ps fs))
+counted_plain : (s : Bool) (at : ℕ) (x : tree.Name) (rs : List tree.RegionName) (ps : List tree.Pointer) (fs : List Found) (n : ℕ) (fits : Bool)
+    → IsPlain s (counted_type (record { at = at; base = tree.Struct x rs; pointers = ps }) fs n fits)
+counted_plain s at x rs ps fs n true =
+    let o = with_arguments n (Struct x.text) [] ps fs in built_plain s at o (arguments_plain n x.text [] ps fs)
+counted_plain s at x rs ps fs n false = tt
 
-struct_plain : (s : Bool) (g : Tables) (t : TypeName) (x : tree.Name) (y : List Found × List rules.Fault) → s ≡ true → t.base ≡ tree.Struct x []
-    → IsPlain s (written_with g t y)
-struct_plain s g t x (fs, bad) h e =
+tagged_plain : (s : Bool) (at : ℕ) (x : tree.Name) (rs : List tree.RegionName) (ps : List tree.Pointer) (fs : List Found) (bad : List rules.Fault)
+    (v : Verdict ℕ) → s ≡ true → IsPlain s (written_on (record { at = at; base = tree.Struct x rs; pointers = ps }) fs bad v)
+tagged_plain s at x rs ps fs bad (Faulty f others) h = tt
+tagged_plain s at x rs ps fs bad Unjudged h = unless_plain s bad Unjudged h
+tagged_plain s at x rs ps fs bad (Of n) h =
+    let fits = count_fits (tree.Struct x rs) n in
+    unless_plain s bad (counted_type (record { at = at; base = tree.Struct x rs; pointers = ps }) fs n fits) (counted_plain s at x rs ps fs n fits)
+
+struct_plain : (s : Bool) (g : Tables) (t : TypeName) (x : tree.Name) (rs : List tree.RegionName) (y : List Found × List rules.Fault) → s ≡ true
+    → t.base ≡ tree.Struct x rs → IsPlain s (written_with g t y)
+struct_plain s g t x rs (fs, bad) h e =
     subst (λ b. IsPlain s (written_on (record { at = t.at; base = b; pointers = t.pointers }) fs bad (base_of g b))) (sym e)
-    (tagged_plain s t.at x t.pointers fs bad (base_of g (tree.Struct x [])) h)
+    (tagged_plain s t.at x rs t.pointers fs bad (base_of g (tree.Struct x rs)) h)
 
 -- ---- with missing regions
 
@@ -182,7 +191,8 @@ module _ (k : code_taken.Taken) (g : Tables) (t : TypeName) where
       by (Some n) e =
           let x = take_spots vs (spots_of g t) in
           subst (λ u. IsPlain k.structs (parameter_at g vs u)) (sym (struct_type k t n e))
-          (as_parameter k.structs g t vs (struct_plain k.structs g t n (x.found, x.faults) (takes_structs k t n e) (struct_is_base k t n e)))
+          (as_parameter k.structs g t vs
+          (struct_plain k.structs g t n (written_arguments t.base) (x.found, x.faults) (takes_structs k t n e) (struct_is_base k t n e)))
 
 pub refused_plain : (s : Bool) (g : Tables) (vs : Variables) (at : ℕ) → IsPlain s (parameter_at g vs (refused_type at))
 refused_plain s g vs at = tt

@@ -24,7 +24,7 @@ pub record KnowsNames (s : Names) (g : Tables) : Type 0 where
   pub tag_names : AreTagNames s.taken s.tags.now g
   pub tags : s.taken.structs ≡ true → HasTags s.tables.now g
   -- where structs aren't taken, no name means a sound one
-  pub untaken : s.taken.structs ≡ false → (x : List ℕ) (u : Bool) → global_meaning s.globals.now x ≡ Some (code.Tag u) → ⊥
+  pub untaken : s.taken.structs ≡ false → (x : List ℕ) (u : Bool) (n : ℕ) → global_meaning s.globals.now x ≡ Some (code.Tag u n) → ⊥
 
 -- parameters by their names, and by their types where these are known
 abbrev pub code_names : List Parameter → List (List ℕ)

@@ -7,7 +7,7 @@ use Rattle.cyc_tree.specs.declared.name.Sign.TheVariants as sign
 use Rattle.source_typing.specs.Faults.{Fault}
 use Rattle.source_typing.specs.Missing.{as_type, fat_with, filled_from, or_found, outer_region, pointee_of, settled, thin_with, unique_with}
 use Rattle.source_typing.specs.Tables.{Tables}
-use Rattle.source_typing.specs.Taken.{refused_type, takes_base, takes_pointers, takes_type, thin_pointers, type_taken}
+use Rattle.source_typing.specs.Taken.{Taken, refused_type, takes_base, takes_pointers, takes_type, thin_pointers, type_taken}
 use Rattle.source_typing.specs.Types.{Char, Fat, Handle, Int, Key, Null, PartialType, StaticType, Struct, Thin, TypeIn, Union, Unique, Unsigned, Void}
 use Rattle.source_typing.specs.Verdicts.{Verdict, unless_faulty}
 use Rattle.source_typing.specs.Written.{Found, Is, IsUnique, Missing, RegionNamed, all_found, pointers_to, spots_of, type_built, written}
@@ -98,36 +98,40 @@ built_tagless at [] None h = refl
 built_tagless at [] (Some t) h = h
 built_tagless at (f ∷ fs) o h = refl
 
+-- without structs, whatever is taken of their parameters
+abbrev structless : Bool → Taken
+structless parameters = record thin_pointers { structs = false; parameters = parameters }
+
 module _ (g : Tables) (names : List RegionNamed) where
-  on_base : (at : ℕ) (b : tree.Base) (ps : List tree.Pointer) → takes_base thin_pointers b && takes_pointers thin_pointers ps ≡ true
+  on_base : (k : Bool) (at : ℕ) (b : tree.Base) (ps : List tree.Pointer) → takes_base (structless k) b && takes_pointers (structless k) ps ≡ true
       → tagless_short (shortened (written g names record { at = at; base = b; pointers = ps })) ≡ true
-  on_base at tree.Int ps h =
+  on_base k at tree.Int ps h =
       let found = all_found names (spots_of g record { at = at; base = tree.Int; pointers = ps }) in
       built_tagless at found.1 (pointers_to ps found.0 (Some Int)) (pointers_tagless ps found.0 (Some Int) refl)
-  on_base at tree.Unsigned ps h =
+  on_base k at tree.Unsigned ps h =
       let found = all_found names (spots_of g record { at = at; base = tree.Unsigned; pointers = ps }) in
       built_tagless at found.1 (pointers_to ps found.0 (Some Unsigned)) (pointers_tagless ps found.0 (Some Unsigned) refl)
-  on_base at tree.Char ps h =
+  on_base k at tree.Char ps h =
       let found = all_found names (spots_of g record { at = at; base = tree.Char; pointers = ps }) in
       built_tagless at found.1 (pointers_to ps found.0 (Some Char)) (pointers_tagless ps found.0 (Some Char) refl)
-  on_base at tree.Void ps h =
+  on_base k at tree.Void ps h =
       let found = all_found names (spots_of g record { at = at; base = tree.Void; pointers = ps }) in
       built_tagless at found.1 (pointers_to ps found.0 (Some Void)) (pointers_tagless ps found.0 (Some Void) refl)
-  on_base at (tree.Struct tag rs) ps h = absurd (true≢false (sym h))
-  on_base at (tree.Union tag rs) ps h = absurd (true≢false (sym h))
-  on_base at (tree.Handle r) ps h = absurd (true≢false (sym h))
-  on_base at (tree.Key r) ps h = absurd (true≢false (sym h))
+  on_base k at (tree.Struct tag rs) ps h = absurd (true≢false (sym h))
+  on_base k at (tree.Union tag rs) ps h = absurd (true≢false (sym h))
+  on_base k at (tree.Handle r) ps h = absurd (true≢false (sym h))
+  on_base k at (tree.Key r) ps h = absurd (true≢false (sym h))
 
-  written_tagless : (t : tree.TypeName) → tagless_short (shortened (written g names (type_taken thin_pointers t))) ≡ true
-  written_tagless t = by (takes_type thin_pointers t) refl
+  written_tagless : (k : Bool) (t : tree.TypeName) → tagless_short (shortened (written g names (type_taken (structless k) t))) ≡ true
+  written_tagless k t = by (takes_type (structless k) t) refl
     where
-      by : (b : Bool) → takes_type thin_pointers t ≡ b → tagless_short (shortened (written g names (if b then t else refused_type t.at))) ≡ true
-      by true e = on_base t.at t.base t.pointers e
+      by : (b : Bool) → takes_type (structless k) t ≡ b → tagless_short (shortened (written g names (if b then t else refused_type t.at))) ≡ true
+      by true e = on_base k t.at t.base t.pointers e
       by false e = refl
 
   pub written_allowed : (k : code_taken.Taken) (t : tree.TypeName) → allowed_short k.structs (shortened (written g names (type_taken (taken_of k) t))) ≡ true
   written_allowed k t = by k.structs
     where
-      by : (s : Bool) → allowed_short s (shortened (written g names (type_taken (record thin_pointers { structs = s }) t))) ≡ true
+      by : (s : Bool) → allowed_short s (shortened (written g names (type_taken (record thin_pointers { structs = s; parameters = k.parameters }) t))) ≡ true
       by true = refl
-      by false = written_tagless t
+      by false = written_tagless k.parameters t

@@ -19,9 +19,8 @@ use Rattle.scoped_names.specs.declared.scope.Scope.{Scope}
 use Rattle.source_typing.specs.Declarations.{fitting_local, stands_earlier, tag_earlier}
 use Rattle.source_typing.specs.Extents.{fits_bytes, size_of}
 use Rattle.source_typing.specs.Scope.{Env}
-use Rattle.source_typing.specs.Tables.{Entry, Tables, as_tag, has_beginning, tag_in}
+use Rattle.source_typing.specs.Tables.{Entry, Tables, has_beginning, tag_in}
 use Rattle.source_typing.specs.Types.{Char, Fat, Handle, Int, Key, Null, StaticType, Struct, Thin, Union, Unique, Unsigned, Void, is_void}
-use Rattle.source_typing.specs.Written.{regions_of_tag}
 use Rattle.written_types.specs.Tagged.{tag_name_of}
 use Rattle.written_types.specs.declared.tagged.TagName.TheVariants as tag
 use Rattle.judged_statements.specs.Declaring.{allowed, could_be, fitting_by, is_tagless, stands_before, tag_of_meaning}
@@ -36,19 +35,8 @@ tag_meant e m (means.Function s) = refl
 tag_meant e m (means.Builtin n) = refl
 tag_meant e m means.UnknownValue = refl
 tag_meant e m (means.UnsoundFunction s u) = refl
-tag_meant e m (means.SoundTag t u r) = ap (λ (b : Bool). if b then tag.Tag t.is_union else tag.NotJudged) u
-tag_meant e m (means.UnsoundTag t u r) = ap (λ (b : Bool). if b then tag.Tag t.is_union else tag.NotJudged) u
-
--- no tag in scope has region parameters
-pub plain_meant : (e : Option Entry) (m : Option Meaning) → Means e m → regions_of_tag (as_tag e) ≡ 0
-plain_meant e m means.NoName = refl
-plain_meant e m (means.Variable t r) = refl
-plain_meant e m (means.Function s) = refl
-plain_meant e m (means.Builtin n) = refl
-plain_meant e m means.UnknownValue = refl
-plain_meant e m (means.UnsoundFunction s u) = refl
-plain_meant e m (means.SoundTag t u r) = r
-plain_meant e m (means.UnsoundTag t u r) = r
+tag_meant e m (means.SoundTag t u) = ap (λ (b : Bool). if b then tag.Tag t.is_union t.regions else tag.NotJudged t.regions) u
+tag_meant e m (means.UnsoundTag t u) = ap (λ (b : Bool). if b then tag.Tag t.is_union t.regions else tag.NotJudged t.regions) u
 
 -- ---- bytes
 

@@ -59,8 +59,8 @@ fitting_by fits sized at t = verdict.after (verdict.if_fits fits at t) (if_sized
 -- what a name means where a tag is wanted, by what it means in code
 abbrev pub tag_of_meaning : Option Meaning → TagName
 tag_of_meaning None = tag.NoName
-tag_of_meaning (Some (meaning.Tag u)) = tag.Tag u
-tag_of_meaning (Some meaning.FaultyTag) = tag.NotJudged
+tag_of_meaning (Some (meaning.Tag u n)) = tag.Tag u n
+tag_of_meaning (Some (meaning.FaultyTag n)) = tag.NotJudged n
 tag_of_meaning (Some m) = tag.Other
 
 -- ---- declarations

@@ -28,8 +28,8 @@ fn tag_name(named: Option<Named<'_, '_>>) -> TagName
 {
     match named {
         None => TagName::NoName,
-        Some(Named::Tag(is_union)) => TagName::Tag(is_union),
-        Some(Named::FaultyTag) => TagName::NotJudged,
+        Some(Named::Tag { is_union, regions }) => TagName::Tag { is_union, regions },
+        Some(Named::FaultyTag(regions)) => TagName::NotJudged(regions),
         Some(Named::Variable(_, _) | Named::Function(_) | Named::Builtin(_) | Named::NotKnown) => {
             TagName::Other
         }

@@ -23,9 +23,9 @@ pub fn variable<'p>(
     match named {
         None => Ok(refused(FaultKind::Name, at)),
         Some(Named::Variable(of, region)) => Ok(seated(at, of.try_clone()?, Seat::In(region))),
-        Some(Named::Function(_) | Named::Builtin(_) | Named::Tag(_)) => {
+        Some(Named::Function(_) | Named::Builtin(_) | Named::Tag { .. }) => {
             Ok(refused(FaultKind::Typing, at))
         }
-        Some(Named::FaultyTag | Named::NotKnown) => Ok(Verdict::NotJudged),
+        Some(Named::FaultyTag(_) | Named::NotKnown) => Ok(Verdict::NotJudged),
     }
 }

@@ -1,11 +1,12 @@
 -- The types of globals that are taken.
-use Rattle.std.proofs.Common.{◌≡◌, ℕ, Bool, true, false, List, [], ◌∷◌, map, refl, sym, ap, subst, ◌∙◌}
-use Rattle.std.specs.Prelude.{None, Option, Some, bytes_eq, is_some, not, ◌&&◌, ◌||◌, if◌then◌else◌}
+use Rattle.std.proofs.Common.{◌≡◌, ℕ, suc, zero, Bool, true, false, List, [], ◌∷◌, ◌++◌, map, refl, sym, ap, subst, ◌∙◌}
+use Rattle.std.specs.Prelude.{None, Option, Some, bytes_eq, is_some, not, replicate, ◌&&◌, ◌||◌, if◌then◌else◌}
 use Rattle.std.specs.List.{list_all}
 use Rattle.std.proofs.lemmas.Slice.Eq.{bytes_eq-Decides}
 use Rattle.cyc_tree.specs.Tree.{TypeName}
-use Rattle.cyc_tree.specs.View.{pointer_tree}
+use Rattle.cyc_tree.specs.View.{pointer_tree, region_tree}
 use Rattle.cyc_tree.specs.declared.name.Pointer.{Pointer}
+use Rattle.cyc_tree.specs.declared.name.RegionName as code_region
 use Rattle.cyc_types.specs.Sameness.{HasTags}
 use Rattle.cyc_types.specs.Tables.{tables_of}
 use Rattle.cyc_types.specs.declared.tables.Tables as code_tables
@@ -23,96 +24,93 @@ use Rattle.source_typing.specs.Taken.{refused_type, takes_base, takes_pointers, 
 use Rattle.source_typing.specs.Types.{Char, Fat, Handle, Int, Key, Null, PartialType, StaticType, Struct, Thin, Union, Unique, Unsigned, Void}
 use Rattle.source_typing.specs.Types.{is_key, is_void}
 use Rattle.source_typing.specs.Verdicts.{Faulty, Of, Unjudged, Verdict, after, if_fits}
-use Rattle.source_typing.specs.Written.{RegionNamed, Spot, all_found, find_region, found_before, found_by, found_named, spot, spots_of, written, written_with}
+use Rattle.source_typing.proofs.RegionNames.{written_alike}
+use Rattle.source_typing.specs.Written.{RegionNamed, Spot, find_region, spot, spots_of, written}
 use Rattle.type_verdicts.specs.Taken.{taken_of}
 use Rattle.type_verdicts.specs.Verdicts.{shortened}
 use Rattle.type_verdicts.specs.declared.taken.Taken as code_taken
 use Rattle.written_types.proofs.Pointers.{spots_taken}
-use Rattle.written_types.proofs.Structs.{struct_is_base, struct_spots, takes_either}
+use Rattle.written_types.proofs.Structs.{spots_are_by, struct_is_base, takes_either}
+use Rattle.written_types.specs.Arguments.{named_spots, spots_by, written_arguments}
 use Rattle.written_types.specs.Reading.{plain_of}
-use Rattle.written_types.specs.Tagged.{TagIs, struct_taken}
+use Rattle.written_types.specs.Tagged.{TagIs, regions_named, struct_taken}
 use Rattle.written_types.specs.declared.tagged.TagName.{TagName}
-use Rattle.program_types.specs.Globals.{foreign_in, is_unnamed, named_region, names_none, or_region, spots_in}
+use Rattle.program_types.specs.Globals.{foreign_in, is_unnamed, named_region, names_none, or_region, spots_in, type_spots}
 use Rattle.cyc_tree.specs.Tree as tree
 
 -- ---- region names
 
-unnamed_more : (r : Option tree.RegionName) (ss : List Spot) → (is_unnamed r && has_none (foreign_names ss)) ≡ has_none (foreign_names (spot true r ∷ ss))
-unnamed_more None ss = refl
-unnamed_more (Some (tree.Heap at)) ss = refl
-unnamed_more (Some (tree.Unique at)) ss = refl
-unnamed_more (Some (tree.Named n)) ss = refl
+unnamed_more : (p : Bool) (r : Option tree.RegionName) (ss : List Spot) → (is_unnamed r && names_none ss) ≡ names_none (spot p r ∷ ss)
+unnamed_more p None ss = refl
+unnamed_more p (Some (tree.Heap at)) ss = refl
+unnamed_more p (Some (tree.Unique at)) ss = refl
+unnamed_more p (Some (tree.Named n)) ss = refl
 
-pub each_unnamed : (ps : List Pointer) → list_all (λ p. is_unnamed (pointer_tree p).region) ps ≡ names_none (map pointer_tree ps)
-each_unnamed [] = refl
-each_unnamed (p ∷ ps) =
+pub each_pointer : (ps : List Pointer) → list_all (λ p. is_unnamed (pointer_tree p).region) ps ≡ names_none (spots_in (map pointer_tree ps))
+each_pointer [] = refl
+each_pointer (p ∷ ps) =
     let r = (pointer_tree p).region in
-    ap (λ b. is_unnamed r && b) (each_unnamed ps) ∙ unnamed_more r (spots_in (map pointer_tree ps))
+    ap (λ b. is_unnamed r && b) (each_pointer ps) ∙ unnamed_more true r (spots_in (map pointer_tree ps))
+
+pub each_argument : (rs : List code_region.RegionName) → list_all (λ r. is_unnamed (Some (region_tree r))) rs ≡ names_none (named_spots (map region_tree rs))
+each_argument [] = refl
+each_argument (r ∷ rs) =
+    ap (λ b. is_unnamed (Some (region_tree r)) && b) (each_argument rs) ∙ unnamed_more false (Some (region_tree r)) (named_spots (map region_tree rs))
+
+-- none is named before and after
+pub none_both : (rs : List tree.RegionName) (ss : List Spot) → (names_none (named_spots rs) && names_none ss) ≡ names_none (named_spots rs ++ ss)
+none_both [] ss = refl
+none_both (tree.Heap at ∷ rs) ss = none_both rs ss
+none_both (tree.Unique at ∷ rs) ss = none_both rs ss
+none_both (tree.Named n ∷ rs) ss = refl
 
 -- one name more
-pub name_more : (old : List RegionNamed) (n : tree.Name) (ps : List tree.Pointer) (x : List ℕ)
-    → or_region (find_region (name_added (is_some (find_region old n.text)) n TheHeap old) x) (foreign_in ps x)
-    ≡ or_region (find_region old x) (if bytes_eq n.text x then Some TheHeap else foreign_in ps x)
-name_more old n ps x = by (find_region old n.text) refl (bytes_eq n.text x) refl
+pub name_more : (old : List RegionNamed) (n : tree.Name) (ss : List Spot) (x : List ℕ)
+    → or_region (find_region (name_added (is_some (find_region old n.text)) n TheHeap old) x) (foreign_in ss x)
+    ≡ or_region (find_region old x) (if bytes_eq n.text x then Some TheHeap else foreign_in ss x)
+name_more old n ss x = by (find_region old n.text) refl (bytes_eq n.text x) refl
   where
     by : (o : Option Region) → find_region old n.text ≡ o → (b : Bool) → bytes_eq n.text x ≡ b
-        → or_region (find_region (name_added (is_some o) n TheHeap old) x) (foreign_in ps x)
-        ≡ or_region (find_region old x) (if b then Some TheHeap else foreign_in ps x)
+        → or_region (find_region (name_added (is_some o) n TheHeap old) x) (foreign_in ss x)
+        ≡ or_region (find_region old x) (if b then Some TheHeap else foreign_in ss x)
     by None e true h =
-        ap (λ (b : Bool). or_region (if b then Some TheHeap else find_region old x) (foreign_in ps x)) h
+        ap (λ (b : Bool). or_region (if b then Some TheHeap else find_region old x) (foreign_in ss x)) h
         ∙ sym (ap (λ o. or_region o (Some TheHeap)) (ap (find_region old) (sym ((bytes_eq-Decides n.text x).0 h)) ∙ e))
-    by None e false h = ap (λ (b : Bool). or_region (if b then Some TheHeap else find_region old x) (foreign_in ps x)) h
+    by None e false h = ap (λ (b : Bool). or_region (if b then Some TheHeap else find_region old x) (foreign_in ss x)) h
     by (Some r) e true h =
         let there : find_region old x ≡ Some r = ap (find_region old) (sym ((bytes_eq-Decides n.text x).0 h)) ∙ e in
-        ap (λ o. or_region o (foreign_in ps x)) there ∙ sym (ap (λ o. or_region o (Some TheHeap)) there)
+        ap (λ o. or_region o (foreign_in ss x)) there ∙ sym (ap (λ o. or_region o (Some TheHeap)) there)
     by (Some r) e false h = refl
 
--- by the name of a pointer's region
+-- by the name of a region
 abbrev with_name : Option tree.Name → Option Region → List ℕ → Option Region
 with_name None o x = o
 with_name (Some n) o x = (if bytes_eq n.text x then Some TheHeap else o)
 
-next_foreign : (p : tree.Pointer) (ps : List tree.Pointer) (x : List ℕ) → foreign_in (p ∷ ps) x ≡ with_name (named_region p.region) (foreign_in ps x) x
-next_foreign p ps x = by p.region
-  where
-    by : (r : Option tree.RegionName) → foreign_in (record { sign = p.sign; region = r } ∷ ps) x ≡ with_name (named_region r) (foreign_in ps x) x
-    by None = refl
-    by (Some (tree.Heap at)) = refl
-    by (Some (tree.Unique at)) = refl
-    by (Some (tree.Named n)) = refl
+next_foreign : (p : Bool) (r : Option tree.RegionName) (ss : List Spot) (x : List ℕ)
+    → foreign_in (spot p r ∷ ss) x ≡ with_name (named_region r) (foreign_in ss x) x
+next_foreign p None ss x = refl
+next_foreign p (Some (tree.Heap at)) ss x = refl
+next_foreign p (Some (tree.Unique at)) ss x = refl
+next_foreign p (Some (tree.Named n)) ss x = refl
 
-pub name_added_next : (old new : List RegionNamed) (p : tree.Pointer) (n : tree.Name) → Some n ≡ named_region p.region
-    → new ≡ name_added (is_some (find_region old n.text)) n TheHeap old → (ps : List tree.Pointer) (x : List ℕ)
-    → or_region (find_region new x) (foreign_in ps x) ≡ or_region (find_region old x) (foreign_in (p ∷ ps) x)
-name_added_next old new p n named added ps x =
-    ap (λ l. or_region (find_region l x) (foreign_in ps x)) added
-    ∙ name_more old n ps x
-    ∙ ap (λ o. or_region (find_region old x) (with_name o (foreign_in ps x) x)) named
-    ∙ ap (or_region (find_region old x)) (sym (next_foreign p ps x))
+pub name_added_next : (old new : List RegionNamed) (r : Option tree.RegionName) (n : tree.Name) → Some n ≡ named_region r
+    → new ≡ name_added (is_some (find_region old n.text)) n TheHeap old → (p : Bool) (ss : List Spot) (x : List ℕ)
+    → or_region (find_region new x) (foreign_in ss x) ≡ or_region (find_region old x) (foreign_in (spot p r ∷ ss) x)
+name_added_next old new r n named added p ss x =
+    ap (λ l. or_region (find_region l x) (foreign_in ss x)) added
+    ∙ name_more old n ss x
+    ∙ ap (λ o. or_region (find_region old x) (with_name o (foreign_in ss x) x)) named
+    ∙ ap (or_region (find_region old x)) (sym (next_foreign p r ss x))
 
-pub no_name_next : (old : List RegionNamed) (p : tree.Pointer) → None ≡ named_region p.region → (ps : List tree.Pointer) (x : List ℕ)
-    → or_region (find_region old x) (foreign_in ps x) ≡ or_region (find_region old x) (foreign_in (p ∷ ps) x)
-no_name_next old p none ps x =
-    ap (λ o. or_region (find_region old x) (with_name o (foreign_in ps x) x)) none ∙ ap (or_region (find_region old x)) (sym (next_foreign p ps x))
+pub no_name_next : (old : List RegionNamed) (r : Option tree.RegionName) → None ≡ named_region r → (p : Bool) (ss : List Spot) (x : List ℕ)
+    → or_region (find_region old x) (foreign_in ss x) ≡ or_region (find_region old x) (foreign_in (spot p r ∷ ss) x)
+no_name_next old r none p ss x =
+    ap (λ o. or_region (find_region old x) (with_name o (foreign_in ss x) x)) none ∙ ap (or_region (find_region old x)) (sym (next_foreign p r ss x))
 
 pub no_more : (o : Option Region) → or_region o None ≡ o
 no_more None = refl
 no_more (Some r) = refl
-
--- regions are found alike by names that mean the same
-found_alike : (a b : List RegionNamed) → ((x : List ℕ) → find_region a x ≡ find_region b x) → (r : Option tree.RegionName) (p : Bool)
-    → found_by a r p ≡ found_by b r p
-found_alike a b e None p = refl
-found_alike a b e (Some (tree.Heap at)) p = refl
-found_alike a b e (Some (tree.Unique at)) true = refl
-found_alike a b e (Some (tree.Unique at)) false = refl
-found_alike a b e (Some (tree.Named n)) p = ap (λ o. found_named n.at o) (e n.text)
-
-pub all_alike : (a b : List RegionNamed) → ((x : List ℕ) → find_region a x ≡ find_region b x) → (ss : List Spot) → all_found a ss ≡ all_found b ss
-all_alike a b e [] = refl
-all_alike a b e (s ∷ ss) =
-    ap (λ f. found_before f (all_found a ss)) (found_alike a b e s.written s.of_pointer)
-    ∙ ap (λ fs. found_before (found_by b s.written s.of_pointer) fs) (all_alike a b e ss)
 
 -- ---- a type that is taken
 
@@ -132,17 +130,39 @@ has_base (tree.Union tag rs) m e = absurd cc
 has_base (tree.Handle r) m e = absurd cc
 has_base (tree.Key r) m e = absurd cc
 
--- its regions are those of its pointers
-pub spots_are : (k : code_taken.Taken) (g : Tables) (t : TypeName) (n : TagName) → takes_type (taken_of k) t ≡ true → TagIs (taken_of k) g t n
-    → spots_of g t ≡ spots_in t.pointers
-spots_are k g t n e tag = by (struct_taken (taken_of k) t) refl
+-- a missing region has no name
+missing_unnamed : (n : ℕ) (ss : List Spot) → foreign_names (replicate n (spot false None) ++ ss) ≡ foreign_names ss
+missing_unnamed zero ss = refl
+missing_unnamed (suc n) ss = missing_unnamed n ss
+
+names_by : (n : ℕ) (rs : List tree.RegionName) (ss : List Spot) → foreign_names (spots_by n rs ++ ss) ≡ foreign_names (named_spots rs ++ ss)
+names_by n [] ss = missing_unnamed n ss
+names_by n (r ∷ rs) ss = refl
+
+plain_arguments : (b : tree.Base) (p : PartialType) → plain_of b ≡ Some p → written_arguments b ≡ []
+plain_arguments tree.Int p e = refl
+plain_arguments tree.Unsigned p e = refl
+plain_arguments tree.Char p e = refl
+plain_arguments tree.Void p e = refl
+plain_arguments (tree.Struct tag rs) p e = absurd cc
+plain_arguments (tree.Union tag rs) p e = refl
+plain_arguments (tree.Handle r) p e = refl
+plain_arguments (tree.Key r) p e = refl
+
+-- the names of its regions are those that are written
+pub names_are : (k : code_taken.Taken) (g : Tables) (t : TypeName) (n : TagName) → takes_type (taken_of k) t ≡ true → TagIs (taken_of k) g t n
+    → foreign_names (spots_of g t) ≡ foreign_names (type_spots t)
+names_are k g t n e tag = by (struct_taken (taken_of k) t) refl
   where
-    by : (o : Option tree.Name) → struct_taken (taken_of k) t ≡ o → spots_of g t ≡ spots_in t.pointers
-    by (Some x) h = struct_spots g t x n (struct_is_base k t x h) (tag x h)
+    by : (o : Option tree.Name) → struct_taken (taken_of k) t ≡ o → foreign_names (spots_of g t) ≡ foreign_names (type_spots t)
+    by (Some x) h =
+        ap (λ ss. foreign_names ss) (spots_are_by g t x n (struct_is_base k t x h) (tag x h))
+        ∙ names_by (regions_named n) (written_arguments t.base) (spots_in t.pointers)
     by None h =
         let thin : takes_type thin_pointers t ≡ true = sym (ap (λ o. is_some o || takes_type thin_pointers t) h) ∙ takes_either k t ∙ e in
         let base = has_base t.base (takes_pointers thin_pointers t.pointers) thin in
-        spots_taken g t base.of base.is
+        ap (λ ss. foreign_names ss) (spots_taken g t base.of base.is)
+        ∙ ap (λ rs. foreign_names (named_spots rs ++ spots_in t.pointers)) (sym (plain_arguments t.base base.of base.is))
 
 -- a type with its missing regions is a struct only where structs are taken
 pub alone_allowed : (structs : Bool) (at : ℕ) (w : Verdict PartialType) → allowed_short structs (shortened w) ≡ true
@@ -182,19 +202,17 @@ global_fits structs tables g l item at t has ok =
     ∙ ap (λ n. fitting_by ((false || has_beginning g t) && (not (is_void t) && stands_earlier (at_item l g item) t)) (fits_bytes n) at t) (sym same.size)
     ∙ ap (λ b. fitting_by (b && (not (is_void t) && stands_earlier (at_item l g item) t)) (fits_bytes (size_of g t)) at t) (no_key g t)
 
--- the type of a global, by names that mean what those of its pointers mean
+-- the type of a global, by names that mean what those of its regions mean
 pub global_typed : (k : code_taken.Taken) (g : Env) (x : tree.Global) (names : List RegionNamed) (n : TagName) (b : Bool)
     → takes_type (taken_of k) x.of ≡ true → TagIs (taken_of k) g.tables x.of n → count_of x.initial ≡ None
-    → ((y : List ℕ) → find_region names y ≡ foreign_in x.of.pointers y) → b ≡ names_none x.of.pointers
+    → ((y : List ℕ) → find_region names y ≡ foreign_in (type_spots x.of) y) → b ≡ names_none (type_spots x.of)
     → after (after (written g.tables names x.of) (settled_alone x.of.at)) (fitting_global g x.of.at None b) ≡ global_type g x
 global_typed k g x names n b taken tag alone alike unnamed =
-    let spots = spots_are k g.tables x.of n taken tag in
-    let foreign = foreign_names (spots_in x.of.pointers) in
-    ap (λ f. after (after (written_with g.tables x.of f) (settled_alone x.of.at)) (fitting_global g x.of.at None b))
-    (all_alike names foreign alike (spots_of g.tables x.of))
+    let foreign = foreign_names (type_spots x.of) in
+    ap (λ v. after (after v (settled_alone x.of.at)) (fitting_global g x.of.at None b)) (written_alike names foreign alike g.tables x.of)
     ∙ ap (λ c. after (after (written g.tables foreign x.of) (settled_alone x.of.at)) (fitting_global g x.of.at None c)) unnamed
-    ∙ ap (λ ss. after (after (written g.tables (foreign_names ss) x.of) (settled_alone x.of.at)) (fitting_global g x.of.at None (has_none (foreign_names ss))))
-    (sym spots)
+    ∙ ap (λ fs. after (after (written g.tables fs x.of) (settled_alone x.of.at)) (fitting_global g x.of.at None (has_none fs)))
+    (sym (names_are k g.tables x.of n taken tag))
     ∙ ap (λ count. after (after (written g.tables (foreign_names (spots_of g.tables x.of)) x.of) (settled_alone x.of.at))
     (fitting_global g x.of.at count (has_none (foreign_names (spots_of g.tables x.of))))) (sym alone)
 

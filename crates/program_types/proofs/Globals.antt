@@ -1,6 +1,5 @@
 -- Globals by what their types are.
 use Rattle.std.proofs.Common.{◌≡◌, ℕ, Bool, true, false, List, [], ◌∷◌, ◌++◌, refl, sym, ap, subst, ◌∙◌, true≢false}
-use Rattle.std.proofs.lemmas.List.{append-nil}
 use Rattle.std.specs.Prelude.{None, Option, Some, if◌then◌else◌, is_some, ◌&&◌}
 use Rattle.cyc_tree.specs.Tree.{Constant, Initial, TypeName}
 use Rattle.cyc_types.specs.Measures.{extent_in, extent_of, limited, measured}
@@ -31,12 +30,12 @@ use Rattle.type_verdicts.specs.Taken.{taken_of}
 use Rattle.type_verdicts.specs.declared.taken.Taken as code_taken
 use Rattle.source_typing.specs.Types.{StaticType}
 use Rattle.source_typing.specs.Verdicts.{Faulty, Of, Unjudged, Verdict, faults_of}
-use Rattle.type_verdicts.specs.Verdicts.{Is, NotJudged, Short, Wrong, fault_in, shortened}
+use Rattle.type_verdicts.specs.Verdicts.{Is, NotJudged, Short, Wrong, shortened}
 use Rattle.program_types.specs.Globals.{IsSized, bytes_by, entry_by, faults_by, global_taken, meaning_by}
 use Rattle.cyc_tree.specs.Tree as tree
 use Rattle.type_verdicts.specs.Faults as found
 use Rattle.type_verdicts.specs.declared.fault.Fault as code
-use Rattle.type_verdicts.proofs.Earliest.{sooner_none, sooner_some}
+use Rattle.type_verdicts.proofs.Earliest.{sooner_none}
 
 -- ---- constants
 
@@ -82,26 +81,12 @@ module _ (k : code_taken.Taken) (g : Env) (t : TypeName) (i : Initial) where
       by (Initial.Given c) = let z = value_of k t c in ap (λ y. faults_of y ++ converted_to g y v) z.is ∙ none z.of
 
   -- a type at fault
-  pub wrong_faults : (f : Fault) (v : Verdict StaticType) → Wrong f ≡ shortened v → Some f ≡ earliest (faults_by g start v)
-  wrong_faults f (Faulty h hs) e =
-      let all : (h ∷ hs) ++ initial_faults g start (Faulty h hs) ≡ h ∷ hs =
-      ap (λ fs. (h ∷ hs) ++ fs) (no_more (Faulty h hs) (λ z. refl)) ∙ append-nil (h ∷ hs)
-      in
-      ap fault_in e ∙ sooner_some h (earliest hs) ∙ sym (ap earliest all)
-  wrong_faults f Unjudged e = absurd cc
-  wrong_faults f (Of s) e = absurd cc
-
   pub wrong_means : (f : Fault) (v : Verdict StaticType) → Wrong f ≡ shortened v → Means (Some (entry_by g start v)) (Some NotKnownName)
   wrong_means f (Faulty h hs) e = UnknownValue
   wrong_means f Unjudged e = absurd cc
   wrong_means f (Of s) e = absurd cc
 
   -- a type that isn't judged
-  pub unjudged_faults : (v : Verdict StaticType) → (let s : Short StaticType = NotJudged in s) ≡ shortened v → None ≡ earliest (faults_by g start v)
-  unjudged_faults (Faulty h hs) e = absurd cc
-  unjudged_faults Unjudged e = sym (ap earliest (no_more Unjudged (λ z. refl)))
-  unjudged_faults (Of s) e = absurd cc
-
   pub unjudged_means : (v : Verdict StaticType) → (let s : Short StaticType = NotJudged in s) ≡ shortened v → count_of start ≡ None
       → Means (Some (entry_by g start v)) (Some NotKnownName)
   unjudged_means (Faulty h hs) e one = absurd cc
@@ -112,10 +97,6 @@ module _ (k : code_taken.Taken) (g : Env) (t : TypeName) (i : Initial) where
   unjudged_means (Of s) e one = absurd cc
 
   -- a type in order
-  pub of_faults : (o : Option Fault) (s : StaticType) (v : Verdict StaticType) → Is s ≡ shortened v → o ≡ earliest (faults_by g start (Of s))
-      → o ≡ earliest (faults_by g start v)
-  of_faults o s v e is = is ∙ ap (λ w. earliest (faults_by g start w)) (sym (of_short v s e))
-
   means_by : (o : Option code.Fault) (s : CType) (fs : List Fault) → found.faults_of o ≡ earliest fs → count_of start ≡ None
       → Means (Some (OfValue (what_after fs (what_of TheHeap (count_of start) (Of (static_type s)))))) (Some (meaning_by o s))
   means_by None s [] e one =

@@ -50,11 +50,11 @@ since_added old new n text e m is_new all others x is_text is_first added means 
 
 -- a name more that means no struct or union
 pub untagged_added : (old new : Globals) (n : List ℕ) (m : Meaning) (is_new : Bool) → IsAdded old new n m is_new → IsNoTag m → HasNoTag old → HasNoTag new
-untagged_added old new n m is_new added none untagged x u tag = by (is_new && bytes_eq n x) (sym (added x) ∙ tag)
+untagged_added old new n m is_new added none untagged x u k tag = by (is_new && bytes_eq n x) (sym (added x) ∙ tag)
   where
-    by : (b : Bool) → (if b then Some m else global_meaning old x) ≡ Some (Tag u) → ⊥
-    by true e = none u (ap (λ o. unwrap_or o m) e)
-    by false e = untagged x u e
+    by : (b : Bool) → (if b then Some m else global_meaning old x) ≡ Some (Tag u k) → ⊥
+    by true e = none u k (ap (λ o. unwrap_or o m) e)
+    by false e = untagged x u k e
 
 -- ---- the names of items
 

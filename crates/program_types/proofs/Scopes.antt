@@ -16,7 +16,7 @@ pub knows_nothing : (s : Scope) → ((x : List ℕ) → global_meaning s.globals
 knows_nothing s none untaken locals regions lenient = record {
   names = λ x. subst (λ m. Means None m) (sym (nothing x)) NoName;
   tags = λ taken. absurd (true≢false (sym taken ∙ untaken));
-  untaken = λ e x u tag. no_tag u (sym (nothing x) ∙ tag);
+  untaken = λ e x u n tag. no_tag u n (sym (nothing x) ∙ tag);
   regions = regions;
   lenient = lenient;
   enclosing = refl;
@@ -25,5 +25,5 @@ knows_nothing s none untaken locals regions lenient = record {
     nothing : (x : List ℕ) → means_in s x ≡ None
     nothing x = ap (λ ls. local_or (find_what ls x) (global_meaning s.globals.now x)) locals ∙ none x
 
-    no_tag : (u : Bool) → None ≡ Some (Tag u) → ⊥
-    no_tag u e = absurd cc
+    no_tag : (u : Bool) (n : ℕ) → None ≡ Some (Tag u n) → ⊥
+    no_tag u n e = absurd cc

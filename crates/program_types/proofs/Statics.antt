@@ -1,11 +1,10 @@
 -- What items add to the data.
-use Rattle.std.proofs.Common.{◌≡◌, ℕ, suc, ◌+◌, ◌≤◌, ◌<◌, Bool, true, false, List, [], ◌∷◌, ◌++◌, refl, sym, ap, subst, ◌∙◌, map, arith}
+use Rattle.std.proofs.Common.{◌≡◌, ℕ, suc, ◌+◌, ◌≤◌, Bool, true, false, List, [], ◌∷◌, ◌++◌, refl, sym, ap, subst, ◌∙◌, map, arith}
 use Rattle.std.specs.Prelude.{nat_le, not, ◌&&◌}
 use Rattle.std.proofs.lemmas.Bool.Decides.{nat_tests}
 use Rattle.cyc_tree.specs.Tree.{Initial, Item}
 use Rattle.source_meaning.specs.Sizes.{rounded_up}
 use Rattle.source_typing.specs.Extents.{most_static_bytes}
-use Rattle.source_typing.specs.Faults.{fault, size_rule}
 use Rattle.source_typing.specs.Globals.{Static, global_size, if_passed, item_statics, static_string, total_faults}
 use Rattle.source_typing.specs.Programs.{if_first, is_seen, name_of, statics_from}
 use Rattle.source_typing.specs.Scope.{Env, at_item}
@@ -67,8 +66,3 @@ module _ (l : Bool) (g : Tables) (k : ℕ) (names : List (List ℕ)) (i : Item) 
     added_left h =
         let within : true ≡ nat_le (total + n) most_static_bytes = grind (arith, nat_tests, h) in
         ap (λ c. if_passed c at (total_faults (total + n) more)) within ∙ passed
-
-    pub too_many : most_static_bytes < total + n → fault size_rule at ∷ [] ≡ total_faults total (statics_from l g k names (i ∷ items))
-    too_many h =
-        let beyond : false ≡ nat_le (total + n) most_static_bytes = grind (arith, nat_tests, h) in
-        ap (λ c. if_passed c at (total_faults (total + n) more)) beyond ∙ passed

@@ -4,12 +4,12 @@ use Rattle.std.specs.Prelude.{if◌then◌else◌}
 use Rattle.cyc_tree.specs.Tree.{Item}
 use Rattle.cyc_tree.specs.Tree as tree
 use Rattle.source_typing.specs.Programs.{Judged, entry_with, name_of}
-use Rattle.source_typing.specs.Tables.{Entry, OfTag, Tables, Tag, as_tag, find}
+use Rattle.source_typing.specs.Tables.{Entry, OfTag, Tables, Tag, find}
 use Rattle.source_typing.specs.Tags.{tag_entry}
 use Rattle.source_typing.specs.Taken.{item_taken, members_taken, structure_if, takes_structure}
-use Rattle.source_typing.specs.Written.{regions_of_tag}
 use Rattle.scoped_names.specs.Means.{Means}
 use Rattle.scoped_names.specs.Means as means
+use Rattle.scoped_names.specs.declared.meaning.Meaning.TheVariants.{FaultyTag}
 use Rattle.type_verdicts.specs.Taken.{taken_of}
 use Rattle.written_types.specs.Naming.{tag_named}
 use Rattle.written_types.specs.Tagged.{tag_name_of}
@@ -34,16 +34,17 @@ tag_as structs false g i union s ms h = record { tag = _; is = refl; untaken = �
 
 -- ---- what their names mean
 
-sound_means : (t : Tag) (b : Bool) → t.sound ≡ b → t.regions ≡ 0
-    → Means (Some (OfTag t)) (Some (tag_meaning true (if b then named.Tag t.is_union else named.NotJudged)))
-sound_means t true e h = means.SoundTag t e h
-sound_means t false e h = means.UnsoundTag t e h
+sound_means : (t : Tag) (b : Bool) → t.sound ≡ b
+    → Means (Some (OfTag t)) (Some (tag_meaning true (if b then named.Tag t.is_union t.regions else named.NotJudged t.regions)))
+sound_means t true e = means.SoundTag t e
+sound_means t false e = means.UnsoundTag t e
 
-tag_means : (structs : Bool) (t : Tag) (n : TagName) → (structs ≡ true → (tag_name_of (Some (OfTag t)) ≡ n) × (t.regions ≡ 0))
+tag_means : (structs : Bool) (t : Tag) (n : TagName) → (structs ≡ true → tag_name_of (Some (OfTag t)) ≡ n)
     → (structs ≡ false → (t.sound ≡ false) × (t.regions ≡ 0)) → Means (Some (OfTag t)) (Some (tag_meaning structs n))
 tag_means true t n taken untaken =
-    let h = taken refl in subst (λ (m : TagName). Means (Some (OfTag t)) (Some (tag_meaning true m))) h.0 (sound_means t t.sound refl h.1)
-tag_means false t n taken untaken = let h = untaken refl in means.UnsoundTag t h.0 h.1
+    subst (λ (m : TagName). Means (Some (OfTag t)) (Some (tag_meaning true m))) (taken refl) (sound_means t t.sound refl)
+tag_means false t n taken untaken =
+    let h = untaken refl in subst (λ (k : ℕ). Means (Some (OfTag t)) (Some (FaultyTag k))) h.1 (means.UnsoundTag t h.0)
 
 -- a name whose first entry is that of a struct or union
 entry_means : (s : Structs) (g : Tables) (x : List ℕ) (e : Entry) → IsTag s.taken.structs e → KnowsStructs s g → find g x ≡ Some e
@@ -52,7 +53,7 @@ entry_means s g x e tag known first =
     let is_tag : find g x ≡ Some (OfTag tag.tag) = first ∙ ap (λ (d : Entry). Some d) tag.is in
     subst (λ (d : Entry). Means (Some d) (Some (tag_meaning s.taken.structs (tag_named s.tags.now x)))) (sym tag.is)
     (tag_means s.taken.structs tag.tag (tag_named s.tags.now x)
-    (λ h. (ap tag_name_of (sym is_tag) ∙ (known.names h x).is, ap (λ o. regions_of_tag (as_tag o)) (sym is_tag) ∙ (known.names h x).plain))
+    (λ h. ap tag_name_of (sym is_tag) ∙ (known.names h x).is)
     tag.untaken)
 
 -- the name of an item, where the item is the first one of it

@@ -5,13 +5,12 @@ use Rattle.std.specs.Prelude.{bytes_eq, codes, if◌then◌else◌}
 use Rattle.cyc_tree.specs.Tree as tree
 use Rattle.cyc_tree.specs.Tree.{Item, Program}
 use Rattle.cyc_types.specs.FirstTags.{AlikeTags}
-use Rattle.cyc_types.proofs.FirstTags.{find_alike, has_alike}
+use Rattle.cyc_types.proofs.FirstTags.{has_alike}
 use Rattle.source_typing.specs.Functions.{head_of}
 use Rattle.source_typing.specs.Globals.{global_entry}
 use Rattle.source_typing.specs.Programs.{Judged, bare_from, builtins, entries, entries_with, first_from, judged_tag, judged_tags, named, tables_of, tags_from}
 use Rattle.source_typing.specs.Scope.{at_item}
 use Rattle.source_typing.specs.Tables.{Named, OfBuiltin, OfFunction, OfOther, Tables, as_tag, find}
-use Rattle.source_typing.specs.Written.{regions_of_tag}
 use Rattle.written_types.specs.Tagged.{tag_name_of}
 use Rattle.program_types.specs.Structs.{KnowsStructs}
 use Rattle.program_types.specs.declared.structs.Structs.{Structs}
@@ -140,9 +139,6 @@ names_same l p x =
 -- what is known by the tags alone is known by all tables
 pub knows_all : (s : Structs) (l : Bool) (p : Program) → KnowsStructs s (builtins (entries (judged_tags p))) → KnowsStructs s (tables_of l p)
 knows_all s l p k = record {
-  names = λ h x. record {
-    is = sym (names_same l p x) ∙ (k.names h x).is;
-    plain = ap regions_of_tag (sym (find_alike (builtins (entries (judged_tags p))) (tables_of l p) x (tables_alike l p))) ∙ (k.names h x).plain;
-  };
+  names = λ h x. record { is = sym (names_same l p x) ∙ (k.names h x).is };
   tables = λ h. has_alike s.tables.now (builtins (entries (judged_tags p))) (tables_of l p) (tables_alike l p) (k.tables h);
 }

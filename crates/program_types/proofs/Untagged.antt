@@ -17,31 +17,31 @@ abbrev is_tag : Option Entry → Bool
 is_tag (Some (OfTag t)) = true
 is_tag e = false
 
-no_tag : (e : Option Entry) (m : Option Meaning) → Means e m → is_tag e ≡ false → (u : Bool) → m ≡ Some (Tag u) → ⊥
-no_tag e m means.NoName other u h = absurd cc
-no_tag e m (means.Variable t r) other u h = absurd cc
-no_tag e m (means.Function s) other u h = absurd cc
-no_tag e m (means.Builtin n) other u h = absurd cc
-no_tag e m means.UnknownValue other u h = absurd cc
-no_tag e m (means.UnsoundFunction s b) other u h = absurd cc
-no_tag e m (means.SoundTag t b r) other u h = absurd (true≢false other)
-no_tag e m (means.UnsoundTag t b r) other u h = absurd (true≢false other)
+no_tag : (e : Option Entry) (m : Option Meaning) → Means e m → is_tag e ≡ false → (u : Bool) (k : ℕ) → m ≡ Some (Tag u k) → ⊥
+no_tag e m means.NoName other u k h = absurd cc
+no_tag e m (means.Variable t r) other u k h = absurd cc
+no_tag e m (means.Function s) other u k h = absurd cc
+no_tag e m (means.Builtin n) other u k h = absurd cc
+no_tag e m means.UnknownValue other u k h = absurd cc
+no_tag e m (means.UnsoundFunction s b) other u k h = absurd cc
+no_tag e m (means.SoundTag t b) other u k h = absurd (true≢false other)
+no_tag e m (means.UnsoundTag t b) other u k h = absurd (true≢false other)
 
 pub value_is_no_tag : (w : What) (m : Meaning) → Means (Some (OfValue w)) (Some m) → IsNoTag m
-value_is_no_tag w m h u e = no_tag (Some (OfValue w)) (Some m) h refl u (ap Some e)
+value_is_no_tag w m h u k e = no_tag (Some (OfValue w)) (Some m) h refl u k (ap Some e)
 
 pub function_is_no_tag : (s : Signature) (m : Meaning) → Means (Some (OfFunction s)) (Some m) → IsNoTag m
-function_is_no_tag s m h u e = no_tag (Some (OfFunction s)) (Some m) h refl u (ap Some e)
+function_is_no_tag s m h u k e = no_tag (Some (OfFunction s)) (Some m) h refl u k (ap Some e)
 
 pub builtin_is_no_tag : (n : ℕ) → IsNoTag (Builtin n)
-builtin_is_no_tag n u e = absurd cc
+builtin_is_no_tag n u k e = absurd cc
 
 -- ---- all names
 
 pub none_untagged : (s : Globals) → ((x : List ℕ) → global_meaning s x ≡ None) → HasNoTag s
-none_untagged s none x u e = by (sym (none x) ∙ e)
+none_untagged s none x u k e = by (sym (none x) ∙ e)
   where
-    by : None ≡ Some (Tag u) → ⊥
+    by : None ≡ Some (Tag u k) → ⊥
     by h = absurd cc
 
 -- ---- where structs aren't taken

@@ -1,6 +1,6 @@
 -- Globals as far as they are taken.
 use Rattle.std.specs.Prelude.{Bool, List, None, Option, Some, false, map, true, ℕ, ◌≡◌, ◌&&◌, ◌++◌}
-use Rattle.cyc_tree.specs.Tree.{Global, Initial}
+use Rattle.cyc_tree.specs.Tree.{Global, Initial, TypeName}
 use Rattle.source_typing.specs.Faults.{Fault}
 use Rattle.source_typing.specs.Globals.{count_of, foreign_names, has_none, initial_faults}
 use Rattle.source_typing.specs.Declarations.{what_after, what_of}
@@ -17,6 +17,7 @@ use Rattle.cyc_types.specs.declared.ctype.CType.{CType}
 use Rattle.cyc_types.specs.declared.region.RegionId.TheVariants.{Heap}
 use Rattle.scoped_names.specs.declared.meaning.Meaning.{Meaning}
 use Rattle.scoped_names.specs.declared.meaning.Meaning.TheVariants.{NotKnown, Variable}
+use Rattle.written_types.specs.Arguments.{named_spots, written_arguments}
 use Rattle.cyc_tree.specs.Tree as tree
 use Rattle.type_verdicts.specs.declared.fault.Fault as found
 
@@ -29,9 +30,13 @@ global_taken k x = global_if (takes_type k x.of && takes_initial k x.initial) x 
 abbrev pub spots_in : List tree.Pointer → List Spot
 spots_in ps = map (λ p. spot true p.region) ps
 
--- whether none of them is a name
-abbrev pub names_none : List tree.Pointer → Bool
-names_none ps = has_none (foreign_names (spots_in ps))
+-- the places of regions that may be written in a type, its arguments before its pointers
+abbrev pub type_spots : TypeName → List Spot
+type_spots t = named_spots (written_arguments t.base) ++ spots_in t.pointers
+
+-- whether none of the regions at some places is a name
+abbrev pub names_none : List Spot → Bool
+names_none ss = has_none (foreign_names ss)
 
 abbrev pub is_unnamed : Option tree.RegionName → Bool
 is_unnamed None = true
@@ -51,9 +56,9 @@ abbrev pub or_region : Option Region → Option Region → Option Region
 or_region None o = o
 or_region (Some r) o = Some r
 
--- the region of a name among those of pointers
-abbrev pub foreign_in : List tree.Pointer → List ℕ → Option Region
-foreign_in ps x = find_region (foreign_names (spots_in ps)) x
+-- the region of a name among those at some places
+abbrev pub foreign_in : List Spot → List ℕ → Option Region
+foreign_in ss x = find_region (foreign_names ss) x
 
 -- ---- by what the type is
 

@@ -14,8 +14,8 @@ Since all (Some m) others = Means all (Some m)
 
 -- it is no struct or union in order
 abbrev pub IsNoTag : Meaning → Type 0
-IsNoTag m = (u : Bool) → m ≡ Tag u → ⊥
+IsNoTag m = (u : Bool) (n : ℕ) → m ≡ Tag u n → ⊥
 
 -- no name means a struct or union in order
 abbrev pub HasNoTag : Globals → Type 0
-HasNoTag s = (x : List ℕ) (u : Bool) → global_meaning s x ≡ Some (Tag u) → ⊥
+HasNoTag s = (x : List ℕ) (u : Bool) (n : ℕ) → global_meaning s x ≡ Some (Tag u n) → ⊥

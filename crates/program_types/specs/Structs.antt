@@ -19,9 +19,11 @@ pub record KnowsStructs (s : Structs) (g : Tables) : Type 0 where
 
 -- what a struct's or union's name means, by whether structs are taken, and by what it means where a tag is wanted
 abbrev pub tag_meaning : Bool → TagName → Meaning
-tag_meaning true (named.Tag u) = Tag u
-tag_meaning true n = FaultyTag
-tag_meaning false n = FaultyTag
+tag_meaning true (named.Tag u n) = Tag u n
+tag_meaning true (named.NotJudged n) = FaultyTag n
+tag_meaning true named.NoName = FaultyTag 0
+tag_meaning true named.Other = FaultyTag 0
+tag_meaning false n = FaultyTag 0
 
 -- so it does of an item with this entry, where the item is a struct or union
 abbrev pub MeansTag : Structs → Item → Entry → Type 0

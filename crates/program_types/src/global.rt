@@ -1,8 +1,7 @@
 // Globals.
 
-ghost use Rattle.std.specs.Prelude.{◌≡◌, ◌≤◌, ◌&&◌, ◌∷◌, Bool, IfOk, List, None, Some, if◌then◌else◌, is_some, map, option_map, true, OnOk, ℕ};
-ghost use Rattle.std.specs.List.{list_all};
-ghost use Rattle.cyc_tree.specs.View.{constant_tree, global_tree, initial_tree, name_tree, pointer_tree, type_tree};
+ghost use Rattle.std.specs.Prelude.{◌≡◌, ◌≤◌, ◌&&◌, Bool, IfOk, None, Some, if◌then◌else◌, is_some, true, ℕ};
+ghost use Rattle.cyc_tree.specs.View.{constant_tree, global_tree, initial_tree, type_tree};
 ghost use Rattle.cyc_types.specs.Bases.{base_type};
 ghost use Rattle.cyc_types.specs.Types.{static_type};
 ghost use Rattle.judged_values.specs.Values.{value_of};
@@ -14,7 +13,6 @@ ghost use Rattle.source_typing.specs.Globals.{constant, count_of, fitting_global
 ghost use Rattle.source_typing.specs.Scope.{at_item, value};
 ghost use Rattle.source_typing.specs.Tables as rules_tables;
 ghost use Rattle.source_typing.specs.Taken.{constant_taken, initial_taken, refused_constant, takes_initial, takes_type};
-ghost use Rattle.source_typing.specs.Written.{find_region};
 ghost use Rattle.source_typing.specs.Types.{StaticType};
 ghost use Rattle.type_verdicts.specs.Faults.{faults_of};
 ghost use Rattle.type_verdicts.specs.Verdicts.{short_of, shortened};
@@ -22,20 +20,20 @@ ghost use Rattle.scoped_names.specs.Means.{Means};
 ghost use Rattle.type_verdicts.specs.Taken.{taken_of};
 ghost use Rattle.type_verdicts.specs.declared.taken.Taken as code_taken;
 ghost use Rattle.judged_statements.specs.Declaring.{allowed, allowed_short};
-ghost use Rattle.program_types.specs.Globals.{IsSized, bytes_by, entry_by, faults_by, foreign_in, global_taken, is_unnamed, meaning_by, named_region};
-ghost use Rattle.program_types.specs.Globals.{names_none, or_region};
+ghost use Rattle.program_types.specs.Globals.{IsSized, bytes_by, entry_by, faults_by, global_taken, meaning_by};
 ghost use Rattle.program_types.specs.Structs.{KnowsStructs};
 ghost use Rattle.scoped_names.specs.declared.meaning.Meaning.TheVariants.{NotKnown};
 ghost use Rattle.cyc_tree.specs.Tree as tree;
 ghost use Rattle.source_typing.specs.Verdicts as rules;
 
+use crate::foreign::{foreign_names, names_none};
 use crate::structs::Structs;
-use cyc_tree::{Constant, Global as GlobalItem, Initial, Name, Pointer, RegionName, TypeName};
+use cyc_tree::{Constant, Global as GlobalItem, Initial, TypeName};
 use cyc_types::{BaseType, CType, RegionId, Tables};
 use judged_statements::fitted;
 use judged_values::{Seat, Value, converted};
 use scoped_names::{Globals, Locals, Meaning, Scope};
-use scoped_types::{RegionNames, RegionScope};
+use scoped_types::RegionScope;
 use std::alloc::{AllocError, Global};
 use type_verdicts::{Fault, FaultKind, Taken, Verdict};
 use written_types::{settled_alone, tag_of_type, takes_type_in, written_in};
@@ -47,60 +45,6 @@ pub(crate) struct JudgedGlobal<'p> {
     pub meaning: Meaning<'p>,
     /// Rounded up to 8; none where it is at fault or isn't judged.
     pub bytes: u64,
-}
-
-/// Whether none of some pointers is into a region of a name.
-#[tactic(auto, using(crate::proofs::GlobalTypes::each_unnamed))]
-fn names_none(pointers: &[Pointer]) -> bool
-    ensures { result ≡ names_none (map pointer_tree pointers.now) }
-{
-    each_unnamed(pointers)
-}
-
-/// Whether a pointer isn't into a region of a name.
-fn is_unnamed(pointer: &Pointer) -> bool
-    ensures { result ≡ is_unnamed (pointer_tree pointer.now).region }
-{
-    !matches!(pointer.region, Some(RegionName::Named(_)))
-}
-
-/// Whether each pointer isn't into a region of a name.
-fn each_unnamed(pointers: &[Pointer]) -> bool
-    ensures { result ≡ list_all (λ p. is_unnamed (pointer_tree p).region) pointers.now }
-{
-    pointers.iter().all(is_unnamed)
-}
-
-/// The name of the region that a pointer has, if it has one but the heap and the unique one.
-fn region_name(pointer: &Pointer) -> Option<&Name>
-    ensures { option_map (λ n. name_tree n.now) result ≡ named_region (pointer_tree pointer.now).region }
-{
-    match &pointer.region {
-        Some(RegionName::Named(name)) => Some(name),
-        _ => None,
-    }
-}
-
-/// Adds the name of the region that a pointer has, if it has one, as the heap. Fails only where no host memory is left.
-fn add_name<'a>(names: &mut RegionNames<'a>, pointer: &'a Pointer) -> Result<(), AllocError>
-    ensures { OnOk result ((ps : List tree.Pointer) (x : List ℕ) → or_region (find_region names.new x) (foreign_in ps x)
-        ≡ or_region (find_region names.old x) (foreign_in (pointer_tree pointer.entry.now ∷ ps) x)) }
-{
-    if let Some(name) = region_name(pointer) {
-        names.add(&name.text, RegionId::Heap)?;
-    }
-    Ok(())
-}
-
-/// The names of regions that pointers have, each as the heap. Fails only where no host memory is left.
-fn foreign_names<'a>(alloc: Global, pointers: &'a [Pointer]) -> Result<RegionNames<'a>, AllocError>
-    ensures { IfOk result (λ names. (x : List ℕ) → find_region names x ≡ foreign_in (map pointer_tree pointers.entry.now) x) }
-{
-    let mut names = RegionNames::new(alloc);
-    'each: for pointer in pointers {
-        add_name(&mut names, pointer)?;
-    }
-    Ok(names)
 }
 
 /// The type, at fault at this place where a global after so many items can't be of it, as where it names a region.
@@ -154,11 +98,11 @@ fn global_type<'p>(
         → takes_type (taken_of structs.entry.taken) x.of ≡ true → count_of x.initial ≡ None
         → IfOk result (λ v. short_of static_type v ≡ shortened (global_type (at_item lenient g item) x)) }
 {
-    let names = foreign_names(alloc, &of.pointers)?;
+    let names = foreign_names(alloc, of)?;
     let tag = tag_of_type(structs.taken, structs.tags, of);
     let found = written_in(alloc, structs.taken, tag, &names, of)?;
     let settled = settled_alone(found, of.at)?;
-    let is_unnamed = names_none(&of.pointers);
+    let is_unnamed = names_none(of);
     Ok(fitting(structs, item, settled, of.at, is_unnamed))
 }
 

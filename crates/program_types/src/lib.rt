@@ -4,6 +4,7 @@
 //! the faults that these find, with or without those on live regions and effects.
 #![tactic(auto)]
 
+mod foreign;
 mod global;
 mod names;
 mod program;

@@ -66,11 +66,12 @@ fn tag_meaning<'p>(structs: Structs<'_, '_>, name: &Name) -> Meaning<'p>
     ensures { result ≡ tag_meaning structs.entry.taken.structs (tag_named structs.entry.tags.now (name_tree name.now).text) }
 {
     if !structs.taken.structs {
-        return Meaning::FaultyTag;
+        return Meaning::FaultyTag(0);
     }
     match structs.tags.of(&name.text) {
-        TagName::Tag(is_union) => Meaning::Tag(is_union),
-        TagName::NoName | TagName::NotJudged | TagName::Other => Meaning::FaultyTag,
+        TagName::Tag { is_union, regions } => Meaning::Tag { is_union, regions },
+        TagName::NotJudged(regions) => Meaning::FaultyTag(regions),
+        TagName::NoName | TagName::Other => Meaning::FaultyTag(0),
     }
 }
 

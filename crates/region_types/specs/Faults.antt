@@ -1,5 +1,5 @@
--- The first fault of a program's names, types, regions and sizes, by the rules of `source_typing`, where functions and globals of integers and of thin
--- pointers are taken.
+-- The first fault of a program's names, types, regions and sizes, by the rules of `source_typing`, where functions, globals and locals of
+-- integers, of structs and of thin pointers to these are taken.
 use Rattle.std.specs.Prelude.{◌≡◌, Option}
 use Rattle.cyc_tree.specs.Tree.{Program}
 use Rattle.source_typing.specs.Answers.{type_fault}

@@ -2,7 +2,8 @@
 //!
 //! `typed` finds what breaks a rule of names, types, regions and sizes in a program, and `Typed::fault` answers the earliest such
 //! fault, without the rules on live regions and effects. The rules are those of `source_typing`, where functions, globals and locals of
-//! integers and of thin pointers are taken; of such programs `program_types` finds the fault. Stands on both and on `cyc_tree`.
+//! integers, of structs and of thin pointers to these are taken; of such programs `program_types` finds the fault. Stands on both and
+//! on `cyc_tree`.
 #![tactic(auto)]
 
 mod looking;

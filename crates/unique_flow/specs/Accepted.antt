@@ -4,6 +4,6 @@ use Rattle.cyc_tree.specs.Tree.{Program}
 use Rattle.source_typing.specs.Answers.{first_fault}
 use Rattle.source_typing.specs.Taken.{supported}
 
--- No rule finds a fault, where functions and globals of integers and of thin pointers are taken.
+-- No rule finds a fault, where functions, globals and locals of integers, of structs and of thin pointers to these are taken.
 abbrev pub IsAccepted : Program → Type 0
 IsAccepted program = first_fault supported program ≡ None

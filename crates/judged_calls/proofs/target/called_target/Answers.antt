@@ -7,4 +7,4 @@ pub returns : goal.returns
 returns c g h =
     let x = c.args.name.now in
     c.target_by.ensures (meant g x) (c.meaning-named.ensures.by_the_rules g h)
-    (λ m. c.struct_named-made.ensures ∙ struct_found c.args.scope.now g h c.args.at x (sym c.meaning-named.ensures.is ∙ m))
+    (λ n m. c.struct_named-made.ensures ∙ struct_found c.args.scope.now g h c.args.at x n (sym c.meaning-named.ensures.is ∙ m))

@@ -4,7 +4,7 @@ use Rattle.cyc_tree.specs.View.{name_tree, type_tree}
 use Rattle.scoped_names.specs.Means.{Means, meaning_of}
 use Rattle.source_typing.specs.Scope.{in_scope, meant}
 use Rattle.written_types.proofs.Naming.{tag_means, tag_of_none}
-use Rattle.judged_statements.proofs.LocalTypes.{plain_meant, tag_meant}
+use Rattle.judged_statements.proofs.LocalTypes.{tag_meant}
 use Rattle.judged_statements.proofs.fitting.local_tag.Goals as goal
 
 pub returns-in-Some : goal.returns-in-Some
@@ -14,7 +14,7 @@ returns-in-Some c g known =
     let means : Means (meant g x.text) m =
     subst (λ (y : List ℕ). Means (meant g y) m) c.deref.ensures.value (c.meaning.ensures.by_the_rules g known) in
     tag_means c.args.scope.now.taken (in_scope g) (type_tree c.args.of.now) c.tag_name.result x (sym c.in-Some.ensures)
-    (λ h. record { is = tag_meant (meant g x.text) m means ∙ sym c.tag_name.ensures; plain = plain_meant (meant g x.text) m means })
+    (λ h. record { is = tag_meant (meant g x.text) m means ∙ sym c.tag_name.ensures })
 
 pub returns-in-None : goal.returns-in-None
 returns-in-None c g known = tag_of_none c.args.scope.now.taken (in_scope g) (type_tree c.args.of.now) _ (sym c.in-None.ensures)

@@ -1,7 +1,7 @@
-use Rattle.std.proofs.Common.{◌≡◌, ap, map, subst, sym, ◌∙◌}
+use Rattle.std.proofs.Common.{◌≡◌, ap, subst, sym, ◌∙◌}
 use Rattle.std.specs.Prelude.{Bool, None, if◌then◌else◌}
 use Rattle.std.proofs.lemmas.Result.{IfOk-at_ok}
-use Rattle.cyc_tree.specs.View.{pointer_tree, type_tree}
+use Rattle.cyc_tree.specs.View.{type_tree}
 use Rattle.cyc_tree.specs.Tree as tree
 use Rattle.judged_statements.proofs.Beginning.{written_allowed}
 use Rattle.source_typing.specs.Globals.{fitting_global}
@@ -15,7 +15,7 @@ use Rattle.type_verdicts.specs.Verdicts.{short_of, shortened}
 use Rattle.written_types.specs.Tagged.{TagIs}
 use Rattle.written_types.specs.Written.{partial_type}
 use Rattle.program_types.proofs.GlobalTypes.{alone_allowed, global_typed}
-use Rattle.program_types.specs.Globals.{foreign_in, names_none}
+use Rattle.program_types.specs.Globals.{foreign_in, names_none, type_spots}
 use Rattle.program_types.proofs.global.global_type.Goals as goal
 
 pub returns : goal.returns
@@ -36,7 +36,5 @@ returns c lenient g x known is taken alone =
     ∙ ap (λ (u : tree.TypeName). shortened (after (after (written g names x.of) (settled_alone u.at)) (fitting_global item u.at None b))) (sym is)
     ∙ ap (λ v. shortened v)
     (global_typed s.taken item x names c.tag_of_type-tag.result b taken (subst (λ u. TagIs k g u c.tag_of_type-tag.result) (sym is) tag) alone
-    (λ y. c.in_ok-names.ensures y ∙ ap (λ ps. foreign_in (map pointer_tree ps) y) c.deref.ensures.value
-    ∙ ap (λ (u : tree.TypeName). foreign_in u.pointers y) (sym is))
-    (c.names_none-is_unnamed.ensures ∙ ap (λ ps. names_none (map pointer_tree ps)) c.deref-2.ensures.value
-    ∙ ap (λ (u : tree.TypeName). names_none u.pointers) (sym is)))
+    (λ y. c.in_ok-names.ensures y ∙ ap (λ (u : tree.TypeName). foreign_in (type_spots u) y) (sym is))
+    (c.names_none-is_unnamed.ensures ∙ ap (λ (u : tree.TypeName). names_none (type_spots u)) (sym is)))

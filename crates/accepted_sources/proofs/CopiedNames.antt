@@ -1,5 +1,5 @@
--- What names are where thin pointers are taken, with structs or without, and each other form stands as a fault: variables of copied types, variables of no
--- known type, functions that give such a type, and structs and unions of parts of such types. Then all such types are copied.
+-- What names are where thin pointers and structs are taken, and each other form stands as a fault: variables of copied types, variables of no known type,
+-- functions that give such a type, and structs and unions of parts of such types. Then all such types are copied.
 use Rattle.std.proofs.Common.{◌≡◌, ℕ, zero, suc, Bool, true, false, Option, Some, None, List, [], ◌∷◌, refl, ap₂}
 use Rattle.std.specs.Prelude.{bytes_eq, if◌then◌else◌, length, ◌&&◌}
 use Rattle.cyc_tree.specs.Tree as tree

@@ -1,5 +1,5 @@
--- An expression does nothing to the states of locals, where thin pointers are taken, with structs or without, and each other form stands as a fault: no
--- local has a state.
+-- An expression does nothing to the states of locals, where thin pointers and structs are taken, and each other form stands as a fault: no local has a
+-- state.
 use Rattle.std.proofs.Common.{◌≡◌, ℕ, Bool, true, false, Option, Some, None, [], refl, sym, subst, ap, ap₂, ◌∙◌}
 use Rattle.std.specs.Prelude.{not, ◌&&◌}
 use Rattle.cyc_tree.specs.declared.expression.Prefix.TheVariants as prefix
@@ -30,8 +30,8 @@ use Rattle.source_typing.specs.Places.{arrow, contents, indexed, member, variabl
 use Rattle.source_typing.specs.Scope.{Env, In, InBlock, Local, Nowhere, Seat, Value, find_local}
 use Rattle.source_typing.specs.States.{States, passed, then_passed}
 use Rattle.source_typing.specs.Tables.{Arrayed, Counter, Entry, Stored, Unknown, What, find}
-use Rattle.source_typing.specs.Taken.{Taken, all_taken, are_suffixed, if_taken, links_taken, made_taken, suffixes_taken, taken, takes_handle}
-use Rattle.source_typing.specs.Taken.{takes_made, takes_suffixes}
+use Rattle.source_typing.specs.Taken.{Taken, all_taken, are_suffixed, if_taken, links_taken, made_taken, region_structures, suffixes_taken, taken}
+use Rattle.source_typing.specs.Taken.{takes_handle, takes_made, takes_suffixes}
 use Rattle.source_typing.specs.Types.{StaticType, Unique, is_unique}
 use Rattle.source_typing.specs.Verdicts.{Faulty, Of, Unjudged, Verdict, after, both}
 use Rattle.accepted_sources.proofs.CopiedExpressions.{judge_copied}
@@ -39,7 +39,7 @@ use Rattle.accepted_sources.proofs.CopiedPlaces.{arrow_gives, contents_all_copie
 use Rattle.accepted_sources.proofs.CopiedValues.{GivesCopied, IsShared, gives_both, variable_copied}
 use Rattle.accepted_sources.proofs.CopiedNames.{AreNoOtherValues, FindsCopied, HasCopiedAlone, IsCopiedOrUnknown, copied_is_copyable, entry_found}
 use Rattle.accepted_sources.proofs.CopiedNames.{local_found}
-use Rattle.accepted_sources.proofs.CopiedTypes.{IsCopied, with_structs}
+use Rattle.accepted_sources.proofs.CopiedTypes.{IsCopied}
 use Rattle.accepted_sources.proofs.StillStates.{idle, tested_idle}
 
 -- ---- names
@@ -100,87 +100,86 @@ address_idle at (Of v) h = by v.seat h.1
 
 -- ---- expressions
 
-module _ (structs : Bool) where
-  abbrev k : Taken
-  k = with_structs structs
+abbrev k : Taken
+k = region_structures
 
-  if_idle : (b : Bool) (g : Env) (at : ℕ) (e : Expression) → use_of g e ≡ idle → use_of g (if_taken b at e) ≡ idle
-  if_idle true g at e h = h
-  if_idle false g at e h = refl
+if_idle : (b : Bool) (g : Env) (at : ℕ) (e : Expression) → use_of g e ≡ idle → use_of g (if_taken b at e) ≡ idle
+if_idle true g at e h = h
+if_idle false g at e h = refl
 
-  -- a making is none that is taken
-  made_idle : (g : Env) (b : Bool) (at : ℕ) (h : Expression) (new : Made)
-      → use_of g (if_taken (takes_handle k b && takes_made k new) at (Expression.NewIn at (taken k h) (made_taken k new))) ≡ idle
-  made_idle g true at h new = refl
-  made_idle g false at h new = refl
+-- a making is none that is taken
+made_idle : (g : Env) (b : Bool) (at : ℕ) (h : Expression) (new : Made)
+    → use_of g (if_taken (takes_handle k b && takes_made k new) at (Expression.NewIn at (taken k h) (made_taken k new))) ≡ idle
+made_idle g true at h new = refl
+made_idle g false at h new = refl
 
-  mutual
-    pub use_idle : (e : Expression) (g : Env) → HasCopiedAlone g → use_of g (taken k e) ≡ idle
-    use_idle (Expression.Number at n suffix) g h = refl
-    use_idle (Expression.Character at byte) g h = refl
-    use_idle (Expression.Text at bytes) g h = refl
-    use_idle (Expression.Null at) g h = refl
-    use_idle (Expression.HeapRegion at) g h = refl
-    use_idle (Expression.UniqueRegion at) g h = refl
-    use_idle (Expression.Variable x) g h = name_idle g x h
-    use_idle (Expression.Call x es) g h = ap (λ act. value_use act) (λ i s. arguments_idle es g h s i)
-    use_idle (Expression.MakeUnion tag f e) g h = refl
-    use_idle (Expression.NumElts at e) g h = refl
-    use_idle (Expression.Grouped at e) g h = use_idle e g h
-    use_idle (Expression.Suffixed e es) g h =
-        if_idle (are_suffixed es && takes_suffixes k es) g (expression_place e) (Expression.Suffixed (taken k e) (suffixes_taken k es))
-        (subst (λ u. use_suffixes g (judge g (taken k e)) u (suffixes_taken k es) ≡ idle) (sym (use_idle e g h))
-        (suffixes_idle es g (judge g (taken k e)) h (judge_copied structs e g h)))
-    use_idle (Expression.Prefixed at prefix.Negate e) g h = ap (λ u. value_use u.look) (use_idle e g h)
-    use_idle (Expression.Prefixed at prefix.Not e) g h = ap (λ u. value_use u.look) (use_idle e g h)
-    use_idle (Expression.Prefixed at prefix.Complement e) g h = ap (λ u. value_use u.look) (use_idle e g h)
-    use_idle (Expression.Prefixed at prefix.Dereference e) g h =
-        ap (λ u. contents_use g at (judge g (taken k e)) u) (use_idle e g h) ∙ contents_idle g at (judge g (taken k e)) h (judge_copied structs e g h)
-    use_idle (Expression.Prefixed at prefix.AddressOf e) g h =
-        ap (λ u. address_use at (judge g (taken k e)) u) (use_idle e g h) ∙ address_idle at (judge g (taken k e)) (judge_copied structs e g h)
-    use_idle (Expression.New at new) g h = refl
-    use_idle (Expression.NewIn at handle new) g h = made_idle g (is_unique_region handle) at handle new
-    use_idle (Expression.Chain e NoLinks) g h = refl
-    use_idle (Expression.Chain e (MoreLinks o y es)) g h =
-        subst (λ u. use_links g u (links_taken k (MoreLinks o y es)) ≡ idle) (sym (use_idle e g h)) (links_idle (MoreLinks o y es) g h)
-    use_idle (Expression.AllOf e NoExpressions) g h = refl
-    use_idle (Expression.AllOf e (MoreExpressions y es)) g h =
-        subst (λ u. use_tests g u (all_taken k (MoreExpressions y es)) ≡ idle) (sym (use_idle e g h)) (tests_idle (MoreExpressions y es) g h)
-    use_idle (Expression.AnyOf e NoExpressions) g h = refl
-    use_idle (Expression.AnyOf e (MoreExpressions y es)) g h =
-        subst (λ u. use_tests g u (all_taken k (MoreExpressions y es)) ≡ idle) (sym (use_idle e g h)) (tests_idle (MoreExpressions y es) g h)
-    use_idle (Expression.Assign a b) g h = ap₂ (λ u v. assigned_use u v) (use_idle a g h) (use_idle b g h)
+mutual
+  pub use_idle : (e : Expression) (g : Env) → HasCopiedAlone g → use_of g (taken k e) ≡ idle
+  use_idle (Expression.Number at n suffix) g h = refl
+  use_idle (Expression.Character at byte) g h = refl
+  use_idle (Expression.Text at bytes) g h = refl
+  use_idle (Expression.Null at) g h = refl
+  use_idle (Expression.HeapRegion at) g h = refl
+  use_idle (Expression.UniqueRegion at) g h = refl
+  use_idle (Expression.Variable x) g h = name_idle g x h
+  use_idle (Expression.Call x es) g h = ap (λ act. value_use act) (λ i s. arguments_idle es g h s i)
+  use_idle (Expression.MakeUnion tag f e) g h = refl
+  use_idle (Expression.NumElts at e) g h = refl
+  use_idle (Expression.Grouped at e) g h = use_idle e g h
+  use_idle (Expression.Suffixed e es) g h =
+      if_idle (are_suffixed es && takes_suffixes k es) g (expression_place e) (Expression.Suffixed (taken k e) (suffixes_taken k es))
+      (subst (λ u. use_suffixes g (judge g (taken k e)) u (suffixes_taken k es) ≡ idle) (sym (use_idle e g h))
+      (suffixes_idle es g (judge g (taken k e)) h (judge_copied e g h)))
+  use_idle (Expression.Prefixed at prefix.Negate e) g h = ap (λ u. value_use u.look) (use_idle e g h)
+  use_idle (Expression.Prefixed at prefix.Not e) g h = ap (λ u. value_use u.look) (use_idle e g h)
+  use_idle (Expression.Prefixed at prefix.Complement e) g h = ap (λ u. value_use u.look) (use_idle e g h)
+  use_idle (Expression.Prefixed at prefix.Dereference e) g h =
+      ap (λ u. contents_use g at (judge g (taken k e)) u) (use_idle e g h) ∙ contents_idle g at (judge g (taken k e)) h (judge_copied e g h)
+  use_idle (Expression.Prefixed at prefix.AddressOf e) g h =
+      ap (λ u. address_use at (judge g (taken k e)) u) (use_idle e g h) ∙ address_idle at (judge g (taken k e)) (judge_copied e g h)
+  use_idle (Expression.New at new) g h = refl
+  use_idle (Expression.NewIn at handle new) g h = made_idle g (is_unique_region handle) at handle new
+  use_idle (Expression.Chain e NoLinks) g h = refl
+  use_idle (Expression.Chain e (MoreLinks o y es)) g h =
+      subst (λ u. use_links g u (links_taken k (MoreLinks o y es)) ≡ idle) (sym (use_idle e g h)) (links_idle (MoreLinks o y es) g h)
+  use_idle (Expression.AllOf e NoExpressions) g h = refl
+  use_idle (Expression.AllOf e (MoreExpressions y es)) g h =
+      subst (λ u. use_tests g u (all_taken k (MoreExpressions y es)) ≡ idle) (sym (use_idle e g h)) (tests_idle (MoreExpressions y es) g h)
+  use_idle (Expression.AnyOf e NoExpressions) g h = refl
+  use_idle (Expression.AnyOf e (MoreExpressions y es)) g h =
+      subst (λ u. use_tests g u (all_taken k (MoreExpressions y es)) ≡ idle) (sym (use_idle e g h)) (tests_idle (MoreExpressions y es) g h)
+  use_idle (Expression.Assign a b) g h = ap₂ (λ u v. assigned_use u v) (use_idle a g h) (use_idle b g h)
 
-    arguments_idle : (es : Expressions) (g : Env) → HasCopiedAlone g → (s : States) → use_all g (all_taken k es) s ≡ passed [] s
-    arguments_idle NoExpressions g h s = refl
-    arguments_idle (MoreExpressions e es) g h s =
-        subst (λ u. then_passed (u.value s) (λ t. use_all g (all_taken k es) t) ≡ passed [] s) (sym (use_idle e g h)) (arguments_idle es g h s)
+  arguments_idle : (es : Expressions) (g : Env) → HasCopiedAlone g → (s : States) → use_all g (all_taken k es) s ≡ passed [] s
+  arguments_idle NoExpressions g h s = refl
+  arguments_idle (MoreExpressions e es) g h s =
+      subst (λ u. then_passed (u.value s) (λ t. use_all g (all_taken k es) t) ≡ passed [] s) (sym (use_idle e g h)) (arguments_idle es g h s)
 
-    suffixes_idle : (es : Suffixes) (g : Env) (v : Verdict Value) → HasCopiedAlone g → GivesCopied v → use_suffixes g v idle (suffixes_taken k es) ≡ idle
-    suffixes_idle NoSuffixes g v h c = refl
-    suffixes_idle (Index index es) g v h c =
-        let w : Verdict Value = both v (judge g (taken k index)) (indexed g) in
-        let d : GivesCopied w = gives_both v (judge g (taken k index)) (indexed g) c (indexed_copied g) in
-        subst (λ u. use_suffixes g w u (suffixes_taken k es) ≡ idle)
-        (sym (ap₂ (λ a u. indexed_use (place_at 0 v) a idle u) (value_stays g w h d) (use_idle index g h))) (suffixes_idle es g w h d)
-    suffixes_idle (Dot f es) g v h c =
-        let w : Verdict Value = after v (member g f) in
-        let d : GivesCopied w = member_gives g f v h c in
-        subst (λ u. use_suffixes g w u (suffixes_taken k es) ≡ idle) (sym (ap (λ a. member_use (place_at 0 v) a idle) (value_stays g w h d)))
-        (suffixes_idle es g w h d)
-    suffixes_idle (Arrow f es) g v h c =
-        let w : Verdict Value = after v (arrow g f) in
-        let d : GivesCopied w = arrow_gives g f v h c in
-        subst (λ u. use_suffixes g w u (suffixes_taken k es) ≡ idle) (sym (pointed_idle (place_at 0 v) (is_moved g w) v (value_stays g w h d) c))
-        (suffixes_idle es g w h d)
+  suffixes_idle : (es : Suffixes) (g : Env) (v : Verdict Value) → HasCopiedAlone g → GivesCopied v → use_suffixes g v idle (suffixes_taken k es) ≡ idle
+  suffixes_idle NoSuffixes g v h c = refl
+  suffixes_idle (Index index es) g v h c =
+      let w : Verdict Value = both v (judge g (taken k index)) (indexed g) in
+      let d : GivesCopied w = gives_both v (judge g (taken k index)) (indexed g) c (indexed_copied g) in
+      subst (λ u. use_suffixes g w u (suffixes_taken k es) ≡ idle)
+      (sym (ap₂ (λ a u. indexed_use (place_at 0 v) a idle u) (value_stays g w h d) (use_idle index g h))) (suffixes_idle es g w h d)
+  suffixes_idle (Dot f es) g v h c =
+      let w : Verdict Value = after v (member g f) in
+      let d : GivesCopied w = member_gives g f v h c in
+      subst (λ u. use_suffixes g w u (suffixes_taken k es) ≡ idle) (sym (ap (λ a. member_use (place_at 0 v) a idle) (value_stays g w h d)))
+      (suffixes_idle es g w h d)
+  suffixes_idle (Arrow f es) g v h c =
+      let w : Verdict Value = after v (arrow g f) in
+      let d : GivesCopied w = arrow_gives g f v h c in
+      subst (λ u. use_suffixes g w u (suffixes_taken k es) ≡ idle) (sym (pointed_idle (place_at 0 v) (is_moved g w) v (value_stays g w h d) c))
+      (suffixes_idle es g w h d)
 
-    tests_idle : (es : Expressions) (g : Env) → HasCopiedAlone g → use_tests g idle (all_taken k es) ≡ idle
-    tests_idle NoExpressions g h = refl
-    tests_idle (MoreExpressions e es) g h =
-        subst (λ u. use_tests g (tested_use idle u) (all_taken k es) ≡ idle) (sym (use_idle e g h))
-        (subst (λ u. use_tests g u (all_taken k es) ≡ idle) (sym tested_idle) (tests_idle es g h))
+  tests_idle : (es : Expressions) (g : Env) → HasCopiedAlone g → use_tests g idle (all_taken k es) ≡ idle
+  tests_idle NoExpressions g h = refl
+  tests_idle (MoreExpressions e es) g h =
+      subst (λ u. use_tests g (tested_use idle u) (all_taken k es) ≡ idle) (sym (use_idle e g h))
+      (subst (λ u. use_tests g u (all_taken k es) ≡ idle) (sym tested_idle) (tests_idle es g h))
 
-    links_idle : (es : Links) (g : Env) → HasCopiedAlone g → use_links g idle (links_taken k es) ≡ idle
-    links_idle NoLinks g h = refl
-    links_idle (MoreLinks o e es) g h =
-        subst (λ u. use_links g (applied_use idle u) (links_taken k es) ≡ idle) (sym (use_idle e g h)) (links_idle es g h)
+  links_idle : (es : Links) (g : Env) → HasCopiedAlone g → use_links g idle (links_taken k es) ≡ idle
+  links_idle NoLinks g h = refl
+  links_idle (MoreLinks o e es) g h =
+      subst (λ u. use_links g (applied_use idle u) (links_taken k es) ≡ idle) (sym (use_idle e g h)) (links_idle es g h)

@@ -15,7 +15,7 @@ use Rattle.source_typing.specs.Declarations.{converted_to}
 use Rattle.source_typing.specs.Converts.{IsInteger}
 use Rattle.source_typing.specs.Regions.{Regions}
 use Rattle.source_typing.specs.Scope.{Env}
-use Rattle.source_typing.specs.Taken.{constant_form, initial_form, takes_initial, structures}
+use Rattle.source_typing.specs.Taken.{constant_form, initial_form, with_regions, takes_initial}
 use Rattle.source_typing.specs.Types.{Handle, Char, Int, Null, StaticType, Struct, Thin, Unsigned, integer_type, is_integer, shape_of}
 use Rattle.source_typing.specs.Verdicts.{Of, faults_of}
 
@@ -62,7 +62,7 @@ null_good r at place _ w e = absurd w
 
 -- ---- all of them
 
-constant_good : (g : Env) (c : Constant) (u : StaticType) → IsObjectType u → constant_form structures c ≡ []
+constant_good : (g : Env) (c : Constant) (u : StaticType) → IsObjectType u → constant_form with_regions c ≡ []
     → faults_of (constant c) ++ converted_to g (constant c) (Of u) ≡ []
     → ConstantGood u c
 constant_good g (Constant.Number at n suffix) u w f e =
@@ -93,8 +93,8 @@ pub record InitialGood (u : StaticType) (i : Initial) : Type 0 where
   pub first : InitialJudged u i
   pub taken : HasBeginning (shape_of u) → TakesGlobal (shape_of u) i
 
-pub initial_good : (g : Env) (i : Initial) (u : StaticType) → IsObjectType u → takes_initial structures i ≡ true
-    → initial_form structures i ≡ [] → initial_faults g i (Of u) ≡ []
+pub initial_good : (g : Env) (i : Initial) (u : StaticType) → IsObjectType u → takes_initial with_regions i ≡ true
+    → initial_form with_regions i ≡ [] → initial_faults g i (Of u) ≡ []
     → InitialGood u i
 initial_good g Initial.Unset u w t f e = record { first = tt; taken = λ h. h }
 initial_good g (Initial.Elements n) u w t f e = absurd cc

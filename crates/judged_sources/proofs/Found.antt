@@ -16,7 +16,7 @@ use Rattle.source_typing.specs.Programs.{Judged, entries_with, items_from, named
 use Rattle.source_typing.specs.Regions.{Region, TheHeap}
 use Rattle.source_typing.specs.Scope.{at_item}
 use Rattle.source_typing.specs.Tables.{Named, OfBuiltin, OfFunction, OfOther, OfTag, OfValue, Signature, Stored, Tables, find}
-use Rattle.source_typing.specs.Taken.{function_taken, only_taken, structures}
+use Rattle.source_typing.specs.Taken.{function_taken, only_taken, with_regions}
 use Rattle.source_typing.specs.Types.{StaticType, shape_of}
 use Rattle.source_typing.proofs.Inversion.{none_of_both}
 use Rattle.judged_sources.specs.Good.{AllGood, BodiesJudged}
@@ -48,22 +48,23 @@ AllKnown g h i [] (item ∷ items) = ⊥
 AllKnown g h i (j ∷ js) [] = ⊥
 
 module _ (bodies : BodiesJudged) where
-  pub all_known : (g h : Tables) (i : ℕ) (js : List Judged) (is : List Item) → AllGood 0 g → AreAligned g h → AreHeaded h i js is → only_taken structures is ≡ is
+  pub all_known : (g h : Tables) (i : ℕ) (js : List Judged) (is : List Item) → AllGood 0 g → AreAligned g h → AreHeaded h i js is
+      → only_taken with_regions is ≡ is
       → HasOperands is → items_from false g i is ≡ []
       → AllKnown g h i js is
   all_known g h i [] [] a s k t o p = tt
   all_known g h i [] (x ∷ is) a s k t o p = absurd k
   all_known g h i (j ∷ js) [] a s k t o p = absurd k
   all_known g h i (j ∷ js) (tree.StructItem x ∷ is) a s k t o p =
-      let b : only_taken structures is ≡ is = cc in (k.0, all_known g h (suc i) js is a s k.1 b o.1 p)
+      let b : only_taken with_regions is ≡ is = cc in (k.0, all_known g h (suc i) js is a s k.1 b o.1 p)
   all_known g h i (j ∷ js) (tree.UnionItem x ∷ is) a s k t o p = absurd k.0
   all_known g h i (j ∷ js) (tree.GlobalItem x ∷ is) a s k t o p =
-      let b : only_taken structures is ≡ is = cc in
+      let b : only_taken with_regions is ≡ is = cc in
       let d = none_of_both (global_faults (at_item false g i) x) (items_from false g (suc i) is) p in
       (k.0, all_known g h (suc i) js is a s k.1 b o.1 d.1)
   all_known g h i (j ∷ js) (tree.FunctionItem f ∷ is) a s k t o p =
-      let c : function_taken structures f ≡ f = cc in
-      let b : only_taken structures is ≡ is = cc in
+      let c : function_taken with_regions f ≡ f = cc in
+      let b : only_taken with_regions is ≡ is = cc in
       let d = none_of_both (function_faults false g i f) (items_from false g (suc i) is) p in (
         record { is = k.0.0; same = head_same false g h f (same_tags g h s); good = function_good bodies g i f a c o.0 d.0 },
         all_known g h (suc i) js is a s k.1 b o.1 d.1,

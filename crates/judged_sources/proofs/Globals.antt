@@ -11,7 +11,7 @@ use Rattle.source_typing.specs.Scope.{Env, at_item}
 use Rattle.source_typing.specs.Tables.{OfValue, Stored, Tables, has_beginning}
 use Rattle.source_typing.specs.Tags.{settled_alone}
 use Rattle.source_typing.specs.Taken.{Taken, form_if, global_if, initial_form, initial_taken, item_forms, item_taken, takes_initial, takes_type}
-use Rattle.source_typing.specs.Taken.{structures}
+use Rattle.source_typing.specs.Taken.{with_regions}
 use Rattle.source_typing.specs.Types.{StaticType, Void, is_key}
 use Rattle.source_typing.specs.Verdicts.{Faulty, Of, Unjudged, Verdict, after, faults_of}
 use Rattle.source_typing.specs.Written.{RegionNamed, Spot, spots_of, written}
@@ -89,14 +89,15 @@ variable_fits g at t count native u k =
         no e = cc
 
 -- what is written, where region names don't matter
-plain_good : (g : Tables) (x : tree.Global) → KnowsTags g → takes_type structures x.of ≡ true
+plain_good : (g : Tables) (x : tree.Global) → KnowsTags g → takes_type with_regions x.of ≡ true
     → Surely (λ u. PlainGood 0 x.of u) (after (written g (foreign_names (spots_of g x.of)) x.of) (settled_alone x.of.at))
 plain_good g x tags e =
     let names : List RegionNamed = foreign_names (spots_of g x.of) in
     surely_after (λ p. IsWritten 0 x.of p) (λ u. PlainGood 0 x.of u) (written g names x.of) (settled_alone x.of.at)
     (in_scope_good 0 g names x.of tags (heap_names (spots_of g x.of)) e) (λ p w. alone_good 0 x.of.at x.of p w)
 
-type_good : (g : Env) (x : tree.Global) → KnowsTags g.tables → takes_type structures x.of ≡ true → Surely (λ u. VariableGood g.tables x.of u) (global_type g x)
+type_good : (g : Env) (x : tree.Global) → KnowsTags g.tables → takes_type with_regions x.of ≡ true
+    → Surely (λ u. VariableGood g.tables x.of u) (global_type g x)
 type_good g x tags e =
     let names : List RegionNamed = foreign_names (spots_of g.tables x.of) in
     surely_after (λ u. PlainGood 0 x.of u) (λ u. VariableGood g.tables x.of u) (after (written g.tables names x.of) (settled_alone x.of.at))
@@ -114,18 +115,18 @@ pub record GlobalGood (g : Tables) (i : ℕ) (x : tree.Global) : Type 0 where
   pub uncounted : count_of x.initial ≡ None
   pub entry : global_entry (at_item false g i) x ≡ OfValue (Stored type TheHeap)
 
-no_count : (i : Initial) → takes_initial structures i ≡ true → count_of i ≡ None
+no_count : (i : Initial) → takes_initial with_regions i ≡ true → count_of i ≡ None
 no_count Initial.Unset e = refl
 no_count (Initial.Given c) e = refl
 no_count (Initial.Elements n) e = absurd cc
 
-pub global_good : (g : Tables) (i : ℕ) (x : tree.Global) → KnowsTags g → item_taken structures (tree.GlobalItem x) ≡ tree.GlobalItem x
-    → item_forms structures (tree.GlobalItem x) ≡ []
+pub global_good : (g : Tables) (i : ℕ) (x : tree.Global) → KnowsTags g → item_taken with_regions (tree.GlobalItem x) ≡ tree.GlobalItem x
+    → item_forms with_regions (tree.GlobalItem x) ≡ []
     → global_faults (at_item false g i) x ≡ []
     → GlobalGood g i x
 global_good g i x tags t f p =
     let s : Env = at_item false g i in
-    let k : GlobalTaken structures x = global_taken structures s x t f p in
+    let k : GlobalTaken with_regions x = global_taken with_regions s x t f p in
     let q : (faults_of (global_type s x) ≡ []) × (initial_faults s x.initial (global_type s x) ≡ []) =
     none_of_both (faults_of (global_type s x)) (initial_faults s x.initial (global_type s x)) p in
     let u : (t : StaticType) × (global_type s x ≡ Of t) × VariableGood g x.of t =

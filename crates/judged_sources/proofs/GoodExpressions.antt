@@ -1,23 +1,27 @@
--- Each expression of integers, thin pointers and structs is at fault or in order, where all is known of each name in scope.
-use Rattle.std.proofs.Common.{◌≡◌, ℕ, Bool, true, false, List, [], ◌∷◌, refl}
+-- Each expression of integers, thin pointers, structs and regions is at fault or in order, where all is known of each name in scope.
+use Rattle.std.proofs.Common.{◌≡◌, ℕ, Bool, true, false, List, [], ◌∷◌, refl, sym, subst}
 use Rattle.std.specs.Prelude.{◌&&◌}
 use Rattle.cyc_tree.specs.declared.expression.Operator.{Operator}
-use Rattle.cyc_tree.specs.Tree.{Arrow, Dot, Expression, Expressions, Index, Links, MoreExpressions, MoreLinks, Name, NoExpressions, NoLinks, NoSuffixes}
-use Rattle.cyc_tree.specs.Tree.{Suffixes}
+use Rattle.cyc_tree.specs.Tree.{Array, Arrow, Dot, Expression, Expressions, Index, Links, MoreExpressions, MoreLinks, Name, NoExpressions, NoLinks, NoSuffixes}
+use Rattle.cyc_tree.specs.Tree.{One, Suffixes}
 use Rattle.source_meaning.specs.Calls.{number_type}
 use Rattle.source_meaning.specs.Expressions.{is_unique_region}
 use Rattle.source_typing.specs.Calls.{called, target}
-use Rattle.source_typing.specs.Expressions.{judge, judge_all, judge_links, judge_suffixes, judge_tests, number_typed}
+use Rattle.source_typing.specs.Expressions.{judge, judge_all, judge_links, judge_made_in, judge_suffixes, judge_tests, number_typed}
+use Rattle.source_typing.specs.Faults.{Fault}
 use Rattle.source_typing.specs.Fixing.{more}
+use Rattle.source_typing.specs.Making.{Goal, NoHandle, To, ToUnique, goal_of, handled, handled_of, inside, live_goal, made, made_to, with_goal}
 use Rattle.source_typing.specs.Operators.{applied, prefixed, tested_both}
 use Rattle.source_typing.specs.Places.{arrow, assigned, grouped, member, variable}
-use Rattle.source_typing.specs.Scope.{Env, Local, Nowhere, Value, in_scope, meant, value, with_locals}
+use Rattle.source_typing.specs.Regions.{Region, TheHeap}
+use Rattle.source_typing.specs.Scope.{Env, Local, Nowhere, Value, in_scope, is_live, meant, value, with_locals}
 use Rattle.source_typing.specs.Tables.{Tables}
-use Rattle.source_safety.specs.Named.{TypeBelow}
-use Rattle.source_typing.specs.Taken.{all_taken, if_taken, links_taken, made_taken, taken, takes_handle, takes_made, suffixes_taken, takes_prefix, takes_suffixes}
-use Rattle.source_typing.specs.Taken.{structures}
-use Rattle.source_typing.specs.Types.{Char, Null}
-use Rattle.source_typing.specs.Verdicts.{Verdict, after, both}
+use Rattle.source_safety.specs.Entries.{IsObjectType}
+use Rattle.source_safety.specs.Named.{Below, TypeBelow}
+use Rattle.source_typing.specs.Taken.{all_taken, are_linked, are_some, are_suffixed, if_taken, links_taken, made_taken, suffixes_taken, taken, takes_handle}
+use Rattle.source_typing.specs.Taken.{takes_made, takes_prefix, takes_suffixes, with_regions}
+use Rattle.source_typing.specs.Types.{Char, Fat, Handle, Int, Key, Null, StaticType, Struct, Thin, Union, Unique, Unsigned, Void, is_makeable}
+use Rattle.source_typing.specs.Verdicts.{Faulty, Of, Unjudged, Verdict, after, both}
 use Rattle.std.proofs.lemmas.Bool.{false≢true}
 use Rattle.cyc_tree.specs.Operands.{AreSuffixed}
 use Rattle.cyc_tree.specs.Places.{expression_place}
@@ -33,13 +37,14 @@ use Rattle.judged_sources.proofs.GoodNames.{
   target_judged,
   variable_judged,
 }
+use Rattle.judged_sources.proofs.GoodScopes.{good_inside}
 use Rattle.judged_sources.proofs.GoodOperators.{applied_judged, both_tested_judged, integer_judged, object_value}
 use Rattle.judged_sources.proofs.GoodPlaces.{arrow_judged, assigned_judged, member_judged, placed, prefixed_judged, valued}
-use Rattle.judged_sources.proofs.Sure.{surely_after, surely_also, surely_both}
+use Rattle.judged_sources.proofs.Sure.{surely_after, surely_also, surely_both, surely_fits}
 
 -- an expression of the forms that are taken
 abbrev kept : Expression → Expression
-kept e = taken structures e
+kept e = taken with_regions e
 
 -- what is known of the names in scope is known of the program's names
 behind_locals : (n : ℕ) (ls : List Local) (g : Tables) → AllGood n (with_locals ls g) → AllGood n g
@@ -59,10 +64,6 @@ module _ (g : Env) (good : IsGood g) where
   if_kept : (b : Bool) (at : ℕ) (e : Expression) → Judged e → Judged (if_taken b at e)
   if_kept true at e h = h
   if_kept false at e h = tt
-
-  made_refused : (b c : Bool) (at : ℕ) (e : Expression) → Judged (if_taken (takes_handle structures b && c) at e)
-  made_refused true c at e = tt
-  made_refused false c at e = tt
 
   -- ---- operands that are joined from the left
 
@@ -155,11 +156,8 @@ module _ (g : Env) (good : IsGood g) where
   suffixable : (v : Value) → IsGoodValue g v → IsSuffixable v
   suffixable v h = record { type = h.type; below = h.below; seat = h.seat }
 
-  placed_suffixable : (v : Value) → IsGoodPlace g.regions.count v → IsSuffixable v
-  placed_suffixable v h = record { type = object_value v.type h.type; below = h.below; seat = h.seat }
-
-  suffixes_good : (es : Suffixes) (v : Verdict Value) → takes_suffixes structures es ≡ true → Surely (λ w. IsGoodPlace g.regions.count w) v
-      → Surely (λ w. IsGoodPlace g.regions.count w) (judge_suffixes g v (suffixes_taken structures es))
+  suffixes_good : (es : Suffixes) (v : Verdict Value) → takes_suffixes with_regions es ≡ true → Surely (λ w. IsGoodPlace g.regions.count w) v
+      → Surely (λ w. IsGoodPlace g.regions.count w) (judge_suffixes g v (suffixes_taken with_regions es))
   suffixes_good NoSuffixes v b h = h
   suffixes_good (Index index others) v b h = absurd (false≢true b)
   suffixes_good (Dot f others) v b h =
@@ -172,8 +170,8 @@ module _ (g : Env) (good : IsGood g) where
       (λ a k. arrow_judged g f a.at a.type (tables_good g good) (object_value a.type k.type) k.below))
 
   -- at least one
-  suffixes_judged : (es : Suffixes) (v : Verdict Value) → takes_suffixes structures es ≡ true → AreSuffixed es → Surely (λ w. IsSuffixable w) v
-      → Surely (λ w. IsGoodPlace g.regions.count w) (judge_suffixes g v (suffixes_taken structures es))
+  suffixes_judged : (es : Suffixes) (v : Verdict Value) → takes_suffixes with_regions es ≡ true → AreSuffixed es → Surely (λ w. IsSuffixable w) v
+      → Surely (λ w. IsGoodPlace g.regions.count w) (judge_suffixes g v (suffixes_taken with_regions es))
   suffixes_judged NoSuffixes v b s h = absurd s
   suffixes_judged (Index index others) v b s h = absurd (false≢true b)
   suffixes_judged (Dot f others) v b s h =
@@ -191,65 +189,204 @@ module _ (g : Env) (good : IsGood g) where
       surely_also (λ w. IsGoodPlace g.regions.count w) (λ w. IsGoodValue g w) (judge g (Expression.Suffixed e es)) (h refl) (placed g)
   suffixed_judged false at e es h = tt
 
-  -- ---- expressions
+  -- ---- makings
 
-  mutual
-    pub expression_judged : (e : Expression) → Judged (kept e)
-    expression_judged (Expression.Number at n suffix) =
-        surely_also (λ v. IsGoodResult g.regions.count v) (λ v. IsGoodValue g v) (value at (number_typed n suffix))
-        (integer_judged g.regions.count at (number_typed n suffix) (type_integer (number_type n suffix))) (valued g)
-    expression_judged (Expression.Character at byte) =
-        valued g (record { at = at; type = Char; seat = Nowhere }) (record { type = tt; below = tt; nowhere = refl })
-    expression_judged (Expression.Text at bytes) = tt
-    expression_judged (Expression.Null at) =
-        valued g (record { at = at; type = Null; seat = Nowhere }) (record { type = tt; below = tt; nowhere = refl })
-    expression_judged (Expression.HeapRegion at) = tt
-    expression_judged (Expression.UniqueRegion at) = tt
-    expression_judged (Expression.Variable x) = variable_good x
-    expression_judged (Expression.Call x es) = call_good x (all_taken structures es) (arguments_good (all_taken structures es) (each_judged es))
-    expression_judged (Expression.MakeUnion tag f e) = tt
-    expression_judged (Expression.NumElts at e) = tt
-    expression_judged (Expression.Grouped at e) =
-        surely_after (λ v. IsGoodValue g v) (λ v. IsGoodValue g v) (judge g (kept e)) (grouped at) (expression_judged e)
-        (λ a h. record { type = h.type; below = h.below; seat = h.seat; object = h.object })
-    expression_judged (Expression.Suffixed e NoSuffixes) = tt
-    expression_judged (Expression.Suffixed e (Index index others)) = tt
-    expression_judged (Expression.Suffixed e (Dot f others)) =
-        suffixed_judged (takes_suffixes structures (Dot f others)) (expression_place e) (kept e) (suffixes_taken structures (Dot f others))
-        (λ b. suffixes_judged (Dot f others) (judge g (kept e)) b tt
-        (surely_also (λ v. IsGoodValue g v) (λ v. IsSuffixable v) (judge g (kept e)) (expression_judged e) suffixable))
-    expression_judged (Expression.Suffixed e (Arrow f others)) =
-        suffixed_judged (takes_suffixes structures (Arrow f others)) (expression_place e) (kept e) (suffixes_taken structures (Arrow f others))
-        (λ b. suffixes_judged (Arrow f others) (judge g (kept e)) b tt
-        (surely_also (λ v. IsGoodValue g v) (λ v. IsSuffixable v) (judge g (kept e)) (expression_judged e) suffixable))
-    expression_judged (Expression.Prefixed at o e) =
-        if_kept (takes_prefix structures o) at (Expression.Prefixed at o (kept e))
-        (surely_after (λ v. IsGoodValue g v) (λ v. IsGoodValue g v) (judge g (kept e)) (prefixed g at o) (expression_judged e)
-        (λ a h. prefixed_judged g at o a h))
-    expression_judged (Expression.New at new) = tt
-    expression_judged (Expression.NewIn at handle new) =
-        made_refused (is_unique_region handle) (takes_made structures new) at (Expression.NewIn at (kept handle) (made_taken structures new))
-    expression_judged (Expression.Chain e NoLinks) = tt
-    expression_judged (Expression.Chain e (MoreLinks o y es)) =
-        chain_good (kept e) o (kept y) (links_taken structures es) (expression_judged e) (each_linked (MoreLinks o y es))
-    expression_judged (Expression.AllOf e NoExpressions) = tt
-    expression_judged (Expression.AllOf e (MoreExpressions y es)) =
-        tests_joined (kept e) (kept y) (all_taken structures es) (expression_judged e) (each_judged (MoreExpressions y es))
-    expression_judged (Expression.AnyOf e NoExpressions) = tt
-    expression_judged (Expression.AnyOf e (MoreExpressions y es)) =
-        tests_joined (kept e) (kept y) (all_taken structures es) (expression_judged e) (each_judged (MoreExpressions y es))
-    expression_judged (Expression.Assign a b) =
-        surely_both (λ w. IsGoodValue g w) (λ w. IsGoodValue g w) (λ w. IsGoodValue g w) (judge g (kept a)) (judge g (kept b)) (assigned g)
-        (expression_judged a) (expression_judged b) (λ u v c d. assigned_judged g u v c)
+  -- what is made is an object
+  makeable_object : (t : StaticType) → IsValueType t → is_makeable t ≡ true → IsObjectType t
+  makeable_object Void h e = absurd (false≢true e)
+  makeable_object Null h e = absurd (false≢true e)
+  makeable_object Int h e = h
+  makeable_object Unsigned h e = h
+  makeable_object Char h e = h
+  makeable_object (Thin n r t) h e = h
+  makeable_object (Fat r t) h e = h
+  makeable_object (Unique n t) h e = h
+  makeable_object (Handle r) h e = h
+  makeable_object (Key r) h e = h
+  makeable_object (Struct tag rs) h e = h
+  makeable_object (Union tag rs) h e = h
 
-    each_judged : (es : Expressions) → AllJudged (all_taken structures es)
-    each_judged NoExpressions = tt
-    each_judged (MoreExpressions e es) = (expression_judged e, each_judged es)
+  made_below : (at : ℕ) (r : Region) (v : Value) → IsGoodValue g v → Below g.regions.count r → Surely (λ w. IsGoodValue g w) (made at (To r) v)
+  made_below at r v h b =
+      surely_fits (λ w. IsGoodValue g w) (is_makeable v.type) at v.type (made_to at (To r))
+      (λ e. valued g (record { at = at; type = Thin false r v.type; seat = Nowhere })
+      (record { type = makeable_object v.type h.type e; below = (b, h.below); nowhere = refl }))
 
-    each_linked : (es : Links) → LinksJudged (links_taken structures es)
-    each_linked NoLinks = tt
-    each_linked (MoreLinks o e es) = (expression_judged e, each_linked es)
+  -- a handle of a region that is live, and so in scope; or no handle
+  abbrev IsGoal : Goal → Type 0
+  IsGoal (To r) = Below g.regions.count r
+  IsGoal ToUnique = ⊥
+  IsGoal NoHandle = Unit {0}
+
+  live_good : (b : Bool) (at : ℕ) (r : Region) → Below g.regions.count r → Surely (λ x. IsGoal x) (live_goal b at r)
+  live_good true at r h = h
+  live_good false at r h = tt
+
+  handled_good : (at : ℕ) (t : StaticType) → TypeBelow g.regions.count t → Surely (λ x. IsGoal x) (handled_of g at t)
+  handled_good at Int h = tt
+  handled_good at Unsigned h = tt
+  handled_good at Char h = tt
+  handled_good at Void h = tt
+  handled_good at Null h = tt
+  handled_good at (Thin n r t) h = tt
+  handled_good at (Fat r t) h = tt
+  handled_good at (Unique n t) h = tt
+  handled_good at (Handle r) h = live_good (is_live g r) at r h
+  handled_good at (Key r) h = tt
+  handled_good at (Struct tag rs) h = tt
+  handled_good at (Union tag rs) h = tt
+
+  -- where the handle is none, or at fault, so is the making, whether or not its operand is judged
+  made_nowhere : (at : ℕ) (v : Verdict Value) → Surely (λ w. IsGoodValue g w) (with_goal at (Of NoHandle) v (made at))
+  made_nowhere at Unjudged = tt
+  made_nowhere at (Faulty f fs) = tt
+  made_nowhere at (Of v) = surely_fits (λ w. IsGoodValue g w) (is_makeable v.type) at v.type (made_to at NoHandle) (λ e. tt)
+
+  made_faulty : (at : ℕ) (f : Fault) (fs : List Fault) (v : Verdict Value) → Surely (λ w. IsGoodValue g w) (with_goal at (Faulty f fs) v (made at))
+  made_faulty at f fs (Faulty c cs) = tt
+  made_faulty at f fs Unjudged = tt
+  made_faulty at f fs (Of v) = tt
+
+  made_there : (at : ℕ) (r : Region) (v : Verdict Value) → Surely (λ w. IsGoodValue g w) v → Below g.regions.count r
+      → Surely (λ w. IsGoodValue g w) (with_goal at (Of (To r)) v (made at))
+  made_there at r (Faulty c cs) h b = tt
+  made_there at r Unjudged h b = absurd h
+  made_there at r (Of v) h b = made_below at r v h b
+
+  -- its operand is judged in the region of the handle
+  made_good : (at : ℕ) (goal : Verdict Goal) (e : Expression) → Surely (λ x. IsGoal x) goal
+      → ((r : Region) → Below g.regions.count r → Surely (λ w. IsGoodValue g w) (judge (inside (Of (To r)) g) e))
+      → Surely (λ w. IsGoodValue g w) (judge_made_in g at goal (One e))
+  made_good at (Faulty f fs) e h k = made_faulty at f fs (judge (inside (Faulty f fs) g) e)
+  made_good at Unjudged e h k = absurd h
+  made_good at (Of (To r)) e h k = made_there at r (judge (inside (Of (To r)) g) e) (k r h) h
+  made_good at (Of ToUnique) e h k = absurd h
+  made_good at (Of NoHandle) e h k = made_nowhere at (judge (inside (Of NoHandle) g) e)
+
+  handle_good : (e : Expression) → Judged e → Surely (λ x. IsGoal x) (goal_of false g (judge g e))
+  handle_good e h =
+      surely_after (λ v. IsGoodValue g v) (λ x. IsGoal x) (judge g e) (handled g) h (λ v k. handled_good v.at v.type k.below)
+
+-- ---- handles
+
+-- a handle that is none of the unique region stays so
+kept_handle : (b : Bool) (at : ℕ) (e : Expression) → is_unique_region e ≡ false → is_unique_region (if_taken b at e) ≡ false
+kept_handle true at e h = h
+kept_handle false at e h = refl
+
+not_unique : (e : Expression) → is_unique_region e ≡ false → is_unique_region (kept e) ≡ false
+not_unique (Expression.Number at n suffix) h = refl
+not_unique (Expression.Character at byte) h = refl
+not_unique (Expression.Text at bytes) h = refl
+not_unique (Expression.Null at) h = refl
+not_unique (Expression.HeapRegion at) h = refl
+not_unique (Expression.UniqueRegion at) h = h
+not_unique (Expression.Variable x) h = refl
+not_unique (Expression.Call x es) h = refl
+not_unique (Expression.MakeUnion tag f e) h = refl
+not_unique (Expression.NumElts at e) h = refl
+not_unique (Expression.Grouped at e) h = not_unique e h
+not_unique (Expression.Suffixed e es) h =
+    kept_handle (are_suffixed es && takes_suffixes with_regions es) (expression_place e) (Expression.Suffixed (kept e) (suffixes_taken with_regions es)) refl
+not_unique (Expression.Prefixed at o e) h = kept_handle (takes_prefix with_regions o) at (Expression.Prefixed at o (kept e)) refl
+not_unique (Expression.New at new) h = kept_handle (takes_made with_regions new) at (Expression.New at (made_taken with_regions new)) refl
+not_unique (Expression.NewIn at e new) h =
+    kept_handle (takes_handle with_regions (is_unique_region e) && takes_made with_regions new) at
+    (Expression.NewIn at (kept e) (made_taken with_regions new)) refl
+not_unique (Expression.Chain e es) h = kept_handle (are_linked es) (expression_place e) (Expression.Chain (kept e) (links_taken with_regions es)) refl
+not_unique (Expression.AllOf e es) h = kept_handle (are_some es) (expression_place e) (Expression.AllOf (kept e) (all_taken with_regions es)) refl
+not_unique (Expression.AnyOf e es) h = kept_handle (are_some es) (expression_place e) (Expression.AnyOf (kept e) (all_taken with_regions es)) refl
+not_unique (Expression.Assign a b) h = refl
+
+-- a making in the region of a handle
+new_in : (g : Env) (good : IsGood g) (at : ℕ) (handle e : Expression) → Judged g good (kept handle)
+    → ((r : Region) → Below g.regions.count r → Surely (λ w. IsGoodValue g w) (judge (inside (Of (To r)) g) (kept e)))
+    → Judged g good (kept (Expression.NewIn at handle (One e)))
+new_in g good at handle e h k = by (is_unique_region handle) (not_unique handle)
+  where
+    by : (b : Bool) → (b ≡ false → is_unique_region (kept handle) ≡ false)
+        → Judged g good (if_taken (takes_handle with_regions b && true) at (Expression.NewIn at (kept handle) (One (kept e))))
+    by true n = tt
+    by false n =
+        subst (λ c. Surely (λ w. IsGoodValue g w) (judge_made_in g at (goal_of c g (judge g (kept handle))) (One (kept e)))) (sym (n refl))
+        (made_good g good at (goal_of false g (judge g (kept handle))) (kept e) (handle_good g good (kept handle) h) k)
+
+no_array : (g : Env) (good : IsGood g) (b : Bool) (at : ℕ) (e : Expression) → Judged g good (if_taken (takes_handle with_regions b && false) at e)
+no_array g good true at e = tt
+no_array g good false at e = tt
+
+-- ---- expressions
+
+mutual
+  pub expression_judged : (e : Expression) (g : Env) (good : IsGood g) → Judged g good (kept e)
+  expression_judged (Expression.Number at n suffix) g good =
+      surely_also (λ v. IsGoodResult g.regions.count v) (λ v. IsGoodValue g v) (value at (number_typed n suffix))
+      (integer_judged g.regions.count at (number_typed n suffix) (type_integer (number_type n suffix))) (valued g)
+  expression_judged (Expression.Character at byte) g good =
+      valued g (record { at = at; type = Char; seat = Nowhere }) (record { type = tt; below = tt; nowhere = refl })
+  expression_judged (Expression.Text at bytes) g good = tt
+  expression_judged (Expression.Null at) g good =
+      valued g (record { at = at; type = Null; seat = Nowhere }) (record { type = tt; below = tt; nowhere = refl })
+  expression_judged (Expression.HeapRegion at) g good =
+      valued g (record { at = at; type = Handle TheHeap; seat = Nowhere }) (record { type = tt; below = tt; nowhere = refl })
+  expression_judged (Expression.UniqueRegion at) g good = tt
+  expression_judged (Expression.Variable x) g good = variable_good g good x
+  expression_judged (Expression.Call x es) g good =
+      call_good g good x (all_taken with_regions es) (arguments_good g good (all_taken with_regions es) (each_judged es g good))
+  expression_judged (Expression.MakeUnion tag f e) g good = tt
+  expression_judged (Expression.NumElts at e) g good = tt
+  expression_judged (Expression.Grouped at e) g good =
+      surely_after (λ v. IsGoodValue g v) (λ v. IsGoodValue g v) (judge g (kept e)) (grouped at) (expression_judged e g good)
+      (λ a h. record { type = h.type; below = h.below; seat = h.seat; object = h.object })
+  expression_judged (Expression.Suffixed e NoSuffixes) g good = tt
+  expression_judged (Expression.Suffixed e (Index index others)) g good = tt
+  expression_judged (Expression.Suffixed e (Dot f others)) g good =
+      suffixed_judged g good (takes_suffixes with_regions (Dot f others)) (expression_place e) (kept e) (suffixes_taken with_regions (Dot f others))
+      (λ b. suffixes_judged g good (Dot f others) (judge g (kept e)) b tt
+      (surely_also (λ v. IsGoodValue g v) (λ v. IsSuffixable g good v) (judge g (kept e)) (expression_judged e g good) (suffixable g good)))
+  expression_judged (Expression.Suffixed e (Arrow f others)) g good =
+      suffixed_judged g good (takes_suffixes with_regions (Arrow f others)) (expression_place e) (kept e) (suffixes_taken with_regions (Arrow f others))
+      (λ b. suffixes_judged g good (Arrow f others) (judge g (kept e)) b tt
+      (surely_also (λ v. IsGoodValue g v) (λ v. IsSuffixable g good v) (judge g (kept e)) (expression_judged e g good) (suffixable g good)))
+  expression_judged (Expression.Prefixed at o e) g good =
+      if_kept g good (takes_prefix with_regions o) at (Expression.Prefixed at o (kept e))
+      (surely_after (λ v. IsGoodValue g v) (λ v. IsGoodValue g v) (judge g (kept e)) (prefixed g at o) (expression_judged e g good)
+      (λ a h. prefixed_judged g at o a h))
+  expression_judged (Expression.New at (One e)) g good = made_there g good at TheHeap (judge g (kept e)) (expression_judged e g good) tt
+  expression_judged (Expression.New at (Array index count e)) g good = tt
+  expression_judged (Expression.NewIn at handle (One e)) g good =
+      new_in g good at handle e (expression_judged handle g good) (λ r b. as_outside r (expression_judged e (inside (Of (To r)) g) (good_inside r g b good)))
+    where
+      outside : (r : Region) (v : Value) → IsGoodValue (inside (Of (To r)) g) v → IsGoodValue g v
+      outside r v h = record { type = h.type; below = h.below; seat = h.seat; object = h.object }
+
+      as_outside : (r : Region) → Surely (λ v. IsGoodValue (inside (Of (To r)) g) v) (judge (inside (Of (To r)) g) (kept e))
+          → Surely (λ v. IsGoodValue g v) (judge (inside (Of (To r)) g) (kept e))
+      as_outside r h =
+          surely_also (λ v. IsGoodValue (inside (Of (To r)) g) v) (λ v. IsGoodValue g v) (judge (inside (Of (To r)) g) (kept e)) h (outside r)
+  expression_judged (Expression.NewIn at handle (Array index count e)) g good =
+      no_array g good (is_unique_region handle) at (Expression.NewIn at (kept handle) (made_taken with_regions (Array index count e)))
+  expression_judged (Expression.Chain e NoLinks) g good = tt
+  expression_judged (Expression.Chain e (MoreLinks o y es)) g good =
+      chain_good g good (kept e) o (kept y) (links_taken with_regions es) (expression_judged e g good) (each_linked (MoreLinks o y es) g good)
+  expression_judged (Expression.AllOf e NoExpressions) g good = tt
+  expression_judged (Expression.AllOf e (MoreExpressions y es)) g good =
+      tests_joined g good (kept e) (kept y) (all_taken with_regions es) (expression_judged e g good) (each_judged (MoreExpressions y es) g good)
+  expression_judged (Expression.AnyOf e NoExpressions) g good = tt
+  expression_judged (Expression.AnyOf e (MoreExpressions y es)) g good =
+      tests_joined g good (kept e) (kept y) (all_taken with_regions es) (expression_judged e g good) (each_judged (MoreExpressions y es) g good)
+  expression_judged (Expression.Assign a b) g good =
+      surely_both (λ w. IsGoodValue g w) (λ w. IsGoodValue g w) (λ w. IsGoodValue g w) (judge g (kept a)) (judge g (kept b)) (assigned g)
+      (expression_judged a g good) (expression_judged b g good) (λ u v c d. assigned_judged g u v c)
+
+  each_judged : (es : Expressions) (g : Env) (good : IsGood g) → AllJudged g good (all_taken with_regions es)
+  each_judged NoExpressions g good = tt
+  each_judged (MoreExpressions e es) g good = (expression_judged e g good, each_judged es g good)
+
+  each_linked : (es : Links) (g : Env) (good : IsGood g) → LinksJudged g good (links_taken with_regions es)
+  each_linked NoLinks g good = tt
+  each_linked (MoreLinks o e es) g good = (expression_judged e g good, each_linked es g good)
 
 -- Each expression is judged: at fault, or in order.
 pub expressions_judged : ExpressionsJudged
-expressions_judged e g h = expression_judged g h e
+expressions_judged e g h = expression_judged e g h

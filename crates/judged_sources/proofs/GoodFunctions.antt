@@ -15,12 +15,12 @@ use Rattle.source_safety.specs.Named.{AllBelow, BoundsBelow, TypeBelow, TypesBel
 use Rattle.source_safety.specs.Programs.{FunctionJudged, name_alone, with_all}
 use Rattle.source_typing.specs.Faults.{name_rule, own_after, test, type_rule}
 use Rattle.source_typing.specs.Functions.{Head, body_scope, end_reached, function_faults, function_scope, head_of, needs_return, with_parameters}
-use Rattle.source_typing.specs.Regions.{entry_regions}
+use Rattle.source_typing.specs.Regions.{TheHeap, entry_regions}
 use Rattle.source_typing.specs.Scope.{Env, at_item, is_second, with_local}
 use Rattle.source_typing.specs.Statements.{items_faults}
 use Rattle.source_typing.specs.Tables.{Arrayed, Counter, Entry, OfBuiltin, OfFunction, OfOther, OfTag, OfValue, Signature, Stored, Tables, Unknown}
 use Rattle.source_typing.specs.Tags.{is_named, repeated}
-use Rattle.source_typing.specs.Taken.{function_taken, structures}
+use Rattle.source_typing.specs.Taken.{function_taken, with_regions}
 use Rattle.source_typing.specs.Types.{Int, StaticType, Void, is_void}
 use Rattle.source_typing.specs.Ways.{ways_of_items}
 use Rattle.source_typing.proofs.Inversion.{none_of_both, own_is, test_is}
@@ -29,7 +29,7 @@ use Rattle.judged_sources.proofs.GoodScopes.{good_local, one_more, regions_up}
 use Rattle.judged_sources.proofs.HeadTypes.{below_more, object_more}
 use Rattle.judged_sources.proofs.GoodTypes.{good_tags}
 use Rattle.judged_sources.proofs.Heads.{HeadGood, head_good}
-use Rattle.source_safety.proofs.Surroundings.{type_up}
+use Rattle.source_safety.proofs.Parameters.{types_up}
 
 -- ---- the scope of its parameters
 
@@ -87,10 +87,6 @@ tables_more : (n : ℕ) (g : Tables) → AllGood 0 g → AllGood n g
 tables_more n [] h = tt
 tables_more n (x ∷ xs) h = (entry_more n x.entry h.0, tables_more n xs h.1)
 
-types_up : (n : ℕ) (ts : List StaticType) → TypesBelow n ts → TypesBelow (n + 1) ts
-types_up n [] h = tt
-types_up n (t ∷ ts) h = (type_up n t h.0, types_up n ts h.1)
-
 -- ---- the scope around its block
 
 -- the scope around a function's block
@@ -106,7 +102,12 @@ outside_good : (g : Tables) (i : ℕ) (f : tree.Function) → AllGood 0 g → He
 outside_good g i f a k =
     let h : Head = head_of false g f in
     let n : ℕ = h.signature.regions in
-    record { names = tables_more (n + 1) g a; regions = regions_up n h.names k.names; frame = omega arith; enclosing = refl }
+    record {
+      names = tables_more (n + 1) g a;
+      regions = regions_up n h.names k.names;
+      frame = omega arith;
+      enclosing = record { region = TheHeap; is = refl; below = tt };
+    }
 
 -- ---- what is known of it
 
@@ -119,7 +120,7 @@ pub record FunctionGood (g : Tables) (i : ℕ) (f : tree.Function) : Type 0 wher
   pub faults : items_faults (with_all (map part_of f.parameters) head.signature.types (function_scope false g i (head_of false g f))) true f.body ≡ []
 
 module _ (bodies : BodiesJudged) where
-  pub function_good : (g : Tables) (i : ℕ) (f : tree.Function) → AllGood 0 g → function_taken structures f ≡ f → ItemsHaveOperands f.body
+  pub function_good : (g : Tables) (i : ℕ) (f : tree.Function) → AllGood 0 g → function_taken with_regions f ≡ f → ItemsHaveOperands f.body
       → function_faults false g i f ≡ []
       → FunctionGood g i f
   function_good g i f a t o p =

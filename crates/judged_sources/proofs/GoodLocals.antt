@@ -1,20 +1,21 @@
 -- The type of a local that is taken, where it has no fault: an object's, whose region names are in scope, with the shape that is written. A missing region is
 -- that of its initializer, or the heap.
-use Rattle.std.proofs.Common.{◌≡◌, ℕ, Bool, true, false, Option, Some, None, [], ◌∷◌, refl, sym, subst, ap, ◌∙◌}
+use Rattle.std.proofs.Common.{◌≡◌, ℕ, Bool, true, false, Option, Some, None, List, [], ◌∷◌, refl, sym, subst, ap, ◌∙◌}
 use Rattle.std.specs.Prelude.{◌&&◌, ◌||◌}
 use Rattle.cyc_tree.specs.Tree.{TypeName}
 use Rattle.source_meaning.specs.Shapes as shapes
 use Rattle.source_meaning.specs.Shapes.{ThinShape}
 use Rattle.source_safety.specs.Entries.{IsObjectType}
-use Rattle.source_safety.specs.Named.{TypeBelow}
+use Rattle.source_safety.specs.Named.{AllBelow, Below, TypeBelow}
+use Rattle.source_safety.proofs.Fixed.{PartBelow, same_below}
 use Rattle.source_typing.specs.Declarations.{can_be, fitting, fitting_local, if_sized, local_type, misses_region, set_type, taken_from, type_in_scope}
 use Rattle.source_typing.specs.Declarations.{unset_type}
 use Rattle.source_typing.specs.Extents.{fits_bytes, variable_size}
-use Rattle.source_typing.specs.Missing.{as_type, filled_from, or_found, outer_region, pointee_of, settled, thin_with}
+use Rattle.source_typing.specs.Missing.{arguments_of, as_type, filled_arguments, filled_from, or_found, outer_region, pointee_of, settled, thin_with}
 use Rattle.source_typing.specs.Regions.{Region}
 use Rattle.source_typing.specs.Scope.{Env, Value, in_scope}
-use Rattle.source_typing.specs.Tables.{has_beginning}
-use Rattle.source_typing.specs.Taken.{takes_type, structures}
+use Rattle.source_typing.specs.Tables.{has_beginning, or_heap}
+use Rattle.source_typing.specs.Taken.{takes_type, with_regions}
 use Rattle.source_typing.specs.Types.{Handle, Char, Fat, Int, Null, PartialType, StaticType, Struct, Thin, Unique, Unsigned, Void, shape_of}
 use Rattle.source_typing.specs.Verdicts.{Of, after, if_fits}
 use Rattle.source_typing.specs.Written.{Found, Is, IsUnique, Missing}
@@ -22,7 +23,8 @@ use Rattle.source_typing.proofs.Converting.{and_is}
 use Rattle.judged_sources.specs.Good.{IsGood, IsValueType, Surely}
 use Rattle.judged_sources.proofs.Sure.{surely_after, surely_also}
 use Rattle.judged_sources.proofs.GoodOperators.{object_value}
-use Rattle.judged_sources.proofs.GoodTypes.{FoundBelow, IsPartialObject, IsWritten, RegionBelow, WritesNothing, WritesObject, WrittenObject}
+use Rattle.judged_sources.proofs.FoundRegions.{FoundBelow}
+use Rattle.judged_sources.proofs.GoodTypes.{IsPartialObject, IsWritten, RegionBelow, RegionsBelow, WritesNothing, WritesObject, WrittenObject}
 use Rattle.judged_sources.proofs.GoodTypes.{good_tags, in_scope_good}
 use Rattle.judged_sources.proofs.Settling.{IsOpen, IsSharedShape, settled_same}
 
@@ -66,6 +68,22 @@ thin_filled n b r (Is q) p (Some t) h k = record { object = k.object; below = (h
 thin_filled n b r IsUnique p (Some t) h k = absurd h
 thin_filled n b r Missing p (Some t) h k = record { object = k.object; below = (tt, k.below); shape = ap (λ s. ThinShape b shapes.Shared s) k.shape }
 
+-- region arguments, of which those that are missing are others at the same place, or the heap
+arguments_filled : (n : ℕ) (rs : List (Option Region)) (others : List Region) → RegionsBelow n rs → AllBelow n others → AllBelow n (filled_arguments rs others)
+arguments_filled n [] others h k = tt
+arguments_filled n (Some r ∷ rs) [] h k = (h.0, arguments_filled n rs [] h.1 tt)
+arguments_filled n (None ∷ rs) [] h k = (tt, arguments_filled n rs [] h.1 tt)
+arguments_filled n (Some r ∷ rs) (q ∷ others) h k = (h.0, arguments_filled n rs others h.1 k.1)
+arguments_filled n (None ∷ rs) (q ∷ others) h k = (k.0, arguments_filled n rs others h.1 k.1)
+
+heap_below : (n : ℕ) (r : Option Region) → RegionBelow n r → Below n (or_heap r)
+heap_below n None h = tt
+heap_below n (Some r) h = h
+
+part_below : (n : ℕ) (s : Option StaticType) → SourceBelow n s → PartBelow n s
+part_below n None h = tt
+part_below n (Some t) h = h.1
+
 pub filled_object : (n : ℕ) (p : PartialType) (s : Option StaticType) → IsPartialObject n p → SourceBelow n s → FilledIfSome n p (filled_from p s)
 filled_object n Int s h k = record { object = tt; below = tt; shape = refl }
 filled_object n Unsigned s h k = record { object = tt; below = tt; shape = refl }
@@ -73,8 +91,9 @@ filled_object n Char s h k = record { object = tt; below = tt; shape = refl }
 filled_object n (Thin b r t) s h k =
     thin_filled n b r (or_found r (outer_region s)) t (filled_from t (pointee_of s)) (or_below n r (outer_region s) h.0 (outer_below n s k))
     (filled_object n t (pointee_of s) h.1 (pointee_below n s k))
-filled_object n (Struct tag []) s h k = record { object = tt; below = tt; shape = refl }
-filled_object n (Struct tag (r ∷ rs)) s h k = absurd cc
+filled_object n (Struct tag rs) s h k =
+    record { object = tt; below = arguments_filled n rs (arguments_of false tag s) h (same_below n tag s (part_below n s k)); shape = refl }
+filled_object n (Handle r) s h k = record { object = tt; below = heap_below n r h; shape = refl }
 filled_object n _ s h k = absurd h
 
 -- an object, whose missing regions are found
@@ -144,7 +163,7 @@ local_good g of at set s p (WritesNothing v e) k =
 
 -- ---- types of locals
 
-pub unset_good : (g : Env) (t : TypeName) → IsGood g → takes_type structures t ≡ true → Surely (λ u. IsLocalType g t false u) (unset_type g t None)
+pub unset_good : (g : Env) (t : TypeName) → IsGood g → takes_type with_regions t ≡ true → Surely (λ u. IsLocalType g t false u) (unset_type g t None)
 unset_good g t h e =
     surely_after (λ p. IsWritten g.regions.count t p) (λ u. IsLocalType g t false u) (type_in_scope g t) (local_type g t.at None false None)
     (in_scope_good g.regions.count (in_scope g) g.names t (good_tags g.regions.count (in_scope g) h.names) h.regions e) (λ p w. local_good g t t.at false None p w tt)
@@ -155,7 +174,7 @@ from_good : (g : Env) (of : TypeName) (at : ℕ) (b : Bool) (v : Value) (p : Par
 from_good g of at true v p k w = local_good g of at true (Some v.type) p w k
 from_good g of at false v p k w = local_good g of at true None p w tt
 
-pub set_good : (g : Env) (t : TypeName) (v : Value) → IsGood g → IsValueType v.type → TypeBelow g.regions.count v.type → takes_type structures t ≡ true
+pub set_good : (g : Env) (t : TypeName) (v : Value) → IsGood g → IsValueType v.type → TypeBelow g.regions.count v.type → takes_type with_regions t ≡ true
     → Surely (λ u. IsLocalType g t true u) (set_type g t (Of v))
 set_good g t v h k b e =
     surely_after (λ p. IsWritten g.regions.count t p) (λ u. IsLocalType g t true u) (type_in_scope g t) (taken_from g t.at (misses_region g t) (Of v))

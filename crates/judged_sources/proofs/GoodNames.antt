@@ -27,15 +27,15 @@ use Rattle.source_typing.specs.Calls.{
 use Rattle.source_typing.specs.Faults.{effect_rule, outlives_rule, test}
 use Rattle.source_typing.specs.Fixing.{Fit, all_fits, first_fit, fixed_from, fixed_known, fixed_one, is_found, more}
 use Rattle.source_typing.specs.Places.{variable}
-use Rattle.source_typing.specs.Regions.{Level, Region, TheHeap, same_id}
+use Rattle.source_typing.specs.Regions.{Level, Region, same_id}
 use Rattle.source_typing.specs.Scope.{Enclosing, Env, InRegion, Nowhere, Value, value}
 use Rattle.source_typing.specs.Tables.{Arrayed, Counter, Entry, OfBuiltin, OfFunction, OfOther, OfTag, OfValue, Stored, Tables, Unknown, argument, find}
 use Rattle.source_typing.specs.Types.{Char, Fat, Handle, Int, Key, Null, StaticType, Struct, Thin, Union, Unique, Unsigned, Void, renamed}
 use Rattle.source_typing.specs.Verdicts.{Faulty, Of, Unjudged, Verdict}
 use Rattle.source_typing.specs.Written.{Found, Is, IsUnique, Missing, if_sound}
-use Rattle.source_safety.proofs.Fixed.{ValuesBelow, fixed_below, plain_below}
+use Rattle.source_safety.proofs.Fixed.{EnclosingBelow, ValuesBelow, fixed_within, plain_below}
 use Rattle.source_safety.proofs.Words.{plain_renamed}
-use Rattle.judged_sources.specs.Good.{AllGood, IsGoodEntry, IsGoodSignature, IsGoodTag, IsValueType, SeatBelow, Surely}
+use Rattle.judged_sources.specs.Good.{AllGood, IsAround, IsGoodEntry, IsGoodSignature, IsGoodTag, IsValueType, SeatBelow, Surely}
 use Rattle.judged_sources.proofs.Sure.{surely_after, surely_both, surely_other, surely_since, surely_unless}
 
 -- ---- what a name means
@@ -95,22 +95,22 @@ abbrev Any : {A : Type 0} → A → Type 0
 Any a = Unit {0}
 
 -- a region variable stands for a region, or it can't
-one_fixed : (at : ℕ) (fs : List Fit) (k : ℕ) → Surely (λ (r : Region). Any r) (fixed_one (InRegion TheHeap) at (first_fit fs k))
-one_fixed at [] k = tt
-one_fixed at (f ∷ fs) k = by (same_id f.of (Level k)) f.is (one_fixed at fs k)
+one_fixed : (r : Region) (at : ℕ) (fs : List Fit) (k : ℕ) → Surely (λ (r : Region). Any r) (fixed_one (InRegion r) at (first_fit fs k))
+one_fixed r at [] k = tt
+one_fixed r at (f ∷ fs) k = by (same_id f.of (Level k)) f.is (one_fixed r at fs k)
   where
-    by : (b : Bool) (i : Found) → Surely (λ (r : Region). Any r) (fixed_one (InRegion TheHeap) at (first_fit fs k))
-        → Surely (λ (r : Region). Any r) (fixed_one (InRegion TheHeap) at (if b && is_found i then Some (record f { is = i }) else first_fit fs k))
-    by true (Is r) l = tt
+    by : (b : Bool) (i : Found) → Surely (λ (r : Region). Any r) (fixed_one (InRegion r) at (first_fit fs k))
+        → Surely (λ (r : Region). Any r) (fixed_one (InRegion r) at (if b && is_found i then Some (record f { is = i }) else first_fit fs k))
+    by true (Is q) l = tt
     by true IsUnique l = tt
     by true Missing l = l
     by false i l = l
 
-all_fixed : (at : ℕ) (fs : List Fit) (k n : ℕ) → Surely (λ (rs : List Region). Any rs) (fixed_from (InRegion TheHeap) at fs k n)
-all_fixed at fs k zero = tt
-all_fixed at fs k (suc n) =
-    surely_both (λ (r : Region). Any r) (λ (rs : List Region). Any rs) (λ (rs : List Region). Any rs) (fixed_one (InRegion TheHeap) at (first_fit fs k))
-    (fixed_from (InRegion TheHeap) at fs (suc k) n) more (one_fixed at fs k) (all_fixed at fs (suc k) n) (λ r rs a b. tt)
+all_fixed : (r : Region) (at : ℕ) (fs : List Fit) (k n : ℕ) → Surely (λ (rs : List Region). Any rs) (fixed_from (InRegion r) at fs k n)
+all_fixed r at fs k zero = tt
+all_fixed r at fs k (suc n) =
+    surely_both (λ (r : Region). Any r) (λ (rs : List Region). Any rs) (λ (rs : List Region). Any rs) (fixed_one (InRegion r) at (first_fit fs k))
+    (fixed_from (InRegion r) at fs (suc k) n) more (one_fixed r at fs k) (all_fixed r at fs (suc k) n) (λ r rs a b. tt)
 
 -- ---- arguments
 
@@ -122,7 +122,7 @@ all_are_known [] = refl
 all_are_known (t ∷ ts) = all_are_known ts
 
 -- Arguments fit parameters that are objects, and the region variables then stand for regions in scope; or they are at fault.
-pub arguments_judged : (g : Env) (at n : ℕ) (ts : List StaticType) (vs : List Value) → g.enclosing ≡ InRegion TheHeap → AreObjects ts
+pub arguments_judged : (g : Env) (at n : ℕ) (ts : List StaticType) (vs : List Value) → IsAround g.regions.count g.enclosing → AreObjects ts
     → ValuesBelow g.regions.count vs → Surely (λ (rs : List Region). AllBelow g.regions.count rs) (arguments_fit g at n (some_types ts) vs)
 arguments_judged g at n ts vs e w h = by (nat_eq (length (some_types ts)) (length vs))
   where
@@ -132,8 +132,9 @@ arguments_judged g at n ts vs e w h = by (nat_eq (length (some_types ts)) (lengt
     fixed : Surely (λ (rs : List Region). AllBelow g.regions.count rs) (fixed_from g.enclosing at fits 0 n)
     fixed =
         surely_since (λ (rs : List Region). Any rs) (λ (rs : List Region). AllBelow g.regions.count rs) (fixed_from g.enclosing at fits 0 n)
-        (subst (λ (i : Enclosing). Surely (λ (rs : List Region). Any rs) (fixed_from i at fits 0 n)) (sym e) (all_fixed at fits 0 n))
-        (λ rs is k. fixed_below g.regions.count at n g.enclosing ts vs rs e w h is)
+        (subst (λ (i : Enclosing). Surely (λ (rs : List Region). Any rs) (fixed_from i at fits 0 n)) (sym e.is) (all_fixed e.region at fits 0 n))
+        (λ rs is k. fixed_within g.regions.count at n g.enclosing ts vs rs
+        (subst (λ (i : Enclosing). EnclosingBelow g.regions.count i) (sym e.is) e.below) w h is)
 
     converted : (some : List (Option Region)) (v : Verdict (List Region)) → Surely (λ (rs : List Region). AllBelow g.regions.count rs) v
         → Surely (λ (rs : List Region). AllBelow g.regions.count rs) (arguments_converted g some (some_types ts) vs v)
@@ -187,7 +188,7 @@ result_judged count at rs t p h = record {
   nowhere = refl;
 }
 
-pub called_judged : (g : Env) (at : ℕ) (u : Target) (vs : List Value) → g.enclosing ≡ InRegion TheHeap → IsGoodTarget u
+pub called_judged : (g : Env) (at : ℕ) (u : Target) (vs : List Value) → IsAround g.regions.count g.enclosing → IsGoodTarget u
     → ValuesBelow g.regions.count vs → Surely (λ v. IsGoodResult g.regions.count v) (called g at u vs)
 called_judged g at (ToStruct t) vs e h below =
     surely_after (λ (rs : List Region). AllBelow g.regions.count rs) (λ v. IsGoodResult g.regions.count v)

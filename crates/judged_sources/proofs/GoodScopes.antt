@@ -1,19 +1,24 @@
--- A scope in which all is known of each name stays one: where a block or a loop begins, and after a local.
+-- A scope in which all is known of each name stays one: where a block or a loop begins, in an `rnew`, and after a local and a lexical region.
 use Rattle.std.proofs.Common.{◌≡◌, ℕ, Bool, true, false, List, [], ◌∷◌, arith, refl}
-use Rattle.std.specs.Prelude.{◌+◌, if◌then◌else◌, not}
+use Rattle.std.specs.Prelude.{◌+◌, if◌then◌else◌, is_some, not}
 use Rattle.cyc_tree.specs.Tree as tree
 use Rattle.source_safety.specs.Entries.{IsObjectType}
 use Rattle.source_safety.specs.Judged.{extended}
-use Rattle.source_safety.specs.Named.{TypeBelow}
+use Rattle.source_safety.specs.Named.{Below, TypeBelow}
+use Rattle.source_safety.proofs.Lexical.{lexical, names_with}
 use Rattle.source_safety.proofs.Names.{below_up}
 use Rattle.source_safety.proofs.Surroundings.{type_up}
+use Rattle.source_typing.specs.Declarations.{name_added}
 use Rattle.source_typing.specs.Faults.{name_rule, test}
-use Rattle.source_typing.specs.Scope.{Env, block_entered, in_scope, is_second, second, with_local}
+use Rattle.source_typing.specs.Making.{To, inside}
+use Rattle.source_typing.specs.Regions.{Region}
+use Rattle.source_typing.specs.Scope.{Enclosing, Env, block_entered, in_scope, is_second, next_region, second, with_local}
 use Rattle.source_typing.specs.Statements.{in_a_loop}
 use Rattle.source_typing.specs.Tables.{Arrayed, Counter, Entry, OfBuiltin, OfFunction, OfOther, OfTag, OfValue, Stored, Tables, Unknown}
 use Rattle.source_typing.specs.Types.{StaticType}
-use Rattle.source_typing.specs.Written.{RegionNamed}
-use Rattle.judged_sources.specs.Good.{AllGood, IsGood, IsGoodEntry, NamesBelow}
+use Rattle.source_typing.specs.Verdicts.{Of}
+use Rattle.source_typing.specs.Written.{RegionNamed, find_region}
+use Rattle.judged_sources.specs.Good.{AllGood, IsAround, IsGood, IsGoodEntry, NamesBelow}
 
 -- ---- one more region name
 
@@ -35,6 +40,9 @@ pub regions_up : (n : ℕ) (ns : List RegionNamed) → NamesBelow n ns → Names
 regions_up n [] h = tt
 regions_up n (x ∷ xs) h = (below_up n x.id h.0, regions_up n xs h.1)
 
+pub around_up : (n : ℕ) (i : Enclosing) → IsAround n i → IsAround (n + 1) i
+around_up n i h = record { region = h.region; is = h.is; below = below_up n h.region h.below }
+
 -- ---- scopes
 
 -- the block's own region is the name that is next
@@ -43,11 +51,35 @@ good_block g h = record {
   names = entries_up g.regions.count (in_scope g) h.names;
   regions = regions_up g.regions.count g.names h.regions;
   frame = omega arith;
-  enclosing = h.enclosing;
+  enclosing = around_up g.regions.count g.enclosing h.enclosing;
 }
 
 pub good_loop : (g : Env) → IsGood g → IsGood (in_a_loop g)
 good_loop g h = record { names = h.names; regions = h.regions; frame = h.frame; enclosing = h.enclosing }
+
+-- in an `rnew` of a region that is in scope
+pub good_inside : (r : Region) (g : Env) → Below g.regions.count r → IsGood g → IsGood (inside (Of (To r)) g)
+good_inside r g b h = record { names = h.names; regions = h.regions; frame = h.frame; enclosing = record { region = r; is = refl; below = b } }
+
+-- after a lexical region
+name_below : (n : ℕ) (names : List RegionNamed) (x : tree.Name) (r : Region) (b : Bool) → NamesBelow n names → Below n r → NamesBelow n (name_added b x r names)
+name_below n names x r true h k = h
+name_below n names x r false h k = (k, h)
+
+region_names : (r : tree.RegionName) (g : Env) → IsGood g → NamesBelow (g.regions.count + 1) (names_with r g)
+region_names (tree.Named x) g h =
+    name_below (g.regions.count + 1) g.names x (next_region g) (is_some (find_region g.names x.text)) (regions_up g.regions.count g.names h.regions)
+    (omega arith)
+region_names (tree.Heap at) g h = regions_up g.regions.count g.names h.regions
+region_names (tree.Unique at) g h = regions_up g.regions.count g.names h.regions
+
+pub good_region : (r : tree.RegionName) (g : Env) → IsGood g → IsGood (lexical g (names_with r g))
+good_region r g h = record {
+  names = entries_up g.regions.count (in_scope g) h.names;
+  regions = region_names r g h;
+  frame = below_up g.regions.count g.frame h.frame;
+  enclosing = around_up g.regions.count g.enclosing h.enclosing;
+}
 
 pub good_local : (x : tree.Name) (t : StaticType) (g : Env) → IsObjectType t → TypeBelow g.regions.count t → IsGood g → IsGood (extended g x t)
 good_local x t g w b h = record { names = ((w, b, h.frame), h.names); regions = h.regions; frame = h.frame; enclosing = h.enclosing }

@@ -10,7 +10,7 @@ use Rattle.source_typing.specs.Left.{flow_faults}
 use Rattle.source_typing.specs.Programs.{Judged, all_tag_faults, builtins, entries_with, faults_with, items_from, judged_tags, main_found, named, second_names, size_faults, tables_of, typing_faults}
 use Rattle.source_typing.specs.Scope.{at_item}
 use Rattle.source_typing.specs.Tables.{Entry, Named, OfOther, Tables}
-use Rattle.source_typing.specs.Taken.{Taken, constant_forms, function_taken, item_forms, item_taken, only_taken, structures}
+use Rattle.source_typing.specs.Taken.{Taken, constant_forms, function_taken, item_forms, item_taken, only_taken, with_regions}
 use Rattle.source_typing.proofs.Inversion.{none_of_both}
 use Rattle.source_typing.proofs.TakenItems.{program_is_taken}
 use Rattle.judged_sources.specs.Good.{AllGood, IsGoodEntry}
@@ -63,7 +63,7 @@ is_clean_program k p e =
 
 -- a head without fault
 pub record HeadKnown (h : Tables) (f : tree.Function) : Type 0 where
-  pub is_taken : function_taken structures f ≡ f
+  pub is_taken : function_taken with_regions f ≡ f
   pub clean : (head_of false h f).faults ≡ []
 
 pub known_good : (h : Tables) (f : tree.Function) → KnowsTags h → HeadKnown h f → HeadGood h f
@@ -83,25 +83,26 @@ AreHeaded h i [] (x ∷ is) = ⊥
 AreHeaded h i (j ∷ js) [] = ⊥
 
 -- The program's own tables `g` have the same tags as `h`: what has no fault by them has none where tags alone are known.
-pub all_headed : (g h : Tables) (i : ℕ) (js : List Judged) (is : List Item) → KnowsTags h → AreAligned g h → AreNamed js is → only_taken structures is ≡ is
-    → constant_forms structures is ≡ [] → items_from false g i is ≡ [] → AreHeaded h i js is
+pub all_headed : (g h : Tables) (i : ℕ) (js : List Judged) (is : List Item) → KnowsTags h → AreAligned g h → AreNamed js is
+    → only_taken with_regions is ≡ is
+    → constant_forms with_regions is ≡ [] → items_from false g i is ≡ [] → AreHeaded h i js is
 all_headed g h i [] [] tags s n t f p = tt
 all_headed g h i [] (x ∷ is) tags s n t f p = absurd n
 all_headed g h i (j ∷ js) [] tags s n t f p = absurd n
 all_headed g h i (j ∷ js) (tree.StructItem x ∷ is) tags s n t f p =
-    let b : only_taken structures is ≡ is = cc in (n.0, all_headed g h (suc i) js is tags s n.1 b f p)
+    let b : only_taken with_regions is ≡ is = cc in (n.0, all_headed g h (suc i) js is tags s n.1 b f p)
 all_headed g h i (j ∷ js) (tree.UnionItem x ∷ is) tags s n t f p = absurd n.0
 all_headed g h i (j ∷ js) (tree.GlobalItem x ∷ is) tags s n t f p =
-    let a : item_taken structures (tree.GlobalItem x) ≡ tree.GlobalItem x = cc in
-    let b : only_taken structures is ≡ is = cc in
-    let c : (item_forms structures (tree.GlobalItem x) ≡ []) × (constant_forms structures is ≡ []) =
-    none_of_both (item_forms structures (tree.GlobalItem x)) (constant_forms structures is) f in
+    let a : item_taken with_regions (tree.GlobalItem x) ≡ tree.GlobalItem x = cc in
+    let b : only_taken with_regions is ≡ is = cc in
+    let c : (item_forms with_regions (tree.GlobalItem x) ≡ []) × (constant_forms with_regions is ≡ []) =
+    none_of_both (item_forms with_regions (tree.GlobalItem x)) (constant_forms with_regions is) f in
     let d : (global_faults (at_item false g i) x ≡ []) × (items_from false g (suc i) is ≡ []) =
     none_of_both (global_faults (at_item false g i) x) (items_from false g (suc i) is) p in
     ((n.0, global_good h i x tags a c.0 (sym (global_faults_same g h s i x) ∙ d.0)), all_headed g h (suc i) js is tags s n.1 b c.1 d.1)
 all_headed g h i (j ∷ js) (tree.FunctionItem x ∷ is) tags s n t f p =
-    let a : function_taken structures x ≡ x = cc in
-    let b : only_taken structures is ≡ is = cc in
+    let a : function_taken with_regions x ≡ x = cc in
+    let b : only_taken with_regions is ≡ is = cc in
     let d : (function_faults false g i x ≡ []) × (items_from false g (suc i) is ≡ []) =
     none_of_both (function_faults false g i x) (items_from false g (suc i) is) p in
     let e : (head_of false h x).faults ≡ [] =

@@ -1,19 +1,22 @@
 -- The type of a local of these forms that is in order: an object's, whose region names are in scope, with the shape that it has as it is written.
-use Rattle.std.proofs.Common.{◌≡◌, ℕ, Bool, true, false, Option, Some, None, List, [], ◌∷◌, refl, sym, subst, ap, ◌∙◌}
-use Rattle.std.specs.Prelude.{◌&&◌, ◌++◌, bytes_eq, if◌then◌else◌, map, replicate}
+use Rattle.std.proofs.Common.{◌≡◌, ℕ, zero, suc, Bool, true, false, Option, Some, None, List, [], ◌∷◌, refl, sym, subst, ap, ◌∙◌}
+use Rattle.std.specs.Prelude.{◌&&◌, ◌++◌, length, map}
+use Rattle.std.proofs.lemmas.Bool.{eqb-true, false≢true}
+use Rattle.std.proofs.lemmas.List.{length-map, length-replicate}
 use Rattle.cyc_tree.specs.declared.name.Sign.{Sign}
 use Rattle.cyc_tree.specs.declared.name.Sign.TheVariants as sign
 use Rattle.cyc_tree.specs.Tree as tree
 use Rattle.cyc_tree.specs.Tree.{Pointer, TypeName}
 use Rattle.source_lowering.specs.Taken.{AreThin, IsSharedRegion, IsThinSign, IsVoidType}
 use Rattle.source_meaning.specs.Shapes as shapes
-use Rattle.source_meaning.specs.Shapes.{Shape, ThinShape, owner_of, pointed, shared_owner, signed_shape}
+use Rattle.source_meaning.specs.Shapes.{HandleShape, Shape, StructShape, ThinShape, owner_of, pointed, shared_owner, signed_shape}
 use Rattle.source_safety.specs.Named.{Below}
 use Rattle.source_typing.specs.Faults.{Fault}
 use Rattle.source_typing.specs.Regions.{Region}
 use Rattle.source_typing.specs.Tables.{Arrayed, Counter, Entry, OfBuiltin, OfFunction, OfOther, OfTag, OfValue, Stored, Tables, Unknown, as_tag, find}
-use Rattle.source_typing.specs.Taken.{takes_base, takes_pointers, takes_region, takes_sign, takes_type, structures}
-use Rattle.source_typing.specs.Types.{Char, Int, Key, PartialType, Struct, Thin, Unsigned, Void, same_bool, shape_of}
+use Rattle.source_typing.specs.Tables.{tag_in}
+use Rattle.source_typing.specs.Taken.{Taken, with_regions, takes_base, takes_pointers, takes_region, takes_sign, takes_type}
+use Rattle.source_typing.specs.Types.{Char, Handle, Int, Key, PartialType, Struct, Thin, Unsigned, Void, same_bool, shape_of}
 use Rattle.source_typing.specs.Verdicts.{Faulty, Of, Unjudged, Verdict, unless_faulty}
 use Rattle.source_typing.specs.Written.{
   Found,
@@ -21,7 +24,6 @@ use Rattle.source_typing.specs.Written.{
   IsUnique,
   Missing,
   RegionNamed,
-  Spot,
   all_found,
   argument_spots,
   if_sound,
@@ -30,62 +32,31 @@ use Rattle.source_typing.specs.Written.{
   tag_of,
   written_on,
   as_region,
-  find_region,
-  found_by,
-  found_named,
+  base_spots,
+  built,
+  count_fits,
+  counted_type,
   pointer_to,
   pointers_to,
   spot,
   spots_of,
   type_built,
+  with_arguments,
   written,
   written_with,
 }
 use Rattle.source_typing.proofs.Converting.{and_is}
 use Rattle.judged_sources.specs.Good.{AllGood, IsGoodEntry, NamesBelow, Surely}
+use Rattle.judged_sources.proofs.FoundRegions.{AreAllFound, AreFound, FoundBelow, base_arguments, spots_found}
 use Rattle.judged_sources.proofs.GoodNames.{MeansGood, found_good}
 use Rattle.judged_sources.proofs.Settling.{IsOpen}
 use Rattle.judged_sources.proofs.Sure.{surely_unless}
 
--- ---- regions that are found
-
--- a region in scope, or a missing one
-abbrev pub FoundBelow : ℕ → Found → Type 0
-FoundBelow n (Is r) = Below n r
-FoundBelow n IsUnique = ⊥
-FoundBelow n Missing = Unit {0}
-
--- one for each pointer
-abbrev pub AreFound : ℕ → List Pointer → List Found → Type 0
-AreFound n [] fs = Unit {0}
-AreFound n (p ∷ ps) [] = ⊥
-AreFound n (p ∷ ps) (f ∷ fs) = FoundBelow n f × AreFound n ps fs
-
-named_below : (n : ℕ) (names : List RegionNamed) (at : ℕ) (x : List ℕ) → NamesBelow n names → FoundBelow n (found_named at (find_region names x)).0
-named_below n [] at x h = tt
-named_below n (m ∷ ms) at x h = by (bytes_eq m.name x) (named_below n ms at x h.1)
-  where
-    by : (b : Bool) → FoundBelow n (found_named at (find_region ms x)).0 → FoundBelow n (found_named at (if b then Some m.id else find_region ms x)).0
-    by true k = h.0
-    by false k = k
-
-region_below : (n : ℕ) (names : List RegionNamed) (r : Option tree.RegionName) → NamesBelow n names → IsSharedRegion r
-    → FoundBelow n (found_by names r true).0
-region_below n names None h s = tt
-region_below n names (Some (tree.Heap at)) h s = tt
-region_below n names (Some (tree.Unique at)) h s = absurd s
-region_below n names (Some (tree.Named x)) h s = named_below n names x.at x.text h
-
-pub pointers_found : (n : ℕ) (names : List RegionNamed) (ps : List Pointer) → NamesBelow n names → AreThin ps
-    → AreFound n ps (all_found names (map (λ (p : Pointer). spot true p.region) ps)).0
-pointers_found n names [] h s = tt
-pointers_found n names (p ∷ ps) h s = (region_below n names p.region h s.0.1, pointers_found n names ps h s.1)
-
 -- ---- tags
 
--- what a name in a type may mean: a struct without fault and without region parameters; no name is of a declaration at fault
+-- what a name in a type may mean: a struct without fault; no name is of a declaration at fault
 abbrev pub IsKnownEntry : Entry → Type 0
-IsKnownEntry (OfTag t) = (t.sound ≡ true) × (t.is_union ≡ false) × (t.regions ≡ 0)
+IsKnownEntry (OfTag t) = (t.sound ≡ true) × (t.is_union ≡ false)
 IsKnownEntry (OfFunction s) = (s.sound ≡ true)
 IsKnownEntry (OfValue (Stored t r)) = Unit {0}
 IsKnownEntry (OfValue (Arrayed t r)) = Unit {0}
@@ -101,12 +72,12 @@ MeansKnown (Some e) = IsKnownEntry e
 abbrev pub KnowsTags : Tables → Type 0
 KnowsTags g = (x : List ℕ) → MeansKnown (find g x)
 
--- a struct's tag has no region parameters, or is at fault
-tag_judged : (at : ℕ) (o : Option Entry) → MeansKnown o → Surely (λ n. n ≡ 0) (tag_of o false at)
+-- a struct's tag has its count of region parameters, or is at fault
+tag_judged : (at : ℕ) (o : Option Entry) → MeansKnown o → Surely (λ n. n ≡ regions_of_tag (as_tag o)) (tag_of o false at)
 tag_judged at None h = tt
 tag_judged at (Some (OfTag t)) h =
-    subst (λ b. Surely (λ n. n ≡ 0) (if_sound b (of_kind (same_bool t.is_union false) t at))) (sym h.0)
-    (subst (λ b. Surely (λ n. n ≡ 0) (of_kind (same_bool b false) t at)) (sym h.1) h.2)
+    subst (λ b. Surely (λ n. n ≡ t.regions) (if_sound b (of_kind (same_bool t.is_union false) t at))) (sym h.0)
+    (subst (λ b. Surely (λ n. n ≡ t.regions) (of_kind (same_bool b false) t at)) (sym h.1) refl)
 tag_judged at (Some (OfFunction s)) h = tt
 tag_judged at (Some (OfValue (Stored t r))) h = tt
 tag_judged at (Some (OfValue (Arrayed t r))) h = tt
@@ -115,38 +86,27 @@ tag_judged at (Some (OfValue Unknown)) h = absurd h
 tag_judged at (Some (OfBuiltin n)) h = tt
 tag_judged at (Some OfOther) h = tt
 
--- and no regions are missing in its type
-pub no_spots : (g : Tables) (tag : tree.Name) → MeansKnown (find g tag.text) → argument_spots g tag [] ≡ []
-no_spots g tag h = by (find g tag.text) h
-  where
-    by : (o : Option Entry) → MeansKnown o → replicate (regions_of_tag (as_tag o)) (spot false None) ≡ []
-    by None h = refl
-    by (Some (OfTag t)) h = ap (λ n. replicate n (spot false None)) h.2
-    by (Some (OfFunction s)) h = refl
-    by (Some (OfValue v)) h = refl
-    by (Some (OfBuiltin n)) h = refl
-    by (Some OfOther) h = refl
-
 -- ---- forms that are taken
 
-thin_sign : (s : Sign) → takes_sign structures s ≡ true → IsThinSign s
-thin_sign sign.Nullable e = tt
-thin_sign sign.NotNull e = tt
-thin_sign sign.Fat e = absurd cc
+-- where nothing is taken of arrays and unique pointers
+thin_sign : (k : Taken) → k.arrays ≡ false → (s : Sign) → takes_sign k s ≡ true → IsThinSign s
+thin_sign k a sign.Nullable e = tt
+thin_sign k a sign.NotNull e = tt
+thin_sign k a sign.Fat e = absurd (false≢true (sym a ∙ e))
 
-shared_region : (r : Option tree.RegionName) → takes_region structures r ≡ true → IsSharedRegion r
-shared_region None e = tt
-shared_region (Some (tree.Heap at)) e = tt
-shared_region (Some (tree.Unique at)) e = absurd cc
-shared_region (Some (tree.Named x)) e = tt
+shared_region : (k : Taken) → k.unique ≡ false → (r : Option tree.RegionName) → takes_region k r ≡ true → IsSharedRegion r
+shared_region k u None e = tt
+shared_region k u (Some (tree.Heap at)) e = tt
+shared_region k u (Some (tree.Unique at)) e = absurd (false≢true (sym u ∙ e))
+shared_region k u (Some (tree.Named x)) e = tt
 
 -- the pointers of a type that is taken are thin, and none is unique
-pub thin_pointers_are : (ps : List Pointer) → takes_pointers structures ps ≡ true → AreThin ps
-thin_pointers_are [] e = tt
-thin_pointers_are (p ∷ ps) e =
-    let a = and_is (takes_sign structures p.sign && takes_region structures p.region) (takes_pointers structures ps) e in
-    let b = and_is (takes_sign structures p.sign) (takes_region structures p.region) a.0 in
-    ((thin_sign p.sign b.0, shared_region p.region b.1), thin_pointers_are ps a.1)
+pub thin_pointers_are : (k : Taken) → k.arrays ≡ false → k.unique ≡ false → (ps : List Pointer) → takes_pointers k ps ≡ true → AreThin ps
+thin_pointers_are k a u [] e = tt
+thin_pointers_are k a u (p ∷ ps) e =
+    let c = and_is (takes_sign k p.sign && takes_region k p.region) (takes_pointers k ps) e in
+    let d = and_is (takes_sign k p.sign) (takes_region k p.region) c.0 in
+    ((thin_sign k a p.sign d.0, shared_region k u p.region d.1), thin_pointers_are k a u ps c.1)
 
 -- ---- a type as it is written, whose missing regions aren't found yet
 
@@ -154,13 +114,18 @@ abbrev pub RegionBelow : ℕ → Option Region → Type 0
 RegionBelow n None = Unit {0}
 RegionBelow n (Some r) = Below n r
 
+abbrev pub RegionsBelow : ℕ → List (Option Region) → Type 0
+RegionsBelow n [] = Unit {0}
+RegionsBelow n (r ∷ rs) = RegionBelow n r × RegionsBelow n rs
+
 -- an object, whose regions are missing or in scope
 abbrev pub IsPartialObject : ℕ → PartialType → Type 0
 IsPartialObject n Int = Unit {0}
 IsPartialObject n Unsigned = Unit {0}
 IsPartialObject n Char = Unit {0}
 IsPartialObject n (Thin b r t) = RegionBelow n r × IsPartialObject n t
-IsPartialObject n (Struct tag rs) = (rs ≡ [])
+IsPartialObject n (Struct tag rs) = RegionsBelow n rs
+IsPartialObject n (Handle r) = RegionBelow n r
 IsPartialObject n _ = ⊥
 
 pub record WrittenObject (n : ℕ) (t : TypeName) (p : PartialType) : Type 0 where
@@ -240,6 +205,34 @@ all_pointed n (x ∷ ps) (f ∷ fs) p s k b h =
       shape = signed_shared x.sign x.region s (shape_of p) k.0.0 k.0.1 h.shape;
     }))
 
+-- all of these are in scope, or missing
+abbrev AllFoundBelow : ℕ → List Found → Type 0
+AllFoundBelow n [] = Unit {0}
+AllFoundBelow n (f ∷ fs) = FoundBelow n f × AllFoundBelow n fs
+
+found_regions : (n : ℕ) (fs : List Found) → AllFoundBelow n fs → RegionsBelow n (map as_region fs)
+found_regions n [] h = tt
+found_regions n (f ∷ fs) h = (found_region n f h.0, found_regions n fs h.1)
+
+and_below : (n : ℕ) (fs : List Found) (f : Found) → AllFoundBelow n fs → FoundBelow n f → AllFoundBelow n (fs ++ f ∷ [])
+and_below n [] f h k = (k, tt)
+and_below n (g ∷ fs) f h k = (h.0, and_below n fs f h.1 k)
+
+-- pointers to a struct with its region arguments
+pub struct_pointed : (n m : ℕ) (tag : List ℕ) (given : List Found) (ps : List Pointer) (fs : List Found) → AreThin ps → AllFoundBelow n given
+    → AreAllFound n m ps fs → PointedIfSome n (pointed ps (StructShape tag)) (with_arguments m (Struct tag) given ps fs)
+struct_pointed n zero tag given ps fs k a h =
+    all_pointed n ps fs (Struct tag (map as_region given)) (StructShape tag) k h (record { object = found_regions n given a; unowned = tt; shape = refl })
+struct_pointed n (suc m) tag given ps [] k a h = absurd h
+struct_pointed n (suc m) tag given ps (f ∷ fs) k a h = struct_pointed n m tag (given ++ f ∷ []) ps fs k (and_below n given f a h.0) h.1
+
+-- pointers to a handle of a region
+pub handle_pointed : (n : ℕ) (r : tree.RegionName) (m : ℕ) (ps : List Pointer) (fs : List Found) → AreThin ps → AreAllFound n 1 ps fs
+    → PointedIfSome n (pointed ps HandleShape) (built (tree.Handle r) m ps fs)
+handle_pointed n r m ps [] k h = absurd h
+handle_pointed n r m ps (f ∷ fs) k h =
+    all_pointed n ps fs (Handle (as_region f)) HandleShape k h.1 (record { object = found_region n f h.0; unowned = tt; shape = refl })
+
 -- a pointer to nothing is no type
 no_pointer : (ps : List Pointer) (fs : List Found) → pointers_to ps fs None ≡ None
 no_pointer [] fs = refl
@@ -261,70 +254,71 @@ nothing_written n at place (p ∷ ps) [] b = absurd b
 nothing_written n at place (p ∷ ps) (f ∷ fs) b =
     subst (λ o. Surely (λ z. IsWritten n (record { at = at; base = tree.Void; pointers = p ∷ ps }) z) (type_built place o)) (sym (no_pointer ps fs)) tt
 
--- a type that is taken, where a region in scope is found for each pointer, or a missing one
-pub written_good : (n : ℕ) (g : Tables) (t : TypeName) (fs : List Found) (bad : List Fault) → KnowsTags g → takes_type structures t ≡ true
-    → AreFound n t.pointers fs
+-- how many regions are found for a struct's arguments: all that its tag asks for, where their count fits
+count_is : (g : Tables) (tag : tree.Name) (rs : List tree.RegionName) (m : ℕ) → m ≡ regions_of_tag (tag_in g tag.text)
+    → count_fits (tree.Struct tag rs) m ≡ true → length (argument_spots g tag rs) ≡ m
+count_is g tag [] m s e = length-replicate (regions_of_tag (tag_in g tag.text)) (spot false None) ∙ sym s
+count_is g tag (r ∷ rs) m s e = length-map (r ∷ rs) (λ r. spot false (Some r)) ∙ eqb-true (length (r ∷ rs)) m e
+
+-- a type that is taken, where a region in scope is found for each argument and pointer, or a missing one
+pub written_good : (n : ℕ) (g : Tables) (t : TypeName) (fs : List Found) (bad : List Fault) → KnowsTags g → takes_type with_regions t ≡ true
+    → AreAllFound n (length (base_spots g t.base)) t.pointers fs
     → Surely (λ p. IsWritten n t p) (written_with g t (fs, bad))
 written_good n g t fs bad tags e h =
-    let a = and_is (takes_base structures t.base) (takes_pointers structures t.pointers) e in by t.base a.0 (thin_pointers_are t.pointers a.1)
+    let a = and_is (takes_base with_regions t.base) (takes_pointers with_regions t.pointers) e in
+    by t.base a.0 (thin_pointers_are with_regions refl refl t.pointers a.1) h
   where
-    built_object : (b : tree.Base) (p : PartialType) → AreThin t.pointers → IsPointed n (shapes.base_shape b) p
-        → Surely (λ p. IsWritten n (record { at = t.at; base = b; pointers = t.pointers }) p)
-        (unless_faulty bad (type_built t.at (pointers_to t.pointers fs (Some p))))
-    built_object b p k w =
-        surely_unless (λ p. IsWritten n (record { at = t.at; base = b; pointers = t.pointers }) p) bad
-        (type_built t.at (pointers_to t.pointers fs (Some p)))
+    with_base : tree.Base → TypeName
+    with_base b = record { at = t.at; base = b; pointers = t.pointers }
+
+    word : (b : tree.Base) (p : PartialType) → AreThin t.pointers → AreFound n t.pointers fs → IsPointed n (shapes.base_shape b) p
+        → Surely (λ p. IsWritten n (with_base b) p) (unless_faulty bad (type_built t.at (pointers_to t.pointers fs (Some p))))
+    word b p k h w =
+        surely_unless (λ p. IsWritten n (with_base b) p) bad (type_built t.at (pointers_to t.pointers fs (Some p)))
         (λ e. object_written n t b (pointers_to t.pointers fs (Some p)) k (all_pointed n t.pointers fs p (shapes.base_shape b) k h w))
 
-    struct : (tag : tree.Name) (v : Verdict ℕ) → AreThin t.pointers → Surely (λ m. m ≡ 0) v
-        → Surely (λ p. IsWritten n (record { at = t.at; base = tree.Struct tag []; pointers = t.pointers }) p)
-        (written_on (record { at = t.at; base = tree.Struct tag []; pointers = t.pointers }) fs bad v)
-    struct tag (Faulty f others) k s = tt
-    struct tag Unjudged k s = absurd s
-    struct tag (Of m) k s =
-        subst (λ c. Surely (λ p. IsWritten n (record { at = t.at; base = tree.Struct tag []; pointers = t.pointers }) p)
-        (written_on (record { at = t.at; base = tree.Struct tag []; pointers = t.pointers }) fs bad (Of c))) (sym s)
-        (built_object (tree.Struct tag []) (Struct tag.text []) k (record { object = refl; unowned = tt; shape = refl }))
+    struct : (tag : tree.Name) (rs : List tree.RegionName) (v : Verdict ℕ) → AreThin t.pointers → Surely (λ m. m ≡ regions_of_tag (tag_in g tag.text)) v
+        → AreAllFound n (length (argument_spots g tag rs)) t.pointers fs
+        → Surely (λ p. IsWritten n (with_base (tree.Struct tag rs)) p) (written_on (with_base (tree.Struct tag rs)) fs bad v)
+    struct tag rs (Faulty f others) k s h = tt
+    struct tag rs Unjudged k s h = absurd s
+    struct tag rs (Of m) k s h =
+        surely_unless (λ p. IsWritten n (with_base (tree.Struct tag rs)) p) bad
+        (counted_type (with_base (tree.Struct tag rs)) fs m (count_fits (tree.Struct tag rs) m)) (λ e. counted (count_fits (tree.Struct tag rs) m) refl)
+      where
+        counted : (c : Bool) → count_fits (tree.Struct tag rs) m ≡ c
+            → Surely (λ p. IsWritten n (with_base (tree.Struct tag rs)) p) (counted_type (with_base (tree.Struct tag rs)) fs m c)
+        counted false q = tt
+        counted true q =
+            object_written n t (tree.Struct tag rs) (with_arguments m (Struct tag.text) [] t.pointers fs) k
+            (struct_pointed n m tag.text [] t.pointers fs k tt (subst (λ (c : ℕ). AreAllFound n c t.pointers fs) (count_is g tag rs m s q) h))
 
-    by : (b : tree.Base) → takes_base structures b ≡ true → AreThin t.pointers
-        → Surely (λ p. IsWritten n (record { at = t.at; base = b; pointers = t.pointers }) p)
-        (written_with g (record { at = t.at; base = b; pointers = t.pointers }) (fs, bad))
-    by tree.Int q k = built_object tree.Int Int k (record { object = tt; unowned = tt; shape = refl })
-    by tree.Unsigned q k = built_object tree.Unsigned Unsigned k (record { object = tt; unowned = tt; shape = refl })
-    by tree.Char q k = built_object tree.Char Char k (record { object = tt; unowned = tt; shape = refl })
-    by tree.Void q k =
-        surely_unless (λ p. IsWritten n (record { at = t.at; base = tree.Void; pointers = t.pointers }) p) bad
-        (type_built t.at (pointers_to t.pointers fs (Some Void))) (λ e. nothing_written n t.at t.at t.pointers fs h)
-    by (tree.Struct tag []) q k = struct tag (tag_of (find g tag.text) false tag.at) k (tag_judged tag.at (find g tag.text) (tags tag.text))
-    by (tree.Struct tag (r ∷ rs)) q k = absurd cc
-    by (tree.Union tag rs) q k = absurd cc
-    by (tree.Handle r) q k = absurd cc
-    by (tree.Key r) q k = absurd cc
+    by : (b : tree.Base) → takes_base with_regions b ≡ true → AreThin t.pointers → AreAllFound n (length (base_spots g b)) t.pointers fs
+        → Surely (λ p. IsWritten n (with_base b) p) (written_with g (with_base b) (fs, bad))
+    by tree.Int q k h = word tree.Int Int k h (record { object = tt; unowned = tt; shape = refl })
+    by tree.Unsigned q k h = word tree.Unsigned Unsigned k h (record { object = tt; unowned = tt; shape = refl })
+    by tree.Char q k h = word tree.Char Char k h (record { object = tt; unowned = tt; shape = refl })
+    by tree.Void q k h =
+        surely_unless (λ p. IsWritten n (with_base tree.Void) p) bad (type_built t.at (pointers_to t.pointers fs (Some Void)))
+        (λ e. nothing_written n t.at t.at t.pointers fs h)
+    by (tree.Struct tag rs) q k h = struct tag rs (tag_of (find g tag.text) false tag.at) k (tag_judged tag.at (find g tag.text) (tags tag.text)) h
+    by (tree.Union tag rs) q k h = absurd cc
+    by (tree.Handle r) q k h =
+        surely_unless (λ p. IsWritten n (with_base (tree.Handle r)) p) bad (type_built t.at (built (tree.Handle r) 0 t.pointers fs))
+        (λ e. object_written n t (tree.Handle r) (built (tree.Handle r) 0 t.pointers fs) k (handle_pointed n r 0 t.pointers fs k h))
+    by (tree.Key r) q k h = absurd cc
 
 -- one by the region names in scope
-pub in_scope_good : (n : ℕ) (g : Tables) (names : List RegionNamed) (t : TypeName) → KnowsTags g → NamesBelow n names → takes_type structures t ≡ true
-    → Surely (λ p. IsWritten n t p) (written g names t)
+pub in_scope_good : (n : ℕ) (g : Tables) (names : List RegionNamed) (t : TypeName) → KnowsTags g → NamesBelow n names
+    → takes_type with_regions t ≡ true → Surely (λ p. IsWritten n t p) (written g names t)
 in_scope_good n g names t tags h e =
-    let a = and_is (takes_base structures t.base) (takes_pointers structures t.pointers) e in
-    written_good n g t (all_found names (spots_of g t)).0 (all_found names (spots_of g t)).1 tags e (by t.base a.0 (thin_pointers_are t.pointers a.1))
-  where
-    by : (b : tree.Base) → takes_base structures b ≡ true → AreThin t.pointers
-        → AreFound n t.pointers (all_found names (spots_of g (record { at = t.at; base = b; pointers = t.pointers }))).0
-    by tree.Int q k = pointers_found n names t.pointers h k
-    by tree.Unsigned q k = pointers_found n names t.pointers h k
-    by tree.Char q k = pointers_found n names t.pointers h k
-    by tree.Void q k = pointers_found n names t.pointers h k
-    by (tree.Struct tag []) q k =
-        subst (λ (ss : List Spot). AreFound n t.pointers (all_found names (ss ++ map (λ (p : Pointer). spot true p.region) t.pointers)).0)
-        (sym (no_spots g tag (tags tag.text))) (pointers_found n names t.pointers h k)
-    by (tree.Struct tag (r ∷ rs)) q k = absurd cc
-    by (tree.Union tag rs) q k = absurd cc
-    by (tree.Handle r) q k = absurd cc
-    by (tree.Key r) q k = absurd cc
+    let a = and_is (takes_base with_regions t.base) (takes_pointers with_regions t.pointers) e in
+    written_good n g t (all_found names (spots_of g t)).0 (all_found names (spots_of g t)).1 tags e
+    (spots_found n names (base_spots g t.base) t.pointers h (base_arguments g t.base) (thin_pointers_are with_regions refl refl t.pointers a.1))
 
 -- all is known of the names in scope: so all tags are
 entry_known : (n : ℕ) (e : Entry) → IsGoodEntry n e → IsKnownEntry e
-entry_known n (OfTag t) h = (h.sound, h.no_union, h.no_regions)
+entry_known n (OfTag t) h = (h.sound, h.no_union)
 entry_known n (OfFunction s) h = h.sound
 entry_known n (OfValue (Stored t r)) h = tt
 entry_known n (OfValue (Arrayed t r)) h = tt

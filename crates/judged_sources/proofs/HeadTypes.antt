@@ -1,7 +1,7 @@
 -- The types of a function's parameters and of its result, where they are taken: objects whose regions are the heap, a region variable that was there
 -- before, or a fresh one.
 use Rattle.std.proofs.Common.{◌≡◌, ℕ, suc, ◌<◌, ◌≤◌, Bool, true, false, Option, Some, None, List, [], ◌∷◌, refl, sym, subst, ◌∙◌, arith}
-use Rattle.std.specs.Prelude.{bytes_eq, if◌then◌else◌, map, ◌||◌, ◌++◌}
+use Rattle.std.specs.Prelude.{bytes_eq, if◌then◌else◌, length, map, ◌||◌, ◌++◌}
 use Rattle.cyc_tree.specs.Tree as tree
 use Rattle.cyc_tree.specs.Tree.{Pointer, TypeName}
 use Rattle.source_lowering.specs.Taken.{AreThin, IsSharedRegion, IsVoidBase, IsVoidType}
@@ -15,14 +15,15 @@ use Rattle.source_typing.specs.Functions.{take_spot, take_spots}
 use Rattle.source_typing.specs.Regions.{Level, Region, TheHeap}
 use Rattle.source_typing.specs.Tables.{Tables}
 use Rattle.source_typing.specs.Tags.{settled_alone}
-use Rattle.source_typing.specs.Taken.{takes_base, takes_pointers, takes_type, structures}
+use Rattle.source_typing.specs.Taken.{takes_base, takes_pointers, takes_type, with_regions}
 use Rattle.source_typing.specs.Types.{Handle, Char, Int, PartialType, StaticType, Struct, Thin, Unsigned, Void, is_void, shape_of}
 use Rattle.source_typing.specs.Verdicts.{after, if_fits}
-use Rattle.source_typing.specs.Written.{Found, Is, IsUnique, Missing, RegionNamed, Spot, find_region, spot, spots_of, written, written_with}
+use Rattle.source_typing.specs.Written.{Found, Is, IsUnique, Missing, RegionNamed, Spot, base_spots, find_region, spot, spots_of, written, written_with}
 use Rattle.source_typing.proofs.Converting.{and_is}
 use Rattle.judged_sources.specs.Good.{NamesBelow, Surely}
-use Rattle.judged_sources.proofs.GoodTypes.{AreFound, FoundBelow, IsWritten, KnowsTags, RegionBelow, WritesNothing, WritesObject, in_scope_good}
-use Rattle.judged_sources.proofs.GoodTypes.{no_spots, thin_pointers_are, written_good}
+use Rattle.judged_sources.proofs.FoundRegions.{AreAllFound, AreArguments, FoundBelow, base_arguments}
+use Rattle.judged_sources.proofs.GoodTypes.{IsWritten, KnowsTags, RegionBelow, WritesNothing, WritesObject, in_scope_good}
+use Rattle.judged_sources.proofs.GoodTypes.{thin_pointers_are, written_good}
 use Rattle.judged_sources.proofs.GoodLocals.{IsFilled, object_settled}
 use Rattle.judged_sources.proofs.Sure.{surely_after, surely_also}
 
@@ -53,7 +54,7 @@ found_more n m Missing l h = tt
 -- ---- the regions of a parameter's type
 
 -- the region of a name in scope
-find_below : (n : ℕ) (names : List RegionNamed) (x : List ℕ) → NamesBelow n names → RegionBelow n (find_region names x)
+pub find_below : (n : ℕ) (names : List RegionNamed) (x : List ℕ) → NamesBelow n names → RegionBelow n (find_region names x)
 find_below n [] x h = tt
 find_below n (m ∷ ms) x h = by (bytes_eq m.name x) (find_below n ms x h.1)
   where
@@ -86,44 +87,51 @@ spot_good vs (Some (tree.Named x)) s h = by (find_region vs.names x.text) (find_
         let last : vs.count < suc vs.count = omega arith in
         record { found = last; names = (last, names_more vs.count (suc vs.count) vs.names less h); more = less }
 
--- those of all pointers of a type
-pub record SpotsGood (vs : Variables) (ps : List Pointer) (s : AllSpotted) : Type 0 where
-  pub found : AreFound s.after_all.count ps s.found
+-- one that is no pointer's
+argument_good : (vs : Variables) (r : Option tree.RegionName) → NamesBelow vs.count vs.names → SpotGood vs (take_spot vs r false)
+argument_good vs None h = spot_good vs None tt h
+argument_good vs (Some (tree.Heap at)) h = spot_good vs (Some (tree.Heap at)) tt h
+argument_good vs (Some (tree.Unique at)) h = record { found = tt; names = h; more = omega arith }
+argument_good vs (Some (tree.Named x)) h = spot_good vs (Some (tree.Named x)) tt h
+
+-- those of so many region arguments, and of all pointers of a type
+pub record SpotsGood (vs : Variables) (m : ℕ) (ps : List Pointer) (s : AllSpotted) : Type 0 where
+  pub found : AreAllFound s.after_all.count m ps s.found
   pub names : NamesBelow s.after_all.count s.after_all.names
   pub more : vs.count ≤ s.after_all.count
 
-spots_good : (vs : Variables) (ps : List Pointer) → AreThin ps → NamesBelow vs.count vs.names
-    → SpotsGood vs ps (take_spots vs (map (λ (p : Pointer). spot true p.region) ps))
-spots_good vs [] k h = record { found = tt; names = h; more = omega arith }
-spots_good vs (p ∷ ps) k h =
+pointer_spots_good : (vs : Variables) (ps : List Pointer) → AreThin ps → NamesBelow vs.count vs.names
+    → SpotsGood vs 0 ps (take_spots vs (map (λ (p : Pointer). spot true p.region) ps))
+pointer_spots_good vs [] k h = record { found = tt; names = h; more = omega arith }
+pointer_spots_good vs (p ∷ ps) k h =
     let one : Spotted = take_spot vs p.region true in
     let first : SpotGood vs one = spot_good vs p.region k.0.1 h in
-    let others : SpotsGood one.after_it ps (take_spots one.after_it (map (λ (q : Pointer). spot true q.region) ps)) =
-    spots_good one.after_it ps k.1 first.names in
+    let others : SpotsGood one.after_it 0 ps (take_spots one.after_it (map (λ (q : Pointer). spot true q.region) ps)) =
+    pointer_spots_good one.after_it ps k.1 first.names in
     let last : ℕ = (take_spots one.after_it (map (λ (q : Pointer). spot true q.region) ps)).after_all.count in
     let a : vs.count ≤ one.after_it.count = first.more in
     let b : one.after_it.count ≤ last = others.more in
     record { found = (found_more one.after_it.count last one.found b first.found, others.found); names = others.names; more = omega (arith, a, b) }
 
+spots_good : (vs : Variables) (ss : List Spot) (ps : List Pointer) → AreArguments ss → AreThin ps → NamesBelow vs.count vs.names
+    → SpotsGood vs (length ss) ps (take_spots vs (ss ++ map (λ (p : Pointer). spot true p.region) ps))
+spots_good vs [] ps a k h = pointer_spots_good vs ps k h
+spots_good vs (s ∷ ss) ps a k h =
+    let one : Spotted = take_spot vs s.written s.of_pointer in
+    let rest : List Spot = ss ++ map (λ (q : Pointer). spot true q.region) ps in
+    let first : SpotGood vs one = subst (λ (b : Bool). SpotGood vs (take_spot vs s.written b)) (sym a.0) (argument_good vs s.written h) in
+    let others : SpotsGood one.after_it (length ss) ps (take_spots one.after_it rest) = spots_good one.after_it ss ps a.1 k first.names in
+    let last : ℕ = (take_spots one.after_it rest).after_all.count in
+    let c : vs.count ≤ one.after_it.count = first.more in
+    let d : one.after_it.count ≤ last = others.more in
+    record { found = (found_more one.after_it.count last one.found d first.found, others.found); names = others.names; more = omega (arith, c, d) }
+
 -- and of a type that is taken
-pub type_spots_good : (g : Tables) (vs : Variables) (t : TypeName) → KnowsTags g → takes_type structures t ≡ true → NamesBelow vs.count vs.names
-    → SpotsGood vs t.pointers (take_spots vs (spots_of g t))
-type_spots_good g vs t tags e h =
-    let a = and_is (takes_base structures t.base) (takes_pointers structures t.pointers) e in by t.base a.0 (thin_pointers_are t.pointers a.1)
-  where
-    by : (b : tree.Base) → takes_base structures b ≡ true → AreThin t.pointers
-        → SpotsGood vs t.pointers (take_spots vs (spots_of g (record { at = t.at; base = b; pointers = t.pointers })))
-    by tree.Int q k = spots_good vs t.pointers k h
-    by tree.Unsigned q k = spots_good vs t.pointers k h
-    by tree.Char q k = spots_good vs t.pointers k h
-    by tree.Void q k = spots_good vs t.pointers k h
-    by (tree.Struct tag []) q k =
-        subst (λ (ss : List Spot). SpotsGood vs t.pointers (take_spots vs (ss ++ map (λ (p : Pointer). spot true p.region) t.pointers)))
-        (sym (no_spots g tag (tags tag.text))) (spots_good vs t.pointers k h)
-    by (tree.Struct tag (r ∷ rs)) q k = absurd cc
-    by (tree.Union tag rs) q k = absurd cc
-    by (tree.Handle r) q k = absurd cc
-    by (tree.Key r) q k = absurd cc
+pub type_spots_good : (g : Tables) (vs : Variables) (t : TypeName) → takes_type with_regions t ≡ true → NamesBelow vs.count vs.names
+    → SpotsGood vs (length (base_spots g t.base)) t.pointers (take_spots vs (spots_of g t))
+type_spots_good g vs t e h =
+    let a = and_is (takes_base with_regions t.base) (takes_pointers with_regions t.pointers) e in
+    spots_good vs (base_spots g t.base) t.pointers (base_arguments g t.base) (thin_pointers_are with_regions refl refl t.pointers a.1) h
 
 -- ---- a type that takes no missing regions from another one
 
@@ -156,14 +164,14 @@ parameter_fits n at t u (GivesObject w) = by (fits_parameter u)
     by true = w
     by false = tt
 
-pub parameter_good : (g : Tables) (vs : Variables) (t : TypeName) → KnowsTags g → takes_type structures t ≡ true → NamesBelow vs.count vs.names
+pub parameter_good : (g : Tables) (vs : Variables) (t : TypeName) → KnowsTags g → takes_type with_regions t ≡ true → NamesBelow vs.count vs.names
     → Surely (λ u. ObjectGood (take_spots vs (spots_of g t)).after_all.count t u) (parameter_type g t (take_spots vs (spots_of g t)))
 parameter_good g vs t tags e h =
     let s : AllSpotted = take_spots vs (spots_of g t) in
     let n : ℕ = s.after_all.count in
     surely_after (λ u. PlainGood n t u) (λ u. ObjectGood n t u) (after (written_with g t (s.found, s.faults)) (settled_alone t.at)) (if_parameter t.at)
     (surely_after (λ p. IsWritten n t p) (λ u. PlainGood n t u) (written_with g t (s.found, s.faults)) (settled_alone t.at)
-    (written_good n g t s.found s.faults tags e (type_spots_good g vs t tags e h).found) (λ p w. alone_good n t.at t p w))
+    (written_good n g t s.found s.faults tags e (type_spots_good g vs t e h).found) (λ p w. alone_good n t.at t p w))
     (λ u w. parameter_fits n t.at t u w)
 
 -- ---- results
@@ -176,7 +184,7 @@ result_fits n at t u (GivesObject w) = by (is_void u || fits_parameter u)
     by true = GivesObject w
     by false = tt
 
-pub result_good : (n : ℕ) (g : Tables) (names : List RegionNamed) (t : TypeName) → KnowsTags g → takes_type structures t ≡ true → NamesBelow n names
+pub result_good : (n : ℕ) (g : Tables) (names : List RegionNamed) (t : TypeName) → KnowsTags g → takes_type with_regions t ≡ true → NamesBelow n names
     → Surely (λ u. PlainGood n t u) (result_type g names t)
 result_good n g names t tags e h =
     surely_after (λ u. PlainGood n t u) (λ u. PlainGood n t u) (after (written g names t) (settled_alone t.at)) (if_result t.at)

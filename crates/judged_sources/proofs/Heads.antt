@@ -1,15 +1,17 @@
 -- The head of a function without fault: it takes objects and gives one or nothing, its types, effect and bounds speak of its region variables and the heap
 -- alone, and it is read alike by tables that have the same tags.
 use Rattle.std.proofs.Common.{◌≡◌, ℕ, zero, suc, ◌<◌, ◌≤◌, Bool, true, false, Option, Some, None, List, [], ◌∷◌, refl, sym, subst, ap, ap₂, ◌∙◌, arith}
-use Rattle.std.specs.Prelude.{◌||◌, ◌++◌, if◌then◌else◌, map, not, replicate}
+use Rattle.std.specs.Prelude.{◌||◌, ◌++◌, if◌then◌else◌, length, map, not, replicate}
+use Rattle.cyc_tree.specs.Places.{region_place}
 use Rattle.cyc_tree.specs.Tree as tree
 use Rattle.cyc_tree.specs.Tree.{TypeName}
 use Rattle.source_meaning.specs.Shapes.{part_of, part_shapes}
 use Rattle.source_meaning.specs.Shapes as shapes
 use Rattle.source_safety.specs.Entries.{AreObjects}
-use Rattle.source_safety.specs.Named.{AllBelow, BoundsBelow, TypesBelow}
+use Rattle.source_safety.specs.Named.{AllBelow, Below, BoundsBelow, TypesBelow}
 use Rattle.source_typing.specs.Faults.{Fault, is_clean, own_after, test, type_rule}
-use Rattle.source_typing.specs.Functions.{AllSpotted, Parameters, Reading, Variables, all_faults, all_of, and_parameter, bounds_of, effect_of, head_after}
+use Rattle.source_typing.specs.Functions.{AllSpotted, Parameters, Reading, Variables, all_faults, all_of, and_known, and_parameter, bounds_of, effect_of}
+use Rattle.source_typing.specs.Functions.{effect_region, head_after, if_no_key, pair_of, used_named, used_region}
 use Rattle.source_typing.specs.Functions.{Head, body_scope, end_reached, function_faults, head_judged, head_of, if_parameter, if_result, is_main, key_regions, levels_but, main_faults, main_form}
 use Rattle.source_typing.specs.Functions.{parameter_type, read_parameters, result_type, take_spots, variables}
 use Rattle.source_typing.specs.Regions.{Level, Region, is_among}
@@ -17,16 +19,16 @@ use Rattle.source_typing.specs.Statements.{items_faults}
 use Rattle.source_typing.specs.Tables.{Tables, Tag, find, tag_in}
 use Rattle.source_typing.specs.Tags.{repeated, settled_alone}
 use Rattle.source_typing.specs.Taken.{Taken, bounds_form, bounds_if, effect_form, effect_if, function_taken, member_taken, members_taken, refused_type}
-use Rattle.source_typing.specs.Taken.{takes_type, type_taken, structures}
+use Rattle.source_typing.specs.Taken.{takes_type, type_taken, with_regions}
 use Rattle.source_typing.specs.Types.{Int, PartialType, StaticType, shape_of}
-use Rattle.source_typing.specs.Verdicts.{Of, Verdict, after, faults_of, known}
-use Rattle.source_typing.specs.Written.{Found, RegionNamed, Spot, all_found, argument_spots, base_of, base_spots, regions_of_tag, spot, spots_of, tag_of, written}
-use Rattle.source_typing.specs.Written.{written_on, written_with}
+use Rattle.source_typing.specs.Verdicts.{Faulty, Of, Unjudged, Verdict, after, both, faults_of, known}
+use Rattle.source_typing.specs.Written.{Found, RegionNamed, Spot, all_found, argument_spots, base_of, base_spots, find_region, regions_of_tag, spot, spots_of}
+use Rattle.source_typing.specs.Written.{tag_of, written, written_on, written_with}
 use Rattle.source_typing.proofs.Inversion.{none_of_both, of_is, own_is, test_is}
 use Rattle.judged_sources.specs.Good.{IsGoodSignature, NamesBelow}
 use Rattle.judged_sources.proofs.HeadTypes.{PlainGood, ResultGood, SpotsGood, ObjectGood, parameter_good, result_facts, result_good}
-use Rattle.judged_sources.proofs.HeadTypes.{type_spots_good, object_more}
-use Rattle.judged_sources.proofs.GoodTypes.{KnowsTags}
+use Rattle.judged_sources.proofs.HeadTypes.{find_below, type_spots_good, object_more}
+use Rattle.judged_sources.proofs.GoodTypes.{KnowsTags, RegionBelow}
 use Rattle.judged_sources.proofs.Sure.{surely_is}
 
 -- ---- what isn't taken is at fault
@@ -35,12 +37,10 @@ abbrev pub AreTaken : Taken → List tree.Member → Type 0
 AreTaken k [] = Unit {0}
 AreTaken k (m ∷ ms) = (takes_type k m.of ≡ true) × AreTaken k ms
 
--- a head whose types are taken, with no region names in its effect, and no bounds
+-- a head whose types are taken
 pub record HeadTaken (k : Taken) (f : tree.Function) : Type 0 where
   pub parameters : AreTaken k f.parameters
   pub result : takes_type k f.result ≡ true
-  pub effect : effect_if false f.effect ≡ f.effect
-  pub bounds : [] ≡ f.bounds
 
 parameter_taken : (b : Bool) (g : Tables) (vs : Variables) (t : TypeName) → (if b then t else refused_type t.at) ≡ t
     → faults_of (parameter_type g t (take_spots vs (spots_of g t))) ≡ []
@@ -73,15 +73,24 @@ result_taken false g names t e p = absurd (by (subst (λ z. faults_of (result_ty
     by : faults_of (result_type g names (refused_type t.at)) ≡ [] → ⊥
     by h = cc
 
--- what stands where an effect and bounds would
-pub no_effect : (e : Option (List tree.RegionName)) → effect_if false e ≡ e → effect_form false e ≡ []
-no_effect None p = refl
-no_effect (Some []) p = refl
-no_effect (Some (r ∷ rs)) p = absurd cc
+-- nothing stands for an effect and bounds that are taken
+pub no_effect : (b : Bool) (e : Option (List tree.RegionName)) → effect_if b e ≡ e → effect_form b e ≡ []
+no_effect true None p = refl
+no_effect true (Some []) p = refl
+no_effect true (Some (r ∷ rs)) p = refl
+no_effect false None p = refl
+no_effect false (Some []) p = refl
+no_effect false (Some (r ∷ rs)) p = absurd cc
 
-pub no_forms : (f : tree.Function) → effect_if false f.effect ≡ f.effect → [] ≡ f.bounds → effect_form false f.effect ++ bounds_form false f.bounds ≡ []
-no_forms f a b =
-    subst (λ es. es ++ bounds_form false f.bounds ≡ []) (sym (no_effect f.effect a)) (subst (λ bs. bounds_form false bs ≡ []) b refl)
+pub no_bounds : (b : Bool) (bs : List tree.Bound) → bounds_if b bs ≡ bs → bounds_form b bs ≡ []
+no_bounds true [] p = refl
+no_bounds true (x ∷ bs) p = refl
+no_bounds false [] p = refl
+no_bounds false (x ∷ bs) p = absurd cc
+
+pub no_forms : (b : Bool) (f : tree.Function) → effect_if b f.effect ≡ f.effect → bounds_if b f.bounds ≡ f.bounds
+    → effect_form b f.effect ++ bounds_form b f.bounds ≡ []
+no_forms b f e q = ap₂ (λ (es bs : List tree.Member). es ++ bs) (no_effect b f.effect e) (no_bounds b f.bounds q)
 
 -- ---- the faults of a head
 
@@ -110,24 +119,19 @@ head_clean g f p =
     let q4 : (all_faults ps.types ≡ []) × (repeated [] f.parameters ≡ []) = none_of_both (all_faults ps.types) (repeated [] f.parameters) q3.0 in
     record { main = o.0; parameters = q4.0; once = q4.1; result = q3.1 }
 
-pub head_taken : (k : Taken) (g : Tables) (f : tree.Function) → k.regions ≡ false → function_taken k f ≡ f → (head_of false g f).faults ≡ [] → HeadTaken k f
-head_taken k g f none t p =
+pub head_taken : (k : Taken) (g : Tables) (f : tree.Function) → function_taken k f ≡ f → (head_of false g f).faults ≡ [] → HeadTaken k f
+head_taken k g f t p =
     let ps : Parameters = read_parameters g (variables [] 0) f.parameters in
     let r : Verdict StaticType = result_type g ps.variables_after.names f.result in
     let c : HeadClean g f ps r = head_clean g f p in
     let a : type_taken k f.result ≡ f.result = ap (λ (z : tree.Function). z.result) t in
-    let e : effect_if false f.effect ≡ f.effect =
-    subst (λ b. effect_if b f.effect ≡ f.effect) none (ap (λ (z : tree.Function). z.effect) t) in
-    let b : [] ≡ f.bounds = subst (λ b. bounds_if b f.bounds ≡ f.bounds) none (ap (λ (z : tree.Function). z.bounds) t) in
+    let e : effect_if k.regions f.effect ≡ f.effect = ap (λ (z : tree.Function). z.effect) t in
+    let b : bounds_if k.regions f.bounds ≡ f.bounds = ap (λ (z : tree.Function). z.bounds) t in
     let m : members_taken k f.parameters ++ [] ≡ f.parameters =
-    subst (λ zs. members_taken k f.parameters ++ zs ≡ f.parameters) (no_forms f e b)
-    (subst (λ c. members_taken k f.parameters ++ (effect_form c f.effect ++ bounds_form c f.bounds) ≡ f.parameters) none
-    (ap (λ (z : tree.Function). z.parameters) t)) in
+    subst (λ zs. members_taken k f.parameters ++ zs ≡ f.parameters) (no_forms k.regions f e b) (ap (λ (z : tree.Function). z.parameters) t) in
     record {
       parameters = parameters_taken k g (variables [] 0) f.parameters m c.parameters;
       result = result_taken (takes_type k f.result) g ps.variables_after.names f.result a c.result;
-      effect = e;
-      bounds = b;
     }
 
 -- ---- parameters
@@ -141,7 +145,7 @@ pub record ParametersGood (vs : Variables) (ms : List tree.Member) (ps : Paramet
   pub names : NamesBelow ps.variables_after.count ps.variables_after.names
   pub more : vs.count ≤ ps.variables_after.count
 
-parameters_good : (g : Tables) (vs : Variables) (ms : List tree.Member) → KnowsTags g → AreTaken structures ms → NamesBelow vs.count vs.names
+parameters_good : (g : Tables) (vs : Variables) (ms : List tree.Member) → KnowsTags g → AreTaken with_regions ms → NamesBelow vs.count vs.names
     → all_faults (read_parameters g vs ms).types ≡ []
     → ParametersGood vs ms (read_parameters g vs ms)
 parameters_good g vs [] tags t h p =
@@ -151,7 +155,7 @@ parameters_good g vs (m ∷ ms) tags t h p =
     let v : Verdict StaticType = parameter_type g m.of s in
     let z : (faults_of v ≡ []) × (all_faults (read_parameters g s.after_all ms).types ≡ []) =
     none_of_both (faults_of v) (all_faults (read_parameters g s.after_all ms).types) p in
-    let k : SpotsGood vs m.of.pointers s = type_spots_good g vs m.of tags t.0 h in
+    let k : SpotsGood vs (length (base_spots g m.of.base)) m.of.pointers s = type_spots_good g vs m.of t.0 h in
     let first : (u : StaticType) × (v ≡ Of u) × ObjectGood s.after_all.count m.of u =
     surely_is (λ u. ObjectGood s.after_all.count m.of u) v (parameter_good g vs m.of tags t.0 h) z.0 in
     let rest : ParametersGood s.after_all ms (read_parameters g s.after_all ms) = parameters_good g s.after_all ms tags t.1 k.names z.1 in
@@ -185,15 +189,65 @@ all_judged : (rs : List Region) → all_of (map (λ (r : Region). Of r) rs) ≡ 
 all_judged [] = refl
 all_judged (r ∷ rs) = ap (λ (qs : List Region). r ∷ qs) (all_judged rs)
 
-effect_below : (vs : Variables) (ks : List Region) (e : Option (List tree.RegionName)) → effect_if false e ≡ e
-    → AllBelow vs.count (all_of (effect_of false vs ks e))
-effect_below vs ks None p =
-    subst (λ (rs : List Region). AllBelow vs.count rs) (sym (all_judged (levels_but ks vs.count))) (levels_below ks vs.count vs.count (omega arith))
-effect_below vs ks (Some []) p = tt
-effect_below vs ks (Some (r ∷ rs)) p = absurd cc
+-- a region that is known
+abbrev IfBelow : ℕ → Verdict Region → Type 0
+IfBelow n (Of r) = Below n r
+IfBelow n (Faulty f fs) = Unit {0}
+IfBelow n Unjudged = Unit {0}
 
-bounds_below : (n : ℕ) (names : List RegionNamed) (bs : List tree.Bound) → [] ≡ bs → BoundsBelow n (all_of (bounds_of names bs))
-bounds_below n names bs e = subst (λ (z : List tree.Bound). BoundsBelow n (all_of (bounds_of names z))) e tt
+used_below : (n : ℕ) (names : List RegionNamed) (r : tree.RegionName) → NamesBelow n names → IfBelow n (used_region names r)
+used_below n names (tree.Heap at) h = tt
+used_below n names (tree.Unique at) h = tt
+used_below n names (tree.Named x) h = by (find_region names x.text) (find_below n names x.text h)
+  where
+    by : (o : Option Region) → RegionBelow n o → IfBelow n (used_named x.at o)
+    by None k = tt
+    by (Some r) k = k
+
+no_key_below : (n : ℕ) (v : Verdict Region) (fits : Region → Bool) (at : ℕ) → IfBelow n v → IfBelow n (after v (λ a. if_no_key (fits a) at a))
+no_key_below n (Faulty f fs) fits at h = tt
+no_key_below n Unjudged fits at h = tt
+no_key_below n (Of a) fits at h = by (fits a)
+  where
+    by : (b : Bool) → IfBelow n (if_no_key b at a)
+    by true = h
+    by false = tt
+
+known_below : (n : ℕ) (v : Verdict Region) (others : List Region) → IfBelow n v → AllBelow n others → AllBelow n (and_known v others)
+known_below n (Of r) others h k = (h, k)
+known_below n (Faulty f fs) others h k = k
+known_below n Unjudged others h k = k
+
+written_below : (n : ℕ) (names : List RegionNamed) (ks : List Region) (rs : List tree.RegionName) → NamesBelow n names
+    → AllBelow n (all_of (map (effect_region false names ks) rs))
+written_below n names ks [] h = tt
+written_below n names ks (r ∷ rs) h =
+    known_below n (effect_region false names ks r) (all_of (map (effect_region false names ks) rs))
+    (no_key_below n (used_region names r) (λ a. not (is_among ks a)) (region_place r) (used_below n names r h)) (written_below n names ks rs h)
+
+effect_below : (vs : Variables) (ks : List Region) (e : Option (List tree.RegionName)) → NamesBelow vs.count vs.names
+    → AllBelow vs.count (all_of (effect_of false vs ks e))
+effect_below vs ks None h =
+    subst (λ (rs : List Region). AllBelow vs.count rs) (sym (all_judged (levels_but ks vs.count))) (levels_below ks vs.count vs.count (omega arith))
+effect_below vs ks (Some rs) h = written_below vs.count vs.names ks rs h
+
+pair_below : (n : ℕ) (v w : Verdict Region) (others : List (Region × Region)) → IfBelow n v → IfBelow n w → BoundsBelow n others
+    → BoundsBelow n (and_known (both v w pair_of) others)
+pair_below n (Of a) (Of b) others h k o = (h, k, o)
+pair_below n (Of a) (Faulty f fs) others h k o = o
+pair_below n (Of a) Unjudged others h k o = o
+pair_below n (Faulty f fs) (Of b) others h k o = o
+pair_below n (Faulty f fs) (Faulty c cs) others h k o = o
+pair_below n (Faulty f fs) Unjudged others h k o = o
+pair_below n Unjudged (Of b) others h k o = o
+pair_below n Unjudged (Faulty c cs) others h k o = o
+pair_below n Unjudged Unjudged others h k o = o
+
+bounds_below : (n : ℕ) (names : List RegionNamed) (bs : List tree.Bound) → NamesBelow n names → BoundsBelow n (all_of (bounds_of names bs))
+bounds_below n names [] h = tt
+bounds_below n names (b ∷ bs) h =
+    pair_below n (used_region names b.longer) (used_region names b.shorter) (all_of (bounds_of names bs)) (used_below n names b.longer h)
+    (used_below n names b.shorter h) (bounds_below n names bs h)
 
 main_formed : (v : Verdict StaticType) (ms : List tree.Member) → main_form v ms ≡ true → (v ≡ Of Int) × (ms ≡ [])
 main_formed (Of Int) [] e = (refl, refl)
@@ -216,13 +270,13 @@ pub record HeadGood (g : Tables) (f : tree.Function) : Type 0 where
   pub bounds : BoundsBelow (head_of false g f).signature.regions (head_of false g f).signature.bounds
   pub names : NamesBelow (head_of false g f).signature.regions (head_of false g f).names
 
-pub head_good : (g : Tables) (f : tree.Function) → KnowsTags g → function_taken structures f ≡ f → (head_of false g f).faults ≡ [] → HeadGood g f
+pub head_good : (g : Tables) (f : tree.Function) → KnowsTags g → function_taken with_regions f ≡ f → (head_of false g f).faults ≡ [] → HeadGood g f
 head_good g f tags t p =
     let ps : Parameters = read_parameters g (variables [] 0) f.parameters in
     let n : ℕ = ps.variables_after.count in
     let r : Verdict StaticType = result_type g ps.variables_after.names f.result in
     let c : HeadClean g f ps r = head_clean g f p in
-    let k : HeadTaken structures f = head_taken structures g f refl t p in
+    let k : HeadTaken with_regions f = head_taken with_regions g f t p in
     let q : ParametersGood (variables [] 0) f.parameters ps = parameters_good g (variables [] 0) f.parameters tags k.parameters tt c.parameters in
     let u : (t : StaticType) × (r ≡ Of t) × PlainGood n f.result t =
     surely_is (λ u. PlainGood n f.result u) r (result_good n g ps.variables_after.names f.result tags k.result q.names) c.result in
@@ -246,8 +300,8 @@ head_good g f tags t p =
       main_takes = λ e. (main e).1;
       main_gives = λ e. of_is u.0 Int (sym u.1 ∙ (main e).0);
       once = c.once;
-      effect = effect_below ps.variables_after (key_regions ps.types) f.effect k.effect;
-      bounds = bounds_below n ps.variables_after.names f.bounds k.bounds;
+      effect = effect_below ps.variables_after (key_regions ps.types) f.effect q.names;
+      bounds = bounds_below n ps.variables_after.names f.bounds q.names;
       names = q.names;
     }
 

@@ -6,7 +6,8 @@ use Rattle.source_typing.specs.Answers.{program_faults}
 use Rattle.source_typing.specs.Programs.{tables_of}
 use Rattle.source_typing.specs.Taken.{supported}
 use Rattle.judged_sources.specs.Good.{BodiesJudged}
-use Rattle.judged_sources.specs.Laws.{AcceptedAreJudged, AcceptedAreLowerable, AcceptedAreNeverStuck, AcceptedHaveMain}
+use Rattle.judged_sources.specs.Laws.{AcceptedAreJudged, AcceptedAreLowerable, AcceptedAreNeverStuck, AcceptedHaveMain, RegionsAreJudged}
+use Rattle.judged_sources.specs.Laws.{RegionsAreNeverStuck}
 use Rattle.judged_sources.proofs.GoodBodies.{bodies_judged}
 use Rattle.judged_sources.proofs.GoodExpressions.{expressions_judged}
 use Rattle.judged_sources.proofs.LoweredPrograms as lowered
@@ -18,6 +19,12 @@ bodies = bodies_judged expressions_judged
 
 pub judged : AcceptedAreJudged
 judged = programs.structs_judged bodies
+
+pub with_regions_judged : RegionsAreJudged
+with_regions_judged = programs.regions_judged bodies
+
+pub with_regions_never_stuck : RegionsAreNeverStuck
+with_regions_never_stuck = programs.regions_never_stuck bodies
 
 pub lowerable : AcceptedAreLowerable
 lowerable = lowered.structs_lowerable bodies

@@ -1,6 +1,6 @@
 -- The structs of a program in which no tag is at fault, one after another as they are judged: lowering takes each, by those before it.
 use Rattle.std.proofs.Common.{◌≡◌, ℕ, suc, Bool, true, false, Option, Some, None, List, [], ◌∷◌, ◌++◌, refl, sym, subst, ap, ap₂, ◌∙◌}
-use Rattle.std.specs.Prelude.{bytes_eq, codes, if◌then◌else◌, map}
+use Rattle.std.specs.Prelude.{bytes_eq, codes, if◌then◌else◌, length, map}
 use Rattle.cyc_tree.specs.Operands.{AreSomeMembers}
 use Rattle.cyc_tree.specs.Tree as tree
 use Rattle.cyc_tree.specs.Tree.{Item}
@@ -16,15 +16,17 @@ use Rattle.source_typing.specs.Programs.{Judged, bare_entry, bare_from, builtins
 use Rattle.source_typing.specs.Scope.{Env}
 use Rattle.source_typing.specs.Tables.{Entry, Named, OfBuiltin, OfFunction, OfOther, OfTag, OfValue, Part, Tables, Tag, find}
 use Rattle.source_typing.specs.Tags.{member_faults, member_fitting, member_type, settled_alone, tag_parts, tag_scope}
+use Rattle.source_typing.specs.Taken.{region_structures}
 use Rattle.source_typing.specs.Types.{Char, Handle, Int, StaticType, Struct, Thin, Unsigned, shape_of}
 use Rattle.source_typing.specs.Verdicts.{after, faults_of}
 use Rattle.source_typing.specs.Written.{all_found, spots_of}
+use Rattle.source_typing.proofs.Entries.{entries_more}
 use Rattle.source_typing.proofs.Inversion.{none_of_both}
 use Rattle.judged_sources.proofs.HeadTags.{MeanAlike, TablesAlike, found_alike}
 use Rattle.judged_sources.proofs.LoweredTypes.{IsReached, TagsThere, base_there, reached_target, twice_keeps, type_reached}
 use Rattle.judged_sources.proofs.MemberTypes.{AreMembersTaken, MembersGood, members_are_taken}
 use Rattle.judged_sources.proofs.StructSizes.{AreOnce, MeasuredAlike, later_passed, layouts_both, same_parts, struct_small, structs_are, unions_none}
-use Rattle.judged_sources.proofs.TagOrder.{AreSorted, TagClean, builtins_alike}
+use Rattle.judged_sources.proofs.TagOrder.{AreSorted, HasNoHandle, TagClean, builtins_alike}
 
 -- ---- what members lead to
 
@@ -37,8 +39,8 @@ abbrev pub AllReached : List Layout → List Layout → Type 0
 AllReached structs [] = Unit {0}
 AllReached structs (l ∷ ls) = PartsReached structs l.parts × AllReached structs ls
 
-members_reached : (structs : List Layout) (g : Env) (ms : List tree.Member) → TagsThere structs g.tables → AreMembersTaken ms → member_faults g false ms ≡ []
-    → PartsReached structs (map part_of ms)
+members_reached : (structs : List Layout) (g : Env) (ms : List tree.Member) → TagsThere structs g.tables → AreMembersTaken region_structures ms
+    → member_faults g false ms ≡ [] → PartsReached structs (map part_of ms)
 members_reached structs g [] tags e p = tt
 members_reached structs g (m ∷ ms) tags e p =
     let z = none_of_both (faults_of (member_type g false m.of)) (member_faults g false ms) p in (
@@ -108,10 +110,6 @@ pub record StructsLaid (structs : List Layout) (done : Tables) (found : List Lay
   pub layouts : layouts_onto false [] done ≡ found
   pub unions : layouts_onto true [] done ≡ []
 
-entries_more : (done : List Judged) (j : Judged) → entries (done ++ j ∷ []) ≡ entries done ++ j.entry ∷ []
-entries_more [] j = refl
-entries_more (d ∷ done) j = ap (λ (g : Tables). d.entry ∷ g) (entries_more done j)
-
 layouts_more : (union : Bool) (done : List Judged) (j : Judged) (n : Named) → j.entry ≡ n
     → layouts_onto union [] (entries (done ++ j ∷ [])) ≡ layouts_onto union (layouts_onto union [] (entries done)) (n ∷ [])
 layouts_more union done j n e =
@@ -134,10 +132,11 @@ pub struct_laid : (structs : List Layout) (b h T : Tables) (i : ℕ) (done : Lis
     → AreSorted (tree.StructItem s ∷ is) → TablesAlike (entries done ++ first_from h i (tree.StructItem s ∷ is)) b
     → second_names seen (tree.StructItem s ∷ is) ≡ [] → ((x : List ℕ) → declares ds x ≡ true → is_seen seen x ≡ true) → AreLaidOut T ds found
     → declares ds s.tag.text ≡ false → TagClean (builtins (entries done ++ first_from h i (tree.StructItem s ∷ is))) i s
-    → MembersGood (tag_scope (builtins (entries done ++ first_from h i (tree.StructItem s ∷ is))) i s) ds s.members → StructsLaid structs (entries done) found
+    → MembersGood (length s.regions) (tag_scope (builtins (entries done ++ first_from h i (tree.StructItem s ∷ is))) i s) ds s.members
+    → HasNoHandle (tree.StructItem s) → StructsLaid structs (entries done) found
     → StructsLaid structs (entries (done ++ judged_tag (builtins (entries done ++ first_from h i (tree.StructItem s ∷ is))) i (tree.StructItem s) ∷ []))
     (layout_of s ∷ found)
-struct_laid structs b h T i done is seen ds found s there once sorted alike names declared out new clean ms l = record {
+struct_laid structs b h T i done is seen ds found s there once sorted alike names declared out new clean ms own l = record {
   in_order = (
     record {
       new = tags_declared T ds found s.tag.text out ∙ new;
@@ -166,7 +165,9 @@ struct_laid structs b h T i done is seen ds found s there once sorted alike name
     tags = alike_there structs g (builtins b) (builtins_alike (entries done ++ first_from h i (tree.StructItem s ∷ is)) b alike) there
 
     reached : PartsReached structs (map part_of s.members)
-    reached = members_reached structs (tag_scope g i s) s.members tags (members_are_taken (tag_scope g i s) s.members sorted.0.members clean.members) clean.members
+    reached =
+        members_reached structs (tag_scope g i s) s.members tags (members_are_taken region_structures (tag_scope g i s) s.members own clean.members)
+        clean.members
 
     measured : MeasuredAlike ds (layouts_of false g) found
     measured tag e =

@@ -1,6 +1,7 @@
 pub mod Sure
 pub mod GoodScopes
 pub mod Settling
+pub mod FoundRegions
 pub mod GoodTypes
 pub mod GoodLocals
 pub mod Named
@@ -12,6 +13,7 @@ pub mod TagOrder
 pub mod StructTags
 pub mod StructsFound
 pub mod Heads
+pub mod MoreTaken
 pub mod AlignedTables
 pub mod Constants
 pub mod Globals
@@ -43,3 +45,4 @@ pub mod LoweredTables
 pub mod SizedGlobals
 pub mod LoweredPrograms
 pub mod StructSamples
+pub mod RegionSamples

@@ -7,7 +7,7 @@ use Rattle.source_lowering.specs.Lowerable.{Takes, TakesDeclaration, TakesItems,
 use Rattle.source_lowering.specs.Lowered.{Named}
 use Rattle.source_lowering.specs.Programs.{local_shape, named_here, outward}
 use Rattle.source_meaning.specs.Shapes as shapes
-use Rattle.source_meaning.specs.Shapes.{Layout, Shape, Shared, settled, settled_by, written}
+use Rattle.source_meaning.specs.Shapes.{Layout, Shape, settled, written}
 use Rattle.source_meaning.specs.Steps.{World}
 use Rattle.source_safety.specs.Entries.{IsObjectType}
 use Rattle.source_safety.specs.Judged.{Condition, DeclarationJudged, ItemsJudged, LocalSet, LocalUnset, Returned, StatementJudged}
@@ -16,7 +16,8 @@ use Rattle.source_typing.specs.Declarations.{converted_to, declare, local_type, 
 use Rattle.source_typing.specs.Expressions.{judge}
 use Rattle.source_typing.specs.Scope.{Env, Value, block_entered, in_scope, second}
 use Rattle.source_typing.specs.Statements.{condition_faults, in_a_loop, items_faults, statement_faults}
-use Rattle.source_typing.specs.Taken.{declaration_taken, declared_if, initializer_taken, items_taken, statement_taken, taken, takes_initializer, takes_type, structures}
+use Rattle.source_typing.specs.Taken.{declaration_taken, declared_if, initializer_taken, items_taken, region_structures, statement_taken, taken}
+use Rattle.source_typing.specs.Taken.{takes_initializer, takes_type}
 use Rattle.source_typing.specs.Types.{Char, Fat, Handle, Int, Key, Null, StaticType, Struct, Thin, Union, Unique, Unsigned, Void, shape_of}
 use Rattle.source_typing.specs.Verdicts.{after, faults_of}
 use Rattle.source_typing.specs.Ways.{ways_of}
@@ -91,7 +92,7 @@ module _ (w : World) where
     scope : IsKnownScope w (named_here (tree.local_of d).text (local_shape d) index ∷ names) (declare g d).scope
     result : (declare g d).scope.result ≡ g.result
 
-  unset_takes : (names : List Named) (index : ℕ) (g : Env) (u : TypeName) (x : tree.Name) → IsKnownScope w names g → takes_type structures u ≡ true
+  unset_takes : (names : List Named) (index : ℕ) (g : Env) (u : TypeName) (x : tree.Name) → IsKnownScope w names g → takes_type region_structures u ≡ true
       → LocalUnset g u x → (declare g (tree.Local u x Initializer.Unset)).faults ≡ [] → DeclarationTaken names index g (tree.Local u x Initializer.Unset)
   unset_takes names index g u x scope e j p =
       let f = none_of_both (faults_of (unset_type g u None)) (second g x) p in
@@ -109,7 +110,8 @@ module _ (w : World) where
       }
 
   set_takes : (names : List Named) (index : ℕ) (g : Env) (u : TypeName) (x : tree.Name) (e : Expression) → IsKnownScope w names g
-      → takes_type structures u ≡ true → taken structures e ≡ e → LocalSet g u x e → (declare g (tree.Local u x (Initializer.Value e))).faults ≡ []
+      → takes_type region_structures u ≡ true → taken region_structures e ≡ e → LocalSet g u x e
+      → (declare g (tree.Local u x (Initializer.Value e))).faults ≡ []
       → DeclarationTaken names index g (tree.Local u x (Initializer.Value e))
   set_takes names index g u x e scope q t j p =
       let v : Value = j.fitting.accepted.value in
@@ -132,34 +134,34 @@ module _ (w : World) where
         result = ap (λ (s : Env). s.result) j.scope;
       }
 
-  declaration_takes : (d : tree.Declaration) (names : List Named) (index : ℕ) (g : Env) → IsKnownScope w names g → declaration_taken structures d ≡ d
+  declaration_takes : (d : tree.Declaration) (names : List Named) (index : ℕ) (g : Env) → IsKnownScope w names g → declaration_taken region_structures d ≡ d
       → DeclarationJudged g d → (declare g d).faults ≡ [] → DeclarationTaken names index g d
   declaration_takes (tree.Region at r x) names index g scope t j p = absurd cc
   declaration_takes (tree.Open at r x y) names index g scope t j p = absurd j
   declaration_takes (tree.Alias at r u x y) names index g scope t j p = absurd j
   declaration_takes (tree.NewKey at r x) names index g scope t j p = absurd j
   declaration_takes (tree.Local u x i) names index g scope t j p =
-      let k = structures in
+      let k = region_structures in
       let b = local_taken (takes_type k u && takes_initializer k i) g u.at (tree.Local u x (initializer_taken k i)) (tree.Local u x i) t p in
       let c = and_is (takes_type k u) (takes_initializer k i) b in
       by i c.0 j p (subst (λ z. declared_if z u.at (tree.Local u x (initializer_taken k i)) ≡ tree.Local u x i) b t)
     where
-      by : (i : Initializer) → takes_type structures u ≡ true → DeclarationJudged g (tree.Local u x i) → (declare g (tree.Local u x i)).faults ≡ []
-          → tree.Local u x (initializer_taken structures i) ≡ tree.Local u x i → DeclarationTaken names index g (tree.Local u x i)
+      by : (i : Initializer) → takes_type region_structures u ≡ true → DeclarationJudged g (tree.Local u x i) → (declare g (tree.Local u x i)).faults ≡ []
+          → tree.Local u x (initializer_taken region_structures i) ≡ tree.Local u x i → DeclarationTaken names index g (tree.Local u x i)
       by Initializer.Unset q j p t = unset_takes names index g u x scope q j p
       by (Initializer.Elements n) q j p t = absurd j
-      by (Initializer.Value e) q j p t = let i : taken structures e ≡ e = cc in set_takes names index g u x e scope q i j p
+      by (Initializer.Value e) q j p t = let i : taken region_structures e ≡ e = cc in set_takes names index g u x e scope q i j p
 
   -- ---- statements
 
-  condition_takes : (names : List Named) (g : Env) (e : Expression) → IsKnownScope w names g → taken structures e ≡ e → Condition g e → Takes w names e
+  condition_takes : (names : List Named) (g : Env) (e : Expression) → IsKnownScope w names g → taken region_structures e ≡ e → Condition g e → Takes w names e
   condition_takes names g e scope t c =
       let v : Value = c.accepted.value in
       let k : IsTaken w names e v = taken_is w names g scope e v t c.accepted.judged in
       (word_is w names v.type e (testable_word v.type c.testable) k.value).takes
 
   module _ (r : StaticType) (given : IsGiven w.structs r) where
-    return_takes : (names : List Named) (g : Env) (e : Expression) → g.result ≡ Some r → IsKnownScope w names g → taken structures e ≡ e → Returned g e
+    return_takes : (names : List Named) (g : Env) (e : Expression) → g.result ≡ Some r → IsKnownScope w names g → taken region_structures e ≡ e → Returned g e
         → Takes w names e
     return_takes names g e f scope t j =
         let v : Value = j.fitting.accepted.value in
@@ -171,29 +173,29 @@ module _ (w : World) where
 
     mutual
       statement_takes : (x : Statement) (names : List Named) (g : Env) (c : Bool) → g.result ≡ Some r → IsKnownScope w names g
-          → statement_taken structures x ≡ x → StatementJudged g x → statement_faults g c x ≡ [] → TakesStatement w (shape_of r) names x
+          → statement_taken region_structures x ≡ x → StatementJudged g x → statement_faults g c x ≡ [] → TakesStatement w (shape_of r) names x
       statement_takes (Statement.Empty at) names g c f scope t j p = tt
       statement_takes (Statement.Block at items) names g c f scope t j p =
-          let i : items_taken structures items ≡ items = cc in
+          let i : items_taken region_structures items ≡ items = cc in
           items_takes items (outward names) 0 (block_entered g) c f (scope_block w names g scope) i j p
       statement_takes (Statement.Run e) names g c f scope t j p =
-          let i : taken structures e ≡ e = cc in (taken_is w names g scope e j.value i j.judged).run
+          let i : taken region_structures e ≡ e = cc in (taken_is w names g scope e j.value i j.judged).run
       statement_takes (Statement.Exchange a b) names g c f scope t j p = absurd j
       statement_takes (Statement.If at e x) names g c f scope t j p =
-          let i : taken structures e ≡ e = cc in
-          let k : statement_taken structures x ≡ x = cc in
+          let i : taken region_structures e ≡ e = cc in
+          let k : statement_taken region_structures x ≡ x = cc in
           let z = none_of_both (condition_faults g e) (statement_faults g c x) p in
           (condition_takes names g e scope i j.0, statement_takes x names g c f scope k j.1 z.1)
       statement_takes (Statement.IfElse at e x y) names g c f scope t j p =
-          let i : taken structures e ≡ e = cc in
-          let k : statement_taken structures x ≡ x = cc in
-          let l : statement_taken structures y ≡ y = cc in
+          let i : taken region_structures e ≡ e = cc in
+          let k : statement_taken region_structures x ≡ x = cc in
+          let l : statement_taken region_structures y ≡ y = cc in
           let z = none_of_both (condition_faults g e ++ statement_faults g c x) (statement_faults g c y) p in
           let u = none_of_both (condition_faults g e) (statement_faults g c x) z.0 in
           (condition_takes names g e scope i j.0, (statement_takes x names g c f scope k j.1.0 u.1, statement_takes y names g c f scope l j.1.1 z.1))
       statement_takes (Statement.While at e x) names g c f scope t j p =
-          let i : taken structures e ≡ e = cc in
-          let k : statement_taken structures x ≡ x = cc in
+          let i : taken region_structures e ≡ e = cc in
+          let k : statement_taken region_structures x ≡ x = cc in
           let z = none_of_both (condition_faults g e) (statement_faults (in_a_loop g) c x) p in
           (condition_takes names g e scope i j.0, statement_takes x names (in_a_loop g) c f (scope_loop w names g scope) k j.1 z.1)
       statement_takes (Statement.Switch at e cs) names g c f scope t j p = absurd j
@@ -202,23 +204,24 @@ module _ (w : World) where
       statement_takes (Statement.Return at None) names g c f scope t j p =
           let q : Some r ≡ Some Void = sym f ∙ j in let same : r ≡ Void = cc in ap (λ (t : StaticType). shape_of t) same
       statement_takes (Statement.Return at (Some e)) names g c f scope t j p =
-          let i : taken structures e ≡ e = cc in return_takes names g e f scope i j
+          let i : taken region_structures e ≡ e = cc in return_takes names g e f scope i j
       statement_takes (Statement.FreeUnique at x) names g c f scope t j p = absurd j
       statement_takes (Statement.FreeKey at x) names g c f scope t j p = absurd j
 
       -- the items of a block without fault
       pub items_takes : (x : BlockItems) (names : List Named) (index : ℕ) (g : Env) (c : Bool) → g.result ≡ Some r → IsKnownScope w names g
-          → items_taken structures x ≡ x → ItemsJudged g x → items_faults g c x ≡ [] → TakesItems w (shape_of r) names index x
+          → items_taken region_structures x ≡ x → ItemsJudged g x → items_faults g c x ≡ [] → TakesItems w (shape_of r) names index x
       items_takes NoItems names index g c f scope t j p = tt
       items_takes (Declare d others) names index g c f scope t j p =
-          let i : declaration_taken structures d ≡ d = cc in
-          let k : items_taken structures others ≡ others = cc in
+          let i : declaration_taken region_structures d ≡ d = cc in
+          let k : items_taken region_structures others ≡ others = cc in
           let z = none_of_both (declare g d).faults (items_faults (declare g d).scope c others) p in
           let a : DeclarationTaken names index g d = declaration_takes d names index g scope i j.0 z.0 in
-          (a.takes, items_takes others (named_here (tree.local_of d).text (local_shape d) index ∷ names) (suc index) (declare g d).scope c (a.result ∙ f) a.scope k j.1 z.1)
+          let inside : List Named = named_here (tree.local_of d).text (local_shape d) index ∷ names in
+          (a.takes, items_takes others inside (suc index) (declare g d).scope c (a.result ∙ f) a.scope k j.1 z.1)
       items_takes (Execute x others) names index g c f scope t j p =
-          let i : statement_taken structures x ≡ x = cc in
-          let k : items_taken structures others ≡ others = cc in
+          let i : statement_taken region_structures x ≡ x = cc in
+          let k : items_taken region_structures others ≡ others = cc in
           let d : Bool = c && (ways_of x).falls in
           let z = none_of_both (statement_faults g c x) (items_faults g d others) p in
           (statement_takes x names g c f scope i j.0 z.0, items_takes others names index g d f scope k j.1 z.1)

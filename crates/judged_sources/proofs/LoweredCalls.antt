@@ -3,23 +3,23 @@ use Rattle.std.proofs.Common.{◌≡◌, ℕ, Bool, true, false, inl, inr, Optio
 use Rattle.std.specs.Prelude.{bytes_eq, codes, if◌then◌else◌, length, map, nat_eq}
 use Rattle.std.proofs.lemmas.Bool.{eqb-true, false≢true}
 use Rattle.cyc_tree.specs.Tree.{Expression, Expressions, MoreExpressions, Name, NoExpressions}
-use Rattle.source_lowering.specs.Lowerable.{Takes, TakesAll, TakesCalled, TakesMade, TakesMember, TakesRun, TakesWhole}
+use Rattle.source_lowering.specs.Lowerable.{Takes, TakesAll, TakesCalled, TakesMade, TakesMember, TakesWhole}
 use Rattle.source_lowering.specs.Lowered.{Named, call_shape, result_shape, static_shape}
 use Rattle.source_lowering.specs.Whole.{makes_struct}
 use Rattle.source_meaning.specs.Calls.{function_of}
 use Rattle.source_meaning.specs.Shapes as shapes
 use Rattle.source_meaning.specs.Shapes.{IntShape, Part, Shape, has_tag, parts_of}
 use Rattle.source_meaning.specs.Steps.{World}
-use Rattle.source_typing.specs.Calls.{Target, ToBuiltin, ToFunction, ToStruct, arguments_fit, builtin_parameters, call_entered, called, part_types, target, target_of_tag, typed_result}
+use Rattle.source_typing.specs.Calls.{Target, ToBuiltin, ToFunction, ToStruct, arguments_fit, builtin_parameters}
+use Rattle.source_typing.specs.Calls.{call_entered, called, part_types, target, typed_result}
 use Rattle.source_typing.specs.Converts.{Converts}
 use Rattle.source_typing.specs.Regions.{Region}
-use Rattle.source_typing.specs.Scope.{Env, Nowhere, Value, is_place, meant, value}
+use Rattle.source_typing.specs.Scope.{Env, Nowhere, Value, is_place, value}
 use Rattle.source_typing.specs.Tables as typing
 use Rattle.source_typing.specs.Tables.{Arrayed, Counter, Entry, OfBuiltin, OfFunction, OfOther, OfTag, OfValue, Signature, Stored, Tag, Unknown, argument}
 use Rattle.source_typing.specs.Types.{Char, Fat, Handle, Int, Key, Null, StaticType, Struct, Thin, Union, Unique, Unsigned, Void, renamed, shape_of}
 use Rattle.source_typing.specs.Verdicts.{Of}
-use Rattle.source_typing.specs.Written.{if_sound}
-use Rattle.source_typing.proofs.CallsFit.{AllConvert, arguments_are}
+use Rattle.source_typing.proofs.CallsFit.{AllConvert, arguments_are, sound_is, struct_is}
 use Rattle.source_typing.proofs.Inversion.{after_is, of_is, unless_is}
 use Rattle.source_safety.specs.Entries.{Builtin}
 use Rattle.source_safety.specs.Structs.{AreMembers}
@@ -65,20 +65,6 @@ builtin_shape w x n (inl z) =
 builtin_shape w x n (inr z) =
     ap (λ b. if b then IntShape else (if bytes_eq x (codes "putchar") then IntShape else result_shape (function_of w.functions x))) z.0
     ∙ ap (λ b. if b then IntShape else result_shape (function_of w.functions x)) z.1
-
--- what is called
-
-sound_is : (c : Bool) (s : Signature) (t : Target) → if_sound c (Of (ToFunction s)) ≡ Of t → t ≡ ToFunction s
-sound_is true s t e = sym (of_is (ToFunction s) t e)
-sound_is false s t e = absurd cc
-
-struct_is : (c : Bool) (u : Tag) (at : ℕ) (t : Target) → c ≡ false → target_of_tag c u at ≡ Of t → t ≡ ToStruct u
-struct_is true u at t z e = absurd (false≢true (sym z))
-struct_is false u at t z e = by u.sound e
-  where
-    by : (b : Bool) → if_sound b (Of (ToStruct u)) ≡ Of t → t ≡ ToStruct u
-    by true q = sym (of_is (ToStruct u) t q)
-    by false q = absurd cc
 
 module _ (w : World) (names : List Named) where
   -- arguments, one after another
@@ -233,7 +219,8 @@ module _ (w : World) (names : List Named) where
         (eqb-true _ _ (subst (λ (ps : List (Option StaticType)). nat_eq (length ps) (length vs) ≡ true) F.parameters a.count))
         (subst (λ (ps : List (Option StaticType)). AllConvert g z.0 ps vs) F.parameters a.convert) h) F.shape F.given d
 
-    builtin_called : (x : Name) (es : Expressions) (n : ℕ) (ts : List StaticType) (vs : List Value) (v : Value) → Builtin x.text n → has_tag w.structs x.text ≡ false
+    builtin_called : (x : Name) (es : Expressions) (n : ℕ) (ts : List StaticType) (vs : List Value) (v : Value) → Builtin x.text n
+        → has_tag w.structs x.text ≡ false
         → builtin_parameters n ≡ map (λ (t : StaticType). Some t) ts → AreWords ts → AllTaken es vs → called g x.at (ToBuiltin n) vs ≡ Of v
         → IsTaken w names (Expression.Call x es) v
     builtin_called x es n ts vs v b k q i h e =

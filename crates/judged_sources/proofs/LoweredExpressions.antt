@@ -19,7 +19,8 @@ use Rattle.source_typing.specs.Operators.{applied, tested_both}
 use Rattle.source_typing.specs.Places.{grouped, variable}
 use Rattle.source_typing.specs.Scope.{Env, In, InBlock, Nowhere, Value, meant, value}
 use Rattle.source_typing.specs.Tables.{Arrayed, Counter, Entry, OfBuiltin, OfFunction, OfOther, OfTag, OfValue, Stored, Unknown}
-use Rattle.source_typing.specs.Taken.{all_taken, are_suffixed, if_taken, links_taken, suffixes_taken, taken, takes_handle, takes_made, takes_suffixes, structures}
+use Rattle.source_typing.specs.Taken.{all_taken, are_suffixed, if_taken, links_taken, region_structures, suffixes_taken, taken, takes_handle}
+use Rattle.source_typing.specs.Taken.{takes_made, takes_suffixes}
 use Rattle.source_typing.specs.Taken.{made_taken}
 use Rattle.source_typing.specs.Types.{Char, Int, Null, integer_type, is_testable, shape_of}
 use Rattle.source_typing.specs.Verdicts.{Of, Verdict, after, both, if_fits, other_kind}
@@ -59,14 +60,15 @@ both_seat a b v e = by (is_testable a.type && is_testable b.type) e
     by false q = absurd cc
 
 -- a form with suffixes that is taken has some
-some_suffix : (es : Suffixes) → are_suffixed es && takes_suffixes structures es ≡ true → es ≡ NoSuffixes → ⊥
+some_suffix : (es : Suffixes) → are_suffixed es && takes_suffixes region_structures es ≡ true → es ≡ NoSuffixes → ⊥
 some_suffix NoSuffixes q z = cc
 some_suffix (Rattle.cyc_tree.specs.Tree.Index x others) q z = cc
 some_suffix (Rattle.cyc_tree.specs.Tree.Dot f others) q z = cc
 some_suffix (Rattle.cyc_tree.specs.Tree.Arrow f others) q z = cc
 
-suffixes_kept : (e : Expression) (es : Suffixes) (b : Bool) → are_suffixed es && takes_suffixes structures es ≡ b
-    → if_taken b (expression_place e) (Expression.Suffixed (taken structures e) (suffixes_taken structures es)) ≡ Expression.Suffixed e es → b ≡ true
+suffixes_kept : (e : Expression) (es : Suffixes) (b : Bool) → are_suffixed es && takes_suffixes region_structures es ≡ b
+    → if_taken b (expression_place e) (Expression.Suffixed (taken region_structures e) (suffixes_taken region_structures es)) ≡ Expression.Suffixed e es
+    → b ≡ true
 suffixes_kept e es true q t = refl
 suffixes_kept e es false q t = absurd cc
 
@@ -187,7 +189,7 @@ module _ (w : World) (names : List Named) (g : Env) (scope : IsKnownScope w name
   -- ---- all of them
 
   mutual
-    pub taken_is : (e : Expression) (v : Value) → taken structures e ≡ e → judge g e ≡ Of v → Is e v
+    pub taken_is : (e : Expression) (v : Value) → taken region_structures e ≡ e → judge g e ≡ Of v → Is e v
     taken_is (Expression.Number at n suffix) v t p =
         let i : IntegerType = number_type n suffix in
         let d : Valued v (integer_type i) = value_of at (integer_type i) v p in
@@ -204,46 +206,49 @@ module _ (w : World) (names : List Named) (g : Env) (scope : IsKnownScope w name
     taken_is (Expression.UniqueRegion at) v t p = absurd cc
     taken_is (Expression.Variable x) v t p = variable_taken x (meant g x.text) v refl p
     taken_is (Expression.Call x es) v t p =
-        let i : all_taken structures es ≡ es = cc in
+        let i : all_taken region_structures es ≡ es = cc in
         let z = call_is g x es v p in
         call_taken w names g x es (meant g x.text) z.0 z.1 v (λ e q. scope.entries x.text e q) z.2 (all_are es z.1 i z.3) z.4
     taken_is (Expression.MakeUnion tag f e) v t p = absurd cc
     taken_is (Expression.NumElts at e) v t p = absurd cc
     taken_is (Expression.Grouped at e) v t p =
-        let i : taken structures e ≡ e = cc in
+        let i : taken region_structures e ≡ e = cc in
         let z = after_is (judge g e) (grouped at) v p in
         subst (λ (y : Value). Is (Expression.Grouped at e) y) (of_is (record { at = at; type = z.0.type; seat = z.0.seat }) v z.2)
         (taken_grouped w names at e z.0 (taken_is e z.0 i z.1))
     taken_is (Expression.Suffixed e es) v t p =
-        let q : are_suffixed es && takes_suffixes structures es ≡ true = suffixes_kept e es (are_suffixed es && takes_suffixes structures es) refl t in
-        let u : if_taken true (expression_place e) (Expression.Suffixed (taken structures e) (suffixes_taken structures es)) ≡ Expression.Suffixed e es =
-        subst (λ b. if_taken b (expression_place e) (Expression.Suffixed (taken structures e) (suffixes_taken structures es)) ≡ Expression.Suffixed e es) q t in
-        let i : taken structures e ≡ e = cc in
+        let inside : Expression = Expression.Suffixed (taken region_structures e) (suffixes_taken region_structures es) in
+        let q : are_suffixed es && takes_suffixes region_structures es ≡ true =
+        suffixes_kept e es (are_suffixed es && takes_suffixes region_structures es) refl t in
+        let u : if_taken true (expression_place e) inside ≡ Expression.Suffixed e es =
+        subst (λ b. if_taken b (expression_place e) inside ≡ Expression.Suffixed e es) q t in
+        let i : taken region_structures e ≡ e = cc in
         let z = suffixes_first g (judge g e) es v p in
         suffixed_taken w names g scope e es z.0 v (taken_is e z.0 i z.1) (subst (λ (y : Verdict Value). judge_suffixes g y es ≡ Of v) z.1 p) (some_suffix es q)
     taken_is (Expression.Prefixed at o e) v t p =
-        let i : taken structures e ≡ e = by o t in
+        let i : taken region_structures e ≡ e = by o t in
         let z = prefix_is g at o e v p in
         prefixed_taken w names g at o e z.0 v (taken_is e z.0 i z.1) z.2
       where
-        by : (o : Rattle.cyc_tree.specs.declared.expression.Prefix.Prefix) → taken structures (Expression.Prefixed at o e) ≡ Expression.Prefixed at o e
-            → taken structures e ≡ e
+        by : (o : Rattle.cyc_tree.specs.declared.expression.Prefix.Prefix) → taken region_structures (Expression.Prefixed at o e) ≡ Expression.Prefixed at o e
+            → taken region_structures e ≡ e
         by Rattle.cyc_tree.specs.declared.expression.Prefix.TheVariants.Negate t = cc
         by Rattle.cyc_tree.specs.declared.expression.Prefix.TheVariants.Complement t = cc
         by Rattle.cyc_tree.specs.declared.expression.Prefix.TheVariants.Not t = cc
         by Rattle.cyc_tree.specs.declared.expression.Prefix.TheVariants.Dereference t = cc
         by Rattle.cyc_tree.specs.declared.expression.Prefix.TheVariants.AddressOf t = cc
     taken_is (Expression.New at new) v t p = absurd cc
-    taken_is (Expression.NewIn at h new) v t p = absurd (by (is_unique_region h) (takes_made structures new) t)
+    taken_is (Expression.NewIn at h new) v t p = absurd (by (is_unique_region h) (takes_made region_structures new) t)
       where
-        by : (b c : Bool) → if_taken (takes_handle structures b && c) at (Expression.NewIn at (taken structures h) (made_taken structures new))
+        by : (b c : Bool)
+            → if_taken (takes_handle region_structures b && c) at (Expression.NewIn at (taken region_structures h) (made_taken region_structures new))
             ≡ Expression.NewIn at h new → ⊥
         by true c t = cc
         by false c t = cc
     taken_is (Expression.Chain e NoLinks) v t p = absurd cc
     taken_is (Expression.Chain e (MoreLinks o y es)) v t p =
-        let i : taken structures e ≡ e = cc in
-        let j : links_taken structures (MoreLinks o y es) ≡ MoreLinks o y es = cc in
+        let i : taken region_structures e ≡ e = cc in
+        let j : links_taken region_structures (MoreLinks o y es) ≡ MoreLinks o y es = cc in
         let f = links_first g (judge g e) (MoreLinks o y es) v p in
         let h : Is e f.0 = taken_is e f.0 i f.1 in
         let k : Joined (MoreLinks o y es) (judge g e) v = links_are (MoreLinks o y es) (judge g e) v j (λ x q. known_first f.0 x e h (sym f.1 ∙ q)) p in
@@ -253,48 +258,48 @@ module _ (w : World) (names : List Named) (g : Env) (scope : IsKnownScope w name
         (record { takes = (s.takes, k.takes); shape = k.shape (static_shape w names e) (s.shape ∙ ap (λ (x : Value). shape_of x.type) z) }) (λ x. x)
     taken_is (Expression.AllOf e NoExpressions) v t p = absurd cc
     taken_is (Expression.AllOf e (MoreExpressions y es)) v t p =
-        let i : taken structures e ≡ e = cc in
-        let j : all_taken structures (MoreExpressions y es) ≡ MoreExpressions y es = cc in
+        let i : taken region_structures e ≡ e = cc in
+        let j : all_taken region_structures (MoreExpressions y es) ≡ MoreExpressions y es = cc in
         let f = tests_first g (judge g e) (MoreExpressions y es) v p in
         tests_whole (Expression.AllOf e (MoreExpressions y es)) e (MoreExpressions y es) f.0 v (taken_is e f.0 i f.1)
         (tests_are (MoreExpressions y es) (judge g e) v j p) f.1 (λ z. record { takes = z; shape = refl }) (λ z. z)
     taken_is (Expression.AnyOf e NoExpressions) v t p = absurd cc
     taken_is (Expression.AnyOf e (MoreExpressions y es)) v t p =
-        let i : taken structures e ≡ e = cc in
-        let j : all_taken structures (MoreExpressions y es) ≡ MoreExpressions y es = cc in
+        let i : taken region_structures e ≡ e = cc in
+        let j : all_taken region_structures (MoreExpressions y es) ≡ MoreExpressions y es = cc in
         let f = tests_first g (judge g e) (MoreExpressions y es) v p in
         tests_whole (Expression.AnyOf e (MoreExpressions y es)) e (MoreExpressions y es) f.0 v (taken_is e f.0 i f.1)
         (tests_are (MoreExpressions y es) (judge g e) v j p) f.1 (λ z. record { takes = z; shape = refl }) (λ z. z)
     taken_is (Expression.Assign to from) v t p =
-        let i : taken structures to ≡ to = cc in
-        let j : taken structures from ≡ from = cc in
+        let i : taken region_structures to ≡ to = cc in
+        let j : taken region_structures from ≡ from = cc in
         let z = assign_is g to from v p in
         assign_taken w names g to from z.0 z.1 v (taken_is to z.0 i z.2) (taken_is from z.1 j z.3) z.4
 
-    all_are : (es : Expressions) (vs : List Value) → all_taken structures es ≡ es → judge_all g es ≡ Of vs → AllTaken w names es vs
+    all_are : (es : Expressions) (vs : List Value) → all_taken region_structures es ≡ es → judge_all g es ≡ Of vs → AllTaken w names es vs
     all_are NoExpressions vs t p = subst (λ (ys : List Value). AllTaken w names NoExpressions ys) (of_is [] vs p) tt
     all_are (MoreExpressions e es) vs t p =
-        let i : taken structures e ≡ e = cc in
-        let j : all_taken structures es ≡ es = cc in
+        let i : taken region_structures e ≡ e = cc in
+        let j : all_taken region_structures es ≡ es = cc in
         let z = both_is (judge g e) (judge_all g es) more vs p in
         subst (λ (ys : List Value). AllTaken w names (MoreExpressions e es) ys) (of_is (z.0 ∷ z.1) vs z.4) (taken_is e z.0 i z.2, all_are es z.1 j z.3)
 
-    tests_are : (es : Expressions) (a : Verdict Value) (v : Value) → all_taken structures es ≡ es → judge_tests g a es ≡ Of v → AreTested es a v
+    tests_are : (es : Expressions) (a : Verdict Value) (v : Value) → all_taken region_structures es ≡ es → judge_tests g a es ≡ Of v → AreTested es a v
     tests_are NoExpressions a v t p = p
     tests_are (MoreExpressions e es) a v t p =
-        let i : taken structures e ≡ e = cc in
-        let j : all_taken structures es ≡ es = cc in
+        let i : taken region_structures e ≡ e = cc in
+        let j : all_taken region_structures es ≡ es = cc in
         let b : Verdict Value = both a (judge g e) tested_both in
         let z = tests_first g b es v p in
         let y = both_is a (judge g e) tested_both z.0 z.1 in
         tested_more e es a y.0 y.1 z.0 v y.2 (taken_is e y.1 i y.3) y.4 z.1 (tests_are es b v j p)
 
-    links_are : (es : Links) (a : Verdict Value) (v : Value) → links_taken structures es ≡ es → ((x : Value) → a ≡ Of x → IsKnownValue w.structs x.type)
+    links_are : (es : Links) (a : Verdict Value) (v : Value) → links_taken region_structures es ≡ es → ((x : Value) → a ≡ Of x → IsKnownValue w.structs x.type)
         → judge_links g a es ≡ Of v → AreLinked es a v
     links_are NoLinks a v t n p = p
     links_are (MoreLinks o e es) a v t n p =
-        let i : taken structures e ≡ e = cc in
-        let j : links_taken structures es ≡ es = cc in
+        let i : taken region_structures e ≡ e = cc in
+        let j : links_taken region_structures es ≡ es = cc in
         let b : Verdict Value = both a (judge g e) (applied g o) in
         let z = links_first g b es v p in
         let y = both_is a (judge g e) (applied g o) z.0 z.1 in

@@ -7,7 +7,7 @@ use Rattle.cyc_tree.specs.declared.expression.Operator.TheVariants as operator
 use Rattle.cyc_tree.specs.declared.expression.Prefix.{Prefix}
 use Rattle.cyc_tree.specs.declared.expression.Prefix.TheVariants as prefix
 use Rattle.cyc_tree.specs.Tree.{Expression}
-use Rattle.source_lowering.specs.Lowerable.{IsNoStruct, IsStructShape, Takes, TakesAssigned, TakesPlace, TakesRun, TakesWhole}
+use Rattle.source_lowering.specs.Lowerable.{IsNoStruct, Takes, TakesAssigned, TakesRun, TakesWhole}
 use Rattle.source_lowering.specs.Lowered.{Named, static_shape}
 use Rattle.source_meaning.specs.Memory.{AsInt, IntegerType}
 use Rattle.source_meaning.specs.Operators.{operator_shape}
@@ -15,11 +15,13 @@ use Rattle.source_meaning.specs.Shapes as shapes
 use Rattle.source_meaning.specs.Shapes.{IntShape, Shape, StructShape, pointee}
 use Rattle.source_meaning.specs.Steps.{World}
 use Rattle.source_typing.specs.Converts.{Converts, IsInteger}
-use Rattle.source_typing.specs.Operators.{applied_to, compared, compared_thin, fat_moved, if_equality, integers_joined, is_equality, is_move, on_integers, prefixed, promoted, signed}
+use Rattle.source_typing.specs.Operators.{applied_to, compared, compared_thin, fat_moved, if_equality, integers_joined}
+use Rattle.source_typing.specs.Operators.{is_equality, is_move, on_integers, prefixed, promoted, signed}
 use Rattle.source_typing.specs.Places.{address, address_of, assigned, assigned_in, assigned_type}
 use Rattle.source_typing.specs.Regions.{Region}
 use Rattle.source_typing.specs.Scope.{Env, In, InBlock, Nowhere, Seat, Value, is_place, value}
-use Rattle.source_typing.specs.Types.{Char, Fat, Handle, Int, Key, Null, StaticType, Struct, Thin, Union, Unique, Unsigned, Void, integer_type, is_integer, is_null, is_pointer, is_same, is_testable, shape_of}
+use Rattle.source_typing.specs.Types.{Char, Fat, Handle, Int, Key, Null, StaticType, Struct, Thin, Union}
+use Rattle.source_typing.specs.Types.{Unique, Unsigned, Void, integer_type, is_integer, is_null, is_pointer, is_same, is_testable, shape_of}
 use Rattle.source_typing.specs.Verdicts.{Of, after, if_fits}
 use Rattle.source_typing.proofs.Inversion.{unless_is}
 use Rattle.source_typing.proofs.OperatorsFit.{NullWith, OnFat, OnIntegers, OnThin, Operates, WithNull, signed_is, tested_is}
@@ -27,7 +29,7 @@ use Rattle.source_typing.proofs.PlacesFit.{PointsTo, assigned_is, contents_is}
 use Rattle.source_safety.proofs.Integers.{integer_is, on_integers_is, operator_shaped}
 use Rattle.source_safety.proofs.Pointers.{equality_shape}
 use Rattle.source_safety.proofs.WordRules.{value_of}
-use Rattle.judged_sources.proofs.Known.{IsKnown, IsKnownValue, IsStruct, IsWord, converts_struct, converts_word, known_value, testable_word, word_shape}
+use Rattle.judged_sources.proofs.Known.{IsKnown, IsKnownValue, IsWord, converts_struct, converts_word, known_value, testable_word, word_shape}
 use Rattle.judged_sources.proofs.LoweredForms.{IsTaken, TakenAs, TakenPlace, TakenWord, taken_place, taken_word, word_as, word_is}
 use Rattle.judged_sources.proofs.LoweredCalls.{struct_taken}
 
@@ -126,9 +128,21 @@ are_joined structs g o s t u (OnIntegers a b) k =
     }
 are_joined structs g o s t u (OnFat a b) k = absurd k
 are_joined structs g o s t u (WithNull e p) k =
-    record { first = pointer_word s p; second = tt; word = tt; known = tt; shape = equality_shape o (shape_of s) (shapes.ThinShape true shapes.Shared shapes.VoidShape) e }
+    record {
+      first = pointer_word s p;
+      second = tt;
+      word = tt;
+      known = tt;
+      shape = equality_shape o (shape_of s) (shapes.ThinShape true shapes.Shared shapes.VoidShape) e;
+    }
 are_joined structs g o s t u (NullWith e p) k =
-    record { first = tt; second = pointer_word t p; word = tt; known = tt; shape = equality_shape o (shapes.ThinShape true shapes.Shared shapes.VoidShape) (shape_of t) e }
+    record {
+      first = tt;
+      second = pointer_word t p;
+      word = tt;
+      known = tt;
+      shape = equality_shape o (shapes.ThinShape true shapes.Shared shapes.VoidShape) (shape_of t) e;
+    }
 are_joined structs g o s t u (OnThin e l q z) k =
     record { first = tt; second = tt; word = tt; known = tt; shape = equality_shape o (shape_of s) (shape_of t) e }
 
@@ -178,7 +192,8 @@ module _ (w : World) (names : List Named) where
       by (Thin n r t) k d q =
           let p : TakenPlace w names (Expression.Prefixed at prefix.Dereference e) t =
           record { takes = d.takes; shape = ap pointee d.shape; known = k.1 } in
-          taken_place w names (Expression.Prefixed at prefix.Dereference e) v t q.1.0 (λ z. let y : In r ≡ InBlock = sym q.1.1 ∙ z in cc) p (known_value w.structs t k.1) (λ z. (d.takes, z)) (λ z. z) (λ z. z)
+          taken_place w names (Expression.Prefixed at prefix.Dereference e) v t q.1.0
+          (λ z. let y : In r ≡ InBlock = sym q.1.1 ∙ z in cc) p (known_value w.structs t k.1) (λ z. (d.takes, z)) (λ z. z) (λ z. z)
       by (Fat r t) k d q = absurd k
       by (Unique n t) k d q = absurd (let z : shapes.Alone ≡ shapes.Shared = k.0 in cc)
       by _ k d q = absurd q
@@ -276,7 +291,8 @@ module _ (w : World) (names : List Named) where
       same : (t : StaticType) → a.type ≡ t → TakenPlace w names to t → Converts g.regions c.type t → IsWord t → v.type ≡ t
           → IsTaken w names (Expression.Assign to from) v
       same t z p q i e =
-          word (subst (λ y. TakenPlace w names to y) (sym z) p) (subst (λ y. Converts g.regions c.type y) (sym z) q) (subst (λ y. IsWord y) (sym z) i) (e ∙ sym z)
+          word (subst (λ y. TakenPlace w names to y) (sym z) p) (subst (λ y. Converts g.regions c.type y) (sym z) q) (subst (λ y. IsWord y) (sym z) i)
+          (e ∙ sym z)
 
       by : (t : StaticType) → a.type ≡ t → TakenPlace w names to t → Converts g.regions c.type t → v.type ≡ assigned_type g t
           → IsTaken w names (Expression.Assign to from) v

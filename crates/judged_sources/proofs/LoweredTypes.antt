@@ -33,7 +33,7 @@ use Rattle.source_meaning.specs.Shapes.{
 use Rattle.source_safety.specs.Entries.{IsObjectType, IsPlain}
 use Rattle.source_typing.specs.Faults.{Fault}
 use Rattle.source_typing.specs.Tables.{Entry, OfBuiltin, OfFunction, OfOther, OfTag, OfValue, Tables, Tag, find, has_beginning}
-use Rattle.source_typing.specs.Taken.{takes_base, takes_pointers, takes_type, structures}
+use Rattle.source_typing.specs.Taken.{region_structures, takes_base, takes_pointers, takes_type}
 use Rattle.source_typing.specs.Types.{Char, Handle, Int, PartialType, StaticType, Struct, Thin, Unsigned, Void, shape_of}
 use Rattle.source_typing.specs.Verdicts.{Faulty, Verdict, after, faults_of}
 use Rattle.source_typing.specs.Written.{Found, tag_of, written_on, written_with}
@@ -141,12 +141,12 @@ module _ (structs : List Layout) where
       all_reached ps (signed_shape p.sign (owner_of p.region) s) k.1 (signed_reached p.sign p.region s k.0.0 k.0.1 h)
 
   -- what is written of a type that is taken
-  pub type_reached : (t : TypeName) → takes_type structures t ≡ true → BaseThere structs t.base → IsReached structs (settled (written t))
+  pub type_reached : (t : TypeName) → takes_type region_structures t ≡ true → BaseThere structs t.base → IsReached structs (settled (written t))
   type_reached t e h =
-      let a = and_is (takes_base structures t.base) (takes_pointers structures t.pointers) e in
-      all_reached t.pointers (base_shape t.base) (thin_pointers_are t.pointers a.1) (by t.base a.0 h)
+      let a = and_is (takes_base region_structures t.base) (takes_pointers region_structures t.pointers) e in
+      all_reached t.pointers (base_shape t.base) (thin_pointers_are region_structures refl refl t.pointers a.1) (by t.base a.0 h)
     where
-      by : (b : tree.Base) → takes_base structures b ≡ true → BaseThere structs b → IsReached structs (settled (base_shape b))
+      by : (b : tree.Base) → takes_base region_structures b ≡ true → BaseThere structs b → IsReached structs (settled (base_shape b))
       by tree.Int q h = tt
       by tree.Unsigned q h = tt
       by tree.Char q h = tt
@@ -157,7 +157,7 @@ module _ (structs : List Layout) where
       by (tree.Key r) q h = absurd cc
 
   -- and of an object's
-  pub written_known : (t : TypeName) (u : StaticType) → takes_type structures t ≡ true → BaseThere structs t.base → IsObjectType u
+  pub written_known : (t : TypeName) (u : StaticType) → takes_type region_structures t ≡ true → BaseThere structs t.base → IsObjectType u
       → settled (written t) ≡ shape_of u → IsKnown structs (shape_of u)
   written_known t u e h o s = reached_known structs u o (subst (λ z. IsReached structs z) s (type_reached t e h))
 
@@ -174,7 +174,7 @@ module _ (structs : List Layout) where
   known_under (p ∷ ps) s k h =
       signed_under p.sign p.region s k.0.0 (known_under ps (signed_shape p.sign (owner_of p.region) s) k.1 h)
 
-  object_base : (b : tree.Base) → takes_base structures b ≡ true → IsKnown structs (settled (base_shape b)) → IsObjectBase b
+  object_base : (b : tree.Base) → takes_base region_structures b ≡ true → IsKnown structs (settled (base_shape b)) → IsObjectBase b
   object_base tree.Int q h = tt
   object_base tree.Unsigned q h = tt
   object_base tree.Char q h = tt
@@ -185,19 +185,19 @@ module _ (structs : List Layout) where
   object_base (tree.Key r) q h = absurd h
 
   -- the type of a variable
-  pub object_type : (t : TypeName) (u : StaticType) → takes_type structures t ≡ true → BaseThere structs t.base → IsObjectType u
+  pub object_type : (t : TypeName) (u : StaticType) → takes_type region_structures t ≡ true → BaseThere structs t.base → IsObjectType u
       → settled (written t) ≡ shape_of u → lowering.IsObjectType structs t
   object_type t u e h o s =
-      let a = and_is (takes_base structures t.base) (takes_pointers structures t.pointers) e in
+      let a = and_is (takes_base region_structures t.base) (takes_pointers region_structures t.pointers) e in
       let k : IsKnown structs (settled (written t)) = subst (λ z. IsKnown structs z) (sym s) (written_known t u e h o s) in
       record {
-        pointers = thin_pointers_are t.pointers a.1;
-        base = object_base t.base a.0 (known_under t.pointers (base_shape t.base) (thin_pointers_are t.pointers a.1) k);
+        pointers = thin_pointers_are region_structures refl refl t.pointers a.1;
+        base = object_base t.base a.0 (known_under t.pointers (base_shape t.base) (thin_pointers_are region_structures refl refl t.pointers a.1) k);
         known = reached_in structs (settled (written t)) (type_reached t e h);
       }
 
   -- that of a parameter
-  pub word_type : (t : TypeName) (u : StaticType) → takes_type structures t ≡ true → BaseThere structs t.base → IsObjectType u → IsWord u
+  pub word_type : (t : TypeName) (u : StaticType) → takes_type region_structures t ≡ true → BaseThere structs t.base → IsObjectType u → IsWord u
       → settled (written t) ≡ shape_of u → lowering.IsWordType t
   word_type t u e h o w s =
       let k : lowering.IsObjectType structs t = object_type t u e h o s in
@@ -218,11 +218,12 @@ no_int : (s : Shape) → IsPointerShape s → settled s ≡ IntShape → ⊥
 no_int (ThinShape b o s) h e = cc
 no_int _ h e = h
 
-void_written : (t : TypeName) → takes_type structures t ≡ true → settled (written t) ≡ VoidShape → IsVoidType t
+void_written : (t : TypeName) → takes_type region_structures t ≡ true → settled (written t) ≡ VoidShape → IsVoidType t
 void_written t e s =
-    let a = and_is (takes_base structures t.base) (takes_pointers structures t.pointers) e in by t.base t.pointers a.0 (thin_pointers_are t.pointers a.1) s
+    let a = and_is (takes_base region_structures t.base) (takes_pointers region_structures t.pointers) e in
+    by t.base t.pointers a.0 (thin_pointers_are region_structures refl refl t.pointers a.1) s
   where
-    by : (b : tree.Base) (ps : List Pointer) → takes_base structures b ≡ true → AreThin ps
+    by : (b : tree.Base) (ps : List Pointer) → takes_base region_structures b ≡ true → AreThin ps
         → settled (written (record { at = t.at; base = b; pointers = ps })) ≡ VoidShape → IsVoidType (record { at = t.at; base = b; pointers = ps })
     by b (p ∷ ps) q k s = absurd (no_void (pointed (p ∷ ps) (base_shape b)) (pointers_shape p ps b k) s)
     by tree.Void [] q k s = record { pointers = refl; base = tt }
@@ -234,11 +235,12 @@ void_written t e s =
     by (tree.Handle r) [] q k s = absurd cc
     by (tree.Key r) [] q k s = absurd cc
 
-pub int_written : (t : TypeName) → takes_type structures t ≡ true → settled (written t) ≡ IntShape → IsIntType t
+pub int_written : (t : TypeName) → takes_type region_structures t ≡ true → settled (written t) ≡ IntShape → IsIntType t
 int_written t e s =
-    let a = and_is (takes_base structures t.base) (takes_pointers structures t.pointers) e in by t.base t.pointers a.0 (thin_pointers_are t.pointers a.1) s
+    let a = and_is (takes_base region_structures t.base) (takes_pointers region_structures t.pointers) e in
+    by t.base t.pointers a.0 (thin_pointers_are region_structures refl refl t.pointers a.1) s
   where
-    by : (b : tree.Base) (ps : List Pointer) → takes_base structures b ≡ true → AreThin ps
+    by : (b : tree.Base) (ps : List Pointer) → takes_base region_structures b ≡ true → AreThin ps
         → settled (written (record { at = t.at; base = b; pointers = ps })) ≡ IntShape → IsIntType (record { at = t.at; base = b; pointers = ps })
     by b (p ∷ ps) q k s = absurd (no_int (pointed (p ∷ ps) (base_shape b)) (pointers_shape p ps b k) s)
     by tree.Int [] q k s = record { pointers = refl; base = refl }
@@ -251,7 +253,7 @@ int_written t e s =
     by (tree.Key r) [] q k s = absurd cc
 
 -- the type of a result
-pub result_takes : (structs : List Layout) (t : TypeName) (u : StaticType) → takes_type structures t ≡ true → BaseThere structs t.base → IsPlain u
+pub result_takes : (structs : List Layout) (t : TypeName) (u : StaticType) → takes_type region_structures t ≡ true → BaseThere structs t.base → IsPlain u
     → IsGiven structs u → settled (written t) ≡ shape_of u → TakesResult t
 result_takes structs t Void e h o w s = GivesNothing (void_written t e s)
 result_takes structs t Int e h o w s = GivesWord (word_type structs t Int e h o w.0 s)
@@ -275,16 +277,16 @@ begins_first g (Handle r) o e = absurd cc
 begins_first g _ o e = absurd o
 
 -- an owner that a type leaves open isn't unique
-pub type_open : (t : TypeName) → takes_type structures t ≡ true → IsOpen (written t)
+pub type_open : (t : TypeName) → takes_type region_structures t ≡ true → IsOpen (written t)
 type_open t e =
-    let a = and_is (takes_base structures t.base) (takes_pointers structures t.pointers) e in
-    all_open t.pointers (base_shape t.base) (thin_pointers_are t.pointers a.1) (by t.base a.0)
+    let a = and_is (takes_base region_structures t.base) (takes_pointers region_structures t.pointers) e in
+    all_open t.pointers (base_shape t.base) (thin_pointers_are region_structures refl refl t.pointers a.1) (by t.base a.0)
   where
     all_open : (ps : List Pointer) (s : Shape) → AreThin ps → IsOpen s → IsOpen (pointed ps s)
     all_open [] s k h = h
     all_open (p ∷ ps) s k h = all_open ps (signed_shape p.sign (owner_of p.region) s) k.1 (signed_open p.sign p.region s k.0.0 k.0.1 h)
 
-    by : (b : tree.Base) → takes_base structures b ≡ true → IsOpen (base_shape b)
+    by : (b : tree.Base) → takes_base region_structures b ≡ true → IsOpen (base_shape b)
     by tree.Int q = tt
     by tree.Unsigned q = tt
     by tree.Char q = tt

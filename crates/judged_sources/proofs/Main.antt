@@ -2,7 +2,7 @@
 use Rattle.std.specs.Prelude.{bytes_eq, codes, if◌then◌else◌, length}
 use Rattle.std.proofs.Common.{◌≡◌, ℕ, suc, ◌<◌, Bool, true, false, Option, Some, List, [], ◌∷◌, refl, ap, ◌∙◌, arith}
 use Rattle.cyc_tree.specs.Tree as tree
-use Rattle.cyc_tree.specs.Tree.{Item, Program}
+use Rattle.cyc_tree.specs.Tree.{Item}
 use Rattle.source_meaning.specs.Calls.{function_of}
 use Rattle.source_meaning.specs.Steps.{Routine}
 use Rattle.source_lowering.specs.Lowered.{number_of}

@@ -38,7 +38,7 @@ named_known n g h k x = by (bytes_eq n.name x) (k x)
 
 struct_known : (s : tree.Structure) (n : Named) → StructKnown s n → IsKnownEntry n.entry
 struct_known s n h =
-    subst (λ (z : Named). IsKnownEntry z.entry) (sym h.is) (h.good.sound, h.good.no_union, h.good.no_regions)
+    subst (λ (z : Named). IsKnownEntry z.entry) (sym h.is) (h.good.sound, h.good.no_union)
 
 other_known : (x : tree.Name) (n : Named) → n ≡ named x OfOther → IsKnownEntry n.entry
 other_known x n e = subst (λ (z : Named). IsKnownEntry z.entry) (sym e) tt

@@ -1,5 +1,5 @@
--- A program of integers, thin pointers and structs in which the rules find no fault is in order by the rules' own tables: so it is never stuck, and it has its
--- `main`.
+-- A program of integers, thin pointers, structs and lexical regions in which the rules find no fault is in order by the rules' own tables: so it is never
+-- stuck, and it has its `main`.
 use Rattle.std.specs.Prelude.{bytes_eq, codes, if◌then◌else◌, length, map}
 use Rattle.std.proofs.Common.{◌≡◌, ℕ, ◌<◌, Bool, true, false, inl, inr, Option, Some, List, [], ◌∷◌, refl, sym, subst, ap, ◌∙◌}
 use Rattle.std.proofs.lemmas.List.{length-map}
@@ -32,13 +32,13 @@ use Rattle.source_typing.specs.Tables.{
   Unknown,
   find,
 }
-use Rattle.source_typing.specs.Taken.{structures}
+use Rattle.source_typing.specs.Taken.{with_regions}
 use Rattle.source_typing.specs.Types.{StaticType, shape_of}
 use Rattle.source_typing.proofs.TakenOperands.{taken_has_operands}
 use Rattle.source_safety.proofs.Never.{never_stuck}
 use Rattle.source_safety.proofs.Same.{judged_same}
 use Rattle.judged_sources.specs.Good.{AllGood, BodiesJudged, IsGoodEntry, IsGoodTag}
-use Rattle.judged_sources.specs.Laws.{AcceptedAreJudged, AcceptedAreNeverStuck, AcceptedHaveMain}
+use Rattle.judged_sources.specs.Laws.{AcceptedAreJudged, AcceptedAreNeverStuck, AcceptedHaveMain, RegionsAreJudged, RegionsAreNeverStuck}
 use Rattle.judged_sources.proofs.StructsFound.{StructsFound, not_made, structs_found}
 use Rattle.judged_sources.proofs.AlignedTables.{AreAligned, tables_aligned}
 use Rattle.judged_sources.proofs.Found.{AllKnown, FunctionFound, VariableFound, all_known, find_function, find_variable, globals_judged}
@@ -49,6 +49,7 @@ use Rattle.judged_sources.proofs.GoodTables.{AreHeaded, IsClean, all_headed, is_
 use Rattle.judged_sources.proofs.GoodTypes.{KnowsTags}
 use Rattle.judged_sources.proofs.Named.{builtins_known, entries_known}
 use Rattle.judged_sources.proofs.Main.{MainHere, find_main, number_below}
+use Rattle.judged_sources.proofs.MoreTaken.{faults_more}
 
 -- ---- names
 
@@ -76,7 +77,7 @@ entry_by es x a c = (if a then Some (OfBuiltin 0) else (if c then Some (OfBuilti
 
 -- ---- a program in order, by its own tables
 
-module _ (bodies : BodiesJudged) (p : Program) (e : program_faults structures p ≡ []) where
+module _ (bodies : BodiesJudged) (p : Program) (e : program_faults with_regions p ≡ []) where
   abbrev tables : Tables
   tables = tables_of false p
 
@@ -89,8 +90,8 @@ module _ (bodies : BodiesJudged) (p : Program) (e : program_faults structures p 
   abbrev world : World
   world = world_of p
 
-  clean : IsClean structures p
-  clean = is_clean_program structures p e
+  clean : IsClean with_regions p
+  clean = is_clean_program with_regions p e
 
   pub found : StructsFound p
   found = structs_found p clean.taken clean.tags clean.names
@@ -108,7 +109,7 @@ module _ (bodies : BodiesJudged) (p : Program) (e : program_faults structures p 
   good = tables_good heads (judged_tags p) p tags headed
 
   pub known : AllKnown tables heads 0 (judged_tags p) p
-  known = all_known bodies tables heads 0 (judged_tags p) p good same headed clean.taken (taken_has_operands structures p clean.taken) clean.items
+  known = all_known bodies tables heads 0 (judged_tags p) p good same headed clean.taken (taken_has_operands with_regions p clean.taken) clean.items
 
   -- ---- names
 
@@ -238,11 +239,18 @@ module _ (bodies : BodiesJudged) (p : Program) (e : program_faults structures p 
 -- ---- the laws
 
 module _ (bodies : BodiesJudged) where
+  pub regions_judged : RegionsAreJudged
+  regions_judged p e = judged bodies p e
+
+  pub regions_never_stuck : RegionsAreNeverStuck
+  regions_never_stuck p e = never_stuck p (tables_of false p) (regions_judged p e)
+
+  -- what is taken today is taken with regions
   pub structs_judged : AcceptedAreJudged
-  structs_judged p e = judged bodies p e
+  structs_judged p e = judged bodies p (faults_more p e)
 
   pub structs_never_stuck : AcceptedAreNeverStuck
-  structs_never_stuck p e = never_stuck p (tables_of false p) (structs_judged p e)
+  structs_never_stuck p e = regions_never_stuck p (faults_more p e)
 
   pub structs_have_main : AcceptedHaveMain
-  structs_have_main p e = main_below bodies p e
+  structs_have_main p e = main_below bodies p (faults_more p e)

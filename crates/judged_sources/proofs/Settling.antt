@@ -1,20 +1,17 @@
 -- Types as they are written: where no owner is left to be unique, what a local's initializer has doesn't change their shape.
 use Rattle.std.proofs.Common.{◌≡◌, refl, ap, ◌∙◌}
 use Rattle.source_meaning.specs.Shapes.{
-  Alone,
   ArrayShape,
   CharShape,
   FatShape,
   HandleShape,
   IntShape,
   KeyShape,
-  Owner,
   Shape,
   Shared,
   StructShape,
   ThinShape,
   UnionShape,
-  Unsaid,
   UnsignedShape,
   VoidShape,
   first_owner,
@@ -22,6 +19,7 @@ use Rattle.source_meaning.specs.Shapes.{
   settled_by,
   shared_owner,
 }
+use Rattle.source_lowering.proofs.WrittenTypes.{first_shared}
 
 -- no pointer of these is fat or unique; an owner may be left open
 abbrev pub IsOpen : Shape → Type 0
@@ -29,6 +27,7 @@ IsOpen IntShape = Unit {0}
 IsOpen UnsignedShape = Unit {0}
 IsOpen CharShape = Unit {0}
 IsOpen VoidShape = Unit {0}
+IsOpen HandleShape = Unit {0}
 IsOpen (StructShape tag) = Unit {0}
 IsOpen (ThinShape may_be_null owner to) = (shared_owner owner ≡ Shared) × IsOpen to
 IsOpen _ = ⊥
@@ -43,11 +42,6 @@ IsSharedShape HandleShape = Unit {0}
 IsSharedShape (StructShape tag) = Unit {0}
 IsSharedShape (ThinShape may_be_null owner to) = (owner ≡ Shared) × IsSharedShape to
 IsSharedShape _ = ⊥
-
-first_shared : (o : Owner) → first_owner o Shared ≡ shared_owner o
-first_shared Shared = refl
-first_shared Alone = refl
-first_shared Unsaid = refl
 
 pub settled_same : (s from : Shape) → IsOpen s → IsSharedShape from → settled_by s from ≡ settled s
 settled_same IntShape from h g = refl
@@ -67,7 +61,7 @@ settled_same (ThinShape m o to) (StructShape tag) h g = refl
 settled_same (ThinShape m o to) _ h g = absurd g
 settled_same VoidShape from h g = refl
 settled_same (FatShape to) from h g = absurd h
-settled_same HandleShape from h g = absurd h
+settled_same HandleShape from h g = refl
 settled_same KeyShape from h g = absurd h
 settled_same (UnionShape tag) from h g = absurd h
 settled_same (ArrayShape count of) from h g = absurd h

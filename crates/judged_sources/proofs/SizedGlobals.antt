@@ -11,7 +11,7 @@ use Rattle.source_typing.specs.Globals.{count_of, global_faults, global_size, gl
 use Rattle.source_typing.specs.Programs.{items_from}
 use Rattle.source_typing.specs.Scope.{Env, at_item}
 use Rattle.source_typing.specs.Tables.{Tables}
-use Rattle.source_typing.specs.Taken.{constant_forms, item_forms, item_taken, only_taken, structures}
+use Rattle.source_typing.specs.Taken.{constant_forms, item_forms, item_taken, only_taken, with_regions}
 use Rattle.source_typing.proofs.Inversion.{none_of_both}
 use Rattle.judged_sources.proofs.Globals.{GlobalGood, global_good, size_by_entry}
 use Rattle.judged_sources.proofs.GoodTypes.{KnowsTags}
@@ -35,18 +35,19 @@ module _ (w : World) (g : Tables) (structs : layouts_of false g ≡ w.structs) (
       ∙ (sym (ap (λ (o : Option ℕ). variable_size g o h.type) h.uncounted)
       ∙ sym (size_by_entry s x h.type (global_faults s x) (count_of x.initial) (global_type s x) h.uncounted h.entry)))
 
-  pub globals_sized : (i : ℕ) (is : List Item) → KnowsTags g → only_taken structures is ≡ is → constant_forms structures is ≡ [] → items_from false g i is ≡ []
+  pub globals_sized : (i : ℕ) (is : List Item) → KnowsTags g → only_taken with_regions is ≡ is → constant_forms with_regions is ≡ []
+      → items_from false g i is ≡ []
       → AreSized w g i is
   globals_sized i [] tags t f p = tt
-  globals_sized i (tree.StructItem s ∷ is) tags t f p = let b : only_taken structures is ≡ is = cc in (tt, globals_sized (suc i) is tags b f p)
-  globals_sized i (tree.UnionItem s ∷ is) tags t f p = let b : only_taken structures is ≡ is = cc in (tt, globals_sized (suc i) is tags b f p)
+  globals_sized i (tree.StructItem s ∷ is) tags t f p = let b : only_taken with_regions is ≡ is = cc in (tt, globals_sized (suc i) is tags b f p)
+  globals_sized i (tree.UnionItem s ∷ is) tags t f p = let b : only_taken with_regions is ≡ is = cc in (tt, globals_sized (suc i) is tags b f p)
   globals_sized i (tree.GlobalItem x ∷ is) tags t f p =
-      let a : item_taken structures (tree.GlobalItem x) ≡ tree.GlobalItem x = cc in
-      let b : only_taken structures is ≡ is = cc in
-      let c = none_of_both (item_forms structures (tree.GlobalItem x)) (constant_forms structures is) f in
+      let a : item_taken with_regions (tree.GlobalItem x) ≡ tree.GlobalItem x = cc in
+      let b : only_taken with_regions is ≡ is = cc in
+      let c = none_of_both (item_forms with_regions (tree.GlobalItem x)) (constant_forms with_regions is) f in
       let d = none_of_both (global_faults (at_item false g i) x) (items_from false g (suc i) is) p in
       (global_sized i x (global_good g i x tags a c.0 d.0), globals_sized (suc i) is tags b c.1 d.1)
   globals_sized i (tree.FunctionItem x ∷ is) tags t f p =
-      let b : only_taken structures is ≡ is = cc in
+      let b : only_taken with_regions is ≡ is = cc in
       let d = none_of_both (function_faults false g i x) (items_from false g (suc i) is) p in
       (tt, globals_sized (suc i) is tags b f d.1)

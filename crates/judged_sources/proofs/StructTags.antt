@@ -4,7 +4,7 @@ use Rattle.std.specs.Prelude.{◌+◌, ◌||◌, bytes_eq, codes, if◌then◌el
 use Rattle.std.proofs.lemmas.Bool.{false≢true, ltb-true, not-true}
 use Rattle.std.proofs.lemmas.Slice.Eq.{bytes_eq-Decides}
 use Rattle.cyc_tree.specs.Tree as tree
-use Rattle.cyc_tree.specs.Tree.{Item, Program}
+use Rattle.cyc_tree.specs.Tree.{Item}
 use Rattle.source_lowering.specs.Lowerable.{AreStructs}
 use Rattle.source_meaning.specs.Places.{or_else}
 use Rattle.source_meaning.specs.Programs.{layout_of, structs_from}
@@ -18,11 +18,13 @@ use Rattle.source_typing.specs.Extents.{layouts_onto}
 use Rattle.source_typing.specs.Faults.{Fault, is_clean, name_rule, test}
 use Rattle.source_typing.specs.Functions.{head_of}
 use Rattle.source_typing.specs.Globals.{global_entry}
-use Rattle.source_typing.specs.Programs.{Judged, all_tag_faults, bare_from, builtins, entries, entries_with, first_entry, first_from, is_seen, judged_tag, judged_tags, name_of, named}
-use Rattle.source_typing.specs.Programs.{second_names, tables_of}
+use Rattle.source_typing.specs.Programs.{Judged, all_tag_faults, builtins, entries, entries_with, first_entry, first_from, is_seen, judged_tag, name_of, named}
+use Rattle.source_typing.specs.Programs.{second_names}
 use Rattle.source_typing.specs.Scope.{at_item}
 use Rattle.source_typing.specs.Tables.{Entry, Named, OfFunction, OfOther, OfTag, Tables, Tag, as_tag, find, parts_of_tag}
 use Rattle.source_typing.specs.Tags.{tag_faults, tag_parts, tag_scope}
+use Rattle.source_typing.specs.Taken.{with_regions}
+use Rattle.source_typing.proofs.Entries.{entries_more, find_both, judged_name}
 use Rattle.source_typing.proofs.Inversion.{none_of_both, test_is}
 use Rattle.judged_sources.proofs.GoodTypes.{KnowsTags, MeansKnown}
 use Rattle.judged_sources.proofs.HeadTags.{TablesAlike}
@@ -31,37 +33,24 @@ use Rattle.judged_sources.proofs.LoweredTypes.{TagsThere}
 use Rattle.judged_sources.proofs.StructSizes.{AreOnce, same_parts}
 use Rattle.judged_sources.proofs.MemberTypes.{EarlierDeclared, MembersGood, members_are_taken, members_good}
 use Rattle.judged_sources.proofs.Named.{AreNamed, IsNamed, StructKnown, builtins_known, named_known}
-use Rattle.judged_sources.proofs.TagOrder.{AreBare, AreSorted, IsSorted, StructTaken, TagClean, first_known}
-use Rattle.judged_sources.proofs.TagOrder.{alike_step, item_alike, item_bare, item_name, no_names, one_bare, tag_clean}
+use Rattle.judged_sources.proofs.TagOrder.{AreSorted, HasNoHandle, HaveNoHandles, IsSorted, StructTaken, TagClean, first_known}
+use Rattle.judged_sources.proofs.TagOrder.{alike_step, item_alike, parameters_below, tag_clean}
 use Rattle.judged_sources.proofs.Tags.{behind_builtins, judged_list}
 
 -- ---- two tables, one behind the other
 
-found_either : (g h : Tables) (x : List ℕ) → find (g ++ h) x ≡ or_else (find g x) (find h x)
-found_either [] h x = refl
-found_either (n ∷ g) h x = by (bytes_eq n.name x) (found_either g h x)
-  where
-    by : (b : Bool) → find (g ++ h) x ≡ or_else (find g x) (find h x)
-        → (if b then Some n.entry else find (g ++ h) x) ≡ or_else (if b then Some n.entry else find g x) (find h x)
-    by true others = refl
-    by false others = others
-
 either_known : (g h : Tables) → KnowsTags g → KnowsTags h → KnowsTags (g ++ h)
-either_known g h a b x = subst (λ (o : Option Entry). MeansKnown o) (sym (found_either g h x)) (by (find g x) (find h x) (a x) (b x))
+either_known g h a b x = subst (λ (o : Option Entry). MeansKnown o) (sym (find_both g h x)) (by (find g x) (find h x) (a x) (b x))
   where
     by : (o d : Option Entry) → MeansKnown o → MeansKnown d → MeansKnown (or_else o d)
     by None d k l = l
     by (Some e) d k l = k
 
-entries_one : (done : List Judged) (j : Judged) → entries done ++ j.entry ∷ [] ≡ entries (done ++ j ∷ [])
-entries_one [] j = refl
-entries_one (d ∷ done) j = ap (λ (g : Tables). d.entry ∷ g) (entries_one done j)
-
 one_known : (done : List Judged) (j : Judged) → KnowsTags (entries done) → KnowsTags (j.entry ∷ []) → KnowsTags (entries (done ++ j ∷ []))
-one_known done j a b = subst (λ (g : Tables). KnowsTags g) (entries_one done j) (either_known (entries done) (j.entry ∷ []) a b)
+one_known done j a b = subst (λ (g : Tables). KnowsTags g) (sym (entries_more done j)) (either_known (entries done) (j.entry ∷ []) a b)
 
 found_one : (done : List Judged) (j : Judged) (y : List ℕ) → find (entries (done ++ j ∷ [])) y ≡ or_else (find (entries done) y) (find (j.entry ∷ []) y)
-found_one done j y = sym (ap (λ (g : Tables). find g y) (entries_one done j)) ∙ found_either (entries done) (j.entry ∷ []) y
+found_one done j y = ap (λ (g : Tables). find g y) (entries_more done j) ∙ find_both (entries done) (j.entry ∷ []) y
 
 -- ---- what stands earlier
 
@@ -90,7 +79,7 @@ AllDeclared done ds = (x : List ℕ) (t : Tag) → find (entries done) x ≡ Som
 earlier_declared : (h : Tables) (i : ℕ) (done : List Judged) (is : List Item) (s : tree.Structure) (ds : List Declared) → AllDeclared done ds
     → EarlierDeclared (tag_scope (builtins (entries done ++ first_from h i is)) i s) ds
 earlier_declared h i done is s ds k tag t e stands =
-    by (find (entries done) tag) refl (sym (found_either (entries done) (first_from h i is) tag) ∙ behind_builtins (entries done ++ first_from h i is) tag t e)
+    by (find (entries done) tag) refl (sym (find_both (entries done) (first_from h i is) tag) ∙ behind_builtins (entries done ++ first_from h i is) tag t e)
   where
     less : t.order < i
     less = ltb-true t.order i (ap (λ (o : Option Entry). tag_earlier i (as_tag o)) (sym e) ∙ stands)
@@ -153,40 +142,42 @@ not_declared ds seen x h n = by (declares ds x) (h x)
 
 -- ---- one item after another
 
--- what is known once these items are judged
-pub record Outcome (structs : List Layout) (T : Tables) (js : List Judged) (is : List Item) (found : List Layout) (most : ℕ) : Type 0 where
+-- what is known once these items are judged; what lowering wants holds where no struct of the program has a handle, which is `C` here
+pub record Outcome (C : Type 0) (structs : List Layout) (T : Tables) (js : List Judged) (is : List Item) (found : List Layout) (most : ℕ) : Type 0 where
   pub named : AreNamed js is
   pub types : List Declared
   pub in_order : AreInOrder types
   pub laid_out : AreLaidOut T types (structs_from is found)
   pub in_tables : InTables T (structs_from is found)
-  pub lowered : AreStructs [] (structs_from is found) × AllReached structs (structs_from is found)
+  pub lowered : C → AreStructs [] (structs_from is found) × AllReached structs (structs_from is found)
   pub layouts : layouts_onto false found (entries js) ≡ structs_from is found
   pub unions : layouts_onto true [] (entries js) ≡ []
   pub few : length types ≤ most
 
 -- what is known when the i-th item is judged
-pub record State (structs : List Layout) (T h : Tables) (i : ℕ) (done : List Judged) (ds : List Declared) (found : List Layout) (seen : List (List ℕ)) : Type 0 where
+pub record State (C : Type 0) (structs : List Layout) (T h : Tables) (i : ℕ) (done : List Judged) (ds : List Declared) (found : List Layout)
+    (seen : List (List ℕ)) : Type 0 where
   pub known : KnowsTags (entries done)
   pub declared : AllDeclared done ds
   pub in_order : AreInOrder ds
   pub laid_out : AreLaidOut T ds found
   pub in_tables : InTables T found
-  pub laid : StructsLaid structs (entries done) found
+  pub laid : C → StructsLaid structs (entries done) found
   pub seen_all : DeclaredSeen ds seen
   pub few : length ds ≤ i
 
 -- an item without a tag is judged
-other_step : (structs : List Layout) (T h : Tables) (i : ℕ) (done : List Judged) (ds : List Declared) (found : List Layout) (seen : List (List ℕ)) (x : tree.Name) (j : Judged)
-    → j.entry ≡ named x OfOther → State structs T h i done ds found seen → State structs T h (suc i) (done ++ j ∷ []) ds found (x.text ∷ seen)
-other_step structs T h i done ds found seen x j e s = record {
+other_step : (C : Type 0) (structs : List Layout) (T h : Tables) (i : ℕ) (done : List Judged) (ds : List Declared) (found : List Layout)
+    (seen : List (List ℕ)) (x : tree.Name) (j : Judged) → j.entry ≡ named x OfOther → State C structs T h i done ds found seen
+    → State C structs T h (suc i) (done ++ j ∷ []) ds found (x.text ∷ seen)
+other_step C structs T h i done ds found seen x j e s = record {
   known = one_known done j s.known (subst (λ (n : Named). KnowsTags (n ∷ [])) (sym e) (named_known (named x OfOther) [] tt (λ y. tt)));
   declared = λ y t q. by y t (find (entries done) y) refl
       (sym (found_one done j y) ∙ q);
   in_order = s.in_order;
   laid_out = s.laid_out;
   in_tables = s.in_tables;
-  laid = other_laid structs done found x j e s.laid;
+  laid = λ c. other_laid structs done found x j e (s.laid c);
   seen_all = seen_more ds seen x.text s.seen_all;
   few = let l : length ds ≤ i = s.few in omega (arith, l);
 }
@@ -202,7 +193,7 @@ other_step structs T h i done ds found seen x j e s = record {
     by y t None q p = absurd (none y t p)
     by y t (Some d) q p = s.declared y t (q ∙ p)
 
-module _ (structs : List Layout) (T b hs : Tables) (tags : KnowsTags (builtins b)) (program : TagsThere structs (builtins b))
+module _ (C : Type 0) (structs : List Layout) (T b hs : Tables) (tags : KnowsTags (builtins b)) (program : TagsThere structs (builtins b))
     (once : AreOnce (codes "getchar" ∷ codes "putchar" ∷ []) b)
   where
     abbrev h : Tables
@@ -213,26 +204,27 @@ module _ (structs : List Layout) (T b hs : Tables) (tags : KnowsTags (builtins b
     its_entries i done is = entries_with false hs i (judged_list h i done is) is
 
     -- a struct is judged
-    record StructStep (i : ℕ) (done : List Judged) (ds : List Declared) (found : List Layout) (seen : List (List ℕ)) (s : tree.Structure) (j : Judged) : Type 0 where
+    record StructStep (i : ℕ) (done : List Judged) (ds : List Declared) (found : List Layout) (seen : List (List ℕ)) (s : tree.Structure) (j : Judged)
+        : Type 0 where
       known : StructKnown s j.entry
       types : List Declared
-      state : State structs T h (suc i) (done ++ j ∷ []) types (layout_of s ∷ found) (s.tag.text ∷ seen)
+      state : State C structs T h (suc i) (done ++ j ∷ []) types (layout_of s ∷ found) (s.tag.text ∷ seen)
       layout : layouts_onto false found (j.entry ∷ []) ≡ layout_of s ∷ found
 
     struct_step : (i : ℕ) (done : List Judged) (is : List Item) (ds : List Declared) (found : List Layout) (seen : List (List ℕ)) (s : tree.Structure)
-        → AreSorted (tree.StructItem s ∷ is) → TablesAlike (entries done ++ first_from h i (tree.StructItem s ∷ is)) b
+        → AreSorted (tree.StructItem s ∷ is) → (C → HasNoHandle (tree.StructItem s)) → TablesAlike (entries done ++ first_from h i (tree.StructItem s ∷ is)) b
         → second_names seen (tree.StructItem s ∷ is) ≡ [] → KnowsTags (first_from h i (tree.StructItem s ∷ is)) → tag_faults (builtins (entries done ++ first_from h i (tree.StructItem s ∷ is))) i false s ≡ []
         → is_seen seen s.tag.text ≡ false
         → find T s.tag.text ≡ Some (judged_tag (builtins (entries done ++ first_from h i (tree.StructItem s ∷ is))) i (tree.StructItem s)).entry.entry
-        → State structs T h i done ds found seen
+        → State C structs T h i done ds found seen
         → StructStep i done ds found seen s (judged_tag (builtins (entries done ++ first_from h i (tree.StructItem s ∷ is))) i (tree.StructItem s))
-    struct_step i done is ds found seen s sorted alike names first p unseen there st = record {
+    struct_step i done is ds found seen s sorted own alike names first p unseen there st = record {
       known = known;
       types = d ∷ ds;
       layout = ap (λ (ps : List Part). record { tag = s.tag.text; parts = ps } ∷ found)
           (same_parts (tag_parts g i false s) (map part_of s.members) ms.types ms.members);
       state = record {
-        known = one_known done j st.known (named_known j.entry [] (known.good.sound, refl, known.good.no_regions) (λ y. tt));
+        known = one_known done j st.known (named_known j.entry [] (known.good.sound, refl) (λ y. tt));
         declared = λ y t q. by y t (find (entries done) y) refl (sym (found_one done j y) ∙ q);
         in_order = (not_declared ds seen s.tag.text st.seen_all unseen, ms.typed, st.in_order);
         laid_out = (
@@ -241,14 +233,14 @@ module _ (structs : List Layout) (T b hs : Tables) (tags : KnowsTags (builtins b
           st.laid_out,
         );
         in_tables = ((known.tag, there), st.in_tables);
-        laid = struct_laid structs b h T i done is seen ds found s program once sorted alike names st.seen_all st.laid_out
-            (not_declared ds seen s.tag.text st.seen_all unseen) clean ms st.laid;
+        laid = λ c. struct_laid structs b h T i done is seen ds found s program once sorted alike names st.seen_all st.laid_out
+            (not_declared ds seen s.tag.text st.seen_all unseen) clean ms (own c) (st.laid c);
         seen_all = seen_struct ds seen d st.seen_all;
         few = let l : length ds ≤ i = st.few in omega (arith, l);
       };
     }
       where
-        k : StructTaken s
+        k : StructTaken with_regions s
         k = sorted.0
 
         g : Tables
@@ -260,25 +252,32 @@ module _ (structs : List Layout) (T b hs : Tables) (tags : KnowsTags (builtins b
         clean : TagClean g i s
         clean = tag_clean g i s p
 
-        ms : MembersGood (tag_scope g i s) ds s.members
-        ms = members_good (tag_scope g i s) ds s.members (earlier_declared h i done (tree.StructItem s ∷ is) s ds st.declared)
+        ms : MembersGood (length s.regions) (tag_scope g i s) ds s.members
+        ms = members_good (length s.regions) (tag_scope g i s) ds s.members (earlier_declared h i done (tree.StructItem s ∷ is) s ds st.declared)
             (builtins_known (entries done ++ first_from h i (tree.StructItem s ∷ is)) (either_known (entries done) (first_from h i (tree.StructItem s ∷ is)) st.known first))
-            (no_names g i s k) (members_are_taken (tag_scope g i s) s.members k.members clean.members) clean.members
+            (parameters_below g i s) (members_are_taken with_regions (tag_scope g i s) s.members k.members clean.members) clean.members
 
         d : Declared
         d = record { tag = s.tag.text; parts = ms.types }
 
         known : StructKnown s j.entry
         known = record {
-          tag = record { text = s.tag.text; is_union = false; order = i; regions = length s.regions; parts = tag_parts g i false s; sound = is_clean (tag_faults g i false s) };
+          tag = record {
+            text = s.tag.text;
+            is_union = false;
+            order = i;
+            regions = length s.regions;
+            parts = tag_parts g i false s;
+            sound = is_clean (tag_faults g i false s);
+          };
           is = refl;
           good = record {
             sound = ap (λ (fs : List Fault). is_clean fs) p;
             no_union = refl;
-            no_regions = ap (λ (rs : List tree.RegionName). length rs) k.regions;
             types = ms.types;
             parts = members_known (tag_parts g i false s) (map part_of s.members) ms.types ms.members;
             objects = ms.objects;
+            types_below = ms.below;
           };
           text = refl;
         }
@@ -291,25 +290,27 @@ module _ (structs : List Layout) (T b hs : Tables) (tags : KnowsTags (builtins b
         older y true q = refl
         older y false q = q
 
-        by : (y : List ℕ) (t : Tag) (o : Option Entry) → find (entries done) y ≡ o → or_else o (find (j.entry ∷ []) y) ≡ Some (OfTag t) → declares (d ∷ ds) y ≡ true
+        by : (y : List ℕ) (t : Tag) (o : Option Entry) → find (entries done) y ≡ o → or_else o (find (j.entry ∷ []) y) ≡ Some (OfTag t)
+            → declares (d ∷ ds) y ≡ true
         by y t None q r = now y t (bytes_eq s.tag.text y) r
         by y t (Some e) q r = older y (bytes_eq s.tag.text y) (st.declared y t (q ∙ r))
 
     pub all_steps : (i : ℕ) (done : List Judged) (is : List Item) (ds : List Declared) (found : List Layout) (seen : List (List ℕ)) → AreSorted is
-        → TablesAlike (entries done ++ first_from h i is) b → AreBare (entries done) → all_tag_faults (judged_list h i done is) ≡ [] → second_names seen is ≡ []
-        → Unseen T seen (its_entries i done is) → State structs T h i done ds found seen → Outcome structs T (judged_list h i done is) is found (i + length is)
-    all_steps i done [] ds found seen k alike bare p names unseen st = record {
+        → (C → HaveNoHandles is) → TablesAlike (entries done ++ first_from h i is) b → all_tag_faults (judged_list h i done is) ≡ [] → second_names seen is ≡ []
+        → Unseen T seen (its_entries i done is) → State C structs T h i done ds found seen
+        → Outcome C structs T (judged_list h i done is) is found (i + length is)
+    all_steps i done [] ds found seen k own alike p names unseen st = record {
       named = tt;
       types = ds;
       in_order = st.in_order;
       laid_out = st.laid_out;
       in_tables = st.in_tables;
-      lowered = (st.laid.in_order, st.laid.reached);
+      lowered = λ c. ((st.laid c).in_order, (st.laid c).reached);
       layouts = refl;
       unions = refl;
       few = let l : length ds ≤ i = st.few in omega (arith, l);
     }
-    all_steps i done (x ∷ is) ds found seen k alike bare p names unseen st =
+    all_steps i done (x ∷ is) ds found seen k own alike p names unseen st =
         let g : Tables = builtins (entries done ++ first_from h i (x ∷ is)) in
         let j : Judged = judged_tag g i x in
         let c : (j.faults ≡ []) × (all_tag_faults (judged_list h (suc i) (done ++ j ∷ []) is) ≡ []) =
@@ -319,10 +320,9 @@ module _ (structs : List Layout) (T b hs : Tables) (tags : KnowsTags (builtins b
         let new : is_seen seen (name_of x).text ≡ false =
         not-true (is_seen seen (name_of x).text) (test_is (not (is_seen seen (name_of x).text)) name_rule (name_of x).at e.0) in
         let alike2 : TablesAlike (entries (done ++ j ∷ []) ++ first_from h (suc i) is) b =
-        alike_step done j (named (name_of x) (first_entry h i x)) (first_from h (suc i) is) b (item_name g i x) (λ d q. item_alike g h i x d q) alike in
-        let bare2 : AreBare (entries (done ++ j ∷ [])) = one_bare done j bare (item_bare g i x k.0) in
-        by x k.0 c.0 new (first_known b i done (x ∷ is) tags alike bare k p) alike names unseen
-        (λ types layouts later s. all_steps (suc i) (done ++ j ∷ []) is types layouts ((name_of x).text ∷ seen) k.1 alike2 bare2 c.1 e.1 later s)
+        alike_step done j (named (name_of x) (first_entry h i x)) (first_from h (suc i) is) b (judged_name g i x) (λ d q. item_alike g h i x d q) alike in
+        by x k.0 (λ z. (own z).0) c.0 new (first_known b i done (x ∷ is) tags alike k p) alike names unseen
+        (λ types layouts later s. all_steps (suc i) (done ++ j ∷ []) is types layouts ((name_of x).text ∷ seen) k.1 (λ z. (own z).1) alike2 c.1 e.1 later s)
       where
         judged : Item → Judged
         judged x = judged_tag (builtins (entries done ++ first_from h i (x ∷ is))) i x
@@ -334,38 +334,42 @@ module _ (structs : List Layout) (T b hs : Tables) (tags : KnowsTags (builtins b
         Follows : Item → Type 0
         Follows x =
             (types : List Declared) (layouts : List Layout) → Unseen T ((name_of x).text ∷ seen) (others_with x)
-            → State structs T h (suc i) (done ++ judged x ∷ []) types layouts ((name_of x).text ∷ seen)
-            → Outcome structs T (judged_list h (suc i) (done ++ judged x ∷ []) is) is layouts (suc i + length is)
+            → State C structs T h (suc i) (done ++ judged x ∷ []) types layouts ((name_of x).text ∷ seen)
+            → Outcome C structs T (judged_list h (suc i) (done ++ judged x ∷ []) is) is layouts (suc i + length is)
 
         ending : {js : List Judged} {layouts : List Layout} (x : Item) (later : List Layout) → structs_from (x ∷ is) layouts ≡ structs_from is later
-            → layouts_onto false layouts ((judged x).entry ∷ []) ≡ later → layouts_onto true [] ((judged x).entry ∷ []) ≡ [] → IsNamed (judged x) x → Outcome structs T js is later (suc i + length is) → Outcome structs T (judged x ∷ js) (x ∷ is) layouts (i + length (x ∷ is))
+            → layouts_onto false layouts ((judged x).entry ∷ []) ≡ later → layouts_onto true [] ((judged x).entry ∷ []) ≡ []
+            → IsNamed (judged x) x → Outcome C structs T js is later (suc i + length is)
+            → Outcome C structs T (judged x ∷ js) (x ∷ is) layouts (i + length (x ∷ is))
         ending {js = js} {layouts = layouts} x later e l u n o = record {
           named = (n, o.named);
           types = o.types;
           in_order = o.in_order;
           laid_out = subst (λ (ls : List Layout). AreLaidOut T o.types ls) (sym e) o.laid_out;
           in_tables = subst (λ (ls : List Layout). InTables T ls) (sym e) o.in_tables;
-          lowered = subst (λ (ls : List Layout). AreStructs [] ls × AllReached structs ls) (sym e) o.lowered;
+          lowered = λ c. subst (λ (ls : List Layout). AreStructs [] ls × AllReached structs ls) (sym e) (o.lowered c);
           layouts = ap (λ (ls : List Layout). layouts_onto false ls (entries js)) l ∙ (o.layouts ∙ sym e);
           unions = ap (λ (ls : List Layout). layouts_onto true ls (entries js)) u ∙ o.unions;
           few = let l : length o.types ≤ suc i + length is = o.few in omega (arith, l);
         }
 
-        by : (x : Item) → IsSorted x → (judged x).faults ≡ [] → is_seen seen (name_of x).text ≡ false → KnowsTags (first_from h i (x ∷ is))
+        by : (x : Item) → IsSorted x → (C → HasNoHandle x) → (judged x).faults ≡ [] → is_seen seen (name_of x).text ≡ false
+            → KnowsTags (first_from h i (x ∷ is))
             → TablesAlike (entries done ++ first_from h i (x ∷ is)) b → second_names seen (x ∷ is) ≡ [] → Unseen T seen (its_entries i done (x ∷ is)) → Follows x
-            → Outcome structs T (judged_list h i done (x ∷ is)) (x ∷ is) found (i + length (x ∷ is))
-        by (tree.StructItem s) own p new first alike names unseen go =
+            → Outcome C structs T (judged_list h i done (x ∷ is)) (x ∷ is) found (i + length (x ∷ is))
+        by (tree.StructItem s) taken own p new first alike names unseen go =
             let there : find T s.tag.text ≡ Some (judged (tree.StructItem s)).entry.entry =
             unseen s.tag.text new ∙ ap (λ (c : Bool). if c then Some (judged (tree.StructItem s)).entry.entry else find (others_with (tree.StructItem s)) s.tag.text) (same_text s.tag.text) in
-            let r : StructStep i done ds found seen s (judged (tree.StructItem s)) = struct_step i done is ds found seen s (own, k.1) alike names first p new there st in
+            let r : StructStep i done ds found seen s (judged (tree.StructItem s)) =
+            struct_step i done is ds found seen s (taken, k.1) own alike names first p new there st in
             ending (tree.StructItem s) (layout_of s ∷ found) refl r.layout refl r.known
             (go r.types (layout_of s ∷ found) (unseen_step T (others_with (tree.StructItem s)) seen (named s.tag (judged (tree.StructItem s)).entry.entry) unseen) r.state)
-        by (tree.UnionItem s) own p new first alike names unseen go = absurd own
-        by (tree.GlobalItem y) own p new first alike names unseen go =
+        by (tree.UnionItem s) taken own p new first alike names unseen go = absurd taken
+        by (tree.GlobalItem y) taken own p new first alike names unseen go =
             ending (tree.GlobalItem y) found refl refl refl refl
             (go ds found (unseen_step T (others_with (tree.GlobalItem y)) seen (named y.name (global_entry (at_item false hs i) y)) unseen)
-            (other_step structs T h i done ds found seen y.name (judged (tree.GlobalItem y)) refl st))
-        by (tree.FunctionItem f) own p new first alike names unseen go =
+            (other_step C structs T h i done ds found seen y.name (judged (tree.GlobalItem y)) refl st))
+        by (tree.FunctionItem f) taken own p new first alike names unseen go =
             ending (tree.FunctionItem f) found refl refl refl refl
             (go ds found (unseen_step T (others_with (tree.FunctionItem f)) seen (named f.name (OfFunction (head_of false hs f).signature)) unseen)
-            (other_step structs T h i done ds found seen f.name (judged (tree.FunctionItem f)) refl st))
+            (other_step C structs T h i done ds found seen f.name (judged (tree.FunctionItem f)) refl st))

@@ -1,4 +1,4 @@
--- What is known of the names in scope where a phrase of integers, thin pointers and structs is judged, and what is then known of the phrase.
+-- What is known of the names in scope where a phrase of integers, thin pointers, structs and lexical regions is judged, and what is then known of the phrase.
 use Rattle.std.specs.Prelude.{◌≡◌, ℕ, true, false, Some, List, [], ◌∷◌, map}
 use Rattle.cyc_tree.specs.Operands.{ItemsHaveOperands}
 use Rattle.cyc_tree.specs.Tree.{BlockItems, Expression}
@@ -6,12 +6,12 @@ use Rattle.source_safety.specs.Entries.{AreObjects, IsObjectType, IsPlain}
 use Rattle.source_safety.specs.Judged.{ItemsJudged}
 use Rattle.source_safety.specs.Named.{Below, TypeBelow, TypesBelow}
 use Rattle.source_typing.specs.Expressions.{judge}
-use Rattle.source_typing.specs.Regions.{TheHeap}
-use Rattle.source_typing.specs.Scope.{Env, In, InBlock, InRegion, Nowhere, Seat, Value, in_scope, is_place}
+use Rattle.source_typing.specs.Regions.{Region}
+use Rattle.source_typing.specs.Scope.{Enclosing, Env, In, InBlock, InRegion, Nowhere, Seat, Value, in_scope, is_place}
 use Rattle.source_typing.specs.Statements.{items_faults}
 use Rattle.source_typing.specs.Calls.{part_types}
 use Rattle.source_typing.specs.Tables.{Entry, OfBuiltin, OfFunction, OfTag, OfValue, Signature, Stored, Tables, Tag}
-use Rattle.source_typing.specs.Taken.{items_taken, taken, structures}
+use Rattle.source_typing.specs.Taken.{items_taken, with_regions, taken}
 use Rattle.source_typing.specs.Types.{Null, StaticType, Void}
 use Rattle.source_typing.specs.Verdicts.{Faulty, Of, Unjudged, Verdict}
 use Rattle.source_typing.specs.Written.{RegionNamed}
@@ -30,14 +30,14 @@ pub record IsGoodSignature (s : Signature) : Type 0 where
   pub plain : IsPlain gives
   pub gives_below : TypeBelow s.regions gives
 
--- A struct without fault: it has no region parameters, and its members are objects.
+-- A struct without fault: its members are objects, whose types speak of its region parameters and the heap alone.
 pub record IsGoodTag (t : Tag) : Type 0 where
   pub sound : t.sound ≡ true
   pub no_union : t.is_union ≡ false
-  pub no_regions : t.regions ≡ 0
   pub types : List StaticType
   pub parts : part_types t.parts ≡ map (λ t. Some t) types
   pub objects : AreObjects types
+  pub types_below : TypesBelow t.regions types
 
 -- a variable, whose type and place speak of region names in scope alone; a struct; or a function
 abbrev pub IsGoodEntry : ℕ → Entry → Type 0
@@ -56,12 +56,18 @@ abbrev pub NamesBelow : ℕ → List RegionNamed → Type 0
 NamesBelow count [] = Unit {0}
 NamesBelow count (n ∷ ns) = Below count n.id × NamesBelow count ns
 
+-- the region of the `rnew` around, or the heap: one that is in scope
+pub record IsAround (count : ℕ) (i : Enclosing) : Type 0 where
+  pub region : Region
+  pub is : i ≡ InRegion region
+  pub below : Below count region
+
 -- all is known of each name in scope
 pub record IsGood (g : Env) : Type 0 where
   pub names : AllGood g.regions.count (in_scope g)
   pub regions : NamesBelow g.regions.count g.names
   pub frame : Below g.regions.count g.frame
-  pub enclosing : g.enclosing ≡ InRegion TheHeap
+  pub enclosing : IsAround g.regions.count g.enclosing
 
 -- ---- expressions
 
@@ -92,11 +98,11 @@ pub record IsGoodValue (g : Env) (v : Value) : Type 0 where
 
 -- each expression of these forms is at fault, or it is in order
 abbrev pub ExpressionsJudged : Type 0
-ExpressionsJudged = (e : Expression) (g : Env) → IsGood g → Surely (λ v. IsGoodValue g v) (judge g (taken structures e))
+ExpressionsJudged = (e : Expression) (g : Env) → IsGood g → Surely (λ v. IsGoodValue g v) (judge g (taken with_regions e))
 
 -- ---- the body of a function that gives a type
 
 -- a body of these forms in which the rules find no fault is in order
 abbrev pub BodiesJudged : Type 0
 BodiesJudged = (items : BlockItems) (g : Env) (gives : StaticType) → IsGood g → g.result ≡ Some gives → IsPlain gives
-    → items_taken structures items ≡ items → ItemsHaveOperands items → items_faults g true items ≡ [] → ItemsJudged g items
+    → items_taken with_regions items ≡ items → ItemsHaveOperands items → items_faults g true items ≡ [] → ItemsJudged g items

@@ -7,7 +7,6 @@ use Rattle.source_safety.specs.Flat.{Tables}
 use Rattle.source_safety.proofs.Invariant.{RunType, Owner, Nobody, Flying, Ghost, HaveTypes, Known, Inv, Grows}
 use Rattle.source_safety.proofs.Values.{Carries, values_kept}
 use Rattle.source_safety.proofs.Births.{known_or_not}
-use Rattle.source_safety.proofs.Growth.{grows_trans}
 use Rattle.source_safety.proofs.Runs.{Runs, safe_says}
 
 -- after an act: a ghost for its memory, and what holds of both
@@ -43,11 +42,6 @@ grows_base {b = b} {b' = b'} l x = record {
   objects = x.objects;
   kept = λ s t j e h p. x.kept s t j e (omega (arith, l, h)) p;
 }
-
--- what was done before and what is done after it, in one
-pub after_trans : (d : Tables) (k b : ℕ) (w : Ghost) (m : Memory) (w1 : Ghost) (m1 : Memory) (P : Ghost → Memory → Type 0) (m2 : Memory)
-    → Grows k b w m w1 m1 → After d k b w1 m1 P m2 → After d k b w m P m2
-after_trans d k b w m w1 m1 P m2 g y = record { ghost = y.ghost; inv = y.inv; grows = grows_trans g y.grows; holds = y.holds }
 
 -- a value on its way stays of its type while what comes after it is evaluated
 pub flight_kept : (d : Tables) (k b : ℕ) (w : Ghost) (m : Memory) (w' : Ghost) (m' : Memory) (vs : List Scalar) (ts : List RunType) → Inv d w m

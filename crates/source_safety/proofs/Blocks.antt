@@ -2,7 +2,7 @@
 use Rattle.std.proofs.Common.{◌≡◌, ℕ, true, false, Some, None, List, [], ◌∷◌, refl, sym, ◌∙◌, ap, subst, arith}
 use Rattle.std.specs.Prelude.{map}
 use Rattle.cyc_tree.specs.Tree as tree
-use Rattle.cyc_tree.specs.Tree.{Expression, Initializer, Declaration, Statement, BlockItems, NoItems, Declare, Execute, TypeName}
+use Rattle.cyc_tree.specs.Tree.{Expression, Initializer, Statement, BlockItems, NoItems, Declare, Execute, TypeName}
 use Rattle.source_meaning.specs.Shapes.{Shape, HandleShape, written, settled, settled_by}
 use Rattle.source_meaning.specs.Memory.{Region, Frame, Born, Spot, HandleOf, Live, Memory, object_of, first_cell, blank_object}
 use Rattle.source_meaning.specs.Steps.{Variable, World, Scope, Flow, Falls, Breaks, Continues, Returns, Act, give, ◌>>=◌, ◌>>◌, take_turn}

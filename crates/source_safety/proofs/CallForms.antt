@@ -1,23 +1,22 @@
 -- What calls denote: of the program's functions, of the two that every program has, and the makings of structs.
 use Rattle.std.proofs.Common.{◌≡◌, ℕ, Bool, true, false, inl, inr, Option, Some, None, List, [], ◌∷◌, refl, sym, ◌∙◌, ap, subst}
 use Rattle.std.specs.Prelude.{map, bytes_eq, codes, nat_eq, length, if◌then◌else◌}
-use Rattle.std.proofs.lemmas.Bool.{eqb-true, false≢true}
+use Rattle.std.proofs.lemmas.Bool.{eqb-true}
 use Rattle.source_meaning.specs.Shapes.{IntShape, part_shapes, has_tag}
 use Rattle.source_meaning.specs.Memory.{Region}
 use Rattle.source_meaning.specs.Steps.{Scope, ◌>>=◌, invoke}
 use Rattle.source_meaning.specs.Places.{Sense, value_sense}
 use Rattle.source_meaning.specs.Calls.{converted_all, call_sense, called, function_of, read_byte, write_byte, struct_made}
-use Rattle.source_typing.specs.Verdicts.{Of, other_kind}
-use Rattle.source_typing.specs.Written.{if_sound}
+use Rattle.source_typing.specs.Verdicts.{Of}
 use Rattle.source_typing.specs.Fixing.{all_fits, fixed_from}
-use Rattle.source_typing.specs.Calls.{Target, ToFunction, ToBuiltin, ToStruct, target, target_of_tag, arguments_fit, call_entered, typed_result}
+use Rattle.source_typing.specs.Calls.{Target, ToFunction, ToBuiltin, target, arguments_fit, call_entered, typed_result}
 use Rattle.source_typing.specs.Calls as rules_of_calls
 use Rattle.source_typing.specs.Scope.{Env, Local, Enclosing, Value, Nowhere, value, meant, with_locals}
 use Rattle.source_typing.specs.Tables.{Entry, OfValue, OfTag, OfFunction, OfBuiltin, OfOther, Stored, Arrayed, Counter, Unknown, Signature, Tag, argument, find}
 use Rattle.source_typing.specs.Tables as typing
 use Rattle.source_typing.specs.Types.{StaticType, Int, renamed, shape_of}
 use Rattle.source_typing.proofs.Inversion.{of_is, after_is, unless_is}
-use Rattle.source_typing.proofs.CallsFit.{Arguments, arguments_are, Entered, entered_is}
+use Rattle.source_typing.proofs.CallsFit.{Arguments, arguments_are, Entered, entered_is, sound_is, struct_is}
 use Rattle.source_safety.specs.Flat.{Tables}
 use Rattle.source_safety.proofs.Layouts.{Structs}
 use Rattle.source_safety.proofs.Names.{NameOf, AllBelow}
@@ -37,22 +36,6 @@ result_seat at rs (Some t) v e = (value_of at (renamed (argument rs) t) v e).sea
 
 entered_seat : (g : Env) (at : ℕ) (s : Signature) (rs : List NameOf) (v : Value) → call_entered g at s rs ≡ Of v → v.seat ≡ Nowhere
 entered_seat g at s rs v e = result_seat at rs s.result v (unless_is _ (typed_result at rs s.result) v e).1
-
-sound_is : (c : Bool) (s : Signature) (t : Target) → if_sound c (Of (ToFunction s)) ≡ Of t → t ≡ ToFunction s
-sound_is true s t e = sym (of_is (ToFunction s) t e)
-sound_is false s t e = absurd cc
-
-other_is : (c : Bool) (at : ℕ) (t : Target) → other_kind c at ≡ Of t → ⊥
-other_is true at t e = cc
-other_is false at t e = cc
-
-struct_is : (c s : Bool) (u : Tag) (at : ℕ) (t : Target) → c ≡ false → target_of_tag c u at ≡ Of t → t ≡ ToStruct u
-struct_is true s u at t z e = absurd (false≢true (sym z))
-struct_is false s u at t z e = by u.sound e
-  where
-    by : (b : Bool) → if_sound b (Of (ToStruct u)) ≡ Of t → t ≡ ToStruct u
-    by true q = sym (of_is (ToStruct u) t q)
-    by false q = absurd cc
 
 -- locals are no structs
 behind_locals : (ls : List Local) (g : typing.Tables) (x : List ℕ) (t : Tag) → find (with_locals ls g) x ≡ Some (OfTag t) → find g x ≡ Some (OfTag t)
@@ -145,7 +128,7 @@ module _ (n : ℕ) (d : Tables) (g : Env) (scope : Scope) (f : NameOf → Region
     called_entry at x (Some (OfTag u)) t vs es v p there m k h e =
         let z : Structure scope.world x u = p x (OfTag u) m in
         called_struct n d g scope f b structs i inside at x u vs es v z (tag_found g x u m) h
-        (subst (λ (y : Target). rules_of_calls.called (within i g) at y vs ≡ Of v) (struct_is u.is_union u.sound u at t z.no_union k) e)
+        (subst (λ (y : Target). rules_of_calls.called (within i g) at y vs ≡ Of v) (struct_is u.is_union u at t z.no_union k) e)
     called_entry at x (Some OfOther) t vs es v p there m k h e = absurd cc
     called_entry at x (Some (OfFunction s)) t vs es v p there m k h e =
         called_function at x s (p x (OfFunction s) m) vs es v (there s m) h

@@ -1,13 +1,12 @@
 -- Calls run safely: of the two functions that every program has, and of the program's own.
 use Rattle.std.proofs.Common.{◌≡◌, ℕ, zero, suc, Option, List, [], ◌∷◌, sym, ap, subst}
 use Rattle.std.specs.Prelude.{map, ◌%◌}
-use Rattle.cyc_words.specs.Events.{SourceEvent}
 use Rattle.source_meaning.specs.Shapes.{Shape, IntShape}
 use Rattle.source_meaning.specs.Memory.{Region, Scalar, Integer, AsInt, Memory}
-use Rattle.source_meaning.specs.Steps.{Routine, World, Scope, Step, Reads, Pays, Act, give, ◌>>=◌, ◌>>◌, invoke}
+use Rattle.source_meaning.specs.Steps.{Scope, Step, Reads, Pays, Act, give, ◌>>=◌, ◌>>◌}
 use Rattle.source_meaning.specs.Conversions.{converted}
 use Rattle.source_meaning.specs.Places.{Sense}
-use Rattle.source_meaning.specs.Calls.{converted_all, function_of, called, read_byte, write_byte, struct_made, call_sense, byte_value}
+use Rattle.source_meaning.specs.Calls.{converted_all, read_byte, write_byte, byte_value}
 use Rattle.source_meaning.specs.Calls as calls
 use Rattle.source_typing.specs.Scope.{Env}
 use Rattle.source_typing.specs.Types.{StaticType, Int, renamed}

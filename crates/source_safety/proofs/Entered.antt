@@ -5,7 +5,7 @@ use Rattle.cyc_words.specs.Events.{Called}
 use Rattle.cyc_words.specs.Events as events
 use Rattle.source_meaning.specs.Shapes.{Shape}
 use Rattle.source_meaning.specs.Memory.{Region, Frame, Born, Scalar, Integer, AsInt, Live, Memory}
-use Rattle.source_meaning.specs.Steps.{World, Scope, Flow, Falls, Breaks, Continues, Returns, Step, Act, give, ◌>>=◌, ◌>>◌, say, take_turn, invoke}
+use Rattle.source_meaning.specs.Steps.{World, Scope, Flow, Falls, Breaks, Continues, Returns, Step, Act, give, ◌>>=◌, ◌>>◌, say}
 use Rattle.source_meaning.specs.Regions.{in_block}
 use Rattle.source_meaning.specs.Statements.{block_items, after_turn, loop}
 use Rattle.source_meaning.specs.Programs.{entered, with_arguments, result_of, result_at_end, is_main}
@@ -13,7 +13,7 @@ use Rattle.cyc_tree.specs.Tree.{Statement}
 use Rattle.source_typing.specs.Scope.{Env, block_entered}
 use Rattle.source_typing.specs.Statements.{in_a_loop}
 use Rattle.source_typing.specs.Tables as typing
-use Rattle.source_typing.specs.Tables.{OfFunction, Signature, find}
+use Rattle.source_typing.specs.Tables.{Signature}
 use Rattle.source_typing.specs.Types.{StaticType, Int, Void, renamed, shape_of}
 use Rattle.source_typing.specs.Ways.{ways, ways_of, ways_of_items}
 use Rattle.source_safety.specs.Flat.{Tables, flat}

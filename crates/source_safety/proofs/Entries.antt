@@ -10,7 +10,7 @@ use Rattle.source_typing.specs.Calls.{all_live, all_ordered}
 use Rattle.source_typing.specs.Regions.{TheHeap}
 use Rattle.source_typing.specs.Scope.{Env, meant, is_live, outlives}
 use Rattle.source_typing.specs.Tables as typing
-use Rattle.source_typing.specs.Tables.{Entry, OfValue, OfTag, OfFunction, OfBuiltin, OfOther, Stored, Arrayed, Counter, Unknown, Signature, find, argument}
+use Rattle.source_typing.specs.Tables.{Entry, OfFunction, Signature, find, argument}
 use Rattle.source_typing.specs.Types.{StaticType, Int, Unsigned, Char, Void, Null, Thin, Fat, Unique, Handle, Key, Struct, Union, renamed}
 use Rattle.source_typing.proofs.Converting.{and_is}
 use Rattle.source_safety.specs.Flat.{Tables, flat}

@@ -18,28 +18,21 @@ use Rattle.source_meaning.specs.Calls.{
   any_true,
   truth,
   inverted,
-  converted_all,
-  call_sense,
   called,
-  function_of,
   handle_maker,
-  read_byte,
-  write_byte,
-  struct_made,
 }
 use Rattle.source_meaning.specs.Calls as calls
 use Rattle.source_meaning.specs.Expressions.{is_unique_region, sense, senses, linked, suffixed, new_sense, new_in_sense}
 use Rattle.source_meaning.specs.Making.{heap_maker}
 use Rattle.source_typing.specs.Verdicts.{Verdict, Of, both, after, if_fits}
-use Rattle.source_typing.specs.Fixing.{all_fits, fixed_from}
 use Rattle.source_typing.specs.Regions.{TheHeap}
 use Rattle.source_typing.specs.Expressions.{judge, judge_all, judge_links, judge_suffixes, judge_tests, judge_made, judge_made_in, number_typed}
 use Rattle.source_typing.specs.Making as rules_of_making
 use Rattle.source_typing.specs.Making.{Goal, To, goal_of, handled, enclosed}
 use Rattle.source_typing.specs.Operators as rules
-use Rattle.source_typing.specs.Operators.{on_integers, applied_to, tested_both}
+use Rattle.source_typing.specs.Operators.{applied_to, tested_both}
 use Rattle.source_typing.specs.Places as places
-use Rattle.source_typing.specs.Calls.{Target, ToFunction, ToBuiltin, ToStruct, target, target_of_tag, arguments_fit, call_entered, typed_result}
+use Rattle.source_typing.specs.Calls.{Target, target}
 use Rattle.source_typing.specs.Calls as rules_of_calls
 use Rattle.source_typing.specs.Scope.{Env, Enclosing, Value, value, meant}
 use Rattle.source_typing.specs.Tables.{OfFunction, Signature, find}

@@ -72,7 +72,7 @@ abbrev FitBelow : ℕ → Option Fit → Type 0
 FitBelow n None = Unit {0}
 FitBelow n (Some f) = FoundBelow n f.is
 
-abbrev PartBelow : ℕ → Option StaticType → Type 0
+abbrev pub PartBelow : ℕ → Option StaticType → Type 0
 PartBelow n None = Unit {0}
 PartBelow n (Some t) = TypeBelow n t
 
@@ -116,7 +116,7 @@ fit_below n at [] qs h = tt
 fit_below n at (r ∷ rs) [] h = tt
 fit_below n at (r ∷ rs) (q ∷ qs) h = (h.0, fit_below n at rs qs h.1)
 
-same_below : (n : ℕ) (tag : List ℕ) (u : Option StaticType) → PartBelow n u → AllBelow n (arguments_of false tag u)
+pub same_below : (n : ℕ) (tag : List ℕ) (u : Option StaticType) → PartBelow n u → AllBelow n (arguments_of false tag u)
 same_below n tag None h = tt
 same_below n tag (Some Int) h = tt
 same_below n tag (Some Unsigned) h = tt

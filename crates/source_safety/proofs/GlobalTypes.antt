@@ -9,7 +9,7 @@ use Rattle.source_meaning.specs.Shapes.{Shared, Shape, IntShape, UnsignedShape, 
 use Rattle.source_meaning.specs.Steps.{World}
 use Rattle.source_typing.specs.Regions.{Region}
 use Rattle.source_typing.specs.Tables as typing
-use Rattle.source_typing.specs.Tables.{Entry, OfValue, OfTag, OfFunction, OfBuiltin, OfOther, Stored, Arrayed, Counter, Unknown, find, each_part, parts_in, begins, has_beginning}
+use Rattle.source_typing.specs.Tables.{Entry, OfValue, OfTag, OfFunction, OfBuiltin, OfOther, Stored, Arrayed, Counter, Unknown, find, each_part, parts_in, begins}
 use Rattle.source_typing.specs.Types.{StaticType, Int, Unsigned, Char, Void, Null, Thin, Fat, Unique, Handle, Key, Struct, Union, shape_of}
 use Rattle.source_safety.specs.Entries.{IsObjectType, PlainTables}
 use Rattle.source_safety.specs.Programs.{IsNumber, IsNullConstant, IsFirst, InitialJudged, GlobalJudged, GlobalsJudged}

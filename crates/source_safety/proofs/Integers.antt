@@ -7,7 +7,7 @@ use Rattle.source_meaning.specs.Memory.{Region, Scalar, Integer, IntegerType, As
 use Rattle.source_meaning.specs.Steps.{World, Act, ◌>>=◌}
 use Rattle.source_meaning.specs.Conversions.{converted}
 use Rattle.source_meaning.specs.Operators as meaning
-use Rattle.source_meaning.specs.Operators.{truth_value, operator_shape, integers, is_true}
+use Rattle.source_meaning.specs.Operators.{truth_value, operator_shape, integers}
 use Rattle.source_typing.specs.Converts.{IsInteger}
 use Rattle.source_typing.specs.Operators as typing
 use Rattle.source_typing.specs.Operators.{on_integers}

@@ -12,7 +12,7 @@ use Rattle.source_meaning.specs.Making.{Maker, InRegion, heap_maker, maker_of, m
 use Rattle.source_meaning.specs.Places.{Sense, value_sense}
 use Rattle.source_meaning.specs.Calls.{made, handle_maker}
 use Rattle.source_typing.specs.Making as rules
-use Rattle.source_typing.specs.Making.{Goal, To, ToUnique, NoHandle, made_to, live_goal, handled_of}
+use Rattle.source_typing.specs.Making.{Goal, To, NoHandle, made_to, live_goal, handled_of}
 use Rattle.source_typing.specs.Regions.{TheHeap}
 use Rattle.source_typing.specs.Scope.{Env, Value, is_live}
 use Rattle.source_typing.specs.Types.{StaticType, Int, Unsigned, Char, Void, Null, Thin, Fat, Unique, Handle, Key, Struct, Union, is_makeable, renamed, shape_of}

@@ -13,7 +13,7 @@ use Rattle.source_typing.specs.Calls.{part_types}
 use Rattle.source_typing.specs.Regions.{TheHeap, Level}
 use Rattle.source_typing.specs.Scope.{Env}
 use Rattle.source_typing.specs.Tables as typing
-use Rattle.source_typing.specs.Tables.{Entry, OfValue, OfTag, OfFunction, OfBuiltin, OfOther, Tag, find, as_tag, parts_of_tag, parts_in, part_in, argument, or_heap}
+use Rattle.source_typing.specs.Tables.{Entry, OfValue, OfTag, OfFunction, OfBuiltin, OfOther, find, as_tag, parts_of_tag, parts_in, part_in, argument, or_heap}
 use Rattle.source_typing.specs.Types.{StaticType, Int, Unsigned, Char, Void, Null, Thin, Fat, Unique, Handle, Key, Struct, Union, renamed, shape_of}
 use Rattle.source_safety.specs.Entries.{IsObjectType, AreObjects, Structure}
 use Rattle.source_safety.specs.Flat.{Declared, Tables, or_region, filled, flat, flat_all}
@@ -24,7 +24,7 @@ use Rattle.source_safety.proofs.After.{flying}
 use Rattle.source_safety.proofs.Arguments.{Agrees, Flown}
 use Rattle.source_safety.proofs.Names.{NameOf}
 use Rattle.source_safety.proofs.Scenes.{Scene, scene_later}
-use Rattle.source_safety.proofs.Sound.{cells_type, PlaceOk, Gives, Finds}
+use Rattle.source_safety.proofs.Sound.{PlaceOk, Gives, Finds}
 use Rattle.source_safety.proofs.Layouts.{member_types, member_object, members_typed, members_at, struct_is, all_copied, Structs, agrees}
 use Rattle.source_safety.proofs.Words.{object_twice, values_copied, grown_itself}
 use Rattle.source_safety.proofs.Calling.{Passes}

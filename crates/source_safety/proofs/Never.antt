@@ -14,7 +14,7 @@ use Rattle.source_meaning.specs.Calls.{function_of}
 use Rattle.source_meaning.specs.Strings.{program_strings}
 use Rattle.source_meaning.specs.Programs.{heap_spot, heap_alone, global_object, global_objects, string_object, world_of, entered, start, source}
 use Rattle.source_typing.specs.Tables as typing
-use Rattle.source_typing.specs.Tables.{OfValue, OfFunction, Stored, Signature, find}
+use Rattle.source_typing.specs.Tables.{OfValue, Stored, Signature, find}
 use Rattle.source_typing.specs.Types.{Int, StaticType, shape_of}
 use Rattle.source_safety.specs.Flat.{Tables, flat}
 pub use Rattle.source_safety.specs.Programs.{GlobalFound, MainFound, ProgramJudged}

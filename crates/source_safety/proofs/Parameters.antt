@@ -13,7 +13,7 @@ use Rattle.source_safety.specs.Named.{TypesBelow}
 use Rattle.source_safety.specs.Judged.{extended}
 pub use Rattle.source_safety.specs.Programs.{name_alone, with_all}
 use Rattle.source_safety.proofs.Invariant as invariant
-use Rattle.source_safety.proofs.Invariant.{RunType, heap, Owner, Nobody, Flying, Pinned, InCell, Freed, Kept, Reached, Ghost, Laid, HaveTypes, Steady, Inv, Grows}
+use Rattle.source_safety.proofs.Invariant.{RunType, heap, Owner, Nobody, Flying, Pinned, InCell, Freed, Reached, Ghost, Laid, Steady, Inv, Grows}
 use Rattle.source_safety.proofs.Values.{Carries, values_kept}
 use Rattle.source_safety.proofs.Moves.{passing, Class, inv_cells, cell_kept}
 use Rattle.source_safety.proofs.Growth.{grows_cells}

@@ -6,7 +6,7 @@ use Rattle.cyc_tree.specs.declared.expression.Operator.{Operator}
 use Rattle.cyc_tree.specs.declared.expression.Operator.TheVariants.{Equal, NotEqual}
 use Rattle.source_meaning.specs.Shapes.{Shape, IntShape}
 use Rattle.source_meaning.specs.Memory as memory
-use Rattle.source_meaning.specs.Memory.{Region, Spot, Scalar, Live, Memory, State, state_is_live, is_live, is_moved, same_spot}
+use Rattle.source_meaning.specs.Memory.{Region, Spot, Scalar, Live, Memory, state_is_live, is_live, is_moved, same_spot}
 use Rattle.source_meaning.specs.Steps.{Scope, Act, give, ◌>>=◌, need}
 use Rattle.source_meaning.specs.Steps as steps
 use Rattle.source_meaning.specs.Operators.{truth_value, same_thin, equality, operated, operator_shape, is_true}

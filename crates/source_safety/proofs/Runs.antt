@@ -5,7 +5,7 @@ use Rattle.cyc_words.specs.Events.{SourceEvent, SourceEnding}
 use Rattle.cyc_words.specs.declared.faults.Kind.{Kind}
 use Rattle.source_meaning.specs.Memory.{Memory}
 use Rattle.step_trees.specs.Trees.{Calls, Turns, walk, spend}
-use Rattle.source_meaning.specs.Steps.{Step, Stops, Says, Reads, Pays, Outcome, Act, ◌>>=◌, ◌>>◌, need, check, raise}
+use Rattle.source_meaning.specs.Steps.{Step, Stops, Says, Reads, Pays, Outcome, Act, ◌>>=◌, ◌>>◌, check}
 use Rattle.source_meaning.specs.Programs.{source, source_bodies, start}
 
 -- the steps up to the first unit don't get stuck, and what follows it is as P says
@@ -72,15 +72,9 @@ pub safe_raised : (n : ℕ) (kind : Kind) → Safe n (Stops (SourceEnding.Raised
 safe_raised zero kind = tt
 safe_raised (suc n) kind = tt
 
-pub runs_raise : {A : Type 0} (n : ℕ) (kind : Kind) (m : Memory) (Post : A → Memory → Type 0) → Runs n (raise kind) m Post
-runs_raise n kind m Post = record { by = λ next k. safe_raised n kind }
-
 pub runs_bind : {A B : Type 0} (n : ℕ) (act : Act A) (f : A → Act B) (m : Memory) (P : A → Memory → Type 0) (Q : B → Memory → Type 0) → Runs n act m P → ((a : A) (m' : Memory) → P a m' → Runs n (f a) m' Q) → Runs n (act >>= f) m Q
 runs_bind n act f m P Q h k = record { by = λ next g. h.by (λ a. f a next) (λ a m' p. (k a m' p).by next g) }
 
--- a value that is there, and a fact that holds
-pub runs_need : {A B : Type 0} (n : ℕ) (o : Option A) (a : A) (f : A → Act B) (m : Memory) (Q : B → Memory → Type 0) → o ≡ Some a → Runs n (f a) m Q → Runs n (need o >>= f) m Q
-runs_need n o a f m Q e h = record { by = λ next g. subst (λ (x : Option _). Safe n (need x (λ y. f y next) m)) (sym e) (h.by next g) }
-
+-- a fact that holds
 pub runs_check : {B : Type 0} (n : ℕ) (b : Bool) (act : Act B) (m : Memory) (Q : B → Memory → Type 0) → b ≡ true → Runs n act m Q → Runs n (check b >> act) m Q
 runs_check n b act m Q e h = record { by = λ next g. subst (λ (x : Bool). Safe n (check x (λ y. act next) m)) (sym e) (h.by next g) }

@@ -15,7 +15,7 @@ use Rattle.source_typing.specs.Types.{shape_of}
 use Rattle.source_typing.specs.Ways.{Ways, either_way, ways_of_items}
 use Rattle.source_safety.specs.Flat.{Tables, flat}
 use Rattle.source_safety.specs.Judged.{Accepted, Condition, Returned}
-use Rattle.source_safety.proofs.Invariant.{RunType, heap, Reached, Ghost, Laid, HaveTypes, Inv, Grows}
+use Rattle.source_safety.proofs.Invariant.{RunType, heap, Ghost, HaveTypes, Inv, Grows}
 use Rattle.source_safety.proofs.Growth.{grows_refl, grows_trans}
 use Rattle.source_safety.proofs.Runs.{Runs}
 use Rattle.source_safety.proofs.After.{After, flying}

@@ -27,7 +27,7 @@ use Rattle.source_safety.specs.Flat.{Tables}
 use Rattle.source_safety.specs.Named.{Below, AllBelow, TypeBelow}
 use Rattle.source_safety.specs.Structs.{AreMembers}
 use Rattle.source_safety.proofs.Names.{NameOf}
-use Rattle.source_safety.proofs.Sound.{shape_renamed, Gives, Finds}
+use Rattle.source_safety.proofs.Sound.{shape_renamed, Finds}
 use Rattle.source_safety.proofs.Places.{sound_placed}
 use Rattle.source_safety.proofs.Layouts.{member_types, members_typed, members_at, Structs, agrees}
 use Rattle.source_safety.proofs.Words.{IsSimple, object_simple, object_renamed, object_copied}

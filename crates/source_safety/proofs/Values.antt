@@ -2,7 +2,7 @@
 use Rattle.std.proofs.Common.{◌≡◌, ℕ, suc, true, false, inl, inr, Some, List, [], ◌∷◌, ◌∙◌}
 use Rattle.source_meaning.specs.Memory.{Region, Born, Spot, Scalar, Content, is_moved, beyond}
 use Rattle.source_typing.specs.Types as types
-use Rattle.source_typing.specs.Types.{TypeIn, Int, Unsigned, Char, Void, Null, Fat, Unique, Handle, Key, Struct, Union, shape_of}
+use Rattle.source_typing.specs.Types.{Int, Unsigned, Char, Void, Null, Fat, Unique, Handle, Key, Struct, Union, shape_of}
 use Rattle.source_safety.specs.Flat.{Tables, flat}
 use Rattle.source_safety.proofs.Invariant.{RunType, Ghost, Owner, Nobody, InCell, Kept, Reached, Private, heap, Laid, Reaches, Member, HasPlain, HasType, HaveTypes, ContentOk}
 

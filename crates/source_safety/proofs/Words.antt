@@ -49,21 +49,7 @@ plain_simple (Key r) e = absurd e
 plain_simple (Struct tag rs) e = e
 plain_simple (Union tag rs) e = absurd e
 
--- a word is an object, and an object is something
-pub word_object : (t : StaticType) → IsWordType t → IsObjectType t
-word_object Int e = tt
-word_object Unsigned e = tt
-word_object Char e = tt
-word_object Void e = absurd e
-word_object Null e = absurd e
-word_object (Thin n r t) e = e
-word_object (Fat r t) e = absurd e
-word_object (Unique n t) e = absurd e
-word_object (Handle r) e = absurd e
-word_object (Key r) e = absurd e
-word_object (Struct tag rs) e = absurd e
-word_object (Union tag rs) e = absurd e
-
+-- an object is something
 pub object_some : (t : StaticType) → IsObjectType t → t ≡ Void → ⊥
 object_some t e z = subst IsObjectType z e
 

@@ -20,6 +20,7 @@ use Rattle.core_frames.proofs.Passing.{has_first, has_second, AreWithin, PassedA
 use Rattle.core_frames.proofs.Entering.{with_call, callee, enters}
 use Rattle.core_frames.proofs.Leaving.{returns, is_back, ResultsAt, result_one}
 use Rattle.core_frames.proofs.Relations.{invoke}
+use Rattle.core_frames.proofs.Registers.{AtHolding, at_any}
 use Rattle.core_meaning.specs.Steps.{checked, stuck}
 use Rattle.step_trees.specs.Trees.{Says}
 use Rattle.std.proofs.Common.{⊎_elim, ◌^◌, ◌<◌}
@@ -49,6 +50,18 @@ pub record IsIn (x : Waiting) (c : Config) : Type 0 where
 -- from each state at a place, with any temporaries and any memory, what follows goes on
 abbrev pub GoesFrom : World → Waiting → List Waiting → ℕ → ℕ → (Config → Step) → Type 0
 GoesFrom w x outer most place next = (c : Config) → IsIn x c → Goes w most (next c) (At w (with_config x c) outer c.memory place) (active_of w (x ∷ outer))
+
+-- the same, with a temporary in x5 where one is known to be
+abbrev pub GoesHolding : World → Waiting → List Waiting → ℕ → ℕ → Option ℕ → (Config → Step) → Type 0
+GoesHolding w x outer most place held next =
+    (c : Config) → IsIn x c → Goes w most (next c) (AtHolding w (with_config x c) outer c.memory place held) (active_of w (x ∷ outer))
+
+-- what goes on wherever nothing is known of x5 goes on in any case
+pub goes_any : (w : World) (x : Waiting) (outer : List Waiting) (most place : ℕ) (held : Option ℕ) (next : Config → Step)
+    → GoesFrom w x outer most place next → GoesHolding w x outer most place held next
+goes_any w x outer most place held next goes c is =
+    goes_as w (AtHolding w (with_config x c) outer c.memory place held) (active_of w (x ∷ outer)) most (next c) (At w (with_config x c) outer c.memory place)
+    (λ s a. at_any w (with_config x c) outer c.memory place held s a) (goes c is)
 
 -- what is called does as Core, and what it returns to goes on
 abbrev pub BodyGoes : World → ℕ → ℕ → Type 0

@@ -9,7 +9,7 @@ use Rattle.rv32_machine.specs.State.{code_base, register_of, set_register}
 use Rattle.rv32_machine.specs.Step.{branches}
 use Rattle.core_frames.specs.Machines.{Store, state_of}
 use Rattle.core_frames.specs.Lines.{HasInstr}
-use Rattle.core_frames.specs.Selected.{copy_loop, clear_loop}
+use Rattle.core_frames.specs.Loops.{copy_loop, clear_loop}
 use Rattle.core_frames.proofs.Relations.{Moves, World, IsInOrder, Has}
 use Rattle.core_frames.proofs.Moving.{and_then}
 use Rattle.core_frames.proofs.Steps.{state_at, IsKeptBelow, IsAllowed, is_in_code, gives_value, passes, goes_to, loads_word, stores_word, stores_byte}

@@ -11,7 +11,8 @@ use Rattle.core_frames.specs.declared.line.Line.{Line}
 use Rattle.core_frames.specs.Machines.{Machine}
 use Rattle.core_frames.specs.Lines.{code_length}
 use Rattle.core_frames.specs.Frames.{slot_of}
-use Rattle.core_frames.specs.Selected.{further_code, are_words, clear_loop, bytes_in}
+use Rattle.core_frames.specs.Loops.{are_words, clear_loop}
+use Rattle.core_frames.specs.Selected.{further_code, bytes_in}
 use Rattle.core_frames.specs.Lies.{Maps, Shows, Points, read}
 use Rattle.core_frames.specs.Layouts.{IsLayout, IsFull, IsNothing, IsZero}
 use Rattle.core_frames.proofs.Relations.{Moves, World, IsInOrder, Has, Waiting, At}

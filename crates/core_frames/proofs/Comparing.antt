@@ -20,7 +20,7 @@ use Rattle.core_meaning.proofs.Spots.{spot_same}
 use Rattle.core_frames.proofs.Storing.{live_lasts}
 use Rattle.core_frames.proofs.Values.{is_zero, same_truth}
 use Rattle.core_frames.proofs.Registers.{AtWith, InRegister, in_turn, puts}
-use Rattle.core_frames.proofs.Operations.{having, loading, saving, loads_both, then_saves, Loaded, Here, With}
+use Rattle.core_frames.proofs.Operations.{Having, loading, saving, loads_both, then_saves, Loaded, Here, With}
 
 -- ---- the parts that two pointers are at
 
@@ -96,7 +96,7 @@ module _ (w : World) (order : IsInOrder w) (x : Waiting) (outer : List Waiting) 
   pub compare_places : (t u v n place : ℕ) → t < x.fn.temporaries → u < x.fn.temporaries → v < x.fn.temporaries → n < 2 ^ 32
       → Has w place (loading w order x outer mem 5 u ++ loading w order x outer mem 6 v ++ binary_code core.Equal ++ saving w order x outer mem 5 t)
       → GivesTruth (x.config.temps u) (x.config.temps v) n
-      → Comes w (At w x outer mem place) (At w (having t (Word n) x) outer mem (place + code_length
+      → Comes w (At w x outer mem place) (Having w order x outer mem t (Word n) (place + code_length
       (loading w order x outer mem 5 u ++ loading w order x outer mem 6 v ++ binary_code core.Equal ++ saving w order x outer mem 5 t)))
   compare_places t u v n place named named' named'' small has gives =
       let both = loading w order x outer mem 5 u ++ loading w order x outer mem 6 v in

@@ -11,7 +11,8 @@ use Rattle.core_meaning.proofs.Wholes.{IsAmong, IsCopy, elements_in, one_element
 use Rattle.core_frames.specs.declared.line.Line.{Line}
 use Rattle.core_frames.specs.Machines.{Machine, Store}
 use Rattle.core_frames.specs.Lines.{code_length}
-use Rattle.core_frames.specs.Selected.{further_code, are_words, copy_loop}
+use Rattle.core_frames.specs.Loops.{are_words, copy_loop}
+use Rattle.core_frames.specs.Selected.{further_code}
 use Rattle.core_frames.specs.Lies.{Maps, Shows, Points, read, Activation, Cell, PartLies, Fits}
 use Rattle.core_frames.specs.Layouts.{IsLayout, IsFull}
 use Rattle.core_frames.proofs.Relations.{Moves, World, IsInOrder, Has, Waiting, At}

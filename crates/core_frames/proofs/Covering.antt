@@ -11,7 +11,7 @@ use Rattle.core_meaning.proofs.Spots.{region_self, spot_same}
 use Rattle.core_meaning.proofs.Wholes.{IsAmong, elements_in}
 use Rattle.core_frames.specs.Machines.{Store}
 use Rattle.core_frames.specs.Lies.{Maps, Activation, Name, Slot, Cell, same_name, Lies, InFrame, CellGround, Fits, Stacked}
-use Rattle.core_frames.specs.Selected.{are_word_parts, are_word_cells, are_words}
+use Rattle.core_frames.specs.Loops.{are_word_parts, are_word_cells, are_words}
 use Rattle.core_frames.specs.Layouts.{IsLayout, IsFull}
 use Rattle.core_frames.proofs.Steps.{IsAllowed}
 use Rattle.core_frames.proofs.Fitting.{allowed}

@@ -1,6 +1,6 @@
 -- The lines of a program do what it does.
 use Rattle.std.specs.Prelude.{slice_get, length}
-use Rattle.std.proofs.Common.{◌≡◌, ℕ, suc, ◌*◌, ◌^◌, ◌≤◌, List, [], ◌∷◌, Some, refl, sym, ap, subst, ◌∙◌, arith}
+use Rattle.std.proofs.Common.{◌≡◌, ℕ, suc, ◌*◌, ◌^◌, ◌≤◌, List, [], ◌∷◌, Some, None, refl, sym, ap, subst, ◌∙◌, arith}
 use Rattle.core_meaning.specs.Core.{Function, Datum, Program}
 use Rattle.core_frames.specs.Selected.{frame_bytes, own_end, slots_of, offsets_from, datum_locals, program_code}
 use Rattle.core_frames.specs.Bounds.{core_bound}
@@ -40,7 +40,7 @@ module _ (p : Program) (selectable : IsSelectable p) (w : World) (order : IsInOr
       let bytes = frame_bytes f in
       let small : bytes ≤ 2 ^ 20 = omega (arith, frame, fits) in
       let top = frame_has_all f (omega (arith, small)) in
-      statements_do w order outer data_small bytes most calls x [] [] (own_end f) code.next number number f.body
+      statements_do w order outer data_small bytes most calls x [] [] (own_end f) None code.next number number f.body
       (record {
         blocks = tt;
         nest = omega arith;

@@ -1,19 +1,20 @@
 -- A function does as Core, from its lines, where the lines of its statements do.
 use Rattle.std.specs.Prelude.{slice_get}
-use Rattle.std.proofs.Common.{◌≡◌, ℕ, suc, ◌+◌, ◌^◌, ◌≤◌, List, ◌∷◌, ◌++◌, Some, refl, sym, subst, arith}
+use Rattle.std.proofs.Common.{◌≡◌, ℕ, suc, ◌+◌, ◌^◌, ◌≤◌, List, ◌∷◌, ◌++◌, Some, None, refl, sym, subst, arith}
 use Rattle.core_meaning.specs.Memory.{Content, Memory}
 use Rattle.core_meaning.specs.Core.{Function}
 use Rattle.core_meaning.specs.Meaning as core
 use Rattle.core_meaning.specs.Steps.{Config, Step, Exit, Falls, Breaks, Continues}
 use Rattle.core_frames.specs.Lines.{code_length}
 use Rattle.core_frames.specs.Frames.{prologue_code}
+use Rattle.core_frames.specs.Choosing.{held_behind_all}
 use Rattle.core_frames.specs.Selected.{frame_bytes, around, statements_code}
 use Rattle.core_frames.specs.Selectable.{IsSelectableIn}
 use Rattle.core_frames.proofs.Relations.{World, IsInOrder, Has, Waiting, At, Goes, active_of}
 use Rattle.core_frames.proofs.Moving.{goes_stuck}
 use Rattle.core_frames.proofs.Access.{behind}
 use Rattle.core_frames.proofs.Passing.{has_first, has_second}
-use Rattle.core_frames.proofs.Bodies.{activation, with_config, GoesFrom, BodyGoes, FunctionDoes}
+use Rattle.core_frames.proofs.Bodies.{activation, with_config, GoesFrom, goes_any, BodyGoes, FunctionDoes}
 use Rattle.core_frames.proofs.Forms.{Does}
 use Rattle.core_frames.proofs.Programs.{IsAtCode}
 use Rattle.std.proofs.Common.{◌*◌}
@@ -25,8 +26,8 @@ abbrev pub BodyDoes : (w : World) → IsInOrder w → ℕ → ℕ → Function �
 BodyDoes w order number next f =
     (is : slice_get w.functions number ≡ Some f) (most : ℕ) → w.frame_bytes number ≤ 2 ^ 20 → ((j : ℕ) → suc j ≤ most → (g : ℕ) → BodyGoes w j g)
     → (outer : List Waiting) (mem : Memory) (arguments : List Content)
-    → Does w (activation w order number f is outer mem arguments (offsets_from (4 * slots_of f) f.own) (own_end f)) outer most
-    (statements_code (frame_bytes f) (around w.data_offsets f) next number number f.body) number number (core.statements f.body)
+    → Does w (activation w order number f is outer mem arguments (offsets_from (4 * slots_of f) f.own) (own_end f)) outer most None
+    (held_behind_all None f.body) (statements_code (frame_bytes f) (around w.data_offsets f) next number number f.body) number number (core.statements f.body)
 
 -- what is out of order goes on from anywhere
 stuck_from : (w : World) (x : Waiting) (outer : List Waiting) (most place : ℕ) (next : Config → Step) →
@@ -62,7 +63,8 @@ function_does w order data_objects number f selectable frame code body =
           let does = body is most fits calls outer mem arguments in
           let goes : GoesFrom w x outer most place (core.statements f.body next) =
           does.goes place most (omega arith) next (behind (w.places number) prologue aligned) has_lines (record {
-            falls = stuck_from w x outer most (place + code_length lines) (next Falls) (λ c. (ends c).0);
+            falls = goes_any w x outer most (place + code_length lines) (held_behind_all None f.body) (next Falls)
+                (stuck_from w x outer most (place + code_length lines) (next Falls) (λ c. (ends c).0));
             breaks = stuck_from w x outer most (w.places number) (next Breaks) (λ c. (ends c).1);
             continues = stuck_from w x outer most (w.places number) (next Continues) (λ c. (ends c).2);
             returns = returns;

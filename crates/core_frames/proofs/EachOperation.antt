@@ -1,7 +1,7 @@
 -- Each operation's code does as the operation means, whatever goes on behind it.
-use Rattle.std.specs.Prelude.{slice_get, length, nat_lt, not, ◌&&◌}
-use Rattle.std.proofs.Common.{◌≡◌, ℕ, ◌+◌, ◌%◌, ◌^◌, ◌<◌, true, List, ◌∷◌, ◌++◌, Some, refl, subst, arith}
-use Rattle.std.proofs.lemmas.Bool.{ltb-true, not-true, and_parts}
+use Rattle.std.specs.Prelude.{slice_get, length, nat_lt, not, ◌&&◌, if◌then◌else◌}
+use Rattle.std.proofs.Common.{◌≡◌, ℕ, ◌+◌, ◌%◌, ◌^◌, ◌<◌, true, List, ◌∷◌, ◌++◌, Option, Some, None, refl, sym, ap, subst, arith}
+use Rattle.std.proofs.lemmas.Bool.{ltb-true, not-true, and_parts, eq-eqb}
 use Rattle.cyc_words.specs.Events.{ByteWritten}
 use Rattle.rv32_machine.specs.State.{data_base}
 use Rattle.step_trees.specs.Trees.{Pays, Says}
@@ -14,15 +14,17 @@ use Rattle.core_frames.specs.declared.line.Line.{Line}
 use Rattle.core_frames.specs.Machines.{Machine}
 use Rattle.core_frames.specs.Lines.{code_length}
 use Rattle.core_frames.specs.Frames.{load_code, save_code, slot_of}
+use Rattle.core_frames.specs.Choosing.{held_behind_operation}
 use Rattle.core_frames.specs.Selected.{Surroundings, nth, nth_block, constant_code, read_code, write_code, operation_code}
 use Rattle.core_frames.specs.Lies.{Maps, Activation}
 use Rattle.core_frames.specs.Selectable.{Scope, HasCode, IsLocal}
 use Rattle.core_frames.proofs.Relations.{back_of, FrameShows, World, IsInOrder, Has, Waiting, At, Goes, active_of}
 use Rattle.core_frames.proofs.Moving.{Comes, comes_then, comes_as, goes_from}
-use Rattle.core_frames.proofs.Bodies.{with_config, IsIn, GoesFrom}
+use Rattle.core_frames.proofs.Bodies.{with_config, IsIn, GoesFrom, GoesHolding}
+use Rattle.core_frames.proofs.Registers.{AtWith, AtHolding, InRegister}
 use Rattle.core_frames.proofs.Forms.{at_config}
 use Rattle.core_frames.proofs.Nests.{BlocksAre, nth_is, local_small, local_found}
-use Rattle.core_frames.proofs.Operations.{having, saving, then_saves, constant_into, constant, move, narrow, apply, null_is, pointer_is}
+use Rattle.core_frames.proofs.Operations.{having, Having, saving, then_saves, constant_into, constant, move, narrow, apply, null_is, pointer_is}
 use Rattle.core_frames.proofs.Zero.{null_pointer}
 use Rattle.core_frames.proofs.Parts.{load, store, get, put, object_address}
 use Rattle.core_frames.proofs.Streams.{putchar_goes, getchar_goes}
@@ -46,7 +48,7 @@ DataSmall w = (o y : ℕ) → slice_get w.data_offsets o ≡ Some y → y < 2 ^ 
 data_address : (w : World) (order : IsInOrder w) (x : Waiting) (outer : List Waiting) (mem : Memory) (t object place : ℕ) → t < x.fn.temporaries
     → object < length w.data_offsets → DataSmall w
     → Has w place (constant_code (data_base + nth w.data_offsets object) ++ saving w order x outer mem 5 t)
-    → Comes w (At w x outer mem place) (At w (having t (Pointer (record { region = Born 0; object = object; cell = 0 }) 0) x) outer mem
+    → Comes w (At w x outer mem place) (Having w order x outer mem t (Pointer (record { region = Born 0; object = object; cell = 0 }) 0)
     (place + code_length (constant_code (data_base + nth w.data_offsets object) ++ saving w order x outer mem 5 t)))
 data_address w order x outer mem t object place named is_object small has =
     let found = nth_is w.data_offsets object is_object in
@@ -76,21 +78,22 @@ data_address w order x outer mem t object place named is_object small has =
 -- ---- each
 
 -- the surroundings of an activation's code, and its scope
-abbrev pub surrounding : World → Waiting → List (List ℕ) → ℕ → Surroundings
-surrounding w x blocks low = record { passed = x.fn.passed; own = x.unnamed; blocks = blocks; low = low; statics = w.data_offsets }
+abbrev pub surrounding : World → Waiting → List (List ℕ) → ℕ → Option ℕ → Surroundings
+surrounding w x blocks low held =
+    record { passed = x.fn.passed; own = x.unnamed; blocks = blocks; low = low; statics = w.data_offsets; held = held }
 
 abbrev pub scoped : World → Waiting → List ℕ → Scope
 scoped w x ns =
     record { temporaries = x.fn.temporaries; passed = x.fn.passed; blocks = ns; unnamed = length x.unnamed; data_objects = length w.data_offsets }
 
 module _ (w : World) (order : IsInOrder w) (x : Waiting) (outer : List Waiting) (small : DataSmall w) (own_small : OwnSmall x) (ns : List ℕ)
-    (oss : List (List ℕ)) (low : ℕ)
+    (oss : List (List ℕ)) (low : ℕ) (held : Option ℕ)
     (are : BlocksAre ns x.nest oss) (fuel place : ℕ) (next : Config → Step) where
   abbrev u : Surroundings
-  u = surrounding w x oss low
+  u = surrounding w x oss low held
 
-  abbrev Ends : List Line → Type 0
-  Ends lines = GoesFrom w x outer fuel (place + code_length lines) next
+  abbrev Ends : Option ℕ → List Line → Type 0
+  Ends last lines = GoesHolding w x outer fuel (place + code_length lines) last next
 
   abbrev At_first : Config → Machine → Type 0
   At_first c = At w (with_config x c) outer c.memory place
@@ -100,14 +103,25 @@ module _ (w : World) (order : IsInOrder w) (x : Waiting) (outer : List Waiting) 
 
   -- with a temporary set, or another memory, what goes on goes on
   sets : (c : Config) (t : ℕ) (v : Content) (lines : List Line) → IsIn x c → Comes w (At_first c)
-      (At w (having t v (with_config x c)) outer c.memory (place + code_length lines))
-      → Ends lines → Goes w fuel (next (with_temp t v c)) (At_first c) active
+      (Having w order (with_config x c) outer c.memory t v (place + code_length lines))
+      → Ends (Some t) lines → Goes w fuel (next (with_temp t v c)) (At_first c) active
   sets c t v lines is comes ends =
-      goes_from w (At_first c) active fuel (next (with_temp t v c)) (At w (with_config x (with_temp t v c)) outer c.memory (place + code_length lines)) comes
+      let end = place + code_length lines in
+      let set : v ≡ (with_temp t v c).temps t = ap (λ b. if b then v else c.temps t) (sym (eq-eqb t t refl)) in
+      goes_from w (At_first c) active fuel (next (with_temp t v c)) (AtHolding w (with_config x (with_temp t v c)) outer c.memory end (Some t))
+      (comes_then w _ _ _ comes
+      (comes_as w _ _ (λ s a. subst (λ q. AtWith w (with_config x (with_temp t v c)) outer c.memory end (InRegister 5 q) s) set a)))
       (ends (with_temp t v c) (record { blocks = is.blocks; own = is.own }))
 
+  nulls : (c : Config) (t : ℕ) (lines : List Line) → IsIn x c → Comes w (At_first c) (At w (having t Null (with_config x c)) outer c.memory
+      (place + code_length lines))
+      → Ends None lines → Goes w fuel (next (with_temp t Null c)) (At_first c) active
+  nulls c t lines is comes ends =
+      goes_from w (At_first c) active fuel (next (with_temp t Null c)) (At w (with_config x (with_temp t Null c)) outer c.memory (place + code_length lines))
+      comes (ends (with_temp t Null c) (record { blocks = is.blocks; own = is.own }))
+
   puts_part : (c : Config) (m : Memory) (lines : List Line) → IsIn x c → Comes w (At_first c) (At w (with_config x c) outer m (place + code_length lines))
-      → Ends lines
+      → Ends None lines
       → Goes w fuel (next (with_memory m c)) (At_first c) active
   puts_part c m lines is comes ends =
       goes_from w (At_first c) active fuel (next (with_memory m c)) (At w (with_config x (with_memory m c)) outer m (place + code_length lines))
@@ -133,10 +147,11 @@ module _ (w : World) (order : IsInOrder w) (x : Waiting) (outer : List Waiting) 
       → slice_get c.blocks out ≡ Some k
       → (part : Part) → c.memory.parts (local_spot k local) 0 ≡ Some part → is_live (c.memory.standing (Frame k)) ≡ true → part.offset ≡ 0
       → (width : ℕ) → part.width ≡ width → Has w place (read_code width 2 (nth (nth_block oss out) local) ++ saving_of 5 t)
-      → Ends (read_code width 2 (nth (nth_block oss out) local) ++ saving_of 5 t) → Goes w fuel (next (with_temp t part.content c)) (At_first c) active
+      → Ends (Some t) (read_code width 2 (nth (nth_block oss out) local) ++ saving_of 5 t)
+      → Goes w fuel (next (with_temp t part.content c)) (At_first c) active
   get_goes c t out local k is named has_local block part part_is live offset width wide =
       subst (λ k. Has w place (read_code k 2 (nth (nth_block oss out) local) ++ saving_of 5 t)
-      → Ends (read_code k 2 (nth (nth_block oss out) local) ++ saving_of 5 t) → Goes w fuel (next (with_temp t part.content c)) (At_first c) active) wide
+      → Ends (Some t) (read_code k 2 (nth (nth_block oss out) local) ++ saving_of 5 t) → Goes w fuel (next (with_temp t part.content c)) (At_first c) active) wide
       (λ has ends. sets c t part.content (read_code part.width 2 (nth (nth_block oss out) local) ++ saving_of 5 t) is
       (get w order (with_config x c) outer c.memory (Frame k) local (nth (nth_block oss out) local) (local_few out local has_local)
       (local_lies c out local k has_local block) part part_is live offset t place named has) ends)
@@ -145,10 +160,10 @@ module _ (w : World) (order : IsInOrder w) (x : Waiting) (outer : List Waiting) 
       → slice_get c.blocks out ≡ Some k
       → (part : Part) → c.memory.parts (local_spot k local) 0 ≡ Some part → is_live (c.memory.standing (Frame k)) ≡ true → part.offset ≡ 0
       → (width : ℕ) → part.width ≡ width → Has w place (loading_of 6 y ++ write_code width 2 (nth (nth_block oss out) local))
-      → Ends (loading_of 6 y ++ write_code width 2 (nth (nth_block oss out) local))
+      → Ends None (loading_of 6 y ++ write_code width 2 (nth (nth_block oss out) local))
       → Goes w fuel (next (with_memory (with_part c.memory (local_spot k local) 0 (record part { content = fitting width (c.temps y) })) c)) (At_first c) active
   put_goes c y out local k is named has_local block part part_is live offset width wide =
-      subst (λ k'. Has w place (loading_of 6 y ++ write_code k' 2 (nth (nth_block oss out) local)) → Ends
+      subst (λ k'. Has w place (loading_of 6 y ++ write_code k' 2 (nth (nth_block oss out) local)) → Ends None
       (loading_of 6 y ++ write_code k' 2 (nth (nth_block oss out) local))
       → Goes w fuel (next (with_memory (with_part c.memory (local_spot k local) 0 (record part { content = fitting k' (c.temps y) })) c))
       (At_first c) active) wide
@@ -159,34 +174,34 @@ module _ (w : World) (order : IsInOrder w) (x : Waiting) (outer : List Waiting) 
 
   load_goes : (c : Config) (t p cells j off b : ℕ) (s : Spot) → IsIn x c → t < x.fn.temporaries → p < x.fn.temporaries → c.temps p ≡ Pointer s b
       → (part : Part) → c.memory.parts (beyond s cells) j ≡ Some part → is_live (c.memory.standing s.region) ≡ true → part.offset ≡ b + off
-      → (width : ℕ) → part.width ≡ width → Has w place (loading_of 5 p ++ read_code width 5 off ++ saving_of 5 t) → Ends
+      → (width : ℕ) → part.width ≡ width → Has w place (loading_of 5 p ++ read_code width 5 off ++ saving_of 5 t) → Ends (Some t)
       (loading_of 5 p ++ read_code width 5 off ++ saving_of 5 t)
       → Goes w fuel (next (with_temp t part.content c)) (At_first c) active
   load_goes c t p cells j off b s is named named' points part part_is live offset width wide =
-      subst (λ k. Has w place (loading_of 5 p ++ read_code k 5 off ++ saving_of 5 t) → Ends (loading_of 5 p ++ read_code k 5 off ++ saving_of 5 t)
+      subst (λ k. Has w place (loading_of 5 p ++ read_code k 5 off ++ saving_of 5 t) → Ends (Some t) (loading_of 5 p ++ read_code k 5 off ++ saving_of 5 t)
       → Goes w fuel (next (with_temp t part.content c)) (At_first c) active) wide
       (λ has ends. sets c t part.content (loading_of 5 p ++ read_code part.width 5 off ++ saving_of 5 t) is
       (load w order (with_config x c) outer c.memory (beyond s cells) j part part_is live s b off refl refl offset t p place named named' points has) ends)
 
   store_goes : (c : Config) (p y cells j off b : ℕ) (s : Spot) → IsIn x c → p < x.fn.temporaries → y < x.fn.temporaries → c.temps p ≡ Pointer s b
       → (part : Part) → c.memory.parts (beyond s cells) j ≡ Some part → is_live (c.memory.standing s.region) ≡ true → part.offset ≡ b + off
-      → (width : ℕ) → part.width ≡ width → Has w place (loading_of 5 p ++ loading_of 6 y ++ write_code width 5 off) → Ends
+      → (width : ℕ) → part.width ≡ width → Has w place (loading_of 5 p ++ loading_of 6 y ++ write_code width 5 off) → Ends None
       (loading_of 5 p ++ loading_of 6 y ++ write_code width 5 off)
       → Goes w fuel (next (with_memory (with_part c.memory (beyond s cells) j (record part { content = fitting width (c.temps y) })) c)) (At_first c) active
   store_goes c p y cells j off b s is named named' points part part_is live offset width wide =
-      subst (λ k. Has w place (loading_of 5 p ++ loading_of 6 y ++ write_code k 5 off) → Ends (loading_of 5 p ++ loading_of 6 y ++ write_code k 5 off)
+      subst (λ k. Has w place (loading_of 5 p ++ loading_of 6 y ++ write_code k 5 off) → Ends None (loading_of 5 p ++ loading_of 6 y ++ write_code k 5 off)
       → Goes w fuel (next (with_memory (with_part c.memory (beyond s cells) j (record part { content = fitting k (c.temps y) })) c)) (At_first c) active) wide
       (λ has ends. puts_part c (with_part c.memory (beyond s cells) j (record part { content = fitting part.width (c.temps y) }))
       (loading_of 5 p ++ loading_of 6 y ++ write_code part.width 5 off) is
       (store w order (with_config x c) outer c.memory (beyond s cells) j part part_is live s b off refl refl offset p y place named named' points has) ends)
 
-  pub operation_goes : (o : Operation) → HasCode (scoped w x ns) o → Has w place (operation_code u o) → Ends (operation_code u o)
+  pub operation_goes : (o : Operation) → HasCode (scoped w x ns) o → Has w place (operation_code u o) → Ends (held_behind_operation o) (operation_code u o)
       → GoesFrom w x outer fuel place (does o next)
   operation_goes (Constant t v) named has ends c is =
       sets c t (Word (v % 2 ^ 32)) (operation_code u (Constant t v)) is
       (constant w order (with_config x c) outer c.memory t (v % 2 ^ 32) place named (omega arith) has) ends
   operation_goes (NullPointer t) named has ends c is =
-      sets c t Null (operation_code u (NullPointer t)) is (null_pointer w order (with_config x c) outer c.memory t named place has) ends
+      nulls c t (operation_code u (NullPointer t)) is (null_pointer w order (with_config x c) outer c.memory t named place has) ends
   operation_goes (Move t y) named has ends c is =
       sets c t (c.temps y) (operation_code u (Move t y)) is (move w order (with_config x c) outer c.memory t y place named.0 named.1 has) ends
   operation_goes (Narrow t y) named has ends c is =

@@ -1,6 +1,6 @@
 -- Each statement's code does as the statement means, by the forms of statements, where calls with less fuel do as Core.
 use Rattle.std.specs.Prelude.{length}
-use Rattle.std.proofs.Common.{◌≡◌, ℕ, suc, ◌+◌, ◌^◌, ◌<◌, ◌≤◌, List, [], ◌∷◌, ◌++◌, refl, sym, subst, ◌∙◌, arith}
+use Rattle.std.proofs.Common.{◌≡◌, ℕ, suc, ◌+◌, ◌^◌, ◌<◌, ◌≤◌, List, [], ◌∷◌, ◌++◌, Option, None, refl, sym, subst, ◌∙◌, arith}
 use Rattle.core_meaning.specs.Core.{Local, Statement, Do, If, While, Block, Break, Continue, Call, Return, Raise, Statements, NoStatements, MoreStatements}
 use Rattle.core_meaning.specs.Meaning as core
 use Rattle.core_meaning.specs.Steps.{Config, Step, Falls, Continues}
@@ -8,18 +8,19 @@ use Rattle.core_frames.specs.declared.line.Line.{Line}
 use Rattle.core_frames.specs.declared.line.Line.TheVariants.{Label, Jump}
 use Rattle.core_frames.specs.Lines.{code_length}
 use Rattle.core_frames.specs.Frames.{return_code}
+use Rattle.core_frames.specs.Choosing.{held_behind, held_behind_all, choice_code}
 use Rattle.core_frames.specs.Selected.{offsets_from, end_from, highest, highest_of, labels_in, labels_of, statement_code, statements_code}
 use Rattle.core_frames.specs.Selectable.{HasLinesIn, HaveLinesIn, AreBelow}
 use Rattle.core_frames.proofs.Relations.{active_of, World, IsInOrder, Has, Waiting, Place}
 use Rattle.core_frames.proofs.Access.{behind, length_of_both}
 use Rattle.core_frames.proofs.Passing.{has_first, has_second, AreWithin}
-use Rattle.core_frames.proofs.Bodies.{with_config, GoesFrom, BodyGoes, call_goes, return_goes}
-use Rattle.core_frames.proofs.Forms.{Does, within_block, break_does, nothing_does, sequence_does, block_does, jump_goes, choice_goes, loop_goes}
+use Rattle.core_frames.proofs.Bodies.{with_config, GoesFrom, goes_any, BodyGoes, call_goes, return_goes}
+use Rattle.core_frames.proofs.Forms.{Does, does_any, within_block, break_does, nothing_does, sequence_does, block_does, jump_goes, choice_goes, loop_goes}
 use Rattle.core_frames.proofs.Laying.{NestFits}
 use Rattle.core_frames.proofs.Locals.{offsets_lie, as_many_offsets, end_above, offset_below, highest_of_above, both_below}
 use Rattle.core_frames.proofs.Nests.{BlocksAre}
 use Rattle.core_frames.proofs.Raising.{raise_goes}
-use Rattle.core_frames.proofs.Tests.{test_lines, tests_and_jumps}
+use Rattle.core_frames.proofs.Tests.{tests_and_jumps}
 use Rattle.core_frames.proofs.EachOperation.{DataSmall, OwnSmall, surrounding, scoped, operation_goes}
 
 -- what is so of where a statement stands: the blocks around it, where the next one's locals would begin, and the bytes of the frame
@@ -40,13 +41,16 @@ module _ (w : World) (order : IsInOrder w) (x : Waiting) (outer : List Waiting) 
   from_same : (fuel a b : ℕ) (next : Config → Step) → a ≡ b → GoesFrom w x outer fuel a next → GoesFrom w x outer fuel b next
   from_same fuel a b next e goes = subst (λ p. GoesFrom w x outer fuel p next) e goes
 
-  choice_does : (t next behind_label out again : ℕ) (these those : Statements) (second fourth : List Line) → t < x.fn.temporaries
-      → Does w x outer most second out again (core.statements these) → Does w x outer most fourth out again (core.statements those)
-      → Does w x outer most (test_lines x t next ++ second ++ (Jump behind_label ∷ Label next ∷ []) ++ fourth ++ (Label behind_label ∷ [])) out again
+  choice_does : (held first_last second_last : Option ℕ) (t next behind_label out again : ℕ) (these those : Statements) (second fourth : List Line)
+      → t < x.fn.temporaries
+      → Does w x outer most None first_last second out again (core.statements these)
+      → Does w x outer most None second_last fourth out again (core.statements those)
+      → Does w x outer most held None
+      (choice_code x.fn.passed held t next ++ second ++ (Jump behind_label ∷ Label next ∷ []) ++ fourth ++ (Label behind_label ∷ [])) out again
       (core.statement (If t these those))
-  choice_does t next behind_label out again these those second fourth named one other = record {
+  choice_does held first_last second_last t next behind_label out again these those second fourth named one other = record {
     goes = λ place fuel le k aligned has ways.
-        let first = test_lines x t next in
+        let first = choice_code x.fn.passed held t next in
         let third : List Line = Jump behind_label ∷ Label next ∷ [] in
         let last : List Line = Label behind_label ∷ [] in
         let two = first ++ second in
@@ -65,34 +69,38 @@ module _ (w : World) (order : IsInOrder w) (x : Waiting) (outer : List Waiting) 
         let end' : w.places behind_label ≡ place + code_length three + code_length fourth = at_last.1 ∙ omega (arith, length_of_both three fourth) in
         let falls = from_same fuel (place + code_length (four ++ last)) (w.places behind_label) (k Falls) (sym end) ways.falls in
         let over : GoesFrom w x outer fuel (place + code_length two) (k Falls) =
-        jump_goes w order x outer most (test_lines x) (tests_and_jumps w order x outer) fuel behind_label (place + code_length two) (k Falls)
+        jump_goes w order x outer most (choice_code x.fn.passed) (tests_and_jumps w order x outer) fuel behind_label (place + code_length two) (k Falls)
         (at_third.0, at_third.1, tt) falls in
         let e : place + code_length two ≡ place + code_length first + code_length second = omega (arith, length_of_both first second) in
-        choice_goes w order x outer most (test_lines x) (tests_and_jumps w order x outer) fuel t next place (core.statements these k)
+        choice_goes w order x outer most (choice_code x.fn.passed) (tests_and_jumps w order x outer) fuel held t next place (core.statements these k)
         (core.statements those k) named has1
         (one.goes (place + code_length first) fuel le k (behind place first aligned) at_second (record {
-          falls = from_same fuel (place + code_length two) (place + code_length first + code_length second) (k Falls) e over;
+          falls = goes_any w x outer fuel (place + code_length first + code_length second) first_last (k Falls)
+              (from_same fuel (place + code_length two) (place + code_length first + code_length second) (k Falls) e over);
           breaks = ways.breaks;
           continues = ways.continues;
           returns = ways.returns;
         }))
         (from_same fuel (place + code_length three) (w.places next) (core.statements those k) (sym next_there)
         (other.goes (place + code_length three) fuel le k (behind place three aligned) at_fourth (record {
-          falls = from_same fuel (w.places behind_label) (place + code_length three + code_length fourth) (k Falls) end' falls;
+          falls = goes_any w x outer fuel (place + code_length three + code_length fourth) second_last (k Falls)
+              (from_same fuel (w.places behind_label) (place + code_length three + code_length fourth) (k Falls) end' falls);
           breaks = ways.breaks;
           continues = ways.continues;
           returns = ways.returns;
         })));
   }
 
-  loop_does : (t next behind_label out again : ℕ) (test body : Statements) (second fourth : List Line) → t < x.fn.temporaries
-      → Does w x outer most second out again (core.statements test) → Does w x outer most fourth behind_label next (core.statements body)
-      → Does w x outer most ((Label next ∷ []) ++ second ++ test_lines x t behind_label ++ fourth ++ (Jump next ∷ Label behind_label ∷ [])) out again
+  loop_does : (held last_held : Option ℕ) (t next behind_label out again : ℕ) (test body : Statements) (second fourth : List Line) → t < x.fn.temporaries
+      → Does w x outer most None held second out again (core.statements test)
+      → Does w x outer most None last_held fourth behind_label next (core.statements body)
+      → Does w x outer most None None
+      ((Label next ∷ []) ++ second ++ choice_code x.fn.passed held t behind_label ++ fourth ++ (Jump next ∷ Label behind_label ∷ [])) out again
       (core.statement (While test t body))
-  loop_does t next behind_label out again test body second fourth named one other = record {
+  loop_does held last_held t next behind_label out again test body second fourth named one other = record {
     goes = λ place fuel le k aligned has ways.
         let first : List Line = Label next ∷ [] in
-        let third = test_lines x t behind_label in
+        let third = choice_code x.fn.passed held t behind_label in
         let last : List Line = Jump next ∷ Label behind_label ∷ [] in
         let two = first ++ second in
         let three = two ++ third in
@@ -106,9 +114,9 @@ module _ (w : World) (order : IsInOrder w) (x : Waiting) (outer : List Waiting) 
         let at_last = has_second w place four last has in
         let start : place + 0 ≡ place = omega arith in
         let e : place + code_length three + code_length fourth ≡ place + code_length four = omega (arith, length_of_both three fourth) in
-        loop_goes w order x outer most (test_lines x) (tests_and_jumps w order x outer) place (place + code_length two) (place + code_length three)
+        loop_goes w order x outer most (choice_code x.fn.passed) (tests_and_jumps w order x outer) place (place + code_length two) (place + code_length three)
         (place + code_length (four ++ last))
-        next behind_label out again aligned test t body second fourth k has2.1 (subst (λ p. Has w p second) start at_second)
+        next behind_label out again aligned test t body second fourth held last_held k has2.1 (subst (λ p. Has w p second) start at_second)
         (omega (arith, length_of_both first second)) named at_third
         (omega (arith, length_of_both two third)) at_fourth (behind place three aligned)
         (subst (λ p. Has w p (Jump next ∷ [])) (sym e) (at_last.0, at_last.1, tt))
@@ -134,69 +142,81 @@ module _ (w : World) (order : IsInOrder w) (outer : List Waiting) (small : DataS
       }
 
   mutual
-    pub statement_does : (x : Waiting) (ns : List ℕ) (oss : List (List ℕ)) (low next out again : ℕ) (s : Statement) → IsAround w x ns oss low bytes
-        → HasLinesIn (scoped w x ns) s → highest low s ≤ bytes
-        → Does w x outer most (statement_code bytes (surrounding w x oss low) next out again s) out again (core.statement s)
-    statement_does x ns oss low next out again (Do operation) around has below = record {
-      goes = λ place fuel le k aligned lines ways. operation_goes w order x outer small around.own_small ns oss low around.blocks fuel place
-          (k Falls) operation has lines ways.falls;
+    pub statement_does : (x : Waiting) (ns : List ℕ) (oss : List (List ℕ)) (low : ℕ) (held : Option ℕ) (next out again : ℕ) (s : Statement)
+        → IsAround w x ns oss low bytes → HasLinesIn (scoped w x ns) s → highest low s ≤ bytes
+        → Does w x outer most held (held_behind s) (statement_code bytes (surrounding w x oss low held) next out again s) out again (core.statement s)
+    statement_does x ns oss low held next out again (Do operation) around has below = record {
+      goes = λ place fuel le k aligned lines ways. goes_any w x outer fuel place held (core.statement (Do operation) k)
+          (operation_goes w order x outer small around.own_small ns oss low held around.blocks fuel place (k Falls) operation has lines ways.falls);
     }
-    statement_does x ns oss low next out again (If t these those) around has below =
+    statement_does x ns oss low held next out again (If t these those) around has below =
         let b = both_below (highest_of low these) (highest_of low those) bytes below in
-        let u = surrounding w x oss low in
+        let u = surrounding w x oss low None in
         let behind_label = next + 1 + labels_of these in
-        choice_does w order x outer most t next behind_label out again these those (statements_code bytes u (next + 1) out again these)
+        choice_does w order x outer most held (held_behind_all None these) (held_behind_all None those) t next behind_label out again these those
+        (statements_code bytes u (next + 1) out again these)
         (statements_code bytes u (behind_label + 1) out again those) has.0
-        (statements_do x ns oss low (next + 1) out again these around has.1 b.0)
-        (statements_do x ns oss low (behind_label + 1) out again those around has.2 b.1)
-    statement_does x ns oss low next out again (While test t body) around has below =
+        (statements_do x ns oss low None (next + 1) out again these around has.1 b.0)
+        (statements_do x ns oss low None (behind_label + 1) out again those around has.2 b.1)
+    statement_does x ns oss low held next out again (While test t body) around has below =
         let b = both_below (highest_of low test) (highest_of low body) bytes below in
-        let u = surrounding w x oss low in
+        let u = surrounding w x oss low None in
         let behind_label = next + 1 + labels_of test in
-        loop_does w order x outer most t next behind_label out again test body (statements_code bytes u (next + 1) out again test)
+        let lines = statement_code bytes (surrounding w x oss low held) next out again (While test t body) in
+        does_any w x outer most held None lines out again (core.statement (While test t body))
+        (loop_does w order x outer most (held_behind_all None test) (held_behind_all None body) t next behind_label out again test body
+        (statements_code bytes u (next + 1) out again test)
         (statements_code bytes u (behind_label + 1) behind_label next body) has.0
-        (statements_do x ns oss low (next + 1) out again test around has.1 b.0)
-        (statements_do x ns oss low (behind_label + 1) behind_label next body around has.2 b.1)
-    statement_does x ns oss low next out again (Block ls body) around has below =
+        (statements_do x ns oss low None (next + 1) out again test around has.1 b.0)
+        (statements_do x ns oss low None (behind_label + 1) behind_label next body around has.2 b.1))
+    statement_does x ns oss low held next out again (Block ls body) around has below =
         let high = end_from low ls in
         let p : Place = record { low = low; high = high; offsets = offsets_from low ls } in
         let upto = highest_of_above high body in
         let framed = around.framed in
-        block_does w order x outer most p ls body (statements_code bytes (surrounding w x (offsets_from low ls ∷ oss) high) next out again body) out again
+        let lines = statements_code bytes (surrounding w x (offsets_from low ls ∷ oss) high None) next out again body in
+        does_any w x outer most held None lines out again (core.statement (Block ls body))
+        (block_does w order x outer most p ls body (held_behind_all None body) lines out again
         (offsets_lie low ls has.0) (omega (arith, upto, below, framed)) around.nest
-        (λ k. statements_do (within_block x p k) (length ls ∷ ns) (offsets_from low ls ∷ oss) high next out again body
+        (λ k. statements_do (within_block x p k) (length ls ∷ ns) (offsets_from low ls ∷ oss) high None next out again body
         (in_block x ns oss low k ls around (omega (arith, upto, below)))
-        has.1 below)
-    statement_does x ns oss low next out again Break around has below = break_does w order x outer most (test_lines x)
-        (tests_and_jumps w order x outer) out again
-    statement_does x ns oss low next out again Continue around has below = record {
-      goes = λ place fuel le k aligned lines ways. jump_goes w order x outer most (test_lines x) (tests_and_jumps w order x outer) fuel again place
-          (k Continues) lines ways.continues;
+        has.1 below))
+    statement_does x ns oss low held next out again Break around has below =
+        does_any w x outer most held None (Jump out ∷ []) out again (core.statement Break)
+        (break_does w order x outer most (choice_code x.fn.passed) (tests_and_jumps w order x outer) out again)
+    statement_does x ns oss low held next out again Continue around has below = record {
+      goes = λ place fuel le k aligned lines ways. goes_any w x outer fuel place held (k Continues)
+          (jump_goes w order x outer most (choice_code x.fn.passed) (tests_and_jumps w order x outer) fuel again place (k Continues) lines ways.continues);
     }
-    statement_does x ns oss low next out again (Call results f arguments) around has below = record {
+    statement_does x ns oss low held next out again (Call results f arguments) around has below = record {
       goes = λ place fuel le k aligned lines ways.
-          call_goes w order x outer fuel results f arguments (same_below x.fn.temporaries results has.0)
+          goes_any w x outer fuel place held (core.statement (Call results f arguments) k)
+          (call_goes w order x outer fuel results f arguments (same_below x.fn.temporaries results has.0)
           (same_below x.fn.temporaries arguments has.1) has.2 k place aligned lines
-          (λ j less. calls j (omega (arith, less, le)) f) ways.falls;
+          (λ j less. calls j (omega (arith, less, le)) f) ways.falls);
     }
-    statement_does x ns oss low next out again (Return values) around has below = record {
+    statement_does x ns oss low held next out again (Return values) around has below = record {
       goes = λ place fuel le k aligned lines ways.
-          return_goes w order x outer fuel values k place (same_below x.fn.temporaries values has.0) has.1
-          (subst (λ b. Has w place (return_code b x.fn.passed values)) (sym around.framed) lines) ways.returns;
+          goes_any w x outer fuel place held (core.statement (Return values) k)
+          (return_goes w order x outer fuel values k place (same_below x.fn.temporaries values has.0) has.1
+          (subst (λ b. Has w place (return_code b x.fn.passed values)) (sym around.framed) lines) ways.returns);
     }
-    statement_does x ns oss low next out again (Raise kind) around has below = record {
-      goes = λ place fuel le k aligned lines ways c is.
-          raise_goes w order (with_config x c) outer c.memory fuel kind place (active_of w (x ∷ outer)) lines;
+    statement_does x ns oss low held next out again (Raise kind) around has below = record {
+      goes = λ place fuel le k aligned lines ways. goes_any w x outer fuel place held (core.statement (Raise kind) k)
+          (λ c is. raise_goes w order (with_config x c) outer c.memory fuel kind place (active_of w (x ∷ outer)) lines);
     }
 
-    pub statements_do : (x : Waiting) (ns : List ℕ) (oss : List (List ℕ)) (low next out again : ℕ) (ss : Statements) → IsAround w x ns oss low bytes
-        → HaveLinesIn (scoped w x ns) ss → highest_of low ss ≤ bytes
-        → Does w x outer most (statements_code bytes (surrounding w x oss low) next out again ss) out again (core.statements ss)
-    statements_do x ns oss low next out again NoStatements around has below = nothing_does w order x outer most (test_lines x)
-        (tests_and_jumps w order x outer) out again
-    statements_do x ns oss low next out again (MoreStatements s ss) around has below =
+    pub statements_do : (x : Waiting) (ns : List ℕ) (oss : List (List ℕ)) (low : ℕ) (held : Option ℕ) (next out again : ℕ) (ss : Statements)
+        → IsAround w x ns oss low bytes → HaveLinesIn (scoped w x ns) ss → highest_of low ss ≤ bytes
+        → Does w x outer most held (held_behind_all held ss) (statements_code bytes (surrounding w x oss low held) next out again ss) out again
+        (core.statements ss)
+    statements_do x ns oss low held next out again NoStatements around has below = nothing_does w order x outer most (choice_code x.fn.passed)
+        (tests_and_jumps w order x outer) held out again
+    statements_do x ns oss low held next out again (MoreStatements s ss) around has below =
         let b = both_below (highest low s) (highest_of low ss) bytes below in
-        let u = surrounding w x oss low in
-        sequence_does w order x outer most (test_lines x) (tests_and_jumps w order x outer) (statement_code bytes u next out again s)
-        (statements_code bytes u (next + labels_in s) out again ss) out again s ss
-        (statement_does x ns oss low next out again s around has.0 b.0) (statements_do x ns oss low (next + labels_in s) out again ss around has.1 b.1)
+        let last = held_behind s in
+        sequence_does w order x outer most (choice_code x.fn.passed) (tests_and_jumps w order x outer) held last (held_behind_all last ss)
+        (statement_code bytes (surrounding w x oss low held) next out again s)
+        (statements_code bytes (surrounding w x oss low last) (next + labels_in s) out again ss) out again s ss
+        (statement_does x ns oss low held next out again s around has.0 b.0)
+        (statements_do x ns oss low last (next + labels_in s) out again ss around has.1 b.1)

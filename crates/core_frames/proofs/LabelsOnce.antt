@@ -1,5 +1,5 @@
 -- Each label of a program's code is placed once: functions have the first labels, and the statements of each function those behind the statements before.
-use Rattle.std.proofs.Common.{◌≡◌, ℕ, zero, suc, pos, ◌+◌, ◌*◌, ◌/◌, ◌%◌, ◌≤◌, ◌<◌, ◌^◌, ◌⊎◌, inl, inr, Bool, true, false, nat_eq, List, [], ◌∷◌, ◌++◌, refl}
+use Rattle.std.proofs.Common.{◌≡◌, ℕ, zero, suc, pos, ◌+◌, ◌*◌, ◌/◌, ◌%◌, ◌≤◌, ◌<◌, ◌^◌, ◌⊎◌, inl, inr, Bool, true, false, nat_eq, List, [], ◌∷◌, ◌++◌, Option, None, refl}
 use Rattle.std.proofs.Common.{sym, ap, subst, ◌∙◌, arith, append_assoc}
 use Rattle.std.specs.Prelude.{if◌then◌else◌, length}
 use Rattle.std.specs.List.{All}
@@ -21,8 +21,10 @@ use Rattle.core_frames.specs.Lines.{labels_placed, AreOnce}
 use Rattle.core_frames.specs.Frames.{is_short, word_code, load_code, save_code, slot_of, pass_code, result_code, call_code, environment_code, raise_code, take_code}
 use Rattle.core_frames.specs.Frames.{test_code, move_code, prologue_code, values_code, leave_code, return_code}
 use Rattle.core_frames.specs.Selected.{frame_bytes, Surroundings, local_offset, nth, from_temp, to_temp, constant_code, far_code, read_line, read_code}
-use Rattle.core_frames.specs.Selected.{write_line, write_code, binary_code, address_code, bytes_code, operation_code, labels_in, labels_of, choice_code, within_block}
-use Rattle.core_frames.specs.Selected.{further_code, are_words, copy_loop, bytes_in, clear_loop}
+use Rattle.core_frames.specs.Loops.{are_words, copy_loop, clear_loop}
+use Rattle.core_frames.specs.Choosing.{is_held, held_behind, held_behind_all, held_or_loaded, choice_code}
+use Rattle.core_frames.specs.Selected.{write_line, write_code, binary_code, address_code, bytes_code, operation_code, labels_in, labels_of, holding, within_block}
+use Rattle.core_frames.specs.Selected.{further_code, bytes_in}
 use Rattle.core_frames.specs.Selected.{statement_code, statements_code, around, function_code, functions_code, program_code}
 use Rattle.core_frames.specs.Running.{data_offsets}
 
@@ -196,8 +198,10 @@ operation_none u (KeyOpen k) = refl
 operation_none u (KeyClose k) = refl
 operation_none u (KeyFree k) = refl
 
-choice_code_none : (u : Surroundings) (t label : ℕ) → labels_placed (choice_code u t label) ≡ []
-choice_code_none u t label = two (from_temp u 5 t) (JumpIfZero 5 label ∷ []) (from_none u 5 t) refl
+choice_code_none : (passed : ℕ) (held : Option ℕ) (t label : ℕ) → labels_placed (choice_code passed held t label) ≡ []
+choice_code_none passed held t label =
+    two (held_or_loaded passed held t) (JumpIfZero 5 label ∷ [])
+    (choice_none (is_held held t) [] (load_code 5 (slot_of passed t)) refl (load_none 5 (slot_of passed t))) refl
 
 pass_none : (passed k : ℕ) (ts : List ℕ) → labels_placed (pass_code passed k ts) ≡ []
 pass_none passed k [] = refl
@@ -258,38 +262,39 @@ mutual
   statement_places bytes u next out again (If t these those) =
       let behind = next + 1 + labels_of these in
       let end = next + labels_in (If t these those) in
-      let front = choice_code u t next ++ statements_code bytes u (next + 1) out again these in
+      let front = choice_code u.passed u.held t next ++ statements_code bytes (holding None u) (next + 1) out again these in
       let over : List Line = Jump behind ∷ Label next ∷ [] in
-      let second = statements_code bytes u (behind + 1) out again those in
+      let second = statements_code bytes (holding None u) (behind + 1) out again those in
       let last : List Line = Label behind ∷ [] in
       let first : PlacesFrom (next + 1) behind front =
-      join (next + 1) behind (none_from (next + 1) (next + 1) (choice_code u t next) (choice_code_none u t next))
-      (statements_places bytes u (next + 1) out again these)
+      join (next + 1) behind (none_from (next + 1) (next + 1) (choice_code u.passed u.held t next) (choice_code_none u.passed u.held t next))
+      (statements_places bytes (holding None u) (next + 1) out again these)
       (omega arith) (omega arith) (omega arith) (omega arith) (inl (omega arith)) in
       let choice : PlacesFrom next behind (front ++ over) =
       join next behind first (one_from next over refl) (omega arith) (omega arith) (omega arith) (omega arith) (inr (omega arith)) in
       let others : PlacesFrom behind end (second ++ last) =
-      join behind end (statements_places bytes u (behind + 1) out again those) (one_from behind last refl) (omega arith) (omega arith) (omega arith)
-      (omega arith) (inr (omega arith)) in
+      join behind end (statements_places bytes (holding None u) (behind + 1) out again those) (one_from behind last refl) (omega arith) (omega arith)
+      (omega arith) (omega arith) (inr (omega arith)) in
       subst (PlacesFrom next end) (sym (append_assoc (front ++ over) second last))
       (join next end choice others (omega arith) (omega arith) (omega arith) (omega arith) (inl (omega arith)))
   statement_places bytes u next out again (While test t body) =
       let behind = next + 1 + labels_of test in
       let end = next + labels_in (While test t body) in
       let start : List Line = Label next ∷ [] in
-      let front = start ++ statements_code bytes u (next + 1) out again test in
-      let leaves = choice_code u t behind in
-      let inside = statements_code bytes u (behind + 1) behind next body in
+      let front = start ++ statements_code bytes (holding None u) (next + 1) out again test in
+      let held = held_behind_all None test in
+      let leaves = choice_code u.passed held t behind in
+      let inside = statements_code bytes (holding None u) (behind + 1) behind next body in
       let last : List Line = Jump next ∷ Label behind ∷ [] in
       let first : PlacesFrom next behind front =
-      join next behind (one_from next start refl) (statements_places bytes u (next + 1) out again test) (omega arith) (omega arith) (omega arith) (omega arith)
-      (inl (omega arith)) in
+      join next behind (one_from next start refl) (statements_places bytes (holding None u) (next + 1) out again test) (omega arith) (omega arith)
+      (omega arith) (omega arith) (inl (omega arith)) in
       let tested : PlacesFrom next behind (front ++ leaves) =
-      join next behind first (none_from behind behind leaves (choice_code_none u t behind)) (omega arith) (omega arith) (omega arith) (omega arith)
+      join next behind first (none_from behind behind leaves (choice_code_none u.passed held t behind)) (omega arith) (omega arith) (omega arith) (omega arith)
       (inl (omega arith)) in
       let others : PlacesFrom behind end (inside ++ last) =
-      join behind end (statements_places bytes u (behind + 1) behind next body) (one_from behind last refl) (omega arith) (omega arith) (omega arith)
-      (omega arith) (inr (omega arith)) in
+      join behind end (statements_places bytes (holding None u) (behind + 1) behind next body) (one_from behind last refl) (omega arith) (omega arith)
+      (omega arith) (omega arith) (inr (omega arith)) in
       subst (PlacesFrom next end) (sym (append_assoc (front ++ leaves) inside last))
       (join next end tested others (omega arith) (omega arith) (omega arith) (omega arith) (inl (omega arith)))
   statement_places bytes u next out again (Block locals body) = statements_places bytes (within_block locals u) next out again body
@@ -305,7 +310,7 @@ mutual
   statements_places bytes u next out again NoStatements = none_from next (next + 0) [] refl
   statements_places bytes u next out again (MoreStatements s ss) =
       join next (next + labels_of (MoreStatements s ss)) (statement_places bytes u next out again s)
-      (statements_places bytes u (next + labels_in s) out again ss)
+      (statements_places bytes (holding (held_behind s) u) (next + labels_in s) out again ss)
       (omega arith) (omega arith) (omega arith) (omega arith) (inl (omega arith))
 
 -- ---- functions

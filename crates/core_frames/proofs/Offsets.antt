@@ -17,7 +17,7 @@ use Rattle.core_frames.proofs.Words.{short_word}
 use Rattle.core_frames.proofs.Slots.{Kept, set_here, set_there}
 use Rattle.core_frames.proofs.Passing.{has_first, has_second}
 use Rattle.core_frames.proofs.Registers.{InRegister, in_turn, puts}
-use Rattle.core_frames.proofs.Operations.{having, Here, With, loading, saving, loads_into, then_saves, word_into}
+use Rattle.core_frames.proofs.Operations.{Having, Here, With, loading, saving, loads_into, then_saves, word_into}
 
 module _ (w : World) (order : IsInOrder w) (x : Waiting) (outer : List Waiting) (mem : Memory) where
   -- what held before x7 got a word
@@ -72,7 +72,7 @@ module _ (w : World) (order : IsInOrder w) (x : Waiting) (outer : List Waiting) 
   pub offset : (t p cells bytes b : ℕ) (s : Spot) (place : ℕ) → t < x.fn.temporaries → p < x.fn.temporaries → x.config.temps p ≡ Pointer s b
       → b + bytes < too_far
       → Has w place (loading w order x outer mem 5 p ++ further_code 5 bytes ++ saving w order x outer mem 5 t)
-      → Comes w (Here w order x outer mem place) (At w (having t (Pointer (beyond s cells) (b + bytes)) x) outer mem
+      → Comes w (Here w order x outer mem place) (Having w order x outer mem t (Pointer (beyond s cells) (b + bytes))
       (place + code_length (loading w order x outer mem 5 p ++ further_code 5 bytes ++ saving w order x outer mem 5 t)))
   offset t p cells bytes b s place named named' points few has =
       let first = loading w order x outer mem 5 p in

@@ -27,7 +27,7 @@ use Rattle.core_frames.proofs.Words.{short_word}
 use Rattle.core_frames.proofs.Steps.{state_at}
 use Rattle.core_frames.proofs.Slots.{Kept}
 use Rattle.core_frames.proofs.Passing.{has_first, has_second, temp_lies}
-use Rattle.core_frames.proofs.Registers.{AtWith, InRegister, in_turn, knows, at_with, loads_temp, saves_temp, puts, puts_into}
+use Rattle.core_frames.proofs.Registers.{AtWith, InRegister, in_turn, knows, at_with, loads_temp, saves_held, puts, puts_into}
 use Rattle.core_frames.proofs.Values.{Both, computes}
 
 -- an activation with a temporary set
@@ -43,6 +43,10 @@ module _ (w : World) (order : IsInOrder w) (x : Waiting) (outer : List Waiting) 
 
   abbrev Free : Maps → (ℕ → ℕ) → Type 0
   Free m registers = Unit {0}
+
+  -- with a temporary set whose value is in x5
+  abbrev pub Having : ℕ → Content → ℕ → Machine → Type 0
+  Having t v place = AtWith w (having t v x) outer mem place (InRegister 5 v)
 
   abbrev pub loading : ℕ → ℕ → List Line
   loading r t = load_code r (slot_of x.fn.passed t)
@@ -87,11 +91,11 @@ module _ (w : World) (order : IsInOrder w) (x : Waiting) (outer : List Waiting) 
   -- code that leaves a value in x5, which is saved
   pub then_saves : (t place : ℕ) (v : Content) (first : List Line) → t < x.fn.temporaries → Has w place (first ++ saving 5 t)
       → (Has w place first → Comes w (Here place) (With (InRegister 5 v) (place + code_length first)))
-      → Comes w (Here place) (At w (having t v x) outer mem (place + code_length (first ++ saving 5 t)))
+      → Comes w (Here place) (Having t v (place + code_length (first ++ saving 5 t)))
   then_saves t place v first named has comes =
-      in_turn w (Here place) (With (InRegister 5 v)) (λ p. At w (having t v x) outer mem p) place first (saving 5 t)
+      in_turn w (Here place) (With (InRegister 5 v)) (Having t v) place first (saving 5 t)
       (comes (has_first w place first (saving 5 t) has))
-      (saves_temp w order x outer mem 4 t (place + code_length first) v named refl (has_second w place first (saving 5 t) has))
+      (saves_held w order x outer mem 4 t (place + code_length first) v named refl (has_second w place first (saving 5 t) has))
 
   -- ---- constants
 
@@ -115,7 +119,7 @@ module _ (w : World) (order : IsInOrder w) (x : Waiting) (outer : List Waiting) 
       by false long has = word_into 4 v place Free (λ m registers. registers 5 ≡ v) refl small has (λ m new old is kept h. is)
 
   pub constant : (t v place : ℕ) → t < x.fn.temporaries → v < 2 ^ 32 → Has w place (constant_code v ++ saving 5 t)
-      → Comes w (Here place) (At w (having t (Word v) x) outer mem (place + code_length (constant_code v ++ saving 5 t)))
+      → Comes w (Here place) (Having t (Word v) (place + code_length (constant_code v ++ saving 5 t)))
   constant t v place named small has = then_saves t place (Word v) (constant_code v) named has
       (λ has. comes_then w _ _ _ (constant_into v place small has)
       (comes_as w _ _ (λ s a. knows w order x outer mem (place + code_length (constant_code v)) _ (InRegister 5 (Word v)) s
@@ -124,7 +128,7 @@ module _ (w : World) (order : IsInOrder w) (x : Waiting) (outer : List Waiting) 
   -- ---- moves, and operations on words
 
   pub move : (t u place : ℕ) → t < x.fn.temporaries → u < x.fn.temporaries → Has w place (loading 5 u ++ saving 5 t)
-      → Comes w (Here place) (At w (having t (x.config.temps u) x) outer mem (place + code_length (loading 5 u ++ saving 5 t)))
+      → Comes w (Here place) (Having t (x.config.temps u) (place + code_length (loading 5 u ++ saving 5 t)))
   move t u place named named' has = then_saves t place (x.config.temps u) (loading 5 u) named has (λ has. loads_into 4 u place named' refl has)
 
   -- a temporary in x5, and an instruction on it
@@ -143,7 +147,7 @@ module _ (w : World) (order : IsInOrder w) (x : Waiting) (outer : List Waiting) 
 
   pub narrow : (t u n place : ℕ) → t < x.fn.temporaries → u < x.fn.temporaries → x.config.temps u ≡ Word n
       → Has w place (loading 5 u ++ (Plain (instr.Andi 5 5 (pos 255)) ∷ []) ++ saving 5 t)
-      → Comes w (Here place) (At w (having t (Word (n % 256)) x) outer mem
+      → Comes w (Here place) (Having t (Word (n % 256))
       (place + code_length (loading 5 u ++ (Plain (instr.Andi 5 5 (pos 255)) ∷ []) ++ saving 5 t)))
   narrow t u n place named named' is has = then_saves t place (Word (n % 256)) (loading 5 u ++ (Plain (instr.Andi 5 5 (pos 255)) ∷ [])) named has
       (λ has. one_more u place (instr.Andi 5 5 (pos 255)) (Word (n % 256)) (λ registers. bit_and (registers 5) (word (pos 255))) named' has (λ r b st a. refl)
@@ -156,7 +160,7 @@ module _ (w : World) (order : IsInOrder w) (x : Waiting) (outer : List Waiting) 
   pub apply : (o : Binary) (t u v a b place : ℕ) → t < x.fn.temporaries → u < x.fn.temporaries → v < x.fn.temporaries → x.config.temps u ≡ Word a
       → x.config.temps v ≡ Word b
       → Has w place (loading 5 u ++ loading 6 v ++ binary_code o ++ saving 5 t)
-      → Comes w (Here place) (At w (having t (Word (two o a b)) x) outer mem (place + code_length (loading 5 u ++ loading 6 v ++ binary_code o ++ saving 5 t)))
+      → Comes w (Here place) (Having t (Word (two o a b)) (place + code_length (loading 5 u ++ loading 6 v ++ binary_code o ++ saving 5 t)))
   apply o t u v a b place named named' named'' is is' has = then_saves t place (Word (two o a b)) (loading 5 u ++ loading 6 v ++ binary_code o) named has
       (λ has. in_turn w (Here place) (With (Both a b)) (With (InRegister 5 (Word (two o a b)))) place (loading 5 u ++ loading 6 v) (binary_code o)
       (subst (λ c. Comes w (Here place) (With (Loaded (Word a) c) (place + code_length (loading 5 u ++ loading 6 v)))) is'
@@ -169,21 +173,21 @@ module _ (w : World) (order : IsInOrder w) (x : Waiting) (outer : List Waiting) 
   module _ (t u place : ℕ) (named : t < x.fn.temporaries) (named' : u < x.fn.temporaries)
       (has : Has w place (loading 5 u ++ (Plain (instr.Sltiu 5 5 (pos 1)) ∷ []) ++ saving 5 t)) where
     is_null_as : (n : ℕ) → ((m : Maps) (registers : ℕ → ℕ) → InRegister 5 (x.config.temps u) m registers → (truth (nat_lt (registers 5) 1) ≡ n) × (n < 2 ^ 32))
-        → Comes w (Here place) (At w (having t (Word n) x) outer mem (place + code_length
+        → Comes w (Here place) (Having t (Word n) (place + code_length
         (loading 5 u ++ (Plain (instr.Sltiu 5 5 (pos 1)) ∷ []) ++ saving 5 t)))
     is_null_as n gets = then_saves t place (Word n) (loading 5 u ++ (Plain (instr.Sltiu 5 5 (pos 1)) ∷ [])) named has
         (λ has. one_more u place (instr.Sltiu 5 5 (pos 1)) (Word n) (λ registers. truth (nat_lt (registers 5) 1)) named' has (λ r b st a. refl) (λ _. tt)
         (λ m registers h. let g = gets m registers h in (g.0, subst (λ k. k < 2 ^ 32) (sym g.0) g.1)))
 
     pub null_is : x.config.temps u ≡ Null
-        → Comes w (Here place) (At w (having t (Word 1) x) outer mem (place + code_length
+        → Comes w (Here place) (Having t (Word 1) (place + code_length
         (loading 5 u ++ (Plain (instr.Sltiu 5 5 (pos 1)) ∷ []) ++ saving 5 t)))
     null_is is = is_null_as 1 (λ m registers h.
         let zero_is : registers 5 ≡ 0 = subst (λ v. Shows m v (registers 5)) is h.0 in
         (ap truth (lt-ltb (registers 5) 1 (omega (arith, zero_is))), omega arith))
 
     pub pointer_is : (s : Spot) (b : ℕ) → x.config.temps u ≡ Pointer s b
-        → Comes w (Here place) (At w (having t (Word 0) x) outer mem (place + code_length
+        → Comes w (Here place) (Having t (Word 0) (place + code_length
         (loading 5 u ++ (Plain (instr.Sltiu 5 5 (pos 1)) ∷ []) ++ saving 5 t)))
     pointer_is s b is = is_null_as 0 (λ m registers h.
         let points : Points m s b (registers 5) = subst (λ v. Shows m v (registers 5)) is h.0 in

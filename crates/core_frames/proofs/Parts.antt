@@ -19,7 +19,7 @@ use Rattle.core_frames.proofs.Passing.{has_first, has_second}
 use Rattle.core_frames.proofs.Registers.{AtWith, InRegister, in_turn, knows, puts}
 use Rattle.core_frames.proofs.Reaching.{Reaches, reads}
 use Rattle.core_frames.proofs.Writing.{stored, writes}
-use Rattle.core_frames.proofs.Operations.{having, Here, With, loading, saving, loads_into, loads_both, then_saves, word_into}
+use Rattle.core_frames.proofs.Operations.{Having, Here, With, loading, saving, loads_into, loads_both, then_saves, word_into}
 
 -- ---- through pointers
 
@@ -39,7 +39,7 @@ module _ (w : World) (order : IsInOrder w) (x : Waiting) (outer : List Waiting) 
   pub load : (t p place : ℕ) → t < x.fn.temporaries → p < x.fn.temporaries → x.config.temps p ≡ Pointer s b
       → Has w place (loading w order x outer mem 5 p ++ read_code part.width 5 off ++ saving w order x outer mem 5 t)
       → Comes w (Here w order x outer mem place)
-      (At w (having t part.content x) outer mem (place + code_length (loading w order x outer mem 5 p ++ read_code part.width 5 off ++ saving w order x outer
+      (Having w order x outer mem t part.content (place + code_length (loading w order x outer mem 5 p ++ read_code part.width 5 off ++ saving w order x outer
       mem 5 t)))
   load t p place named named' points has =
       let first = loading w order x outer mem 5 p in
@@ -121,7 +121,7 @@ module _ (w : World) (order : IsInOrder w) (x : Waiting) (outer : List Waiting) 
 
     pub get : (t place : ℕ) → t < x.fn.temporaries → Has w place (read_code part.width 2 off ++ saving w order x outer mem 5 t)
         → Comes w (Here w order x outer mem place)
-        (At w (having t part.content x) outer mem (place + code_length (read_code part.width 2 off ++ saving w order x outer mem 5 t)))
+        (Having w order x outer mem t part.content (place + code_length (read_code part.width 2 off ++ saving w order x outer mem 5 t)))
     get t place named has = then_saves w order x outer mem t place part.content (read_code part.width 2 off) named has
         (λ has. comes_then w _ _ _ (begin place)
         (comes_then w _ _ _ (knows_object place Free (λ m registers. Reaches m (first_spot) part (registers 2 + off))
@@ -205,6 +205,6 @@ module _ (w : World) (order : IsInOrder w) (x : Waiting) (outer : List Waiting) 
 
   pub object_address : (t place : ℕ) → t < x.fn.temporaries → Has w place (address_code off ++ saving w order x outer mem 5 t)
       → Comes w (Here w order x outer mem place)
-      (At w (having t (Pointer (first_spot) 0) x) outer mem (place + code_length (address_code off ++ saving w order x outer mem 5 t)))
+      (Having w order x outer mem t (Pointer (first_spot) 0) (place + code_length (address_code off ++ saving w order x outer mem 5 t)))
   object_address t place named has = then_saves w order x outer mem t place (Pointer (first_spot) 0) (address_code off) named has
       (λ has. address_into place has)

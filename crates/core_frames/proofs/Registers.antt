@@ -3,7 +3,7 @@ use Rattle.arena_laws.specs.Lawful.{Answer}
 use Rattle.rv32_machine.specs.Run.{Run}
 use Rattle.core_frames.specs.Machines.{state_of}
 use Rattle.std.specs.Prelude.{nat_eq}
-use Rattle.std.proofs.Common.{◌≡◌, ℕ, suc, ◌+◌, ◌/◌, ◌%◌, ◌^◌, ◌<◌, false, List, ◌∷◌, ◌++◌, refl, sym, subst, arith}
+use Rattle.std.proofs.Common.{◌≡◌, ℕ, suc, ◌+◌, ◌/◌, ◌%◌, ◌^◌, ◌<◌, false, List, ◌∷◌, ◌++◌, Option, Some, None, refl, sym, subst, arith}
 use Rattle.rv32_isa.specs.declared.instruction.Instr.{Instr}
 use Rattle.core_meaning.specs.Memory.{Content, Memory}
 use Rattle.core_meaning.specs.Steps.{with_temp}
@@ -16,7 +16,7 @@ use Rattle.core_frames.specs.Lines.{HasInstr, code_length}
 use Rattle.core_frames.specs.Frames.{word_code, load_code, save_code, slot_of}
 use Rattle.core_frames.specs.Lies.{Maps, Shows, Activation}
 use Rattle.core_frames.proofs.Relations.{Moves, World, IsInOrder, Has, Waiting, back_of, FrameShows, StackShows, Stands, At}
-use Rattle.core_frames.proofs.Moving.{Comes, comes_then, bare}
+use Rattle.core_frames.proofs.Moving.{Comes, comes_then, comes_as, bare}
 use Rattle.core_frames.proofs.Steps.{state_at, gives_value}
 use Rattle.core_frames.proofs.Slots.{Kept, set_there, puts_word}
 use Rattle.core_frames.proofs.Access.{length_of_both, written_out, loads, saves, stands_behind}
@@ -36,6 +36,18 @@ pub record AtWith (w : World) (x : Waiting) (outer : List Waiting) (mem : Memory
 -- a register has a word that shows a value
 abbrev pub InRegister : ℕ → Content → Maps → (ℕ → ℕ) → Type 0
 InRegister r v m registers = Shows m v (registers r) × (registers r < 2 ^ 32)
+
+-- in an activation, at a place, with a temporary in x5 where one is known to be
+abbrev pub AtHolding : World → Waiting → List Waiting → Memory → ℕ → Option ℕ → Machine → Type 0
+AtHolding w x outer mem place None s = At w x outer mem place s
+AtHolding w x outer mem place (Some t) s = AtWith w x outer mem place (InRegister 5 (x.config.temps t)) s
+
+-- it isn't needed
+pub at_any : (w : World) (x : Waiting) (outer : List Waiting) (mem : Memory) (place : ℕ) (held : Option ℕ) (s : Machine)
+    → AtHolding w x outer mem place held s → At w x outer mem place s
+at_any w x outer mem place None s a = a
+at_any w x outer mem place (Some t) s a =
+    record { maps = a.maps; frame = a.frame; others = a.others; sp = a.sp; stands = a.stands; shows = a.shows; stack = a.stack }
 
 -- one part of code, and the next
 pub in_turn : (w : World) (R : Machine → Type 0) (F G : ℕ → Machine → Type 0) (place : ℕ) (first second : List Line) → Comes w R (F (place + code_length first))
@@ -111,11 +123,12 @@ module _ (w : World) (order : IsInOrder w) (x : Waiting) (outer : List Waiting) 
             };
       }
 
-  -- a register into a temporary
-  pub saves_temp : (r t place : ℕ) (v : Content) → t < x.fn.temporaries → nat_eq (suc r) 7 ≡ false → Has w place (save_code (suc r) (slot_of x.fn.passed t))
+  -- a register into a temporary, which the register goes on to hold
+  pub saves_held : (r t place : ℕ) (v : Content) → t < x.fn.temporaries → nat_eq (suc r) 7 ≡ false → Has w place (save_code (suc r) (slot_of x.fn.passed t))
       → Comes w (AtWith w x outer mem place (InRegister (suc r) v))
-      (At w (record x { config = with_temp t v x.config }) outer mem (place + code_length (save_code (suc r) (slot_of x.fn.passed t))))
-  saves_temp r t place v named not7 has = record {
+      (AtWith w (record x { config = with_temp t v x.config }) outer mem (place + code_length (save_code (suc r) (slot_of x.fn.passed t)))
+      (InRegister (suc r) v))
+  saves_held r t place v named not7 has = record {
     count = code_length (save_code (suc r) (slot_of x.fn.passed t)) / 4;
     by = λ s a.
         let size = a.shows.size in
@@ -132,9 +145,23 @@ module _ (w : World) (order : IsInOrder w) (x : Waiting) (outer : List Waiting) 
             stands = l.stands_on;
             shows = frame_set w a.maps x (back_of w outer) a.frame t v a.shows;
             stack = a.stack;
+            holds = subst (λ n. Shows a.maps v n × (n < 2 ^ 32)) (sym (l.kept (suc r) not7 not7)) a.holds;
           };
         };
   }
+
+  pub saves_temp : (r t place : ℕ) (v : Content) → t < x.fn.temporaries → nat_eq (suc r) 7 ≡ false → Has w place (save_code (suc r) (slot_of x.fn.passed t))
+      → Comes w (AtWith w x outer mem place (InRegister (suc r) v))
+      (At w (record x { config = with_temp t v x.config }) outer mem (place + code_length (save_code (suc r) (slot_of x.fn.passed t))))
+  saves_temp r t place v named not7 has = comes_then w _ _ _ (saves_held r t place v named not7 has) (comes_as w _ _ (λ s a. record {
+    maps = a.maps;
+    frame = a.frame;
+    others = a.others;
+    sp = a.sp;
+    stands = a.stands;
+    shows = a.shows;
+    stack = a.stack;
+  }))
 
   -- an instruction that puts a value into a register
   pub puts : (r place : ℕ) (P Q : Maps → (ℕ → ℕ) → Type 0) (instr : Instr) (value : (ℕ → ℕ) → ℕ) → nat_eq 2 (suc r) ≡ false → HasInstr w.areas w.code

@@ -1,6 +1,6 @@
 -- What jumps and the code of a test do.
 use Rattle.std.specs.Prelude.{nat_eq, not, if◌then◌else◌}
-use Rattle.std.proofs.Common.{◌≡◌, ℕ, pos, ◌+◌, ◌<◌, ◌≤◌, Bool, true, false, List, [], ◌∷◌, ◌++◌, refl, sym, ap, subst, ◌∙◌, arith}
+use Rattle.std.proofs.Common.{◌≡◌, ℕ, pos, ◌+◌, ◌<◌, ◌≤◌, Bool, true, false, List, [], ◌∷◌, ◌++◌, Option, Some, None, refl, sym, ap, subst, ◌∙◌, arith}
 use Rattle.std.proofs.lemmas.Bool.{eqb-true, eq-eqb, ne_eqb}
 use Rattle.cyc_words.specs.Events.{SourceEnding}
 use Rattle.cyc_words.specs.Words.{word, sum_of}
@@ -22,11 +22,12 @@ use Rattle.core_frames.proofs.Words.{offset_joined}
 use Rattle.core_frames.proofs.Steps.{state_at, is_in_code, goes_to, passes}
 use Rattle.core_frames.proofs.Access.{written_out, length_of_both}
 use Rattle.core_frames.proofs.Passing.{has_first, has_second}
-use Rattle.core_frames.proofs.Registers.{AtWith, InRegister, elsewhere, at_with, at_of}
+use Rattle.core_frames.proofs.Registers.{AtWith, AtHolding, InRegister, elsewhere, at_with, at_of, at_any}
 use Rattle.core_frames.specs.Frames.{load_code, slot_of}
+use Rattle.core_frames.specs.Choosing.{held_or_loaded, choice_code}
 use Rattle.core_frames.proofs.Bodies.{with_config}
 use Rattle.core_frames.proofs.Forms.{Tested, Fails, Holds, Neither, Jumps}
-use Rattle.core_frames.proofs.Operations.{loading, loads_into}
+use Rattle.core_frames.proofs.Operations.{loads_into}
 
 -- ---- what a test holds
 
@@ -129,26 +130,43 @@ module _ (w : World) (order : IsInOrder w) (x : Waiting) (outer : List Waiting) 
           };
     }
 
+  -- a temporary into x5, unless it is there
+  pub held_into : (held : Option ℕ) (t place : ℕ) → t < x.fn.temporaries → Has w place (held_or_loaded x.fn.passed held t)
+      → Comes w (AtHolding w x outer mem place held)
+      (AtWith w x outer mem (place + code_length (held_or_loaded x.fn.passed held t)) (InRegister 5 (x.config.temps t)))
+  held_into None t place named has = loads_into w order x outer mem 4 t place named refl has
+  held_into (Some h) t place named has = by (nat_eq h t) refl has
+    where
+      by : (b : Bool) → nat_eq h t ≡ b → Has w place (if b then [] else load_code 5 (slot_of x.fn.passed t)) → Comes w (AtHolding w x outer mem place (Some h))
+          (AtWith w x outer mem (place + code_length (if b then [] else load_code 5 (slot_of x.fn.passed t))) (InRegister 5 (x.config.temps t)))
+      by true e has =
+          let same : h ≡ t = eqb-true h t e in
+          let here : place ≡ place + 0 = omega arith in
+          comes_as w _ _ (λ s a. subst (λ p. AtWith w x outer mem p (InRegister 5 (x.config.temps t)) s) here
+          (subst (λ q. AtWith w x outer mem place (InRegister 5 (x.config.temps q)) s) same a))
+      by false e has = comes_then w _ (At w x outer mem place) _ (comes_as w _ _ (λ s a. at_any w x outer mem place (Some h) s a))
+          (loads_into w order x outer mem 4 t place named refl has)
+
   -- a test of a temporary
-  module _ (t label place : ℕ) (named : t < x.fn.temporaries) (has : Has w place (loading w order x outer mem 5 t ++ (JumpIfZero 5 label ∷ []))) where
+  module _ (held : Option ℕ) (t label place : ℕ) (named : t < x.fn.temporaries) (has : Has w place (choice_code x.fn.passed held t label)) where
     abbrev first : List Line
-    first = loading w order x outer mem 5 t
+    first = held_or_loaded x.fn.passed held t
 
     abbrev second : List Line
     second = JumpIfZero 5 label ∷ []
 
-    pub fails : ((these those : Step) → core.branch (x.config.temps t) these those ≡ those) → Comes w (At w x outer mem place)
-        (At w x outer mem (w.places label))
+    pub fails : ((these those : Step) → core.branch (x.config.temps t) these those ≡ those) → Comes w
+        (AtHolding w x outer mem place held) (At w x outer mem (w.places label))
     fails h =
-        comes_then w _ _ _ (loads_into w order x outer mem 4 t place named refl (has_first w place first second has))
+        comes_then w _ _ _ (held_into held t place named (has_first w place first second has))
         (at_zero label (place + code_length first) (has_second w place first second has) (x.config.temps t)
         (λ m registers i. fails_zero m (x.config.temps t) (registers 5) i.0 h))
 
     abbrev pub holds : ((these those : Step) → core.branch (x.config.temps t) these those ≡ these)
-        → Comes w (At w x outer mem place) (At w x outer mem (place + code_length (first ++ second)))
+        → Comes w (AtHolding w x outer mem place held) (At w x outer mem (place + code_length (first ++ second)))
     holds h =
         let e : place + code_length first + 8 ≡ place + code_length (first ++ second) = omega (arith, length_of_both first second) in
-        comes_then w _ _ _ (loads_into w order x outer mem 4 t place named refl (has_first w place first second has))
+        comes_then w _ _ _ (held_into held t place named (has_first w place first second has))
         (comes_then w _ _ _
         (past label (place + code_length first) (has_second w place first second has) (x.config.temps t)
         (λ m registers i. holds_other m (x.config.temps t) (registers 5) i.0 h))
@@ -171,15 +189,11 @@ tested (Pointer s b) = Holds (Pointer s b) (λ these those. refl)
 tested Blank = Neither Blank (λ these those. refl)
 tested (Birth d) = Neither (Birth d) (λ these those. refl)
 
--- the code of a test
-abbrev pub test_lines : Waiting → ℕ → ℕ → List Line
-test_lines x t label = load_code 5 (slot_of x.fn.passed t) ++ (JumpIfZero 5 label ∷ [])
-
-pub tests_and_jumps : (w : World) (order : IsInOrder w) (x : Waiting) (outer : List Waiting) → Jumps w x outer (test_lines x)
+pub tests_and_jumps : (w : World) (order : IsInOrder w) (x : Waiting) (outer : List Waiting) → Jumps w x outer (choice_code x.fn.passed)
 tests_and_jumps w order x outer = record {
   jump = λ label place has c is. jumps_to w order (with_config x c) outer c.memory label place has;
-  fails = λ t label place named has c is h. fails w order (with_config x c) outer c.memory t label place named has h;
-  holds = λ t label place named has c is h. holds w order (with_config x c) outer c.memory t label place named has h;
-  some = λ t label place named has c is h. takes_some w order (with_config x c) outer c.memory t label place named has h;
+  fails = λ held t label place named has c is h. fails w order (with_config x c) outer c.memory held t label place named has h;
+  holds = λ held t label place named has c is h. holds w order (with_config x c) outer c.memory held t label place named has h;
+  some = λ held t label place named has c is h. takes_some w order (with_config x c) outer c.memory held t label place named has h;
   tested = tested;
 }

@@ -1,5 +1,7 @@
 pub mod Lines
 pub mod Frames
+pub mod Loops
+pub mod Choosing
 pub mod Selected
 pub mod Machines
 pub mod Lies

@@ -1,9 +1,9 @@
 -- The lines that each operation, statement, function and program of Core becomes.
-use Rattle.std.specs.Prelude.{ℕ, zero, suc, pos, negsuc, ◌&&◌, Bool, true, false, ◌+◌, ◌-◌, ◌*◌, ◌/◌, ◌%◌, ◌^◌, List, [], ◌∷◌, ◌++◌, nat_le, nat_eq, if◌then◌else◌, length}
+use Rattle.std.specs.Prelude.{ℕ, zero, suc, pos, ◌+◌, ◌-◌, ◌*◌, ◌/◌, ◌%◌, ◌^◌, List, [], ◌∷◌, ◌++◌, Option, None, nat_le, nat_eq, if◌then◌else◌, length}
 use Rattle.rv32_isa.specs.declared.instruction.Instr.{Instr}
 use Rattle.rv32_isa.specs.declared.instruction.Instr.TheVariants as instr
 use Rattle.rv32_machine.specs.State.{data_base}
-use Rattle.core_meaning.specs.Memory.{PartShape, Layout}
+use Rattle.core_meaning.specs.Memory.{Layout}
 use Rattle.core_meaning.specs.Core.{
   Binary,
   Add,
@@ -75,7 +75,7 @@ use Rattle.core_meaning.specs.Core.{
 }
 use Rattle.core_meaning.specs.Operations.{saturated}
 use Rattle.core_frames.specs.declared.line.Line.{Line}
-use Rattle.core_frames.specs.declared.line.Line.TheVariants.{Plain, Label, Jump, JumpIfZero, CallTo}
+use Rattle.core_frames.specs.declared.line.Line.TheVariants.{Plain, Label, Jump, CallTo}
 use Rattle.core_frames.specs.Frames.{
   upper_of,
   lower_of,
@@ -90,6 +90,8 @@ use Rattle.core_frames.specs.Frames.{
   environment_code,
   raise_code,
 }
+use Rattle.core_frames.specs.Loops.{are_words, copy_loop, clear_loop}
+use Rattle.core_frames.specs.Choosing.{held_behind, held_behind_all, choice_code}
 
 -- ---- where locals lie in a frame
 
@@ -157,13 +159,15 @@ datum_locals (d ∷ ds) = datum_local d ∷ datum_locals ds
 -- ---- operations
 
 -- What the code of a statement needs of where it stands: how many words its function passes to callees at most, where its unnamed values lie, the offsets of
--- the locals of the blocks around it, the innermost block first, where the locals of a block within it would begin, and where the program's data lie.
+-- the locals of the blocks around it, the innermost block first, where the locals of a block within it would begin, where the program's data lie, and which
+-- temporary's word is in x5, where one is known to be.
 pub record Surroundings : Type 0 where
   pub passed : ℕ
   pub own : List ℕ
   pub blocks : List (List ℕ)
   pub low : ℕ
   pub statics : List ℕ
+  pub held : Option ℕ
 
 -- the n-th of a list, or 0 behind it
 abbrev pub nth : List ℕ → ℕ → ℕ
@@ -250,32 +254,7 @@ abbrev pub further_code : ℕ → ℕ → List Line
 further_code to bytes =
     (if is_short bytes then Plain (instr.Addi to 5 (lower_of bytes)) ∷ [] else word_code 7 bytes ++ (Plain (instr.Add to 7 5) ∷ []))
 
--- ---- whole objects: a loop over an object's units, each a word where all parts of its layout are words, and else a byte
-
-abbrev pub are_word_parts : List PartShape → Bool
-are_word_parts [] = true
-are_word_parts (s ∷ ss) = nat_eq s.width 4 && are_word_parts ss
-
-abbrev pub are_word_cells : List (List PartShape) → Bool
-are_word_cells [] = true
-are_word_cells (c ∷ cs) = are_word_parts c && are_word_cells cs
-
-abbrev pub are_words : Layout → Bool
-are_words l = are_word_cells l.cells
-
--- from x6 on by way of x28 to x5 on, one unit after the other, until x5 is x7
-abbrev pub copy_loop : Bool → List Line
-copy_loop true =
-    Plain (instr.Lw 28 6 (pos 0)) ∷ Plain (instr.Sw 5 28 (pos 0)) ∷ Plain (instr.Addi 5 5 (pos 4)) ∷ Plain (instr.Addi 6 6 (pos 4)) ∷
-    Plain (instr.Bne 5 7 (negsuc 15)) ∷ []
-copy_loop false =
-    Plain (instr.Lbu 28 6 (pos 0)) ∷ Plain (instr.Sb 5 28 (pos 0)) ∷ Plain (instr.Addi 5 5 (pos 1)) ∷ Plain (instr.Addi 6 6 (pos 1)) ∷
-    Plain (instr.Bne 5 7 (negsuc 15)) ∷ []
-
--- 0 to x5 on
-abbrev pub clear_loop : Bool → List Line
-clear_loop true = Plain (instr.Sw 5 0 (pos 0)) ∷ Plain (instr.Addi 5 5 (pos 4)) ∷ Plain (instr.Bne 5 7 (negsuc 7)) ∷ []
-clear_loop false = Plain (instr.Sb 5 0 (pos 0)) ∷ Plain (instr.Addi 5 5 (pos 1)) ∷ Plain (instr.Bne 5 7 (negsuc 7)) ∷ []
+-- ---- whole objects
 
 -- an object of no bytes needs none
 abbrev pub copy_code : Surroundings → ℕ → ℕ → Layout → List Line
@@ -348,26 +327,28 @@ abbrev mutual
   labels_of NoStatements = 0
   labels_of (MoreStatements s ss) = labels_in s + labels_of ss
 
--- goes on where a temporary is neither 0 nor NULL, and at a label where it is
-abbrev pub choice_code : Surroundings → ℕ → ℕ → List Line
-choice_code u t label = from_temp u 5 t ++ (JumpIfZero 5 label ∷ [])
-
 -- the surroundings of what stands in a block with these locals
 abbrev pub within_block : List Local → Surroundings → Surroundings
-within_block locals u = record u { blocks = offsets_from u.low locals ∷ u.blocks; low = end_from u.low locals }
+within_block locals u = record u { blocks = offsets_from u.low locals ∷ u.blocks; low = end_from u.low locals; held = None }
+
+-- the same place, with another temporary in x5, or none
+abbrev pub holding : Option ℕ → Surroundings → Surroundings
+holding held u = record u { held = held }
 
 -- The code of a statement of a function whose frame has so many bytes. The labels that it places are numbered from `next` on; a `break` goes to the label
 -- `out`, and a `continue` to `again`. A choice: the test, the first statements and a jump over the others; a label, the others, and a label. A loop: a label,
--- its test, its body and a jump back; and a label behind it.
+-- its test, its body and a jump back; and a label behind it. What x5 holds is known from one statement to the next alone, and from the test of a loop to
+-- its choice.
 abbrev mutual
   pub statement_code : (bytes : ℕ) → Surroundings → (next out again : ℕ) → Statement → List Line
   statement_code bytes u next out again (Do operation) = operation_code u operation
   statement_code bytes u next out again (If t these those) = let behind = next + 1 + labels_of these in
-      choice_code u t next ++ statements_code bytes u (next + 1) out again these ++ (Jump behind ∷ Label next ∷ []) ++
-      statements_code bytes u (behind + 1) out again those ++ (Label behind ∷ [])
+      choice_code u.passed u.held t next ++ statements_code bytes (holding None u) (next + 1) out again these ++ (Jump behind ∷ Label next ∷ []) ++
+      statements_code bytes (holding None u) (behind + 1) out again those ++ (Label behind ∷ [])
   statement_code bytes u next out again (While test t body) = let behind = next + 1 + labels_of test in
-      (Label next ∷ []) ++ statements_code bytes u (next + 1) out again test ++ choice_code u t behind ++
-      statements_code bytes u (behind + 1) behind next body ++ (Jump next ∷ Label behind ∷ [])
+      (Label next ∷ []) ++ statements_code bytes (holding None u) (next + 1) out again test ++
+      choice_code u.passed (held_behind_all None test) t behind ++ statements_code bytes (holding None u) (behind + 1) behind next body ++
+      (Jump next ∷ Label behind ∷ [])
   statement_code bytes u next out again (Block locals body) = statements_code bytes (within_block locals u) next out again body
   statement_code bytes u next out again Break = Jump out ∷ []
   statement_code bytes u next out again Continue = Jump again ∷ []
@@ -378,13 +359,13 @@ abbrev mutual
   pub statements_code : (bytes : ℕ) → Surroundings → (next out again : ℕ) → Statements → List Line
   statements_code bytes u next out again NoStatements = []
   statements_code bytes u next out again (MoreStatements s ss) =
-      statement_code bytes u next out again s ++ statements_code bytes u (next + labels_in s) out again ss
+      statement_code bytes u next out again s ++ statements_code bytes (holding (held_behind s) u) (next + labels_in s) out again ss
 
 -- ---- functions and programs
 
 -- the surroundings of a function's body
 abbrev pub around : List ℕ → Function → Surroundings
-around statics f = record { passed = f.passed; own = offsets_from (4 * slots_of f) f.own; blocks = []; low = own_end f; statics = statics }
+around statics f = record { passed = f.passed; own = offsets_from (4 * slots_of f) f.own; blocks = []; low = own_end f; statics = statics; held = None }
 
 -- a function has its number as its label; `next` is the first label for what stands within it
 abbrev pub function_code : List ℕ → (number next : ℕ) → Function → List Line

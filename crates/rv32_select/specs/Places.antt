@@ -14,6 +14,7 @@ surroundings p = record {
   blocks = map (λ offsets. offsets.items) p.blocks.items;
   low = p.low;
   statics = p.statics.items;
+  held = p.held;
 }
 
 abbrev pub takes_two : Binary → Bool

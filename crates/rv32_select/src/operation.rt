@@ -2,6 +2,7 @@
 
 ghost use Rattle.std.specs.Prelude.{◌≡◌, ◌+◌, true, ◌++◌, OnOk, IfOk};
 ghost use Rattle.core_frames.specs.Frames.{load_code, save_code, slot_of};
+ghost use Rattle.core_frames.specs.Choosing.{held_behind_operation};
 ghost use Rattle.core_frames.specs.Selected.{binary_code, operation_code, from_temp, to_temp, nth};
 ghost use Rattle.cyc_core.specs.Trees.{binary_tree, operation_tree};
 ghost use Rattle.rv32_select.specs.Places.{surroundings, takes_two, is_on_words, is_on_pointers, is_on_locals, is_on_memory};
@@ -218,6 +219,27 @@ fn put_memory_operation(
             put_write(lines, distance.width, RESULT, u64::from(distance.bytes))
         }
         _ => Ok(()),
+    }
+}
+
+/// The temporary whose word is in the register of results behind an operation: the one that is computed there and saved.
+pub fn held_behind(operation: Operation) -> Option<u32>
+    ensures { result ≡ held_behind_operation (operation_tree operation) }
+{
+    match operation {
+        Operation::Constant(to, _)
+        | Operation::Move(to, _)
+        | Operation::Narrow(to, _)
+        | Operation::Apply(_, to, _, _)
+        | Operation::LocalAddress(to, _)
+        | Operation::OwnAddress(to, _)
+        | Operation::DataAddress(to, _)
+        | Operation::Offset(to, _, _, _)
+        | Operation::Get(to, _, _)
+        | Operation::Load(to, _, _)
+        | Operation::IsNull(to, _)
+        | Operation::SamePlace(to, _, _) => Some(to.0),
+        _ => None,
     }
 }
 

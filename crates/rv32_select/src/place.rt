@@ -1,8 +1,9 @@
 // Where code stands: its function's frame, the blocks around it, and the program's data.
 
-ghost use Rattle.std.specs.Prelude.{◌≡◌, ◌<◌, ◌^◌, [], ◌∷◌, map, IfOk, OnOk, List, ℕ};
+ghost use Rattle.std.specs.Prelude.{◌≡◌, ◌<◌, ◌^◌, [], ◌∷◌, map, IfOk, OnOk, List, Option, None, ℕ};
 ghost use Rattle.core_frames.specs.Frames.{slot_of};
-ghost use Rattle.core_frames.specs.Selected.{Surroundings, local_offset, nth, within_block, around};
+ghost use Rattle.core_frames.specs.Choosing.{is_held};
+ghost use Rattle.core_frames.specs.Selected.{Surroundings, local_offset, nth, within_block, around, holding};
 ghost use Rattle.cyc_core.specs.Trees.{local_tree, function_tree};
 ghost use Rattle.core_meaning.specs.Core as core;
 ghost use Rattle.rv32_select.specs.Places.{surroundings};
@@ -25,6 +26,8 @@ pub struct Place {
     pub low: u64,
     /// Where each global of the program begins in the data.
     pub statics: Vec<u64>,
+    /// The temporary whose word is in the register of results, where one is known to be.
+    pub held: Option<u32>,
 }
 
 impl Place {
@@ -39,6 +42,7 @@ impl Place {
             blocks: Vec::new(alloc),
             low: 0,
             statics,
+            held: None,
         }
     }
 
@@ -52,7 +56,25 @@ impl Place {
         self.low = end_from(first, &function.own)?;
         self.passed = function.passed;
         self.blocks = Vec::new(self.alloc);
+        self.held = None;
         Ok(())
+    }
+
+    /// Says which temporary's word is in the register of results from here on, if any is known to be.
+    pub fn hold(&mut self, held: Option<u32>)
+        ensures { surroundings self.new ≡ holding held (surroundings self.old) }
+    {
+        self.held = held;
+    }
+
+    /// Whether the word of a temporary is in the register of results.
+    pub fn is_held(&self, temporary: Temporary) -> bool
+        ensures { result ≡ is_held self.now.held temporary.0 }
+    {
+        match self.held {
+            Some(held) => held == temporary.0,
+            None => false,
+        }
     }
 
     /// The slot of a temporary, counted in words from the frame's first on.
@@ -96,18 +118,20 @@ impl Place {
         let end = end_from(low, locals)?;
         self.blocks.insert(0, offsets)?;
         self.low = end;
+        self.held = None;
         Ok(low)
     }
 
-    /// Leaves the innermost block, whose locals began at `low`.
+    /// Leaves the innermost block, whose locals began at `low`. No temporary is held then.
     #[tactic(auto, using(crate::proofs::Leaving::left_is))]
     pub fn leave(&mut self, low: u64)
-        ensures { (locals : List core.Local) (outer : Surroundings) → surroundings self.old ≡ within_block locals outer → low ≡ outer.low → surroundings self.new ≡ outer }
+        ensures { (locals : List core.Local) (outer : Surroundings) (held : Option ℕ) → surroundings self.old ≡ holding held (within_block locals outer) → low ≡ outer.low → surroundings self.new ≡ holding None outer }
     {
         if !self.blocks.is_empty() {
             self.blocks.remove(0);
         }
         self.low = low;
+        self.held = None;
     }
 }
 

@@ -1,15 +1,16 @@
 // Instructions for statements.
 
-ghost use Rattle.std.specs.Prelude.{◌≡◌, ◌+◌, ◌<◌, ◌≤◌, ◌++◌, IfOk, OnOk, map, pos, vec_len};
+ghost use Rattle.std.specs.Prelude.{◌≡◌, ◌+◌, ◌<◌, ◌≤◌, ◌++◌, IfOk, OnOk, None, map, pos, vec_len};
 ghost use Rattle.core_meaning.specs.Core as core;
 ghost use Rattle.cyc_core.specs.Trees.{statement_tree, body_tree, temporary_tree, optional_tree, local_tree};
 ghost use Rattle.core_frames.specs.Frames.{pass_code, result_code, call_code, values_code, leave_code, return_code, kind_number, raise_code};
-ghost use Rattle.core_frames.specs.Selected.{labels_in, labels_of, choice_code, statement_code, statements_code};
+ghost use Rattle.core_frames.specs.Choosing.{held_behind, held_behind_all, held_or_loaded, choice_code};
+ghost use Rattle.core_frames.specs.Selected.{labels_in, labels_of, holding, statement_code, statements_code};
 ghost use Rattle.rv32_select.specs.Places.{surroundings};
 
 use crate::emit::{ADDRESS, RESULT, put, put_environment, put_lines, put_load, put_save, put_word};
 use crate::layout::sum;
-use crate::operation::{put_from, put_operation, put_to};
+use crate::operation::{held_behind, put_from, put_operation, put_to};
 use crate::place::Place;
 use crate::whole::{put_clear, put_copy};
 use core_frames::Line;
@@ -40,6 +41,17 @@ pub fn following(label: usize) -> Result<usize, AllocError>
     }
 }
 
+/// Appends the load of a temporary into the register of results, unless it is there.
+fn put_held(lines: &mut Vec<Line>, place: &Place, temporary: Temporary) -> Result<(), AllocError>
+    ensures { OnOk result (lines.new.items ≡ lines.old.items ++ held_or_loaded place.now.passed place.now.held temporary.0) }
+{
+    if place.is_held(temporary) {
+        Ok(())
+    } else {
+        put_from(lines, place, RESULT, temporary)
+    }
+}
+
 /// Appends what goes on where a temporary isn't 0, and at a label where it is.
 fn put_choice(
     lines: &mut Vec<Line>,
@@ -47,9 +59,9 @@ fn put_choice(
     temporary: Temporary,
     label: usize,
 ) -> Result<(), AllocError>
-    ensures { OnOk result (lines.new.items ≡ lines.old.items ++ choice_code (surroundings place.now) temporary.0 label) }
+    ensures { OnOk result (lines.new.items ≡ lines.old.items ++ choice_code place.now.passed place.now.held temporary.0 label) }
 {
-    put_from(lines, place, RESULT, temporary)?;
+    put_held(lines, place, temporary)?;
     put_lines(lines, &[Line::JumpIfZero(RESULT, label)])
 }
 
@@ -149,10 +161,14 @@ fn put_statement(
 ) -> Result<usize, AllocError>
     ensures code { OnOk result (lines.new.items ≡ lines.old.items ++ statement_code ways.bytes (surroundings place.old) next ways.out ways.again (statement_tree statement.now)) }
     ensures free { IfOk result (λ n. n ≡ next + labels_in (statement_tree statement.now)) }
-    ensures same { OnOk result (surroundings place.new ≡ surroundings place.old) }
+    ensures same { OnOk result (surroundings place.new ≡ holding (held_behind (statement_tree statement.now)) (surroundings place.old)) }
 {
     match statement {
-        Statement::Do(operation) => put_operation(lines, place, *operation)?,
+        Statement::Do(operation) => {
+            put_operation(lines, place, *operation)?;
+            place.hold(held_behind(*operation));
+            return Ok(next);
+        }
         Statement::Copy(to, from, layout) => put_copy(lines, place, *to, *from, layout.as_ref())?,
         Statement::Clear(pointer, layout) => put_clear(lines, place, *pointer, layout.as_ref())?,
         Statement::If(test, these, those) => {
@@ -172,6 +188,7 @@ fn put_statement(
         Statement::Return(value) => put_return(lines, place, ways.bytes, *value)?,
         Statement::Raise(kind) => put_raise(lines, *kind)?,
     }
+    place.hold(None);
     Ok(next)
 }
 
@@ -186,7 +203,7 @@ pub fn put_statements(
 ) -> Result<usize, AllocError>
     ensures code { OnOk result (lines.new.items ≡ lines.old.items ++ statements_code ways.bytes (surroundings place.old) next ways.out ways.again (body_tree statements.now)) }
     ensures free { IfOk result (λ n. n ≡ next + labels_of (body_tree statements.now)) }
-    ensures same { OnOk result (surroundings place.new ≡ surroundings place.old) }
+    ensures same { OnOk result (surroundings place.new ≡ holding (held_behind_all (surroundings place.old).held (body_tree statements.now)) (surroundings place.old)) }
 {
     let mut free = next;
     'each: for statement in statements {
@@ -209,13 +226,16 @@ fn put_if(
 ) -> Result<usize, AllocError>
     ensures code { OnOk result (lines.new.items ≡ lines.old.items ++ statement_code ways.bytes (surroundings place.old) next ways.out ways.again (core.If test.0 (body_tree these.now) (body_tree those.now))) }
     ensures free { IfOk result (λ n. n ≡ next + labels_in (core.If test.0 (body_tree these.now) (body_tree those.now))) }
-    ensures same { OnOk result (surroundings place.new ≡ surroundings place.old) }
+    ensures same { OnOk result (surroundings place.new ≡ holding None (surroundings place.old)) }
 {
     put_choice(lines, place, test, next)?;
+    place.hold(None);
     let behind = put_statements(lines, place, following(next)?, ways, these)?;
     put_lines(lines, &[Line::Jump(behind), Line::Label(next)])?;
+    place.hold(None);
     let free = put_statements(lines, place, following(behind)?, ways, those)?;
     put_lines(lines, &[Line::Label(behind)])?;
+    place.hold(None);
     Ok(free)
 }
 
@@ -233,11 +253,13 @@ fn put_while(
 ) -> Result<usize, AllocError>
     ensures code { OnOk result (lines.new.items ≡ lines.old.items ++ statement_code ways.bytes (surroundings place.old) next ways.out ways.again (core.While (body_tree test.now) flag.0 (body_tree body.now))) }
     ensures free { IfOk result (λ n. n ≡ next + labels_in (core.While (body_tree test.now) flag.0 (body_tree body.now))) }
-    ensures same { OnOk result (surroundings place.new ≡ surroundings place.old) }
+    ensures same { OnOk result (surroundings place.new ≡ holding None (surroundings place.old)) }
 {
     put_lines(lines, &[Line::Label(next)])?;
+    place.hold(None);
     let behind = put_statements(lines, place, following(next)?, ways, test)?;
     put_choice(lines, place, flag, behind)?;
+    place.hold(None);
     let inside = Ways {
         out: behind,
         again: next,
@@ -245,6 +267,7 @@ fn put_while(
     };
     let free = put_statements(lines, place, following(behind)?, inside, body)?;
     put_lines(lines, &[Line::Jump(next), Line::Label(behind)])?;
+    place.hold(None);
     Ok(free)
 }
 
@@ -260,7 +283,7 @@ fn put_block(
 ) -> Result<usize, AllocError>
     ensures code { OnOk result (lines.new.items ≡ lines.old.items ++ statement_code ways.bytes (surroundings place.old) next ways.out ways.again (core.Block (map local_tree locals.now) (body_tree body.now))) }
     ensures free { IfOk result (λ n. n ≡ next + labels_in (core.Block (map local_tree locals.now) (body_tree body.now))) }
-    ensures same { OnOk result (surroundings place.new ≡ surroundings place.old) }
+    ensures same { OnOk result (surroundings place.new ≡ holding None (surroundings place.old)) }
 {
     let low = place.enter(locals)?;
     let free = put_statements(lines, place, next, ways, body)?;

@@ -2,7 +2,8 @@
 
 ghost use Rattle.std.specs.Prelude.{◌≡◌, ◌++◌, OnOk};
 ghost use Rattle.core_meaning.specs.Core as core;
-ghost use Rattle.core_frames.specs.Selected.{are_word_parts, are_words, further_code, copy_loop, clear_loop, operation_code};
+ghost use Rattle.core_frames.specs.Loops.{are_word_parts, are_words, copy_loop, clear_loop};
+ghost use Rattle.core_frames.specs.Selected.{further_code, operation_code};
 ghost use Rattle.cyc_core.specs.Trees.{cell_parts, layout_tree};
 ghost use Rattle.rv32_select.specs.Places.{surroundings};
 

@@ -1,6 +1,13 @@
-use Rattle.std.proofs.Common.{◌∙◌}
+use Rattle.std.proofs.Common.{ap, ◌∙◌}
+use Rattle.cyc_core.specs.Trees.{body_tree}
+use Rattle.core_frames.specs.Choosing.{held_behind_all}
+use Rattle.core_frames.specs.Selected.{Surroundings, holding}
 use Rattle.rv32_select.specs.Places.{surroundings}
 use Rattle.rv32_select.proofs.statement.+statement.Goals as goal
 
 pub put_block-returns-clause-same : goal.put_block-returns-clause-same
-put_block-returns-clause-same n c = c.leave.ensures _ (surroundings c.args.place.now) (c.in_ok-free.ensures.same ∙ c.in_ok-low.ensures.1) c.in_ok-low.ensures.0
+put_block-returns-clause-same n c =
+    let u = surroundings c.args.place.now in
+    let body = body_tree c.args.body.now in
+    let within = ap (λ (v : Surroundings). holding (held_behind_all v.held body) v) c.in_ok-low.ensures.1 in
+    c.leave.ensures _ u _ (c.in_ok-free.ensures.same ∙ within) c.in_ok-low.ensures.0

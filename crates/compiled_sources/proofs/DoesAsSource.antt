@@ -94,7 +94,7 @@ module _ (p : Program) (lowerable : IsLowerable p) (input : List ℕ) (bytes : r
   core_sound : IsNeverStuck (core_meaning (names_of w.functions) (program_code p) input)
   core_sound fuel stuck = sound fuel ((both fuel).ending ∙ stuck)
 
--- The lines of a program of integers do what its source does, where no two functions have one name.
+-- The lines of a program that is taken do what its source does, where no two functions have one name.
 pub does_as_source : (p : Program) → IsLowerable p → AreNamedApart (world_of p).functions → DoesAsSource p
 does_as_source p lowerable named_apart n places s input bytes begins sound =
     let names = names_of (world_of p).functions in

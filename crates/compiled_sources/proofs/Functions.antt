@@ -1,4 +1,4 @@
--- The code of statements, functions and globals of a program of integers names what there is: the program can be selected.
+-- The code of statements, functions and globals of a program that is taken names what there is: the program can be selected.
 use Rattle.std.proofs.Common.{◌≡◌, ℕ, suc, ◌+◌, ◌<◌, ◌≤◌, List, [], ◌∷◌, ◌++◌, length, Some, None, refl, sym, ap, subst, arith, length-append}
 use Rattle.cyc_tree.specs.Tree as tree
 use Rattle.cyc_tree.specs.Tree.{Expression, Initializer, Declaration, Statement, BlockItems, NoItems, Declare, Execute, Item}

@@ -1,12 +1,13 @@
 -- How long lines are: those of each statement, function and program, by the operations that they are made from.
-use Rattle.std.proofs.Common.{ℕ, zero, suc, ◌+◌, ◌*◌, ◌/◌, ◌≤◌, List, [], ◌∷◌, ◌++◌, length, arith}
+use Rattle.std.proofs.Common.{ℕ, zero, suc, ◌+◌, ◌*◌, ◌/◌, ◌≤◌, Bool, true, false, if◌then◌else◌, List, [], ◌∷◌, ◌++◌, Option, None, length, arith}
 use Rattle.core_meaning.specs.Core.{Statement, Do, If, While, Block, Break, Continue, Call, Return, Raise, Statements, NoStatements, MoreStatements, Function, Program}
 use Rattle.core_frames.specs.declared.line.Line.TheVariants.{Label, Jump, JumpIfZero, CallTo}
 use Rattle.core_frames.specs.Lines.{code_length}
 use Rattle.core_frames.specs.Frames.{load_code, save_code, slot_of, pass_code, result_code, environment_code, test_code, move_code, take_code, prologue_code, values_code, leave_code}
-use Rattle.core_frames.specs.Selected.{offsets_from, frame_bytes, datum_locals, Surroundings, from_temp, labels_in, labels_of, choice_code, within_block, statement_code, statements_code, around, function_code, functions_code, program_code}
+use Rattle.core_frames.specs.Choosing.{is_held, held_behind, held_behind_all, held_or_loaded, choice_code}
+use Rattle.core_frames.specs.Selected.{offsets_from, frame_bytes, datum_locals, Surroundings, labels_in, labels_of, holding, within_block, statement_code, statements_code, around, function_code, functions_code, program_code}
 use Rattle.source_lowering.specs.Bounds.{statement_operations, operations_of, all_operations, core_code}
-use Rattle.compiled_sources.proofs.OperationLengths.{IsWithin, both_within, less_within, nothing_within, load_within, save_within, from_within, operation_within}
+use Rattle.compiled_sources.proofs.OperationLengths.{IsWithin, both_within, less_within, nothing_within, load_within, save_within, operation_within}
 
 -- ---- statements
 
@@ -39,8 +40,13 @@ values_within passed r (t ∷ ts) =
 leave_within : (bytes : ℕ) → IsWithin 28 (leave_code bytes)
 leave_within bytes = record { is = omega arith }
 
-choice_within : (u : Surroundings) (t label : ℕ) → IsWithin 20 (choice_code u t label)
-choice_within u t label = both_within 12 8 (from_temp u 5 t) (JumpIfZero 5 label ∷ []) (from_within u 5 t) (record { is = omega arith })
+choice_within : (passed : ℕ) (held : Option ℕ) (t label : ℕ) → IsWithin 20 (choice_code passed held t label)
+choice_within passed held t label =
+    both_within 12 8 (held_or_loaded passed held t) (JumpIfZero 5 label ∷ []) (by (is_held held t)) (record { is = omega arith })
+  where
+    by : (b : Bool) → IsWithin 12 (if b then [] else load_code 5 (slot_of passed t))
+    by true = nothing_within 12
+    by false = load_within 5 (slot_of passed t)
 
 mutual
   statement_within : (bytes : ℕ) (u : Surroundings) (next out again : ℕ) (s : Statement)
@@ -51,21 +57,21 @@ mutual
       let a = 64 * operations_of these in let b = 64 * operations_of those in
       less_within (20 + a + 4 + b + 0) (64 * (1 + (operations_of these + operations_of those))) _ (omega arith)
       (both_within (20 + a + 4 + b) 0 _ (Label behind ∷ [])
-      (both_within (20 + a + 4) b _ (statements_code bytes u (behind + 1) out again those)
+      (both_within (20 + a + 4) b _ (statements_code bytes (holding None u) (behind + 1) out again those)
       (both_within (20 + a) 4 _ (Jump behind ∷ Label next ∷ [])
-      (both_within 20 a (choice_code u t next) (statements_code bytes u (next + 1) out again these) (choice_within u t next)
-      (statements_within bytes u (next + 1) out again these)) (record { is = omega arith }))
-      (statements_within bytes u (behind + 1) out again those)) (record { is = omega arith }))
+      (both_within 20 a (choice_code u.passed u.held t next) (statements_code bytes (holding None u) (next + 1) out again these)
+      (choice_within u.passed u.held t next) (statements_within bytes (holding None u) (next + 1) out again these)) (record { is = omega arith }))
+      (statements_within bytes (holding None u) (behind + 1) out again those)) (record { is = omega arith }))
   statement_within bytes u next out again (While test t body) =
       let behind = next + 1 + labels_of test in
       let a = 64 * operations_of test in let b = 64 * operations_of body in
       less_within (0 + a + 20 + b + 4) (64 * (1 + (operations_of test + operations_of body))) _ (omega arith)
       (both_within (0 + a + 20 + b) 4 _ (Jump next ∷ Label behind ∷ [])
-      (both_within (0 + a + 20) b _ (statements_code bytes u (behind + 1) behind next body)
-      (both_within (0 + a) 20 _ (choice_code u t behind)
-      (both_within 0 a (Label next ∷ []) (statements_code bytes u (next + 1) out again test) (record { is = omega arith })
-      (statements_within bytes u (next + 1) out again test)) (choice_within u t behind))
-      (statements_within bytes u (behind + 1) behind next body)) (record { is = omega arith }))
+      (both_within (0 + a + 20) b _ (statements_code bytes (holding None u) (behind + 1) behind next body)
+      (both_within (0 + a) 20 _ (choice_code u.passed (held_behind_all None test) t behind)
+      (both_within 0 a (Label next ∷ []) (statements_code bytes (holding None u) (next + 1) out again test) (record { is = omega arith })
+      (statements_within bytes (holding None u) (next + 1) out again test)) (choice_within u.passed (held_behind_all None test) t behind))
+      (statements_within bytes (holding None u) (behind + 1) behind next body)) (record { is = omega arith }))
   statement_within bytes u next out again (Block locals body) =
       less_within (64 * operations_of body) (64 * (1 + operations_of body)) _ (omega arith)
       (statements_within bytes (within_block locals u) next out again body)
@@ -87,7 +93,7 @@ mutual
   statements_within bytes u next out again (MoreStatements s ss) =
       less_within (64 * statement_operations s + 64 * operations_of ss) (64 * (statement_operations s + operations_of ss)) _ (omega arith)
       (both_within (64 * statement_operations s) (64 * operations_of ss) _ _ (statement_within bytes u next out again s)
-      (statements_within bytes u (next + labels_in s) out again ss))
+      (statements_within bytes (holding (held_behind s) u) (next + labels_in s) out again ss))
 
 -- ---- functions and programs
 

@@ -8,7 +8,8 @@ use Rattle.core_frames.specs.declared.line.Line.{Line}
 use Rattle.core_frames.specs.declared.line.Line.TheVariants.{Plain}
 use Rattle.core_frames.specs.Lines.{code_length}
 use Rattle.core_frames.specs.Frames.{lower_of, is_short, load_code, save_code, slot_of, environment_code}
-use Rattle.core_frames.specs.Selected.{Surroundings, nth, local_offset, from_temp, to_temp, constant_code, far_code, read_line, read_code, write_line, write_code, binary_code, address_code, bytes_code, further_code, are_words, copy_loop, bytes_in, clear_loop, operation_code}
+use Rattle.core_frames.specs.Loops.{are_words, copy_loop, clear_loop}
+use Rattle.core_frames.specs.Selected.{Surroundings, nth, local_offset, from_temp, to_temp, constant_code, far_code, read_line, read_code, write_line, write_code, binary_code, address_code, bytes_code, further_code, bytes_in, operation_code}
 use Rattle.core_frames.proofs.Access.{length_of_both}
 use Rattle.source_lowering.specs.Bounds.{operation_count}
 

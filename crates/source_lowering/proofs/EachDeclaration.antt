@@ -1,7 +1,7 @@
 -- Each declaration that is taken does the same as its code.
 use Rattle.std.proofs.Common.{◌≡◌, ℕ, suc, List, [], ◌∷◌, ◌++◌, refl, sym, ◌∙◌, subst}
 use Rattle.cyc_tree.specs.Tree as tree
-use Rattle.cyc_tree.specs.Tree.{Expression, TypeName, Initializer, Declaration, Statement}
+use Rattle.cyc_tree.specs.Tree.{Expression, TypeName, Initializer, Declaration, Statement, BlockItems, NoItems, Declare, Execute}
 use Rattle.source_meaning.specs.Shapes.{
   Shape,
   IntShape,
@@ -29,8 +29,8 @@ use Rattle.core_meaning.specs.Core.{Do, Put, LocalAddress, Copy}
 use Rattle.core_meaning.specs.Meaning as meaning
 use Rattle.source_lowering.specs.Layouts.{layout_of}
 use Rattle.source_lowering.specs.Lowered.{Named, put, width_of, conversion_code, static_shape, place_code, expression_code}
-use Rattle.source_lowering.specs.Programs.{local_shape, named_here, unset_code, value_code, declaration_code}
-use Rattle.source_lowering.specs.Lowerable.{IsTarget, IsObject, IsObjectType, HasBeginning, Takes, TakesPlace, TakesValue, TakesDeclaration}
+use Rattle.source_lowering.specs.Programs.{block_shapes, local_shape, named_here, unset_code, value_code, declaration_code}
+use Rattle.source_lowering.specs.Lowerable.{IsTarget, IsObject, IsObjectType, AreObjects, HasBeginning, Takes, TakesPlace, TakesValue, TakesDeclaration, TakesItems}
 use Rattle.source_lowering.proofs.Relations.{Place, SameAt, around}
 use Rattle.source_lowering.proofs.Keeping.{less_self, later_on, later_items, blocks_of}
 use Rattle.source_lowering.proofs.Runs.{put_all}
@@ -48,11 +48,11 @@ use Rattle.source_lowering.proofs.Beginning.{declared_same}
 use Rattle.source_lowering.proofs.Initialising.{placed_begins}
 use Rattle.std.specs.Prelude.{if◌then◌else◌}
 use Rattle.std.proofs.Common.{Bool, true, false}
-use Rattle.source_lowering.specs.Whole.{makes_struct, is_made, whole_values, whole_code}
+use Rattle.source_lowering.specs.Whole.{is_made, whole_values, whole_code}
 use Rattle.source_lowering.specs.Programs.{source_code, initial_values, declaration_values}
 use Rattle.source_lowering.specs.Lowerable.{TakesWhole}
-use Rattle.source_lowering.proofs.Structs.{true_false}
 use Rattle.source_lowering.proofs.EachWhole.{AreNumbered, whole_same}
+use Rattle.source_lowering.proofs.WholeObjects.{unmade_place}
 use Rattle.source_lowering.proofs.WholeStatements.{whole_begins}
 
 -- ---- declarations
@@ -205,28 +205,6 @@ made_initialised n scope k result name tag of e value shapes then_act others typ
     copies : List core.Statement
     copies = Do (LocalAddress 1 0 k.made) ∷ Do (Copy 1 0 (layout_of scope.world (StructShape tag))) ∷ []
 
--- what is taken whole and isn't made is a place
-unmade_place : (w : World) (names : List Named) (e : Expression) → TakesWhole w names e → is_made w e ≡ false → TakesPlace w names e
-unmade_place w names (Expression.Call name arguments) h made = absurd (true_false (makes_struct w name.text) h.0 made)
-unmade_place w names (Expression.Grouped at inner) h made = unmade_place w names inner h made
-unmade_place w names (Expression.Variable name) h made = h.0
-unmade_place w names (Expression.Suffixed primary _) h made = h.0
-unmade_place w names (Expression.Prefixed at operator operand) h made = h.0
-unmade_place w names (Expression.Number at value suffix) h made = h.0
-unmade_place w names (Expression.Character at byte) h made = h.0
-unmade_place w names (Expression.Text at bytes) h made = h.0
-unmade_place w names (Expression.Null at) h made = h.0
-unmade_place w names (Expression.HeapRegion at) h made = h.0
-unmade_place w names (Expression.UniqueRegion at) h made = h.0
-unmade_place w names (Expression.MakeUnion tag member value) h made = h.0
-unmade_place w names (Expression.NumElts at operand) h made = h.0
-unmade_place w names (Expression.New at new) h made = h.0
-unmade_place w names (Expression.NewIn at handle new) h made = h.0
-unmade_place w names (Expression.Chain first others) h made = h.0
-unmade_place w names (Expression.AllOf first others) h made = h.0
-unmade_place w names (Expression.AnyOf first others) h made = h.0
-unmade_place w names (Expression.Assign place value) h made = h.0
-
 struct_initialised : (n : ℕ) (scope : Scope) (k : Known) (result : Shape) (name tag : List ℕ) (of : TypeName) (e : Expression) (value : ℕ)
     (shapes : List Shape) (then_act : Scope → Act Flow) (others : List core.Statement) → IsObjectType scope.world.structs of
     → settled (written of) ≡ StructShape tag → IsObject scope.world.structs (StructShape tag) → TakesWhole scope.world k.names e
@@ -314,3 +292,11 @@ shape_object w names (tree.Region at region handle) h = absurd h
 shape_object w names (tree.Open at region handle key) h = absurd h
 shape_object w names (tree.Alias at region of alias pointer) h = absurd h
 shape_object w names (tree.NewKey at region key) h = absurd h
+
+-- the locals of a block are objects
+pub block_objects : (w : World) (result : Shape) (names : List Named) (index : ℕ) (items : BlockItems) → TakesItems w result names index items
+    → AreObjects w.structs (block_shapes items)
+block_objects w result names index NoItems h = tt
+block_objects w result names index (Declare d others) h =
+    (shape_object w names d h.0, block_objects w result (named_here (tree.local_of d).text (local_shape d) index ∷ names) (suc index) others h.1)
+block_objects w result names index (Execute s others) h = block_objects w result names index others h.1

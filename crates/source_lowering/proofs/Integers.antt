@@ -105,19 +105,6 @@ target_taken (StructShape tag) h g = g
 target_taken (UnionShape tag) h g = h
 target_taken (ArrayShape count of) h g = h
 
-pub word_target : (s : Shape) → IsWordShape s → IsTarget s
-word_target IntShape h = tt
-word_target UnsignedShape h = tt
-word_target CharShape h = tt
-word_target VoidShape h = tt
-word_target (ThinShape may_be_null owner to) h = h
-word_target (FatShape to) h = h
-word_target HandleShape h = h
-word_target KeyShape h = h
-word_target (StructShape tag) h = tt
-word_target (UnionShape tag) h = h
-word_target (ArrayShape count of) h = h
-
 pub taken_target : (s : Shape) → IsTaken s → IsTarget s
 taken_target VoidShape h = tt
 taken_target IntShape h = tt

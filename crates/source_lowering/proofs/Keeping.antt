@@ -117,9 +117,6 @@ held_other c s t p j (x ∷ xs) e ((q, (is, holds)), others) = (
       p (j + 1) xs e others,
 )
 
-no_part : (c : core.Memory) (p : Part) → None ≡ Some p → ⊥
-no_part c p e = cc e
-
 pub unmade_kept : (m : source.Memory) (s : Spot) (shape : Shape) (old new : source.Content) → m.cells s ≡ Some (cell shape old)
     → ((t : Spot) → m.objects t.region ≤ t.object → m.cells t ≡ None) → (t : Spot) → m.objects t.region ≤ t.object
     → (with_cell m s (cell shape new)).cells t ≡ None

@@ -113,9 +113,6 @@ less_equal_is AsChar x y = refl
 
 -- ---- numbers by type
 
-abbrev word_by : IntegerType → ℕ → ℕ → ℕ
-word_by u a b = by_type u a b
-
 by_small : (u : IntegerType) (a b : ℕ) → a < 2 ^ 32 → b < 2 ^ 32 → by_type u a b < 2 ^ 32
 by_small AsInt a b f g = f
 by_small AsUnsigned a b f g = g

@@ -14,8 +14,8 @@ use Rattle.core_meaning.specs.Core.{Statement, Statements}
 use Rattle.core_meaning.specs.Steps as core_steps
 use Rattle.core_meaning.specs.Steps.{Config, with_temp}
 use Rattle.source_lowering.specs.Lowered.{put}
-use Rattle.source_lowering.proofs.Relations.{Place, Fits, SameAt, AreKept, LaterAt, AValue, ANothing, Given, GoesOn, Later, Bound, within}
-use Rattle.source_lowering.proofs.Keeping.{later_on, shown_later}
+use Rattle.source_lowering.proofs.Relations.{Place, Fits, SameAt, AreKept, LaterAt, AValue, ANothing, Given, GoesOn, Later, Bound}
+use Rattle.source_lowering.proofs.Keeping.{shown_later}
 use Rattle.source_lowering.proofs.Runs.{put_all}
 
 pub put_temp : (d : ℕ) (x : Content) (c : Config) → (with_temp d x c).temps d ≡ x
@@ -61,15 +61,6 @@ pub put_value : (p : Place) (n d : ℕ) (m0 : source.Memory) (c0 : Config) (m : 
 put_value p n d m0 c0 m c shape vs x s k fits later kept given goes =
     goes.go m (with_temp d x c) vs (temp_fits p m c d x fits) later (kept_temp d d x c0 c (omega arith) kept)
     (subst (λ z. Given p.world m c.memory shape vs z) (sym (put_temp d x c)) given)
-
--- what goes on from an earlier point goes on from a later one
-pub goes_later : (p : Place) (n d : ℕ) (m0 m1 : source.Memory) (c0 c1 : Config) (shape : Shape) (s : List Scalar → source.Memory → steps.Step)
-    (k : Config → core_steps.Step)
-    → LaterAt p m0 c0 m1 c1 → AreKept d c0 c1 → GoesOn p n d m0 c0 shape s k → GoesOn p n d m1 c1 shape s k
-goes_later p n d m0 m1 c0 c1 shape s k later kept goes = record {
-  go = λ m c vs fits l g given.
-      goes.go m c vs fits (later_on (within p) m0 m1 m c0.memory c1.memory c.memory later l) (λ j h. g j h ∙ kept j h) given;
-}
 
 -- three pieces of code, one after the other
 pub put_three : (xs ys zs : List Statement) (rest : Statements) → put (xs ++ (ys ++ zs)) rest ≡ put xs (put ys (put zs rest))

@@ -31,6 +31,7 @@ use Rattle.source_lowering.specs.Bounds.{nodes_of, all_nodes}
 use Rattle.source_lowering.proofs.Costs.{Costs, no_costs, both_cost}
 use Rattle.source_lowering.proofs.PartCosts.{IsCheap, does_one, conversion_costs}
 use Rattle.source_lowering.proofs.ExpressionCosts.{ArePassed, nodes_positive, place_costs, expression_costs}
+use Rattle.source_lowering.proofs.WholeObjects.{unmade_place}
 
 -- a struct leaves two operations to what is done with it
 pub record IsWhole (t p n : ℕ) (code : List Statement) : Type 0 where
@@ -128,12 +129,6 @@ mutual
 
 -- ---- initializers
 
--- what is taken whole and not made names a struct
-pub not_made : (w : World) (names : List Named) (e : Expression) → TakesWhole w names e → is_made w e ≡ false → TakesPlace w names e
-not_made w names (Expression.Call name arguments) h e = let made = h.0 in absurd (cc (made, e))
-not_made w names (Expression.Grouped at inner) h e = not_made w names inner h e
-not_made w names e h is = h.0
-
 -- a struct's initializer
 pub source_costs : (w : World) (names : List Named) (e : Expression) (t p own : ℕ) → TakesWhole w names e → nodes_of e + 1 ≤ t → nodes_of e ≤ p
     → IsWhole t p (nodes_of e) (source_code w names (is_made w e) e own)
@@ -142,7 +137,7 @@ source_costs w names e t p own h f g = by (is_made w e) refl
     by : (made : Bool) → is_made w e ≡ made → IsWhole t p (nodes_of e) (source_code w names made e own)
     by true is = whole_costs w names e t p 0 own h (omega (arith, f)) g
     by false is =
-        let a = place_costs w names e t p 0 (not_made w names e h is) (omega (arith, f)) g in let l = a.less in
+        let a = place_costs w names e t p 0 (unmade_place w names e h is) (omega (arith, f)) g in let l = a.less in
         record { operations = a.operations; costs = a.costs; less = omega (arith, l) }
 
 -- ---- expressions that are statements

@@ -8,7 +8,7 @@ use Rattle.source_meaning.specs.Steps.{World}
 use Rattle.source_lowering.specs.Lowered.{Named, static_shape}
 use Rattle.source_lowering.specs.Whole.{makes_struct, is_made, member_values, whole_values, made_values, assigned_values, dropped_values, run_values}
 use Rattle.source_lowering.specs.Programs.{local_shape, named_here, outward, initial_values, declaration_values, statement_values, item_values}
-use Rattle.source_lowering.specs.Lowerable.{IsObject, AreObjects, IsStructShape, Takes, TakesMember, TakesWhole, TakesMade, TakesAssigned, TakesDropped, TakesCalled, TakesRun, TakesValue, TakesDeclaration, TakesStatement, TakesItems}
+use Rattle.source_lowering.specs.Lowerable.{IsObject, AreObjects, IsStructShape, Takes, TakesMember, TakesPlace, TakesWhole, TakesMade, TakesAssigned, TakesDropped, TakesCalled, TakesRun, TakesValue, TakesDeclaration, TakesStatement, TakesItems}
 use Rattle.source_lowering.proofs.Structs.{true_false}
 
 -- ---- expressions
@@ -51,6 +51,12 @@ mutual
       (member_objects w.structs p.shape (whole_values w names first) (TakesWhole w names first) (Takes w names first) h.0
       (λ k. whole_objects w names first k))
       (made_objects w names ps others h.1)
+
+-- what is taken whole and isn't made is a place
+pub unmade_place : (w : World) (names : List Named) (e : Expression) → TakesWhole w names e → is_made w e ≡ false → TakesPlace w names e
+unmade_place w names (Expression.Call name arguments) h is = absurd (true_false (makes_struct w name.text) h.0 is)
+unmade_place w names (Expression.Grouped at inner) h is = unmade_place w names inner h is
+unmade_place w names e h is = h.0
 
 -- ---- statements
 

@@ -96,7 +96,7 @@ settled_object structs KeyShape h g = absurd h
 settled_object structs (UnionShape tag) h g = absurd h
 settled_object structs (ArrayShape count of) h g = absurd h
 
-first_shared : (o : Owner) → first_owner o Shared ≡ shared_owner o
+pub first_shared : (o : Owner) → first_owner o Shared ≡ shared_owner o
 first_shared Shared = refl
 first_shared Alone = refl
 first_shared Unsaid = refl

@@ -4,6 +4,7 @@ use crate::command_cases::{
     AND_OR, NESTED_LOOPS, OPERATORS, REFUSED, REFUSED_FUNCTIONS, STATEMENTS, VALUES,
 };
 use crate::function_cases::{CALLS, CHARS, CONVERSION_EDGES, GLOBALS, OPERATOR_EDGES, UNSIGNED};
+use crate::parameter_cases::{PARAMETERS, REFUSED_PARAMETERS};
 use crate::pointer_cases::{POINTERS, REFUSED_POINTERS};
 use crate::struct_cases::{REFUSED_STRUCTS, STRUCT_SIZES, STRUCTS};
 use command_line::command_of;
@@ -129,6 +130,11 @@ fn structs_run_as_by_their_meaning(rt: HostRuntime) -> Result<(), Fail> {
 }
 
 #[test]
+fn structs_with_regions_run_as_by_their_meaning(rt: HostRuntime) -> Result<(), Fail> {
+    expect_runs(&rt, PARAMETERS)
+}
+
+#[test]
 fn structs_have_so_many_bytes_at_most(rt: HostRuntime) -> Result<(), Fail> {
     for line in STRUCT_SIZES.lines() {
         let (wanted, source) = line.split_once(" <- ").ok_or("no source")?;
@@ -178,6 +184,7 @@ fn refusals_have_their_places(rt: HostRuntime) -> Result<(), Fail> {
         REFUSED_FUNCTIONS,
         REFUSED_POINTERS,
         REFUSED_STRUCTS,
+        REFUSED_PARAMETERS,
     ] {
         expect_refusals(&rt, table)?;
     }

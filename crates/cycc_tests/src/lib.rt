@@ -35,6 +35,8 @@ mod made_trees;
 #[cfg(test)]
 mod nested_texts;
 #[cfg(test)]
+mod parameter_cases;
+#[cfg(test)]
 mod parsed_texts;
 #[cfg(test)]
 mod parsed_trees;

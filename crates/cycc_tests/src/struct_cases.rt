@@ -64,7 +64,6 @@ pub const REFUSED_STRUCTS: &str = "\
 1:61: Outlives <- struct N { int *p; }; int main() { int x; struct N n; n.p = &x; return 0; }
 1:29: Type <- struct S { int x; }; void f(struct S s) { } int main() { return 0; }
 1:1: Type <- @tagged union U { int a; }; int main() { }
-1:1: Type <- struct S<`r> { int *`r p; }; int main() { }
 1:43: Type <- struct P { int x; int @y; }; int main() { struct P p; return 0; }
 1:30: Type <- struct P { int x; int @y; }; struct P p; int main() { return 0; }
 1:22: Type <- struct P { int x; }; struct P f() { return P(1); } int main() { return 0; }

@@ -16,7 +16,7 @@ use std::process::ExitCode;
 const MOST: u64 = 65536;
 
 /// The examples' names.
-const EXAMPLES: [&str; 28] = [
+const EXAMPLES: [&str; 29] = [
     "arithmetic",
     "bases",
     "bits",
@@ -41,6 +41,7 @@ const EXAMPLES: [&str; 28] = [
     "primes",
     "records",
     "shortcut",
+    "stack_list",
     "sums",
     "swap",
     "triangle",

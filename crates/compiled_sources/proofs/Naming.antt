@@ -22,6 +22,7 @@ use Rattle.core_meaning.specs.Core.{
   SamePlace,
   Getchar,
   Putchar,
+  HeapHandle,
   RegionNew,
   RegionAlloc,
   RegionFree,
@@ -100,9 +101,12 @@ has_code u (SamePlace t p q) h f =
     (max_first (suc t) (max (suc p) (suc q)) u.temporaries f, max_first (suc p) (suc q) u.temporaries g, max_second (suc p) (suc q) u.temporaries g)
 has_code u (Getchar t) h f = f
 has_code u (Putchar t x) h f = (max_first (suc t) (suc x) u.temporaries f, max_second (suc t) (suc x) u.temporaries f)
-has_code u (RegionNew t) h f = absurd h
-has_code u (RegionAlloc t k n layout) h f = absurd h
-has_code u (RegionFree k) h f = absurd h
+has_code u (HeapHandle t) h f = f
+has_code u (RegionNew t) h f = f
+has_code u (RegionAlloc t k n layout) h f =
+    let g = max_second (suc t) (max (suc k) (suc n)) u.temporaries f in
+    (max_first (suc t) (max (suc k) (suc n)) u.temporaries f, max_first (suc k) (suc n) u.temporaries g, max_second (suc k) (suc n) u.temporaries g, h)
+has_code u (RegionFree k) h f = f
 has_code u (UniqueAlloc t layout) h f = absurd h
 has_code u (UniqueFree p) h f = absurd h
 has_code u (KeyNew t) h f = absurd h

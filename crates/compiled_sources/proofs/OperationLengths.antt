@@ -1,7 +1,7 @@
 -- How long the lines of an operation are.
 use Rattle.std.specs.Prelude.{nat_eq, if◌then◌else◌}
 use Rattle.std.proofs.Common.{ℕ, pos, ◌+◌, ◌*◌, ◌%◌, ◌^◌, ◌≤◌, Bool, true, false, List, [], ◌∷◌, ◌++◌, arith}
-use Rattle.core_meaning.specs.Core.{Binary, Add, Subtract, Multiply, Divide, DivideUnsigned, Remainder, RemainderUnsigned, And, Or, Xor, ShiftLeft, ShiftRight, ShiftRightUnsigned, Equal, NotEqual, Less, LessEqual, LessUnsigned, LessEqualUnsigned, Operation, Constant, NullPointer, Move, Narrow, Apply, LocalAddress, OwnAddress, DataAddress, Offset, Element, Get, Put, Load, Store, Copy, Clear, IsNull, SamePlace, Getchar, Putchar, RegionNew, RegionAlloc, RegionFree, UniqueAlloc, UniqueFree, KeyNew, KeyOpen, KeyClose, KeyFree}
+use Rattle.core_meaning.specs.Core.{Binary, Add, Subtract, Multiply, Divide, DivideUnsigned, Remainder, RemainderUnsigned, And, Or, Xor, ShiftLeft, ShiftRight, ShiftRightUnsigned, Equal, NotEqual, Less, LessEqual, LessUnsigned, LessEqualUnsigned, Operation, Constant, NullPointer, Move, Narrow, Apply, LocalAddress, OwnAddress, DataAddress, Offset, Element, Get, Put, Load, Store, Copy, Clear, IsNull, SamePlace, Getchar, Putchar, HeapHandle, RegionNew, RegionAlloc, RegionFree, UniqueAlloc, UniqueFree, KeyNew, KeyOpen, KeyClose, KeyFree}
 use Rattle.rv32_isa.specs.declared.instruction.Instr.TheVariants as instr
 use Rattle.rv32_machine.specs.State.{data_base}
 use Rattle.core_frames.specs.declared.line.Line.{Line}
@@ -179,6 +179,7 @@ operation_within u (Getchar t) = to_within 8 u 10 t (environment_code 2) (omega 
 operation_within u (Putchar t x) =
     to_within 20 u 10 t (from_temp u 10 x ++ environment_code 1) (omega arith)
     (both_within 12 8 (from_temp u 10 x) (environment_code 1) (from_within u 10 x) (environment_within 1))
+operation_within u (HeapHandle t) = to_within 8 u 5 t (constant_code 0) (omega arith) (constant_within 0)
 operation_within u (RegionNew t) = to_within 8 u 10 t (environment_code 4) (omega arith) (environment_within 4)
 operation_within u (RegionAlloc t h n layout) = block_within u t h n layout.bytes
 operation_within u (RegionFree h) =

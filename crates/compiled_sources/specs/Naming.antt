@@ -20,6 +20,10 @@ use Rattle.core_meaning.specs.Core.{
   SamePlace,
   Getchar,
   Putchar,
+  HeapHandle,
+  RegionNew,
+  RegionAlloc,
+  RegionFree,
   Statement,
   Do,
   If,
@@ -58,6 +62,10 @@ NamesIn blocks own objects (IsNull t p) = Unit {0}
 NamesIn blocks own objects (SamePlace t p q) = Unit {0}
 NamesIn blocks own objects (Getchar t) = Unit {0}
 NamesIn blocks own objects (Putchar t x) = Unit {0}
+NamesIn blocks own objects (HeapHandle t) = Unit {0}
+NamesIn blocks own objects (RegionNew t) = Unit {0}
+NamesIn blocks own objects (RegionAlloc t h n layout) = IsLayout layout
+NamesIn blocks own objects (RegionFree h) = Unit {0}
 NamesIn blocks own objects _ = ⊥
 
 abbrev mutual

@@ -45,10 +45,12 @@ use Rattle.core_eval.specs.declared.pending.Due.{Due}
 use Rattle.core_eval.specs.declared.memory.Memory.{Memory}
 use Rattle.core_eval.specs.declared.value.Slot.{Slot}
 use Rattle.core_eval.specs.Values.{content_of, temp_of, cells_of, value_of}
+use Rattle.core_eval.specs.Regions.{held_objects}
 use Rattle.core_eval.specs.Blocks.{Activation, AreOrdered, activation_of, slot_in, put_local, stored_of, put_to}
 use Rattle.core_eval.specs.Pendings.{Task, Execute, Leave, Wait, Next, Go, Wrong, next_of}
 use Rattle.core_eval.specs.Standing.{Known, Gives, known_of}
 use Rattle.core_eval.specs.Costs.{IsMove}
+use Rattle.core_eval.proofs.Known.{known_same}
 use Rattle.core_eval.proofs.OperationMoves.{given}
 use Rattle.core_eval.proofs.Changes.{with_stored}
 use Rattle.core_eval.proofs.StoreMoves.{put_moves, put_wrong, store_moves, store_wrong}
@@ -75,15 +77,23 @@ given_answer (Ok due) f f' t v task next gives base h =
     next (given_known f f' m base) (h ws m gives)
 given_answer (Err e) f f' t v task next gives base h = tt
 
+-- the same, where what is stored changed first
+pub given_after : {E : Type 0} (r : Result Due E) (f f' : Frame) (t : ℕ) (v : Content) (task : Task) (m m' : Memory)
+    → IfOk r (λ due. next_of due ≡ Go (Leave steps.Falls)) → OnOk r (Gives t v f.temps.items f'.temps.items) → OnOk r (f'.base ≡ f.base)
+    → ((ws : List Wait) → Gives t v f.temps.items f'.temps.items
+    → IsMove task ws (known_of f m) (Go (Leave steps.Falls)) ws (given (known_of f m') f'.temps.items))
+    → IfOk r (λ due. (ws : List Wait) → IsMove task ws (known_of f m) (next_of due) ws (known_of f' m'))
+given_after (Ok due) f f' t v task m m' next gives base h =
+    λ ws. move_as task ws (known_of f m) (Go (Leave steps.Falls)) (next_of due) ws (given (known_of f m') f'.temps.items) (known_of f' m')
+    next (given_known f f' m' base) (h ws gives)
+given_after (Err e) f f' t v task m m' next gives base h = tt
+
 pub given_here : {E : Type 0} (r : Result Due E) (f f' : Frame) (t : ℕ) (v : Content) (task : Task) (m : Memory)
     → IfOk r (λ due. next_of due ≡ Go (Leave steps.Falls)) → OnOk r (Gives t v f.temps.items f'.temps.items) → OnOk r (f'.base ≡ f.base)
     → ((ws : List Wait) → Gives t v f.temps.items f'.temps.items
     → IsMove task ws (known_of f m) (Go (Leave steps.Falls)) ws (given (known_of f m) f'.temps.items))
     → IfOk r (λ due. (ws : List Wait) → IsMove task ws (known_of f m) (next_of due) ws (known_of f' m))
-given_here (Ok due) f f' t v task m next gives base h =
-    λ ws. move_as task ws (known_of f m) (Go (Leave steps.Falls)) (next_of due) ws (given (known_of f m) f'.temps.items) (known_of f' m)
-    next (given_known f f' m base) (h ws gives)
-given_here (Err e) f f' t v task m next gives base h = tt
+given_here r f f' t v task m = given_after r f f' t v task m m
 
 -- with some memory
 pub with_memory : {E : Type 0} (r : Result Due E) (f f' : Frame) (task : Task) (m : Memory)
@@ -126,24 +136,24 @@ value_there m p d cell byte slot r o further later there read is =
 -- what is known after a store
 pub stored_known : (f : Frame) (m m' : Memory) → m'.entered ≡ m.entered → m'.called ≡ m.called
     → known_of f m' ≡ with_stored (known_of f m) (stored_of m')
-stored_known f m m' entered called =
-    ap (λ n. record (with_stored (known_of f m) (stored_of m')) { entered = n; called = m'.called }) entered
-    ∙ ap (λ n. record (with_stored (known_of f m) (stored_of m')) { called = n }) called
+stored_known f m m' entered called = known_same (known_of f m') _ refl refl refl entered refl called refl refl
 
 unstored_known : (f : Frame) (m m' : Memory) → stored_of m' ≡ stored_of m → m'.entered ≡ m.entered → m'.called ≡ m.called → known_of f m' ≡ known_of f m
 unstored_known f m m' same entered called = stored_known f m m' entered called ∙ ap (with_stored (known_of f m)) same
 
 -- what is stored where a block's locals alone changed
 blocks_known : (f : Frame) (m m' : Memory) → m'.entered ≡ m.entered → m'.owns ≡ m.owns → m'.called ≡ m.called → m'.globals ≡ m.globals
-    → known_of f m' ≡ record (known_of f m) { blocks = map activation_of m'.blocks.items }
-blocks_known f m m' entered owns called globals =
-    stored_known f m m' entered called
-    ∙ ap (λ os. record (known_of f m) {
-      blocks = map activation_of m'.blocks.items;
-      owns = map activation_of os.items;
-      globals = map cells_of m'.globals.items;
-    }) owns
-    ∙ ap (λ gs. record (known_of f m) { blocks = map activation_of m'.blocks.items; globals = map cells_of gs.items }) globals
+    → m'.regions ≡ m.regions → known_of f m' ≡ record (known_of f m) { blocks = map activation_of m'.blocks.items }
+blocks_known f m m' entered owns called globals regions =
+    known_same (known_of f m') _ refl refl refl entered (ap (λ os. map activation_of os.items) owns) called
+    (ap (λ gs. map cells_of gs.items) globals) (ap (λ rs. map held_objects rs.items) regions)
+
+-- what is stored where the blocks of lexical regions alone changed
+pub regions_known : (f : Frame) (m m' : Memory) → m'.blocks ≡ m.blocks → m'.entered ≡ m.entered → m'.owns ≡ m.owns → m'.called ≡ m.called
+    → m'.globals ≡ m.globals → known_of f m' ≡ record (known_of f m) { regions = map held_objects m'.regions.items }
+regions_known f m m' blocks entered owns called globals =
+    known_same (known_of f m') _ refl refl (ap (λ bs. map activation_of bs.items) blocks) entered (ap (λ os. map activation_of os.items) owns) called
+    (ap (λ gs. map cells_of gs.items) globals) refl
 
 -- what a store answers
 abbrev stored_if : {A : Type 0} → Bool → A → Option A
@@ -154,20 +164,20 @@ module _ (f : Frame) (m m' : Memory) (x : ℕ) (v : Value) (is_there : Bool) (re
   abbrev blocks_of : Memory → List Activation
   blocks_of m = map activation_of m.blocks.items
 
-  module _ (owns : m'.owns ≡ m.owns) (globals : m'.globals ≡ m.globals) (out i : ℕ) (w : Width)
+  module _ (owns : m'.owns ≡ m.owns) (globals : m'.globals ≡ m.globals) (regions : m'.regions ≡ m.regions) (out i : ℕ) (w : Width)
       (put : put_local f.base (blocks_of m) out i w v ≡ stored_if is_there (blocks_of m')) where
     pub put_answer : is_there ≡ true
         → IsMove (Execute (core.Do (core.Put out i (bytes_of w) x))) ws (known_of f m) (Go (Leave steps.Falls)) ws (known_of f m')
     put_answer stored =
         move_as _ ws (known_of f m) (Go (Leave steps.Falls)) _ ws (record (known_of f m) { blocks = blocks_of m' }) (known_of f m')
-        refl (blocks_known f m m' entered owns called globals)
+        refl (blocks_known f m m' entered owns called globals regions)
         (put_moves (known_of f m) ws x v read out i w (blocks_of m') (put ∙ ap (λ b. stored_if b (blocks_of m')) stored))
 
     pub unput_answer : is_there ≡ false → blocks_of m' ≡ blocks_of m
         → IsMove (Execute (core.Do (core.Put out i (bytes_of w) x))) ws (known_of f m) Wrong ws (known_of f m')
     unput_answer missing same =
         move_as _ ws (known_of f m) Wrong _ ws (known_of f m) (known_of f m') refl
-        (blocks_known f m m' entered owns called globals ∙ ap (λ bs. record (known_of f m) { blocks = bs }) same)
+        (blocks_known f m m' entered owns called globals regions ∙ ap (λ bs. record (known_of f m) { blocks = bs }) same)
         (put_wrong (known_of f m) ws x v read out i w (put ∙ ap (λ b. stored_if b (blocks_of m')) missing))
 
   module _ (y : ℕ) (u : Value) (place : content_of u ≡ temp_of f.temps.items y) (p : Place) (is_place : u ≡ value.Pointer p) (d : Distance) (cell byte : ℕ)

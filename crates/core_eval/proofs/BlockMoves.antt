@@ -39,11 +39,13 @@ use Rattle.core_eval.specs.declared.value.Slot.{Slot}
 use Rattle.core_eval.specs.Values.{spot_of, Shows, blank_object}
 use Rattle.core_eval.specs.Blocks.{Activation, position_of}
 use Rattle.core_eval.specs.Pendings.{Execute, Follow, Leave, Wait, Block, Go, Mark, rest_of}
-use Rattle.core_eval.specs.Standing.{Holds, Known, Agrees, Stands, IsFresh, AreNested, AreAllLive, AreOwned, AreAllOwned}
+use Rattle.core_eval.specs.Standing.{Holds, Known, Agrees, Stands, IsFresh, AreNested, AreAllLive, AreOwned, AreAllOwned, AreBorn}
 use Rattle.core_eval.specs.Costs.{IsMove}
-use Rattle.core_eval.proofs.Memories.{itself, other_number, shows_standing, shows_objects, shows_grown}
+use Rattle.core_eval.proofs.Memories.{blank_part, itself, other_number, shows_standing, shows_objects, shows_grown}
+use Rattle.core_eval.proofs.Lists.{length_more}
 use Rattle.core_eval.proofs.Nested.{nested_still}
 use Rattle.core_eval.proofs.Owned.{owned_still}
+use Rattle.core_eval.proofs.Born.{KeepsBorn, born_kept}
 use Rattle.core_eval.proofs.Moves.{all_stand, goes_here}
 
 -- ---- what a block's objects change
@@ -70,14 +72,24 @@ pub calls_same : (r : Region) (ls : List Local) (m : Memory) → (with_objects r
 calls_same r [] m = refl
 calls_same r (l ∷ ls) m = calls_same r ls (with_object m r (blanks l.layout l.count))
 
-length_more : {A : Type 0} (xs : List A) (x : A) → length xs + 1 ≡ length (xs ++ x ∷ [])
-length_more [] x = refl
-length_more (y ∷ xs) x = let h = length_more xs x in omega (arith, h)
+-- no birth
+births_same : (r : Region) (ls : List Local) (m : Memory) → (with_objects r ls m).births ≡ m.births
+births_same r [] m = refl
+births_same r (l ∷ ls) m = births_same r ls (with_object m r (blanks l.layout l.count))
 
 -- no standing
 pub standing_same : (r : Region) (ls : List Local) (m : Memory) (q : Region) → (with_objects r ls m).standing q ≡ m.standing q
 standing_same r [] m q = refl
 standing_same r (l ∷ ls) m q = standing_same r ls (with_object m r (blanks l.layout l.count)) q
+
+-- nothing of what was born
+pub objects_keep : (r : Region) (ls : List Local) (m : Memory) → ((d : ℕ) → same_region (Born d) r ≡ false) → KeepsBorn m (with_objects r ls m)
+objects_keep r ls m other = record {
+  births = births_same r ls m;
+  standing = λ d. standing_same r ls m (Born d);
+  objects = λ d. objects_other (Born d) r (other d) ls m;
+  parts = λ d i k j. parts_other (Born d) r (other d) i k j ls m;
+}
 
 -- a block that isn't among some is neither the first of them nor a later one
 pub not_first : (n k : ℕ) (o : Option ℕ) → (if nat_eq n k then Some 0 else option_map suc o) ≡ None → nat_eq n k ≡ false
@@ -104,7 +116,7 @@ all_shown r (w ∷ locals) m objects shows counted =
     let more : m1.objects r ≡ length (objects ++ blank_object w ∷ []) =
     ap (λ b. if b then m.objects r + 1 else m.objects r) (itself r) ∙ ap (λ n. n + 1) counted ∙ length_more objects (blank_object w) in
     subst (λ (os : List (List Slot)). Shows (with_objects r (map local_tree locals) m1) r os) (append_assoc objects (blank_object w ∷ []) (map blank_object locals))
-    (all_shown r locals m1 (objects ++ blank_object w ∷ []) (shows_grown shows counted w) more)
+    (all_shown r locals m1 (objects ++ blank_object w ∷ []) (shows_grown shows counted (blanks (local_layout w) 1) (blank_object w) (blank_part w)) more)
 
 -- ---- a block is entered
 
@@ -168,6 +180,10 @@ module _ (known : Known) (ws : List Wait) (locals : List code.Local) where
             (λ k objects below shows. still (Own k) objects refl shows) h.owned;
         called = h.called ∙ sym calls;
         values_live = λ k gone. ap is_live (standing_same (Frame a) ls (begun m) (Own k)) ∙ h.values_live k gone;
+        born = born_kept (begun m) m' known.globals known.regions
+            (born_kept m (begun m) known.globals known.regions h.born
+            (record { births = refl; standing = λ d. refl; objects = λ d. refl; parts = λ d i k j. refl }))
+            (objects_keep (Frame a) ls (begun m) (λ d. refl));
       }
 
   pub block_enters : (body : Statements) → IsMove (Execute (core.Block (map local_tree locals) body)) ws known (Go (Follow body)) (Block ∷ ws) inside
@@ -189,10 +205,11 @@ left_goes : (exit : Exit) (ws : List Wait) (known : Known) (blocks : List Activa
     → Holds c.temps known.temps → IsFresh c.memory → Shows c.memory (Born 0) known.globals → known.entered ≡ c.memory.activations
     → AreAllLive c.memory blocks → AreNested c.memory c.memory.activations c.blocks known.base blocks (Block ∷ ws) marks
     → AreOwned c.memory c.memory.calls c.own known.owns (Block ∷ ws) marks → known.called ≡ c.memory.calls → AreAllOwned c.memory known.owns
+    → AreBorn c.memory known.globals known.regions
     → Stands main (rest_of main (Block ∷ ws) marks exit c) (Go (Leave exit)) ws (record known { blocks = drop 1 blocks })
-left_goes exit ws known blocks is main [] c temps fresh globals entered live nested owned called values_live = absurd nested
-left_goes exit ws known [] is main (mark ∷ marks) c temps fresh globals entered live nested owned called values_live = absurd nested
-left_goes exit ws known (b ∷ blocks) is main (mark ∷ marks) c temps fresh globals entered live (same, number, below, shows, rest) owned called values_live =
+left_goes exit ws known blocks is main [] c temps fresh globals entered live nested owned called values_live born = absurd nested
+left_goes exit ws known [] is main (mark ∷ marks) c temps fresh globals entered live nested owned called values_live born = absurd nested
+left_goes exit ws known (b ∷ blocks) is main (mark ∷ marks) c temps fresh globals entered live (same, number, below, shows, rest) owned called values_live born =
     let m' = with_standing c.memory (Frame mark.number) Dead in
     goes_here main marks (out_of_block mark.number mark.outside.blocks c) _ (Go (Leave exit)) ws (record known { blocks = blocks })
     (record {
@@ -207,6 +224,8 @@ left_goes exit ws known (b ∷ blocks) is main (mark ∷ marks) c temps fresh gl
           (λ k os less s. shows_standing s (Frame mark.number) refl Dead) owned;
       called = called;
       values_live = values_live;
+      born = born_kept c.memory m' known.globals known.regions born
+          (record { births = refl; standing = λ d. refl; objects = λ d. refl; parts = λ d i k j. refl });
     }) refl
   where
     ended : (k : ℕ) (t : Bool) → nat_eq k mark.number ≡ t → position_of blocks k ≡ None
@@ -220,6 +239,6 @@ left_goes exit ws known (b ∷ blocks) is main (mark ∷ marks) c temps fresh gl
 pub block_leaves : (exit : Exit) (ws : List Wait) (known : Known) → IsMove (Leave exit) (Block ∷ ws) known (Go (Leave exit)) ws (outside_of known)
 block_leaves exit ws known = record {
   still = all_stand (Go (Leave exit)) (Block ∷ ws) known (Go (Leave exit)) ws (outside_of known) (λ main marks c h.
-      left_goes exit ws known known.blocks refl main marks c h.temps h.fresh h.globals h.entered h.live h.nested h.owned h.called h.values_live);
+      left_goes exit ws known known.blocks refl main marks c h.temps h.fresh h.globals h.entered h.live h.nested h.owned h.called h.values_live h.born);
   fewer = omega arith;
 }

@@ -1,5 +1,5 @@
 -- What is known of a call, said in another way.
-use Rattle.std.proofs.Common.{◌≡◌, ℕ, ◌+◌, List, [], ◌∷◌, length, map, ap, ◌∙◌, sym, subst}
+use Rattle.std.proofs.Common.{◌≡◌, ℕ, ◌+◌, List, [], ◌∷◌, length, map, refl, ap, sym, subst}
 use Rattle.core_meaning.specs.Memory.{Content}
 use Rattle.core_meaning.specs.Core.{Function}
 use Rattle.core_meaning.specs.Steps.{Step}
@@ -8,9 +8,11 @@ use Rattle.cyc_core.specs.declared.layout.Local as local_code
 use Rattle.core_eval.specs.Values.{cells_of, blank_object}
 use Rattle.core_eval.specs.declared.frame.Frame as frame_code
 use Rattle.core_eval.specs.declared.memory.Memory as memory_code
+use Rattle.core_eval.specs.Regions.{held_objects}
 use Rattle.core_eval.specs.Blocks.{activation_of}
 use Rattle.core_eval.specs.Pendings.{Wait, Next, rest_of, returned_to}
 use Rattle.core_eval.specs.Standing.{Known, Stands, IsCall, known_of}
+use Rattle.core_eval.proofs.Known.{known_same}
 
 pub call_as : (functions : List Function) (results : List ℕ) (n : ℕ) (arguments : List Content) (ws : List Wait) (known : Known) (next next' : Next)
     (rest rest' : List Wait)
@@ -32,42 +34,13 @@ pub called_known : (f : frame_code.Frame) (m m' : memory_code.Memory) (g : frame
     → g.base ≡ length (map activation_of m.blocks.items)
     → m'.blocks ≡ m.blocks → m'.entered ≡ m.entered
     → map activation_of m'.owns.items ≡ record { number = m.called; objects = map blank_object locals } ∷ map activation_of m.owns.items
-    → m'.called ≡ m.called + 1 → m'.globals ≡ m.globals
+    → m'.called ≡ m.called + 1 → m'.globals ≡ m.globals → m'.regions ≡ m.regions
     → known_of g m' ≡ record (known_of f m) {
       temps = g.temps.items;
       base = length (map activation_of m.blocks.items);
       owns = record { number = m.called; objects = map blank_object locals } ∷ map activation_of m.owns.items;
       called = m.called + 1;
     }
-called_known f m m' g locals base blocks entered owns called globals =
-    ap (λ b. record (known_of g m') { base = b }) base
-    ∙ ap (λ bs. record (known_of g m') { base = length (map activation_of m.blocks.items); blocks = map activation_of bs.items }) blocks
-    ∙ ap (λ n. record (known_of f m) {
-      temps = g.temps.items;
-      base = length (map activation_of m.blocks.items);
-      entered = n;
-      owns = map activation_of m'.owns.items;
-      called = m'.called;
-      globals = map cells_of m'.globals.items;
-    }) entered
-    ∙ ap (λ os. record (known_of f m) {
-      temps = g.temps.items;
-      base = length (map activation_of m.blocks.items);
-      owns = os;
-      called = m'.called;
-      globals = map cells_of m'.globals.items;
-    }) owns
-    ∙ ap (λ n. record (known_of f m) {
-      temps = g.temps.items;
-      base = length (map activation_of m.blocks.items);
-      owns = record { number = m.called; objects = map blank_object locals } ∷ map activation_of m.owns.items;
-      called = n;
-      globals = map cells_of m'.globals.items;
-    }) called
-    ∙ ap (λ gs. record (known_of f m) {
-      temps = g.temps.items;
-      base = length (map activation_of m.blocks.items);
-      owns = record { number = m.called; objects = map blank_object locals } ∷ map activation_of m.owns.items;
-      called = m.called + 1;
-      globals = map cells_of gs.items;
-    }) globals
+called_known f m m' g locals base blocks entered owns called globals regions =
+    known_same (known_of g m') _ refl base (ap (λ bs. map activation_of bs.items) blocks) entered owns called (ap (λ gs. map cells_of gs.items) globals)
+    (ap (λ rs. map held_objects rs.items) regions)

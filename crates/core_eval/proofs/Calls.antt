@@ -39,9 +39,10 @@ use Rattle.core_eval.specs.Values.{spot_of, content_of, part_of, part_in, slot_a
 use Rattle.core_eval.specs.declared.frame.Frame as frame_code
 use Rattle.core_eval.specs.declared.memory.Memory as memory_code
 use Rattle.core_eval.specs.declared.value.Slot.{Slot}
+use Rattle.core_eval.specs.Regions.{Regions}
 use Rattle.core_eval.specs.Blocks.{activation_of, position_of}
 use Rattle.core_eval.specs.Pendings.{Follow, Wait, Caller, Next, Go, Wrong, Mark, rest_of, coming, returned_to}
-use Rattle.core_eval.specs.Standing.{Known, IsFresh, Agrees, Stands, IsCall, first_value, first_slot, scalar, first_object, first_known, known_of}
+use Rattle.core_eval.specs.Standing.{Known, IsFresh, Agrees, AreBorn, Stands, IsCall, first_value, first_slot, scalar, first_object, first_known, known_of}
 use Rattle.core_eval.proofs.Memories.{padding_part, blank_part, cell_begins, itself, other_number, shows_standing, shows_objects}
 use Rattle.core_eval.proofs.BlockMoves.{
   objects_other,
@@ -50,10 +51,12 @@ use Rattle.core_eval.proofs.BlockMoves.{
   calls_same,
   standing_same,
   all_shown,
+  objects_keep,
   not_first,
   not_later,
 }
 use Rattle.core_eval.proofs.Owned.{owned_still}
+use Rattle.core_eval.proofs.Born.{born_kept}
 use Rattle.core_eval.proofs.Nested.{nested_still}
 use Rattle.core_eval.proofs.Moves.{goes_here}
 
@@ -89,6 +92,13 @@ module _ (m : Memory) (locals : List local_code.Local) where
   shows_called q objects other shows =
       let s = shows_standing shows (Own m.calls) other Live in
       shows_objects q (Own m.calls) objects other (map local_tree locals) called_in (record { live = s.live; holds = s.holds })
+
+  -- nothing changes of what was born
+  born_after : (globals : List (List Slot)) (regions : Regions) → AreBorn m globals regions → AreBorn after_call globals regions
+  born_after globals regions born =
+      born_kept called_in after_call globals regions
+      (born_kept m called_in globals regions born (record { births = refl; standing = λ d. refl; objects = λ d. refl; parts = λ d i k j. refl }))
+      (objects_keep (Own m.calls) (map local_tree locals) called_in (λ d. refl))
 
 module _ (known : Known) (ws : List Wait) (marks : List Mark) (temps : List Value) (locals : List local_code.Local) where
   -- a caller, and then a function that was called from it
@@ -175,6 +185,7 @@ module _ (functions : List code.Function) (results : List ℕ) (n : ℕ) (argume
             let apart : nat_eq k m.calls ≡ false = let e = h.called in grind (arith, nat_tests, other, e) in
             ap is_live (standing_same r ls (called_in m locals) (Own k) ∙ ap (λ b. if b then Live else m.standing (Own k)) apart)
             ∙ h.values_live k (not_later known.called k (position_of known.owns k) gone);
+        born = born_after m locals known.globals known.regions h.born;
       }
 
   abbrev call_step : Config → ℕ → List Mark → Option Function → Step
@@ -195,7 +206,7 @@ module _ (functions : List code.Function) (results : List ℕ) (n : ℕ) (argume
       → IsCall (map function_tree functions) results n (map content_of arguments) ws known (Go (Follow (body_tree f.body.items))) for_callee (in_callee f.own.items)
   call_enters f at fits = λ main marks c h. record {
     said = Called n ∷ [];
-    unseen = tt;
+    silent = (tt, tt);
     marks = record { number = c.memory.calls; outside = c } ∷ marks;
     config = callee f (map content_of arguments) c.memory;
     agrees = callee_agrees f marks c h;
@@ -316,6 +327,13 @@ module _ (p : code_program.Program) where
             let other : nat_eq 0 k ≡ false = not_first 0 k None gone in
             let apart : nat_eq k 0 ≡ false = grind (arith, nat_tests, other) in
             ap is_live (standing_same (Own 0) ls (called_in begin_memory locals) (Own k) ∙ ap (λ b. if b then Live else Dead) apart);
+        born = born_after begin_memory locals (map first_object p.globals.items) [] (record {
+          births = refl;
+          heap = length-map p.globals.items datum_tree ∙ sym (length-map p.globals.items first_object);
+          each = λ n. refl;
+          empty = λ n le. refl;
+          missing = λ n i cell j le. refl;
+        });
       }
 
   abbrev main_config : code.Function → Config
@@ -331,7 +349,7 @@ module _ (p : code_program.Program) where
       → Stands p.main (start (program_tree p)) (Go (Follow (body_tree f.body.items))) [] (first_known p.globals.items f.own.items)
   starts f at none = record {
     said = Called p.main ∷ [];
-    unseen = tt;
+    silent = (tt, tt);
     marks = [];
     config = main_config f;
     agrees = main_agrees f.own.items;

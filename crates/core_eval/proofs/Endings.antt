@@ -30,7 +30,6 @@ use Rattle.std.proofs.Common.{
   arith,
 }
 use Rattle.std.specs.List.{Contains}
-use Rattle.std.proofs.lemmas.List.Elements.{Contains-append_cases}
 use Rattle.std.specs.Io.KnownBytes.{Appends}
 use Rattle.std.proofs.KnownBytes.{Appends-nil, Appends-trans, Consumes-nil}
 use Rattle.core_meaning.specs.Core.{Program}
@@ -43,7 +42,7 @@ use Rattle.core_meaning.specs.Memory.{Word}
 use Rattle.core_meaning.specs.Operations.{byte_word}
 use Rattle.step_trees.specs.Trees.{Outcome, run}
 use Rattle.core_meaning.specs.Meaning.{bodies, start, core}
-use Rattle.core_eval.proofs.Quiet.{IsQuiet, AreSilent, none_silent, silent_run, stands_quiet, rest_quiet, start_quiet}
+use Rattle.core_eval.proofs.Quiet.{IsQuiet, AreSilent, none_silent, told_first, silent_run, stands_quiet, rest_quiet, start_quiet}
 use Rattle.cyc_host.specs.Transfers.{WritesSome, WritesBut}
 use Rattle.cyc_host.proofs.Transfers.{some_front, some_then}
 use Rattle.core_eval.specs.declared.ending.EvalEnding.{EvalEnding}
@@ -101,14 +100,6 @@ written_well ending.WriteFault count other = absurd (other refl)
 written_well ending.HostMemory count other = refl
 
 -- ---- endings
-
--- the input's end is told before events that don't tell it
-told_first : (es later : List events.Event) → AreSilent later → Contains (es ++ later) (ByteRead None) → Contains es (ByteRead None)
-told_first es later silent has = elim (Contains-append_cases es later (ByteRead None) has) [
-  | inl early ↦ early
-  | inr late ↦ absurd
-      (silent.untold late)
-]
 
 module _ {p : Program} {fuel left : ℕ} {is_over : Bool} {s : Step} {reader_old reader writer_old writer : Option (List ℕ)}
     {gathered : List ℕ} (x : Progress p fuel left is_over s reader_old reader writer_old writer gathered) where

@@ -32,6 +32,7 @@ branch_is value.Blank these those = refl
 branch_is (value.Word n) these those = word_choice (nat_eq n 0) these those
 branch_is value.Null these those = refl
 branch_is (value.Pointer p) these those = refl
+branch_is (value.Birth d) these those = refl
 
 pub branches : (x : Content) (v : Value) (b : Option Bool) (these those : Step) → x ≡ content_of v → truth_of v ≡ b → branch x these those
     ≡ choice_step these those b
@@ -57,7 +58,7 @@ module _ (known : Known) (ws : List Wait) where
   more_follow s ss =
       same_state (Follow (MoreStatements s ss)) ws (Go (Execute s)) (Then ss ∷ ws) known
       (λ main marks c h. (
-        record { temps = h.temps; fresh = h.fresh; globals = h.globals; nested = h.nested; entered = h.entered; live = h.live; owned = h.owned; called = h.called; values_live = h.values_live },
+        record { temps = h.temps; fresh = h.fresh; globals = h.globals; nested = h.nested; entered = h.entered; live = h.live; owned = h.owned; called = h.called; values_live = h.values_live; born = h.born },
         refl,
       )) (omega arith)
 
@@ -72,7 +73,7 @@ module _ (known : Known) (ws : List Wait) where
   loop_enters test flag body =
       same_state (Execute (core.While test flag body)) ws (Go (Follow test)) (Test test flag body ∷ ws) known
       (λ main marks c h. (
-        record { temps = h.temps; fresh = h.fresh; globals = h.globals; nested = h.nested; entered = h.entered; live = h.live; owned = h.owned; called = h.called; values_live = h.values_live },
+        record { temps = h.temps; fresh = h.fresh; globals = h.globals; nested = h.nested; entered = h.entered; live = h.live; owned = h.owned; called = h.called; values_live = h.values_live; born = h.born },
         refl,
       )) (omega arith)
 

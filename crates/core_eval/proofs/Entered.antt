@@ -1,5 +1,5 @@
 -- From what the entry of a block answers to a move.
-use Rattle.std.proofs.Common.{◌≡◌, ◌+◌, List, ◌∷◌, map, Result, Ok, Err, IfOk, OnOk, ap, ◌∙◌, sym, subst}
+use Rattle.std.proofs.Common.{◌≡◌, ◌+◌, List, ◌∷◌, map, Result, Ok, Err, IfOk, OnOk, refl, ap, ◌∙◌, sym, subst}
 use Rattle.std.specs.declared.vec.Vec.{Vec}
 use Rattle.std.specs.declared.alloc.Global.{Global}
 use Rattle.core_meaning.specs.Core as core
@@ -14,12 +14,14 @@ use Rattle.core_eval.specs.declared.frame.Frame.{Frame}
 use Rattle.core_eval.specs.declared.memory.Memory.{Memory}
 use Rattle.core_eval.specs.declared.pending.Due.{Due}
 use Rattle.core_eval.specs.Values.{cells_of, blank_object}
+use Rattle.core_eval.specs.Regions.{held_objects}
 use Rattle.core_eval.specs.Blocks.{activation_of}
 use Rattle.core_eval.specs.Pendings as specs
 use Rattle.core_eval.specs.Pendings.{Execute, Follow, Wait, Block, Go, next_of}
 use Rattle.core_eval.specs.Standing as standing
 use Rattle.core_eval.specs.Standing.{known_of}
 use Rattle.core_eval.specs.Costs.{IsMove}
+use Rattle.core_eval.proofs.Known.{known_same}
 use Rattle.core_eval.proofs.BlockMoves.{inside, block_enters}
 
 pub block_tree : (locals : Vec Local Global) (body : Vec code.Statement Global)
@@ -33,25 +35,14 @@ pub block_answer : {E : Type 0} (r : Result Due E) (f : Frame) (m m' : Memory) (
     → IfOk r (λ due. next_of due ≡ Go (Follow body')) → OnOk r (ws' ≡ Block ∷ ws)
     → OnOk r (map activation_of m'.blocks.items ≡ record { number = m.entered; objects = map blank_object locals' } ∷ map activation_of m.blocks.items)
     → OnOk r (m'.entered ≡ m.entered + 1) → OnOk r (m'.owns ≡ m.owns) → OnOk r (m'.called ≡ m.called) → OnOk r (m'.globals ≡ m.globals)
+    → OnOk r (m'.regions ≡ m.regions)
     → IfOk r (λ due. IsMove (Execute s) ws (known_of f m) (next_of due) ws' (known_of f m'))
-block_answer (Ok due) f m m' s locals locals' body body' ws ws' is same_locals same_body next waits blocks entered owns called globals =
+block_answer (Ok due) f m m' s locals locals' body body' ws ws' is same_locals same_body next waits blocks entered owns called globals regions =
     let all : map activation_of m'.blocks.items ≡ record { number = m.entered; objects = map blank_object locals } ∷ map activation_of m.blocks.items =
     blocks ∙ ap (λ l. record { number = m.entered; objects = map blank_object l } ∷ map activation_of m.blocks.items) same_locals in
     let known : known_of f m' ≡ inside (known_of f m) ws locals =
-    ap (λ bs. record (known_of f m') { blocks = bs }) all
-    ∙ ap (λ n. record (inside (known_of f m) ws locals) {
-      entered = n;
-      owns = map activation_of m'.owns.items;
-      called = m'.called;
-      globals = map cells_of m'.globals.items;
-    }) entered
-    ∙ ap (λ os. record (inside (known_of f m) ws locals) {
-      owns = map activation_of os.items;
-      called = m'.called;
-      globals = map cells_of m'.globals.items;
-    }) owns
-    ∙ ap (λ n. record (inside (known_of f m) ws locals) { called = n; globals = map cells_of m'.globals.items }) called
-    ∙ ap (λ gs. record (inside (known_of f m) ws locals) { globals = map cells_of gs.items }) globals in
+    known_same (known_of f m') (inside (known_of f m) ws locals) refl refl all entered (ap (λ os. map activation_of os.items) owns) called
+    (ap (λ gs. map cells_of gs.items) globals) (ap (λ rs. map held_objects rs.items) regions) in
     subst (λ (t : core.Statement). IsMove (Execute t) ws (known_of f m) (next_of due) ws' (known_of f m')) (sym is)
     (subst (λ (n : specs.Next). IsMove (Execute (core.Block (map local_tree locals) body)) ws (known_of f m) n ws' (known_of f m'))
     (sym (next ∙ ap (λ b. Go (Follow b)) same_body))
@@ -60,4 +51,4 @@ block_answer (Ok due) f m m' s locals locals' body body' ws ws' is same_locals s
     (subst (λ (k : standing.Known). IsMove (Execute (core.Block (map local_tree locals) body)) ws (known_of f m) (Go (Follow body)) (Block ∷ ws) k)
     (sym known)
     (block_enters (known_of f m) ws locals body))))
-block_answer (Err e) f m m' s locals locals' body body' ws ws' is same_locals same_body next waits blocks entered owns called globals = tt
+block_answer (Err e) f m m' s locals locals' body body' ws ws' is same_locals same_body next waits blocks entered owns called globals regions = tt

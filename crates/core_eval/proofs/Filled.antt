@@ -29,6 +29,7 @@ use Rattle.std.proofs.Common.{
   arith,
 }
 use Rattle.std.proofs.lemmas.Bool.Decides.{nat_tests}
+use Rattle.std.proofs.lemmas.List.{length-set}
 use Rattle.core_meaning.specs.Memory.{Region, Part, same_region}
 use Rattle.core_meaning.specs.Operations.{cells_on}
 use Rattle.cyc_core.specs.declared.layout.CellLayout.{CellLayout}
@@ -140,6 +141,14 @@ slot_filled objects i k vs x y = by (slice_get objects i) refl
         ≡ (if nat_eq x i then filled_slot (value_on k vs y) (slot_at objects x y) else slot_at objects x y)
     by None e = nothing (nat_eq x i) refl e
     by (Some cells) e = ap (λ o. cell_in o y) (get_set objects i (fill_cells cells k vs) cells x e) ∙ there cells (nat_eq x i) refl e
+
+-- as many objects as before
+pub fill_length : (objects : List (List Slot)) (i k : ℕ) (vs : List Value) → length (fill_in objects i k vs) ≡ length objects
+fill_length objects i k vs = by (slice_get objects i)
+  where
+    by : (o : Option (List Slot)) → length (fill_object objects i k vs o) ≡ length objects
+    by None = refl
+    by (Some cells) = length-set objects i (fill_cells cells k vs)
 
 -- ---- values that are gathered
 

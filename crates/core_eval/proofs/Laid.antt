@@ -17,9 +17,10 @@ use Rattle.core_eval.specs.declared.value.Place.{Place}
 use Rattle.core_eval.specs.declared.value.Slot.{Slot}
 use Rattle.core_eval.specs.Values.{region_of, spot_of, place_spot, part_in, same_width}
 use Rattle.core_eval.specs.Blocks.{Activation, position_of, slot_in}
-use Rattle.core_eval.specs.Whole.{is_cell, are_cells, slots_of, is_found, is_held, are_laid}
+use Rattle.core_eval.specs.Regions.{region_at}
+use Rattle.core_eval.specs.Whole.{is_cell, are_cells, slots_of, is_found, is_still, is_held, are_laid}
 use Rattle.core_eval.specs.Pendings.{Wait, Mark}
-use Rattle.core_eval.specs.Standing.{Known, Agrees}
+use Rattle.core_eval.specs.Standing.{Known, Agrees, ShowsBlocks}
 use Rattle.core_eval.proofs.Nested.{position_there}
 use Rattle.core_eval.proofs.Changes.{stored_in}
 use Rattle.core_eval.proofs.MemoryMoves.{shown, shown_values, area_part}
@@ -121,6 +122,11 @@ module _ (known : Known) (ws : List Wait) (marks : List Mark) (c : Config) (h : 
   -- which areas are live
   pub live_is : (a : Area) → is_live (c.memory.standing (region_of a)) ≡ is_held (stored_in known) a
   live_is area.Globals = ap is_live h.globals.live
+  live_is (area.Region n) = by (region_at known.regions n) (h.born.each n)
+    where
+      by : (held : Option (List (List Slot))) → ShowsBlocks c.memory (Born (suc n)) held → is_live (c.memory.standing (Born (suc n))) ≡ is_still held
+      by None dead = ap is_live dead
+      by (Some objects) (shows, counted) = ap is_live shows.live
   live_is (area.Block n) = by (position_of known.blocks n) refl
     where
       by : (o : Option ℕ) → position_of known.blocks n ≡ o → is_live (c.memory.standing (Frame n)) ≡ is_found o

@@ -18,6 +18,7 @@ use Rattle.core_eval.specs.Costs.{IsMove}
 use Rattle.core_eval.proofs.Memories.{other_number, shows_standing}
 use Rattle.core_eval.proofs.Nested.{nested_still}
 use Rattle.core_eval.proofs.Owned.{owned_still}
+use Rattle.core_eval.proofs.Born.{born_kept}
 use Rattle.core_eval.proofs.Moves.{all_stand, goes_here}
 use Rattle.core_eval.proofs.EnterMoves.{same_state, branches}
 
@@ -38,7 +39,7 @@ behind : (w : Wait) (known : Known) (ws : List Wait) (marks : List Mark) (c : Co
     → (AreOwned c.memory c.memory.calls c.own known.owns (w ∷ ws) marks → AreOwned c.memory c.memory.calls c.own known.owns ws marks)
     → Agrees known ws marks c
 behind w known ws marks c h drops keeps =
-    record { temps = h.temps; fresh = h.fresh; globals = h.globals; nested = drops h.nested; entered = h.entered; live = h.live; owned = keeps h.owned; called = h.called; values_live = h.values_live }
+    record { temps = h.temps; fresh = h.fresh; globals = h.globals; nested = drops h.nested; entered = h.entered; live = h.live; owned = keeps h.owned; called = h.called; values_live = h.values_live; born = h.born }
 
 module _ (known : Known) (ws : List Wait) where
   -- ---- statements after one another
@@ -103,7 +104,7 @@ module _ (known : Known) (ws : List Wait) where
     again_as : (w : Wait) (main : ℕ) (marks : List Mark) (c : Config) → Agrees known (Body test flag body ∷ ws) marks c
         → Agrees known (Test test flag body ∷ ws) marks c
     again_as w main marks c h =
-        record { temps = h.temps; fresh = h.fresh; globals = h.globals; nested = h.nested; entered = h.entered; live = h.live; owned = h.owned; called = h.called; values_live = h.values_live }
+        record { temps = h.temps; fresh = h.fresh; globals = h.globals; nested = h.nested; entered = h.entered; live = h.live; owned = h.owned; called = h.called; values_live = h.values_live; born = h.born }
 
     pub turn_falls : IsMove (Leave steps.Falls) (Body test flag body ∷ ws) known (Go (Follow test)) (Test test flag body ∷ ws) known
     turn_falls =
@@ -157,6 +158,8 @@ module _ (known : Known) (ws : List Wait) where
               (λ k os less s. shows_standing s (Own mark.number) (other_number k mark.number (omega (arith, less, same))) Dead) others;
           called = h.called;
           values_live = λ k gone. ended k (nat_eq k mark.number) refl gone;
+          born = born_kept c.memory m' known.globals known.regions h.born
+              (record { births = refl; standing = λ d. refl; objects = λ d. refl; parts = λ d i k j. refl });
         }
       where
         ended : (k : ℕ) (t : Bool) → nat_eq k mark.number ≡ t → position_of owns k ≡ None
@@ -202,7 +205,7 @@ module _ (known : Known) (ws : List Wait) where
     still = all_stand (Go (Leave (steps.Returns []))) (Caller [] f saved ∷ ws) known (Go (Leave steps.Falls)) ws (back [] f saved)
         (marked [] f saved (Go (Leave steps.Falls)) (back [] f saved) (steps.Returns []) (λ main mark marks c h. record {
           said = Returned f ∷ [];
-          unseen = tt;
+          silent = (tt, tt);
           marks = marks;
           config = resumed [] f saved mark c;
           agrees = resumed_agrees [] f saved mark marks c h;
@@ -222,7 +225,7 @@ module _ (known : Known) (ws : List Wait) where
         let was = resumed_agrees (t ∷ []) f saved mark marks c h in
         record {
           said = Returned f ∷ [];
-          unseen = tt;
+          silent = (tt, tt);
           marks = marks;
           config = with_temp t v (resumed (t ∷ []) f saved mark c);
           agrees = record {
@@ -235,6 +238,7 @@ module _ (known : Known) (ws : List Wait) where
             owned = was.owned;
             called = was.called;
             values_live = was.values_live;
+            born = was.born;
           };
           same = refl;
         }));
@@ -247,7 +251,7 @@ module _ (known : Known) (ws : List Wait) where
     still = all_stand (Go (Leave (steps.Returns (v ∷ [])))) (Caller [] f saved ∷ ws) known Wrong ws (back [] f saved)
         (marked [] f saved Wrong (back [] f saved) (steps.Returns (v ∷ [])) (λ main mark marks c h. record {
           said = Returned f ∷ [];
-          unseen = tt;
+          silent = (tt, tt);
           marks = marks;
           config = resumed [] f saved mark c;
           agrees = resumed_agrees [] f saved mark marks c h;
@@ -261,7 +265,7 @@ module _ (known : Known) (ws : List Wait) where
     still = all_stand (Go (Leave (steps.Returns []))) (Caller (t ∷ []) f saved ∷ ws) known Wrong ws (back (t ∷ []) f saved)
         (marked (t ∷ []) f saved Wrong (back (t ∷ []) f saved) (steps.Returns []) (λ main mark marks c h. record {
           said = Returned f ∷ [];
-          unseen = tt;
+          silent = (tt, tt);
           marks = marks;
           config = resumed (t ∷ []) f saved mark c;
           agrees = resumed_agrees (t ∷ []) f saved mark marks c h;
@@ -277,7 +281,7 @@ module _ (known : Known) where
   main_ends n = record {
     still = all_stand (Go (Leave (steps.Returns (memory.Word n ∷ [])))) [] known (Over n) [] known (λ main marks c h. record {
       said = Returned main ∷ [];
-      unseen = tt;
+      silent = (tt, tt);
       marks = marks;
       config = c;
       agrees = h;
@@ -290,7 +294,7 @@ module _ (known : Known) where
   main_none = record {
     still = all_stand (Go (Leave (steps.Returns []))) [] known Wrong [] known (λ main marks c h. record {
       said = Returned main ∷ [];
-      unseen = tt;
+      silent = (tt, tt);
       marks = marks;
       config = c;
       agrees = h;
@@ -303,7 +307,7 @@ module _ (known : Known) where
   main_blank = record {
     still = all_stand (Go (Leave (steps.Returns (content_of value.Blank ∷ [])))) [] known Wrong [] known (λ main marks c h. record {
       said = Returned main ∷ [];
-      unseen = tt;
+      silent = (tt, tt);
       marks = marks;
       config = c;
       agrees = h;
@@ -316,7 +320,7 @@ module _ (known : Known) where
   main_null = record {
     still = all_stand (Go (Leave (steps.Returns (content_of value.Null ∷ [])))) [] known Wrong [] known (λ main marks c h. record {
       said = Returned main ∷ [];
-      unseen = tt;
+      silent = (tt, tt);
       marks = marks;
       config = c;
       agrees = h;
@@ -329,7 +333,20 @@ module _ (known : Known) where
   main_place p = record {
     still = all_stand (Go (Leave (steps.Returns (content_of (value.Pointer p) ∷ [])))) [] known Wrong [] known (λ main marks c h. record {
       said = Returned main ∷ [];
-      unseen = tt;
+      silent = (tt, tt);
+      marks = marks;
+      config = c;
+      agrees = h;
+      same = refl;
+    });
+    fewer = omega arith;
+  }
+
+  pub main_birth : (d : ℕ) → IsMove (Leave (steps.Returns (content_of (value.Birth d) ∷ []))) [] known Wrong [] known
+  main_birth d = record {
+    still = all_stand (Go (Leave (steps.Returns (content_of (value.Birth d) ∷ [])))) [] known Wrong [] known (λ main marks c h. record {
+      said = Returned main ∷ [];
+      silent = (tt, tt);
       marks = marks;
       config = c;
       agrees = h;

@@ -1,6 +1,6 @@
 -- What lists of temporaries, objects and blocks hold at an index.
 use Rattle.std.specs.Prelude.{if◌then◌else◌, slice_index_or, slice_get, slice_set, nat_eq, drop, option_to_list, option_map, Option}
-use Rattle.std.proofs.Common.{◌≡◌, ℕ, zero, suc, ◌<◌, ◌≤◌, Bool, true, false, Some, None, List, [], ◌∷◌, ◌++◌, length, map, Result, Ok, Err, OnOk, refl, ap, ◌∙◌, sym, arith}
+use Rattle.std.proofs.Common.{◌≡◌, ℕ, zero, suc, ◌+◌, ◌<◌, ◌≤◌, Bool, true, false, Some, None, List, [], ◌∷◌, ◌++◌, length, map, Result, Ok, Err, OnOk, refl, ap, ◌∙◌, sym, arith}
 use Rattle.std.proofs.lemmas.List.{length-map}
 use Rattle.std.proofs.Math.Dec.{eqb-suc-suc, eqb-zero-suc, eqb-suc-zero}
 use Rattle.core_meaning.specs.Memory.{Blank}
@@ -68,6 +68,15 @@ module _ {A : Type 0} where
   get_past [] k h = refl
   get_past (y ∷ xs) zero h = absurd (omega (arith, h))
   get_past (y ∷ xs) (suc k) h = get_past xs k (omega (arith, h))
+
+  pub get_less : (xs : List A) (k : ℕ) (x : A) → slice_get xs k ≡ Some x → k < length xs
+  get_less [] k x e = cc
+  get_less (y ∷ xs) zero x e = omega arith
+  get_less (y ∷ xs) (suc k) x e = let h = get_less xs k x e in omega (arith, h)
+
+  pub length_more : (xs : List A) (x : A) → length xs + 1 ≡ length (xs ++ x ∷ [])
+  length_more [] x = refl
+  length_more (y ∷ xs) x = let h = length_more xs x in omega (arith, h)
 
 -- ---- blocks, as the code has them
 

@@ -88,6 +88,7 @@ use Rattle.core_eval.specs.Values.{
   blank_object,
   local_cells,
 }
+use Rattle.core_eval.specs.Regions.{slot_from}
 use Rattle.core_eval.specs.Standing.{first_value}
 use Rattle.core_eval.proofs.Lists.{get_set, get_grown}
 
@@ -233,23 +234,31 @@ padding_part at (suc n) (suc j) =
     ∙ ap (λ (x : ℕ). if nat_lt j n then Some (record { offset = x; width = 1; first = memory.Blank }) else None) z
     ∙ ap (λ b. if b then Some (record { offset = at + suc j; width = 1; first = memory.Blank }) else None) (less_suc j n)
 
-padding_if : (b : Bool) (at before : ℕ) → before ≡ 0 → blank_of before (if b then Some (record { offset = at; width = 1; first = memory.Blank }) else None)
-    ≡ (if b then Some (record { offset = at; width = 1; content = memory.Blank }) else None)
-padding_if true at before none = let z : before + at ≡ at = omega (arith, none) in ap (λ (x : ℕ). Some (record { offset = x; width = 1; content = memory.Blank })) z
-padding_if false at before none = refl
+padding_if : (b : Bool) (at before on : ℕ) → before + at ≡ on → blank_of before (if b then Some (record { offset = at; width = 1; first = memory.Blank }) else None)
+    ≡ (if b then Some (record { offset = on; width = 1; content = memory.Blank }) else None)
+padding_if true at before on is = ap (λ (x : ℕ). Some (record { offset = x; width = 1; content = memory.Blank })) is
+padding_if false at before on is = refl
 
-blank_cell : (c : CellLayout) (before j : ℕ) → before ≡ 0 → blank_of before (slice_get (cell_parts c) j) ≡ part_of (blank_slot c) j
-blank_cell c before zero none = let z : before + c.offset ≡ c.offset = omega (arith, none) in
-    ap (λ (x : ℕ). Some (record { offset = x; width = bytes_of (blank_slot c).width; content = memory.Blank })) z
-blank_cell c before (suc j) none =
+blank_cell : (c : CellLayout) (before j : ℕ) → blank_of before (slice_get (cell_parts c) j) ≡ part_of (slot_from before c) j
+blank_cell c before zero = refl
+blank_cell c before (suc j) =
     ap (blank_of before) (padding_part (c.offset + bytes_of (blank_slot c).width) c.padding j)
-    ∙ padding_if (nat_lt j c.padding) (c.offset + bytes_of (blank_slot c).width + j) before none
+    ∙ padding_if (nat_lt j c.padding) (c.offset + bytes_of (blank_slot c).width + j) before (before + c.offset + bytes_of (blank_slot c).width + j)
+    (omega arith)
 
-blank_cells : (cs : List CellLayout) (before k j : ℕ) → before ≡ 0
-    → blank_of before (shape_in (slice_get (map cell_parts cs) k) j) ≡ part_in (slice_get (map blank_slot cs) k) j
-blank_cells [] before k j none = refl
-blank_cells (c ∷ cs) before zero j none = blank_cell c before j none
-blank_cells (c ∷ cs) before (suc k) j none = blank_cells cs before k j none
+-- the cells of an element that lies so many bytes on
+pub blank_cells : (cs : List CellLayout) (before k j : ℕ)
+    → blank_of before (shape_in (slice_get (map cell_parts cs) k) j) ≡ part_in (slice_get (map (slot_from before) cs) k) j
+blank_cells [] before k j = refl
+blank_cells (c ∷ cs) before zero j = blank_cell c before j
+blank_cells (c ∷ cs) before (suc k) j = blank_cells cs before k j
+
+-- the first element
+first_cells : (cs : List CellLayout) → map (slot_from 0) cs ≡ map blank_slot cs
+first_cells [] = refl
+first_cells (c ∷ cs) =
+    let z : 0 + c.offset ≡ c.offset = omega arith in
+    ap (λ (x : ℕ). record (blank_slot c) { offset = x } ∷ map (slot_from 0) cs) z ∙ ap (λ l. blank_slot c ∷ l) (first_cells cs)
 
 -- a cell that there isn't
 no_cell : (shapes : List (List PartShape)) (k j before : ℕ) → length shapes ≤ k → blank_of before (shape_in (slice_get shapes k) j) ≡ None
@@ -293,7 +302,7 @@ local_parts (local.Whole l) = refl
 pub blank_part : (l : code.Local) (k j : ℕ) → blanks (local_layout l) 1 k j ≡ part_in (slice_get (blank_object l) k) j
 blank_part l k j =
     one_element (local_layout l) k j ∙ ap (λ cells. blank_of 0 (shape_in (slice_get cells k) j)) (local_parts l)
-    ∙ blank_cells (local_cells l) 0 k j refl
+    ∙ blank_cells (local_cells l) 0 k j ∙ ap (λ cells. part_in (slice_get cells k) j) (first_cells (local_cells l))
 
 -- what a cell begins as
 pub cell_begins : (c : CellLayout) → cell_first c.cell ≡ content_of (first_value c.cell)
@@ -303,6 +312,7 @@ cell_begins c = by c.cell
     by cell.Byte = refl
     by cell.Word = refl
     by cell.Pointer = refl
+    by cell.Handle = refl
 
 -- ---- a store to an object
 
@@ -347,18 +357,18 @@ module _ {m : Memory} {r : Region} {objects : List (List Slot)} (shows : Shows m
       by false e z = shows.holds x y z
 
   -- one more object
-  pub shows_grown : m.objects r ≡ length objects → (l : code.Local) → Shows (with_object m r (blanks (local_layout l) 1)) r
-      (objects ++ blank_object l ∷ [])
-  shows_grown counted l = record {
+  pub shows_grown : m.objects r ≡ length objects → (o : ℕ → ℕ → Option Part) (cells : List Slot) → ((k j : ℕ) → o k j ≡ part_in (slice_get cells k) j)
+      → Shows (with_object m r o) r (objects ++ cells ∷ [])
+  shows_grown counted o cells is = record {
     live = shows.live;
     holds = λ x y z.
-        ap (λ b. if b && nat_eq x (m.objects r) then blanks (local_layout l) 1 y z else m.parts (spot_of r x y) z) (itself r)
-        ∙ ap (λ n. if nat_eq x n then blanks (local_layout l) 1 y z else m.parts (spot_of r x y) z) counted
+        ap (λ b. if b && nat_eq x (m.objects r) then o y z else m.parts (spot_of r x y) z) (itself r)
+        ∙ ap (λ n. if nat_eq x n then o y z else m.parts (spot_of r x y) z) counted
         ∙ both (nat_eq x (length objects)) x y z
-        ∙ ap (λ o. part_in (cell_in o y) z) (sym (get_grown objects (blank_object l) x));
+        ∙ ap (λ o. part_in (cell_in o y) z) (sym (get_grown objects cells x));
   }
     where
-      both : (b : Bool) (x y z : ℕ) → (if b then blanks (local_layout l) 1 y z else m.parts (spot_of r x y) z)
-          ≡ part_in (cell_in (if b then Some (blank_object l) else slice_get objects x) y) z
-      both true x y z = blank_part l y z
+      both : (b : Bool) (x y z : ℕ) → (if b then o y z else m.parts (spot_of r x y) z)
+          ≡ part_in (cell_in (if b then Some cells else slice_get objects x) y) z
+      both true x y z = is y z
       both false x y z = shows.holds x y z

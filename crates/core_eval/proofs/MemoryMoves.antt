@@ -1,6 +1,7 @@
 -- What the evaluator reads of locals and globals, and what it knows of pointers, as Core does it.
 use Rattle.std.specs.Prelude.{if◌then◌else◌, slice_get, nat_eq, ◌&&◌, option_map}
-use Rattle.std.proofs.Common.{◌≡◌, ℕ, ◌+◌, Bool, true, false, Option, Some, None, List, ◌∷◌, refl, ap, ◌∙◌, sym, subst}
+use Rattle.std.proofs.Common.{◌≡◌, ℕ, suc, ◌+◌, Bool, true, false, Option, Some, None, List, ◌∷◌, refl, ap, ◌∙◌, sym, subst}
+use Rattle.std.proofs.Math.Dec.{eqb-suc-suc, eqb-zero-suc, eqb-suc-zero}
 use Rattle.core_meaning.specs.Memory as memory
 use Rattle.core_meaning.specs.Memory.{Region, Frame, Own, Born, Content, Pointer, Part, Memory, Spot, is_live, part_at, same_spot, same_region}
 use Rattle.core_meaning.specs.Core as core
@@ -18,6 +19,7 @@ use Rattle.core_eval.specs.declared.value.Value.{Value}
 use Rattle.core_eval.specs.declared.value.Value.TheVariants as value
 use Rattle.core_eval.specs.declared.value.Slot.{Slot}
 use Rattle.core_eval.specs.Values.{region_of, spot_of, place_spot, content_of, temp_of, part_in, slot_at, Shows, is_fit, value_of, same_area, same_cell}
+use Rattle.core_eval.specs.Regions.{region_at, slot_within}
 use Rattle.core_eval.specs.Blocks.{
   Activation,
   Descends,
@@ -37,7 +39,7 @@ use Rattle.core_eval.specs.Blocks.{
   same_values,
 }
 use Rattle.core_eval.specs.Pendings.{Execute, Leave, Wait, Go, Wrong, Mark}
-use Rattle.core_eval.specs.Standing.{Known, Agrees, Gives}
+use Rattle.core_eval.specs.Standing.{Known, Agrees, ShowsBlocks, Gives}
 use Rattle.core_eval.specs.Costs.{IsMove}
 use Rattle.core_eval.proofs.Memories.{first_part, found, reached_at, part_there}
 use Rattle.core_eval.proofs.Owned.{owned_first, owned_descends, owned_shows}
@@ -123,9 +125,19 @@ module _ (known : Known) (ws : List Wait) (marks : List Mark) (c : Config) (h : 
       by None e = ap (λ b. if b then c.memory.parts (spot_of (Own n) i k) j else None) (h.values_live n e)
       by (Some p) e = there p (slice_get known.owns p) refl (position_there known.owns n p e)
 
+  -- a part of a block of a region
+  region_part : (n i k j : ℕ) → part_at c.memory (spot_of (Born (suc n)) i k) j ≡ part_in (slot_within (region_at known.regions n) i k) j
+  region_part n i k j = by (region_at known.regions n) (h.born.each n)
+    where
+      by : (held : Option (List (List Slot))) → ShowsBlocks c.memory (Born (suc n)) held
+          → part_at c.memory (spot_of (Born (suc n)) i k) j ≡ part_in (slot_within held i k) j
+      by None dead = ap (λ now. if is_live now then c.memory.parts (spot_of (Born (suc n)) i k) j else None) dead
+      by (Some objects) (shows, counted) = part_there shows i k j
+
   -- a part of an object of an area
   pub area_part : (a : Area) (i k j : ℕ) → part_at c.memory (spot_of (region_of a) i k) j ≡ part_in (slot_in (stored_in known) a i k) j
   area_part area.Globals i k j = part_there h.globals i k j
+  area_part (area.Region n) i k j = region_part n i k j
   area_part (area.Block n) i k j = number_part n i k j
   area_part (area.Own n) i k j = value_part n i k j
 
@@ -195,12 +207,19 @@ both_is b e (Some x) (Some y) same next = checked_both (nat_eq x.offset b && nat
 
 pub same_regions : (a e : Area) → same_region (region_of a) (region_of e) ≡ same_area a e
 same_regions area.Globals area.Globals = refl
+same_regions area.Globals (area.Region n) = eqb-zero-suc n
+same_regions (area.Region n) area.Globals = eqb-suc-zero n
+same_regions (area.Region n) (area.Region l) = eqb-suc-suc n l
+same_regions (area.Region n) (area.Block k) = refl
+same_regions (area.Region n) (area.Own k) = refl
 same_regions area.Globals (area.Block k) = refl
 same_regions area.Globals (area.Own k) = refl
 same_regions (area.Block k) area.Globals = refl
+same_regions (area.Block k) (area.Region n) = refl
 same_regions (area.Block k) (area.Block l) = refl
 same_regions (area.Block k) (area.Own l) = refl
 same_regions (area.Own k) area.Globals = refl
+same_regions (area.Own k) (area.Region n) = refl
 same_regions (area.Own k) (area.Block l) = refl
 same_regions (area.Own k) (area.Own l) = refl
 
@@ -226,6 +245,7 @@ module _ (known : Known) (ws : List Wait) (marks : List Mark) (c : Config) (h : 
   place_with p (value.Word n) next = refl
   place_with p value.Null next = refl
   place_with p (value.Pointer q) next = two_places p q next
+  place_with p (value.Birth d) next = refl
 
   same_is : (u v : Value) (next : ℕ → Step)
       → same_place c.memory (content_of u) (content_of v) next ≡ null_step next (same_values (stored_in known) u v)
@@ -233,6 +253,7 @@ module _ (known : Known) (ws : List Wait) (marks : List Mark) (c : Config) (h : 
   same_is (value.Word n) v next = refl
   same_is value.Null v next = null_is v next
   same_is (value.Pointer p) v next = place_with p v next
+  same_is (value.Birth d) v next = refl
 
 module _ (known : Known) (ws : List Wait) where
   got : (t out i : ℕ) (w : Width) (marks : List Mark) (c : Config) → Agrees known ws marks c → (next : Config → Step)

@@ -31,6 +31,7 @@ null_is value.Blank next = refl
 null_is (value.Word n) next = refl
 null_is value.Null next = refl
 null_is (value.Pointer p) next = refl
+null_is (value.Birth d) next = refl
 
 -- a state whose temporary was given a content
 abbrev pub given : Known → List Value → Known
@@ -49,6 +50,7 @@ module _ (known : Known) (temps : List Value) (ws : List Wait) where
     owned = h.owned;
     called = h.called;
     values_live = h.values_live;
+    born = h.born;
   }
 
   pub given_moves : (o : core.Operation) (t : ℕ) (v : Content) → Gives t v known.temps temps → Becomes o ws known (λ next c. next (with_temp t v c))
@@ -60,6 +62,10 @@ module _ (known : Known) (temps : List Value) (ws : List Wait) where
   constant_moves t w small gives =
       let same : w % 2 ^ 32 ≡ w = omega (arith, small) in
       given_moves (core.Constant t w) t (memory.Word w) gives (λ marks c h next. ap (λ (n : ℕ). next (with_temp t (memory.Word n) c)) same)
+
+  pub heap_moves : (t : ℕ) → Gives t (memory.Birth 0) known.temps temps
+      → IsMove (Execute (core.Do (core.HeapHandle t))) ws known (Go (Leave steps.Falls)) ws (given known temps)
+  heap_moves t gives = given_moves (core.HeapHandle t) t (memory.Birth 0) gives (λ marks c h next. refl)
 
   pub null_moves : (t : ℕ) → Gives t memory.Null known.temps temps
       → IsMove (Execute (core.Do (core.NullPointer t))) ws known (Go (Leave steps.Falls)) ws (given known temps)
@@ -122,6 +128,7 @@ IsNoWord value.Blank = Unit {0}
 IsNoWord (value.Word n) = ⊥
 IsNoWord value.Null = Unit {0}
 IsNoWord (value.Pointer p) = Unit {0}
+IsNoWord (value.Birth d) = Unit {0}
 
 -- what is no pointer
 abbrev pub IsNoPlace : Value → Type 0
@@ -129,18 +136,21 @@ IsNoPlace value.Blank = Unit {0}
 IsNoPlace (value.Word n) = Unit {0}
 IsNoPlace value.Null = Unit {0}
 IsNoPlace (value.Pointer p) = ⊥
+IsNoPlace (value.Birth d) = Unit {0}
 
-no_word : (v : Value) (next : ℕ → Step) → IsNoWord v → word_of (content_of v) next ≡ stuck
+pub no_word : (v : Value) (next : ℕ → Step) → IsNoWord v → word_of (content_of v) next ≡ stuck
 no_word value.Blank next h = refl
 no_word (value.Word n) next h = absurd h
 no_word value.Null next h = refl
 no_word (value.Pointer p) next h = refl
+no_word (value.Birth d) next h = refl
 
 pub no_place : (v : Value) (next : Spot → ℕ → Step) → IsNoPlace v → pointer_of (content_of v) next ≡ stuck
 no_place value.Blank next h = refl
 no_place (value.Word n) next h = refl
 no_place value.Null next h = refl
 no_place (value.Pointer p) next h = absurd h
+no_place (value.Birth d) next h = refl
 
 module _ (known : Known) (ws : List Wait) (x : ℕ) (v : Value) (read : content_of v ≡ temp_of known.temps x) where
   pub no_word_wrong : (o : core.Operation) (next' : Config → (Config → Step) → ℕ → Step)

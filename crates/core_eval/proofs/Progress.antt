@@ -39,8 +39,9 @@ use Rattle.core_meaning.specs.Steps.{Config, Event, Visible, Called, Returned, E
 use Rattle.core_meaning.specs.Meaning.{bodies, called, turned, core}
 use Rattle.core_meaning.specs.Memory.{Content}
 use Rattle.step_trees.specs.Trees.{Says, Reads, Pays, Calls, Turns, Outcome, after, run}
-use Rattle.core_eval.specs.Standing.{saying, AreUnseen}
+use Rattle.core_eval.specs.Standing.{saying, AreAllSilent}
 use Rattle.core_eval.specs.Evaluated.{seen}
+use Rattle.core_eval.proofs.Quiet.{told_first, said_silent}
 use Rattle.cyc_words.proofs.Events.{output_append, read_append, told_before}
 use Rattle.cyc_host.specs.Transfers.{WritesBut, Answers}
 use Rattle.rv32_machine.specs.Run.{AreBytes}
@@ -90,13 +91,6 @@ bytes_append xs ys = ap output (seen_append xs ys) ∙ output_append (seen xs) (
 one_more : (es : List Event) (e : Event) (o : Outcome Event) → prepended es (after e o) ≡ prepended (es ++ e ∷ []) o
 one_more es e o = ap (λ l. record { events = l; ending = o.ending }) (sym (append_assoc es (e ∷ []) o.events))
 
--- calls and returns are not seen
-unseen_none : (es : List Event) → AreUnseen es → seen es ≡ []
-unseen_none [] h = refl
-unseen_none (Visible e ∷ es) h = absurd h
-unseen_none (Called f ∷ es) h = unseen_none es h
-unseen_none (Returned f ∷ es) h = unseen_none es h
-
 -- what is said first comes first
 pub said_run : (p : Program) (n : ℕ) (es : List Event) (s : Step) (i : List ℕ) → run (bodies p) n (saying es s) i ≡ prepended es (run (bodies p) n s i)
 said_run p n [] s i = refl
@@ -113,12 +107,11 @@ module _ {p : Program} {fuel left : ℕ} {is_over : Bool} {s : Step} {reader_old
       → Progress p fuel left is_over s' reader_old reader writer_old writer gathered
   now_at x s' e = subst (λ (t : Step). Progress p fuel left is_over t reader_old reader writer_old writer gathered) e x
 
-  -- calls and returns that were said
-  pub settled : Progress p fuel left is_over s reader_old reader writer_old writer gathered → (es : List Event) (s' : Step) → AreUnseen es → s ≡ saying es s'
+  -- events that were said and are no bytes
+  pub settled : Progress p fuel left is_over s reader_old reader writer_old writer gathered → (es : List Event) (s' : Step) → AreAllSilent es → s ≡ saying es s'
       → Progress p fuel left is_over s' reader_old reader writer_old writer gathered
-  settled x es s' unseen is =
-      let same : seen (x.events ++ es) ≡ seen x.events = seen_append x.events es ∙ ap (λ l. seen x.events ++ l) (unseen_none es unseen)
-      ∙ append-nil (seen x.events) in
+  settled x es s' said is =
+      let silent = said_silent es said in
       record {
         input = x.input;
         units = x.units;
@@ -127,10 +120,12 @@ module _ {p : Program} {fuel left : ℕ} {is_over : Bool} {s : Step} {reader_old
         written = x.written;
         consumed = x.consumed;
         bytes = x.bytes;
-        taken = ap bytes_read same ∙ x.taken;
+        taken = reads_append x.events es ∙ ap (λ l. bytes_read (seen x.events) ++ l) silent.read ∙ append-nil (bytes_read (seen x.events)) ∙ x.taken;
         appended = x.appended;
-        shows = ap output same ∙ x.shows;
-        told = λ has. x.told (subst (λ (l : List events.Event). Contains l (ByteRead None)) same has);
+        shows = bytes_append x.events es ∙ ap (λ l. output (seen x.events) ++ l) silent.written ∙ append-nil (output (seen x.events)) ∙ x.shows;
+        told = λ has.
+            x.told (told_first (seen x.events) (seen es) silent
+            (subst (λ (l : List events.Event). Contains l (ByteRead None)) (seen_append x.events es) has));
         at_end = x.at_end;
         ran = λ n more end. x.ran n more end ∙ ap (λ (t : Step). prepended x.events (run (bodies p) n t more)) is
             ∙ ap (prepended x.events) (said_run p n es s' more) ∙ prepended_both x.events es (run (bodies p) n s' more);

@@ -1,6 +1,6 @@
 -- Before a unit is due no byte is read or written, whatever a program does.
 use Rattle.std.specs.Prelude.{if◌then◌else◌, nat_eq, slice_get, length}
-use Rattle.std.proofs.Common.{◌≡◌, ℕ, zero, suc, inl, inr, arith, Bool, true, false, Option, Some, None, List, [], ◌∷◌, refl, sym, subst}
+use Rattle.std.proofs.Common.{◌≡◌, ℕ, zero, suc, inl, inr, arith, Bool, true, false, Option, Some, None, List, [], ◌∷◌, ◌++◌, refl, sym, subst}
 use Rattle.cyc_words.specs.Events as events
 use Rattle.cyc_words.specs.Events.{ByteRead, ByteWritten, output, bytes_read}
 use Rattle.std.specs.List.{Contains}
@@ -43,7 +43,7 @@ use Rattle.core_meaning.specs.Meaning.{
   first_memory,
   start,
 }
-use Rattle.core_eval.specs.Standing.{Known, Stands, saying, AreUnseen}
+use Rattle.core_eval.specs.Standing.{Known, Stands, saying, IsSilent, AreAllSilent}
 use Rattle.core_eval.specs.Evaluated.{seen}
 use Rattle.core_eval.specs.Pendings.{
   Follow,
@@ -71,12 +71,6 @@ use Rattle.core_eval.specs.Pendings.{
   turned_once,
   returned_to,
 }
-
--- an event that is no byte
-abbrev pub IsSilent : Event → Type 0
-IsSilent (Visible (ByteRead byte)) = ⊥
-IsSilent (Visible (ByteWritten byte)) = ⊥
-IsSilent _ = Unit {0}
 
 -- no byte is read or written before the next unit
 abbrev pub IsQuiet : Step → Type 0
@@ -185,6 +179,7 @@ does_quiet (core.IsNull t p) next h c = null_quiet (c.temps p) _ (λ n. h _)
 does_quiet (core.SamePlace t p q) next h c = same_quiet c.memory (c.temps p) (c.temps q) _ (λ n. h _)
 does_quiet (core.Getchar t) next h c = tt
 does_quiet (core.Putchar t x) next h c = word_quiet (c.temps x) _ (λ n. tt)
+does_quiet (core.HeapHandle t) next h c = h _
 does_quiet (core.RegionNew t) next h c = (tt, h _)
 does_quiet (core.RegionAlloc t r n l) next h c = birth_quiet (c.temps r) _
     (λ d. word_quiet (c.temps n) _ (λ count. checked_quiet _ (Says (Visible (events.RegionAlloc d _)) _) (tt, h _)))
@@ -326,6 +321,13 @@ pub record AreSilent (es : List events.Event) : Type 0 where
 pub none_silent : AreSilent []
 none_silent = record { written = refl; read = refl; untold = λ (k, below, is). absurd (omega arith) }
 
+-- the input's end is told before events that don't tell it
+pub told_first : (es later : List events.Event) → AreSilent later → Contains (es ++ later) (ByteRead None) → Contains es (ByteRead None)
+told_first es later silent has = elim (Contains-append_cases es later (ByteRead None) has) [
+  | inl early ↦ early
+  | inr late ↦ absurd (silent.untold late)
+]
+
 -- an event of a list is the first one or one of the others
 first_or_later : {P : Type 0} (e x : events.Event) (es : List events.Event) → (e ≡ x → P) → (Contains es x → P) → Contains (e ∷ es) x → P
 first_or_later e x es first later has = elim (Contains-append_cases (e ∷ []) es x has) [
@@ -357,13 +359,16 @@ silent_run p (Pays next m) input h = none_silent
 silent_run p (Calls invocation next m) input h = none_silent
 silent_run p (Turns turn next m) input h = none_silent
 
-quiet_said : (es : List Event) (s : Step) → AreUnseen es → IsQuiet s → IsQuiet (saying es s)
+-- what is said, and then done
+pub said_silent : (es : List Event) → AreAllSilent es → AreSilent (seen es)
+said_silent [] h = none_silent
+said_silent (e ∷ es) h = silent_after e es h.0 (said_silent es h.1)
+
+quiet_said : (es : List Event) (s : Step) → AreAllSilent es → IsQuiet s → IsQuiet (saying es s)
 quiet_said [] s h k = k
-quiet_said (Visible e ∷ es) s h k = absurd h
-quiet_said (Called f ∷ es) s h k = (tt, quiet_said es s h k)
-quiet_said (Returned f ∷ es) s h k = (tt, quiet_said es s h k)
+quiet_said (e ∷ es) s h k = (h.0, quiet_said es s h.1 k)
 
 -- where a run stands it is quiet
 pub stands_quiet : (main : ℕ) (s : Step) (next : Next) (ws : List Wait) (known : Known) → Stands main s next ws known → IsQuiet s
 stands_quiet main s next ws known st =
-    subst IsQuiet (sym st.same) (quiet_said st.said _ st.unseen (coming_quiet main next ws st.marks st.config))
+    subst IsQuiet (sym st.same) (quiet_said st.said _ st.silent (coming_quiet main next ws st.marks st.config))

@@ -15,9 +15,11 @@ use Rattle.core_eval.specs.declared.frame.Frame as frame_code
 use Rattle.core_eval.specs.declared.memory.Memory as memory_code
 use Rattle.core_eval.specs.declared.value.Value.{Value}
 use Rattle.core_eval.specs.Values.{cells_of, blank_object}
+use Rattle.core_eval.specs.Regions.{held_objects}
 use Rattle.core_eval.specs.Blocks.{activation_of}
 use Rattle.core_eval.specs.Pendings.{Follow, Leave, Wait, Body, Next, Go, GetcharDue, PutcharDue, TurnDue, CallDue, Mark, rest_of, returned_to, coming}
 use Rattle.core_eval.specs.Standing.{Known, Agrees, Stands, StandsStill, Gives, IsCall, first_object, first_known, known_of}
+use Rattle.core_eval.proofs.Known.{known_same}
 use Rattle.core_eval.proofs.OperationMoves.{given, agrees_given}
 use Rattle.core_eval.proofs.Progress.{Progress, settled, put_one, turned_once, called_once, wrote, kept, answered}
 
@@ -54,7 +56,7 @@ begun p fuel next known reader writer stands = record {
 -- a state right after a unit
 stands_at : (p : Program) (next : Next) (ws : List Wait) (known : Known) (marks : List Mark) (c : Config) → Agrees known ws marks c
     → Stands p.main (coming next (rest_of p.main ws marks) c) next ws known
-stands_at p next ws known marks c agrees = record { said = []; unseen = tt; marks = marks; config = c; agrees = agrees; same = refl }
+stands_at p next ws known marks c agrees = record { said = []; silent = tt; marks = marks; config = c; agrees = agrees; same = refl }
 
 module _ {p : Program} {fuel left : ℕ} {is_over : Bool} {ws : List Wait} {known : Known} {reader_old reader writer_old writer : Option
     (List ℕ)} {gathered : List ℕ} where
@@ -66,7 +68,7 @@ module _ {p : Program} {fuel left : ℕ} {is_over : Bool} {ws : List Wait} {know
   -- what was said is among the events
   pub settle : (next : Next) (x : Stage p fuel left is_over next ws known reader_old reader writer_old writer gathered)
       → Progress p fuel left is_over (coming next (rest_of p.main ws x.stands.marks) x.stands.config) reader_old reader writer_old writer gathered
-  settle next x = settled x.progress x.stands.said _ x.stands.unseen x.stands.same
+  settle next x = settled x.progress x.stands.said _ x.stands.silent x.stands.same
 
   -- the progress of a write, also where its word has no place
   pub put : (t byte : ℕ) (x : Stage p fuel left is_over (PutcharDue t byte) ws known reader_old reader writer_old writer gathered) → 0 < left
@@ -121,7 +123,7 @@ module _ {p : Program} {fuel left : ℕ} {is_over : Bool} {ws : List Wait} {know
       record {
         s = _;
         stands = stands_at p (Go (Follow body)) (Body test flag body ∷ ws) known st.marks st.config
-            (record { temps = a.temps; fresh = a.fresh; globals = a.globals; nested = a.nested; entered = a.entered; live = a.live; owned = a.owned; called = a.called; values_live = a.values_live });
+            (record { temps = a.temps; fresh = a.fresh; globals = a.globals; nested = a.nested; entered = a.entered; live = a.live; owned = a.owned; called = a.called; values_live = a.values_live; born = a.born });
         progress = turned_once (settle (TurnDue test flag body) x) h (record { test = test; flag = flag; body = body })
             (rest_of p.main ws st.marks) st.config refl;
       }
@@ -161,12 +163,6 @@ module _ {p : Program} {fuel left : ℕ} {is_over : Bool} {ws : List Wait} {know
 -- what is known at first
 pub first_is : (f : frame_code.Frame) (m : memory_code.Memory) (ds : List Datum) (locals : List Local) → f.temps.items ≡ [] → f.base ≡ 0 → m.blocks.items ≡ []
     → m.entered ≡ 0 → map activation_of m.owns.items ≡ record { number = 0; objects = map blank_object locals } ∷ [] → m.called ≡ 1
-    → map cells_of m.globals.items ≡ map first_object ds → known_of f m ≡ first_known ds locals
-first_is f m ds locals temps base blocks entered owns called globals =
-    ap (λ ts. record (known_of f m) { temps = ts }) temps
-    ∙ ap (λ b. record (known_of f m) { temps = []; base = b }) base
-    ∙ ap (λ bs. record (known_of f m) { temps = []; base = 0; blocks = map activation_of bs }) blocks
-    ∙ ap (λ n. record (known_of f m) { temps = []; base = 0; blocks = []; entered = n }) entered
-    ∙ ap (λ os. record (known_of f m) { temps = []; base = 0; blocks = []; entered = 0; owns = os }) owns
-    ∙ ap (λ n. record (first_known ds locals) { called = n; globals = map cells_of m.globals.items }) called
-    ∙ ap (λ gs. record (first_known ds locals) { globals = gs }) globals
+    → map cells_of m.globals.items ≡ map first_object ds → m.regions.items ≡ [] → known_of f m ≡ first_known ds locals
+first_is f m ds locals temps base blocks entered owns called globals regions =
+    known_same (known_of f m) (first_known ds locals) temps base (ap (map activation_of) blocks) entered owns called globals (ap (map held_objects) regions)

@@ -1,6 +1,7 @@
 -- What the evaluator stores to locals and globals, as Core does it.
 use Rattle.std.specs.Prelude.{if◌then◌else◌, slice_get, slice_set, ◌&&◌, nat_eq, option_map}
-use Rattle.std.proofs.Common.{◌≡◌, ℕ, ◌+◌, Bool, true, false, Option, Some, None, List, refl, ap, ◌∙◌, sym, subst, arith}
+use Rattle.std.proofs.Common.{◌≡◌, ℕ, ◌+◌, Bool, true, false, Option, Some, None, List, length, refl, ap, ◌∙◌, sym, subst, arith}
+use Rattle.std.proofs.lemmas.List.{length-set}
 use Rattle.core_meaning.specs.Memory.{Region, Frame, Born, Content, Spot, Part, Memory, same_region, with_part}
 use Rattle.core_meaning.specs.Core as core
 use Rattle.core_meaning.specs.Steps as steps
@@ -17,6 +18,7 @@ use Rattle.core_eval.specs.declared.value.Value.{Value}
 use Rattle.core_eval.specs.declared.value.Value.TheVariants as value
 use Rattle.core_eval.specs.declared.value.Slot.{Slot}
 use Rattle.core_eval.specs.Values.{region_of, spot_of, content_of, temp_of, part_in, cell_in, slot_at, Shows, is_fit, fitted, with_value, put_in}
+use Rattle.core_eval.specs.Regions.{region_at, slot_within, put_held, put_region}
 use Rattle.core_eval.specs.Blocks.{
   Activation,
   Stored,
@@ -38,6 +40,7 @@ use Rattle.core_eval.specs.Standing.{Known, Agrees, Stands}
 use Rattle.core_eval.specs.Costs.{IsMove}
 use Rattle.core_eval.proofs.Memories.{first_part, found, reached_at, part_there, IsPut, put_is, unput_is, parts_put}
 use Rattle.core_eval.proofs.Nested.{position_is}
+use Rattle.core_eval.proofs.Born.{held_there}
 use Rattle.core_eval.proofs.Changes.{stored_in, with_stored, Replaces, replaced_shows, replaced_agrees, part_elsewhere}
 use Rattle.core_eval.proofs.MemoryMoves.{AreInOrder, ordered, own_number, own_is, placed}
 use Rattle.core_eval.proofs.Moves.{all_stand, goes_here, goes_wrong}
@@ -49,6 +52,7 @@ fits width.Byte value.Blank = refl
 fits width.Byte (value.Word n) = refl
 fits width.Byte value.Null = refl
 fits width.Byte (value.Pointer p) = refl
+fits width.Byte (value.Birth d) = refl
 fits width.Word v = refl
 
 found_put : (byte : ℕ) (w : Width) (s : Slot) (v : Value) (u : Content) (next : Part → Step) → is_fit byte w s ≡ true → u ≡ content_of v
@@ -134,6 +138,31 @@ module _ (known : Known) (i k byte : ℕ) (w : Width) (v : Value) where
     replaces = (refl, cc);
   }
 
+  region_stored : (n : ℕ) (after : Stored) (held : Option (List (List Slot))) (o : Option (Option (List (List Slot)))) → region_at known.regions n ≡ held
+      → put_held i k byte w v held ≡ o
+      → option_map (λ regions. record (stored_in known) { regions = regions }) (option_map (slice_set known.regions n) o) ≡ Some after
+      → IsStored known (area.Region n) i k byte w v after
+  region_stored n after None None at put e = cc
+  region_stored n after None (Some held') at put e = cc
+  region_stored n after (Some objects) o at put e = by (put_in objects i k byte w v) refl put e
+    where
+      by : (p : Option (List (List Slot))) → put_in objects i k byte w v ≡ p → option_map Some p ≡ o
+          → option_map (λ regions. record (stored_in known) { regions = regions }) (option_map (slice_set known.regions n) o) ≡ Some after
+          → IsStored known (area.Region n) i k byte w v after
+      by None stored is e =
+          absurd (let none : option_map (λ regions. record (stored_in known) { regions = regions }) (option_map (slice_set known.regions n) None) ≡ Some after =
+          ap (λ o. option_map (λ regions. record (stored_in known) { regions = regions }) (option_map (slice_set known.regions n) o)) is ∙ e in cc)
+      by (Some objects') stored is e = record {
+        objects = objects;
+        objects' = objects';
+        put = put_is objects i k byte w v objects' stored;
+        replaces = (
+          held_there known.regions n objects at,
+          (let same : Some (record (stored_in known) { regions = slice_set known.regions n (Some objects') }) ≡ Some after =
+              ap (λ o. option_map (λ regions. record (stored_in known) { regions = regions }) (option_map (slice_set known.regions n) o)) is ∙ e in cc),
+        );
+      }
+
   block_stored : (n : ℕ) (after : Stored) (p : Option ℕ) (o : Option (List Activation)) → position_of known.blocks n ≡ p
       → put_through known.blocks p i k byte w v ≡ o
       → option_map (λ blocks. record (stored_in known) { blocks = blocks }) o ≡ Some after → IsStored known (area.Block n) i k byte w v after
@@ -178,6 +207,8 @@ module _ (known : Known) (i k byte : ℕ) (w : Width) (v : Value) where
 
   pub put_stored : (a : Area) (after : Stored) → put_to (stored_in known) a i k byte w v ≡ Some after → IsStored known a i k byte w v after
   put_stored area.Globals after e = global_stored after (put_in known.globals i k byte w v) refl e
+  put_stored (area.Region n) after e =
+      region_stored n after (region_at known.regions n) (put_held i k byte w v (region_at known.regions n)) refl refl e
   put_stored (area.Block n) after e =
       block_stored n after (position_of known.blocks n) (put_through known.blocks (position_of known.blocks n) i k byte w v) refl refl e
   put_stored (area.Own n) after e =
@@ -187,10 +218,17 @@ module _ (known : Known) (i k byte : ℕ) (w : Width) (v : Value) where
   none_mapped f None e = refl
   none_mapped f (Some x) e = cc
 
+  unput_held : (next : Part → Step) (held : Option (List (List Slot))) → put_held i k byte w v held ≡ None → found byte w next (slot_within held i k) ≡ stuck
+  unput_held next None e = refl
+  unput_held next (Some objects) e = unput_is objects i k byte w v next (none_mapped Some (put_in objects i k byte w v) e)
+
   pub unput_stored : (a : Area) (next : Part → Step) → put_to (stored_in known) a i k byte w v ≡ None
       → found byte w next (slot_in (stored_in known) a i k) ≡ stuck
   unput_stored area.Globals next e =
       unput_is known.globals i k byte w v next (none_mapped (λ globals. record (stored_in known) { globals = globals }) (put_in known.globals i k byte w v) e)
+  unput_stored (area.Region n) next e =
+      unput_held next (region_at known.regions n) (none_mapped (slice_set known.regions n) (put_held i k byte w v (region_at known.regions n))
+      (none_mapped (λ regions. record (stored_in known) { regions = regions }) (put_region known.regions n i k byte w v) e))
   unput_stored (area.Block n) next e =
       unput_found known.blocks i k byte w v (position_of known.blocks n) next
       (none_mapped (λ blocks. record (stored_in known) { blocks = blocks }) (put_through known.blocks (position_of known.blocks n) i k byte w v) e)
@@ -210,6 +248,7 @@ module _ (known : Known) (ws : List Wait) (x : ℕ) (v : Value) (read : content_
       → Agrees (with_stored known after) ws marks (after_put c (region_of a) i k (with_value is.put.old (fitted w v)))
   stored_agrees a i k byte w after is marks c h =
       replaced_agrees known ws marks c h (stored c.memory (region_of a) i k (with_value is.put.old (fitted w v))).parts a is.objects is.objects' after is.replaces
+      (ap length is.put.after ∙ length-set is.objects i (slice_set is.put.cells k (with_value is.put.old (fitted w v))))
       (λ t j other. part_elsewhere c.memory (region_of a) i k 0 (first_part (with_value is.put.old (fitted w v))) t j other)
       (λ y z j.
       parts_put (replaced_shows known ws marks c h a is.objects is.objects' after is.replaces) i k is.put.cells is.put.old (fitted w v) is.put.object is.put.there y

@@ -7,10 +7,12 @@ use Rattle.core_eval.specs.declared.frame.Frame.{Frame}
 use Rattle.core_eval.specs.declared.memory.Memory.{Memory}
 use Rattle.core_eval.specs.declared.pending.Due.{Due}
 use Rattle.core_eval.specs.Values.{content_of, cells_of}
+use Rattle.core_eval.specs.Regions.{held_objects}
 use Rattle.core_eval.specs.Blocks.{activation_of}
 use Rattle.core_eval.specs.Pendings.{Task, Leave, Wait, Block, Caller, Next, Go, next_of, saved_of}
 use Rattle.core_eval.specs.Standing.{Known, Gives, LeavesCall, known_of}
 use Rattle.core_eval.specs.Costs.{IsMove}
+use Rattle.core_eval.proofs.Known.{known_same}
 use Rattle.core_eval.proofs.BlockMoves.{outside_of, block_leaves}
 use Rattle.core_eval.proofs.LeaveMoves.{one_returned}
 
@@ -40,22 +42,8 @@ for_caller (Err e) exit results f saved known rest known' m m' left h = tt
 pub left_known : (f g : Frame) (m m' : Memory) → LeavesCall m m'
     → known_of g m' ≡ record (known_of f m) { temps = g.temps.items; base = g.base; owns = drop 1 (map activation_of m.owns.items) }
 left_known f g m m' h =
-    ap (λ bs. record (known_of g m') { blocks = map activation_of bs.items }) h.blocks
-    ∙ ap (λ n. record (known_of g m') { blocks = map activation_of m.blocks.items; entered = n }) h.entered
-    ∙ ap (λ os. record (known_of g m') { blocks = map activation_of m.blocks.items; entered = m.entered; owns = os }) h.owns
-    ∙ ap (λ n. record (known_of f m) {
-      temps = g.temps.items;
-      base = g.base;
-      owns = drop 1 (map activation_of m.owns.items);
-      called = n;
-      globals = map cells_of m'.globals.items;
-    }) h.called
-    ∙ ap (λ gs. record (known_of f m) {
-      temps = g.temps.items;
-      base = g.base;
-      owns = drop 1 (map activation_of m.owns.items);
-      globals = map cells_of gs.items;
-    }) h.globals
+    known_same (known_of g m') _ refl refl (ap (λ bs. map activation_of bs.items) h.blocks) h.entered h.owns h.called
+    (ap (λ gs. map cells_of gs.items) h.globals) (ap (λ rs. map held_objects rs.items) h.regions)
 
 -- how it is left, and what waited, said in another way, with what is known then
 pub left_to : (exit exit' : Exit) (ws ws' : List Wait) (known : Known) (next : Next) (rest : List Wait) (known' known2 : Known) → exit' ≡ exit → ws' ≡ ws
@@ -65,24 +53,12 @@ left_to exit exit' ws ws' known next rest known' known2 is same knows h =
 
 -- a block's locals end
 pub block_left : (exit : Exit) (ws : List Wait) (f : Frame) (m m' : Memory) → map activation_of m'.blocks.items ≡ drop 1 (map activation_of m.blocks.items)
-    → m'.entered ≡ m.entered → m'.owns ≡ m.owns → m'.called ≡ m.called → m'.globals ≡ m.globals
+    → m'.entered ≡ m.entered → m'.owns ≡ m.owns → m'.called ≡ m.called → m'.globals ≡ m.globals → m'.regions ≡ m.regions
     → IsMove (Leave exit) (Block ∷ ws) (known_of f m) (Go (Leave exit)) ws (known_of f m')
-block_left exit ws f m m' blocks entered owns called globals =
+block_left exit ws f m m' blocks entered owns called globals regions =
     subst (λ (k : Known). IsMove (Leave exit) (Block ∷ ws) (known_of f m) (Go (Leave exit)) ws k)
-    (sym (ap (λ bs. record (known_of f m') { blocks = bs }) blocks
-    ∙ ap (λ n. record (outside_of (known_of f m)) {
-      entered = n;
-      owns = map activation_of m'.owns.items;
-      called = m'.called;
-      globals = map cells_of m'.globals.items;
-    }) entered
-    ∙ ap (λ os. record (outside_of (known_of f m)) {
-      owns = map activation_of os.items;
-      called = m'.called;
-      globals = map cells_of m'.globals.items;
-    }) owns
-    ∙ ap (λ n. record (outside_of (known_of f m)) { called = n; globals = map cells_of m'.globals.items }) called
-    ∙ ap (λ gs. record (outside_of (known_of f m)) { globals = map cells_of gs.items }) globals))
+    (sym (known_same (known_of f m') (outside_of (known_of f m)) refl refl blocks entered (ap (λ os. map activation_of os.items) owns) called
+    (ap (λ gs. map cells_of gs.items) globals) (ap (λ rs. map held_objects rs.items) regions)))
     (block_leaves exit ws (known_of f m))
 
 -- a temporary of the caller gets the result

@@ -1,5 +1,5 @@
 -- Whole objects copied and cleared, as Core does it.
-use Rattle.std.specs.Prelude.{if◌then◌else◌, not, ◌&&◌, nat_eq, nat_le, nat_lt, map, slice_get, option_map}
+use Rattle.std.specs.Prelude.{if◌then◌else◌, not, ◌&&◌, nat_eq, nat_le, nat_lt, map, slice_get, slice_set, option_map}
 use Rattle.std.proofs.Common.{
   ◌≡◌,
   ℕ,
@@ -59,17 +59,20 @@ use Rattle.core_eval.specs.declared.value.Slot.{Slot}
 use Rattle.core_eval.specs.Values as values
 use Rattle.core_eval.specs.Values.{region_of, spot_of, place_spot, content_of, temp_of, part_in, slot_at}
 use Rattle.core_eval.specs.Blocks.{Activation, Stored, position_of, slot_in}
+use Rattle.core_eval.specs.Regions.{region_at}
 use Rattle.core_eval.specs.Whole.{
   is_cell,
   are_cells,
   slots_of,
   is_found,
+  is_still,
   is_held,
   are_laid,
   same_object,
   held_by,
   values_from,
   fill_in,
+  fill_held,
   fill_among,
   fill_through,
   fill_to,
@@ -77,11 +80,13 @@ use Rattle.core_eval.specs.Whole.{
 use Rattle.core_eval.specs.Pendings.{Execute, Leave, Wait, Go, Wrong, Mark, rest_of}
 use Rattle.core_eval.specs.Standing.{Known, Agrees, first_held}
 use Rattle.core_eval.specs.Costs.{IsMove}
+use Rattle.core_eval.proofs.Lists.{get_less}
 use Rattle.core_eval.proofs.Nested.{position_there}
+use Rattle.core_eval.proofs.Born.{held_there}
 use Rattle.core_eval.proofs.Changes.{stored_in, with_stored, Replaces, replaced_shows, replaced_agrees}
 use Rattle.core_eval.proofs.MemoryMoves.{AreInOrder, ordered, same_regions}
 use Rattle.core_eval.proofs.Laid.{live_is, held_part, laid_is}
-use Rattle.core_eval.proofs.Filled.{filled_slot, object_changed}
+use Rattle.core_eval.proofs.Filled.{filled_slot, fill_length, object_changed}
 use Rattle.core_eval.proofs.WholeParts.{
   copied_by,
   cleared_by,
@@ -94,7 +99,6 @@ use Rattle.core_eval.proofs.WholeParts.{
   cell_copied,
   cell_cleared,
   held_first,
-  get_less,
 }
 use Rattle.core_eval.proofs.Moves.{all_stand, goes_here, goes_wrong}
 
@@ -120,6 +124,14 @@ module _ (known : Known) (i k : ℕ) (vs : List Value) where
   pub replaced : (a : Area) → is_held (stored_in known) a ≡ true
       → (objects : List (List Slot)) × Replaces known a objects (fill_in objects i k vs) (fill_to (stored_in known) a i k vs)
   replaced area.Globals held = (known.globals, (refl, refl))
+  replaced (area.Region n) held = by (region_at known.regions n) refl held
+    where
+      by : (o : Option (List (List Slot))) → region_at known.regions n ≡ o → is_still o ≡ true
+          → (objects : List (List Slot))
+          × Replaces known (area.Region n) objects (fill_in objects i k vs)
+          (record (stored_in known) { regions = slice_set known.regions n (fill_held i k vs o) })
+      by None e held = absurd (cc)
+      by (Some objects) e held = (objects, (held_there known.regions n objects e, refl))
   replaced (area.Block n) held = by (position_of known.blocks n) refl held
     where
       by : (o : Option ℕ) → position_of known.blocks n ≡ o → is_found o ≡ true
@@ -148,6 +160,7 @@ module _ (known : Known) (ws : List Wait) (marks : List Mark) (c : Config) (h : 
       let shows = replaced_shows known ws marks c h p.area objects (fill_in objects p.object p.cell vs) (fill_to (stored_in known) p.area p.object p.cell vs)
       replaces in
       replaced_agrees known ws marks c h parts' p.area objects (fill_in objects p.object p.cell vs) (fill_to (stored_in known) p.area p.object p.cell vs) replaces
+      (fill_length objects p.object p.cell vs)
       (λ t j other.
       is t j
       ∙ ap (λ b. change (if (b && nat_eq t.object p.object)

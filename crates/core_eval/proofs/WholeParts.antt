@@ -150,8 +150,3 @@ pub held_first : (cs : List CellLayout) (q : ℕ) (v : Value) → slice_get (map
 held_first [] q v e = absurd (cc)
 held_first (c ∷ cs) zero v e = let same : first_held c ≡ v = cc in (c, refl, sym same)
 held_first (c ∷ cs) (suc q) v e = held_first cs q v e
-
-pub get_less : {A : Type 0} (xs : List A) (q : ℕ) (x : A) → slice_get xs q ≡ Some x → q < length xs
-get_less [] q x e = cc
-get_less (y ∷ xs) zero x e = omega arith
-get_less (y ∷ xs) (suc q) x e = let h = get_less xs q x e in omega (arith, h)

@@ -1,6 +1,7 @@
 -- The locals of blocks in blocks, and what pointers lead to.
 use Rattle.std.specs.Prelude.{
   ℕ,
+  zero,
   suc,
   ◌+◌,
   ◌<◌,
@@ -13,6 +14,7 @@ use Rattle.std.specs.Prelude.{
   List,
   [],
   ◌∷◌,
+  ◌++◌,
   length,
   map,
   slice_get,
@@ -32,6 +34,7 @@ use Rattle.core_eval.specs.declared.value.Slot.{Slot}
 use Rattle.core_eval.specs.declared.blocks.Block.{Block}
 use Rattle.core_eval.specs.declared.memory.Memory.{Memory}
 use Rattle.core_eval.specs.Values.{cells_of, slot_at, null_of, put_in, same_cell}
+use Rattle.core_eval.specs.Regions.{Regions, held_objects, region_at, slot_within, put_region, grown_region, block_place}
 
 -- the locals of a block that isn't left yet, and how many blocks were entered before it; or a function's unnamed values, and how many functions were called
 -- before it
@@ -73,17 +76,20 @@ slot_through blocks (Some position) i k = slot_among (slice_get blocks position)
 abbrev pub local_slot : ℕ → List Activation → (out index : ℕ) → Option Slot
 local_slot base blocks out index = slot_through blocks (own_position base blocks out) index 0
 
--- what is stored: the locals of all blocks, the unnamed values of all functions that are active, and the globals
+-- what is stored: the locals of all blocks, the unnamed values of all functions that are active, the globals with the heap's blocks behind them, and the blocks
+-- of lexical regions
 pub record Stored : Type 0 where
   pub blocks : List Activation
   pub owns : List Activation
   pub globals : List (List Slot)
+  pub regions : Regions
 
 abbrev pub stored_of : Memory → Stored
 stored_of m = record {
   blocks = map activation_of m.blocks.items;
   owns = map activation_of m.owns.items;
   globals = map cells_of m.globals.items;
+  regions = map held_objects m.regions.items;
 }
 
 -- the numbers of blocks and of functions fall
@@ -93,6 +99,7 @@ AreOrdered m = Descends m.entered (map activation_of m.blocks.items) × Descends
 -- the cell k of an object of an area
 abbrev pub slot_in : Stored → Area → (i k : ℕ) → Option Slot
 slot_in stored area.Globals i k = slot_at stored.globals i k
+slot_in stored (area.Region n) i k = slot_within (region_at stored.regions n) i k
 slot_in stored (area.Block n) i k = slot_through stored.blocks (position_of stored.blocks n) i k
 slot_in stored (area.Own n) i k = slot_through stored.owns (position_of stored.owns n) i k
 
@@ -163,7 +170,25 @@ put_local base blocks out index w v = put_through blocks (own_position base bloc
 -- what is stored after a store to a cell of an object of an area, where there is one, and it lies there and is so wide
 abbrev pub put_to : Stored → Area → (i k byte : ℕ) → Width → Value → Option Stored
 put_to stored area.Globals i k byte w v = option_map (λ globals. record stored { globals = globals }) (put_in stored.globals i k byte w v)
+put_to stored (area.Region n) i k byte w v =
+    option_map (λ regions. record stored { regions = regions }) (put_region stored.regions n i k byte w v)
 put_to stored (area.Block n) i k byte w v =
     option_map (λ blocks. record stored { blocks = blocks }) (put_through stored.blocks (position_of stored.blocks n) i k byte w v)
 put_to stored (area.Own n) i k byte w v =
     option_map (λ owns. record stored { owns = owns }) (put_through stored.owns (position_of stored.owns n) i k byte w v)
+
+-- ---- requests
+
+-- the objects of a region by its birth, if it was born and isn't freed
+abbrev pub born_objects : Stored → ℕ → Option (List (List Slot))
+born_objects stored zero = Some stored.globals
+born_objects stored (suc n) = region_at stored.regions n
+
+-- where the next block of a region begins
+abbrev pub next_place : Stored → (birth : ℕ) → Option Place
+next_place stored d = option_map (λ objects. block_place d (length objects)) (born_objects stored d)
+
+-- what is stored with a block more in a region
+abbrev pub grown : Stored → (birth : ℕ) → List Slot → Stored
+grown stored zero block = record stored { globals = stored.globals ++ block ∷ [] }
+grown stored (suc n) block = record stored { regions = grown_region stored.regions n block }

@@ -1,4 +1,5 @@
 pub mod Values
+pub mod Regions
 pub mod Blocks
 pub mod Whole
 pub mod Pendings

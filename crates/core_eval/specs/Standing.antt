@@ -1,9 +1,10 @@
 -- When an evaluator's state stands for a step of Core.
-use Rattle.std.specs.Prelude.{◌≡◌, ℕ, ◌<◌, ◌≤◌, false, None, List, [], ◌∷◌, length, map, drop}
+use Rattle.std.specs.Prelude.{◌≡◌, ℕ, suc, ◌<◌, ◌≤◌, false, Option, Some, None, List, [], ◌∷◌, length, map, drop}
+use Rattle.cyc_words.specs.Events.{ByteRead, ByteWritten}
 use Rattle.step_trees.specs.Trees.{Says}
 use Rattle.core_meaning.specs.Memory as memory
-use Rattle.core_meaning.specs.Memory.{Born, Memory, Content, is_live}
-use Rattle.core_meaning.specs.Steps.{Config, set_temp, Event, Visible, Called, Returned, Step}
+use Rattle.core_meaning.specs.Memory.{Region, Born, Dead, Memory, Content, is_live}
+use Rattle.core_meaning.specs.Steps.{Config, set_temp, Event, Visible, Step}
 use Rattle.core_meaning.specs.Core.{Function}
 use Rattle.core_meaning.specs.Meaning.{called}
 use Rattle.cyc_core.specs.declared.program.Datum.{Datum}
@@ -19,6 +20,7 @@ use Rattle.core_eval.specs.declared.value.Slot.{Slot}
 use Rattle.core_eval.specs.declared.frame.Frame.{Frame}
 use Rattle.core_eval.specs.declared.memory.Memory as code
 use Rattle.core_eval.specs.Values.{spot_of, temp_of, cells_of, blank_object, Shows, with_value, blank_slot}
+use Rattle.core_eval.specs.Regions.{Regions, held_objects, region_at}
 use Rattle.core_eval.specs.Blocks.{Activation, activation_of, position_of}
 use Rattle.core_eval.specs.Pendings.{Wait, Block, Caller, Next, Mark, rest_of, returned_to, coming}
 
@@ -61,7 +63,7 @@ AreOwned m bound own owns (w ∷ ws) marks = AreOwned m bound own owns ws marks
 
 -- What an evaluator knows: the temporaries of the function that it is in, and how many blocks there are outside of that; the blocks of all functions that are
 -- active, the innermost first; how many blocks were entered so far; the unnamed values of all functions that are active, the innermost first; how many functions were
--- called so far; and the globals.
+-- called so far; the globals, with the heap's blocks behind them; and the blocks of lexical regions.
 pub record Known : Type 0 where
   pub temps : List Value
   pub base : ℕ
@@ -70,6 +72,7 @@ pub record Known : Type 0 where
   pub owns : List Activation
   pub called : ℕ
   pub globals : List (List Slot)
+  pub regions : Regions
 
 -- a block that isn't among these is over, or was not entered as yet
 abbrev pub AreAllLive : Memory → List Activation → Type 0
@@ -78,6 +81,19 @@ AreAllLive m blocks = (k : ℕ) → position_of blocks k ≡ None → is_live (m
 -- nor are those of a function that isn't among these
 abbrev pub AreAllOwned : Memory → List Activation → Type 0
 AreAllOwned m owns = (k : ℕ) → position_of owns k ≡ None → is_live (m.standing (memory.Own k)) ≡ false
+
+-- a lexical region shows its blocks, and has so many; or it is freed, or was not born as yet
+abbrev pub ShowsBlocks : Memory → Region → Option (List (List Slot)) → Type 0
+ShowsBlocks m r None = m.standing r ≡ Dead
+ShowsBlocks m r (Some objects) = Shows m r objects × (m.objects r ≡ length objects)
+
+-- The heap is born first, and then as many lexical regions as are known, each with its blocks. What was not born as yet has none.
+pub record AreBorn (m : Memory) (globals : List (List Slot)) (regions : Regions) : Type 0 where
+  pub births : m.births ≡ suc (length regions)
+  pub heap : m.objects (Born 0) ≡ length globals
+  pub each : (n : ℕ) → ShowsBlocks m (Born (suc n)) (region_at regions n)
+  pub empty : (n : ℕ) → length regions ≤ n → m.objects (Born (suc n)) ≡ 0
+  pub missing : (n i cell j : ℕ) → length regions ≤ n → m.parts (spot_of (Born (suc n)) i cell) j ≡ None
 
 -- a state of Core is as the evaluator knows it
 pub record Agrees (known : Known) (ws : List Wait) (marks : List Mark) (c : Config) : Type 0 where
@@ -90,23 +106,28 @@ pub record Agrees (known : Known) (ws : List Wait) (marks : List Mark) (c : Conf
   pub owned : AreOwned c.memory c.memory.calls c.own known.owns ws marks
   pub called : known.called ≡ c.memory.calls
   pub values_live : AreAllOwned c.memory known.owns
+  pub born : AreBorn c.memory known.globals known.regions
 
--- calls and returns that were said, and then a step
+-- events that were said, and then a step
 abbrev pub saying : List Event → Step → Step
 saying [] s = s
 saying (e ∷ es) s = Says e (saying es s)
 
--- only calls and returns
-abbrev pub AreUnseen : List Event → Type 0
-AreUnseen [] = Unit {0}
-AreUnseen (Visible e ∷ es) = ⊥
-AreUnseen (Called f ∷ es) = AreUnseen es
-AreUnseen (Returned f ∷ es) = AreUnseen es
+-- an event that is no byte
+abbrev pub IsSilent : Event → Type 0
+IsSilent (Visible (ByteRead byte)) = ⊥
+IsSilent (Visible (ByteWritten byte)) = ⊥
+IsSilent _ = Unit {0}
+
+-- only calls and returns, requests and frees
+abbrev pub AreAllSilent : List Event → Type 0
+AreAllSilent [] = Unit {0}
+AreAllSilent (e ∷ es) = IsSilent e × AreAllSilent es
 
 -- what is due, what waits, and what is known stand for a step: it is theirs from some state of Core on
 pub record Stands (main : ℕ) (s : Step) (next : Next) (ws : List Wait) (known : Known) : Type 0 where
   pub said : List Event
-  pub unseen : AreUnseen said
+  pub silent : AreAllSilent said
   pub marks : List Mark
   pub config : Config
   pub agrees : Agrees known ws marks config
@@ -132,6 +153,7 @@ known_of frame m = record {
   owns = map activation_of m.owns.items;
   called = m.called;
   globals = map cells_of m.globals.items;
+  regions = map held_objects m.regions.items;
 }
 
 -- the innermost function is left, and nothing else changes
@@ -141,6 +163,7 @@ pub record LeavesCall (m m' : code.Memory) : Type 0 where
   pub owns : map activation_of m'.owns.items ≡ drop 1 (map activation_of m.owns.items)
   pub called : m'.called ≡ m.called
   pub globals : m'.globals ≡ m.globals
+  pub regions : m'.regions ≡ m.regions
 
 -- A call whose unit is paid: each state that is known so goes on thus.
 abbrev pub IsCall : List Function → List ℕ → ℕ → List Content → List Wait → Known → Next → List Wait → Known → Type 0
@@ -155,6 +178,7 @@ abbrev pub first_value : Cell → Value
 first_value cell.Byte = value.Word 0
 first_value cell.Word = value.Word 0
 first_value cell.Pointer = value.Null
+first_value cell.Handle = value.Blank
 
 abbrev pub first_held : CellLayout → Value
 first_held c = first_value c.cell
@@ -183,4 +207,5 @@ first_known ds own = record {
   owns = record { number = 0; objects = map blank_object own } ∷ [];
   called = 1;
   globals = map first_object ds;
+  regions = [];
 }

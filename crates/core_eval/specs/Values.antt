@@ -48,6 +48,7 @@ use Rattle.core_eval.specs.declared.value.Object.TheVariants as object
 
 abbrev pub region_of : Area → Region
 region_of area.Globals = Born 0
+region_of (area.Region n) = Born (suc n)
 region_of (area.Block k) = Frame k
 region_of (area.Own k) = Own k
 
@@ -58,12 +59,13 @@ spot_of r object cell = record { region = r; object = object; cell = cell }
 abbrev pub place_spot : Place → Spot
 place_spot p = spot_of (region_of p.area) p.object p.cell
 
--- a pointer leads to a cell of a global, a local or an unnamed value
+-- a pointer leads to a cell of a global, of a block of a region, of a local or of an unnamed value
 abbrev pub content_of : Value → Content
 content_of value.Blank = memory.Blank
 content_of (value.Word n) = memory.Word n
 content_of value.Null = memory.Null
 content_of (value.Pointer p) = Pointer (place_spot p) p.byte
+content_of (value.Birth d) = memory.Birth d
 
 -- what a temporary holds: those that got nothing as yet are blank
 abbrev pub temp_of : List Value → ℕ → Content
@@ -158,12 +160,13 @@ blank_object l = map blank_slot (local_cells l)
 
 -- ---- what a condition and a call read
 
--- whether a value is true: 0 and NULL are false, and a blank is neither
+-- whether a value is true: 0 and NULL are false, and a blank or a handle is neither
 abbrev pub truth_of : Value → Option Bool
 truth_of value.Blank = None
 truth_of (value.Word n) = Some (not (nat_eq n 0))
 truth_of value.Null = Some false
 truth_of (value.Pointer p) = Some true
+truth_of (value.Birth d) = None
 
 -- whether a pointer is NULL; what is no pointer is neither
 abbrev pub null_of : Value → Option Bool
@@ -173,12 +176,19 @@ null_of _ = None
 
 abbrev pub same_area : Area → Area → Bool
 same_area area.Globals area.Globals = true
+same_area area.Globals (area.Region n) = false
 same_area area.Globals (area.Block l) = false
 same_area area.Globals (area.Own l) = false
+same_area (area.Region n) area.Globals = false
+same_area (area.Region n) (area.Region l) = nat_eq n l
+same_area (area.Region n) (area.Block l) = false
+same_area (area.Region n) (area.Own l) = false
 same_area (area.Block k) area.Globals = false
+same_area (area.Block k) (area.Region n) = false
 same_area (area.Block k) (area.Block l) = nat_eq k l
 same_area (area.Block k) (area.Own l) = false
 same_area (area.Own k) area.Globals = false
+same_area (area.Own k) (area.Region n) = false
 same_area (area.Own k) (area.Block l) = false
 same_area (area.Own k) (area.Own l) = nat_eq k l
 

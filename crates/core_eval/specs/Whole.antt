@@ -9,6 +9,7 @@ use Rattle.core_eval.specs.declared.value.Value.{Value}
 use Rattle.core_eval.specs.declared.value.Value.TheVariants as value
 use Rattle.core_eval.specs.declared.value.Slot.{Slot}
 use Rattle.core_eval.specs.Values.{same_width, with_value, same_area}
+use Rattle.core_eval.specs.Regions.{Regions, region_at}
 use Rattle.core_eval.specs.Blocks.{Activation, Stored, position_of, slot_in, put_block}
 
 -- ---- cells that lie as a layout's
@@ -31,9 +32,14 @@ abbrev pub is_found : Option ℕ → Bool
 is_found None = false
 is_found (Some position) = true
 
--- whether an area isn't left yet
+abbrev pub is_still : Option (List (List Slot)) → Bool
+is_still None = false
+is_still (Some objects) = true
+
+-- whether an area isn't left or freed yet
 abbrev pub is_held : Stored → Area → Bool
 is_held stored area.Globals = true
+is_held stored (area.Region n) = is_still (region_at stored.regions n)
 is_held stored (area.Block n) = is_found (position_of stored.blocks n)
 is_held stored (area.Own n) = is_found (position_of stored.owns n)
 
@@ -83,8 +89,17 @@ abbrev pub fill_through : List Activation → Option ℕ → (i k : ℕ) → Lis
 fill_through blocks None i k vs = blocks
 fill_through blocks (Some position) i k vs = fill_among blocks position i k vs (slice_get blocks position)
 
+-- those of an object of a region
+abbrev pub fill_held : (i k : ℕ) → List Value → Option (List (List Slot)) → Option (List (List Slot))
+fill_held i k vs None = None
+fill_held i k vs (Some objects) = Some (fill_in objects i k vs)
+
+abbrev pub fill_region : Regions → (n i k : ℕ) → List Value → Regions
+fill_region regions n i k vs = slice_set regions n (fill_held i k vs (region_at regions n))
+
 -- those of an object of an area
 abbrev pub fill_to : Stored → Area → (i k : ℕ) → List Value → Stored
 fill_to stored area.Globals i k vs = record stored { globals = fill_in stored.globals i k vs }
+fill_to stored (area.Region n) i k vs = record stored { regions = fill_region stored.regions n i k vs }
 fill_to stored (area.Block n) i k vs = record stored { blocks = fill_through stored.blocks (position_of stored.blocks n) i k vs }
 fill_to stored (area.Own n) i k vs = record stored { owns = fill_through stored.owns (position_of stored.owns n) i k vs }

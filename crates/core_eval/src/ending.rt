@@ -17,6 +17,6 @@ pub enum EvalEnding {
     ReadFault,
     /// A write failed, or took no byte. What was gathered and not written is lost.
     WriteFault,
-    /// The host has no memory for what is still to be done.
+    /// The host has no memory for what is still to be done, or for what is asked for.
     HostMemory,
 }

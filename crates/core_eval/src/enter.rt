@@ -12,6 +12,7 @@ use crate::frame::Frame;
 use crate::memory::Memory;
 use crate::operation::operate;
 use crate::pending::{Due, Flow, Now, Pending};
+use crate::request::allocate;
 use crate::value::{Object, Slot, Value};
 use crate::whole::{clear, copy};
 use cyc_core::{CellLayout, Local, Statement, Temporary};
@@ -34,6 +35,7 @@ pub fn truth(value: Value) -> Option<bool>
         Value::Word(word) => Some(word != 0),
         Value::Null => Some(false),
         Value::Pointer(_) => Some(true),
+        Value::Birth(_) => None,
     }
 }
 
@@ -131,6 +133,7 @@ fn enter_block<'p>(
     ensures owns { OnOk result (memory.new.owns ≡ memory.old.owns) }
     ensures called { OnOk result (memory.new.called ≡ memory.old.called) }
     ensures globals { OnOk result (memory.new.globals ≡ memory.old.globals) }
+    ensures regions { OnOk result (memory.new.regions ≡ memory.old.regions) }
 {
     let objects = blank_objects(alloc, locals)?;
     memory.enter_block(objects)?;
@@ -138,8 +141,8 @@ fn enter_block<'p>(
     Ok(Due::Go(Now::Follow(body)))
 }
 
-/// The first move of a statement. Fails only where no host memory is left, 2^64 - 1 blocks were entered, or there would be a cell with a
-/// number over 2^64 - 1.
+/// The first move of a statement. Fails only where no host memory is left, 2^64 - 1 blocks were entered, there would be a cell with a
+/// number over 2^64 - 1, a block of a region would have a cell behind 2^32 - 1 bytes, or a region 2^32 blocks and one more.
 pub fn enter_statement<'p>(
     alloc: Global,
     statement: &'p Statement,
@@ -151,11 +154,20 @@ pub fn enter_statement<'p>(
         (next_of due) (waits_of stack.new.items) (known_of frame.new memory.new)) }
 {
     match statement {
-        Statement::Do(operation) => operate(*operation, frame, memory),
+        Statement::Do(operation) => operate(alloc, *operation, frame, memory),
         Statement::Copy(to, from, layout) => {
             copy(alloc, frame, memory, *to, *from, layout.as_ref())
         }
         Statement::Clear(place, layout) => clear(alloc, frame, memory, *place, layout.as_ref()),
+        Statement::RegionAlloc(to, region, count, layout) => allocate(
+            alloc,
+            frame,
+            memory,
+            *to,
+            *region,
+            *count,
+            layout.as_ref(),
+        ),
         Statement::If(test, these, those) => match truth(frame.temp(*test)) {
             Some(is_true) => Ok(Due::Go(Now::Follow(if is_true { these } else { those }))),
             None => Ok(Due::Wrong),

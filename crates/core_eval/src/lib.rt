@@ -15,6 +15,8 @@ mod frame;
 mod memory;
 mod operation;
 mod pending;
+mod region;
+mod request;
 mod running;
 mod take;
 mod value;

@@ -1,14 +1,18 @@
-// What is stored: the globals, the locals of all blocks that aren't left yet, and the unnamed values of all functions that are active.
+// What is stored: the globals and the blocks of regions, the locals of all blocks that aren't left yet, and the unnamed values of all
+// functions that are active.
 
-ghost use Rattle.std.specs.Prelude.{◌≡◌, ◌∷◌, ◌+◌, [], Some, None, false, if◌then◌else◌, drop, map, IfOk, OnOk};
+ghost use Rattle.std.specs.Prelude.{◌≡◌, ◌∷◌, ◌++◌, ◌+◌, suc, [], Some, None, false, if◌then◌else◌, drop, map, length, IfOk, OnOk};
 ghost use Rattle.core_eval.specs.Values.{cells_of, value_of};
 ghost use Rattle.core_eval.specs.Whole.{fill_to, is_held};
+ghost use Rattle.core_eval.specs.Regions.{block_cells, freed, held_objects};
 ghost use Rattle.core_eval.specs.Blocks.{
   AreOrdered,
   activation_of,
+  grown,
   is_there,
   local_address,
   local_slot,
+  next_place,
   own_address,
   own_position,
   put_local,
@@ -20,10 +24,11 @@ ghost use Rattle.core_eval.specs.Blocks.{
 };
 
 use crate::blocks::{Block, fill_by, position_of, set_at, set_by, slot_at, slot_by};
+use crate::region::{self, Region};
 use crate::value::{
     Area, Object, Place, Slot, Value, fill_in, is_null, is_same_cell, put_in, slot_in, value_of,
 };
-use cyc_core::{Variable, Width};
+use cyc_core::{Layout, Variable, Width};
 use std::alloc::{AllocError, Global};
 use std::collections::VecDeque;
 
@@ -38,8 +43,10 @@ pub struct Memory {
     pub owns: VecDeque<Block>,
     /// How many functions were called so far.
     pub called: u64,
-    /// The globals.
+    /// The globals, and behind them the heap's blocks.
     pub globals: Vec<Object>,
+    /// The lexical regions, by how many were born before each.
+    pub regions: Vec<Region>,
 }
 
 impl Memory {
@@ -50,6 +57,7 @@ impl Memory {
         ensures owns { IfOk result (λ memory. map activation_of memory.owns.items ≡ record { number = 0; objects = map cells_of own.items } ∷ []) }
         ensures called { IfOk result (λ memory. memory.called ≡ 1) }
         ensures globals { IfOk result (λ memory. memory.globals ≡ globals) }
+        ensures regions { IfOk result (λ memory. memory.regions.items ≡ []) }
     {
         let mut owns = VecDeque::new(alloc);
         owns.push_front(Block {
@@ -62,6 +70,7 @@ impl Memory {
             owns,
             called: 1,
             globals,
+            regions: Vec::new(alloc),
         })
     }
 
@@ -73,6 +82,7 @@ impl Memory {
         ensures owns { OnOk result (self.new.owns ≡ self.old.owns) }
         ensures called { OnOk result (self.new.called ≡ self.old.called) }
         ensures globals { OnOk result (self.new.globals ≡ self.old.globals) }
+        ensures regions { OnOk result (self.new.regions ≡ self.old.regions) }
     {
         let Some(entered) = self.entered.checked_add(1) else {
             return Err(AllocError);
@@ -92,6 +102,7 @@ impl Memory {
         ensures owns { self.new.owns ≡ self.old.owns }
         ensures called { self.new.called ≡ self.old.called }
         ensures globals { self.new.globals ≡ self.old.globals }
+        ensures regions { self.new.regions ≡ self.old.regions }
     {
         self.blocks.pop_front();
     }
@@ -104,6 +115,7 @@ impl Memory {
             ≡ record { number = self.old.called; objects = map cells_of objects.items } ∷ map activation_of self.old.owns.items) }
         ensures called { OnOk result (self.new.called ≡ self.old.called + 1) }
         ensures globals { OnOk result (self.new.globals ≡ self.old.globals) }
+        ensures regions { OnOk result (self.new.regions ≡ self.old.regions) }
     {
         let Some(called) = self.called.checked_add(1) else {
             return Err(AllocError);
@@ -123,6 +135,7 @@ impl Memory {
         ensures owns { map activation_of self.new.owns.items ≡ drop 1 (map activation_of self.old.owns.items) }
         ensures called { self.new.called ≡ self.old.called }
         ensures globals { self.new.globals ≡ self.old.globals }
+        ensures regions { self.new.regions ≡ self.old.regions }
     {
         self.owns.pop_front();
     }
@@ -190,17 +203,19 @@ impl Memory {
     {
         match area {
             Area::Globals => slot_in(&self.globals, object, cell),
+            Area::Region(number) => region::slot_of(&self.regions, number, object, cell),
             Area::Block(block) => slot_by(&self.blocks, block, object, cell),
             Area::Own(call) => slot_by(&self.owns, call, object, cell),
         }
     }
 
-    /// Whether an area isn't left yet.
+    /// Whether an area isn't left or freed yet.
     pub fn is_held(&self, area: Area) -> bool
         ensures { AreOrdered self.now → result ≡ is_held (stored_of self.now) area }
     {
         match area {
             Area::Globals => true,
+            Area::Region(number) => region::is_held(&self.regions, number),
             Area::Block(block) => position_of(&self.blocks, block).is_some(),
             Area::Own(call) => position_of(&self.owns, call).is_some(),
         }
@@ -249,6 +264,7 @@ impl Memory {
         ensures owns { self.new.owns ≡ self.old.owns }
         ensures called { self.new.called ≡ self.old.called }
         ensures globals { self.new.globals ≡ self.old.globals }
+        ensures regions { self.new.regions ≡ self.old.regions }
     {
         match self.own_position(base, variable.out) {
             Some(position) => set_at(
@@ -276,6 +292,15 @@ impl Memory {
         let object = place.object;
         match place.area {
             Area::Globals => put_in(&mut self.globals, object, cell, byte, width, value),
+            Area::Region(number) => region::put_to(
+                &mut self.regions,
+                number,
+                object,
+                cell,
+                byte,
+                width,
+                value,
+            ),
             Area::Block(block) => set_by(&mut self.blocks, block, object, cell, byte, width, value),
             Area::Own(call) => set_by(&mut self.owns, call, object, cell, byte, width, value),
         }
@@ -290,6 +315,13 @@ impl Memory {
     {
         match place.area {
             Area::Globals => fill_in(&mut self.globals, place.object, place.cell, values),
+            Area::Region(number) => region::fill_to(
+                &mut self.regions,
+                number,
+                place.object,
+                place.cell,
+                values,
+            ),
             Area::Block(block) => fill_by(
                 &mut self.blocks,
                 block,
@@ -298,6 +330,69 @@ impl Memory {
                 values,
             ),
             Area::Own(call) => fill_by(&mut self.owns, call, place.object, place.cell, values),
+        }
+    }
+
+    /// A region is born, which has no blocks as yet: how many were born before it. Fails only where no host memory is left.
+    pub fn make_region(&mut self, alloc: Global) -> Result<u64, AllocError>
+        ensures birth { IfOk result (λ birth. birth ≡ suc (length self.old.regions.items)) }
+        ensures regions { OnOk result (map held_objects self.new.regions.items ≡ map held_objects self.old.regions.items ++ Some [] ∷ []) }
+        ensures blocks { OnOk result (self.new.blocks ≡ self.old.blocks) }
+        ensures entered { OnOk result (self.new.entered ≡ self.old.entered) }
+        ensures owns { OnOk result (self.new.owns ≡ self.old.owns) }
+        ensures called { OnOk result (self.new.called ≡ self.old.called) }
+        ensures globals { OnOk result (self.new.globals ≡ self.old.globals) }
+    {
+        self.regions.push(Region::Held(Vec::new(alloc)))?;
+        Ok(self.regions.len() as u64)
+    }
+
+    /// A region is freed with its blocks by its birth, if that can be, and answers whether it can: the heap can't, and none twice.
+    pub fn free_region(&mut self, birth: u64) -> bool
+        ensures regions { freed (map held_objects self.old.regions.items) birth
+            ≡ (if result then Some (map held_objects self.new.regions.items) else None) }
+        ensures kept { result ≡ false → map held_objects self.new.regions.items ≡ map held_objects self.old.regions.items }
+        ensures blocks { self.new.blocks ≡ self.old.blocks }
+        ensures entered { self.new.entered ≡ self.old.entered }
+        ensures owns { self.new.owns ≡ self.old.owns }
+        ensures called { self.new.called ≡ self.old.called }
+        ensures globals { self.new.globals ≡ self.old.globals }
+    {
+        birth != 0 && region::free(&mut self.regions, birth - 1)
+    }
+
+    /// A region that isn't freed gets a block of so many elements of a layout, which hold nothing as yet: where the block begins. Fails
+    /// only where no host memory is left, the block would have a cell behind 2^32 - 1 bytes, or the region 2^32 blocks and one more.
+    pub fn allocate(
+        &mut self,
+        alloc: Global,
+        birth: u64,
+        layout: &Layout,
+        count: u32,
+    ) -> Result<Option<Place>, AllocError>
+        ensures place { IfOk result (λ place. place ≡ next_place (stored_of self.old) birth) }
+        ensures stored { OnOk result (stored_of self.new ≡ grown (stored_of self.old) birth (block_cells layout.now count)) }
+        ensures entered { OnOk result (self.new.entered ≡ self.old.entered) }
+        ensures called { OnOk result (self.new.called ≡ self.old.called) }
+    {
+        let (area, added) = match birth.checked_sub(1) {
+            Some(number) => (
+                Area::Region(number),
+                region::allocate(alloc, &mut self.regions, number, layout, count)?,
+            ),
+            None => (
+                Area::Globals,
+                Some(region::push_block(alloc, &mut self.globals, layout, count)?),
+            ),
+        };
+        match added {
+            Some(object) => Ok(Some(Place {
+                area,
+                object,
+                byte: 0,
+                cell: 0,
+            })),
+            None => Ok(None),
         }
     }
 }

@@ -14,9 +14,10 @@ use crate::arithmetic::{apply, truth};
 use crate::frame::Frame;
 use crate::memory::Memory;
 use crate::pending::{Due, Flow, Now};
+use crate::request::{free_region, make_region};
 use crate::value::{Area, Place, Value, further, is_null, value_of};
 use cyc_core::{Binary, Distance, Operation, Temporary, Variable, Width};
-use std::alloc::AllocError;
+use std::alloc::{AllocError, Global};
 
 /// No object has so many bytes.
 const TOO_FAR: u64 = 0x0200_0000;
@@ -270,6 +271,7 @@ fn putchar<'p>(frame: &Frame, to: Temporary, from: Temporary) -> Due<'p>
 
 /// The move of an operation. Fails only where no host memory is left, or there would be a cell with a number over 2^64 - 1.
 pub fn operate<'p>(
+    alloc: Global,
     operation: Operation,
     frame: &mut Frame,
     memory: &mut Memory,
@@ -299,5 +301,8 @@ pub fn operate<'p>(
         Operation::SamePlace(to, left, right) => test_same(frame, memory, to, left, right),
         Operation::Getchar(to) => Ok(Due::Getchar(to)),
         Operation::Putchar(to, from) => Ok(putchar(frame, to, from)),
+        Operation::HeapHandle(to) => give(frame, to, Value::Birth(0)),
+        Operation::RegionNew(to) => make_region(alloc, frame, memory, to),
+        Operation::RegionFree(region) => Ok(free_region(frame, memory, region)),
     }
 }

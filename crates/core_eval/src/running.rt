@@ -26,7 +26,7 @@ use cyc_host::{Gathered, read};
 use cyc_words::{Input, Output};
 use std::alloc::{AllocError, Global};
 
-/// One move. Fails only where no host memory is left, 2^64 - 1 blocks were entered, or there would be a cell with a number over 2^64 - 1.
+/// One move. Fails only where the first move of a statement does, or no host memory is left.
 fn step<'p>(
     alloc: Global,
     now: Now<'p>,
@@ -151,8 +151,9 @@ fn finish<W: Output>(gathered: &mut Gathered, writer: &mut W, ending: EvalEnding
 ///
 /// Ends as the definition does: with the program's status, with `Running` where a unit is due and none is left, or
 /// `Stuck`. `WriteFault` comes in place of any other ending, where a write failed or took no byte; `ReadFault` where a
-/// read failed; `HostMemory` where the host has no memory for what is still to be done, 2^64 - 1 blocks or functions
-/// were entered, or a pointer would lead to a cell with a number over 2^64 - 1. After a failed call neither
+/// read failed; `HostMemory` where the host has no memory for what is still to be done or for a block of a region,
+/// 2^64 - 1 blocks or functions were entered, a pointer would lead to a cell with a number over 2^64 - 1, a block of a
+/// region would have a cell behind 2^32 - 1 bytes, or a region 2^32 blocks and one more. After a failed call neither
 /// device is called again. Output is written when 4,096 bytes are gathered, before each read and at each ending. Each
 /// byte that is taken from the reader was asked for.
 pub fn evaluate_core<R: Input, W: Output>(

@@ -114,6 +114,7 @@ fn status<'p>(flow: Flow) -> Due<'p>
             Value::Blank => Due::Wrong,
             Value::Null => Due::Wrong,
             Value::Pointer(_) => Due::Wrong,
+            Value::Birth(_) => Due::Wrong,
         },
         Flow::Returns(None) => Due::Wrong,
         Flow::Falls => Due::Wrong,

@@ -11,8 +11,10 @@ use std::alloc::{AllocError, Global};
 /// What has objects.
 #[derive(Clone, Copy, PartialEq, Eq, Debug)]
 pub enum Area {
-    /// The program, with its globals.
+    /// The program with its globals, and the heap, whose blocks come behind them.
     Globals,
+    /// A lexical region, with its blocks, by how many were born before it.
+    Region(u64),
     /// A block, with its locals, by how many blocks were entered before it.
     Block(u64),
     /// A function that is active, with its unnamed values, by how many functions were called before it.
@@ -43,6 +45,8 @@ pub enum Value {
     Null,
     /// A place.
     Pointer(Place),
+    /// The handle of a region: how many were born before it. The heap is the first.
+    Birth(u64),
 }
 
 /// A cell of an object.
@@ -58,7 +62,7 @@ pub struct Slot {
     pub value: Value,
 }
 
-/// A local, an unnamed value or a global.
+/// A local, an unnamed value, a global or a block of a region.
 #[derive(Drop)]
 pub enum Object {
     /// Of one cell.
@@ -227,6 +231,7 @@ pub fn first_value(cell: Cell) -> Value
     match cell {
         Cell::Byte | Cell::Word => Value::Word(0),
         Cell::Pointer => Value::Null,
+        Cell::Handle => Value::Blank,
     }
 }
 
@@ -245,7 +250,7 @@ pub fn is_null(value: Value) -> Option<bool>
     ensures { result ≡ null_of value }
 {
     match value {
-        Value::Blank | Value::Word(_) => None,
+        Value::Blank | Value::Word(_) | Value::Birth(_) => None,
         Value::Null => Some(true),
         Value::Pointer(_) => Some(false),
     }
@@ -257,6 +262,7 @@ pub fn is_same_area(first: Area, second: Area) -> bool
 {
     match (first, second) {
         (Area::Globals, Area::Globals) => true,
+        (Area::Region(region), Area::Region(other)) => region == other,
         (Area::Block(block), Area::Block(other)) => block == other,
         (Area::Own(call), Area::Own(other)) => call == other,
         _ => false,

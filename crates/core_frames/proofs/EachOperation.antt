@@ -1,12 +1,12 @@
 -- Each operation's code does as the operation means, whatever goes on behind it.
 use Rattle.std.specs.Prelude.{slice_get, length, nat_lt, not, ◌&&◌, if◌then◌else◌}
-use Rattle.std.proofs.Common.{◌≡◌, ℕ, ◌+◌, ◌%◌, ◌^◌, ◌<◌, true, List, ◌∷◌, ◌++◌, Option, Some, None, refl, sym, ap, subst, arith}
+use Rattle.std.proofs.Common.{◌≡◌, ℕ, ◌+◌, ◌%◌, ◌^◌, ◌<◌, true, List, ◌∷◌, ◌++◌, Option, Some, None, refl, sym, ap, subst, ◌∙◌, arith}
 use Rattle.std.proofs.lemmas.Bool.{ltb-true, not-true, and_parts, eq-eqb}
 use Rattle.cyc_words.specs.Events.{ByteWritten}
 use Rattle.rv32_machine.specs.State.{data_base}
 use Rattle.step_trees.specs.Trees.{Pays, Says}
-use Rattle.core_meaning.specs.Memory.{Spot, Frame, Own, Born, Content, Word, Null, Pointer, Part, Memory, is_live, with_part, beyond}
-use Rattle.core_meaning.specs.Core.{Operation, Constant, NullPointer, Move, Narrow, Apply, LocalAddress, OwnAddress, DataAddress, Offset, Element, Get, Put, Load, Store, Copy, Clear, IsNull, SamePlace, Getchar, Putchar, RegionNew, RegionAlloc, RegionFree, UniqueAlloc, UniqueFree, KeyNew, KeyOpen, KeyClose, KeyFree}
+use Rattle.core_meaning.specs.Memory.{Spot, Frame, Own, Born, Content, Word, Null, Pointer, Birth, Part, Memory, is_live, with_part, beyond}
+use Rattle.core_meaning.specs.Core.{Operation, Constant, NullPointer, Move, Narrow, Apply, LocalAddress, OwnAddress, DataAddress, Offset, Element, Get, Put, Load, Store, Copy, Clear, IsNull, SamePlace, Getchar, Putchar, HeapHandle, RegionNew, RegionAlloc, RegionFree, UniqueAlloc, UniqueFree, KeyNew, KeyOpen, KeyClose, KeyFree}
 use Rattle.core_meaning.specs.Words.{two}
 use Rattle.core_meaning.specs.Steps.{Config, Step, Exit, Falls, with_temp, with_memory, word_of, pointer_of, needed, checked, stuck}
 use Rattle.core_meaning.specs.Operations.{does, reached, local_spot, at_once, fitting, too_far, are_elements, is_there, same_object, copied, cleared}
@@ -73,6 +73,25 @@ data_address w order x outer mem t object place named is_object small has =
         },
         omega (arith, is, few),
       ));
+    })))
+
+-- ---- the handle of the heap: its number is 0
+
+heap_handle : (w : World) (order : IsInOrder w) (x : Waiting) (outer : List Waiting) (mem : Memory) (t place : ℕ) → t < x.fn.temporaries
+    → Has w place (constant_code 0 ++ saving w order x outer mem 5 t)
+    → Comes w (At w x outer mem place) (Having w order x outer mem t (Birth 0) (place + code_length (constant_code 0 ++ saving w order x outer mem 5 t)))
+heap_handle w order x outer mem t place named has =
+    then_saves w order x outer mem t place (Birth 0) (constant_code 0) named has
+    (λ has. comes_then w _ _ _ (constant_into w order x outer mem 0 place (omega arith) has)
+    (comes_as w _ _ (λ s a. record {
+      maps = a.maps;
+      frame = a.frame;
+      others = a.others;
+      sp = a.sp;
+      stands = a.stands;
+      shows = a.shows;
+      stack = a.stack;
+      holds = let is = a.holds in (a.stands.known.zero_is_heap ∙ ap (λ h. Some h) (sym is), omega (arith, is));
     })))
 
 -- ---- each
@@ -297,6 +316,8 @@ module _ (w : World) (order : IsInOrder w) (x : Waiting) (outer : List Waiting) 
       (λ n. Pays (λ kept. Says (Rattle.core_meaning.specs.Steps.Visible (ByteWritten (n % 256))) (next (with_temp t (Word (n % 256)) kept))) c) (λ n e.
       putchar_goes w order (with_config x c) outer c.memory fuel active (λ kept. next (with_temp t (Word (n % 256)) kept)) c t place named.0 y n named.1 e has
       (ends (with_temp t (Word (n % 256)) c) (record { blocks = is.blocks; own = is.own })))
+  operation_goes (HeapHandle t) named has ends c is =
+      sets c t (Birth 0) (operation_code u (HeapHandle t)) is (heap_handle w order (with_config x c) outer c.memory t place named has) ends
   operation_goes (RegionNew t) named has ends c is = new_region_does w order x outer fuel place next c.memory t named has ends c is
   operation_goes (RegionAlloc t h n layout) named has ends c is =
       alloc_region_does w order x outer fuel place next c.memory t h n layout named.0 named.1 named.2 named.3 has ends c is

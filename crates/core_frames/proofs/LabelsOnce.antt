@@ -11,8 +11,8 @@ use Rattle.rv32_isa.specs.declared.instruction.Instr.TheVariants as instr
 use Rattle.core_meaning.specs.Core.{Binary, Add, Subtract, Multiply, Divide, DivideUnsigned, Remainder, RemainderUnsigned, And, Or, Xor, ShiftLeft}
 use Rattle.core_meaning.specs.Core.{ShiftRight, ShiftRightUnsigned, Equal, NotEqual, Less, LessEqual, LessUnsigned, LessEqualUnsigned, Operation, Constant}
 use Rattle.core_meaning.specs.Core.{NullPointer, Move, Narrow, Apply, LocalAddress, OwnAddress, DataAddress, Offset, Element, Get, Put, Load, Store, Copy}
-use Rattle.core_meaning.specs.Core.{Clear, IsNull, SamePlace, Getchar, Putchar, RegionNew, RegionAlloc, RegionFree, UniqueAlloc, UniqueFree, KeyNew, KeyOpen}
-use Rattle.core_meaning.specs.Core.{KeyClose, KeyFree, Statement, Do, If, While, Block, Break, Continue, Call, Return, Raise, Statements, NoStatements}
+use Rattle.core_meaning.specs.Core.{Clear, IsNull, SamePlace, Getchar, Putchar, HeapHandle, RegionNew, RegionAlloc, RegionFree, UniqueAlloc, UniqueFree, KeyNew}
+use Rattle.core_meaning.specs.Core.{KeyOpen, KeyClose, KeyFree, Statement, Do, If, While, Block, Break, Continue, Call, Return, Raise, Statements, NoStatements}
 use Rattle.core_meaning.specs.Core.{MoreStatements, Function, Program}
 use Rattle.rv32_machine.specs.State.{data_base}
 use Rattle.core_frames.specs.declared.line.Line.{Line}
@@ -24,8 +24,7 @@ use Rattle.core_frames.specs.Selected.{frame_bytes, Surroundings, local_offset, 
 use Rattle.core_frames.specs.Loops.{are_words, copy_loop, clear_loop}
 use Rattle.core_frames.specs.Choosing.{is_held, held_behind, held_behind_all, held_or_loaded, choice_code}
 use Rattle.core_frames.specs.Selected.{write_line, write_code, binary_code, address_code, bytes_code, operation_code, labels_in, labels_of, holding, within_block}
-use Rattle.core_frames.specs.Selected.{further_code, bytes_in}
-use Rattle.core_frames.specs.Selected.{statement_code, statements_code, around, function_code, functions_code, program_code}
+use Rattle.core_frames.specs.Selected.{further_code, bytes_in, statement_code, statements_code, around, function_code, functions_code, program_code}
 use Rattle.core_frames.specs.Running.{data_offsets}
 
 -- ---- lists of labels
@@ -186,6 +185,7 @@ operation_none u (SamePlace t p q) =
     four (from_temp u 5 p) (from_temp u 6 q) (binary_code Equal) (to_temp u 5 t) (from_none u 5 p) (from_none u 6 q) refl (to_none u 5 t)
 operation_none u (Getchar t) = two (environment_code 2) (to_temp u 10 t) refl (to_none u 10 t)
 operation_none u (Putchar t x) = three (from_temp u 10 x) (environment_code 1) (to_temp u 10 t) (from_none u 10 x) refl (to_none u 10 t)
+operation_none u (HeapHandle t) = two (constant_code 0) (to_temp u 5 t) refl (to_none u 5 t)
 operation_none u (RegionNew t) = two (environment_code 4) (to_temp u 10 t) refl (to_none u 10 t)
 operation_none u (RegionAlloc t h n layout) =
     three (from_temp u 10 h ++ from_temp u 5 n ++ bytes_code layout.bytes) (environment_code 5) (to_temp u 10 t)

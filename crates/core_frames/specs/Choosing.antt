@@ -22,6 +22,7 @@ use Rattle.core_meaning.specs.Core.{
   SamePlace,
   Getchar,
   Putchar,
+  HeapHandle,
   RegionNew,
   RegionAlloc,
   RegionFree,
@@ -74,6 +75,7 @@ held_behind_operation (IsNull t p) = Some t
 held_behind_operation (SamePlace t p q) = Some t
 held_behind_operation (Getchar t) = None
 held_behind_operation (Putchar t x) = None
+held_behind_operation (HeapHandle t) = Some t
 held_behind_operation (RegionNew t) = None
 held_behind_operation (RegionAlloc t h n layout) = None
 held_behind_operation (RegionFree h) = None

@@ -22,6 +22,7 @@ use Rattle.core_meaning.specs.Core.{
   SamePlace,
   Getchar,
   Putchar,
+  HeapHandle,
   RegionNew,
   RegionAlloc,
   RegionFree,
@@ -103,6 +104,7 @@ HasCode u (IsNull t p) = (t < u.temporaries) × (p < u.temporaries)
 HasCode u (SamePlace t p q) = (t < u.temporaries) × (p < u.temporaries) × (q < u.temporaries)
 HasCode u (Getchar t) = t < u.temporaries
 HasCode u (Putchar t x) = (t < u.temporaries) × (x < u.temporaries)
+HasCode u (HeapHandle t) = t < u.temporaries
 HasCode u (RegionNew t) = t < u.temporaries
 HasCode u (RegionAlloc t h n layout) = (t < u.temporaries) × (h < u.temporaries) × (n < u.temporaries) × IsLayout layout
 HasCode u (RegionFree h) = h < u.temporaries

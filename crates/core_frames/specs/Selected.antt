@@ -46,6 +46,7 @@ use Rattle.core_meaning.specs.Core.{
   SamePlace,
   Getchar,
   Putchar,
+  HeapHandle,
   RegionNew,
   RegionAlloc,
   RegionFree,
@@ -275,7 +276,7 @@ bytes_code bytes =
     word_code 6 (saturated bytes)
     ++ (Plain (instr.Mulhu 11 5 6) ∷ Plain (instr.Mul 5 5 6) ∷ Plain (instr.Sltu 11 0 11) ∷ Plain (instr.Sub 11 0 11) ∷ Plain (instr.Or 11 11 5) ∷ [])
 
--- The code of an operation. Those on unique blocks and keys, and on elements have none as yet.
+-- The code of an operation. The heap's number is 0. Those on unique blocks and keys, and on elements have none as yet.
 abbrev pub operation_code : Surroundings → Operation → List Line
 operation_code u (Constant t w) = constant_code (w % 2 ^ 32) ++ to_temp u 5 t
 operation_code u (NullPointer t) = to_temp u 0 t
@@ -297,6 +298,7 @@ operation_code u (IsNull t p) = from_temp u 5 p ++ (Plain (instr.Sltiu 5 5 (pos 
 operation_code u (SamePlace t p q) = from_temp u 5 p ++ from_temp u 6 q ++ binary_code Equal ++ to_temp u 5 t
 operation_code u (Getchar t) = environment_code 2 ++ to_temp u 10 t
 operation_code u (Putchar t x) = from_temp u 10 x ++ environment_code 1 ++ to_temp u 10 t
+operation_code u (HeapHandle t) = constant_code 0 ++ to_temp u 5 t
 operation_code u (RegionNew t) = environment_code 4 ++ to_temp u 10 t
 operation_code u (RegionAlloc t h n layout) =
     from_temp u 10 h ++ from_temp u 5 n ++ bytes_code layout.bytes ++ environment_code 5 ++ to_temp u 10 t

@@ -58,6 +58,8 @@ pub data Operation : Type 0 where
   -- the streams; each takes a unit
   Getchar : (t : ℕ) → Operation
   Putchar : (t x : ℕ) → Operation
+  -- `t` gets the handle of the heap
+  HeapHandle : (t : ℕ) → Operation
   -- requests and frees
   RegionNew : (t : ℕ) → Operation
   RegionAlloc : (t h n : ℕ) (layout : Layout) → Operation

@@ -63,6 +63,7 @@ use Rattle.core_meaning.specs.Core.{
   SamePlace,
   Getchar,
   Putchar,
+  HeapHandle,
   RegionNew,
   RegionAlloc,
   RegionFree,
@@ -215,7 +216,7 @@ byte_word (Some byte) = byte
 abbrev pub says : events.Event → Step → Step
 says e next = Says (Visible e) next
 
--- ---- operations; the heap is never freed
+-- ---- operations; the heap is the first region that was born, and is never freed
 
 abbrev pub does : Operation → (Config → Step) → Config → Step
 does (Constant t w) next c = next (with_temp t (Word (w % 2 ^ 32)) c)
@@ -251,6 +252,7 @@ does (SamePlace t p q) next c = same_place c.memory (c.temps p) (c.temps q) (λ 
 does (Getchar t) next c = Pays (λ kept. Reads (λ byte. next (with_temp t (Word (byte_word byte)) kept))) c
 does (Putchar t x) next c =
     word_of (c.temps x) (λ n. Pays (λ kept. says (events.ByteWritten (n % 256)) (next (with_temp t (Word (n % 256)) kept))) c)
+does (HeapHandle t) next c = next (with_temp t (Birth 0) c)
 does (RegionNew t) next c =
     let d = c.memory.births in says (events.RegionNew d) (next (with_temp t (Birth d) (with_memory (born Live c.memory) c)))
 does (RegionAlloc t h n l) next c =

@@ -30,17 +30,19 @@ abbrev pub bytes_of : Width → ℕ
 bytes_of width.Byte = 1
 bytes_of width.Word = 4
 
--- how wide a local or a global is: a pointer is a word
+-- how wide a local or a global is: a pointer is a word, and so is a handle
 abbrev pub cell_width : Cell → Width
 cell_width cell.Byte = width.Byte
 cell_width cell.Word = width.Word
 cell_width cell.Pointer = width.Word
+cell_width cell.Handle = width.Word
 
--- what it begins as: a pointer is NULL, and a number is 0
+-- what it begins as: a pointer is NULL, a number is 0, and a handle has no beginning
 abbrev pub cell_first : Cell → Content
 cell_first cell.Byte = memory.Word 0
 cell_first cell.Word = memory.Word 0
 cell_first cell.Pointer = memory.Null
+cell_first cell.Handle = memory.Blank
 
 -- an object of one cell of one part
 abbrev pub part_layout : Cell → Layout
@@ -120,6 +122,9 @@ operation_tree (operation.IsNull t p) = core.IsNull t.0 p.0
 operation_tree (operation.SamePlace t p q) = core.SamePlace t.0 p.0 q.0
 operation_tree (operation.Getchar t) = core.Getchar t.0
 operation_tree (operation.Putchar t x) = core.Putchar t.0 x.0
+operation_tree (operation.HeapHandle t) = core.HeapHandle t.0
+operation_tree (operation.RegionNew t) = core.RegionNew t.0
+operation_tree (operation.RegionFree t) = core.RegionFree t.0
 
 abbrev pub statements_of : List core.Statement → core.Statements
 statements_of [] = core.NoStatements
@@ -129,6 +134,7 @@ abbrev pub statement_step : Statement-F core.Statement → core.Statement
 statement_step (Statement-F.Do o) = core.Do (operation_tree o)
 statement_step (Statement-F.Copy to from l) = core.Do (core.Copy to.0 from.0 (layout_tree l.value))
 statement_step (Statement-F.Clear p l) = core.Do (core.Clear p.0 (layout_tree l.value) 1)
+statement_step (Statement-F.RegionAlloc t h n l) = core.Do (core.RegionAlloc t.0 h.0 n.0 (layout_tree l.value))
 statement_step (Statement-F.If t these those) = core.If t.0 (statements_of these.items) (statements_of those.items)
 statement_step (Statement-F.While test t body) = core.While (statements_of test.items) t.0 (statements_of body.items)
 statement_step (Statement-F.Block locals body) = core.Block (map local_tree locals.items) (statements_of body.items)

@@ -34,6 +34,8 @@ pub enum Cell {
     Word,
     /// A pointer, of four bytes.
     Pointer,
+    /// The handle of a region, of four bytes.
+    Handle,
 }
 
 impl Cell {
@@ -43,7 +45,7 @@ impl Cell {
     {
         match self {
             Cell::Byte => Width::Byte,
-            Cell::Word | Cell::Pointer => Width::Word,
+            Cell::Word | Cell::Pointer | Cell::Handle => Width::Word,
         }
     }
 }
@@ -152,4 +154,10 @@ pub enum Operation {
     Getchar(Temporary),
     /// The second temporary's lowest byte is written, and the first gets it.
     Putchar(Temporary, Temporary),
+    /// The temporary gets the handle of the heap.
+    HeapHandle(Temporary),
+    /// The temporary gets the handle of a new region, which has no blocks yet.
+    RegionNew(Temporary),
+    /// The region whose handle the temporary holds is freed with all its blocks.
+    RegionFree(Temporary),
 }

@@ -15,6 +15,9 @@ pub enum Statement {
     Copy(Temporary, Temporary, Rc<Layout>),
     /// The object of this layout that the temporary points to gets what it begins as: numbers 0, and pointers NULL.
     Clear(Temporary, Rc<Layout>),
+    /// The first temporary gets a pointer to a new block in the region whose handle the second holds: as many objects of this layout as the third's word
+    /// says, which hold nothing.
+    RegionAlloc(Temporary, Temporary, Temporary, Rc<Layout>),
     /// Where the temporary is neither 0 nor NULL, the first statements are done, else the second.
     If(Temporary, Vec<Statement>, Vec<Statement>),
     /// The first statements are done, and where the temporary is neither 0 nor NULL then, the second and the loop again.

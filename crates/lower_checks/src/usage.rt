@@ -46,7 +46,10 @@ fn of_operation(operation: Operation) -> u64
         | Operation::DataAddress(t, _)
         | Operation::Get(t, _, _)
         | Operation::Put(_, _, t)
-        | Operation::Getchar(t) => up_to(t),
+        | Operation::Getchar(t)
+        | Operation::HeapHandle(t)
+        | Operation::RegionNew(t)
+        | Operation::RegionFree(t) => up_to(t),
         Operation::Narrow(t, x)
         | Operation::Offset(t, x, _, _)
         | Operation::Load(t, x, _)
@@ -76,6 +79,9 @@ fn of_statement(statement: &Statement) -> u64
         Statement::Block(_, body) => temporaries(body),
         Statement::Copy(to, from, _) => u64::max(up_to(*to), up_to(*from)),
         Statement::Clear(pointer, _) => up_to(*pointer),
+        Statement::RegionAlloc(to, handle, count, _) => {
+            u64::max(up_to(*to), u64::max(up_to(*handle), up_to(*count)))
+        }
         Statement::Break | Statement::Continue | Statement::Raise(_) => 0,
         Statement::Call(result, _, arguments) => {
             u64::max(up_to_optional(*result), last(arguments))
@@ -109,6 +115,7 @@ fn passed_in(statement: &Statement) -> usize
         Statement::Do(_)
         | Statement::Copy(..)
         | Statement::Clear(..)
+        | Statement::RegionAlloc(..)
         | Statement::Break
         | Statement::Continue
         | Statement::Return(_)

@@ -17,6 +17,7 @@ cell_wide : (c : Cell) → IsWidth (bytes_of (cell_width c))
 cell_wide cell.Byte = inl refl
 cell_wide cell.Word = inr refl
 cell_wide cell.Pointer = inr refl
+cell_wide cell.Handle = inr refl
 
 padding_joined : (at at' n : ℕ) → at' ≡ at → AreJoined at (padding_parts at' n)
 padding_joined at at' zero e = tt
@@ -59,6 +60,7 @@ cell_nothing : (c : Cell) → IsNothing (cell_first c)
 cell_nothing cell.Byte = refl
 cell_nothing cell.Word = refl
 cell_nothing cell.Pointer = tt
+cell_nothing cell.Handle = tt
 
 part_nothing : (c : CellLayout) (j : ℕ) → IsNothing (part_first (slice_get (cell_parts c) j))
 part_nothing c zero = cell_nothing c.cell
@@ -86,6 +88,7 @@ cell_number : (c : Cell) → number_bytes (bytes_of (cell_width c)) 0 ≡ zeros 
 cell_number cell.Byte = refl
 cell_number cell.Word = refl
 cell_number cell.Pointer = refl
+cell_number cell.Handle = refl
 
 module _ (first : ℕ → Content) (nothing : (j : ℕ) → IsNothing (first j)) where
   padding_bytes : (at j n : ℕ) → parts_bytes first j (padding_parts at n) ≡ zeros n

@@ -38,7 +38,7 @@ takes_two binary.LessEqual = true
 takes_two binary.LessUnsigned = false
 takes_two binary.LessEqualUnsigned = true
 
--- the operations on words alone, those on pointers, those on locals and unnamed values, and those on memory
+-- the operations on words alone, those on pointers, those on locals and unnamed values, those on memory, and those on regions
 abbrev pub is_on_words : Operation → Bool
 is_on_words (operation.Constant t word) = true
 is_on_words (operation.NullPointer t) = false
@@ -57,6 +57,9 @@ is_on_words (operation.IsNull t p) = false
 is_on_words (operation.SamePlace t p q) = false
 is_on_words (operation.Getchar t) = false
 is_on_words (operation.Putchar t x) = false
+is_on_words (operation.HeapHandle t) = false
+is_on_words (operation.RegionNew t) = false
+is_on_words (operation.RegionFree h) = false
 
 abbrev pub is_on_pointers : Operation → Bool
 is_on_pointers (operation.Constant t word) = false
@@ -76,6 +79,9 @@ is_on_pointers (operation.IsNull t p) = true
 is_on_pointers (operation.SamePlace t p q) = true
 is_on_pointers (operation.Getchar t) = false
 is_on_pointers (operation.Putchar t x) = false
+is_on_pointers (operation.HeapHandle t) = false
+is_on_pointers (operation.RegionNew t) = false
+is_on_pointers (operation.RegionFree h) = false
 
 abbrev pub is_on_locals : Operation → Bool
 is_on_locals (operation.Constant t word) = false
@@ -95,6 +101,9 @@ is_on_locals (operation.IsNull t p) = false
 is_on_locals (operation.SamePlace t p q) = false
 is_on_locals (operation.Getchar t) = false
 is_on_locals (operation.Putchar t x) = false
+is_on_locals (operation.HeapHandle t) = false
+is_on_locals (operation.RegionNew t) = false
+is_on_locals (operation.RegionFree h) = false
 
 abbrev pub is_on_memory : Operation → Bool
 is_on_memory (operation.Constant t word) = false
@@ -114,3 +123,28 @@ is_on_memory (operation.IsNull t p) = false
 is_on_memory (operation.SamePlace t p q) = false
 is_on_memory (operation.Getchar t) = false
 is_on_memory (operation.Putchar t x) = false
+is_on_memory (operation.HeapHandle t) = false
+is_on_memory (operation.RegionNew t) = false
+is_on_memory (operation.RegionFree h) = false
+
+abbrev pub is_on_regions : Operation → Bool
+is_on_regions (operation.Constant t word) = false
+is_on_regions (operation.NullPointer t) = false
+is_on_regions (operation.Move t x) = false
+is_on_regions (operation.Narrow t x) = false
+is_on_regions (operation.Apply o t x y) = false
+is_on_regions (operation.LocalAddress t v) = false
+is_on_regions (operation.OwnAddress t object) = false
+is_on_regions (operation.DataAddress t object) = false
+is_on_regions (operation.Get t v w) = false
+is_on_regions (operation.Put v w x) = false
+is_on_regions (operation.Offset t p cells bytes) = false
+is_on_regions (operation.Load t p d) = false
+is_on_regions (operation.Store p d x) = false
+is_on_regions (operation.IsNull t p) = false
+is_on_regions (operation.SamePlace t p q) = false
+is_on_regions (operation.Getchar t) = false
+is_on_regions (operation.Putchar t x) = false
+is_on_regions (operation.HeapHandle t) = true
+is_on_regions (operation.RegionNew t) = true
+is_on_regions (operation.RegionFree h) = true

@@ -5,7 +5,7 @@ ghost use Rattle.core_frames.specs.Frames.{load_code, save_code, slot_of};
 ghost use Rattle.core_frames.specs.Choosing.{held_behind_operation};
 ghost use Rattle.core_frames.specs.Selected.{binary_code, operation_code, from_temp, to_temp, nth};
 ghost use Rattle.cyc_core.specs.Trees.{binary_tree, operation_tree};
-ghost use Rattle.rv32_select.specs.Places.{surroundings, takes_two, is_on_words, is_on_pointers, is_on_locals, is_on_memory};
+ghost use Rattle.rv32_select.specs.Places.{surroundings, takes_two, is_on_words, is_on_pointers, is_on_locals, is_on_memory, is_on_regions};
 ghost use Rattle.rv32_machine.specs.State.{data_base};
 
 use crate::emit::{
@@ -17,11 +17,14 @@ use crate::place::Place;
 use core_frames::Line;
 use cyc_core::{Binary, Operation, Temporary};
 use rv32_isa::{Instr, Register, Signed12};
-use rv32_machine::{GETCHAR, PUTCHAR};
+use rv32_machine::{GETCHAR, PUTCHAR, REGION_FREE, REGION_NEW};
 use std::alloc::AllocError;
 
 /// The address at which a program's data begin.
 const DATA_BASE: u64 = 0x0020_0000;
+
+/// The number of the heap, which is its handle.
+const HEAP: u64 = 0;
 
 /// Appends the load of a temporary into a register.
 pub fn put_from(
@@ -222,6 +225,32 @@ fn put_memory_operation(
     }
 }
 
+/// Appends the instructions of an operation on regions.
+fn put_region_operation(
+    lines: &mut Vec<Line>,
+    place: &Place,
+    operation: Operation,
+) -> Result<(), AllocError>
+    requires { is_on_regions operation ≡ true }
+    ensures { OnOk result (lines.new.items ≡ lines.old.items ++ operation_code (surroundings place.now) (operation_tree operation)) }
+{
+    match operation {
+        Operation::HeapHandle(to) => {
+            put_constant(lines, HEAP)?;
+            put_to(lines, place, RESULT, to)
+        }
+        Operation::RegionNew(to) => {
+            put_environment(lines, REGION_NEW)?;
+            put_to(lines, place, Register::ARGUMENT_0, to)
+        }
+        Operation::RegionFree(handle) => {
+            put_from(lines, place, Register::ARGUMENT_0, handle)?;
+            put_environment(lines, REGION_FREE)
+        }
+        _ => Ok(()),
+    }
+}
+
 /// The temporary whose word is in the register of results behind an operation: the one that is computed there and saved.
 pub fn held_behind(operation: Operation) -> Option<u32>
     ensures { result ≡ held_behind_operation (operation_tree operation) }
@@ -238,7 +267,8 @@ pub fn held_behind(operation: Operation) -> Option<u32>
         | Operation::Get(to, _, _)
         | Operation::Load(to, _, _)
         | Operation::IsNull(to, _)
-        | Operation::SamePlace(to, _, _) => Some(to.0),
+        | Operation::SamePlace(to, _, _)
+        | Operation::HeapHandle(to) => Some(to.0),
         _ => None,
     }
 }
@@ -273,6 +303,9 @@ pub fn put_operation(
         | Operation::OwnAddress(..)
         | Operation::Get(..)
         | Operation::Put(..) => { put_local_operation(lines, place, operation) }
+        Operation::HeapHandle(..) | Operation::RegionNew(..) | Operation::RegionFree(..) => {
+            put_region_operation(lines, place, operation)
+        }
         _ => put_memory_operation(lines, place, operation),
     }
 }

@@ -12,7 +12,7 @@ use crate::emit::{ADDRESS, RESULT, put, put_environment, put_lines, put_load, pu
 use crate::layout::sum;
 use crate::operation::{held_behind, put_from, put_operation, put_to};
 use crate::place::Place;
-use crate::whole::{put_clear, put_copy};
+use crate::whole::{put_clear, put_copy, put_region_alloc};
 use core_frames::Line;
 use cyc_core::{Local, Statement, Temporary};
 use cyc_words::Kind;
@@ -171,6 +171,9 @@ fn put_statement(
         }
         Statement::Copy(to, from, layout) => put_copy(lines, place, *to, *from, layout.as_ref())?,
         Statement::Clear(pointer, layout) => put_clear(lines, place, *pointer, layout.as_ref())?,
+        Statement::RegionAlloc(to, handle, count, layout) => {
+            put_region_alloc(lines, place, *to, *handle, *count, layout.as_ref())?;
+        }
         Statement::If(test, these, those) => {
             return put_if(lines, place, next, ways, *test, these, those);
         }

@@ -1,18 +1,19 @@
-// Instructions that copy and clear whole objects.
+// Instructions that copy and clear whole objects, and ask for blocks of them.
 
 ghost use Rattle.std.specs.Prelude.{◌≡◌, ◌++◌, OnOk};
 ghost use Rattle.core_meaning.specs.Core as core;
 ghost use Rattle.core_frames.specs.Loops.{are_word_parts, are_words, copy_loop, clear_loop};
-ghost use Rattle.core_frames.specs.Selected.{further_code, operation_code};
+ghost use Rattle.core_frames.specs.Selected.{further_code, bytes_code, operation_code};
 ghost use Rattle.cyc_core.specs.Trees.{cell_parts, layout_tree};
 ghost use Rattle.rv32_select.specs.Places.{surroundings};
 
-use crate::emit::{ADDRESS, OPERAND, RESULT, put_further, put_lines};
-use crate::operation::put_from;
+use crate::emit::{ADDRESS, OPERAND, RESULT, put_environment, put_further, put_lines, put_word};
+use crate::operation::{put_from, put_to};
 use crate::place::Place;
 use core_frames::Line;
 use cyc_core::{CellLayout, Layout, Temporary, Width};
 use rv32_isa::{BranchOffset, Instr, Register, Signed12};
+use rv32_machine::REGION_ALLOC;
 use std::alloc::AllocError;
 
 /// The register by way of which each unit is copied.
@@ -125,4 +126,37 @@ pub fn put_clear(
     put_from(lines, place, RESULT, pointer)?;
     put_end(lines, layout)?;
     put_clear_loop(lines, are_words(layout))
+}
+
+/// Appends what puts the bytes of as many objects as the register of results says into the register of the second argument: all ones where a word can't say
+/// so many.
+fn put_bytes(lines: &mut Vec<Line>, bytes: u32) -> Result<(), AllocError>
+    ensures { OnOk result (lines.new.items ≡ lines.old.items ++ bytes_code bytes) }
+{
+    let (asked, none) = (Register::ARGUMENT_1, Register::ZERO);
+    put_word(lines, OPERAND, u64::from(bytes))?;
+    let high = Line::Plain(Instr::Mulhu(asked, RESULT, OPERAND));
+    let low = Line::Plain(Instr::Mul(RESULT, RESULT, OPERAND));
+    let over = Line::Plain(Instr::Sltu(asked, none, asked));
+    let ones = Line::Plain(Instr::Sub(asked, none, asked));
+    let both = Line::Plain(Instr::Or(asked, asked, RESULT));
+    put_lines(lines, &[high, low, over, ones, both])
+}
+
+/// Appends what asks a region for a block of as many objects of a layout as a temporary says.
+pub fn put_region_alloc(
+    lines: &mut Vec<Line>,
+    place: &Place,
+    to: Temporary,
+    handle: Temporary,
+    count: Temporary,
+    layout: &Layout,
+) -> Result<(), AllocError>
+    ensures { OnOk result (lines.new.items ≡ lines.old.items ++ operation_code (surroundings place.now) (core.RegionAlloc to.0 handle.0 count.0 (layout_tree layout.now))) }
+{
+    put_from(lines, place, Register::ARGUMENT_0, handle)?;
+    put_from(lines, place, RESULT, count)?;
+    put_bytes(lines, layout.bytes)?;
+    put_environment(lines, REGION_ALLOC)?;
+    put_to(lines, place, Register::ARGUMENT_0, to)
 }

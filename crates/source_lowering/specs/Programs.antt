@@ -43,6 +43,7 @@ use Rattle.core_meaning.specs.Core.{
   SamePlace,
   Getchar,
   Putchar,
+  HeapHandle,
   RegionNew,
   RegionAlloc,
   RegionFree,
@@ -234,6 +235,10 @@ operation_temporaries (IsNull t p) = max (suc t) (suc p)
 operation_temporaries (SamePlace t p q) = max (suc t) (max (suc p) (suc q))
 operation_temporaries (Getchar t) = suc t
 operation_temporaries (Putchar t x) = max (suc t) (suc x)
+operation_temporaries (HeapHandle t) = suc t
+operation_temporaries (RegionNew t) = suc t
+operation_temporaries (RegionAlloc t h n layout) = max (suc t) (max (suc h) (suc n))
+operation_temporaries (RegionFree h) = suc h
 operation_temporaries _ = 0
 
 abbrev mutual

@@ -10,4 +10,5 @@ returns-in-Block c =
     c.in-Block.locals.items c.deref-in-Block.result.now (body_tree c.in-Block.body.items) (body_tree c.deref-in-Block-2.result.now)
     (waits_of c.args.stack.now.items) _ (ap statement_tree c.in-Block.is ∙ block_tree c.in-Block.locals c.in-Block.body)
     c.deref-in-Block.ensures.value (ap body_tree c.deref-in-Block-2.ensures.value)
-    c.enter_block.ensures.next c.enter_block.ensures.waits c.enter_block.ensures.blocks c.enter_block.ensures.entered c.enter_block.ensures.owns c.enter_block.ensures.called c.enter_block.ensures.globals
+    c.enter_block.ensures.next c.enter_block.ensures.waits c.enter_block.ensures.blocks c.enter_block.ensures.entered c.enter_block.ensures.owns c.enter_block.ensures.called
+    c.enter_block.ensures.globals c.enter_block.ensures.regions

@@ -3,7 +3,7 @@ use Rattle.core_meaning.specs.Memory as memory
 use Rattle.cyc_core.specs.declared.operation.Operation.TheVariants as operation
 use Rattle.core_eval.specs.Values.{content_of}
 use Rattle.core_eval.specs.Standing.{known_of}
-use Rattle.core_eval.proofs.OperationMoves.{constant_moves, null_moves, move_moves}
+use Rattle.core_eval.proofs.OperationMoves.{constant_moves, null_moves, heap_moves, move_moves}
 use Rattle.core_eval.proofs.Answered.{given_here, with_memory, for_operation, for_operation_ok}
 use Rattle.core_eval.proofs.operation.operate.Goals as goal
 
@@ -138,3 +138,24 @@ returns-in-Putchar c =
     let m = c.args.memory.now in
     for_operation_ok c.putchar.result c.args.operation (operation.Putchar c.in-Putchar.to c.in-Putchar.from) (known_of f m) (known_of f m) c.in-Putchar.is
     (λ ws. c.putchar.ensures ws m)
+
+pub returns-in-HeapHandle : goal.returns-in-HeapHandle
+returns-in-HeapHandle c =
+    let f = c.args.frame.now in
+    let f' = c.give-in-HeapHandle.new.frame in
+    let m = c.args.memory.now in
+    for_operation c.give-in-HeapHandle.result c.args.operation (operation.HeapHandle c.in-HeapHandle.to) (known_of f m) (known_of f' m) c.in-HeapHandle.is
+    (given_here c.give-in-HeapHandle.result f f' c.in-HeapHandle.to.0 (memory.Birth 0) _ m c.give-in-HeapHandle.ensures.next
+    c.give-in-HeapHandle.ensures.gives c.give-in-HeapHandle.ensures.base
+    (λ ws gives. heap_moves (known_of f m) f'.temps.items ws c.in-HeapHandle.to.0 gives))
+
+pub returns-in-RegionNew : goal.returns-in-RegionNew
+returns-in-RegionNew c =
+    for_operation c.make_region.result c.args.operation (operation.RegionNew c.in-RegionNew.to) (known_of c.args.frame.now c.args.memory.now)
+    (known_of c.make_region.new.frame c.make_region.new.memory) c.in-RegionNew.is c.make_region.ensures
+
+pub returns-in-RegionFree : goal.returns-in-RegionFree
+returns-in-RegionFree c =
+    let f = c.args.frame.now in
+    for_operation_ok c.free_region.result c.args.operation (operation.RegionFree c.in-RegionFree.region) (known_of f c.args.memory.now)
+    (known_of f c.free_region.new.memory) c.in-RegionFree.is c.free_region.ensures

@@ -49,7 +49,8 @@ units-init g c =
           (c.in-Ok-new.ensures.owns ∙ ap (λ os. record { number = 0; objects = os } ∷ []) c.in-Ok.ensures)
           c.in-Ok-new.ensures.called
           (ap (λ gs. map cells_of gs.items) c.in-Ok-new.ensures.globals
-          ∙ c.in-Ok-first_objects.ensures ∙ ap (map first_object) c.deref.ensures.value))
+          ∙ c.in-Ok-first_objects.ensures ∙ ap (map first_object) c.deref.ensures.value)
+          c.in-Ok-new.ensures.regions)
           c.new-gathered.ensures;
     }
 

@@ -49,6 +49,7 @@ returns-in-Caller-default c =
       owns = c.leave_call.ensures.owns;
       called = c.leave_call.ensures.called;
       globals = c.leave_call.ensures.globals;
+      regions = c.leave_call.ensures.regions;
     } in
     left_ok c.take_caller.result (exit_of c.args.flow)
     (wait_of (pending.Caller c.in-Caller-default.result c.in-Caller-default.field-1-0 c.in-Caller-default.saved) ∷ ws)

@@ -1,0 +1,158 @@
+-- A region gets a block, as Core does it.
+use Rattle.std.specs.Prelude.{slice_get, slice_set, option_map}
+use Rattle.std.proofs.Common.{◌≡◌, ℕ, zero, suc, ◌+◌, ◌*◌, Bool, true, false, Option, Some, None, List, [], ◌∷◌, ◌++◌, length, refl, ap, ◌∙◌, sym, subst, arith}
+use Rattle.cyc_words.specs.Events as events
+use Rattle.core_meaning.specs.Memory as memory
+use Rattle.core_meaning.specs.Memory.{Region, Born, Content, Pointer, Part, is_live, with_object, blanks, first_spot}
+use Rattle.core_meaning.specs.Core as core
+use Rattle.core_meaning.specs.Steps as steps
+use Rattle.core_meaning.specs.Steps.{Config, with_temp, with_memory, Step, checked, birth_of, word_of}
+use Rattle.core_meaning.specs.Operations.{saturated, says}
+use Rattle.cyc_core.specs.declared.layout.Layout as code
+use Rattle.cyc_core.specs.Trees.{layout_tree}
+use Rattle.core_eval.specs.declared.value.Area.TheVariants as area
+use Rattle.core_eval.specs.declared.value.Place.{Place}
+use Rattle.core_eval.specs.declared.value.Value.{Value}
+use Rattle.core_eval.specs.declared.value.Value.TheVariants as value
+use Rattle.core_eval.specs.declared.value.Slot.{Slot}
+use Rattle.core_eval.specs.Values.{region_of, spot_of, content_of, temp_of, part_in, Shows}
+use Rattle.core_eval.specs.Regions.{Regions, still_held, region_at, block_cells, grown_held, area_of, block_place}
+use Rattle.core_eval.specs.Blocks.{Stored, born_objects, next_place, grown}
+use Rattle.core_eval.specs.Whole.{is_still}
+use Rattle.core_eval.specs.Pendings.{Execute, Leave, Wait, Go, Wrong, Mark}
+use Rattle.core_eval.specs.Standing.{Known, Agrees, Gives}
+use Rattle.core_eval.specs.Costs.{IsMove}
+use Rattle.core_eval.proofs.Memories.{itself, other_number, shows_object, shows_grown}
+use Rattle.core_eval.proofs.Elements.{block_parts}
+use Rattle.core_eval.proofs.Born.{held_there, heap_changed, region_changed, region_shows, born_agrees}
+use Rattle.core_eval.proofs.Changes.{stored_in, with_stored}
+use Rattle.core_eval.proofs.Laid.{live_is}
+use Rattle.core_eval.proofs.Moves.{becomes_saying, goes_wrong}
+use Rattle.core_eval.proofs.OperationMoves.{given, agrees_given, IsNoWord, no_word}
+use Rattle.core_eval.proofs.RegionMoves.{object_keeps, object_others, one_counted}
+
+-- ---- what is stored
+
+area_born : (d : ℕ) → region_of (area_of d) ≡ Born d
+area_born zero = refl
+area_born (suc n) = refl
+
+-- a region that isn't there gets nothing
+same_none : (regions : Regions) (n : ℕ) → region_at regions n ≡ None → slice_set regions n None ≡ regions
+same_none [] n e = refl
+same_none (r ∷ regions) zero e = ap (λ o. o ∷ regions) (sym e)
+same_none (r ∷ regions) (suc n) e = ap (λ l. r ∷ l) (same_none regions n e)
+
+pub ungrown : (stored : Stored) (d : ℕ) (block : List Slot) → born_objects stored d ≡ None → grown stored d block ≡ stored
+ungrown stored zero block none = cc
+ungrown stored (suc n) block none =
+    ap (λ held. record stored { regions = slice_set stored.regions n (grown_held block held) }) none
+    ∙ ap (λ (rs : Regions). record stored { regions = rs }) (same_none stored.regions n none)
+
+-- where there is no next place, there is no region
+pub unplaced : (stored : Stored) (d : ℕ) → next_place stored d ≡ None → born_objects stored d ≡ None
+unplaced stored d e = by (born_objects stored d) e
+  where
+    by : (held : Option (List (List Slot))) → option_map (λ objects. block_place d (length objects)) held ≡ None → held ≡ None
+    by None e = refl
+    by (Some objects) e = cc
+
+module _ (known : Known) (ws : List Wait) (marks : List Mark) (c : Config) (h : Agrees known ws marks c) where
+  born_is : (d : ℕ) → is_live (c.memory.standing (Born d)) ≡ is_still (born_objects (stored_in known) d)
+  born_is zero = ap is_live h.globals.live
+  born_is (suc n) = live_is known ws marks c h (area.Region n)
+
+  born_there : (d : ℕ) (objects : List (List Slot)) → born_objects (stored_in known) d ≡ Some objects
+      → Shows c.memory (Born d) objects × (c.memory.objects (Born d) ≡ length objects)
+  born_there zero objects has =
+      let same : known.globals ≡ objects = cc in
+      (subst (λ (os : List (List Slot)). Shows c.memory (Born 0) os) same h.globals, h.born.heap ∙ ap length same)
+  born_there (suc n) objects has =
+      region_shows c.memory c.memory known.globals known.regions h.born n objects (held_there known.regions n objects has)
+
+  -- with a block more
+  grown_agrees : (d : ℕ) (objects : List (List Slot)) → born_objects (stored_in known) d ≡ Some objects → (o : ℕ → ℕ → Option Part) (block : List Slot)
+      → ((k j : ℕ) → o k j ≡ part_in (slice_get block k) j)
+      → Agrees (with_stored known (grown (stored_in known) d block)) ws marks (with_memory (with_object c.memory (Born d) o) c)
+  grown_agrees zero objects has o block parts =
+      let m = c.memory in
+      let m' = with_object m (Born 0) o in
+      born_agrees known ws marks c h m' (object_keeps m 0 o) (known.globals ++ block ∷ []) known.regions (shows_grown h.globals h.born.heap o block parts)
+      (heap_changed m m' known.globals known.regions h.born (object_others m 0 o) (known.globals ++ block ∷ [])
+      (one_counted m (Born 0) o known.globals block h.born.heap))
+  grown_agrees (suc n) objects has o block parts =
+      let m = c.memory in
+      let m' = with_object m (Born (suc n)) o in
+      let at = held_there known.regions n objects has in
+      let (was, counted) = born_there (suc n) objects has in
+      subst
+      (λ (held : Option (List (List Slot))). Agrees (record known { regions = slice_set known.regions n (grown_held block held) }) ws marks (with_memory m' c))
+      (sym has)
+      (born_agrees known ws marks c h m' (object_keeps m (suc n) o) known.globals (slice_set known.regions n (Some (objects ++ block ∷ [])))
+      (shows_object h.globals (Born (suc n)) (other_number 0 (suc n) (omega arith)) o)
+      (region_changed m m' known.globals known.regions h.born n (object_others m (suc n) o) (Some (objects ++ block ∷ [])) (Some objects) at
+      (shows_grown was counted o block parts, one_counted m (Born (suc n)) o objects block counted)))
+
+-- ---- moves
+
+module _ (known : Known) (ws : List Wait) (x : ℕ) (u : Value) (read : content_of u ≡ temp_of known.temps x) (d : ℕ) (is : u ≡ value.Birth d)
+    (y : ℕ) (v : Value) (counts : content_of v ≡ temp_of known.temps y) (t : ℕ) (l : code.Layout) where
+  abbrev tree : memory.Layout
+  tree = layout_tree l
+
+  abbrev with_block : Config → ℕ → Config
+  with_block c count = with_temp t (Pointer (first_spot c.memory (Born d)) 0) (with_memory (with_object c.memory (Born d) (blanks tree count)) c)
+
+  abbrev counted_step : (c : Config) → (Config → Step) → ℕ → ℕ → Step
+  counted_step c next d count = checked (is_live (c.memory.standing (Born d))) (says (events.RegionAlloc d (saturated (count * tree.bytes)))
+      (next (with_temp t (Pointer (first_spot c.memory (Born d)) 0) (with_memory (with_object c.memory (Born d) (blanks tree count)) c))))
+
+  -- where its count is read
+  at_birth : (marks : List Mark) (c : Config) → Agrees known ws marks c → (next : Config → Step)
+      → birth_of (c.temps x) (λ d. word_of (c.temps y) (counted_step c next d)) ≡ word_of (content_of v) (counted_step c next d)
+  at_birth marks c h next =
+      ap (λ (z : Content). birth_of z (λ d. word_of (c.temps y) (counted_step c next d))) (h.temps x ∙ sym read ∙ ap content_of is)
+      ∙ ap (λ (z : Content). word_of z (counted_step c next d)) (h.temps y ∙ sym counts)
+
+  module _ (count : ℕ) (many : v ≡ value.Word count) where
+    at_count : (marks : List Mark) (c : Config) → Agrees known ws marks c → (next : Config → Step)
+        → birth_of (c.temps x) (λ d. word_of (c.temps y) (counted_step c next d))
+        ≡ checked (is_still (born_objects (stored_in known) d)) (says (events.RegionAlloc d (saturated (count * tree.bytes))) (next (with_block c count)))
+    at_count marks c h next =
+        at_birth marks c h next ∙ ap (λ (z : Value). word_of (content_of z) (counted_step c next d)) many
+        ∙ ap (λ b. checked b (says (events.RegionAlloc d (saturated (count * tree.bytes))) (next (with_block c count)))) (born_is known ws marks c h d)
+
+    -- what is known then
+    abbrev pub with_more : Known
+    with_more = with_stored known (grown (stored_in known) d (block_cells l count))
+
+    block_placed : (temps : List Value) (p : Place) (held : Option (List (List Slot))) → born_objects (stored_in known) d ≡ held
+        → option_map (λ objects. block_place d (length objects)) held ≡ Some p → Gives t (content_of (value.Pointer p)) known.temps temps
+        → IsMove (Execute (core.Do (core.RegionAlloc t x y tree))) ws known (Go (Leave steps.Falls)) ws (given with_more temps)
+    block_placed temps p None has e gives = cc
+    block_placed temps p (Some objects) has e gives =
+        let same : block_place d (length objects) ≡ p = cc in
+        becomes_saying (core.RegionAlloc t x y tree) ws known (given with_more temps) (λ c. events.RegionAlloc d (saturated (count * tree.bytes)))
+        (λ c. with_block c count) (λ c. tt)
+        (λ marks c h next. at_count marks c h next
+        ∙ ap (λ held. checked (is_still held) (says (events.RegionAlloc d (saturated (count * tree.bytes))) (next (with_block c count)))) has)
+        (λ marks c h.
+        let (shows, counted) = born_there known ws marks c h d objects has in
+        let leads : content_of (value.Pointer p) ≡ Pointer (first_spot c.memory (Born d)) 0 =
+        ap (λ (q : Place). content_of (value.Pointer q)) (sym same)
+        ∙ ap (λ (r : Region). Pointer (spot_of r (length objects) 0) 0) (area_born d)
+        ∙ ap (λ (n : ℕ). Pointer (spot_of (Born d) n 0) 0) (sym counted) in
+        agrees_given with_more temps ws t (Pointer (first_spot c.memory (Born d)) 0)
+        (subst (λ (w : Content). Gives t w known.temps temps) leads gives) marks
+        (with_memory (with_object c.memory (Born d) (blanks tree count)) c)
+        (grown_agrees known ws marks c h d objects has (blanks tree count) (block_cells l count) (block_parts l count)))
+
+    pub allocate_moves : (temps : List Value) (p : Place) → next_place (stored_in known) d ≡ Some p → Gives t (content_of (value.Pointer p)) known.temps temps
+        → IsMove (Execute (core.Do (core.RegionAlloc t x y tree))) ws known (Go (Leave steps.Falls)) ws (given with_more temps)
+    allocate_moves temps p placed gives = block_placed temps p (born_objects (stored_in known) d) refl placed gives
+
+    pub allocate_wrong : next_place (stored_in known) d ≡ None → IsMove (Execute (core.Do (core.RegionAlloc t x y tree))) ws known Wrong ws known
+    allocate_wrong none =
+        goes_wrong (core.RegionAlloc t x y tree) ws known (λ marks c h next. at_count marks c h next
+        ∙ ap (λ held. checked (is_still held) (says (events.RegionAlloc d (saturated (count * tree.bytes))) (next (with_block c count))))
+        (unplaced (stored_in known) d none))

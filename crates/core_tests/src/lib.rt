@@ -12,4 +12,6 @@ mod pointers;
 #[cfg(test)]
 mod programs;
 #[cfg(test)]
+mod regions;
+#[cfg(test)]
 mod unnamed;

@@ -36,7 +36,7 @@ fn get(to: u32, index: u32) -> Statement {
     run(Operation::Get(Temporary(to), local(index), Width::Word))
 }
 
-fn load(to: u32, from: u32) -> Statement {
+pub fn load(to: u32, from: u32) -> Statement {
     run(Operation::Load(
         Temporary(to),
         Temporary(from),
@@ -44,7 +44,7 @@ fn load(to: u32, from: u32) -> Statement {
     ))
 }
 
-fn store(to: u32, from: u32) -> Statement {
+pub fn store(to: u32, from: u32) -> Statement {
     run(Operation::Store(
         Temporary(to),
         Distance::at_once(Width::Word),

@@ -1,5 +1,4 @@
--- What the tables of a program and the scopes of its functions are where thin pointers and structs are taken, and each other form stands as a fault:
--- copied types, and what isn't known.
+-- What the tables of a program and the scopes of its functions are where no form is taken but those of copied values: copied types, and what isn't known.
 use Rattle.std.proofs.Common.{◌≡◌, ℕ, suc, Bool, true, false, Option, Some, None, List, [], ◌∷◌, refl, sym, subst}
 use Rattle.std.specs.Prelude.{if◌then◌else◌, map, not, ◌++◌, ◌&&◌, ◌||◌}
 use Rattle.cyc_tree.specs.Tree as tree
@@ -36,7 +35,6 @@ use Rattle.source_typing.specs.Taken.{
   members_taken,
   only_taken,
   refused_type,
-  region_structures,
   structure_if,
   takes_structure,
   takes_initial,
@@ -66,24 +64,23 @@ use Rattle.accepted_sources.proofs.CopiedTypes.{
   judged_after,
   known_copied,
   settled_copied,
-  spotted_copied,
-  type_copied,
 }
+use Rattle.accepted_sources.proofs.CopiedWritten.{copied_forms, spotted_copied, type_copied}
 
-abbrev k : Taken
-k = region_structures
+abbrev k : Bool → Taken
+k b = copied_forms b
 
 -- ---- types that are taken
 
 -- a type that is taken, or the fault that stands for another one
-pub data IsTakenType : TypeName → Type 0 where
-  TakenPlain : {t : TypeName} → takes_type k t ≡ true → IsTakenType t
-  TakenFault : {at : ℕ} → IsTakenType (refused_type at)
+pub data IsTakenType (b : Bool) : TypeName → Type 0 where
+  TakenPlain : {t : TypeName} → takes_type (k b) t ≡ true → IsTakenType b t
+  TakenFault : {at : ℕ} → IsTakenType b (refused_type at)
 
-pub taken_type : (t : TypeName) → IsTakenType (type_taken k t)
-taken_type t = by (takes_type k t) refl
+pub taken_type : (b : Bool) (t : TypeName) → IsTakenType b (type_taken (k b) t)
+taken_type b t = by (takes_type (k b) t) refl
   where
-    by : (b : Bool) → takes_type k t ≡ b → IsTakenType (if b then t else refused_type t.at)
+    by : (c : Bool) → takes_type (k b) t ≡ c → IsTakenType b (if c then t else refused_type t.at)
     by true e = TakenPlain e
     by false e = TakenFault
 
@@ -97,46 +94,49 @@ fits_copied false at t h = tt
 
 -- ---- parameters and results
 
-pub parameter_known : (g : Tables) (vs : Variables) (t : TypeName) → IsTakenType t → IsCopiedIfKnown (parameter_type g t (take_spots vs (spots_of g t)))
-parameter_known g vs t TakenFault = tt
-parameter_known g vs t (TakenPlain e) =
+pub parameter_known : (b : Bool) (g : Tables) (vs : Variables) (t : TypeName) → IsTakenType b t
+    → IsCopiedIfKnown (parameter_type g t (take_spots vs (spots_of g t)))
+parameter_known b g vs t TakenFault = tt
+parameter_known b g vs t (TakenPlain e) =
     let s : AllSpotted = take_spots vs (spots_of g t) in
     judged_after (λ t. IsCopied t) (λ t. IsCopied t) (after (written_with g t (s.found, s.faults)) (settled_alone t.at)) (if_parameter t.at)
-    (alone_copied t.at (written_with g t (s.found, s.faults)) (spotted_copied g vs t e)) (λ u c. fits_copied (fits_parameter u) t.at u c)
+    (alone_copied t.at (written_with g t (s.found, s.faults)) (spotted_copied b g vs t e)) (λ u c. fits_copied (fits_parameter u) t.at u c)
 
-result_known : (g : Tables) (names : List RegionNamed) (t : TypeName) → IsTakenType t → IsCopiedIfKnown (result_type g names t)
-result_known g names t TakenFault = tt
-result_known g names t (TakenPlain e) =
+result_known : (b : Bool) (g : Tables) (names : List RegionNamed) (t : TypeName) → IsTakenType b t → IsCopiedIfKnown (result_type g names t)
+result_known b g names t TakenFault = tt
+result_known b g names t (TakenPlain e) =
     judged_after (λ t. IsCopied t) (λ t. IsCopied t) (after (written g names t) (settled_alone t.at)) (if_result t.at)
-    (alone_copied t.at (written g names t) (type_copied g names t e)) (λ u c. fits_copied (is_void u || fits_parameter u) t.at u c)
+    (alone_copied t.at (written g names t) (type_copied b g names t e)) (λ u c. fits_copied (is_void u || fits_parameter u) t.at u c)
 
-abbrev pub HaveTakenTypes : List tree.Member → Type 0
-HaveTakenTypes [] = Unit {0}
-HaveTakenTypes (m ∷ ms) = IsTakenType m.of × HaveTakenTypes ms
+abbrev pub HaveTakenTypes : Bool → List tree.Member → Type 0
+HaveTakenTypes b [] = Unit {0}
+HaveTakenTypes b (m ∷ ms) = IsTakenType b m.of × HaveTakenTypes b ms
 
 -- copied types, each where it is known
 abbrev pub AreCopiedIfKnown : List (Option StaticType) → Type 0
 AreCopiedIfKnown [] = Unit {0}
 AreCopiedIfKnown (t ∷ ts) = IsCopiedIfSome t × AreCopiedIfKnown ts
 
-parameters_known : (g : Tables) (vs : Variables) (ms : List tree.Member) → HaveTakenTypes ms → AreCopiedIfKnown (map known (read_parameters g vs ms).types)
-parameters_known g vs [] h = tt
-parameters_known g vs (m ∷ ms) h =
+parameters_known : (b : Bool) (g : Tables) (vs : Variables) (ms : List tree.Member) → HaveTakenTypes b ms
+    → AreCopiedIfKnown (map known (read_parameters g vs ms).types)
+parameters_known b g vs [] h = tt
+parameters_known b g vs (m ∷ ms) h =
     let next : Variables = (take_spots vs (spots_of g m.of)).after_all in
-    (known_copied (parameter_type g m.of (take_spots vs (spots_of g m.of))) (parameter_known g vs m.of h.0), parameters_known g next ms h.1)
+    (known_copied (parameter_type g m.of (take_spots vs (spots_of g m.of))) (parameter_known b g vs m.of h.0), parameters_known b g next ms h.1)
 
 -- what stands for an effect and for bounds
-pub forms_taken : (e : Option (List tree.RegionName)) (bs : List tree.Bound) → HaveTakenTypes (effect_form false e ++ bounds_form false bs)
-forms_taken None [] = tt
-forms_taken None (b ∷ bs) = (TakenFault, tt)
-forms_taken (Some []) [] = tt
-forms_taken (Some []) (b ∷ bs) = (TakenFault, tt)
-forms_taken (Some (r ∷ rs)) [] = (TakenFault, tt)
-forms_taken (Some (r ∷ rs)) (b ∷ bs) = (TakenFault, (TakenFault, tt))
+pub forms_taken : (b : Bool) (e : Option (List tree.RegionName)) (bs : List tree.Bound) → HaveTakenTypes b (effect_form b e ++ bounds_form b bs)
+forms_taken true e bs = tt
+forms_taken false None [] = tt
+forms_taken false None (x ∷ bs) = (TakenFault, tt)
+forms_taken false (Some []) [] = tt
+forms_taken false (Some []) (x ∷ bs) = (TakenFault, tt)
+forms_taken false (Some (r ∷ rs)) [] = (TakenFault, tt)
+forms_taken false (Some (r ∷ rs)) (x ∷ bs) = (TakenFault, (TakenFault, tt))
 
-pub all_taken_types : (ms others : List tree.Member) → HaveTakenTypes others → HaveTakenTypes (members_taken k ms ++ others)
-all_taken_types [] others h = h
-all_taken_types (m ∷ ms) others h = (taken_type m.of, all_taken_types ms others h)
+pub all_taken_types : (b : Bool) (ms others : List tree.Member) → HaveTakenTypes b others → HaveTakenTypes b (members_taken (k b) ms ++ others)
+all_taken_types b [] others h = h
+all_taken_types b (m ∷ ms) others h = (taken_type b m.of, all_taken_types b ms others h)
 
 -- ---- the scope of a body
 
@@ -151,19 +151,19 @@ with_kept (m ∷ ms) (t ∷ ts) g h c =
     by None h = tt
     by (Some t) h = h
 
-pub body_kept : (l : Bool) (g : Tables) (i : ℕ) (f : tree.Function) → AreNoOtherValues g
-    → HasCopiedAlone (body_scope l g i (function_taken k f) (head_of l g (function_taken k f)))
-body_kept l g i f h =
-    let y : tree.Function = function_taken k f in
-    with_kept y.parameters (head_of l g y).signature.parameters (function_scope l g i (head_of l g y)) (parameters_known g (variables [] 0) y.parameters
-    (all_taken_types f.parameters (effect_form false f.effect ++ bounds_form false f.bounds) (forms_taken f.effect f.bounds))) (tt, h)
+pub body_kept : (b l : Bool) (g : Tables) (i : ℕ) (f : tree.Function) → AreNoOtherValues g
+    → HasCopiedAlone (body_scope l g i (function_taken (k b) f) (head_of l g (function_taken (k b) f)))
+body_kept b l g i f h =
+    let y : tree.Function = function_taken (k b) f in
+    with_kept y.parameters (head_of l g y).signature.parameters (function_scope l g i (head_of l g y)) (parameters_known b g (variables [] 0) y.parameters
+    (all_taken_types b f.parameters (effect_form b f.effect ++ bounds_form b f.bounds) (forms_taken b f.effect f.bounds))) (tt, h)
 
 -- what a function gives
-signature_known : (l : Bool) (g : Tables) (f : tree.Function) → IsCopiedIfSome (head_of l g (function_taken k f)).signature.result
-signature_known l g f =
-    let y : tree.Function = function_taken k f in
+signature_known : (b l : Bool) (g : Tables) (f : tree.Function) → IsCopiedIfSome (head_of l g (function_taken (k b) f)).signature.result
+signature_known b l g f =
+    let y : tree.Function = function_taken (k b) f in
     let names : List RegionNamed = (read_parameters g (variables [] 0) y.parameters).variables_after.names in
-    known_copied (result_type g names y.result) (result_known g names y.result (taken_type f.result))
+    known_copied (result_type g names y.result) (result_known b g names y.result (taken_type b f.result))
 
 -- ---- globals
 
@@ -171,45 +171,45 @@ abbrev pub global_of : TypeName → tree.Name → Initial → tree.Global
 global_of t x i = record { of = t; name = x; initial = i }
 
 -- a global of a type that is taken, without a count of elements, or the fault that stands for another one
-pub data IsTakenGlobal : tree.Global → Type 0 where
-  TakenGlobal : {t : TypeName} {x : tree.Name} {i : Initial} → takes_type k t ≡ true → takes_initial k i ≡ true → IsTakenGlobal (global_of t x i)
-  GlobalFault : {at : ℕ} {x : tree.Name} → IsTakenGlobal (global_of (refused_type at) x Initial.Unset)
+pub data IsTakenGlobal (b : Bool) : tree.Global → Type 0 where
+  TakenGlobal : {t : TypeName} {x : tree.Name} {i : Initial} → takes_type (k b) t ≡ true → takes_initial (k b) i ≡ true → IsTakenGlobal b (global_of t x i)
+  GlobalFault : {at : ℕ} {x : tree.Name} → IsTakenGlobal b (global_of (refused_type at) x Initial.Unset)
 
-initial_uncounted : (t : TypeName) (i : Initial) → takes_initial k i ≡ true → takes_initial k (initial_taken k t i) ≡ true
-initial_uncounted t Initial.Unset e = refl
-initial_uncounted t (Initial.Given c) e = refl
-initial_uncounted t (Initial.Elements n) e = absurd cc
+initial_uncounted : (b : Bool) (t : TypeName) (i : Initial) → takes_initial (k b) i ≡ true → takes_initial (k b) (initial_taken (k b) t i) ≡ true
+initial_uncounted b t Initial.Unset e = refl
+initial_uncounted b t (Initial.Given c) e = refl
+initial_uncounted b t (Initial.Elements n) e = absurd cc
 
-pub taken_global : (x : tree.Global) → IsTakenGlobal (global_if (takes_type k x.of && takes_initial k x.initial) x
-    (initial_taken k x.of x.initial))
-taken_global x = by (takes_type k x.of && takes_initial k x.initial) refl
+pub taken_global : (b : Bool) (x : tree.Global) → IsTakenGlobal b (global_if (takes_type (k b) x.of && takes_initial (k b) x.initial) x
+    (initial_taken (k b) x.of x.initial))
+taken_global b x = by (takes_type (k b) x.of && takes_initial (k b) x.initial) refl
   where
-    by : (b : Bool) → takes_type k x.of && takes_initial k x.initial ≡ b
-        → IsTakenGlobal (global_if b x (initial_taken k x.of x.initial))
+    by : (c : Bool) → takes_type (k b) x.of && takes_initial (k b) x.initial ≡ c
+        → IsTakenGlobal b (global_if c x (initial_taken (k b) x.of x.initial))
     by false e = GlobalFault
     by true e =
-        let c : (takes_type k x.of ≡ true) × (takes_initial k x.initial ≡ true) =
-        and_is (takes_type k x.of) (takes_initial k x.initial) e in
-        TakenGlobal c.0 (initial_uncounted x.of x.initial c.1)
+        let c : (takes_type (k b) x.of ≡ true) × (takes_initial (k b) x.initial ≡ true) =
+        and_is (takes_type (k b) x.of) (takes_initial (k b) x.initial) e in
+        TakenGlobal c.0 (initial_uncounted b x.of x.initial c.1)
 
-type_known : (g : Env) (x : tree.Global) → takes_type k x.of ≡ true → IsCopiedIfKnown (global_type g x)
-type_known g x e =
+type_known : (b : Bool) (g : Env) (x : tree.Global) → takes_type (k b) x.of ≡ true → IsCopiedIfKnown (global_type g x)
+type_known b g x e =
     let names : List RegionNamed = foreign_names (spots_of g.tables x.of) in
     judged_after (λ t. IsCopied t) (λ t. IsCopied t) (after (written g.tables names x.of) (settled_alone x.of.at))
     (fitting_global g x.of.at (count_of x.initial) (has_none names))
-    (alone_copied x.of.at (written g.tables names x.of) (type_copied g.tables names x.of e))
+    (alone_copied x.of.at (written g.tables names x.of) (type_copied b g.tables names x.of e))
     (λ t c. fitting_copied g x.of.at (count_of x.initial) (has_none names && not (is_key t) && has_beginning g.tables t) t c)
 
-uncounted : (i : Initial) → takes_initial k i ≡ true → count_of i ≡ None
-uncounted Initial.Unset e = refl
-uncounted (Initial.Given c) e = refl
-uncounted (Initial.Elements n) e = absurd cc
+uncounted : (b : Bool) (i : Initial) → takes_initial (k b) i ≡ true → count_of i ≡ None
+uncounted b Initial.Unset e = refl
+uncounted b (Initial.Given c) e = refl
+uncounted b (Initial.Elements n) e = absurd cc
 
-pub global_known : (g : Env) (x : tree.Global) → IsTakenGlobal x → IsNoOtherValue (global_entry g x)
-global_known g x GlobalFault = tt
-global_known g x (TakenGlobal {t = t} {x = name} {i = i} c e) =
-    subst (λ n. IsNoOtherValue (OfValue (what_after (global_faults g x) (what_of TheHeap n (global_type g x))))) (sym (uncounted i e))
-    (what_clean (global_faults g x) (what_of TheHeap None (global_type g x)) (known_what TheHeap (global_type g x) (type_known g x c)))
+pub global_known : (b : Bool) (g : Env) (x : tree.Global) → IsTakenGlobal b x → IsNoOtherValue (global_entry g x)
+global_known b g x GlobalFault = tt
+global_known b g x (TakenGlobal {t = t} {x = name} {i = i} c e) =
+    subst (λ n. IsNoOtherValue (OfValue (what_after (global_faults g x) (what_of TheHeap n (global_type g x))))) (sym (uncounted b i e))
+    (what_clean (global_faults g x) (what_of TheHeap None (global_type g x)) (known_what TheHeap (global_type g x) (type_known b g x c)))
 
 -- ---- tables
 
@@ -222,55 +222,55 @@ one_more [] j h k = (k, tt)
 one_more (i ∷ js) j h k = (h.0, one_more js j h.1 k)
 
 -- the members of a struct or union that is taken, or of the one at fault that stands for it
-parts_known : (g : Env) (union : Bool) (ms : List tree.Member) → HaveTakenTypes ms → AreCopiedParts (parts_by g union ms)
-parts_known g union [] h = tt
-parts_known g union (m ∷ ms) h = (known_copied (member_type g union m.of) (by h.0), parts_known g union ms h.1)
+parts_known : (b : Bool) (g : Env) (union : Bool) (ms : List tree.Member) → HaveTakenTypes b ms → AreCopiedParts (parts_by g union ms)
+parts_known b g union [] h = tt
+parts_known b g union (m ∷ ms) h = (known_copied (member_type g union m.of) (by h.0), parts_known b g union ms h.1)
   where
-    by : {t : TypeName} → IsTakenType t → IsCopiedIfKnown (member_type g union t)
+    by : {t : TypeName} → IsTakenType b t → IsCopiedIfKnown (member_type g union t)
     by TakenFault = tt
     by (TakenPlain {t = t} e) =
         judged_after (λ t. IsCopied t) (λ t. IsCopied t) (after (written g.tables g.names t) (settled_alone t.at)) (member_fitting g union t.at)
-        (alone_copied t.at (written g.tables g.names t) (type_copied g.tables g.names t e))
+        (alone_copied t.at (written g.tables g.names t) (type_copied b g.tables g.names t e))
         (λ u c. fits_copied (fits_member union u && stands_earlier g u) t.at u c)
 
-members_typed : (ms : List tree.Member) → HaveTakenTypes (members_taken k ms)
-members_typed [] = tt
-members_typed (m ∷ ms) = (taken_type m.of, members_typed ms)
+members_typed : (b : Bool) (ms : List tree.Member) → HaveTakenTypes b (members_taken (k b) ms)
+members_typed b [] = tt
+members_typed b (m ∷ ms) = (taken_type b m.of, members_typed b ms)
 
-tag_parts_known : (g : Tables) (i : ℕ) (union b : Bool) (s : tree.Structure)
-    → AreCopiedParts (tag_parts g i union (structure_if b s (members_taken k s.members)))
-tag_parts_known g i union true s =
-    let y : tree.Structure = structure_if true s (members_taken k s.members) in
-    parts_known (tag_scope g i y) union y.members (members_typed s.members)
-tag_parts_known g i union false s = (tt, tt)
+tag_parts_known : (b : Bool) (g : Tables) (i : ℕ) (union takes : Bool) (s : tree.Structure)
+    → AreCopiedParts (tag_parts g i union (structure_if takes s (members_taken (k b) s.members)))
+tag_parts_known b g i union true s =
+    let y : tree.Structure = structure_if true s (members_taken (k b) s.members) in
+    parts_known b (tag_scope g i y) union y.members (members_typed b s.members)
+tag_parts_known b g i union false s = (tt, tt)
 
-tag_known : (g : Tables) (i : ℕ) (x : Item) → IsNoOtherValue (judged_tag g i (item_taken k x)).entry.entry
-tag_known g i (tree.StructItem s) = tag_parts_known g i false (takes_structure k true s) s
-tag_known g i (tree.UnionItem u) = tag_parts_known g i true (takes_structure k false u) u
-tag_known g i (tree.GlobalItem x) = tt
-tag_known g i (tree.FunctionItem f) = tt
+tag_known : (b : Bool) (g : Tables) (i : ℕ) (x : Item) → IsNoOtherValue (judged_tag g i (item_taken (k b) x)).entry.entry
+tag_known b g i (tree.StructItem s) = tag_parts_known b g i false (takes_structure (k b) true s) s
+tag_known b g i (tree.UnionItem u) = tag_parts_known b g i true (takes_structure (k b) false u) u
+tag_known b g i (tree.GlobalItem x) = tt
+tag_known b g i (tree.FunctionItem f) = tt
 
-tags_known : (i : ℕ) (done : List Judged) (xs : List Item) (later : Tables) → AreNoOtherEntries done
-    → AreNoOtherEntries (tags_from i done (only_taken k xs) later)
-tags_known i done [] later h = h
-tags_known i done (x ∷ xs) [] h = h
-tags_known i done (x ∷ xs) (n ∷ later) h =
-    let j : Judged = judged_tag (builtins (entries done ++ n ∷ later)) i (item_taken k x) in
-    tags_known (suc i) (done ++ j ∷ []) xs later (one_more done j h (tag_known (builtins (entries done ++ n ∷ later)) i x))
+tags_known : (b : Bool) (i : ℕ) (done : List Judged) (xs : List Item) (later : Tables) → AreNoOtherEntries done
+    → AreNoOtherEntries (tags_from i done (only_taken (k b) xs) later)
+tags_known b i done [] later h = h
+tags_known b i done (x ∷ xs) [] h = h
+tags_known b i done (x ∷ xs) (n ∷ later) h =
+    let j : Judged = judged_tag (builtins (entries done ++ n ∷ later)) i (item_taken (k b) x) in
+    tags_known b (suc i) (done ++ j ∷ []) xs later (one_more done j h (tag_known b (builtins (entries done ++ n ∷ later)) i x))
 
-entries_known : (l : Bool) (g : Tables) (i : ℕ) (js : List Judged) (p : List Item) → AreNoOtherEntries js
-    → AreNoOtherValues (entries_with l g i js (only_taken k p))
-entries_known l g i [] p h = tt
-entries_known l g i (j ∷ js) [] h = tt
-entries_known l g i (j ∷ js) (tree.StructItem s ∷ p) h = (h.0, entries_known l g (suc i) js p h.1)
-entries_known l g i (j ∷ js) (tree.UnionItem u ∷ p) h = (h.0, entries_known l g (suc i) js p h.1)
-entries_known l g i (j ∷ js) (tree.GlobalItem x ∷ p) h =
-    let y : tree.Global = global_if (takes_type k x.of && takes_initial k x.initial) x (initial_taken k x.of x.initial) in
-    (global_known (at_item l g i) y (taken_global x), entries_known l g (suc i) js p h.1)
-entries_known l g i (j ∷ js) (tree.FunctionItem f ∷ p) h = (signature_known l g f, entries_known l g (suc i) js p h.1)
+entries_known : (b l : Bool) (g : Tables) (i : ℕ) (js : List Judged) (p : List Item) → AreNoOtherEntries js
+    → AreNoOtherValues (entries_with l g i js (only_taken (k b) p))
+entries_known b l g i [] p h = tt
+entries_known b l g i (j ∷ js) [] h = tt
+entries_known b l g i (j ∷ js) (tree.StructItem s ∷ p) h = (h.0, entries_known b l g (suc i) js p h.1)
+entries_known b l g i (j ∷ js) (tree.UnionItem u ∷ p) h = (h.0, entries_known b l g (suc i) js p h.1)
+entries_known b l g i (j ∷ js) (tree.GlobalItem x ∷ p) h =
+    let y : tree.Global = global_if (takes_type (k b) x.of && takes_initial (k b) x.initial) x (initial_taken (k b) x.of x.initial) in
+    (global_known b (at_item l g i) y (taken_global b x), entries_known b l g (suc i) js p h.1)
+entries_known b l g i (j ∷ js) (tree.FunctionItem f ∷ p) h = (signature_known b l g f, entries_known b l g (suc i) js p h.1)
 
-pub tables_known : (l : Bool) (p : Program) → AreNoOtherValues (tables_of l (only_taken k p))
-tables_known l p =
-    let q : Program = only_taken k p in
+pub tables_known : (b l : Bool) (p : Program) → AreNoOtherValues (tables_of l (only_taken (k b) p))
+tables_known b l p =
+    let q : Program = only_taken (k b) p in
     let js : List Judged = judged_tags q in
-    (tt, (tt, entries_known l (builtins (entries js)) 0 js p (tags_known 0 [] p (first_from (builtins (bare_from 0 q)) 0 q) tt)))
+    (tt, (tt, entries_known b l (builtins (entries js)) 0 js p (tags_known b 0 [] p (first_from (builtins (bare_from 0 q)) 0 q) tt)))

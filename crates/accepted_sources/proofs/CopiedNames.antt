@@ -1,5 +1,5 @@
--- What names are where thin pointers and structs are taken, and each other form stands as a fault: variables of copied types, variables of no known type,
--- functions that give such a type, and structs and unions of parts of such types. Then all such types are copied.
+-- What names are where no form is taken but those of copied values: variables of copied types, variables of no known type, functions that give such a type,
+-- and structs and unions of parts of such types. Then all such types are copied.
 use Rattle.std.proofs.Common.{◌≡◌, ℕ, zero, suc, Bool, true, false, Option, Some, None, List, [], ◌∷◌, refl, ap₂}
 use Rattle.std.specs.Prelude.{bytes_eq, if◌then◌else◌, length, ◌&&◌}
 use Rattle.cyc_tree.specs.Tree as tree
@@ -122,7 +122,7 @@ copied_to n g k Null h = refl
 copied_to n g k (Thin m r t) h = refl
 copied_to n g k (Fat r t) h = absurd h
 copied_to n g k (Unique m t) h = absurd h
-copied_to n g k (Handle r) h = absurd h
+copied_to n g k (Handle r) h = refl
 copied_to n g k (Key r) h = absurd h
 copied_to zero g k (Struct tag rs) h = refl
 copied_to (suc n) g k (Struct tag rs) h = parts_copyable (copies n g) (λ t c. copied_to n g k t c) (parts_in g tag) (parts_found g tag k)

@@ -1,24 +1,26 @@
--- What is in scope after a declaration, where thin pointers and structs are taken, and each other form stands as a fault: variables of copied types.
+-- What is in scope after a declaration, where no form is taken but those of copied values: variables of copied types.
 use Rattle.std.proofs.Common.{◌≡◌, ℕ, Bool, true, false, Option, Some, None, refl}
 use Rattle.std.specs.Prelude.{◌&&◌, ◌||◌}
 use Rattle.cyc_tree.specs.Tree as tree
 use Rattle.cyc_tree.specs.Tree.{Initializer, TypeName}
-use Rattle.source_typing.specs.Declarations.{declare, fitting_local, local_type, misses_region, set_faults, set_type, taken_from, type_in_scope}
-use Rattle.source_typing.specs.Declarations.{unset_type, what_after, what_of}
+use Rattle.source_typing.specs.Declarations.{declare, fitting_local, local_type, misses_region, region_of, set_faults, set_type, taken_from, type_in_scope}
+use Rattle.source_typing.specs.Declarations.{unset_type, what_after, what_of, with_region}
 use Rattle.source_typing.specs.Expressions.{judge}
 use Rattle.source_typing.specs.Missing.{settled}
-use Rattle.source_typing.specs.Scope.{Env, Value, in_scope}
-use Rattle.source_typing.specs.Tables.{Unknown, has_beginning}
-use Rattle.source_typing.specs.Taken.{Taken, declaration_taken, declared_if, initializer_taken, refused_type, region_structures, taken}
+use Rattle.source_typing.specs.Regions.{with_scope}
+use Rattle.source_typing.specs.Scope.{Env, Value, in_scope, next_region}
+use Rattle.source_typing.specs.Tables.{Stored, Unknown, has_beginning}
+use Rattle.source_typing.specs.Taken.{Taken, declaration_taken, declared_if, initializer_taken, refused_type, taken}
 use Rattle.source_typing.specs.Taken.{takes_initializer, takes_type}
-use Rattle.source_typing.specs.Types.{PartialType, StaticType}
+use Rattle.source_typing.specs.Types.{Handle, PartialType, StaticType}
 use Rattle.source_typing.specs.Verdicts.{Faulty, Of, Unjudged, Verdict}
 use Rattle.source_typing.proofs.Converting.{and_is}
 use Rattle.accepted_sources.proofs.CopiedExpressions.{judge_copied}
 use Rattle.accepted_sources.proofs.CopiedValues.{GivesCopied}
 use Rattle.accepted_sources.proofs.CopiedNames.{HasCopiedAlone, known_what, local_kept, what_clean}
 use Rattle.accepted_sources.proofs.CopiedTypes.{IsCopied, IsCopiedIfKnown, IsCopiedIfSome, fitting_copied}
-use Rattle.accepted_sources.proofs.CopiedTypes.{judged_after, settled_copied, type_copied}
+use Rattle.accepted_sources.proofs.CopiedTypes.{judged_after, settled_copied}
+use Rattle.accepted_sources.proofs.CopiedWritten.{copied_forms, type_copied}
 
 -- ---- types of locals
 
@@ -34,18 +36,18 @@ from_copied g at true Unjudged p h c = tt
 from_copied g at true (Of v) p h c = local_copied g at None true (Some v.type) p h c.0
 from_copied g at false v p h c = local_copied g at None true None p h tt
 
-abbrev k : Taken
-k = region_structures
+abbrev k : Bool → Taken
+k b = copied_forms b
 
-unset_copied : (g : Env) (t : TypeName) → takes_type k t ≡ true → IsCopiedIfKnown (unset_type g t None)
-unset_copied g t e =
+unset_copied : (b : Bool) (g : Env) (t : TypeName) → takes_type (k b) t ≡ true → IsCopiedIfKnown (unset_type g t None)
+unset_copied b g t e =
     judged_after (λ (p : PartialType). IsCopied p) (λ u. IsCopied u) (type_in_scope g t) (local_type g t.at None false None)
-    (type_copied (in_scope g) g.names t e) (λ p h. local_copied g t.at None false None p h tt)
+    (type_copied b (in_scope g) g.names t e) (λ p h. local_copied g t.at None false None p h tt)
 
-set_copied : (g : Env) (t : TypeName) (v : Verdict Value) → takes_type k t ≡ true → GivesCopied v → IsCopiedIfKnown (set_type g t v)
-set_copied g t v e c =
+set_copied : (b : Bool) (g : Env) (t : TypeName) (v : Verdict Value) → takes_type (k b) t ≡ true → GivesCopied v → IsCopiedIfKnown (set_type g t v)
+set_copied b g t v e c =
     judged_after (λ (p : PartialType). IsCopied p) (λ u. IsCopied u) (type_in_scope g t) (taken_from g t.at (misses_region g t) v)
-    (type_copied (in_scope g) g.names t e) (λ p h. from_copied g t.at (misses_region g t) v p h c)
+    (type_copied b (in_scope g) g.names t e) (λ p h. from_copied g t.at (misses_region g t) v p h c)
 
 -- ---- declarations
 
@@ -54,27 +56,42 @@ refused_kept : (g : Env) (at : ℕ) (x : tree.Name) → HasCopiedAlone g → Has
 refused_kept g at x h = local_kept x Unknown g tt h
 
 -- one that is taken
-plain_kept : (g : Env) (t : TypeName) (x : tree.Name) (i : Initializer) → takes_type k t ≡ true → takes_initializer k i ≡ true → HasCopiedAlone g
-    → HasCopiedAlone (declare g (tree.Local t x (initializer_taken k i))).scope
-plain_kept g t x Initializer.Unset c e h =
-    local_kept x (what_of g.frame None (unset_type g t None)) g (known_what g.frame (unset_type g t None) (unset_copied g t c)) h
-plain_kept g t x (Initializer.Elements n) c e h = absurd cc
-plain_kept g t x (Initializer.Value a) c e h =
-    let v : Verdict Value = judge g (taken k a) in
+plain_kept : (b : Bool) (g : Env) (t : TypeName) (x : tree.Name) (i : Initializer) → takes_type (k b) t ≡ true → takes_initializer (k b) i ≡ true
+    → HasCopiedAlone g
+    → HasCopiedAlone (declare g (tree.Local t x (initializer_taken (k b) i))).scope
+plain_kept b g t x Initializer.Unset c e h =
+    local_kept x (what_of g.frame None (unset_type g t None)) g (known_what g.frame (unset_type g t None) (unset_copied b g t c)) h
+plain_kept b g t x (Initializer.Elements n) c e h = absurd cc
+plain_kept b g t x (Initializer.Value a) c e h =
+    let v : Verdict Value = judge g (taken (k b) a) in
     local_kept x (what_after (set_faults g v (set_type g t v)) (what_of g.frame None (set_type g t v))) g
     (what_clean (set_faults g v (set_type g t v)) (what_of g.frame None (set_type g t v))
-    (known_what g.frame (set_type g t v) (set_copied g t v c (judge_copied a g h)))) h
+    (known_what g.frame (set_type g t v) (set_copied b g t v c (judge_copied b a g h)))) h
 
-pub declared_kept : (d : tree.Declaration) (g : Env) → HasCopiedAlone g → HasCopiedAlone (declare g (declaration_taken k d)).scope
-declared_kept (tree.Region at r x) g h = refused_kept g at x h
-declared_kept (tree.Open at r x y) g h = refused_kept g at x h
-declared_kept (tree.Alias at r u x y) g h = refused_kept g at x h
-declared_kept (tree.NewKey at r x) g h = refused_kept g at x h
-declared_kept (tree.Local t x i) g h = by (takes_type k t && takes_initializer k i) refl
+-- a lexical region, with its handle
+handle_kept : (g : Env) (r : tree.RegionName) (x : tree.Name) → HasCopiedAlone g → HasCopiedAlone (region_of g r x (λ a. Handle a) with_scope).scope
+handle_kept g r x h = local_kept x (Stored (Handle (next_region g)) g.frame) (with_region r with_scope g) tt (named r)
   where
-    by : (b : Bool) → takes_type k t && takes_initializer k i ≡ b
-        → HasCopiedAlone (declare g (declared_if b t.at (tree.Local t x (initializer_taken k i)))).scope
+    named : (r : tree.RegionName) → HasCopiedAlone (with_region r with_scope g)
+    named (tree.Named n) = h
+    named (tree.Heap at) = h
+    named (tree.Unique at) = h
+
+region_kept : (b : Bool) (g : Env) (at : ℕ) (r : tree.RegionName) (x : tree.Name) → HasCopiedAlone g
+    → HasCopiedAlone (declare g (declared_if b at (tree.Region at r x))).scope
+region_kept true g at r x h = handle_kept g r x h
+region_kept false g at r x h = refused_kept g at x h
+
+pub declared_kept : (b : Bool) (d : tree.Declaration) (g : Env) → HasCopiedAlone g → HasCopiedAlone (declare g (declaration_taken (k b) d)).scope
+declared_kept b (tree.Region at r x) g h = region_kept b g at r x h
+declared_kept b (tree.Open at r x y) g h = refused_kept g at x h
+declared_kept b (tree.Alias at r u x y) g h = refused_kept g at x h
+declared_kept b (tree.NewKey at r x) g h = refused_kept g at x h
+declared_kept b (tree.Local t x i) g h = by (takes_type (k b) t && takes_initializer (k b) i) refl
+  where
+    by : (c : Bool) → takes_type (k b) t && takes_initializer (k b) i ≡ c
+        → HasCopiedAlone (declare g (declared_if c t.at (tree.Local t x (initializer_taken (k b) i)))).scope
     by true e =
-        let c : (takes_type k t ≡ true) × (takes_initializer k i ≡ true) = and_is (takes_type k t) (takes_initializer k i) e in
-        plain_kept g t x i c.0 c.1 h
+        let c : (takes_type (k b) t ≡ true) × (takes_initializer (k b) i ≡ true) = and_is (takes_type (k b) t) (takes_initializer (k b) i) e in
+        plain_kept b g t x i c.0 c.1 h
     by false e = refused_kept g t.at x h

@@ -1,8 +1,10 @@
 pub mod StillStates
 pub mod CopiedTypes
+pub mod CopiedWritten
 pub mod CopiedNames
 pub mod CopiedValues
 pub mod CopiedPlaces
+pub mod CopiedMakings
 pub mod CopiedExpressions
 pub mod CopiedScopes
 pub mod IdleExpressions

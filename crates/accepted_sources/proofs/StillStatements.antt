@@ -1,4 +1,4 @@
--- A statement leaves the states of all locals as they are, where thin pointers and structs are taken, and each other form stands as a fault.
+-- A statement leaves the states of all locals as they are, where no form is taken but those of copied values.
 use Rattle.std.proofs.Common.{◌≡◌, Bool, true, false, Option, Some, None, refl, ap}
 use Rattle.std.specs.Prelude.{◌&&◌, []}
 use Rattle.cyc_tree.specs.Tree as tree
@@ -16,7 +16,6 @@ use Rattle.source_typing.specs.Taken.{
   declared_if,
   initializer_taken,
   items_taken,
-  region_structures,
   result_taken,
   statement_taken,
   taken,
@@ -25,6 +24,7 @@ use Rattle.source_typing.specs.Taken.{
 }
 use Rattle.accepted_sources.proofs.IdleExpressions.{use_idle}
 use Rattle.accepted_sources.proofs.CopiedNames.{HasCopiedAlone}
+use Rattle.accepted_sources.proofs.CopiedWritten.{copied_forms}
 use Rattle.accepted_sources.proofs.CopiedScopes.{declared_kept}
 use Rattle.accepted_sources.proofs.StillStates.{
   AreStill,
@@ -38,74 +38,78 @@ use Rattle.accepted_sources.proofs.StillStates.{
   sequence_still,
 }
 
-abbrev k : Taken
-k = region_structures
+abbrev k : Bool → Taken
+k b = copied_forms b
 
 -- ---- expressions in statements
 
-value_still : (e : Expression) (g : Env) → HasCopiedAlone g → (use_of g (taken k e)).value ≡ nothing
-value_still e g h = ap (λ u. u.value) (use_idle e g h)
+value_still : (b : Bool) (e : Expression) (g : Env) → HasCopiedAlone g → (use_of g (taken (k b) e)).value ≡ nothing
+value_still b e g h = ap (λ u. u.value) (use_idle b e g h)
 
-look_still : (e : Expression) (g : Env) → HasCopiedAlone g → (use_of g (taken k e)).look ≡ nothing
-look_still e g h = ap (λ u. u.look) (use_idle e g h)
+look_still : (b : Bool) (e : Expression) (g : Env) → HasCopiedAlone g → (use_of g (taken (k b) e)).look ≡ nothing
+look_still b e g h = ap (λ u. u.look) (use_idle b e g h)
 
 -- the value of a `return`
-result_still : (v : Option Expression) (g : Env) → HasCopiedAlone g → (s : States) → (result_value g (result_taken k v) s).faults ≡ []
-result_still None g h s = refl
-result_still (Some e) g h s = ap (λ (act : States → Passed). (act s).faults) (value_still e g h)
+result_still : (b : Bool) (v : Option Expression) (g : Env) → HasCopiedAlone g → (s : States) → (result_value g (result_taken (k b) v) s).faults ≡ []
+result_still b None g h s = refl
+result_still b (Some e) g h s = ap (λ (act : States → Passed). (act s).faults) (value_still b e g h)
 
 -- ---- declarations
 
 -- a declaration and the rest of its block
-declares_still : (d : tree.Declaration) (g inside : Env) (rest : States → Left) → HasCopiedAlone g → AreStill rest → (s : States)
-    → IsStill s (declares g inside (declaration_taken k d) rest s)
-declares_still (tree.Region at r x) g inside rest h c s = after_still nothing (entering g inside rest) refl (entering_still g inside rest c) s
-declares_still (tree.Open at r x y) g inside rest h c s = after_still nothing (entering g inside rest) refl (entering_still g inside rest c) s
-declares_still (tree.Alias at r u x y) g inside rest h c s = after_still nothing (entering g inside rest) refl (entering_still g inside rest c) s
-declares_still (tree.NewKey at r x) g inside rest h c s = after_still nothing (entering g inside rest) refl (entering_still g inside rest c) s
-declares_still (tree.Local t x i) g inside rest h c s = by (takes_type k t && takes_initializer k i) i
+declares_still : (b : Bool) (d : tree.Declaration) (g inside : Env) (rest : States → Left) → HasCopiedAlone g → AreStill rest → (s : States)
+    → IsStill s (declares g inside (declaration_taken (k b) d) rest s)
+declares_still b (tree.Region at r x) g inside rest h c s = by b
+  where
+    by : (c : Bool) → IsStill s (declares g inside (declared_if c at (tree.Region at r x)) rest s)
+    by true = entering_still g inside rest c s
+    by false = after_still nothing (entering g inside rest) refl (entering_still g inside rest c) s
+declares_still b (tree.Open at r x y) g inside rest h c s = after_still nothing (entering g inside rest) refl (entering_still g inside rest c) s
+declares_still b (tree.Alias at r u x y) g inside rest h c s = after_still nothing (entering g inside rest) refl (entering_still g inside rest c) s
+declares_still b (tree.NewKey at r x) g inside rest h c s = after_still nothing (entering g inside rest) refl (entering_still g inside rest c) s
+declares_still b (tree.Local t x i) g inside rest h c s = by (takes_type (k b) t && takes_initializer (k b) i) i
   where
     rests : AreStill (entering g inside rest)
     rests = entering_still g inside rest c
 
-    by : (b : Bool) (i : Initializer) → IsStill s (declares g inside (declared_if b t.at (tree.Local t x (initializer_taken k i))) rest s)
+    by : (c : Bool) (i : Initializer) → IsStill s (declares g inside (declared_if c t.at (tree.Local t x (initializer_taken (k b) i))) rest s)
     by false i = after_still nothing (entering g inside rest) refl rests s
     by true Initializer.Unset = after_still nothing (entering g inside rest) refl rests s
     by true (Initializer.Elements n) = after_still nothing (entering g inside rest) refl rests s
-    by true (Initializer.Value e) = after_still (use_of g (taken k e)).value (entering g inside rest) (value_still e g h) rests s
+    by true (Initializer.Value e) = after_still (use_of g (taken (k b) e)).value (entering g inside rest) (value_still b e g h) rests s
 
 -- ---- statements
 
 mutual
-  pub statement_still : (x : Statement) (g : Env) → HasCopiedAlone g → (s : States) → IsStill s (left_by g (statement_taken k x) s)
-  statement_still (Statement.Empty at) g h s = ended_still s
-  statement_still (Statement.Block at items) g h s = items_still items (block_entered g) h s
-  statement_still (Statement.Run e) g h s = fallen_still (use_of g (taken k e)).value (value_still e g h) s
-  statement_still (Statement.Exchange a b) g h s = ended_still s
-  statement_still (Statement.If at e body) g h s =
-      after_still (use_of g (taken k e)).look (λ t. either (left_by g (statement_taken k body) t) (left (Some t) None None []))
-      (look_still e g h)
-      (λ t. either_still t (left_by g (statement_taken k body) t) (left (Some t) None None []) (statement_still body g h t) (ended_still t)) s
-  statement_still (Statement.IfElse at e body otherwise) g h s =
-      after_still (use_of g (taken k e)).look
-      (λ t. either (left_by g (statement_taken k body) t) (left_by g (statement_taken k otherwise) t)) (look_still e g h)
-      (λ t. either_still t (left_by g (statement_taken k body) t) (left_by g (statement_taken k otherwise) t) (statement_still body g h t)
-      (statement_still otherwise g h t)) s
-  statement_still (Statement.While at e body) g h s =
-      loop_still (use_of g (taken k e)).look (λ t. left_by (in_a_loop g) (statement_taken k body) t) (look_still e g h)
-      (λ t. statement_still body (in_a_loop g) h t) s
-  statement_still (Statement.Switch at e cs) g h s = ended_still s
-  statement_still (Statement.Break at) g h s = record { falls = tt; breaks = refl; continues = tt; faults = refl }
-  statement_still (Statement.Continue at) g h s = record { falls = tt; breaks = tt; continues = refl; faults = refl }
-  statement_still (Statement.Return at v) g h s = record { falls = tt; breaks = tt; continues = tt; faults = result_still v g h s }
-  statement_still (Statement.FreeUnique at p) g h s = ended_still s
-  statement_still (Statement.FreeKey at k) g h s = ended_still s
+  pub statement_still : (b : Bool) (x : Statement) (g : Env) → HasCopiedAlone g → (s : States) → IsStill s (left_by g (statement_taken (k b) x) s)
+  statement_still b (Statement.Empty at) g h s = ended_still s
+  statement_still b (Statement.Block at items) g h s = items_still b items (block_entered g) h s
+  statement_still b (Statement.Run e) g h s = fallen_still (use_of g (taken (k b) e)).value (value_still b e g h) s
+  statement_still b (Statement.Exchange x y) g h s = ended_still s
+  statement_still b (Statement.If at e body) g h s =
+      after_still (use_of g (taken (k b) e)).look (λ t. either (left_by g (statement_taken (k b) body) t) (left (Some t) None None []))
+      (look_still b e g h)
+      (λ t. either_still t (left_by g (statement_taken (k b) body) t) (left (Some t) None None []) (statement_still b body g h t) (ended_still t)) s
+  statement_still b (Statement.IfElse at e body otherwise) g h s =
+      after_still (use_of g (taken (k b) e)).look
+      (λ t. either (left_by g (statement_taken (k b) body) t) (left_by g (statement_taken (k b) otherwise) t)) (look_still b e g h)
+      (λ t. either_still t (left_by g (statement_taken (k b) body) t) (left_by g (statement_taken (k b) otherwise) t) (statement_still b body g h t)
+      (statement_still b otherwise g h t)) s
+  statement_still b (Statement.While at e body) g h s =
+      loop_still (use_of g (taken (k b) e)).look (λ t. left_by (in_a_loop g) (statement_taken (k b) body) t) (look_still b e g h)
+      (λ t. statement_still b body (in_a_loop g) h t) s
+  statement_still b (Statement.Switch at e cs) g h s = ended_still s
+  statement_still b (Statement.Break at) g h s = record { falls = tt; breaks = refl; continues = tt; faults = refl }
+  statement_still b (Statement.Continue at) g h s = record { falls = tt; breaks = tt; continues = refl; faults = refl }
+  statement_still b (Statement.Return at v) g h s = record { falls = tt; breaks = tt; continues = tt; faults = result_still b v g h s }
+  statement_still b (Statement.FreeUnique at p) g h s = ended_still s
+  statement_still b (Statement.FreeKey at y) g h s = ended_still s
 
-  pub items_still : (x : BlockItems) (g : Env) → HasCopiedAlone g → (s : States) → IsStill s (left_by_items g (items_taken k x) s)
-  items_still NoItems g h s = ended_still s
-  items_still (Declare d others) g h s =
-      let inside : Env = (declare g (declaration_taken k d)).scope in
-      declares_still d g inside (λ t. left_by_items inside (items_taken k others) t) h (items_still others inside (declared_kept d g h)) s
-  items_still (Execute x others) g h s =
-      sequence_still s (left_by g (statement_taken k x) s) (λ t. left_by_items g (items_taken k others) t) (statement_still x g h s)
-      (items_still others g h)
+  pub items_still : (b : Bool) (x : BlockItems) (g : Env) → HasCopiedAlone g → (s : States) → IsStill s (left_by_items g (items_taken (k b) x) s)
+  items_still b NoItems g h s = ended_still s
+  items_still b (Declare d others) g h s =
+      let inside : Env = (declare g (declaration_taken (k b) d)).scope in
+      declares_still b d g inside (λ t. left_by_items inside (items_taken (k b) others) t) h (items_still b others inside (declared_kept b d g h)) s
+  items_still b (Execute x others) g h s =
+      sequence_still s (left_by g (statement_taken (k b) x) s) (λ t. left_by_items g (items_taken (k b) others) t) (statement_still b x g h s)
+      (items_still b others g h)

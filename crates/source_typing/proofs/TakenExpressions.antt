@@ -79,7 +79,7 @@ differs : {A : Type 0} (b : Bool) (x y : A) → b ≡ false → b ≡ true → x
 differs true x y e f = absurd cc
 differs false x y e f = absurd cc
 
-unique_kept : (k : Taken) (h : Expression) → is_unique_region (taken k h) ≡ true → taken k h ≡ h
+pub unique_kept : (k : Taken) (h : Expression) → is_unique_region (taken k h) ≡ true → taken k h ≡ h
 unique_kept k (Expression.UniqueRegion at) e = refl
 unique_kept k (Expression.Grouped at h) e = ap (λ z. Expression.Grouped at z) (unique_kept k h e)
 unique_kept k (Expression.Number at n suffix) e = refl

@@ -1,5 +1,5 @@
 -- What a local without an initializer begins with: the source makes it so, and Core's code stores it.
-use Rattle.std.proofs.Common.{◌≡◌, inl, ℕ, zero, suc, ◌+◌, ◌≤◌, List, [], ◌∷◌, Bool, true, false, Option, Some, None, refl, sym, ap, ◌∙◌, subst, arith}
+use Rattle.std.proofs.Common.{◌≡◌, inl, ℕ, zero, suc, ◌+◌, ◌≤◌, List, [], ◌∷◌, Bool, true, false, Option, Some, None, refl, sym, ap, ◌∙◌, subst, arith, eq-eqb}
 use Rattle.std.specs.Prelude.{map, slice_get}
 use Rattle.source_meaning.specs.Shapes.{
   Shape,
@@ -53,14 +53,14 @@ use Rattle.source_lowering.specs.Layouts.{first_part, layout_of}
 use Rattle.source_lowering.specs.Programs.{first_code, unset_code}
 use Rattle.source_lowering.specs.Taken.{HasFirst}
 use Rattle.source_lowering.specs.Lowerable.{IsObject, AreStructs, HasBeginning}
-use Rattle.source_lowering.proofs.Relations.{at, PartIs, PartsHold, ArePending, Shown, Agree, Later, Place, Fits, SameAt, Next, around, Bound, activation, within}
+use Rattle.source_lowering.proofs.Relations.{at, PartIs, PartsHold, ArePending, Shown, Agree, Later, Place, Fits, SameAt, Next, AreKept, around, Bound, activation, within}
 use Rattle.core_meaning.proofs.Spots.{spot_self}
 use Rattle.source_lowering.proofs.Keeping.{later_on, fits_later, named_free}
 use Rattle.source_lowering.proofs.Runs.{stuck_same}
 use Rattle.source_lowering.proofs.Integers.{IsWordShape}
 use Rattle.source_lowering.proofs.Cells.{IsPlain, plain_of}
 use Rattle.source_lowering.proofs.Making.{local_spot, cell_spot, cell_with, m_made, grown_later, ahead_later, agree_ahead}
-use Rattle.source_lowering.proofs.Values.{put_temp}
+use Rattle.source_lowering.proofs.Values.{kept_temp, put_temp}
 use Rattle.source_lowering.proofs.StructCells.{AreWordShapes, object_cells}
 use Rattle.source_lowering.proofs.Clearing.{element_there, cleared_here, cleared_later, agree_cleared, layout_first, made_at}
 use Rattle.source_lowering.proofs.Declaring.{with_local, part_to_come, local_fits, part_with, put_here, no_cell}
@@ -70,14 +70,14 @@ use Rattle.source_lowering.proofs.Declaring.{with_local, part_to_come, local_fit
 record IsFirst (shape : Shape) : Type 0 where
   content : Content
   fits : fitting (width_of shape) content ≡ content
-  does : (next : Config → core_steps.Step) (c : Config) → does (first_code shape) next c ≡ next (with_temp 0 content c)
+  does : (d : ℕ) (next : Config → core_steps.Step) (c : Config) → does (first_code shape d) next c ≡ next (with_temp d content c)
   part : first_part shape ≡ content
 
 first_of : (shape : Shape) → HasFirst shape → IsFirst shape
-first_of IntShape h = record { content = Word 0; fits = refl; does = λ next c. refl; part = refl }
-first_of UnsignedShape h = record { content = Word 0; fits = refl; does = λ next c. refl; part = refl }
-first_of CharShape h = record { content = Word 0; fits = refl; does = λ next c. refl; part = refl }
-first_of (ThinShape true owner to) h = record { content = Null; fits = refl; does = λ next c. refl; part = refl }
+first_of IntShape h = record { content = Word 0; fits = refl; does = λ d next c. refl; part = refl }
+first_of UnsignedShape h = record { content = Word 0; fits = refl; does = λ d next c. refl; part = refl }
+first_of CharShape h = record { content = Word 0; fits = refl; does = λ d next c. refl; part = refl }
+first_of (ThinShape true owner to) h = record { content = Null; fits = refl; does = λ d next c. refl; part = refl }
 first_of (ThinShape false owner to) h = absurd h
 first_of VoidShape h = absurd h
 first_of (FatShape to) h = absurd h
@@ -108,7 +108,7 @@ first_shown w m c s v h e = by s h e
     by (ThinShape false owner to) h e = absurd (none source.Blank refl e)
     by VoidShape h e = absurd h
     by (FatShape to) h e = absurd h
-    by HandleShape h e = absurd h
+    by HandleShape h e = absurd (none source.Blank refl e)
     by KeyShape h e = absurd h
     by (StructShape tag) h e = absurd h
     by (UnionShape tag) h e = absurd h
@@ -193,7 +193,8 @@ declared_by p n scope name shape then_act next m code world frame count goes =
 
 -- what comes after a declaration without an initializer
 pub record BeginsIn (p q : Place) (n : ℕ) (m0 : source.Memory) (c0 : Config) (s : source.Memory → steps.Step) (k : Config → core_steps.Step) : Type 0 where
-  pub go : (m : source.Memory) (c : Config) → Fits q m c → Later (around p p.frame) m0 c0.memory m c.memory → activation c ≡ activation c0 → SameAt p n (s m) (k c)
+  pub go : (m : source.Memory) (c : Config) → Fits q m c → Later (around p p.frame) m0 c0.memory m c.memory → activation c ≡ activation c0
+      → AreKept p.regions.all c0 c → SameAt p n (s m) (k c)
 
 -- a word
 word_begins : (p : Place) (n : ℕ) (scope : Scope) (name : List ℕ) (shape : Shape) (shapes : List Shape) (then_act : Scope → Act Flow)
@@ -202,12 +203,12 @@ word_begins : (p : Place) (n : ℕ) (scope : Scope) (name : List ℕ) (shape : S
     → BeginsIn p (with_local p name shape shapes) n m c (λ m'. then_act (with_binding scope name (Variable shape (local_spot p.frame p.made))) next m')
     (meaning.statements rest after)
     → SameAt p n (declared scope name shape (first_object scope.world shape) then_act next m) (meaning.statements
-    (MoreStatements (Do (first_code shape)) (MoreStatements (Do (Put 0 p.made (width_of shape) 0)) rest)) after c)
+    (MoreStatements (Do (first_code shape p.regions.all)) (MoreStatements (Do (Put 0 p.made (width_of shape) p.regions.all)) rest)) after c)
 word_begins p n scope name shape shapes then_act next m c rest after world frame is_word begins pending fits goes =
     declared_by p n scope name shape then_act next m code world frame fits.made stored
   where
     code : core_steps.Step
-    code = meaning.statements (MoreStatements (Do (first_code shape)) (MoreStatements (Do (Put 0 p.made (width_of shape) 0)) rest)) after c
+    code = meaning.statements (MoreStatements (Do (first_code shape p.regions.all)) (MoreStatements (Do (Put 0 p.made (width_of shape) p.regions.all)) rest)) after c
 
     plain : IsPlain p.world shape (width_of shape)
     plain = plain_of p.world shape is_word
@@ -219,7 +220,7 @@ word_begins p n scope name shape shapes then_act next m c rest after world frame
     spot = local_spot p.frame p.made
 
     c0 : Config
-    c0 = with_temp 0 first.content c
+    c0 = with_temp p.regions.all first.content c
 
     part : PartIs c.memory (at spot) 0 0 (width_of shape)
     part = part_to_come p m c shape shapes plain pending fits
@@ -261,22 +262,23 @@ word_begins p n scope name shape shapes then_act next m c rest after world frame
         → SameAt p n (then_act (with_binding scope name (Variable shape spot)) next (m_made m p.frame (first_object p.world shape))) code
     stored live =
         subst (λ z. SameAt p n (then_act (with_binding scope name (Variable shape spot)) next (m_made m p.frame (first_object p.world shape))) z)
-        (sym (first.does (meaning.statements (MoreStatements (Do (Put 0 p.made (width_of shape) 0)) rest) after) c
-        ∙ put_here c0 0 p.made (width_of shape) p.frame p.outer part.content (meaning.statements rest after) fits.blocks
+        (sym (first.does p.regions.all (meaning.statements (MoreStatements (Do (Put 0 p.made (width_of shape) p.regions.all)) rest) after) c
+        ∙ put_here c0 p.regions.all p.made (width_of shape) p.frame p.outer part.content (meaning.statements rest after) fits.blocks
         (sym (fits.agree.live (source.Frame p.frame)) ∙ live) part.is ∙
         ap (λ z. meaning.statements rest after (with_memory (with_part c.memory (at spot) 0 (part_with (width_of shape) z)) c0))
-        (ap (fitting (width_of shape)) (put_temp 0 first.content c) ∙ first.fits)))
+        (ap (fitting (width_of shape)) (put_temp p.regions.all first.content c) ∙ first.fits)))
         (goes.go (m_made m p.frame (first_object p.world shape)) c1
         (begins_fits p m c1 name shape shapes words pending fits1 (λ cell of e. only cell of (ap (λ z. slice_get z cell) (sym plain.cells) ∙ e)))
         (later_on (around p p.frame) m m (m_made m p.frame (first_object p.world shape)) c.memory c1.memory c1.memory (later1 (around p p.frame))
-        (grown_later (around p p.frame) m c1.memory p.frame (first_object p.world shape) (omega arith) fits.agree.unmade)) refl)
+        (grown_later (around p p.frame) m c1.memory p.frame (first_object p.world shape) (omega arith) fits.agree.unmade)) refl
+        (kept_temp p.regions.all p.regions.all first.content c c (omega arith) (λ k less. refl)))
 
 -- a struct
-cleared_at : (c : Config) (index frame : ℕ) (outer : List ℕ) (l : Layout) (next : Config → core_steps.Step) → c.blocks ≡ frame ∷ outer
+cleared_at : (c : Config) (d index frame : ℕ) (outer : List ℕ) (l : Layout) (next : Config → core_steps.Step) → c.blocks ≡ frame ∷ outer
     → core.is_live (c.memory.standing (core.Frame frame)) ≡ true → are_elements c.memory (at (local_spot frame index)) 0 l 1 ≡ true
-    → does (LocalAddress 0 0 index) (does (Clear 0 l 1) next) c
-    ≡ next (with_memory (cleared l 1 (at (local_spot frame index)) c.memory) (with_temp 0 (Pointer (at (local_spot frame index)) 0) c))
-cleared_at c index frame outer l next block live there = rw (block, live, there) refl
+    → does (LocalAddress d 0 index) (does (Clear d l 1) next) c
+    ≡ next (with_memory (cleared l 1 (at (local_spot frame index)) c.memory) (with_temp d (Pointer (at (local_spot frame index)) 0) c))
+cleared_at c d index frame outer l next block live there = rw (block, eq-eqb d d refl, live, there) refl
 
 pub struct_begins : (p : Place) (n : ℕ) (scope : Scope) (name tag : List ℕ) (shapes : List Shape) (then_act : Scope → Act Flow)
     (next : Flow → source.Memory → steps.Step) (m : source.Memory) (c : Config) (rest : Statements) (after : Next)
@@ -285,7 +287,7 @@ pub struct_begins : (p : Place) (n : ℕ) (scope : Scope) (name tag : List ℕ) 
     → BeginsIn p (with_local p name (StructShape tag) shapes) n m c
     (λ m'. then_act (with_binding scope name (Variable (StructShape tag) (local_spot p.frame p.made))) next m') (meaning.statements rest after)
     → SameAt p n (declared scope name (StructShape tag) (first_object scope.world (StructShape tag)) then_act next m) (meaning.statements
-    (MoreStatements (Do (LocalAddress 0 0 p.made)) (MoreStatements (Do (Clear 0 (layout_of p.world (StructShape tag)) 1)) rest)) after c)
+    (MoreStatements (Do (LocalAddress p.regions.all 0 p.made)) (MoreStatements (Do (Clear p.regions.all (layout_of p.world (StructShape tag)) 1)) rest)) after c)
 struct_begins p n scope name tag shapes then_act next m c rest after world frame structs object pending fits goes =
     declared_by p n scope name shape then_act next m code world frame fits.made stored
   where
@@ -297,7 +299,7 @@ struct_begins p n scope name tag shapes then_act next m c rest after world frame
 
     code : core_steps.Step
     code = meaning.statements
-        (MoreStatements (Do (LocalAddress 0 0 p.made)) (MoreStatements (Do (Clear 0 (layout_of p.world (StructShape tag)) 1)) rest)) after c
+        (MoreStatements (Do (LocalAddress p.regions.all 0 p.made)) (MoreStatements (Do (Clear p.regions.all (layout_of p.world (StructShape tag)) 1)) rest)) after c
 
     spot : Spot
     spot = local_spot p.frame p.made
@@ -306,7 +308,7 @@ struct_begins p n scope name tag shapes then_act next m c rest after world frame
     all = subst (λ z. ArePending p.world c.memory (core.Frame p.frame) p.made z) pending fits.pending
 
     c1 : Config
-    c1 = with_memory (cleared layout 1 (at spot) c.memory) (with_temp 0 (Pointer (at spot) 0) c)
+    c1 = with_memory (cleared layout 1 (at spot) c.memory) (with_temp p.regions.all (Pointer (at spot) 0) c)
 
     agree1 : Agree p.world m c1.memory
     agree1 = agree_cleared p.world m c.memory p.frame p.made layout fits.agree fits.made
@@ -346,11 +348,12 @@ struct_begins p n scope name tag shapes then_act next m c rest after world frame
         → SameAt p n (then_act (with_binding scope name (Variable shape spot)) next (m_made m p.frame (first_object p.world shape))) code
     stored live =
         subst (λ z. SameAt p n (then_act (with_binding scope name (Variable shape spot)) next (m_made m p.frame (first_object p.world shape))) z)
-        (sym (cleared_at c p.made p.frame p.outer layout (meaning.statements rest after) fits.blocks
+        (sym (cleared_at c p.regions.all p.made p.frame p.outer layout (meaning.statements rest after) fits.blocks
         (sym (fits.agree.live (source.Frame p.frame)) ∙ live) (element_there c.memory (at spot) 0 layout all.0)))
         (goes.go (m_made m p.frame (first_object p.world shape)) c1 (begins_fits p m c1 name shape shapes words pending fits1 held)
         (later_on (around p p.frame) m m (m_made m p.frame (first_object p.world shape)) c.memory c1.memory c1.memory (later1 (around p p.frame))
-        (grown_later (around p p.frame) m c1.memory p.frame (first_object p.world shape) (omega arith) fits.agree.unmade)) refl)
+        (grown_later (around p p.frame) m c1.memory p.frame (first_object p.world shape) (omega arith) fits.agree.unmade)) refl
+        (kept_temp p.regions.all p.regions.all (Pointer (at spot) 0) c c (omega arith) (λ k less. refl)))
 
 -- whichever
 pub declared_same : (p : Place) (n : ℕ) (scope : Scope) (name : List ℕ) (shape : Shape) (shapes : List Shape) (then_act : Scope → Act Flow)
@@ -359,7 +362,7 @@ pub declared_same : (p : Place) (n : ℕ) (scope : Scope) (name : List ℕ) (sha
     → p.pending ≡ shape ∷ shapes → Fits p m c
     → BeginsIn p (with_local p name shape shapes) n m c (λ m'. then_act (with_binding scope name (Variable shape (local_spot p.frame p.made))) next m')
     (meaning.statements rest after)
-    → SameAt p n (declared scope name shape (first_object scope.world shape) then_act next m) (meaning.statements (put (unset_code p.world shape p.made) rest)
+    → SameAt p n (declared scope name shape (first_object scope.world shape) then_act next m) (meaning.statements (put (unset_code p.world shape p.regions.all p.made) rest)
     after c)
 declared_same p n scope name (StructShape tag) shapes then_act next m c rest after world frame structs object begins pending fits goes =
     struct_begins p n scope name tag shapes then_act next m c rest after world frame structs object pending fits goes
@@ -373,7 +376,7 @@ declared_same p n scope name (ThinShape b owner to) shapes then_act next m c res
     word_begins p n scope name (ThinShape b owner to) shapes then_act next m c rest after world frame object begins pending fits goes
 declared_same p n scope name VoidShape shapes then_act next m c rest after world frame structs object begins pending fits goes = absurd object
 declared_same p n scope name (FatShape to) shapes then_act next m c rest after world frame structs object begins pending fits goes = absurd object
-declared_same p n scope name HandleShape shapes then_act next m c rest after world frame structs object begins pending fits goes = absurd object
+declared_same p n scope name HandleShape shapes then_act next m c rest after world frame structs object begins pending fits goes = absurd begins
 declared_same p n scope name KeyShape shapes then_act next m c rest after world frame structs object begins pending fits goes = absurd object
 declared_same p n scope name (UnionShape tag) shapes then_act next m c rest after world frame structs object begins pending fits goes = absurd object
 declared_same p n scope name (ArrayShape count of) shapes then_act next m c rest after world frame structs object begins pending fits goes = absurd object

@@ -1,5 +1,7 @@
 -- A block is entered with its locals to come, and left whichever way.
-use Rattle.std.proofs.Common.{◌≡◌, ℕ, suc, ◌<◌, ◌≤◌, true, inl, inr, ⊎_elim, List, [], ◌∷◌, sym, ap, ◌∙◌, subst, arith}
+use Rattle.std.proofs.Common.{◌≡◌, ℕ, zero, suc, ◌<◌, ◌≤◌, true, nat_eq, inl, inr, ⊎_elim, List, [], ◌∷◌, refl, sym, ap, ◌∙◌, subst, arith}
+use Rattle.std.specs.Prelude.{not, ◌&&◌}
+use Rattle.cyc_words.specs.Events as events
 use Rattle.source_meaning.specs.Shapes.{Shape, Layout}
 use Rattle.source_meaning.specs.Memory as source
 use Rattle.source_meaning.specs.Memory.{Scalar, with_state, Dead}
@@ -7,19 +9,20 @@ use Rattle.source_meaning.specs.Steps as steps
 use Rattle.source_meaning.specs.Steps.{World, Binding, Flow, Act}
 use Rattle.source_meaning.specs.Regions.{in_block}
 use Rattle.core_meaning.specs.Memory as core
-use Rattle.core_meaning.specs.Memory.{Content, with_standing}
+use Rattle.core_meaning.specs.Memory.{Content, is_lexical, with_standing}
+use Rattle.core_meaning.specs.Operations.{says}
 use Rattle.core_meaning.specs.Core.{Program, Statement, Block, NoStatements}
 use Rattle.core_meaning.specs.Steps as core_steps
-use Rattle.core_meaning.specs.Steps.{Config}
+use Rattle.core_meaning.specs.Steps.{Config, checked, with_memory}
 use Rattle.core_meaning.specs.Meaning as meaning
 use Rattle.source_lowering.specs.Lowered.{Named, all_of}
-use Rattle.source_lowering.specs.Programs.{locals_of, outward}
-use Rattle.source_lowering.proofs.Relations.{ArePending, Agree, Bound, nothing, Later, AreLocals, AreLed, Place, Fits, activation, around, Next}
+use Rattle.source_lowering.specs.Programs.{RegionsAround, locals_of, outward}
+use Rattle.source_lowering.proofs.Relations.{ArePending, Agree, Bound, nothing, Later, AreLocals, AreLed, Place, Fits, Same, activation, around, Next}
 use Rattle.source_lowering.proofs.Keeping.{later_on, later_less, shown_later, all_led_later, pending_later, same_own, left_later, agree_left}
 use Rattle.source_lowering.proofs.Names.{AreObjectNames}
 use Rattle.source_lowering.proofs.Entering.{made_standing, source_in, core_opened, core_in, agree_entered, entered_later, pending_entered}
 use Rattle.source_lowering.proofs.Calls.{OneResult, NoResult, ResultIs}
-use Rattle.source_lowering.proofs.Statements.{WaysOn, RunsAs}
+use Rattle.source_lowering.proofs.Ways.{freed, Onward, WaysOn, RunsAs, free_by, each_birth}
 
 -- ---- names, a block further in
 
@@ -59,8 +62,8 @@ result_later b w m m' c c' shape vs xs l r =
 -- ---- a new activation
 
 -- a place at the start of a block's activation
-abbrev pub at_start : World → Program → List Binding → List Named → ℕ → List ℕ → List Shape → ℕ → List Shape → Place
-at_start w fs locals names frame outer shapes own owned = record {
+abbrev pub at_start : World → Program → List Binding → List Named → ℕ → List ℕ → List Shape → ℕ → List Shape → ℕ → RegionsAround → Place
+at_start w fs locals names frame outer shapes own owned kept regions = record {
   world = w;
   program = fs;
   locals = locals;
@@ -71,6 +74,8 @@ at_start w fs locals names frame outer shapes own owned = record {
   pending = shapes;
   own = own;
   owned = owned;
+  kept = kept;
+  regions = regions;
 }
 
 -- a function's activation with its unnamed values
@@ -82,10 +87,10 @@ pub record HasOwn (w : World) (c : Config) (own : ℕ) (owned : List Shape) : Ty
 
 -- a block is entered from memories that agree
 pub entered_fits : (w : World) (fs : Program) (locals : List Binding) (names : List Named) (outer : List ℕ) (shapes : List Shape) (m : source.Memory)
-    (c : Config) (own : ℕ) (owned : List Shape) → Agree w m c.memory → c.blocks ≡ outer → HasOwn w c own owned → AreLed w m c.memory locals
-    → AreLed w m c.memory w.globals
-    → Fits (at_start w fs locals names m.activations outer shapes own owned) (source_in m) (meaning.in_block (locals_of w shapes) c)
-entered_fits w fs locals names outer shapes m c own owned agree blocks has led globals =
+    (c : Config) (own : ℕ) (owned : List Shape) (kept : ℕ) (regions : RegionsAround) → Agree w m c.memory → c.blocks ≡ outer → HasOwn w c own owned
+    → AreLed w m c.memory locals → AreLed w m c.memory w.globals
+    → Fits (at_start w fs locals names m.activations outer shapes own owned kept regions) (source_in m) (meaning.in_block (locals_of w shapes) c)
+entered_fits w fs locals names outer shapes m c own owned kept regions agree blocks has led globals =
     let later = entered_later nothing w m c.memory (locals_of w shapes) agree in
     record {
       agree = agree_entered w m c.memory (locals_of w shapes) agree;
@@ -122,19 +127,49 @@ after_out after c exit left = after exit (meaning.out_of_block c.memory.activati
 abbrev pub inside_of : Bound → source.Memory → Bound
 inside_of b m = record { frames = m.activations; standing = b.standing; own = b.own; values = b.values }
 
-pub ways_out : (w : World) (fs : Program) (n : ℕ) (b : Bound) (shapes : List Shape) (m : source.Memory) (c : Config) (result : Shape)
+-- that a region ends and that a block does, one way round and the other
+dead_both : (j d : ℕ) (m : core.Memory) (q : core.Region)
+    → (with_standing (with_standing m (core.Born d) core.Dead) (core.Frame j) core.Dead).standing q
+    ≡ (with_standing (with_standing m (core.Frame j) core.Dead) (core.Born d) core.Dead).standing q
+dead_both j d m (core.Frame i) = refl
+dead_both j d m (core.Own i) = refl
+dead_both j d m (core.Born i) = refl
+
+out_freed : (j d : ℕ) (outer : List ℕ) (c : Config)
+    → meaning.out_of_block j outer (with_memory (with_standing c.memory (core.Born d) core.Dead) c)
+    ≡ with_memory (with_standing (meaning.out_of_block j outer c).memory (core.Born d) core.Dead) (meaning.out_of_block j outer c)
+out_freed j d outer c = λ i. record c { blocks = outer; memory = record c.memory { standing = λ q. dead_both j d c.memory q i } }
+
+-- regions are freed within a block that is left then, or behind it
+freed_out : (all count : ℕ) (next : Config → core_steps.Step) (j : ℕ) (outer : List ℕ) (c : Config)
+    → freed all count (λ c'. next (meaning.out_of_block j outer c')) c ≡ freed all count next (meaning.out_of_block j outer c)
+freed_out all zero next j outer c = refl
+freed_out zero (suc count) next j outer c = refl
+freed_out (suc all) (suc count) next j outer c =
+    each_birth (c.temps all) (free_by (freed all count (λ c'. next (meaning.out_of_block j outer c'))) c)
+    (free_by (freed all count next) (meaning.out_of_block j outer c))
+    (λ d. ap (λ z. checked (not (nat_eq d 0) && is_lexical (c.memory.standing (core.Born d))) (says (events.RegionFree d) z))
+    (freed_out all count next j outer (with_memory (with_standing c.memory (core.Born d) core.Dead) c) ∙ ap (freed all count next) (out_freed j d outer c)))
+
+pub ways_out : (w : World) (fs : Program) (n : ℕ) (h : RegionsAround) (b : Bound) (shapes : List Shape) (m : source.Memory) (c : Config) (result : Shape)
     (next : Flow → source.Memory → steps.Step) (after : Next) → Agree w m c.memory → b.frames ≤ m.activations
-    → WaysOn w fs n b m c result next (after core_steps.Falls) after
-    → WaysOn w fs n (inside_of b m) (source_in m) (meaning.in_block (locals_of w shapes) c) result (next_out next m.activations)
+    → WaysOn w fs n h b m c result next (after core_steps.Falls) after
+    → WaysOn w fs n h (inside_of b m) (source_in m) (meaning.in_block (locals_of w shapes) c) result (next_out next m.activations)
     (after_out after c core_steps.Falls) (after_out after c)
-ways_out w fs n b shapes m c result next after agree less ways = record {
-  falls = λ m' c' a l e. ways.falls (gone m') (out c') (agree_gone w m' c'.memory m.activations c.memory.activations agree.activations a) (on m' c' l) (same_out c' e);
-  breaks = λ m' c' a l e. ways.breaks (gone m') (out c') (agree_gone w m' c'.memory m.activations c.memory.activations agree.activations a) (on m' c' l) (same_out c' e);
-  continues = λ m' c' a l e. ways.continues (gone m') (out c') (agree_gone w m' c'.memory m.activations c.memory.activations agree.activations a) (on m' c' l)
-      (same_out c' e);
-  returns = λ m' c' vs xs a l e r.
-      ways.returns (gone m') (out c') vs xs (agree_gone w m' c'.memory m.activations c.memory.activations agree.activations a) (on m' c' l) (same_out c' e)
-      (result_later nothing w m' (gone m') c'.memory (out c').memory result vs xs (later_gone nothing m' c'.memory m.activations c.memory.activations agree.activations) r);
+ways_out w fs n h b shapes m c result next after agree less ways = record {
+  falls = λ m' c' o. ways.falls (gone m') (out c') (on m' c' o);
+  breaks = λ m' c' o.
+      subst (λ z. Same w fs n (next steps.Breaks (gone m')) z) (sym (freed_out h.all h.inner (after core_steps.Breaks) c.memory.activations c.blocks c'))
+      (ways.breaks (gone m') (out c') (on m' c' o));
+  continues = λ m' c' o.
+      subst (λ z. Same w fs n (next steps.Continues (gone m')) z)
+      (sym (freed_out h.all h.inner (after core_steps.Continues) c.memory.activations c.blocks c')) (ways.continues (gone m') (out c') (on m' c' o));
+  returns = λ m' c' vs xs o r.
+      subst (λ z. Same w fs n (next (steps.Returns vs) (gone m')) z)
+      (sym (freed_out h.all h.all (after (core_steps.Returns xs)) c.memory.activations c.blocks c'))
+      (ways.returns (gone m') (out c') vs xs (on m' c' o)
+      (result_later nothing w m' (gone m') c'.memory (out c').memory result vs xs
+      (later_gone nothing m' c'.memory m.activations c.memory.activations agree.activations) r));
 }
   where
     gone : source.Memory → source.Memory
@@ -143,29 +178,33 @@ ways_out w fs n b shapes m c result next after agree less ways = record {
     out : Config → Config
     out c' = meaning.out_of_block c.memory.activations c.blocks c'
 
-    same_out : (c' : Config) → activation c' ≡ activation (meaning.in_block (locals_of w shapes) c) → activation (out c') ≡ activation c
-    same_out c' e = ap (λ z. z ∷ c.blocks) (same_own (meaning.in_block (locals_of w shapes) c) c' e)
-
     inner : core.Memory
     inner = core_in (locals_of w shapes) c.memory
 
-    on : (m' : source.Memory) (c' : Config) → Later (inside_of b m) (source_in m) inner m' c'.memory → Later b m c.memory (gone m') (out c').memory
-    on m' c' l =
-        later_on b m m' (gone m') c.memory c'.memory (out c').memory
-        (later_on b m (source_in m) m' c.memory inner c'.memory (entered_later b w m c.memory (locals_of w shapes) agree)
-        (later_less (inside_of b m) b (source_in m) m' inner c'.memory (record { frames = less; standing = omega arith; kept = λ k i h. h }) l))
-        (later_gone b m' c'.memory m.activations c.memory.activations agree.activations)
+    on : (m' : source.Memory) (c' : Config) → Onward w h.all (inside_of b m) (source_in m) (meaning.in_block (locals_of w shapes) c) m' c'
+        → Onward w h.all b m c (gone m') (out c')
+    on m' c' o = record {
+      agree = agree_gone w m' c'.memory m.activations c.memory.activations agree.activations o.agree;
+      later =
+          later_on b m m' (gone m') c.memory c'.memory (out c').memory
+          (later_on b m (source_in m) m' c.memory inner c'.memory (entered_later b w m c.memory (locals_of w shapes) agree)
+          (later_less (inside_of b m) b (source_in m) m' inner c'.memory (record { frames = less; standing = omega arith; kept = λ k i g. g }) o.later))
+          (later_gone b m' c'.memory m.activations c.memory.activations agree.activations);
+      active = ap (λ z. z ∷ c.blocks) (same_own (meaning.in_block (locals_of w shapes) c) c' o.active);
+      kept = o.kept;
+    }
 
 -- a block does the same as its code, where its items do in each activation
 pub block_same : (p : Place) (n : ℕ) (result : Shape) (shapes : List Shape) (body : ℕ → Act Flow) (code : List Statement)
-    → ((k : ℕ) → RunsAs (at_start p.world p.program p.locals (outward p.names) k (p.frame ∷ p.outer) shapes p.own p.owned) n k result (body k) code)
+    → ((k : ℕ) → RunsAs (at_start p.world p.program p.locals (outward p.names) k (p.frame ∷ p.outer) shapes p.own p.owned p.kept p.regions) n k result
+    (body k) code)
     → RunsAs p n (suc p.frame) result (in_block body) (Block (locals_of p.world shapes) (all_of code) ∷ [])
 block_same p n result shapes body code runs = record {
   same = λ m c next rest after fits ways.
       let inner : Next = λ exit. meaning.falls_to exit (meaning.statements rest after) after in
       (runs m.activations).same (source_in m) (meaning.in_block (locals_of p.world shapes) c) (next_out next m.activations) NoStatements (after_out inner c)
-      (entered_fits p.world p.program p.locals (outward p.names) (p.frame ∷ p.outer) shapes m c p.own p.owned fits.agree fits.blocks
+      (entered_fits p.world p.program p.locals (outward p.names) (p.frame ∷ p.outer) shapes m c p.own p.owned p.kept p.regions fits.agree fits.blocks
       (record { is = fits.own; called = fits.called; stands = fits.stands; values = fits.owned }) fits.locals fits.globals)
-      (ways_out p.world p.program n (around p (suc p.frame)) shapes m c result next inner fits.agree (let b = fits.begun in omega (arith, b))
+      (ways_out p.world p.program n p.regions (around p (suc p.frame)) shapes m c result next inner fits.agree (let b = fits.begun in omega (arith, b))
       (record { falls = ways.falls; breaks = ways.breaks; continues = ways.continues; returns = ways.returns }));
 }

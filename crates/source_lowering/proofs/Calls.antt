@@ -124,7 +124,7 @@ within_called p m c fits =
     record {
       frames = omega (arith, b);
       standing = omega (arith, f);
-      kept = λ k i h. let g = h.0 in (omega (arith, f, g), λ e. h.1 (omega (arith, e, g, f)));
+      kept = λ k i h. let g = h.0 in (omega (arith, f, g), λ e. absurd (omega (arith, e, g, f)));
     }
 
 -- what comes after a function's return: memories that agree, and no more locals in the blocks before it
@@ -227,7 +227,7 @@ results_same p n d m0 c0 m c shape vs xs s k taken result fits later kept goes =
     by VoidShape h go r = none go r
     by (ThinShape may_be_null owner to) h go r = some (ThinShape may_be_null owner to) h go r
     by (FatShape to) h go r = absurd h
-    by HandleShape h go r = absurd h
+    by HandleShape h go r = some HandleShape tt go r
     by KeyShape h go r = absurd h
     by (StructShape tag) h go r = absurd h
     by (UnionShape tag) h go r = absurd h

@@ -39,14 +39,14 @@ use Rattle.source_meaning.specs.Shapes.{
   ArrayShape,
 }
 use Rattle.source_meaning.specs.Memory as source
-use Rattle.source_meaning.specs.Memory.{Scalar, Spot, Holds, Cell, is_live, is_of, with_cell}
+use Rattle.source_meaning.specs.Memory.{Scalar, Spot, Holds, is_live, is_of}
 use Rattle.source_meaning.specs.Steps as steps
-use Rattle.source_meaning.specs.Steps.{World, Entity, Variable, Fixed, give, check}
+use Rattle.source_meaning.specs.Steps.{World, Variable, give, check}
 use Rattle.source_meaning.specs.Conversions.{cells_of}
 use Rattle.source_meaning.specs.Values.{read_cells, value_held, write_cells, put_content, is_lent, take_cells}
 use Rattle.source_meaning.specs.Places.{place_sense, entity_sense, given_by}
 use Rattle.core_meaning.specs.Memory as core
-use Rattle.core_meaning.specs.Memory.{Content, Word, Null, Pointer, Part, with_part}
+use Rattle.core_meaning.specs.Memory.{Content, Word, Null, Pointer, Birth, Part, with_part}
 use Rattle.core_meaning.specs.Core.{Program}
 use Rattle.core_meaning.specs.Steps as core_steps
 use Rattle.core_meaning.specs.Operations.{fitting}
@@ -121,7 +121,13 @@ plain_of w (ThinShape may_be_null owner to) h =
       given = λ vs. refl;
     })
 plain_of w (FatShape to) h = absurd h
-plain_of w HandleShape h = absurd h
+plain_of w HandleShape h = record {
+  cells = refl;
+  layout = refl;
+  one = λ m c v cs o. record { word = Birth o.birth; is = o.shown; fits = refl };
+  taken = λ s k m. refl;
+  given = λ vs. refl;
+}
 plain_of w KeyShape h = absurd h
 plain_of w (StructShape tag) h = absurd h
 plain_of w (UnionShape tag) h = absurd h
@@ -137,7 +143,7 @@ object_variable w CharShape h s = refl
 object_variable w VoidShape h s = absurd h
 object_variable w (ThinShape may_be_null owner to) h s = refl
 object_variable w (FatShape to) h s = absurd h
-object_variable w HandleShape h s = absurd h
+object_variable w HandleShape h s = refl
 object_variable w KeyShape h s = absurd h
 object_variable w (UnionShape tag) h s = absurd h
 object_variable w (ArrayShape count of) h s = absurd h

@@ -8,12 +8,12 @@ use Rattle.source_meaning.specs.Shapes.{Shape}
 use Rattle.source_meaning.specs.Sizes.{Extent}
 use Rattle.source_meaning.specs.Placing.{Placed}
 use Rattle.source_meaning.specs.Memory as source
-use Rattle.source_meaning.specs.Memory.{Scalar, Spot, Holds, Cell}
+use Rattle.source_meaning.specs.Memory.{Spot, Cell}
 use Rattle.source_meaning.specs.Steps.{World}
 use Rattle.source_meaning.specs.Conversions.{cells_of}
 use Rattle.source_meaning.proofs.Cases.{region_is}
 use Rattle.core_meaning.specs.Memory as core
-use Rattle.core_meaning.specs.Memory.{Content, Part, PartShape, Layout, shape_in}
+use Rattle.core_meaning.specs.Memory.{Content, Part, PartShape, Layout}
 use Rattle.core_meaning.specs.Operations.{
   is_part,
   are_parts,
@@ -32,7 +32,7 @@ use Rattle.source_lowering.specs.Lowered.{width_of}
 use Rattle.source_lowering.specs.Lowerable.{IsObject, AreStructs}
 use Rattle.source_lowering.proofs.StructCells.{AreWordShapes, shapes_in, object_cells}
 use Rattle.source_lowering.proofs.Relations.{region_at, at, PartIs, AreShaped, AreMade, PartsHold, Agree, Bound, nothing, IsFree, Later}
-use Rattle.source_lowering.proofs.Keeping.{named_free, free_object, up_to, is_up_to, region_as, shown_later}
+use Rattle.source_lowering.proofs.Keeping.{named_free, free_object, region_as, shown_later}
 use Rattle.source_lowering.proofs.Members.{word_pieces}
 use Rattle.source_lowering.proofs.Making.{cell_spot}
 
@@ -182,9 +182,13 @@ agree_cleared w m c k index l a made = record {
   unmade = a.unmade;
   unentered = λ i u j h r. cleared_none l 1 t c u j (a.unentered i u j h r);
   unbegun = a.unbegun;
-  uncalled = λ i u j h r.
-      (cleared_later (up_to i) m c l 1 t (named_free (up_to i) (cell_spot k index 0))).owned i u j r (is_up_to i u.object) ∙ a.uncalled i u j h r;
+  uncalled = λ i u j h r. cleared_none l 1 t c u j (a.uncalled i u j h r);
   unowned = a.unowned;
+  births = a.births;
+  heap = a.heap;
+  lexical = a.lexical;
+  blocks = a.blocks;
+  ungranted = λ d u j r h. cleared_none l 1 t c u j (a.ungranted d u j r h);
 }
   where
     t : core.Spot

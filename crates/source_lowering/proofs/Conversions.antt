@@ -1,30 +1,5 @@
 -- A value in a temporary is converted to another shape.
-use Rattle.std.proofs.Common.{
-  ◌≡◌,
-  Bool,
-  true,
-  false,
-  Option,
-  Some,
-  None,
-  ℕ,
-  ◌%◌,
-  ◌^◌,
-  ◌<◌,
-  inl,
-  inr,
-  ⊎_elim,
-  List,
-  [],
-  ◌∷◌,
-  ◌++◌,
-  refl,
-  sym,
-  ap,
-  ◌∙◌,
-  subst,
-  arith,
-}
+use Rattle.std.proofs.Common.{◌≡◌, Bool, true, false, Option, Some, None, ℕ, inl, inr, ⊎_elim, List, [], ◌∷◌, ◌++◌, refl, sym, ap, subst}
 use Rattle.std.specs.Prelude.{◌&&◌}
 use Rattle.std.proofs.lemmas.Bool.{and_parts, false≢true}
 use Rattle.cyc_words.specs.declared.faults.Kind.TheVariants.{NullException}
@@ -47,24 +22,21 @@ use Rattle.source_meaning.specs.Shapes.{
   ArrayShape,
 }
 use Rattle.source_meaning.specs.Memory as source
-use Rattle.source_meaning.specs.Memory.{IntegerType, AsInt, AsUnsigned, AsChar, Scalar, Integer, Thin, Spot}
+use Rattle.source_meaning.specs.Memory.{AsInt, AsUnsigned, Scalar, Thin, HandleOf, Spot}
 use Rattle.source_meaning.specs.Steps as steps
-use Rattle.source_meaning.specs.Steps.{World, give, need, ◌>>=◌}
+use Rattle.source_meaning.specs.Steps.{World, ◌>>=◌}
 use Rattle.source_meaning.specs.Conversions.{one, converted, thin_to_thin}
 use Rattle.source_meaning.specs.Places.{Sense}
-use Rattle.source_meaning.specs.Programs.{integer_shape}
 use Rattle.core_meaning.specs.Memory as core
-use Rattle.core_meaning.specs.Memory.{Content, Word, Null, Pointer}
-use Rattle.core_meaning.specs.Core.{Statement, Do, Narrow, Statements, MoreStatements}
+use Rattle.core_meaning.specs.Memory.{Content, Null, Pointer}
+use Rattle.core_meaning.specs.Core.{Statement, Statements}
 use Rattle.core_meaning.specs.Steps as core_steps
-use Rattle.core_meaning.specs.Steps.{Config, with_temp}
+use Rattle.core_meaning.specs.Steps.{Config}
 use Rattle.core_meaning.specs.Meaning as meaning
-use Rattle.core_meaning.specs.Operations.{does}
 use Rattle.source_lowering.specs.Lowered.{put, conversion_code}
 use Rattle.source_lowering.proofs.Relations.{
   at,
   Leads,
-  Shown,
   ANull,
   LiesNear,
   APointer,
@@ -81,149 +53,10 @@ use Rattle.source_lowering.proofs.Relations.{
   GivesAs,
 }
 use Rattle.source_lowering.proofs.Runs.{stuck_same, stops_same, put_all}
-use Rattle.source_lowering.proofs.Integers.{IsTaken, IsWord, limit, shown_word, word_given, small_word, null_is, pointer_is}
+use Rattle.source_lowering.proofs.Integers.{IsTaken, null_is, pointer_is}
 use Rattle.source_lowering.proofs.SameShapes.{shapes_same}
-use Rattle.source_lowering.proofs.Values.{put_value}
 use Rattle.source_lowering.proofs.Variables.{Agrees}
-
--- ---- conversions
-
--- a value of a shape in a temporary becomes one of another
-pub record ConvertsAs (p : Place) (n d : ℕ) (to from : Shape) (code : List Statement) : Type 0 where
-  pub same : (m0 : source.Memory) (c0 : Config) (m : source.Memory) (c : Config) (vs : List Scalar) (s : List Scalar → source.Memory → steps.Step)
-      (rest : Statements) (next : Next) → Fits p m c → LaterAt p m0 c0 m c → AreKept d c0 c → Given p.world m c.memory from vs (c.temps d)
-      → GoesOn p n d m0 c0 to s (meaning.statements rest next)
-      → SameAt p n (converted p.world to from vs s m) (meaning.statements (put code rest) next c)
-
--- an integer's shape, or none
-abbrev IsNumber : Shape → Type 0
-IsNumber IntShape = Unit {0}
-IsNumber UnsignedShape = Unit {0}
-IsNumber CharShape = Unit {0}
-IsNumber VoidShape = Unit {0}
-IsNumber _ = ⊥
-
-number_word : (w : World) (m : source.Memory) (c : core.Memory) (s : Shape) (v : Scalar) (x : Content) → IsNumber s → Shown w m c s v (x ∷ []) → IsWord s v x
-number_word w m c IntShape v x h o = shown_word w m c IntShape v x tt o
-number_word w m c UnsignedShape v x h o = shown_word w m c UnsignedShape v x tt o
-number_word w m c CharShape v x h o = shown_word w m c CharShape v x tt o
-number_word w m c VoidShape v x h o = absurd o
-number_word w m c (ThinShape may_be_null owner to) v x h o = absurd h
-number_word w m c (FatShape to) v x h o = absurd h
-number_word w m c HandleShape v x h o = absurd h
-number_word w m c KeyShape v x h o = absurd h
-number_word w m c (StructShape tag) v x h o = absurd h
-number_word w m c (UnionShape tag) v x h o = absurd h
-number_word w m c (ArrayShape count of) v x h o = absurd h
-
--- the source is stuck at each value of an integer, and at none
-stuck_converts : (p : Place) (n d : ℕ) (to from : Shape) (code : List Statement) → IsNumber from
-    → ((t : IntegerType) (word : ℕ) (s : List Scalar → source.Memory → steps.Step) (m : source.Memory) (k : core_steps.Step) → from ≡ integer_shape t
-    → SameAt p n (converted p.world to from (Integer t word ∷ []) s m) k) → ((s : List Scalar → source.Memory → steps.Step) (m : source.Memory)
-    (k : core_steps.Step) → from ≡ VoidShape → SameAt p n (converted p.world to from [] s m) k) → ConvertsAs p n d to from code
-stuck_converts p n d to from code taken word none = record {
-  same = λ m0 c0 m c vs s rest next fits later kept given goes.
-      ⊎_elim
-      (λ (v : AValue p.world m c.memory from vs (c.temps d)).
-      let o = number_word p.world m c.memory from v.value (c.temps d) taken v.shown in
-      subst (λ z. SameAt p n (converted p.world to from z s m) (meaning.statements (put code rest) next c)) (sym (v.alone ∙ ap (λ z. z ∷ []) o.value))
-      (word o.type o.word s m _ o.shape_is))
-      (λ (v : ANothing from vs).
-      subst (λ z. SameAt p n (converted p.world to from z s m) (meaning.statements (put code rest) next c)) (sym v.none) (none s m _ v.void))
-      given;
-}
-
--- the value as it is, of another type
-kept_converts : (p : Place) (n d : ℕ) (t : IntegerType) (from : Shape) → IsNumber from → limit t ≡ 2 ^ 32
-    → ((u : IntegerType) (word : ℕ) (s : List Scalar → source.Memory → steps.Step) (m : source.Memory)
-    → converted p.world (integer_shape t) from (Integer u word ∷ []) s m ≡ s (Integer t word ∷ []) m)
-    → ((s : List Scalar → source.Memory → steps.Step) (m : source.Memory) (k : core_steps.Step) → from ≡ VoidShape
-    → SameAt p n (converted p.world (integer_shape t) from [] s m) k) → ConvertsAs p n d (integer_shape t) from []
-kept_converts p n d t from taken wide same none = record {
-  same = λ m0 c0 m c vs s rest next fits later kept given goes.
-      ⊎_elim
-      (λ (v : AValue p.world m c.memory from vs (c.temps d)).
-      let o = number_word p.world m c.memory from v.value (c.temps d) taken v.shown in
-      subst (λ z. SameAt p n (converted p.world (integer_shape t) from z s m) (meaning.statements rest next c)) (sym (v.alone ∙ ap (λ z. z ∷ []) o.value))
-      (subst (λ z. SameAt p n z (meaning.statements rest next c)) (sym (same o.type o.word s m))
-      (goes.go m c (Integer t o.word ∷ []) fits later kept
-      (word_given p.world m c.memory t o.word (c.temps d) (subst (λ z. o.word < z) (sym wide) (small_word o.type o.word o.small)) o.shown))))
-      (λ (v : ANothing from vs).
-      subst (λ z. SameAt p n (converted p.world (integer_shape t) from z s m) (meaning.statements rest next c)) (sym v.none) (none s m _ v.void))
-      given;
-}
-
-narrowed : (c : Config) (d x : ℕ) (next : Config → core_steps.Step) → c.temps d ≡ Word x → does (Narrow d d) next c ≡ next (with_temp d (Word (x % 256)) c)
-narrowed c d x next e = rw e refl
-
--- the low bits, of a word that isn't a char's
-low_converts : (p : Place) (n d : ℕ) (from : Shape) → IsNumber from → ((u : IntegerType) (word : ℕ) (s : List Scalar → source.Memory → steps.Step)
-    (m : source.Memory) → converted p.world CharShape from (Integer u word ∷ []) s m ≡ s (Integer AsChar (word % 256) ∷ []) m)
-    → ((s : List Scalar → source.Memory → steps.Step) (m : source.Memory) (k : core_steps.Step) → from ≡ VoidShape
-    → SameAt p n (converted p.world CharShape from [] s m) k) → ConvertsAs p n d CharShape from (Do (Narrow d d) ∷ [])
-low_converts p n d from taken same none = record {
-  same = λ m0 c0 m c vs s rest next fits later kept given goes.
-      ⊎_elim
-      (λ (v : AValue p.world m c.memory from vs (c.temps d)).
-      let o = number_word p.world m c.memory from v.value (c.temps d) taken v.shown in
-      subst (λ z. SameAt p n (converted p.world CharShape from z s m) (meaning.statements (MoreStatements (Do (Narrow d d)) rest) next c))
-      (sym (v.alone ∙ ap (λ z. z ∷ []) o.value))
-      (subst (λ z. SameAt p n z (meaning.statements (MoreStatements (Do (Narrow d d)) rest) next c)) (sym (same o.type o.word s m))
-      (subst (λ z. SameAt p n (s (Integer AsChar (o.word % 256) ∷ []) m) z) (sym (narrowed c d o.word (meaning.statements rest next) o.shown))
-      (put_value p n d m0 c0 m c CharShape (Integer AsChar (o.word % 256) ∷ []) (Word (o.word % 256)) s (meaning.statements rest next) fits later kept
-      (word_given p.world m c.memory AsChar (o.word % 256) (Word (o.word % 256)) (low o.word) refl) goes))))
-      (λ (v : ANothing from vs).
-      subst (λ z. SameAt p n (converted p.world CharShape from z s m) (meaning.statements (MoreStatements (Do (Narrow d d)) rest) next c)) (sym v.none)
-      (none s m _ v.void))
-      given;
-}
-  where
-    low : (x : ℕ) → x % 256 < 256
-    low x = omega arith
-
--- a char as it is
-char_converts : (p : Place) (n d : ℕ) → ConvertsAs p n d CharShape CharShape []
-char_converts p n d = record {
-  same = λ m0 c0 m c vs s rest next fits later kept given goes.
-      ⊎_elim
-      (λ (v : AValue p.world m c.memory CharShape vs (c.temps d)).
-      let small = v.shown.small in
-      let same : v.shown.word % 256 ≡ v.shown.word = low v.shown.word small in
-      subst (λ z. SameAt p n (converted p.world CharShape CharShape z s m) (meaning.statements rest next c)) (sym (v.alone ∙ ap (λ z. z ∷ []) v.shown.value))
-      (subst (λ z. SameAt p n (s (Integer AsChar z ∷ []) m) (meaning.statements rest next c)) (sym same)
-      (goes.go m c (Integer AsChar v.shown.word ∷ []) fits later kept
-      (inl (record {
-        value = Integer AsChar v.shown.word;
-        alone = refl;
-        shown = record {
-          word = v.shown.word;
-          value = refl;
-          shown = v.shown.shown;
-          small =
-              small;
-        };
-      })))))
-      (λ (v : ANothing CharShape vs). absurd (other v.void))
-      given;
-}
-  where
-    low : (x : ℕ) → x < 256 → x % 256 ≡ x
-    low x h = omega (arith, h)
-
-    other : CharShape ≡ VoidShape → ⊥
-    other e = cc e
-
--- none stays none
-void_converts : (p : Place) (n d : ℕ) → ConvertsAs p n d VoidShape VoidShape []
-void_converts p n d = record {
-  same = λ m0 c0 m c vs s rest next fits later kept given goes.
-      ⊎_elim
-      (λ (v : AValue p.world m c.memory VoidShape vs (c.temps d)). absurd v.shown)
-      (λ (v : ANothing VoidShape vs).
-      subst (λ z. SameAt p n (converted p.world VoidShape VoidShape z s m) (meaning.statements rest next c)) (sym v.none)
-      (goes.go m c [] fits later kept (inr (record { void = refl; none = refl }))))
-      given;
-}
+use Rattle.source_lowering.proofs.NumberConversions.{ConvertsAs, stuck_converts, kept_converts, low_converts, char_converts, void_converts}
 
 -- ---- pointers
 
@@ -324,6 +157,38 @@ thin_converts p n d a b o q to from = record {
         (spot_converts p n d a b o q to from m0 c0 m c z.spot z.byte s rest next fits later kept (pointer_is p.world m c.memory from (c.temps d) v z)
         (subst (λ y. LiesNear p.world y z.byte) same z.lies) (subst (λ y. Leads p.world m c.memory y z.spot z.byte) same z.leads) goes)
 
+-- ---- handles
+
+-- what is given of a handle's shape is a value
+handle_value : (w : World) (m : source.Memory) (c : core.Memory) (vs : List Scalar) (x : Content) → Given w m c HandleShape vs x
+    → AValue w m c HandleShape vs x
+handle_value w m c vs x given =
+    ⊎_elim (λ (v : AValue w m c HandleShape vs x). v) (λ (v : ANothing HandleShape vs). absurd (handle_void v.void)) given
+  where
+    handle_void : HandleShape ≡ VoidShape → ⊥
+    handle_void e = cc e
+
+-- the source is stuck at each handle
+stuck_handle : (p : Place) (n d : ℕ) (to : Shape) (code : List Statement)
+    → ((b : ℕ) (s : List Scalar → source.Memory → steps.Step) (m : source.Memory) (k : core_steps.Step)
+    → SameAt p n (converted p.world to HandleShape (HandleOf b ∷ []) s m) k) → ConvertsAs p n d to HandleShape code
+stuck_handle p n d to code stuck = record {
+  same = λ m0 c0 m c vs s rest next fits later kept given goes.
+      let v = handle_value p.world m c.memory vs (c.temps d) given in
+      let step : core_steps.Step = meaning.statements (put code rest) next c in
+      subst (λ z. SameAt p n (converted p.world to HandleShape z s m) step) (sym v.alone)
+      (subst (λ u. SameAt p n (converted p.world to HandleShape (u ∷ []) s m) step) (sym v.shown.value) (stuck v.shown.birth s m step));
+}
+
+-- a handle stays as it is
+handle_converts : (p : Place) (n d : ℕ) → ConvertsAs p n d HandleShape HandleShape []
+handle_converts p n d = record {
+  same = λ m0 c0 m c vs s rest next fits later kept given goes.
+      let v = handle_value p.world m c.memory vs (c.temps d) given in
+      subst (λ z. SameAt p n (converted p.world HandleShape HandleShape z s m) (meaning.statements rest next c)) (sym v.alone)
+      (goes.go m c (v.value ∷ []) fits later kept (inl (record { value = v.value; alone = refl; shown = v.shown })));
+}
+
 int_void : IntShape ≡ VoidShape → ⊥
 int_void e = cc e
 
@@ -378,7 +243,26 @@ conversion_same p n d (ThinShape a o to) VoidShape f g =
     (λ s m k e. stuck_same p.world p.program n k)
 conversion_same p n d (ThinShape a o to) (ThinShape b q from) f g = thin_converts p n d a b o q to from
 conversion_same p n d (FatShape to) from f g = absurd f
-conversion_same p n d HandleShape from f g = absurd f
+conversion_same p n d HandleShape IntShape f g =
+    stuck_converts p n d HandleShape IntShape [] g (λ t word s m k e. stuck_same p.world p.program n k) (λ s m k e. stuck_same p.world p.program n k)
+conversion_same p n d HandleShape UnsignedShape f g =
+    stuck_converts p n d HandleShape UnsignedShape [] g (λ t word s m k e. stuck_same p.world p.program n k) (λ s m k e. stuck_same p.world p.program n k)
+conversion_same p n d HandleShape CharShape f g =
+    stuck_converts p n d HandleShape CharShape [] g (λ t word s m k e. stuck_same p.world p.program n k) (λ s m k e. stuck_same p.world p.program n k)
+conversion_same p n d HandleShape VoidShape f g =
+    stuck_converts p n d HandleShape VoidShape [] g (λ t word s m k e. stuck_same p.world p.program n k) (λ s m k e. stuck_same p.world p.program n k)
+conversion_same p n d HandleShape (ThinShape b o from) f g = stuck_thin p n d HandleShape b o from [] (λ q s m k. stuck_same p.world p.program n k)
+conversion_same p n d HandleShape HandleShape f g = handle_converts p n d
+conversion_same p n d IntShape HandleShape f g =
+    stuck_handle p n d IntShape (conversion_code IntShape HandleShape d) (λ b s m k. stuck_same p.world p.program n k)
+conversion_same p n d UnsignedShape HandleShape f g =
+    stuck_handle p n d UnsignedShape (conversion_code UnsignedShape HandleShape d) (λ b s m k. stuck_same p.world p.program n k)
+conversion_same p n d CharShape HandleShape f g =
+    stuck_handle p n d CharShape (conversion_code CharShape HandleShape d) (λ b s m k. stuck_same p.world p.program n k)
+conversion_same p n d VoidShape HandleShape f g =
+    stuck_handle p n d VoidShape (conversion_code VoidShape HandleShape d) (λ b s m k. stuck_same p.world p.program n k)
+conversion_same p n d (ThinShape a o to) HandleShape f g =
+    stuck_handle p n d (ThinShape a o to) (conversion_code (ThinShape a o to) HandleShape d) (λ b s m k. stuck_same p.world p.program n k)
 conversion_same p n d KeyShape from f g = absurd f
 conversion_same p n d (StructShape tag) from f g = absurd f
 conversion_same p n d (UnionShape tag) from f g = absurd f

@@ -34,7 +34,7 @@ use Rattle.source_lowering.specs.Lowered.{width_of}
 use Rattle.source_lowering.specs.Lowerable.{IsWordShape, IsObject, AreStructs}
 use Rattle.source_lowering.proofs.StructCells.{AreWordShapes}
 use Rattle.source_lowering.proofs.Relations.{at, HasShape, PartIs, AreCells, AreMade, PartsHold, Shown, Agree, Bound, nothing, IsFree, Later, Same}
-use Rattle.source_lowering.proofs.Keeping.{named_free, free_nothing, free_object, up_to, is_up_to, later_self, later_on, shown_later, later_written, agree_written, m_written, same_part}
+use Rattle.source_lowering.proofs.Keeping.{named_free, free_nothing, free_object, later_self, later_on, shown_later, later_written, agree_written, m_written, same_part}
 use Rattle.source_lowering.proofs.Runs.{stuck_same}
 use Rattle.source_lowering.proofs.Making.{cell_spot}
 use Rattle.source_lowering.proofs.Cells.{plain_of}
@@ -50,7 +50,7 @@ owner_still CharShape h = refl
 owner_still VoidShape h = absurd h
 owner_still (ThinShape b owner to) h = ap source.is_alone h.0
 owner_still (FatShape to) h = absurd h
-owner_still HandleShape h = absurd h
+owner_still HandleShape h = refl
 owner_still KeyShape h = absurd h
 owner_still (StructShape tag) h = absurd h
 owner_still (UnionShape tag) h = absurd h
@@ -303,9 +303,13 @@ agree_copied w m c k index from l a made = record {
   unmade = a.unmade;
   unentered = λ i u j h r. copied_none l t from c u j (a.unentered i u j h r);
   unbegun = a.unbegun;
-  uncalled = λ i u j h r.
-      (copied_later (up_to i) m c l t from (named_free (up_to i) (cell_spot k index 0))).owned i u j r (is_up_to i u.object) ∙ a.uncalled i u j h r;
+  uncalled = λ i u j h r. copied_none l t from c u j (a.uncalled i u j h r);
   unowned = a.unowned;
+  births = a.births;
+  heap = a.heap;
+  lexical = a.lexical;
+  blocks = a.blocks;
+  ungranted = λ d u j r h. copied_none l t from c u j (a.ungranted d u j r h);
 }
   where
     t : core.Spot

@@ -61,6 +61,8 @@ with_local p name shape pending = record {
   pending = pending;
   own = p.own;
   owned = p.owned;
+  kept = p.kept;
+  regions = p.regions;
 }
 
 -- the part of the local to come

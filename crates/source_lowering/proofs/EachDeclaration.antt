@@ -1,5 +1,6 @@
 -- Each declaration that is taken does the same as its code.
-use Rattle.std.proofs.Common.{◌≡◌, ℕ, suc, List, [], ◌∷◌, ◌++◌, refl, sym, ◌∙◌, subst}
+use Rattle.std.proofs.Common.{◌≡◌, ℕ, suc, ◌≤◌, List, [], ◌∷◌, ◌++◌, refl, sym, ◌∙◌, subst}
+use Rattle.std.proofs.lemmas.List.{append-nil}
 use Rattle.cyc_tree.specs.Tree as tree
 use Rattle.cyc_tree.specs.Tree.{Expression, TypeName, Initializer, Declaration, Statement, BlockItems, NoItems, Declare, Execute}
 use Rattle.source_meaning.specs.Shapes.{
@@ -25,7 +26,7 @@ use Rattle.source_meaning.specs.Expressions.{sense}
 use Rattle.source_meaning.specs.Regions.{declared, local_with, initialised}
 use Rattle.source_meaning.specs.Statements as meaning_of
 use Rattle.core_meaning.specs.Core as core
-use Rattle.core_meaning.specs.Core.{Do, Put, LocalAddress, Copy}
+use Rattle.core_meaning.specs.Core.{Do, Put}
 use Rattle.core_meaning.specs.Meaning as meaning
 use Rattle.source_lowering.specs.Layouts.{layout_of}
 use Rattle.source_lowering.specs.Lowered.{Named, put, width_of, conversion_code, static_shape, place_code, expression_code}
@@ -40,18 +41,19 @@ use Rattle.source_lowering.proofs.Values.{put_three}
 use Rattle.source_lowering.proofs.Variables.{Agrees, value_of}
 use Rattle.source_lowering.proofs.Conversions.{converted_gives}
 use Rattle.source_lowering.proofs.Calls.{CallsAs}
-use Rattle.source_lowering.proofs.EachExpression.{Known, place_in, IsKnown, place_same, expression_same}
+use Rattle.source_lowering.proofs.EachExpression.{Known, place_in, IsKnown, place_same, expression_same, whole_same}
 use Rattle.source_lowering.proofs.Making.{local_spot}
 use Rattle.source_lowering.proofs.Statements.{RunsAs, ways_later}
 use Rattle.source_lowering.proofs.Declaring.{local_with_same}
 use Rattle.source_lowering.proofs.Beginning.{declared_same}
-use Rattle.source_lowering.proofs.Initialising.{placed_begins}
+use Rattle.source_lowering.proofs.Initialising.{copy_code, placed_begins}
+use Rattle.source_lowering.proofs.LexicalRegions.{region_declared}
 use Rattle.std.specs.Prelude.{if◌then◌else◌}
 use Rattle.std.proofs.Common.{Bool, true, false}
-use Rattle.source_lowering.specs.Whole.{is_made, whole_values, whole_code}
-use Rattle.source_lowering.specs.Programs.{source_code, initial_values, declaration_values}
+use Rattle.source_lowering.specs.Whole.{is_made, expression_values, whole_values, whole_code}
+use Rattle.source_lowering.specs.Programs.{regions_with, source_code, initial_values, declaration_values, ending_code}
 use Rattle.source_lowering.specs.Lowerable.{TakesWhole}
-use Rattle.source_lowering.proofs.EachWhole.{AreNumbered, whole_same}
+use Rattle.source_lowering.proofs.Numbered.{AreNumbered}
 use Rattle.source_lowering.proofs.WholeObjects.{unmade_place}
 use Rattle.source_lowering.proofs.WholeStatements.{whole_begins}
 
@@ -60,7 +62,7 @@ use Rattle.source_lowering.proofs.WholeStatements.{whole_begins}
 -- the place after a declaration, as lowering knows it
 abbrev pub known_more : Known → List ℕ → Shape → List Shape → Known
 known_more k name shape pending =
-    record { program = k.program; names = named_here name shape k.made ∷ k.names; outer = k.outer; made = suc k.made; pending = pending; own = k.own; owned = k.owned }
+    record k { names = named_here name shape k.made ∷ k.names; made = suc k.made; pending = pending }
 
 abbrev pub scope_more : Scope → Known → List ℕ → Shape → Scope
 scope_more scope k name shape = with_binding scope name (Variable shape (local_spot scope.frame k.made))
@@ -78,42 +80,43 @@ unset_same : (n : ℕ) (scope : Scope) (k : Known) (result : Shape) (name : List
     (others : List core.Statement) → IsKnown scope k → IsObject scope.world.structs shape → HasBeginning shape → k.pending ≡ shape ∷ shapes
     → RunsAs (place_in (scope_more scope k name shape) (known_more k name shape shapes)) n scope.frame result (then_act (scope_more scope k name shape)) others
     → RunsAs (place_in scope k) n scope.frame result (declared scope name shape (meaning_of.first_object scope.world shape) then_act)
-    (unset_code scope.world shape k.made ++ others)
+    (unset_code scope.world shape k.regions.all k.made ++ others)
 unset_same n scope k result name shape shapes then_act others known object begins pending more = record {
   same = λ m c next rest after fits ways.
       subst (λ z. SameAt (place_in scope k) n (declared scope name shape (meaning_of.first_object scope.world shape) then_act next m)
-      (meaning.statements z after c)) (sym (put_all (unset_code scope.world shape k.made) others rest))
+      (meaning.statements z after c)) (sym (put_all (unset_code scope.world shape k.regions.all k.made) others rest))
       (declared_same (place_in scope k) n scope name shape shapes then_act next m c (put others rest) after refl refl known.world.structs object begins pending
       fits
       (record {
-        go = λ m2 c2 fits2 later2 blocks2.
+        go = λ m2 c2 fits2 later2 blocks2 kept2.
             more.same m2 c2 next rest after fits2
-            (ways_later scope.world k.program n (around (place_in scope k) scope.frame) (around (place_in scope k) scope.frame) m m2 c c2 result next (meaning.statements rest after) after (less_self (around (place_in scope k) scope.frame)) later2
-            blocks2 ways);
+            (ways_later scope.world k.program n k.regions (around (place_in scope k) scope.frame) (around (place_in scope k) scope.frame) m m2 c c2 result next
+            (meaning.statements rest after) after (less_self (around (place_in scope k) scope.frame)) later2 blocks2 kept2 ways);
       }));
 }
 
 value_same : (n : ℕ) (scope : Scope) (k : Known) (result : Shape) (name : List ℕ) (shape : Shape) (shapes : List Shape) (e : Sense) (from : Shape)
     (first : List core.Statement) (then_act : Scope → Act Flow) (others : List core.Statement) → IsWordShape shape → k.pending ≡ shape ∷ shapes
-    → Agrees (place_in scope k) n 0 e from first
+    → Agrees (place_in scope k) n k.regions.all e from first
     → RunsAs (place_in (scope_more scope k name shape) (known_more k name shape shapes)) n scope.frame result (then_act (scope_more scope k name shape)) others
-    → RunsAs (place_in scope k) n scope.frame result (initialised scope name shape e then_act) ((first ++ (conversion_code shape from 0 ++
-    (Do (Put 0 k.made (width_of shape) 0) ∷ []))) ++ others)
+    → RunsAs (place_in scope k) n scope.frame result (initialised scope name shape e then_act) ((first ++ (conversion_code shape from k.regions.all ++
+    (Do (Put 0 k.made (width_of shape) k.regions.all) ∷ []))) ++ others)
 value_same n scope k result name shape shapes e from first then_act others is_word pending one more = record {
   same = λ m c next rest after fits ways.
       subst (λ z. SameAt p n (initialised scope name shape e then_act next m) (meaning.statements z after c))
-      (sym (put_all (first ++ (conversion_code shape from 0 ++ stores)) others rest ∙ put_three first (conversion_code shape from 0) stores (put others rest)
-      ∙ sym (put_all first (conversion_code shape from 0) (put stores (put others rest)))))
-      ((converted_gives p n 0 shape e from first (word_taken shape is_word) one).same m c (λ vs. local_with scope name shape vs then_act next)
+      (sym (put_all (first ++ (conversion_code shape from k.regions.all ++ stores)) others rest ∙ put_three first (conversion_code shape from k.regions.all) stores (put others rest)
+      ∙ sym (put_all first (conversion_code shape from k.regions.all) (put stores (put others rest)))))
+      ((converted_gives p n k.regions.all shape e from first (word_taken shape is_word) one).same m c (λ vs. local_with scope name shape vs then_act next)
       (put stores (put others rest)) after fits (record {
         go = λ m1 c1 vs fits1 later1 kept1 given1.
-            local_with_same p n 0 scope name shape shapes vs then_act next m1 c1 (put others rest) after refl refl is_word pending fits1
-            (value_of p.world m1 c1.memory shape vs (c1.temps 0) is_word given1) (record {
+            local_with_same p n k.regions.all scope name shape shapes vs then_act next m1 c1 (put others rest) after refl refl is_word pending fits1
+            (value_of p.world m1 c1.memory shape vs (c1.temps k.regions.all) is_word given1) (record {
               go = λ m2 c2 fits2 later2 temps2 blocks2.
                   more.same m2 c2 next rest after fits2
-                  (ways_later scope.world k.program n (around (place_in scope k) scope.frame) (around (place_in scope k) scope.frame) m m2 c c2 result next (meaning.statements rest after) after (less_self (around p scope.frame))
+                  (ways_later scope.world k.program n k.regions (around p scope.frame) (around p scope.frame) m m2 c c2 result next
+                  (meaning.statements rest after) after (less_self (around p scope.frame))
                   (later_on (around p scope.frame) m m1 m2 c.memory c1.memory c2.memory (later_items p m m1 c c1 later1) later2)
-                  (blocks2 ∙ blocks_of p m m1 c c1 fits fits1) ways);
+                  (blocks2 ∙ blocks_of p m m1 c c1 fits fits1) (λ i small. temps2 i ∙ kept1 i small) ways);
             });
       }));
 }
@@ -122,173 +125,197 @@ value_same n scope k result name shape shapes e from first then_act others is_wo
     p = place_in scope k
 
     stores : List core.Statement
-    stores = Do (Put 0 k.made (width_of shape) 0) ∷ []
+    stores = Do (Put 0 k.made (width_of shape) k.regions.all) ∷ []
 
 -- a local with an initializer: a word's value is put there, and a struct's object is copied
 word_initialised : (n : ℕ) (scope : Scope) (k : Known) (result : Shape) (name : List ℕ) (of : TypeName) (shape : Shape) (e : Expression)
-    (shapes : List Shape) (then_act : Scope → Act Flow) (others : List core.Statement) → IsObjectType scope.world.structs of
-    → settled (written of) ≡ shape → IsWordShape shape → Takes scope.world k.names e → IsKnown scope k → CallsAs scope.world k.program n
+    (value : ℕ) (shapes : List Shape) (then_act : Scope → Act Flow) (others : List core.Statement) → IsObjectType scope.world.structs of
+    → settled (written of) ≡ shape → IsWordShape shape → Takes scope.world k.names e
+    → AreNumbered k.owned value (expression_values scope.world k.names e) → k.kept ≤ value → IsKnown scope k → CallsAs scope.world k.program n
     → k.pending ≡ shape ∷ shapes
     → RunsAs (place_in (scope_more scope k name shape) (known_more k name shape shapes)) n scope.frame result (then_act (scope_more scope k name shape)) others
     → RunsAs (place_in scope k) n scope.frame result (initialised scope name (settled_by (written of) (sense e scope).shape) (sense e scope) then_act)
-    ((expression_code scope.world k.names e 0 ++ (conversion_code shape (static_shape scope.world k.names e) 0 ++ (Do (Put 0 k.made (width_of shape) 0) ∷ [])))
-    ++ others)
-word_initialised n scope k result name of shape e shapes then_act others type is word h known calls pending more =
-    let one = expression_same e scope k h known n calls 0 in
+    ((expression_code scope.world k.names e k.regions.all value ++ (conversion_code shape (static_shape scope.world k.names e) k.regions.all ++
+    (Do (Put 0 k.made (width_of shape) k.regions.all) ∷ []))) ++ others)
+word_initialised n scope k result name of shape e value shapes then_act others type is word h numbered less known calls pending more =
+    let one = expression_same e scope k h known n calls k.regions.all value numbered less in
     subst (λ z. RunsAs (place_in scope k) n scope.frame result (initialised scope name z (sense e scope) then_act)
-    ((expression_code scope.world k.names e 0 ++ (conversion_code shape (static_shape scope.world k.names e) 0 ++ (Do (Put 0 k.made (width_of shape) 0) ∷ [])))
-    ++ others))
+    ((expression_code scope.world k.names e k.regions.all value ++ (conversion_code shape (static_shape scope.world k.names e) k.regions.all ++
+    (Do (Put 0 k.made (width_of shape) k.regions.all) ∷ []))) ++ others))
     (sym (type_settles scope.world.structs of type (sense e scope).shape (taken_target (sense e scope).shape
     (subst (λ z. IsTaken z) (sym one.shape_is) one.taken)) ∙ is))
-    (value_same n scope k result name shape shapes (sense e scope) (static_shape scope.world k.names e) (expression_code scope.world k.names e 0) then_act
-    others word pending one more)
+    (value_same n scope k result name shape shapes (sense e scope) (static_shape scope.world k.names e)
+    (expression_code scope.world k.names e k.regions.all value) then_act others word pending one more)
 
 place_initialised : (n : ℕ) (scope : Scope) (k : Known) (result : Shape) (name tag : List ℕ) (of : TypeName) (e : Expression)
-    (shapes : List Shape) (then_act : Scope → Act Flow) (others : List core.Statement) → IsObjectType scope.world.structs of
-    → settled (written of) ≡ StructShape tag → IsObject scope.world.structs (StructShape tag) → TakesPlace scope.world k.names e → IsKnown scope k
-    → CallsAs scope.world k.program n → k.pending ≡ StructShape tag ∷ shapes
+    (value : ℕ) (shapes : List Shape) (then_act : Scope → Act Flow) (others : List core.Statement) → IsObjectType scope.world.structs of
+    → settled (written of) ≡ StructShape tag → IsObject scope.world.structs (StructShape tag) → TakesPlace scope.world k.names e
+    → AreNumbered k.owned value (expression_values scope.world k.names e) → k.kept ≤ value → IsKnown scope k → CallsAs scope.world k.program n → k.pending ≡ StructShape tag ∷ shapes
     → RunsAs (place_in (scope_more scope k name (StructShape tag)) (known_more k name (StructShape tag) shapes)) n scope.frame result
     (then_act (scope_more scope k name (StructShape tag))) others
     → RunsAs (place_in scope k) n scope.frame result (initialised scope name (settled_by (written of) (sense e scope).shape) (sense e scope) then_act)
-    ((place_code scope.world k.names e 0 ++ (Do (LocalAddress 1 0 k.made) ∷ Do (Copy 1 0 (layout_of scope.world (StructShape tag))) ∷ [])) ++ others)
-place_initialised n scope k result name tag of e shapes then_act others type is object h known calls pending more =
-    let one = place_same e scope k h known n calls 0 in
+    ((place_code scope.world k.names e k.regions.all value ++ copy_code (place_in scope k) (layout_of scope.world (StructShape tag))) ++ others)
+place_initialised n scope k result name tag of e value shapes then_act others type is object h numbered less known calls pending more =
+    let one = place_same e scope k h known n calls k.regions.all value numbered less in
     subst (λ z. RunsAs (place_in scope k) n scope.frame result (initialised scope name z (sense e scope) then_act)
-    ((place_code scope.world k.names e 0 ++ copies) ++ others))
+    ((place_code scope.world k.names e k.regions.all value ++ copies) ++ others))
     (sym (type_settles scope.world.structs of type (sense e scope).shape (subst (λ z. IsTarget z) (sym one.shape_is) one.target) ∙ is))
     (record {
       same = λ m c next rest after fits ways.
           subst (λ z. SameAt (place_in scope k) n (initialised scope name (StructShape tag) (sense e scope) then_act next m) (meaning.statements z after c))
-          (sym (put_all (place_code scope.world k.names e 0 ++ copies) others rest ∙ put_all (place_code scope.world k.names e 0) copies (put others rest)))
-          (placed_begins (place_in scope k) n scope name tag shapes (sense e scope) (static_shape scope.world k.names e) (place_code scope.world k.names e 0)
-          then_act next m c (put others rest) after refl refl known.world.structs object pending fits one
+          (sym (put_all (place_code scope.world k.names e k.regions.all value ++ copies) others rest ∙
+          put_all (place_code scope.world k.names e k.regions.all value) copies (put others rest)))
+          (placed_begins (place_in scope k) n scope name tag shapes (sense e scope) (static_shape scope.world k.names e)
+          (place_code scope.world k.names e k.regions.all value) then_act next m c (put others rest) after refl refl known.world.structs object pending fits one
           (record {
-            go = λ m2 c2 fits2 later2 blocks2.
+            go = λ m2 c2 fits2 later2 blocks2 kept2.
                 more.same m2 c2 next rest after fits2
-                (ways_later scope.world k.program n (around (place_in scope k) scope.frame) (around (place_in scope k) scope.frame) m m2 c c2 result next (meaning.statements rest after) after (less_self (around (place_in scope k) scope.frame)) later2
-                blocks2 ways);
+                (ways_later scope.world k.program n k.regions (around (place_in scope k) scope.frame) (around (place_in scope k) scope.frame) m m2 c c2 result
+                next (meaning.statements rest after) after (less_self (around (place_in scope k) scope.frame)) later2 blocks2 kept2 ways);
           }));
     })
   where
     copies : List core.Statement
-    copies = Do (LocalAddress 1 0 k.made) ∷ Do (Copy 1 0 (layout_of scope.world (StructShape tag))) ∷ []
+    copies = copy_code (place_in scope k) (layout_of scope.world (StructShape tag))
 
 -- a struct that is made
 made_initialised : (n : ℕ) (scope : Scope) (k : Known) (result : Shape) (name tag : List ℕ) (of : TypeName) (e : Expression) (value : ℕ)
     (shapes : List Shape) (then_act : Scope → Act Flow) (others : List core.Statement) → IsObjectType scope.world.structs of
     → settled (written of) ≡ StructShape tag → IsObject scope.world.structs (StructShape tag) → TakesWhole scope.world k.names e
-    → AreNumbered k.owned value (whole_values scope.world k.names e) → IsKnown scope k → CallsAs scope.world k.program n → k.pending ≡ StructShape tag ∷ shapes
+    → AreNumbered k.owned value (whole_values scope.world k.names e) → k.kept ≤ value → IsKnown scope k → CallsAs scope.world k.program n → k.pending ≡ StructShape tag ∷ shapes
     → RunsAs (place_in (scope_more scope k name (StructShape tag)) (known_more k name (StructShape tag) shapes)) n scope.frame result
     (then_act (scope_more scope k name (StructShape tag))) others
     → RunsAs (place_in scope k) n scope.frame result (initialised scope name (settled_by (written of) (sense e scope).shape) (sense e scope) then_act)
-    ((whole_code scope.world k.names e 0 value ++ (Do (LocalAddress 1 0 k.made) ∷ Do (Copy 1 0 (layout_of scope.world (StructShape tag))) ∷ [])) ++ others)
-made_initialised n scope k result name tag of e value shapes then_act others type is object h numbered known calls pending more =
-    let one = whole_same e scope k h known n calls 0 value numbered in
+    ((whole_code scope.world k.names e k.regions.all value ++ copy_code (place_in scope k) (layout_of scope.world (StructShape tag))) ++ others)
+made_initialised n scope k result name tag of e value shapes then_act others type is object h numbered less known calls pending more =
+    let one = (whole_same e scope k h known n calls k.regions.all value numbered).whole in
     subst (λ z. RunsAs (place_in scope k) n scope.frame result (initialised scope name z (sense e scope) then_act)
-    ((whole_code scope.world k.names e 0 value ++ copies) ++ others))
+    ((whole_code scope.world k.names e k.regions.all value ++ copies) ++ others))
     (sym (type_settles scope.world.structs of type (sense e scope).shape (subst (λ z. IsTarget z) (sym one.shape_is) tt) ∙ is))
     (record {
       same = λ m c next rest after fits ways.
           subst (λ z. SameAt (place_in scope k) n (initialised scope name (StructShape tag) (sense e scope) then_act next m) (meaning.statements z after c))
-          (sym (put_all (whole_code scope.world k.names e 0 value ++ copies) others rest ∙
-          put_all (whole_code scope.world k.names e 0 value) copies (put others rest)))
-          (whole_begins (place_in scope k) n value scope name tag shapes (sense e scope) (whole_code scope.world k.names e 0 value)
+          (sym (put_all (whole_code scope.world k.names e k.regions.all value ++ copies) others rest ∙
+          put_all (whole_code scope.world k.names e k.regions.all value) copies (put others rest)))
+          (whole_begins (place_in scope k) n value scope name tag shapes (sense e scope) (whole_code scope.world k.names e k.regions.all value)
           then_act next m c (put others rest) after refl refl known.world.structs object pending fits one
           (record {
-            go = λ m2 c2 fits2 later2 blocks2.
+            go = λ m2 c2 fits2 later2 blocks2 kept2.
                 more.same m2 c2 next rest after fits2
-                (ways_later scope.world k.program n (around (place_in scope k) scope.frame) (around (place_in scope k) scope.frame) m m2 c c2 result next
-                (meaning.statements rest after) after (less_self (around (place_in scope k) scope.frame)) later2 blocks2 ways);
+                (ways_later scope.world k.program n k.regions (around (place_in scope k) scope.frame) (around (place_in scope k) scope.frame) m m2 c c2 result
+                next (meaning.statements rest after) after (less_self (around (place_in scope k) scope.frame)) later2 blocks2 kept2 ways);
           }));
     })
   where
     copies : List core.Statement
-    copies = Do (LocalAddress 1 0 k.made) ∷ Do (Copy 1 0 (layout_of scope.world (StructShape tag))) ∷ []
+    copies = copy_code (place_in scope k) (layout_of scope.world (StructShape tag))
 
 struct_initialised : (n : ℕ) (scope : Scope) (k : Known) (result : Shape) (name tag : List ℕ) (of : TypeName) (e : Expression) (value : ℕ)
     (shapes : List Shape) (then_act : Scope → Act Flow) (others : List core.Statement) → IsObjectType scope.world.structs of
     → settled (written of) ≡ StructShape tag → IsObject scope.world.structs (StructShape tag) → TakesWhole scope.world k.names e
-    → AreNumbered k.owned value (initial_values scope.world k.names (StructShape tag) e) → IsKnown scope k → CallsAs scope.world k.program n
+    → AreNumbered k.owned value (initial_values scope.world k.names (StructShape tag) e) → k.kept ≤ value → IsKnown scope k → CallsAs scope.world k.program n
     → k.pending ≡ StructShape tag ∷ shapes
     → RunsAs (place_in (scope_more scope k name (StructShape tag)) (known_more k name (StructShape tag) shapes)) n scope.frame result
     (then_act (scope_more scope k name (StructShape tag))) others
     → RunsAs (place_in scope k) n scope.frame result (initialised scope name (settled_by (written of) (sense e scope).shape) (sense e scope) then_act)
-    (value_code scope.world k.names (StructShape tag) e k.made value ++ others)
-struct_initialised n scope k result name tag of e value shapes then_act others type is object h numbered known calls pending more =
+    (value_code scope.world k.names (StructShape tag) e k.regions.all k.made value ++ others)
+struct_initialised n scope k result name tag of e value shapes then_act others type is object h numbered less known calls pending more =
     by (is_made scope.world e) refl
   where
     copies : List core.Statement
-    copies = Do (LocalAddress 1 0 k.made) ∷ Do (Copy 1 0 (layout_of scope.world (StructShape tag))) ∷ []
+    copies = copy_code (place_in scope k) (layout_of scope.world (StructShape tag))
 
     goal : Bool → Type 0
     goal b = RunsAs (place_in scope k) n scope.frame result (initialised scope name (settled_by (written of) (sense e scope).shape) (sense e scope) then_act)
-        ((source_code scope.world k.names b e value ++ copies) ++ others)
+        ((source_code scope.world k.names b e k.regions.all value ++ copies) ++ others)
 
     by : (b : Bool) → is_made scope.world e ≡ b → goal (is_made scope.world e)
     by true made =
         subst goal (sym made)
         (made_initialised n scope k result name tag of e value shapes then_act others type is object h
-        (subst (λ z. AreNumbered k.owned value (if z then whole_values scope.world k.names e else [])) made numbered) known calls pending more)
+        (subst (λ z. AreNumbered k.owned value (if z then whole_values scope.world k.names e else expression_values scope.world k.names e)) made numbered) less known calls
+        pending more)
     by false made =
         subst goal (sym made)
-        (place_initialised n scope k result name tag of e shapes then_act others type is object (unmade_place scope.world k.names e h made) known calls pending
-        more)
+        (place_initialised n scope k result name tag of e value shapes then_act others type is object (unmade_place scope.world k.names e h made)
+        (subst (λ z. AreNumbered k.owned value (if z then whole_values scope.world k.names e else expression_values scope.world k.names e)) made numbered) less
+        known calls pending more)
 
 initialised_same : (n : ℕ) (scope : Scope) (k : Known) (result : Shape) (name : List ℕ) (of : TypeName) (e : Expression) (value : ℕ)
     (shapes : List Shape) (then_act : Scope → Act Flow) (others : List core.Statement) → IsObjectType scope.world.structs of
     → TakesValue scope.world k.names (settled (written of)) e
-    → AreNumbered k.owned value (initial_values scope.world k.names (settled (written of)) e) → IsKnown scope k → CallsAs scope.world k.program n
+    → AreNumbered k.owned value (initial_values scope.world k.names (settled (written of)) e) → k.kept ≤ value → IsKnown scope k → CallsAs scope.world k.program n
     → k.pending ≡ settled (written of) ∷ shapes
     → RunsAs (place_in (scope_more scope k name (settled (written of))) (known_more k name (settled (written of)) shapes)) n scope.frame result
     (then_act (scope_more scope k name (settled (written of)))) others
     → RunsAs (place_in scope k) n scope.frame result (initialised scope name (settled_by (written of) (sense e scope).shape) (sense e scope) then_act)
-    (value_code scope.world k.names (settled (written of)) e k.made value ++ others)
-initialised_same n scope k result name of e value shapes then_act others type h numbered known calls pending more =
+    (value_code scope.world k.names (settled (written of)) e k.regions.all k.made value ++ others)
+initialised_same n scope k result name of e value shapes then_act others type h numbered less known calls pending more =
     by (settled (written of)) refl (object_settled scope.world.structs of type) h numbered pending more
   where
     goal : Shape → Type 0
     goal s = RunsAs (place_in scope k) n scope.frame result (initialised scope name (settled_by (written of) (sense e scope).shape) (sense e scope) then_act)
-        (value_code scope.world k.names s e k.made value ++ others)
+        (value_code scope.world k.names s e k.regions.all k.made value ++ others)
 
     by : (s : Shape) → settled (written of) ≡ s → IsObject scope.world.structs s → TakesValue scope.world k.names s e
         → AreNumbered k.owned value (initial_values scope.world k.names s e) → k.pending ≡ s ∷ shapes
         → RunsAs (place_in (scope_more scope k name s) (known_more k name s shapes)) n scope.frame result (then_act (scope_more scope k name s)) others
         → goal s
     by (StructShape tag) is object takes numbers first on =
-        struct_initialised n scope k result name tag of e value shapes then_act others type is object takes numbers known calls first on
-    by IntShape is object takes numbers first on = word_initialised n scope k result name of IntShape e shapes then_act others type is tt takes known calls first on
+        struct_initialised n scope k result name tag of e value shapes then_act others type is object takes numbers less known calls first on
+    by IntShape is object takes numbers first on = word_initialised n scope k result name of IntShape e value shapes then_act others type is tt takes numbers less known calls first on
     by UnsignedShape is object takes numbers first on =
-        word_initialised n scope k result name of UnsignedShape e shapes then_act others type is tt takes known calls first on
-    by CharShape is object takes numbers first on = word_initialised n scope k result name of CharShape e shapes then_act others type is tt takes known calls first on
+        word_initialised n scope k result name of UnsignedShape e value shapes then_act others type is tt takes numbers less known calls first on
+    by CharShape is object takes numbers first on = word_initialised n scope k result name of CharShape e value shapes then_act others type is tt takes numbers less known calls first on
     by (ThinShape b owner to) is object takes numbers first on =
-        word_initialised n scope k result name of (ThinShape b owner to) e shapes then_act others type is object takes known calls first on
+        word_initialised n scope k result name of (ThinShape b owner to) e value shapes then_act others type is object takes numbers less known calls first on
     by VoidShape is object takes numbers first on = absurd object
     by (FatShape to) is object takes numbers first on = absurd object
-    by HandleShape is object takes numbers first on = absurd object
+    by HandleShape is object takes numbers first on =
+        word_initialised n scope k result name of HandleShape e value shapes then_act others type is tt takes numbers less known calls first on
     by KeyShape is object takes numbers first on = absurd object
     by (UnionShape tag) is object takes numbers first on = absurd object
     by (ArrayShape count from) is object takes numbers first on = absurd object
 
+-- the place behind a declaration, as lowering knows it
+abbrev pub known_behind : Known → Declaration → List Shape → Known
+known_behind k d pending = record (known_more k (tree.local_of d).text (local_shape d) pending) { regions = regions_with d k.regions }
+
+pub known_next : (scope : Scope) (k : Known) (d : Declaration) (pending : List Shape) → IsObject scope.world.structs (local_shape d) → IsKnown scope k
+    → IsKnown (scope_more scope k (tree.local_of d).text (local_shape d)) (known_behind k d pending)
+known_next scope k d pending object known =
+    let still = known_still scope k (tree.local_of d).text (local_shape d) pending object known in
+    record { world = still.world; locals = still.locals; words = still.words }
+
 pub declaration_same : (n : ℕ) (d : Declaration) (value : ℕ) (scope : Scope) (k : Known) (result : Shape) (shapes : List Shape) (then_act : Scope → Act Flow)
-    (others : List core.Statement) → TakesDeclaration scope.world k.names d
-    → AreNumbered k.owned value (declaration_values scope.world k.names d) → IsKnown scope k → CallsAs scope.world k.program n → k.pending ≡ local_shape d ∷ shapes
-    → RunsAs (place_in (scope_more scope k (tree.local_of d).text (local_shape d)) (known_more k (tree.local_of d).text (local_shape d) shapes)) n scope.frame
-    result (then_act (scope_more scope k (tree.local_of d).text (local_shape d))) others
-    → RunsAs (place_in scope k) n scope.frame result (meaning_of.declaration d scope then_act) (declaration_code scope.world k.names d k.made value ++ others)
-declaration_same n (tree.Local of name Initializer.Unset) value scope k result shapes then_act others h numbered known calls pending more =
-    unset_same n scope k result name.text (settled (written of)) shapes then_act others known (object_settled scope.world.structs of h.0) h.1 pending more
-declaration_same n (tree.Local of name (Initializer.Elements count)) value scope k result shapes then_act others h numbered known calls pending more = absurd h.1
-declaration_same n (tree.Local of name (Initializer.Value e)) value scope k result shapes then_act others h numbered known calls pending more =
-    initialised_same n scope k result name.text of e value shapes then_act others h.0 h.1 numbered known calls pending more
-declaration_same n (tree.Region at region handle) value scope k result shapes then_act others h numbered known calls pending more = absurd h
-declaration_same n (tree.Open at region handle key) value scope k result shapes then_act others h numbered known calls pending more = absurd h
-declaration_same n (tree.Alias at region of alias pointer) value scope k result shapes then_act others h numbered known calls pending more = absurd h
-declaration_same n (tree.NewKey at region key) value scope k result shapes then_act others h numbered known calls pending more = absurd h
+    (others : List core.Statement) → TakesDeclaration scope.world k.names d → AreNumbered k.owned value (declaration_values scope.world k.names d)
+    → k.kept ≤ value → IsKnown scope k → CallsAs scope.world k.program n → k.pending ≡ local_shape d ∷ shapes
+    → RunsAs (place_in (scope_more scope k (tree.local_of d).text (local_shape d)) (known_behind k d shapes)) n scope.frame result
+    (then_act (scope_more scope k (tree.local_of d).text (local_shape d))) others
+    → RunsAs (place_in scope k) n scope.frame result (meaning_of.declaration d scope then_act)
+    (declaration_code scope.world k.names d k.regions.all k.made value ++ (others ++ ending_code d k.regions.all))
+declaration_same n (tree.Local of name Initializer.Unset) value scope k result shapes then_act others h numbered less known calls pending more =
+    subst (λ z. RunsAs (place_in scope k) n scope.frame result (declared scope name.text (settled (written of))
+    (meaning_of.first_object scope.world (settled (written of))) then_act) (unset_code scope.world (settled (written of)) k.regions.all k.made ++ z))
+    (sym (append-nil others))
+    (unset_same n scope k result name.text (settled (written of)) shapes then_act others known (object_settled scope.world.structs of h.0) h.1 pending more)
+declaration_same n (tree.Local of name (Initializer.Elements count)) value scope k result shapes then_act others h numbered less known calls pending more =
+    absurd h.1
+declaration_same n (tree.Local of name (Initializer.Value e)) value scope k result shapes then_act others h numbered less known calls pending more =
+    subst (λ z. RunsAs (place_in scope k) n scope.frame result
+    (initialised scope name.text (settled_by (written of) (sense e scope).shape) (sense e scope) then_act)
+    (value_code scope.world k.names (settled (written of)) e k.regions.all k.made value ++ z)) (sym (append-nil others))
+    (initialised_same n scope k result name.text of e value shapes then_act others h.0 h.1 numbered less known calls pending more)
+declaration_same n (tree.Region at region handle) value scope k result shapes then_act others h numbered less known calls pending more =
+    region_declared (place_in scope k) n scope handle.text shapes result then_act others refl refl pending more
+declaration_same n (tree.Open at region handle key) value scope k result shapes then_act others h numbered less known calls pending more = absurd h
+declaration_same n (tree.Alias at region of alias pointer) value scope k result shapes then_act others h numbered less known calls pending more = absurd h
+declaration_same n (tree.NewKey at region key) value scope k result shapes then_act others h numbered less known calls pending more = absurd h
 
 -- a local is an object
 pub shape_object : (w : World) (names : List Named) (d : Declaration) → TakesDeclaration w names d → IsObject w.structs (local_shape d)
 shape_object w names (tree.Local of name initializer) h = object_settled w.structs of h.0
-shape_object w names (tree.Region at region handle) h = absurd h
+shape_object w names (tree.Region at region handle) h = tt
 shape_object w names (tree.Open at region handle key) h = absurd h
 shape_object w names (tree.Alias at region of alias pointer) h = absurd h
 shape_object w names (tree.NewKey at region key) h = absurd h

@@ -6,7 +6,7 @@ use Rattle.std.proofs.lemmas.Bool.{eq-eqb}
 use Rattle.std.proofs.lemmas.Bool.Decides.{nat_tests}
 use Rattle.source_meaning.specs.Shapes.{Shape}
 use Rattle.source_meaning.specs.Memory as source
-use Rattle.source_meaning.specs.Memory.{Scalar, Spot, Holds, same_region, with_state, state_is_live}
+use Rattle.source_meaning.specs.Memory.{Spot, same_region, with_state, state_is_live}
 use Rattle.source_meaning.specs.Steps.{World}
 use Rattle.core_meaning.specs.Memory as core
 use Rattle.core_meaning.specs.Memory.{Content, Part, PartShape, Layout, shape_in, blank_of, with_object, with_standing, blanks}
@@ -14,7 +14,7 @@ use Rattle.core_meaning.specs.Core.{Local}
 use Rattle.core_meaning.specs.Meaning.{with_objects}
 use Rattle.source_lowering.specs.Layouts.{layout_of}
 use Rattle.source_lowering.specs.Programs.{locals_of}
-use Rattle.source_lowering.proofs.Relations.{region_at, at, PartIs, AreShaped, AreMade, ArePending, PartsHold, Agree, Bound, nothing, Later}
+use Rattle.source_lowering.proofs.Relations.{region_at, at, PartIs, AreShaped, AreMade, ArePending, PartsHold, IsLexical, Agree, Bound, nothing, Later}
 use Rattle.core_meaning.proofs.Spots.{region_same, region_self}
 use Rattle.source_lowering.proofs.Keeping.{region_as, shown_later}
 
@@ -42,6 +42,10 @@ made_objects r (l ∷ ls) c q e = made_objects r ls (with_object c r (blanks l.l
 pub made_calls : (r : core.Region) (ls : List Local) (c : core.Memory) → (with_objects r ls c).calls ≡ c.calls
 made_calls r [] c = refl
 made_calls r (l ∷ ls) c = made_calls r ls (with_object c r (blanks l.layout l.count))
+
+pub made_births : (r : core.Region) (ls : List Local) (c : core.Memory) → (with_objects r ls c).births ≡ c.births
+made_births r [] c = refl
+made_births r (l ∷ ls) c = made_births r ls (with_object c r (blanks l.layout l.count))
 
 -- ---- both enter
 
@@ -84,7 +88,7 @@ pub held_on : (c c' : core.Memory) (t : core.Spot) (j : ℕ) (cs : List Content)
 held_on c c' t j [] e h = tt
 held_on c c' t j (x ∷ xs) e ((q, (is, holds)), others) = ((q, (e t j q is, holds)), held_on c c' t (j + 1) xs e others)
 
-live_in : (q r : source.Region) (b : Bool) (x : source.State) (y : core.Standing) → same_region q r ≡ b → state_is_live x ≡ core.is_live y
+pub live_in : (q r : source.Region) (b : Bool) (x : source.State) (y : core.Standing) → same_region q r ≡ b → state_is_live x ≡ core.is_live y
     → state_is_live (if same_region q r then source.Live else x) ≡ core.is_live (if core.same_region (region_at q) (region_at r) then core.Live else y)
 live_in q r true x y e h = rw (region_as q r, e) refl
 live_in q r false x y e h = rw (region_as q r, e) h
@@ -121,6 +125,13 @@ agree_entered w m c ls a = record {
   unowned = λ k h.
       let less : c.calls ≤ k = subst (λ z. z ≤ k) (made_calls (core.Frame c.activations) ls (core_opened c)) h in
       made_objects (core.Frame c.activations) ls (core_opened c) (core.Own k) refl ∙ a.unowned k less;
+  births = a.births ∙ sym (made_births (core.Frame c.activations) ls (core_opened c));
+  heap = a.heap;
+  lexical = λ d. subst IsLexical (sym (made_standing (core.Frame c.activations) ls (core_opened c) (core.Born d))) (a.lexical d);
+  blocks = λ d. a.blocks d ∙ sym (made_objects (core.Frame c.activations) ls (core_opened c) (core.Born d) refl);
+  ungranted = λ d t j r h.
+      made_parts (core.Frame c.activations) ls (core_opened c) t j (ap (λ z. core.same_region z (core.Frame c.activations)) r) ∙
+      a.ungranted d t j r (subst (λ z. z ≤ t.object) (made_objects (core.Frame c.activations) ls (core_opened c) (core.Born d) refl) h);
 }
 
 -- ---- the objects that Core has made

@@ -18,7 +18,7 @@ use Rattle.source_meaning.specs.Shapes.{
   ArrayShape,
 }
 use Rattle.source_meaning.specs.Memory as source
-use Rattle.source_meaning.specs.Memory.{IntegerType, AsInt, AsUnsigned, AsChar, Scalar, Integer}
+use Rattle.source_meaning.specs.Memory.{IntegerType, AsInt, AsUnsigned, AsChar, Scalar, Integer, HandleOf}
 use Rattle.source_meaning.specs.Steps as steps
 use Rattle.source_meaning.specs.Steps.{give, need}
 use Rattle.source_meaning.specs.Operators as operators
@@ -102,7 +102,7 @@ common_taken CharShape t h = promoted_taken t
 common_taken VoidShape t h = promoted_taken t
 common_taken (ThinShape may_be_null owner to) t h = promoted_taken t
 common_taken (FatShape to) t h = absurd h
-common_taken HandleShape t h = absurd h
+common_taken HandleShape t h = promoted_taken t
 common_taken KeyShape t h = absurd h
 common_taken (StructShape tag) t h = absurd h
 common_taken (UnionShape tag) t h = absurd h
@@ -178,7 +178,8 @@ applied_gives p n d o a b sa sb ca cb taken1 taken2 left right = record {
                   (later_on (within p) m m1 m2 c.memory c1.memory c2.memory later1 later2) (λ k h. kept2 k (omega (arith, h)) ∙ kept1 k h) goes)
                   (λ v o2.
                   thin_same p.world p.program n sb m2 c2.memory v (c2.temps (d + 1)) (λ y. third s (Integer t1 w1) y) _ o2
-                  (λ x f. stuck_same p.world p.program n _) (λ t byte x full leads. stuck_same p.world p.program n _));
+                  (λ x f. stuck_same p.world p.program n _) (λ t byte x full leads. stuck_same p.world p.program n _))
+                  (λ birth2 temp2 shape2. stuck_same p.world p.program n _);
             }))
             (λ u o1.
             right.same m1 c1 (λ ys. second s u ys) (put (operator_code o sa sb d) rest) next fits1 (record {
@@ -191,7 +192,18 @@ applied_gives p n d o a b sa sb ca cb taken1 taken2 left right = record {
                   (λ v o2.
                   pointers_operated p n d o sa sb u v m c m2 c2 s rest next
                   (subst (λ z. IsThin p.world m2 c2.memory sa u z) (sym (kept2 d (omega arith))) o1') o2 fits2
-                  (later_on (within p) m m1 m2 c.memory c1.memory c2.memory later1 later2) (λ k h. kept2 k (omega (arith, h)) ∙ kept1 k h) goes);
+                  (later_on (within p) m m1 m2 c.memory c1.memory c2.memory later1 later2) (λ k h. kept2 k (omega (arith, h)) ∙ kept1 k h) goes)
+                  (λ birth2 temp2 shape2.
+                  thin_same p.world p.program n sa m2 c2.memory u (c1.temps d) (λ z. third s z (HandleOf birth2)) _ o1'
+                  (λ x f. stuck_same p.world p.program n _) (λ t byte x full leads. stuck_same p.world p.program n _));
+            }))
+            (λ birth1 temp1 shape1.
+            right.same m1 c1 (λ ys. second s (HandleOf birth1) ys) (put (operator_code o sa sb d) rest) next fits1 (record {
+              go = λ m2 c2 vs2 fits2 later2 kept2 given2.
+                  one_same p.world p.program n sb m2 c2.memory vs2 (c2.temps (d + 1)) (λ y. third s (HandleOf birth1) y) _ taken2 given2
+                  (λ t2 w2 temp2 shape2 type2 small2. stuck_same p.world p.program n _)
+                  (λ v o2. stuck_same p.world p.program n _)
+                  (λ birth2 temp2 shape2. stuck_same p.world p.program n _);
             }));
       }));
 }

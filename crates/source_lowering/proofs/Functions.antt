@@ -62,7 +62,7 @@ use Rattle.core_meaning.specs.Steps.{Config, with_temp}
 use Rattle.core_meaning.specs.Meaning as meaning
 use Rattle.core_meaning.specs.Meaning.{values_of, passed_in}
 use Rattle.source_lowering.specs.Lowered.{number_of, all_of, from_on}
-use Rattle.source_lowering.specs.Programs.{locals_of, block_shapes, end_code, body_code, function_code, routine_values}
+use Rattle.source_lowering.specs.Programs.{no_regions, locals_of, block_shapes, end_code, body_code, function_code, routine_values}
 use Rattle.source_lowering.proofs.Relations.{Shown, Agree, Later, AreLed, Same, Next, BothCalled, BothReturned, Bound, nothing}
 use Rattle.source_lowering.proofs.Keeping.{later_on, all_led_later, IsLess, later_less}
 use Rattle.source_lowering.proofs.Runs.{stuck_same, says_same}
@@ -73,7 +73,7 @@ use Rattle.source_lowering.proofs.Owning.{own_gone, gone_later, gone_agree, own_
 use Rattle.source_lowering.proofs.Calls.{AllGiven, ResultIs, Returning, EntersAs, CallsAs, called_before}
 use Rattle.source_lowering.proofs.Blocks.{result_later, entered_fits, next_out, after_out, ways_out, HasOwn}
 use Rattle.source_lowering.proofs.EachExpression.{Known}
-use Rattle.source_lowering.proofs.EachWhole.{AreNumbered}
+use Rattle.source_lowering.proofs.Numbered.{AreNumbered}
 use Rattle.source_lowering.proofs.EachStatement.{given_later, body_same}
 
 -- ---- what is passed
@@ -191,7 +191,7 @@ end_same w fs n number own f m0 c0 s k m c first numbered routine goes a l = by 
     by (ThinShape may_be_null owner to) e taken =
         rw e (main_alone (is_main f.name) (ThinShape may_be_null owner to) refl e (all_of (end_code (ThinShape may_be_null owner to))) (λ z. refl))
     by (FatShape to) e taken = absurd taken
-    by HandleShape e taken = absurd taken
+    by HandleShape e taken = rw e (main_alone (is_main f.name) HandleShape refl e (all_of (end_code HandleShape)) (λ z. refl))
     by KeyShape e taken = absurd taken
     by (StructShape tag) e taken = absurd taken
     by (UnionShape tag) e taken = absurd taken
@@ -214,19 +214,20 @@ entered_same : (w : World) (fs : Program) (n number : ℕ) (f : Routine) (vss : 
           = f.result;
     })) (left_by f s) m) (meaning.statements (body_code w f) (meaning.left number c.calls k) c0)
 entered_same w fs n number f vss xs m c c0 s k plain calls numbered routine agree led given temps blocks has later goes =
-    body_same f.parameters f.body scope known (length f.parameters) n vss routine.parameters routine.body values_numbered (record
+    body_same f.parameters f.body scope known (length f.parameters) n vss routine.parameters routine.body values_numbered (omega arith) (record
     { world = plain; locals = tt; words = tt }) routine.result calls (omega arith) refl
     (source_in m) inside (next_out (left_by f s) m.activations) NoStatements (after_out (ended f number c.calls k) c0)
-    (entered_fits w fs [] [] [] shapes m c0 c.calls (routine_values w f) agree blocks has tt led)
+    (entered_fits w fs [] [] [] shapes m c0 c.calls (routine_values w f) 0 no_regions agree blocks has tt led)
     (given_later nothing w m (source_in m) c0.memory inside.memory (part_shapes f.parameters) vss (values_of inside.temps (from_on 0 (length f.parameters)))
     (entered_later nothing w m c0.memory (locals_of w shapes) agree)
     (subst (λ z. AllGiven w m c0.memory (part_shapes f.parameters) vss z) (sym (ap (λ z. values_of z (from_on 0 (length f.parameters))) temps ∙ passed_first
     xs (length f.parameters) (many_given w m c0.memory f.parameters vss xs given))) given))
-    (ways_out w fs n inside_bound shapes m c0 f.result (left_by f s) (ended f number c.calls k) agree (omega arith) (record {
-      falls = λ m' c' a l e. end_same w fs n number c.calls f m c s k m' c' (omega arith) numbered routine goes a (on m' c' l);
-      breaks = λ m' c' a l e. stuck_same w fs n _;
-      continues = λ m' c' a l e. stuck_same w fs n _;
-      returns = λ m' c' vs ys a l e r. returned_same w fs n number c.calls f m c s k m' c' vs ys (omega arith) numbered goes a (on m' c' l) r;
+    (ways_out w fs n no_regions inside_bound shapes m c0 f.result (left_by f s) (ended f number c.calls k) agree (omega arith) (record {
+      falls = λ m' c' o. end_same w fs n number c.calls f m c s k m' c' (omega arith) numbered routine goes o.agree (on m' c' o.later);
+      breaks = λ m' c' o. stuck_same w fs n _;
+      continues = λ m' c' o. stuck_same w fs n _;
+      returns = λ m' c' vs ys o r.
+          returned_same w fs n number c.calls f m c s k m' c' vs ys (omega arith) numbered goes o.agree (on m' c' o.later) r;
     }))
   where
     scope : Scope
@@ -242,7 +243,17 @@ entered_same w fs n number f vss xs m c c0 s k plain calls numbered routine agre
         zero_on i = omega arith
 
     known : Known
-    known = record { program = fs; names = []; outer = []; made = 0; pending = shapes; own = c.calls; owned = routine_values w f }
+    known = record {
+      program = fs;
+      names = [];
+      outer = [];
+      made = 0;
+      pending = shapes;
+      own = c.calls;
+      owned = routine_values w f;
+      kept = 0;
+      regions = no_regions;
+    }
 
     inside : Config
     inside = meaning.in_block (locals_of w shapes) c0

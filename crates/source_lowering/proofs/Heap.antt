@@ -1,6 +1,6 @@
--- The heap at the start: the globals, in the source and in Core.
+-- The heap at the start: both have it, with the globals, and agree.
 use Rattle.std.proofs.Common.{◌≡◌, ℕ, zero, suc, ◌+◌, ◌≤◌, List, [], ◌∷◌, length, map, false, nat_eq, Option, Some, None, refl, sym, ap, ◌∙◌, subst, arith}
-use Rattle.std.specs.Prelude.{◌*◌, ◌/◌, slice_get, option_and_then, if◌then◌else◌}
+use Rattle.std.specs.Prelude.{slice_get, if◌then◌else◌}
 use Rattle.std.proofs.lemmas.Bool.Decides.{nat_tests}
 use Rattle.cyc_tree.specs.Tree as tree
 use Rattle.cyc_tree.specs.Tree.{Initial, Item}
@@ -21,178 +21,25 @@ use Rattle.source_meaning.specs.Shapes.{
   settled,
 }
 use Rattle.source_meaning.specs.Memory as source
-use Rattle.source_meaning.specs.Memory.{IntegerType, Integer, Scalar, Spot, Holds, Cell, Object, object_of, state_is_live, same_region}
+use Rattle.source_meaning.specs.Memory.{Scalar, Spot, Holds, Object, state_is_live}
 use Rattle.source_meaning.specs.Steps.{World}
 use Rattle.source_meaning.specs.Conversions.{cells_of}
-use Rattle.source_meaning.specs.Programs.{global_shape, global_object, global_objects, globals_from, heap_alone, heap_spot}
+use Rattle.source_meaning.specs.Programs.{global_objects, globals_from, heap_alone, heap_spot}
 use Rattle.core_meaning.specs.Memory as core
-use Rattle.core_meaning.specs.Memory.{Content, Word, Part, Layout, blanks}
+use Rattle.core_meaning.specs.Memory.{Part, blanks}
 use Rattle.core_meaning.specs.Core.{Datum}
 use Rattle.core_meaning.specs.Meaning.{datum_parts, first_memory}
-use Rattle.source_lowering.specs.Layouts.{layout_of, first_part}
+use Rattle.source_lowering.specs.Layouts.{layout_of}
 use Rattle.source_lowering.specs.Lowered.{width_of}
-use Rattle.source_lowering.specs.Programs.{constant_content, initial_content, datum_of, first_content, global_datum, data_of}
-use Rattle.source_lowering.specs.Taken.{IsIntegerShape, IsNullable, TakesConstant}
-use Rattle.source_lowering.specs.Lowerable.{IsObject, IsNoStruct, AreStructs, TakesGlobal, TakesProgram}
-use Rattle.source_lowering.proofs.Relations.{region_at, at, PartIs, AreMade, Leads, Shown, IsShown, Agree, AreLed}
+use Rattle.source_lowering.specs.Programs.{constant_content, initial_content, datum_of, global_datum, data_of}
+use Rattle.source_lowering.specs.Lowerable.{IsObject, AreStructs, TakesGlobal, TakesProgram}
+use Rattle.source_lowering.proofs.Relations.{region_at, at, PartIs, AreMade, Leads, IsShown, IsLexical, Agree, AreLed}
 use Rattle.source_lowering.proofs.Integers.{IsWordShape, object_word}
-use Rattle.source_lowering.proofs.Cells.{plain_of}
-use Rattle.source_lowering.proofs.StructCells.{object_cells}
 use Rattle.source_lowering.proofs.Making.{cell_with, spot_of, cells_from}
-use Rattle.source_lowering.proofs.Entering.{spot_in, cell_blank, cells_made}
-use Rattle.source_lowering.proofs.Clearing.{BeginsWith, layout_first}
-use Rattle.source_lowering.proofs.Declaring.{blank_holds}
-use Rattle.source_lowering.proofs.Beginning.{IsFirstCell, first_cell_is, first_shown}
+use Rattle.source_lowering.proofs.Entering.{spot_in, cells_made}
 use Rattle.source_lowering.proofs.WrittenTypes.{object_settled}
-
-abbrev pub part_of : ℕ → Content → Part
-part_of width x = record { offset = 0; width = width; content = x }
-
-abbrev cell_of : Shape → source.Content → Cell
-cell_of shape content = record { shape = shape; content = content }
-
--- ---- one global
-
--- an object of Core's data
-datum_is : (w : World) (s : Shape) (x : Content) (ds : List Datum) → IsWordShape s → datum_parts (datum_of w s x ∷ ds) 0 0 0 ≡ Some (part_of (width_of s) x)
-datum_is w IntShape x ds h = refl
-datum_is w UnsignedShape x ds h = refl
-datum_is w CharShape x ds h = refl
-datum_is w VoidShape x ds h = absurd h
-datum_is w (ThinShape may_be_null owner to) x ds h = refl
-datum_is w (FatShape to) x ds h = absurd h
-datum_is w HandleShape x ds h = absurd h
-datum_is w KeyShape x ds h = absurd h
-datum_is w (StructShape tag) x ds h = absurd h
-datum_is w (UnionShape tag) x ds h = absurd h
-datum_is w (ArrayShape count of) x ds h = absurd h
-
--- ---- the source's object
-
--- a global that is given a constant is no struct
-integer_single : (s : Shape) → IsIntegerShape s → IsNoStruct s
-integer_single (StructShape tag) h = h
-integer_single _ h = tt
-
-nullable_single : (s : Shape) → IsNullable s → IsNoStruct s
-nullable_single (StructShape tag) h = h
-nullable_single _ h = tt
-
-pub constant_single : (c : tree.Constant) (s : Shape) → TakesConstant s c → IsNoStruct s
-constant_single (tree.Number at value suffix) s h = integer_single s h
-constant_single (tree.Negative at value suffix) s h = integer_single s h
-constant_single (tree.Character at byte) s h = integer_single s h
-constant_single (tree.Text at bytes) s h = absurd h
-constant_single (tree.Null at) s h = nullable_single s h
-
--- what the cells of a global hold before its constant is stored
-abbrev content_of : Initial → Shape → source.Content
-content_of Initial.Unset s = source.first_content s
-content_of (Initial.Elements count) s = source.Blank
-content_of (Initial.Given c) s = source.Blank
-
-object_is : (w : World) (initial : Initial) (s : Shape) → TakesGlobal s initial
-    → global_object w initial s ≡ object_of (map (cell_with (content_of initial)) (cells_of w s))
-object_is w Initial.Unset s h = refl
-object_is w (Initial.Elements count) s h = absurd h
-object_is w (Initial.Given c) s h = refl
-
-pub shape_kept : (initial : Initial) (s : Shape) → TakesGlobal s initial → global_shape initial s ≡ s
-shape_kept Initial.Unset s h = refl
-shape_kept (Initial.Elements count) s h = absurd h
-shape_kept (Initial.Given c) s h = refl
-
--- ---- each global
-
-abbrev cell_in : ℕ → Option Object → Option Cell
-cell_in cell o = option_and_then (λ f. f cell) o
-
-no_cell : (x : Cell) → None ≡ Some x → ⊥
-no_cell x e = cc e
-
--- a global's cell holds what its part in Core's data has
-pub record IsHeapValue (w : World) (ds : List Datum) (i cell : ℕ) (shape : Shape) (v : Scalar) : Type 0 where
-  pub part : Part
-  pub is : datum_parts ds i cell 0 ≡ Some part
-  pub shown : (m : source.Memory) (c : core.Memory) → Shown w m c shape v (part.content ∷ [])
-
--- what begins by its shape: a word
-word_value : (w : World) (s : Shape) (ds : List Datum) (cell : ℕ) (shape : Shape) (v : Scalar) → IsWordShape s
-    → slice_get (map (cell_with source.first_content) (cells_of w s)) cell ≡ Some (cell_of shape (Holds v))
-    → IsHeapValue w (datum_of w s (first_part s) ∷ ds) 0 cell shape v
-word_value w s ds cell shape v is_word e = at_cell cell (first_cell_is (s ∷ []) cell shape v (is_word, tt)
-    (ap (λ z. slice_get (map (cell_with source.first_content) z) cell) (sym (plain_of w s is_word).cells) ∙ e))
-  where
-    some_is : (x y : Shape) → Some x ≡ Some y → x ≡ y
-    some_is x y f = cc f
-
-    no_shape : None ≡ Some shape → ⊥
-    no_shape f = cc f
-
-    at_cell : (k : ℕ) → IsFirstCell (s ∷ []) k shape v → IsHeapValue w (datum_of w s (first_part s) ∷ ds) 0 k shape v
-    at_cell zero o = record {
-      part = part_of (width_of s) (first_part s);
-      is = datum_is w s (first_part s) ds is_word;
-      shown = λ m c. subst (λ z. Shown w m c shape v (first_part z ∷ [])) (sym (some_is s shape o.here)) (first_shown w m c shape v o.word o.holds);
-    }
-    at_cell (suc k) o = absurd (no_shape o.here)
-
--- or a struct
-struct_value : (w : World) (tag : List ℕ) (ds : List Datum) (cell : ℕ) (shape : Shape) (v : Scalar) → AreStructs w.unions w.structs
-    → IsObject w.structs (StructShape tag)
-    → slice_get (map (cell_with source.first_content) (cells_of w (StructShape tag))) cell ≡ Some (cell_of shape (Holds v))
-    → IsHeapValue w (global_datum w Initial.Unset (StructShape tag) ∷ ds) 0 cell shape v
-struct_value w tag ds cell shape v structs object e = record {
-  part = record { offset = cell / length layout.cells * layout.bytes + first.offset; width = width_of shape; content = first_part shape };
-  is = rw (cell_blank layout cell 0 _ first.less first.is) (ap filled (ap (λ z. first_content (core.shape_in z 0)) first.is));
-  shown = λ m c. first_shown w m c shape v o.word o.holds;
-}
-  where
-    layout : Layout
-    layout = layout_of w (StructShape tag)
-
-    o : IsFirstCell (cells_of w (StructShape tag)) cell shape v
-    o = first_cell_is (cells_of w (StructShape tag)) cell shape v (object_cells w.unions w.structs (StructShape tag) structs object).words e
-
-    first : BeginsWith layout.cells cell shape
-    first = layout_first w (StructShape tag) cell shape structs object o.here
-
-    filled : Content → Option Part
-    filled x = Some (record { offset = cell / length layout.cells * layout.bytes + first.offset; width = width_of shape; content = x })
-
-unset_value : (w : World) (s : Shape) (ds : List Datum) (cell : ℕ) (shape : Shape) (v : Scalar) → AreStructs w.unions w.structs → IsObject w.structs s
-    → slice_get (map (cell_with source.first_content) (cells_of w s)) cell ≡ Some (cell_of shape (Holds v))
-    → IsHeapValue w (global_datum w Initial.Unset s ∷ ds) 0 cell shape v
-unset_value w (StructShape tag) ds cell shape v structs object e = struct_value w tag ds cell shape v structs object e
-unset_value w IntShape ds cell shape v structs object e = word_value w IntShape ds cell shape v tt e
-unset_value w UnsignedShape ds cell shape v structs object e = word_value w UnsignedShape ds cell shape v tt e
-unset_value w CharShape ds cell shape v structs object e = word_value w CharShape ds cell shape v tt e
-unset_value w (ThinShape b owner to) ds cell shape v structs object e = word_value w (ThinShape b owner to) ds cell shape v object e
-unset_value w VoidShape ds cell shape v structs object e = absurd object
-unset_value w (FatShape to) ds cell shape v structs object e = absurd object
-unset_value w HandleShape ds cell shape v structs object e = absurd object
-unset_value w KeyShape ds cell shape v structs object e = absurd object
-unset_value w (UnionShape tag) ds cell shape v structs object e = absurd object
-unset_value w (ArrayShape count of) ds cell shape v structs object e = absurd object
-
-global_value : (w : World) (initial : Initial) (s : Shape) (ds : List Datum) (cell : ℕ) (shape : Shape) (v : Scalar) → AreStructs w.unions w.structs
-    → TakesGlobal s initial → IsObject w.structs s → global_object w initial s cell ≡ Some (cell_of shape (Holds v))
-    → IsHeapValue w (global_datum w initial s ∷ ds) 0 cell shape v
-global_value w Initial.Unset s ds cell shape v structs h object e = unset_value w s ds cell shape v structs object e
-global_value w (Initial.Elements count) s ds cell shape v structs h object e = absurd h
-global_value w (Initial.Given c) s ds cell shape v structs h object e = absurd (blank_holds (cells_of w s) cell shape v e)
-
-pub heap_value : (w : World) (items : List Item) (i cell : ℕ) (shape : Shape) (v : Scalar) → AreStructs w.unions w.structs → TakesProgram w items
-    → cell_in cell (slice_get (global_objects w items) i) ≡ Some (cell_of shape (Holds v)) → IsHeapValue w (data_of w items) i cell shape v
-heap_value w [] i cell shape v structs h e = absurd (no_cell (cell_of shape (Holds v)) e)
-heap_value w (tree.StructItem s ∷ items) i cell shape v structs h e = heap_value w items i cell shape v structs h.1 e
-heap_value w (tree.UnionItem u ∷ items) i cell shape v structs h e = absurd h.0
-heap_value w (tree.FunctionItem f ∷ items) i cell shape v structs h e = heap_value w items i cell shape v structs h.1 e
-heap_value w (tree.GlobalItem g ∷ items) zero cell shape v structs h e =
-    global_value w g.initial (settled (written g.of)) (data_of w items) cell shape v structs h.0.1 (object_settled w.structs g.of h.0.0) e
-heap_value w (tree.GlobalItem g ∷ items) (suc i) cell shape v structs h e =
-    let one = heap_value w items i cell shape v structs h.1 e in
-    record { part = one.part; is = one.is; shown = one.shown }
+pub use Rattle.source_lowering.proofs.HeapValues.{part_of, constant_single, shape_kept}
+use Rattle.source_lowering.proofs.HeapValues.{cell_of, datum_is, content_of, object_is, cell_in, no_cell, IsHeapValue, heap_value}
 
 -- ---- the memories at the start agree
 
@@ -200,6 +47,19 @@ beyond_end : (os : List Object) (i : ℕ) → length os ≤ i → slice_get os i
 beyond_end [] i h = refl
 beyond_end (o ∷ os) zero h = absurd (omega (arith, h))
 beyond_end (o ∷ os) (suc i) h = beyond_end os i (omega (arith, h))
+
+beyond_data : (ds : List Datum) (i cell j : ℕ) → length ds ≤ i → datum_parts ds i cell j ≡ None
+beyond_data [] i cell j h = refl
+beyond_data (d ∷ ds) zero cell j h = absurd (omega (arith, h))
+beyond_data (d ∷ ds) (suc i) cell j h = beyond_data ds i cell j (omega (arith, h))
+
+-- both have an object for each global
+data_count : (w : World) (items : List Item) → TakesProgram w items → length (global_objects w items) ≡ length (data_of w items)
+data_count w [] h = refl
+data_count w (tree.StructItem s ∷ items) h = data_count w items h.1
+data_count w (tree.UnionItem u ∷ items) h = absurd h.0
+data_count w (tree.FunctionItem f ∷ items) h = data_count w items h.1
+data_count w (tree.GlobalItem g ∷ items) h = ap suc (data_count w items h.1)
 
 not_zero : (d : ℕ) → nat_eq (suc d) 0 ≡ false
 not_zero d = grind (arith, nat_tests)
@@ -217,6 +77,11 @@ heap_agrees w items structs h = record {
   unbegun = λ k less. (refl, refl);
   uncalled = λ k t j less e. none_owned t.region e t j;
   unowned = λ k less. refl;
+  births = refl;
+  heap = omega arith;
+  lexical = λ d. lexical_born d;
+  blocks = λ d. counted d;
+  ungranted = λ d t j e less. none_beyond d t.region e t j less;
 }
   where
     c : core.Memory
@@ -250,6 +115,14 @@ heap_agrees w items structs h = record {
     free (source.Born zero) object cell e = ap (cell_in cell) (beyond_end (global_objects w items) object e)
     free (source.Born (suc d)) object cell e = ap (λ b. if b then cell_in cell (slice_get (global_objects w items) object) else None) (not_zero d)
 
+    lexical_born : (d : ℕ) → IsLexical (c.standing (core.Born d))
+    lexical_born zero = tt
+    lexical_born (suc d) = tt
+
+    counted : (d : ℕ) → m.objects (source.Born d) ≡ c.objects (core.Born d)
+    counted zero = data_count w items h
+    counted (suc d) = rw (not_zero d) refl
+
     none_in : (r : core.Region) (t : core.Spot) (j : ℕ) → Option Part
     none_in r t j = c.parts (record t { region = r }) j
 
@@ -258,6 +131,10 @@ heap_agrees w items structs h = record {
 
     none_there : {k : ℕ} (r : core.Region) → r ≡ core.Frame k → (t : core.Spot) (j : ℕ) → none_in r t j ≡ None
     none_there {k} r e t j = subst (λ z. none_in z t j ≡ None) (sym e) refl
+
+    none_beyond : (d : ℕ) (r : core.Region) → r ≡ core.Born d → (t : core.Spot) (j : ℕ) → c.objects (core.Born d) ≤ t.object → none_in r t j ≡ None
+    none_beyond zero r e t j less = subst (λ z. none_in z t j ≡ None) (sym e) (beyond_data (data_of w items) t.object t.cell j less)
+    none_beyond (suc d) r e t j less = subst (λ z. none_in z t j ≡ None) (sym e) refl
 
 -- ---- the globals lie where their names say
 

@@ -1,5 +1,6 @@
 -- A struct's local whose initializer is a place: the object there is copied to it.
-use Rattle.std.proofs.Common.{◌≡◌, ℕ, List, [], ◌∷◌, Bool, true, false, refl, sym, ap, ◌∙◌, subst, arith}
+use Rattle.std.proofs.Common.{◌≡◌, ℕ, ◌+◌, List, [], ◌∷◌, Bool, true, false, nat_eq, refl, sym, ap, ◌∙◌, subst, arith, eq-eqb}
+use Rattle.std.proofs.lemmas.Bool.Decides.{nat_tests}
 use Rattle.source_meaning.specs.Shapes.{Shape, StructShape, same_shape}
 use Rattle.source_meaning.specs.Memory as source
 use Rattle.source_meaning.specs.Memory.{Scalar, Spot, is_live, with_object, blank_object}
@@ -40,27 +41,36 @@ use Rattle.source_lowering.proofs.Copying.{
 use Rattle.source_lowering.proofs.Declaring.{with_local, object_with, local_fits, blank_holds}
 use Rattle.source_lowering.proofs.Beginning.{BeginsIn}
 use Rattle.source_lowering.proofs.SameShapes.{shapes_same}
+use Rattle.source_lowering.proofs.Values.{kept_temp}
 use Rattle.source_lowering.proofs.Places.{IsPlaced}
 
-copy_does : (c : Config) (index frame byte : ℕ) (outer : List ℕ) (t : core.Spot) (l : Layout) (next : Config → core_steps.Step) → c.blocks ≡ frame ∷ outer
-    → c.temps 0 ≡ Pointer t byte → core.is_live (c.memory.standing (core.Frame frame)) ≡ true → core.is_live (c.memory.standing t.region) ≡ true
+next_number : (d : ℕ) → nat_eq d (d + 1) ≡ false
+next_number d = grind (arith, nat_tests)
+
+copy_does : (c : Config) (d index frame byte : ℕ) (outer : List ℕ) (t : core.Spot) (l : Layout) (next : Config → core_steps.Step) → c.blocks ≡ frame ∷ outer
+    → c.temps d ≡ Pointer t byte → core.is_live (c.memory.standing (core.Frame frame)) ≡ true → core.is_live (c.memory.standing t.region) ≡ true
     → are_laid c.memory (at (local_spot frame index)) 0 l.cells ≡ true → are_laid c.memory t byte l.cells ≡ true
     → same_object (at (local_spot frame index)) t ≡ false
-    → does (LocalAddress 1 0 index) (does (Copy 1 0 l) next) c
-    ≡ next (with_memory (copied l (at (local_spot frame index)) t c.memory) (with_temp 1 (Pointer (at (local_spot frame index)) 0) c))
-copy_does c index frame byte outer t l next block temp live other laid laid_t apart = rw (block, temp, live, laid, other, laid_t, apart) refl
+    → does (LocalAddress (d + 1) 0 index) (does (Copy (d + 1) d l) next) c
+    ≡ next (with_memory (copied l (at (local_spot frame index)) t c.memory) (with_temp (d + 1) (Pointer (at (local_spot frame index)) 0) c))
+copy_does c d index frame byte outer t l next block temp live other laid laid_t apart =
+    rw (block, eq-eqb (d + 1) (d + 1) refl, next_number d, temp, live, laid, other, laid_t, apart) refl
+
+-- the local to come gets the object that the first free temporary points to
+abbrev pub copy_code : Place → Layout → List Statement
+copy_code p l = Do (LocalAddress (p.regions.all + 1) 0 p.made) ∷ Do (Copy (p.regions.all + 1) p.regions.all l) ∷ []
 
 -- a struct's local, whose value is that of an object
 pub struct_with_same : (p : Place) (n : ℕ) (scope : Scope) (name tag : List ℕ) (shapes : List Shape) (t : core.Spot) (byte : ℕ) (vs : List Scalar)
     (then_act : Scope → Act Flow) (next : Flow → source.Memory → steps.Step) (m : source.Memory) (c : Config) (rest : Statements) (after : Next)
     → scope.world ≡ p.world → scope.frame ≡ p.frame → AreStructs p.world.unions p.world.structs → IsObject p.world.structs (StructShape tag)
-    → p.pending ≡ StructShape tag ∷ shapes → Fits p m c → c.temps 0 ≡ Pointer t byte → AreMade c.memory t byte (layout_of p.world (StructShape tag)).cells
+    → p.pending ≡ StructShape tag ∷ shapes → Fits p m c → c.temps p.regions.all ≡ Pointer t byte → AreMade c.memory t byte (layout_of p.world (StructShape tag)).cells
     → AllShown p.world m c.memory t (cells_of p.world (StructShape tag)) vs → core.is_live (c.memory.standing t.region) ≡ true
     → same_object (at (local_spot p.frame p.made)) t ≡ false
     → BeginsIn p (with_local p name (StructShape tag) shapes) n m c
     (λ m'. then_act (with_binding scope name (Variable (StructShape tag) (local_spot p.frame p.made))) next m') (meaning.statements rest after)
     → SameAt p n (local_with scope name (StructShape tag) vs then_act next m) (meaning.statements
-    (MoreStatements (Do (LocalAddress 1 0 p.made)) (MoreStatements (Do (Copy 1 0 (layout_of p.world (StructShape tag)))) rest)) after c)
+    (put (copy_code p (layout_of p.world (StructShape tag))) rest) after c)
 struct_with_same p n scope name tag shapes t byte vs then_act next m c rest after world frame structs object pending fits temp made held live apart goes =
     subst (λ z. SameAt p n (begun z scope.frame (next_of scope.frame)) code) (sym world)
     (subst (λ z. SameAt p n (begun p.world z (next_of z)) code) (sym frame)
@@ -74,7 +84,7 @@ struct_with_same p n scope name tag shapes t byte vs then_act next m c rest afte
 
     code : core_steps.Step
     code = meaning.statements
-        (MoreStatements (Do (LocalAddress 1 0 p.made)) (MoreStatements (Do (Copy 1 0 (layout_of p.world (StructShape tag)))) rest)) after c
+        (put (copy_code p (layout_of p.world (StructShape tag))) rest) after c
 
     next_of : ℕ → Spot
     next_of f = record { region = source.Frame f; object = m.objects (source.Frame f); cell = 0 }
@@ -96,7 +106,7 @@ struct_with_same p n scope name tag shapes t byte vs then_act next m c rest afte
     all = subst (λ z. ArePending p.world c.memory (core.Frame p.frame) p.made z) pending fits.pending
 
     c1 : Config
-    c1 = with_memory (copied layout (at spot) t c.memory) (with_temp 1 (Pointer (at spot) 0) c)
+    c1 = with_memory (copied layout (at spot) t c.memory) (with_temp (p.regions.all + 1) (Pointer (at spot) 0) c)
 
     agree1 : Agree p.world m c1.memory
     agree1 = agree_copied p.world m c.memory p.frame p.made t layout fits.agree fits.made
@@ -125,7 +135,7 @@ struct_with_same p n scope name tag shapes t byte vs then_act next m c rest afte
         → SameAt p n (write_cells spot vs (λ u. then_act (with_binding scope name (Variable shape spot)) next) m1) code
     writes here =
         subst (λ z. SameAt p n (write_cells spot vs (λ u. then_act (with_binding scope name (Variable shape spot)) next) m1) z)
-        (sym (copy_does c p.made p.frame byte p.outer t layout (meaning.statements rest after) fits.blocks temp
+        (sym (copy_does c p.regions.all p.made p.frame byte p.outer t layout (meaning.statements rest after) fits.blocks temp
         (sym (fits.agree.live (source.Frame p.frame)) ∙ here) live
         (laid_there c.memory (at spot) 0 layout.cells all.0) (laid_there c.memory t byte layout.cells made) apart))
         (write_all p.world p.program n (within p) (cells_of p.world shape) vs m1 c1.memory spot
@@ -135,7 +145,7 @@ struct_with_same p n scope name tag shapes t byte vs then_act next m c rest afte
         goes.go m2 c1 (fits_later q m1 m2 c1 c1 fits2 agree2 more refl)
         (later_on (around p p.frame) m m m2 c.memory c1.memory c1.memory (later1 (around p p.frame))
         (later_on (around p p.frame) m m1 m2 c1.memory c1.memory c1.memory later2 (later_items p m1 m2 c1 c1 more)))
-        refl))
+        refl (kept_temp p.regions.all (p.regions.all + 1) (Pointer (at spot) 0) c c (omega arith) (λ k less. refl))))
 
     by : (b : Bool) → is_live m (source.Frame p.frame) ≡ b → SameAt p n (begun p.world p.frame (next_of p.frame)) code
     by false e = rw e (stuck_same p.world p.program n code)
@@ -163,16 +173,16 @@ converted_whole p n tag from vs s m k go = by vs (same_shape (StructShape tag) f
 pub placed_begins : (p : Place) (n : ℕ) (scope : Scope) (name tag : List ℕ) (shapes : List Shape) (e : Sense) (from : Shape) (code : List Statement)
     (then_act : Scope → Act Flow) (next : Flow → source.Memory → steps.Step) (m : source.Memory) (c : Config) (rest : Statements) (after : Next)
     → scope.world ≡ p.world → scope.frame ≡ p.frame → AreStructs p.world.unions p.world.structs → IsObject p.world.structs (StructShape tag)
-    → p.pending ≡ StructShape tag ∷ shapes → Fits p m c → IsPlaced p n 0 e from code
+    → p.pending ≡ StructShape tag ∷ shapes → Fits p m c → IsPlaced p n p.regions.all e from code
     → BeginsIn p (with_local p name (StructShape tag) shapes) n m c
     (λ m'. then_act (with_binding scope name (Variable (StructShape tag) (local_spot p.frame p.made))) next m') (meaning.statements rest after)
     → SameAt p n (initialised scope name (StructShape tag) e then_act next m) (meaning.statements (put code
-    (MoreStatements (Do (LocalAddress 1 0 p.made)) (MoreStatements (Do (Copy 1 0 (layout_of p.world (StructShape tag)))) rest))) after c)
+    (put (copy_code p (layout_of p.world (StructShape tag))) rest)) after c)
 placed_begins p n scope name tag shapes e from code then_act next m c rest after world frame structs object pending fits one goes =
     subst (λ z. SameAt p n z whole) (sym (one.value convert m))
     (subst (λ z. SameAt p n (e.place (λ t. take_cells (cells_of p.world z) t convert) m) whole) (sym one.shape_is)
     (one.placed.same m c (λ t. take_cells (cells_of p.world from) t convert)
-    (MoreStatements (Do (LocalAddress 1 0 p.made)) (MoreStatements (Do (Copy 1 0 (layout_of p.world (StructShape tag)))) rest)) after fits (record {
+    (put (copy_code p (layout_of p.world (StructShape tag))) rest) after fits (record {
       go = λ m1 c1 t byte fits1 later1 kept1 temp lies leads.
           let has = lies.cells in
           subst (λ z. SameAt p n z (meaning.statements copies after c1)) (sym (whole_taken (cells_of p.world from) t convert m1 has.words))
@@ -192,14 +202,14 @@ placed_begins p n scope name tag shapes e from code then_act next m c rest after
           (sym (fits1.agree.live t.region) ∙ subst (λ z. IsLiveFor m1 t z) cells live)
           (object_apart p.world m1 c1.memory p.frame p.made t _ fits1.agree fits1.made here.is)
           (record {
-            go = λ m2 c2 fits2 later2 blocks2.
+            go = λ m2 c2 fits2 later2 blocks2 kept2.
                 goes.go m2 c2 fits2 (later_on (around p p.frame) m m1 m2 c.memory c1.memory c2.memory
-                (later_items p m m1 c c1 later1) later2) (blocks2 ∙ blocks_of p m m1 c c1 fits fits1);
+                (later_items p m m1 c c1 later1) later2) (blocks2 ∙ blocks_of p m m1 c c1 fits fits1) (λ k less. kept2 k less ∙ kept1 k less);
           })))));
     })))
   where
     copies : Statements
-    copies = MoreStatements (Do (LocalAddress 1 0 p.made)) (MoreStatements (Do (Copy 1 0 (layout_of p.world (StructShape tag)))) rest)
+    copies = put (copy_code p (layout_of p.world (StructShape tag))) rest
 
     whole : core_steps.Step
     whole = meaning.statements (put code copies) after c

@@ -1,4 +1,4 @@
--- Values of one word: integers and thin pointers.
+-- Values of one word: integers, thin pointers and handles.
 use Rattle.std.proofs.Common.{◌≡◌, ℕ, Bool, true, Some, None, ◌^◌, ◌<◌, ◌⊎◌, inl, inr, ⊎_elim, List, [], ◌∷◌, refl, sym, ap, subst, arith}
 use Rattle.source_meaning.specs.Shapes.{
   Shape,
@@ -17,13 +17,13 @@ use Rattle.source_meaning.specs.Shapes.{
   ArrayShape,
 }
 use Rattle.source_meaning.specs.Memory as source
-use Rattle.source_meaning.specs.Memory.{IntegerType, AsInt, AsUnsigned, AsChar, Scalar, Integer, Thin, Spot}
+use Rattle.source_meaning.specs.Memory.{IntegerType, AsInt, AsUnsigned, AsChar, Scalar, Integer, Thin, HandleOf, Spot}
 use Rattle.source_meaning.specs.Steps as steps
 use Rattle.source_meaning.specs.Steps.{World}
 use Rattle.source_meaning.specs.Conversions.{one}
 use Rattle.source_meaning.specs.Programs.{integer_shape}
 use Rattle.core_meaning.specs.Memory as core
-use Rattle.core_meaning.specs.Memory.{Content, Word, Null, Pointer}
+use Rattle.core_meaning.specs.Memory.{Content, Word, Null, Pointer, Birth}
 use Rattle.core_meaning.specs.Core.{Program}
 use Rattle.core_meaning.specs.Steps as core_steps
 use Rattle.source_lowering.specs.Lowered.{type_of}
@@ -40,7 +40,7 @@ IsTaken CharShape = Unit {0}
 IsTaken VoidShape = Unit {0}
 IsTaken (ThinShape may_be_null owner to) = (owner ≡ Shared) × IsTarget to
 IsTaken (FatShape to) = ⊥
-IsTaken HandleShape = ⊥
+IsTaken HandleShape = Unit {0}
 IsTaken KeyShape = ⊥
 IsTaken (StructShape tag) = ⊥
 IsTaken (UnionShape tag) = ⊥
@@ -173,6 +173,13 @@ pub record IsThin (w : World) (m : source.Memory) (c : core.Memory) (shape : Sha
   pub shape_is : shape ≡ ThinShape may_be_null Shared to
   pub shown : ANull may_be_null v (x ∷ []) ⊎ APointer w m c to v (x ∷ [])
 
+-- a handle's value and what stands for it
+pub record IsHandle (shape : Shape) (v : Scalar) (x : Content) : Type 0 where
+  pub birth : ℕ
+  pub value : v ≡ HandleOf birth
+  pub shown : x ≡ Birth birth
+  pub shape_is : shape ≡ HandleShape
+
 pub null_is : (x : Content) (b : Bool) (v : Scalar) → ANull b v (x ∷ []) → x ≡ Null
 null_is x b v n = ap (first_in x) n.shown
 
@@ -180,9 +187,9 @@ pub pointer_is : (w : World) (m : source.Memory) (c : core.Memory) (to : Shape) 
     → x ≡ Pointer (at p.spot) p.byte
 pointer_is w m c to x v p = ap (first_in x) p.shown
 
--- what stands for a value of a taken shape is its word, or a pointer
+-- what stands for a value of a taken shape is its word, a pointer or a birth
 pub shown_one : (w : World) (m : source.Memory) (c : core.Memory) (s : Shape) (v : Scalar) (x : Content) → IsTaken s → Shown w m c s v (x ∷ [])
-    → IsWord s v x ⊎ IsThin w m c s v x
+    → IsWord s v x ⊎ (IsThin w m c s v x ⊎ IsHandle s v x)
 shown_one w m c IntShape v x h o = inl (record {
   type = AsInt;
   word = o.word;
@@ -211,15 +218,16 @@ shown_one w m c CharShape v x h o = inl (record {
   type_is = refl;
 })
 shown_one w m c VoidShape v x h o = absurd o
-shown_one w m c (ThinShape may_be_null owner to) v x h o = inr (record {
+shown_one w m c (ThinShape may_be_null owner to) v x h o = inr (inl (record {
   may_be_null = may_be_null;
   to = to;
   taken = h.1;
   shape_is = ap (λ z. ThinShape may_be_null z to) h.0;
   shown = o;
-})
+}))
 shown_one w m c (FatShape to) v x h o = absurd h
-shown_one w m c HandleShape v x h o = absurd h
+shown_one w m c HandleShape v x h o =
+    inr (inr (record { birth = o.birth; value = o.value; shown = ap (first_in x) o.shown; shape_is = refl }))
 shown_one w m c KeyShape v x h o = absurd h
 shown_one w m c (StructShape tag) v x h o = absurd h
 shown_one w m c (UnionShape tag) v x h o = absurd h
@@ -229,7 +237,9 @@ shown_one w m c (ArrayShape count of) v x h o = absurd h
 pub shown_word : (w : World) (m : source.Memory) (c : core.Memory) (s : Shape) (v : Scalar) (x : Content) → IsIntegerShape s → Shown w m c s v (x ∷ [])
     → IsWord s v x
 shown_word w m c s v x h o =
-    ⊎_elim (λ (one : IsWord s v x). one) (λ (thin : IsThin w m c s v x). absurd (subst (λ z. IsIntegerShape z) thin.shape_is h))
+    ⊎_elim (λ (one : IsWord s v x). one)
+    (⊎_elim (λ (thin : IsThin w m c s v x). absurd (subst (λ z. IsIntegerShape z) thin.shape_is h))
+    (λ (handle : IsHandle s v x). absurd (subst (λ z. IsIntegerShape z) handle.shape_is h)))
     (shown_one w m c s v x (word_taken s (integer_word s h)) o)
 
 -- and a word stands for its value
@@ -257,15 +267,17 @@ small_word AsChar n h = omega (arith, h)
 pub one_same : (w : World) (fs : Program) (n : ℕ) (shape : Shape) (m : source.Memory) (c : core.Memory) (vs : List Scalar) (x : Content)
     (s : Scalar → source.Memory → steps.Step) (k : core_steps.Step) → IsTaken shape → Given w m c shape vs x
     → ((t : IntegerType) (word : ℕ) → x ≡ Word word → shape ≡ integer_shape t → type_of shape ≡ t → word < limit t → Same w fs n (s (Integer t word) m) k)
-    → ((v : Scalar) → IsThin w m c shape v x → Same w fs n (s v m) k) → Same w fs n (one vs s m) k
-one_same w fs n shape m c vs x s k taken given go_word go_thin = ⊎_elim value nothing given
+    → ((v : Scalar) → IsThin w m c shape v x → Same w fs n (s v m) k)
+    → ((birth : ℕ) → x ≡ Birth birth → shape ≡ HandleShape → Same w fs n (s (HandleOf birth) m) k) → Same w fs n (one vs s m) k
+one_same w fs n shape m c vs x s k taken given go_word go_thin go_handle = ⊎_elim value nothing given
   where
     value : AValue w m c shape vs x → Same w fs n (one vs s m) k
     value v =
         subst (λ z. Same w fs n (one z s m) k) (sym v.alone)
         (⊎_elim
         (λ (o : IsWord shape v.value x). subst (λ z. Same w fs n (s z m) k) (sym o.value) (go_word o.type o.word o.shown o.shape_is o.type_is o.small))
-        (λ (o : IsThin w m c shape v.value x). go_thin v.value o)
+        (⊎_elim (λ (o : IsThin w m c shape v.value x). go_thin v.value o)
+        (λ (o : IsHandle shape v.value x). subst (λ z. Same w fs n (s z m) k) (sym o.value) (go_handle o.birth o.shown o.shape_is)))
         (shown_one w m c shape v.value x taken v.shown))
 
     nothing : ANothing shape vs → Same w fs n (one vs s m) k

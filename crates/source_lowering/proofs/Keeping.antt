@@ -1,4 +1,4 @@
--- What keeps the relation: a cell is written, moved or lent; a block is entered and left.
+-- What keeps the relation: a cell is written, moved or lent; a region ends.
 use Rattle.std.proofs.Common.{◌≡◌, ℕ, ◌+◌, ◌≤◌, List, [], ◌∷◌, Bool, true, false, nat_eq, Option, Some, None, refl, sym, ap, ◌∙◌, subst, arith}
 use Rattle.std.specs.Prelude.{◌&&◌, if◌then◌else◌}
 use Rattle.std.proofs.lemmas.Bool.{eqb-true, and_parts}
@@ -10,7 +10,7 @@ use Rattle.source_meaning.proofs.Cases.{spot_is}
 use Rattle.core_meaning.specs.Memory as core
 use Rattle.core_meaning.specs.Memory.{Content, Part, with_part, with_standing}
 use Rattle.core_meaning.proofs.Spots.{spot_same, spot_self}
-use Rattle.source_lowering.proofs.Relations.{region_at, at, HasShape, PartIs, Shown, PartsHold, IsShown, Agree, Bound, nothing, Later}
+use Rattle.source_lowering.proofs.Relations.{region_at, at, HasShape, PartIs, Shown, PartsHold, IsShown, IsLexical, Agree, Bound, nothing, Later}
 pub use Rattle.source_lowering.proofs.Lasting.{
   region_as,
   spot_as,
@@ -18,8 +18,6 @@ pub use Rattle.source_lowering.proofs.Lasting.{
   free_spot,
   free_object,
   free_nothing,
-  up_to,
-  is_up_to,
   later_self,
   later_on,
   IsLess,
@@ -126,17 +124,17 @@ unmade_kept m s shape old new is unmade t h = by (same_spot t s) refl
     by true e = let none : None ≡ Some (cell shape old) = sym (unmade t h) ∙ ap m.cells (spot_is t s e) ∙ is in absurd (cc none)
     by false e = none_if (same_spot t s) (Some (cell shape new)) (m.cells t) e (unmade t h)
 
-unentered_kept : (c : core.Memory) (s : core.Spot) (old : Part) (x : Content) → c.parts s 0 ≡ Some old
-    → ((k : ℕ) (t : core.Spot) (j : ℕ) → c.activations ≤ k → t.region ≡ core.Frame k → c.parts t j ≡ None) → (k : ℕ) (t : core.Spot) (j : ℕ)
-    → c.activations ≤ k → t.region ≡ core.Frame k → (with_part c s 0 (record old { content = x })).parts t j ≡ None
-unentered_kept c s old x is un k t j h r = by (core.same_spot t s && nat_eq j 0) refl
+-- where there is no part, none is written
+pub none_kept : (c : core.Memory) (s : core.Spot) (old : Part) (x : Content) → c.parts s 0 ≡ Some old → (t : core.Spot) (j : ℕ) → c.parts t j ≡ None
+    → (with_part c s 0 (record old { content = x })).parts t j ≡ None
+none_kept c s old x is t j none = by (core.same_spot t s && nat_eq j 0) refl
   where
     by : (b : Bool) → (core.same_spot t s && nat_eq j 0) ≡ b → (with_part c s 0 (record old { content = x })).parts t j ≡ None
     by true e =
         let two = and_parts (core.same_spot t s) (nat_eq j 0) e in
-        let none : None ≡ Some old = sym (un k t j h r) ∙ ap (λ z. c.parts z j) (spot_same t s two.0) ∙ ap (λ z. c.parts s z) (eqb-true j 0 two.1) ∙ is in
-        absurd (cc none)
-    by false e = ap (λ b. if b then Some (record old { content = x }) else c.parts t j) e ∙ un k t j h r
+        let no : None ≡ Some old = sym none ∙ ap (λ z. c.parts z j) (spot_same t s two.0) ∙ ap (λ z. c.parts s z) (eqb-true j 0 two.1) ∙ is in
+        absurd (cc no)
+    by false e = ap (λ b. if b then Some (record old { content = x }) else c.parts t j) e ∙ none
 
 abbrev pub m_written : source.Memory → Spot → Shape → Scalar → source.Memory
 m_written m s shape v = with_cell m s (cell shape (Holds v))
@@ -160,11 +158,15 @@ agree_written w m c s shape old v part x a is there shown =
       live = a.live;
       activations = a.activations;
       unmade = unmade_kept m s shape old (Holds v) is a.unmade;
-      unentered = unentered_kept c (at s) part x there a.unentered;
+      unentered = λ k t j h r. none_kept c (at s) part x there t j (a.unentered k t j h r);
       unbegun = a.unbegun;
-      uncalled = λ k t j h r.
-          (later_written (up_to k) m c s shape old (Holds v) part x is there).owned k t j r (is_up_to k t.object) ∙ a.uncalled k t j h r;
+      uncalled = λ k t j h r. none_kept c (at s) part x there t j (a.uncalled k t j h r);
       unowned = a.unowned;
+      births = a.births;
+      heap = a.heap;
+      lexical = a.lexical;
+      blocks = a.blocks;
+      ungranted = λ d t j r h. none_kept c (at s) part x there t j (a.ungranted d t j r h);
     }
   where
     here : Later nothing m c (m_written m s shape v) (c_written c s part x) → IsShown w (m_written m s shape v) (c_written c s part x) s shape v
@@ -190,42 +192,64 @@ agree_written w m c s shape old v part x a is there shown =
           held = held_other c (at s) (at t) (record part { content = x }) 0 one.contents (spot_as t s ∙ e) one.held;
         }
 
--- ---- a block is left: its region is dead in both
+-- ---- a region ends: it is dead in both
 
 live_by : (q r : source.Region) (b : Bool) (x : source.State) (y : core.Standing) → same_region q r ≡ b → state_is_live x ≡ core.is_live y
     → state_is_live (if same_region q r then Dead else x) ≡ core.is_live (if core.same_region (region_at q) (region_at r) then core.Dead else y)
 live_by q r true x y e h = rw (region_as q r, e) refl
 live_by q r false x y e h = rw (region_as q r, e) h
 
-pub left_later : (b : Bound) (m : source.Memory) (c : core.Memory) (k : ℕ) → Later b m c (with_state m (source.Frame k) Dead)
-    (with_standing c (core.Frame k) core.Dead)
-left_later b m c k = record {
+own_apart : (r : source.Region) (k : ℕ) → core.same_region (core.Own k) (region_at r) ≡ false
+own_apart (source.Frame j) k = refl
+own_apart (source.Born j) k = refl
+
+pub ended_later : (b : Bound) (m : source.Memory) (c : core.Memory) (r : source.Region) → Later b m c (with_state m r Dead)
+    (with_standing c (region_at r) core.Dead)
+ended_later b m c r = record {
   shapes = λ t sh g. record { content = g.content; is = g.is };
   parts = λ t j o x g. record { content = g.content; is = g.is };
   objects = λ j h. refl;
   begun = omega arith;
   called = omega arith;
-  stands = λ j h. refl;
-  owned = λ j t i r h. refl;
+  stands = λ j h. ap (λ z. if z then core.Dead else c.standing (core.Own j)) (own_apart r j);
+  owned = λ j t i e h. refl;
 }
 
-pub agree_left : (w : World) (m : source.Memory) (c : core.Memory) (k : ℕ) → Agree w m c → Agree w (with_state m (source.Frame k) Dead)
-    (with_standing c (core.Frame k) core.Dead)
-agree_left w m c k a = record {
+lexical_ended : (b : Bool) (now : core.Standing) → IsLexical now → IsLexical (if b then core.Dead else now)
+lexical_ended true now h = tt
+lexical_ended false now h = h
+
+pub ended_agree : (w : World) (m : source.Memory) (c : core.Memory) (r : source.Region) → Agree w m c → Agree w (with_state m r Dead)
+    (with_standing c (region_at r) core.Dead)
+ended_agree w m c r a = record {
   cells = λ s shape v h. let one = a.cells s shape v h in record {
     contents = one.contents;
-    shown = shown_later nothing w m (with_state m (source.Frame k) Dead) c (with_standing c (core.Frame k) core.Dead) shape v one.contents (left_later nothing m c k)
+    shown = shown_later nothing w m (with_state m r Dead) c (with_standing c (region_at r) core.Dead) shape v one.contents (ended_later nothing m c r)
         one.shown;
-    held = held_same c (with_standing c (core.Frame k) core.Dead) (at s) 0 one.contents (λ t j. refl) one.held;
+    held = held_same c (with_standing c (region_at r) core.Dead) (at s) 0 one.contents (λ t j. refl) one.held;
   };
-  live = λ q. live_by q (source.Frame k) (same_region q (source.Frame k)) (m.state q) (c.standing (region_at q)) refl (a.live q);
+  live = λ q. live_by q r (same_region q r) (m.state q) (c.standing (region_at q)) refl (a.live q);
   activations = a.activations;
   unmade = a.unmade;
   unentered = a.unentered;
   unbegun = a.unbegun;
   uncalled = a.uncalled;
   unowned = a.unowned;
+  births = a.births;
+  heap = a.heap;
+  lexical = λ d. lexical_ended (core.same_region (core.Born d) (region_at r)) (c.standing (core.Born d)) (a.lexical d);
+  blocks = a.blocks;
+  ungranted = a.ungranted;
 }
+
+-- that of a block
+pub left_later : (b : Bound) (m : source.Memory) (c : core.Memory) (k : ℕ) → Later b m c (with_state m (source.Frame k) Dead)
+    (with_standing c (core.Frame k) core.Dead)
+left_later b m c k = ended_later b m c (source.Frame k)
+
+pub agree_left : (w : World) (m : source.Memory) (c : core.Memory) (k : ℕ) → Agree w m c → Agree w (with_state m (source.Frame k) Dead)
+    (with_standing c (core.Frame k) core.Dead)
+agree_left w m c k a = ended_agree w m c (source.Frame k) a
 
 -- ---- a part that is written with what it has
 

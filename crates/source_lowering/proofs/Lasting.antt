@@ -93,13 +93,6 @@ free_object b s t k free r kept = by (same_object t s) refl
 pub free_nothing : (t : core.Spot) → IsFree nothing t
 free_nothing t k r h = let f = h.0 in let none = h.1 (omega (arith, f)) in omega (arith, none)
 
--- all own regions up to one
-abbrev pub up_to : ℕ → Bound
-up_to k = record { frames = 0; standing = 0; own = suc k; values = 0 }
-
-pub is_up_to : (k i : ℕ) → IsKept (up_to k) k i
-is_up_to k i = (omega arith, λ e. absurd (omega (arith, e)))
-
 -- ---- facts of earlier memories hold in later ones
 
 pub later_self : (b : Bound) (m : source.Memory) (c : core.Memory) → Later b m c m c
@@ -149,7 +142,7 @@ pub within_around : (p : Place) → IsLess (around p (suc p.frame)) (within p)
 within_around p = record {
   frames = omega arith;
   standing = omega arith;
-  kept = λ k i h. let f = h.0 in (omega (arith, f), λ e. absurd (omega (arith, e, f)));
+  kept = λ k i h. (h.0, λ e. let none = h.1 e in omega (arith, none));
 }
 
 pub around_items : (p : Place) → IsLess (around p p.frame) (around p (suc p.frame))
@@ -159,7 +152,7 @@ pub within_items : (p : Place) → IsLess (around p p.frame) (within p)
 within_items p = record {
   frames = omega arith;
   standing = omega arith;
-  kept = λ k i h. let f = h.0 in (omega (arith, f), λ e. absurd (omega (arith, e, f)));
+  kept = λ k i h. (h.0, λ e. let none = h.1 e in omega (arith, none));
 }
 
 shaped_later : (b : Bound) (m m' : source.Memory) (c c' : core.Memory) (t : core.Spot) (byte j : ℕ) (xs : List core.PartShape) → Later b m c m' c'

@@ -14,6 +14,7 @@ pub mod Making
 pub mod Values
 pub mod Names
 pub mod Variables
+pub mod NumberConversions
 pub mod Conversions
 pub mod Forms
 pub mod Tests
@@ -27,8 +28,14 @@ pub mod Reaching
 pub mod Pointers
 pub mod Calls
 pub mod EachCall
+pub mod Known
+pub mod ExpressionForms
 pub mod EachExpression
-pub mod EachWhole
+pub mod Numbered
+pub mod WholeForms
+pub mod StoredRequests
+pub mod Requests
+pub mod Ways
 pub mod Statements
 pub mod Clearing
 pub mod Copying
@@ -36,23 +43,29 @@ pub mod Declaring
 pub mod Beginning
 pub mod WholeStatements
 pub mod Blocks
+pub mod LexicalRegions
 pub mod WrittenTypes
 pub mod EachDeclaration
 pub mod EachRun
 pub mod EachStatement
 pub mod Owning
+pub mod Regions
 pub mod Functions
+pub mod HeapValues
 pub mod Heap
 pub mod Constants
 pub mod Programs
 pub mod Costs
 pub mod PartCosts
 pub mod SuffixCosts
+pub mod MadeCosts
 pub mod ExpressionCosts
 pub mod WholeCosts
+pub mod DeclarationCosts
 pub mod WholeObjects
 pub mod LocalWords
 pub mod Bounded
 mod Samples
 mod WholeSamples
+mod RegionSamples
 mod SameShapes

@@ -5,14 +5,14 @@ use Rattle.std.proofs.lemmas.Bool.{eqb-true, eq-eqb, and_parts}
 use Rattle.std.proofs.lemmas.Bool.Decides.{nat_tests}
 use Rattle.source_meaning.specs.Shapes.{Shape}
 use Rattle.source_meaning.specs.Memory as source
-use Rattle.source_meaning.specs.Memory.{Scalar, Spot, Holds, Cell, Object, object_of, same_region, with_object, state_is_live}
+use Rattle.source_meaning.specs.Memory.{Scalar, Spot, Holds, Cell, Object, object_of, same_region, with_object}
 use Rattle.source_meaning.specs.Steps.{World}
 use Rattle.source_meaning.proofs.Cases.{region_itself, region_is}
 use Rattle.core_meaning.specs.Memory as core
 use Rattle.core_meaning.specs.Memory.{Content, Part, with_part}
 use Rattle.source_lowering.proofs.Relations.{region_at, at, PartIs, AreCells, IsShown, Agree, Bound, nothing, IsFree, Later}
 use Rattle.core_meaning.proofs.Spots.{spot_same}
-use Rattle.source_lowering.proofs.Keeping.{named_free, free_spot, up_to, is_up_to, held_other, region_as, shown_later}
+use Rattle.source_lowering.proofs.Keeping.{named_free, free_spot, held_other, none_kept, region_as, shown_later}
 
 abbrev pub local_spot : ℕ → ℕ → Spot
 local_spot k index = record { region = source.Frame k; object = index; cell = 0 }
@@ -24,24 +24,70 @@ cell_spot k index cell = record { region = source.Frame k; object = index; cell 
 abbrev pub m_made : source.Memory → ℕ → Object → source.Memory
 m_made m k o = with_object m (source.Frame k) o
 
-abbrev is_here : source.Memory → ℕ → Spot → Bool
-is_here m k t = same_region t.region (source.Frame k) && nat_eq t.object (m.objects (source.Frame k))
+-- ---- one more object of a region
+
+-- a cell of an object
+abbrev pub spot_of : source.Region → ℕ → ℕ → Spot
+spot_of r index cell = record { region = r; object = index; cell = cell }
+
+abbrev pub is_here : source.Memory → source.Region → Spot → Bool
+is_here m r t = same_region t.region r && nat_eq t.object (m.objects r)
+
+-- what wasn't made yet has no cells
+abbrev pub IsUnmade : source.Memory → Type 0
+IsUnmade m = (s : Spot) → m.objects s.region ≤ s.object → m.cells s ≡ None
 
 -- what is made is at a new spot
-fresh : (m : source.Memory) (k : ℕ) (t : Spot) → ((s : Spot) → m.objects s.region ≤ s.object → m.cells s ≡ None) → is_here m k t ≡ true → m.cells t ≡ None
-fresh m k t unmade e =
-    let two = and_parts (same_region t.region (source.Frame k)) (nat_eq t.object (m.objects (source.Frame k))) e in
-    let r = region_is t.region (source.Frame k) two.0 in
-    let n = eqb-true t.object (m.objects (source.Frame k)) two.1 in
-    unmade t (subst (λ q. m.objects q ≤ t.object) (sym r) (subst (λ z. m.objects (source.Frame k) ≤ z) (sym n) (omega arith)))
+fresh : (m : source.Memory) (r : source.Region) (t : Spot) → IsUnmade m → is_here m r t ≡ true → m.cells t ≡ None
+fresh m r t unmade e =
+    let two = and_parts (same_region t.region r) (nat_eq t.object (m.objects r)) e in
+    let q = region_is t.region r two.0 in
+    let n = eqb-true t.object (m.objects r) two.1 in
+    unmade t (subst (λ q. m.objects q ≤ t.object) (sym q) (subst (λ z. m.objects r ≤ z) (sym n) (omega arith)))
 
-made_cell : (m : source.Memory) (k : ℕ) (o : Object) (t : Spot) (x : Cell)
-    → ((s : Spot) → m.objects s.region ≤ s.object → m.cells s ≡ None) → m.cells t ≡ Some x → (m_made m k o).cells t ≡ Some x
-made_cell m k o t x unmade is = by (is_here m k t) refl
+pub made_cell : (m : source.Memory) (r : source.Region) (o : Object) (t : Spot) (x : Cell) → IsUnmade m → m.cells t ≡ Some x
+    → (with_object m r o).cells t ≡ Some x
+made_cell m r o t x unmade is = by (is_here m r t) refl
   where
-    by : (b : Bool) → is_here m k t ≡ b → (m_made m k o).cells t ≡ Some x
-    by true e = let none : None ≡ Some x = sym (fresh m k t unmade e) ∙ is in absurd (cc none)
+    by : (b : Bool) → is_here m r t ≡ b → (with_object m r o).cells t ≡ Some x
+    by true e = let none : None ≡ Some x = sym (fresh m r t unmade e) ∙ is in absurd (cc none)
     by false e = ap (λ b. if b then o t.cell else m.cells t) e ∙ is
+
+-- no region has fewer objects
+grown : (m : source.Memory) (q r : source.Region) (o : Object) → m.objects q ≤ (with_object m r o).objects q
+grown m q r o = by (same_region q r) refl
+  where
+    by : (b : Bool) → same_region q r ≡ b → m.objects q ≤ (with_object m r o).objects q
+    by true e =
+        let same : (with_object m r o).objects q ≡ m.objects r + 1 = ap (λ b. if b then m.objects r + 1 else m.objects q) e in
+        subst (λ z. m.objects q ≤ z) (sym same) (subst (λ z. m.objects z ≤ m.objects r + 1) (sym (region_is q r e)) (omega arith))
+    by false e = subst (λ z. m.objects q ≤ z) (sym (ap (λ b. if b then m.objects r + 1 else m.objects q) e)) (omega arith)
+
+pub still_unmade : (m : source.Memory) (r : source.Region) (o : Object) → IsUnmade m → IsUnmade (with_object m r o)
+still_unmade m r o unmade t h = by (is_here m r t) refl
+  where
+    here : (with_object m r o).objects r ≡ m.objects r + 1
+    here = ap (λ b. if b then m.objects r + 1 else m.objects r) (region_itself r)
+
+    by : (b : Bool) → is_here m r t ≡ b → (with_object m r o).cells t ≡ None
+    by true e =
+        let two = and_parts (same_region t.region r) (nat_eq t.object (m.objects r)) e in
+        let z = eqb-true t.object (m.objects r) two.1 in
+        let more : m.objects r + 1 ≤ t.object = subst (λ z. z ≤ t.object) here
+        (subst (λ q. (with_object m r o).objects q ≤ t.object) (region_is t.region r two.0) h) in
+        absurd (omega (arith, z, more))
+    by false e =
+        let less : m.objects t.region ≤ t.object = let g = grown m t.region r o in omega (arith, g, h) in
+        ap (λ b. if b then o t.cell else m.cells t) e ∙ unmade t less
+
+-- the new object's own cells
+pub here_is : (m : source.Memory) (r : source.Region) (index cell : ℕ) (o : Object) → m.objects r ≡ index
+    → (with_object m r o).cells (spot_of r index cell) ≡ o cell
+here_is m r index cell o e =
+    ap (λ b. if b && nat_eq index (m.objects r) then o cell else m.cells (spot_of r index cell)) (region_itself r) ∙
+    ap (λ b. if b then o cell else m.cells (spot_of r index cell)) (eq-eqb index (m.objects r) (sym e))
+
+-- ---- one more local
 
 objects_other : (m : source.Memory) (j k : ℕ) (o : Object) → j < k
     → (m_made m k o).objects (source.Frame j) ≡ m.objects (source.Frame j)
@@ -54,9 +100,9 @@ objects_here m k o = ap (λ b. if b then m.objects (source.Frame k) + 1 else m.o
 
 -- the blocks before this one have no more locals
 pub grown_later : (b : Bound) (m : source.Memory) (c : core.Memory) (k : ℕ) (o : Object) → b.frames ≤ k
-    → ((s : Spot) → m.objects s.region ≤ s.object → m.cells s ≡ None) → Later b m c (m_made m k o) c
+    → IsUnmade m → Later b m c (m_made m k o) c
 grown_later b m c k o before unmade = record {
-  shapes = λ s other h. record { content = h.content; is = made_cell m k o s _ unmade h.is };
+  shapes = λ s other h. record { content = h.content; is = made_cell m (source.Frame k) o s _ unmade h.is };
   parts = λ t j o w h. h;
   objects = λ j h. objects_other m j k o (omega (arith, before, h));
   begun = omega arith;
@@ -65,20 +111,9 @@ grown_later b m c k o before unmade = record {
   owned = λ j t i r h. refl;
 }
 
--- the new local's own cells
-pub here_is : (m : source.Memory) (k index cell : ℕ) (o : Object) → m.objects (source.Frame k) ≡ index
-    → (m_made m k o).cells (cell_spot k index cell) ≡ o cell
-here_is m k index cell o e =
-    ap (λ b. if b && nat_eq index (m.objects (source.Frame k)) then o cell else m.cells (cell_spot k index cell)) (region_itself (source.Frame k)) ∙
-    ap (λ b. if b then o cell else m.cells (cell_spot k index cell)) (eq-eqb index (m.objects (source.Frame k)) (sym e))
-
 -- a cell of a shape, with the content that its shape gives it
 abbrev pub cell_with : (Shape → source.Content) → Shape → Cell
 cell_with g s = record { shape = s; content = g s }
-
--- a cell of an object
-abbrev pub spot_of : source.Region → ℕ → ℕ → Spot
-spot_of r index cell = record { region = r; object = index; cell = cell }
 
 pub cells_from : (m : source.Memory) (r : source.Region) (index cell : ℕ) (g : Shape → source.Content) (xs : List Shape)
     → ((i : ℕ) → m.cells (spot_of r index (cell + i)) ≡ slice_get (map (cell_with g) xs) i) → AreCells m (spot_of r index cell) xs
@@ -99,14 +134,18 @@ cells_from m r index cell g (x ∷ xs) h = (
     one_on k i = omega arith
 
 -- an object of these cells
-pub cells_here : (m : source.Memory) (k index : ℕ) (g : Shape → source.Content) (xs : List Shape) → m.objects (source.Frame k) ≡ index
-    → AreCells (m_made m k (object_of (map (cell_with g) xs))) (cell_spot k index 0) xs
-cells_here m k index g xs e =
-    cells_from (m_made m k (object_of (map (cell_with g) xs))) (source.Frame k) index 0 g xs
-    (λ i. here_is m k index (0 + i) (object_of (map (cell_with g) xs)) e ∙ ap (slice_get (map (cell_with g) xs)) (zero_on i))
+pub cells_in : (m : source.Memory) (r : source.Region) (index : ℕ) (g : Shape → source.Content) (xs : List Shape) → m.objects r ≡ index
+    → AreCells (with_object m r (object_of (map (cell_with g) xs))) (spot_of r index 0) xs
+cells_in m r index g xs e =
+    cells_from (with_object m r (object_of (map (cell_with g) xs))) r index 0 g xs
+    (λ i. here_is m r index (0 + i) (object_of (map (cell_with g) xs)) e ∙ ap (slice_get (map (cell_with g) xs)) (zero_on i))
   where
     zero_on : (i : ℕ) → 0 + i ≡ i
     zero_on i = omega arith
+
+pub cells_here : (m : source.Memory) (k index : ℕ) (g : Shape → source.Content) (xs : List Shape) → m.objects (source.Frame k) ≡ index
+    → AreCells (m_made m k (object_of (map (cell_with g) xs))) (cell_spot k index 0) xs
+cells_here m k index g xs e = cells_in m (source.Frame k) index g xs e
 
 -- ---- the relation holds where the new cell's value, if there is one, is in its part
 
@@ -115,10 +154,10 @@ pub agree_made : (w : World) (m : source.Memory) (c : core.Memory) (k index : �
     → IsShown w m c (cell_spot k index cell) shape v)
     → Agree w (m_made m k o) c
 agree_made w m c k index o a e begun shown = record {
-  cells = λ t other v h. by (is_here m k t) t other v refl h;
+  cells = λ t other v h. by (is_here m (source.Frame k) t) t other v refl h;
   live = a.live;
   activations = a.activations;
-  unmade = λ t h. free (is_here m k t) t refl h;
+  unmade = still_unmade m (source.Frame k) o a.unmade;
   unentered = a.unentered;
   unbegun = λ j h.
       let two = a.unbegun j h in
@@ -126,6 +165,11 @@ agree_made w m c k index o a e begun shown = record {
       (ap (λ b. if b then m.objects (source.Frame k) + 1 else m.objects (source.Frame j)) no ∙ two.0, two.1);
   uncalled = a.uncalled;
   unowned = a.unowned;
+  births = a.births;
+  heap = a.heap;
+  lexical = a.lexical;
+  blocks = a.blocks;
+  ungranted = a.ungranted;
 }
   where
     m' : source.Memory
@@ -137,7 +181,7 @@ agree_made w m c k index o a e begun shown = record {
     kept : (s : Spot) (other : Shape) (v : Scalar) → IsShown w m c s other v → IsShown w m' c s other v
     kept s other v one = record { contents = one.contents; shown = shown_later nothing w m m' c c other v one.contents later one.shown; held = one.held }
 
-    here : (t : Spot) (other : Shape) (v : Scalar) → is_here m k t ≡ true → o t.cell ≡ Some (record { shape = other; content = Holds v })
+    here : (t : Spot) (other : Shape) (v : Scalar) → is_here m (source.Frame k) t ≡ true → o t.cell ≡ Some (record { shape = other; content = Holds v })
         → IsShown w m' c t other v
     here t other v e1 is =
         let two = and_parts (same_region t.region (source.Frame k)) (nat_eq t.object (m.objects (source.Frame k))) e1 in
@@ -146,27 +190,10 @@ agree_made w m c k index o a e begun shown = record {
         let same : cell_spot k index t.cell ≡ t = λ i. record { region = sym r i; object = sym n i; cell = t.cell } in
         subst (λ u. IsShown w m' c u other v) same (kept (cell_spot k index t.cell) other v (shown t.cell other v is))
 
-    by : (b : Bool) (t : Spot) (other : Shape) (v : Scalar) → is_here m k t ≡ b → m'.cells t ≡ Some (record { shape = other; content = Holds v })
+    by : (b : Bool) (t : Spot) (other : Shape) (v : Scalar) → is_here m (source.Frame k) t ≡ b → m'.cells t ≡ Some (record { shape = other; content = Holds v })
         → IsShown w m' c t other v
     by true t other v e1 h = here t other v e1 (sym (ap (λ b. if b then o t.cell else m.cells t) e1) ∙ h)
     by false t other v e1 h = kept t other v (a.cells t other v (sym (ap (λ b. if b then o t.cell else m.cells t) e1) ∙ h))
-
-    grown : (q : source.Region) (b : Bool) → same_region q (source.Frame k) ≡ b → m.objects q ≤ m'.objects q
-    grown q true e1 = subst (λ z. m.objects z ≤ m'.objects z) (sym (region_is q (source.Frame k) e1)) (subst (λ z. m.objects (source.Frame k) ≤ z)
-        (sym (objects_here m k o)) (omega arith))
-    grown q false e1 = subst (λ z. m.objects q ≤ z) (sym (ap (λ b. if b then m.objects (source.Frame k) + 1 else m.objects q) e1)) (omega arith)
-
-    free : (b : Bool) (t : Spot) → is_here m k t ≡ b → m'.objects t.region ≤ t.object → m'.cells t ≡ None
-    free true t e1 h =
-        let two = and_parts (same_region t.region (source.Frame k)) (nat_eq t.object (m.objects (source.Frame k))) e1 in
-        let r = region_is t.region (source.Frame k) two.0 in
-        let z = eqb-true t.object (m.objects (source.Frame k)) two.1 in
-        let more : m.objects (source.Frame k) + 1 ≤ t.object = subst (λ z. z ≤ t.object) (objects_here m k o)
-        (subst (λ q. m'.objects q ≤ t.object) r h) in
-        absurd (omega (arith, z, more))
-    free false t e1 h =
-        let less : m.objects t.region ≤ t.object = let g = grown t.region (same_region t.region (source.Frame k)) refl in omega (arith, g, h) in
-        ap (λ b. if b then o t.cell else m.cells t) e1 ∙ a.unmade t less
 
 -- ---- Core writes a part of a local that the source makes next
 
@@ -205,11 +232,15 @@ agree_ahead w m c s old x a none is = record {
   live = a.live;
   activations = a.activations;
   unmade = a.unmade;
-  unentered = λ k t j h r. apart (core.same_spot t (at s) && nat_eq j 0) k t j refl h r;
+  unentered = λ k t j h r. none_kept c (at s) old x is t j (a.unentered k t j h r);
   unbegun = a.unbegun;
-  uncalled = λ k t j h r.
-      (ahead_later (up_to k) m c (at s) old x (named_free (up_to k) s) is).owned k t j r (is_up_to k t.object) ∙ a.uncalled k t j h r;
+  uncalled = λ k t j h r. none_kept c (at s) old x is t j (a.uncalled k t j h r);
   unowned = a.unowned;
+  births = a.births;
+  heap = a.heap;
+  lexical = a.lexical;
+  blocks = a.blocks;
+  ungranted = λ d t j r h. none_kept c (at s) old x is t j (a.ungranted d t j r h);
 }
   where
     c' : core.Memory
@@ -241,14 +272,3 @@ agree_ahead w m c s old x a none is = record {
           held =
               held_other c (at s) (at t) (record old { content = x }) 0 one.contents e one.held;
         }
-
-    no_part : (p : Part) → None ≡ Some p → ⊥
-    no_part p e = cc e
-
-    apart : (b : Bool) (k : ℕ) (t : core.Spot) (j : ℕ) → (core.same_spot t (at s) && nat_eq j 0) ≡ b → c.activations ≤ k → t.region ≡ core.Frame k
-        → c'.parts t j ≡ None
-    apart true k t j e h r =
-        let two = and_parts (core.same_spot t (at s)) (nat_eq j 0) e in
-        absurd (no_part old (sym (a.unentered k t j h r) ∙ ap (λ z. c.parts z j) (spot_same t (at s) two.0) ∙ ap (λ z. c.parts (at s) z) (eqb-true j 0 two.1)
-        ∙ is))
-    apart false k t j e h r = ap (λ b. if b then Some (record old { content = x }) else c.parts t j) e ∙ a.unentered k t j h r

@@ -34,9 +34,9 @@ use Rattle.source_lowering.proofs.Relations.{
   SameAt,
   Next,
   AreKept,
-  within,
   around,
   before_value,
+  keeping,
   AValue,
 }
 use Rattle.source_lowering.proofs.Keeping.{made_later, later_on, later_less, shown_later, free_nothing, fits_on}
@@ -51,7 +51,7 @@ use Rattle.source_lowering.proofs.Clearing.{laid_there}
 use Rattle.source_lowering.proofs.Copying.{AllShown, copied_later, copied_nowhere, whole_copied}
 use Rattle.source_lowering.proofs.SameShapes.{shapes_same}
 use Rattle.source_lowering.proofs.Initialising.{converted_whole}
-use Rattle.source_lowering.proofs.Wholes.{own_spot, IsWhole, before_less, later_before, own_free, agree_parts, agree_own_copied, value_made}
+use Rattle.source_lowering.proofs.Wholes.{own_spot, IsWhole, fits_keeping, fits_kept, before_less, own_free, agree_parts, agree_own_copied, value_made}
 
 -- ---- forms
 
@@ -122,17 +122,19 @@ cells_apart own value i cells less =
     rw (eq-eqb own own refl, eq-eqb value value refl, other) refl
 
 pub word_member : (p : Place) (n d value cells byte : ℕ) (shape : Shape) (e : Sense) (from : Shape) (first : List Statement) → IsWordShape shape
-    → Agrees p n (d + 1) e from first
+    → Agrees (keeping p (suc value)) n (d + 1) e from first
     → MemberGoes p n d value cells byte shape (e.value >>= converted p.world shape e.shape) (first ++ word_member_code shape from d cells byte)
 word_member p n d value cells byte shape e from first is_word one = record {
   same = λ m c s rest next fits temp made goes.
       subst (λ z. SameAt p n (e.value (λ vs. converted p.world shape e.shape vs s) m) (meaning.statements z next c))
       (sym (put_three first (conversion_code shape from (d + 1)) stores rest ∙ sym (put_all first (conversion_code shape from (d + 1)) (put stores rest))))
-      ((converted_gives p n (d + 1) shape e from first (word_taken shape is_word) one).same m c s (put stores rest) next fits (record {
+      ((converted_gives (keeping p (suc value)) n (d + 1) shape e from first (word_taken shape is_word) one).same m c s (put stores rest) next
+      (fits_keeping p (suc value) m c fits) (record {
         go = λ m1 c1 vs fits1 later1 kept1 given1.
-            stored m c s rest next goes m1 c1 vs fits1 (later_before p value m m1 c c1 later1)
-            (λ i less. later1.owned p.own (member_spot p.own value i) 0 refl (omega arith, λ f. absurd (omega (arith, f)))) kept1
-            (kept1 d (omega arith) ∙ temp) (made_later (within p) m m1 c.memory c1.memory (member_spot p.own value cells) (0 + byte)
+            stored m c s rest next goes m1 c1 vs (fits_kept p (suc value) m1 c1 fits1)
+            (later_less (before_value p (suc value)) (before_value p value) m m1 c.memory c1.memory (before_less p value (suc value) (omega arith)) later1)
+            (λ i less. later1.owned p.own (member_spot p.own value i) 0 refl (omega arith, λ f. omega arith)) kept1
+            (kept1 d (omega arith) ∙ temp) (made_later (before_value p (suc value)) m m1 c.memory c1.memory (member_spot p.own value cells) (0 + byte)
             (layout_of p.world shape).cells later1 made) (value_of p.world m1 c1.memory shape vs (c1.temps (d + 1)) is_word given1);
       }));
 }

@@ -56,6 +56,7 @@ all_written m t (x ∷ xs) (v ∷ vs) = all_written (m_written m t x v) (source.
 -- the memory changes in its cells alone
 record IsSameBut (m m' : source.Memory) : Type 0 where
   activations : m'.activations ≡ m.activations
+  births : m'.births ≡ m.births
   state : (r : source.Region) → m'.state r ≡ m.state r
   objects : (r : source.Region) → m'.objects r ≡ m.objects r
   shapes : (s : Spot) (shape : Shape) → HasShape m s shape → HasShape m' s shape
@@ -64,6 +65,7 @@ record IsSameBut (m m' : source.Memory) : Type 0 where
 written_same : (m : source.Memory) (t : Spot) (x : Shape) (v : Scalar) → HasShape m t x → IsSameBut m (m_written m t x v)
 written_same m t x v has = record {
   activations = refl;
+  births = refl;
   state = λ r. refl;
   objects = λ r. refl;
   shapes = shape_kept m t x has.content (Holds v) has.is;
@@ -75,14 +77,15 @@ still_cells m m' t [] same h = tt
 still_cells m m' t (x ∷ xs) same h = (same.shapes t x h.0, still_cells m m' (source.beyond t 1) xs same h.1)
 
 all_same : (m : source.Memory) (t : Spot) (xs : List Shape) (vs : List Scalar) → AreCells m t xs → IsSameBut m (all_written m t xs vs)
-all_same m t [] vs cells = record { activations = refl; state = λ r. refl; objects = λ r. refl; shapes = λ s z h. h; unmade = λ f. f }
-all_same m t (x ∷ xs) [] cells = record { activations = refl; state = λ r. refl; objects = λ r. refl; shapes = λ s z h. h; unmade = λ f. f }
+all_same m t [] vs cells = record { activations = refl; births = refl; state = λ r. refl; objects = λ r. refl; shapes = λ s z h. h; unmade = λ f. f }
+all_same m t (x ∷ xs) [] cells = record { activations = refl; births = refl; state = λ r. refl; objects = λ r. refl; shapes = λ s z h. h; unmade = λ f. f }
 all_same m t (x ∷ xs) (v ∷ vs) cells =
     let m1 : source.Memory = m_written m t x v in
     let one = written_same m t x v cells.0 in
     let more = all_same m1 (source.beyond t 1) xs vs (still_cells m m1 (source.beyond t 1) xs one cells.1) in
     record {
       activations = more.activations;
+      births = more.births;
       state = more.state;
       objects = more.objects;
       shapes = λ s z h. more.shapes s z (one.shapes s z h);
@@ -237,6 +240,11 @@ overwritten w m c t from l xs vs count a cells shown = record {
         let two = a.unbegun k (subst (λ z. z ≤ k) same.activations h) in (same.objects (source.Frame k) ∙ two.0, two.1);
     uncalled = λ k u j h r. copied_none l (at t) from c u j (a.uncalled k u j h r);
     unowned = a.unowned;
+    births = same.births ∙ a.births;
+    heap = subst (λ z. 0 < z) (sym same.births) a.heap;
+    lexical = a.lexical;
+    blocks = λ d. same.objects (source.Born d) ∙ a.blocks d;
+    ungranted = λ d u j r h. copied_none l (at t) from c u j (a.ungranted d u j r h);
   };
   later = later;
 }

@@ -12,9 +12,9 @@ use Rattle.core_meaning.specs.Core.{Local}
 use Rattle.core_meaning.specs.Meaning.{with_objects}
 use Rattle.core_meaning.proofs.Spots.{region_same}
 use Rattle.source_lowering.specs.Programs.{locals_of}
-use Rattle.source_lowering.proofs.Relations.{region_at, at, ArePending, Agree, Bound, nothing, IsKept, Later}
+use Rattle.source_lowering.proofs.Relations.{region_at, at, ArePending, IsLexical, Agree, Bound, nothing, IsKept, Later}
 use Rattle.source_lowering.proofs.Keeping.{shown_later, held_same}
-use Rattle.source_lowering.proofs.Entering.{made_parts, made_standing, made_activations, made_calls, made_objects, held_on, pending_made}
+use Rattle.source_lowering.proofs.Entering.{made_parts, made_standing, made_activations, made_calls, made_births, made_objects, held_on, pending_made}
 
 live_apart : (r : source.Region) (k : ℕ) (now : core.Standing) (c : core.Memory) → (with_standing c (core.Own k) now).standing (region_at r) ≡ c.standing
     (region_at r)
@@ -57,6 +57,11 @@ gone_agree w m c k a = record {
   unbegun = a.unbegun;
   uncalled = a.uncalled;
   unowned = a.unowned;
+  births = a.births;
+  heap = a.heap;
+  lexical = a.lexical;
+  blocks = a.blocks;
+  ungranted = a.ungranted;
 }
 
 -- ---- a function is entered: its own region is live, and has its objects
@@ -130,6 +135,13 @@ own_agree w m c ls a = record {
   unowned = λ k h.
       let less : c.calls + 1 ≤ k = subst (λ z. z ≤ k) (made_calls (core.Own c.calls) ls (own_opened c)) h in
       made_objects (core.Own c.calls) ls (own_opened c) (core.Own k) (later_number k c.calls less) ∙ a.unowned k (omega (arith, less));
+  births = a.births ∙ sym (made_births (core.Own c.calls) ls (own_opened c));
+  heap = a.heap;
+  lexical = λ d. subst IsLexical (sym (made_standing (core.Own c.calls) ls (own_opened c) (core.Born d))) (a.lexical d);
+  blocks = λ d. a.blocks d ∙ sym (made_objects (core.Own c.calls) ls (own_opened c) (core.Born d) refl);
+  ungranted = λ d t j r h.
+      made_parts (core.Own c.calls) ls (own_opened c) t j (ap (λ z. core.same_region z (core.Own c.calls)) r) ∙
+      a.ungranted d t j r (subst (λ z. z ≤ t.object) (made_objects (core.Own c.calls) ls (own_opened c) (core.Born d) refl) h);
 }
 
 -- its unnamed values are made

@@ -55,11 +55,11 @@ use Rattle.source_lowering.specs.Programs.{last_of, operation_temporaries}
 use Rattle.source_lowering.specs.Bounds.{operation_count}
 use Rattle.source_lowering.proofs.Costs.{Costs, max_both, no_costs, one_costs, both_cost, more_costs}
 
--- an expression takes less than six operations a node, and no local: four are left
+-- an expression takes less than eight operations a node, and no local: four are left
 pub record IsCheap (t p n : ℕ) (code : List Statement) : Type 0 where
   pub operations : ℕ
   pub costs : Costs t p 0 operations code
-  pub less : operations + 4 ≤ 6 * n
+  pub less : operations + 4 ≤ 8 * n
 
 -- one operation
 pub does_one : (t p : ℕ) (o : core.Operation) → operation_temporaries o ≤ t → Costs t p 0 (operation_count o) (Do o ∷ [])
@@ -294,7 +294,7 @@ inverted_costs t p d n s code here place g c = record {
 pub record IsPointed (t p n : ℕ) (code : List Statement) : Type 0 where
   pub operations : ℕ
   pub costs : Costs t p 0 operations code
-  pub less : operations + 5 ≤ 6 * n
+  pub less : operations + 5 ≤ 8 * n
 
 pub contents_costs : (t p d n : ℕ) (s : Shape) (code : List Statement) → suc d ≤ t → IsCheap t p n code
     → IsPointed t p (1 + n) (pointed_code prefix.Dereference s d code)

@@ -171,7 +171,8 @@ contents_placed p n d cells e shape code agrees = record {
             (λ t byte x full leads.
             subst (λ z. SameAt p n (s t m1) z) (sym (spot_passes d byte o.may_be_null o.to (at t) c1 rest next x))
             ((subst (λ z. PlaceGoesOn p n d m c (pointee z) s (meaning.statements rest next)) o.shape_is goes).go m1 c1 t byte fits1 later1 kept1 x
-            full leads))));
+            full leads))))
+            (λ birth x shape_is. stuck_same p.world p.program n _);
       }));
 }
 
@@ -204,7 +205,8 @@ loaded_at : (c : Config) (d e width byte : ℕ) (t : core.Spot) (x : Content) (n
     → does (Load d e (distance 0 0 width)) next c ≡ next (with_temp d x c)
 loaded_at c d e width byte t x next temp live part = rw (temp, beyond_none t, live, part, here_byte byte, eq-eqb width width refl) refl
 
-stored_at : (c : Config) (d e width byte : ℕ) (t : core.Spot) (old : Content) (next : Config → core_steps.Step) → c.temps e ≡ Pointer t byte
+-- a pointer's part is written
+pub stored_at : (c : Config) (d e width byte : ℕ) (t : core.Spot) (old : Content) (next : Config → core_steps.Step) → c.temps e ≡ Pointer t byte
     → core.is_live (c.memory.standing t.region) ≡ true → c.memory.parts t 0 ≡ Some (part_at_byte byte width old)
     → does (Store e (distance 0 0 width) d) next c ≡ next (with_memory (with_part c.memory t 0 (part_at_byte byte width (fitting width (c.temps d)))) c)
 stored_at c d e width byte t old next temp live part =

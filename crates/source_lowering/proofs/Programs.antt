@@ -36,7 +36,7 @@ use Rattle.source_lowering.specs.Lowerable.{
 }
 use Rattle.source_lowering.proofs.Relations.{Agree, AreLed, AreBytes, SameOutcome, Same}
 use Rattle.source_lowering.proofs.Runs.{stuck_same, stops_same}
-use Rattle.source_lowering.proofs.Integers.{IsTaken, word_taken, shown_one, IsWord, IsThin, thin_same}
+use Rattle.source_lowering.proofs.Integers.{IsTaken, word_taken, shown_one, IsWord, IsThin, IsHandle, thin_same}
 use Rattle.source_lowering.proofs.Names.{AreGlobals, AreParameters, IsRoutine, AreRoutines, IsPlainWorld, FoundFunction, find_function}
 use Rattle.source_lowering.proofs.Calls.{AllGiven, OneResult, NoResult, ResultIs, EntersAs}
 use Rattle.source_lowering.proofs.WrittenTypes.{object_settled, word_settled}
@@ -126,9 +126,12 @@ status_same w fs n shape m c vs xs taken r =
     subst (λ z. Same w fs n (status (z ∷ []) m) (meaning.status_of xs c)) (sym word.value)
     (subst (λ z. Same w fs n (Stops (SourceEnding.Ended word.word)) (meaning.status_of z c)) (sym (o.alone ∙ ap (λ z. z ∷ []) word.shown))
     (stops_same w fs n (SourceEnding.Ended word.word))))
+    (⊎_elim
     (λ (thin : IsThin w m c shape o.value.value o.content).
     thin_same w fs n shape m c o.value.value o.content (λ v. status (v ∷ [])) (meaning.status_of xs c) thin
     (λ x b. stuck_same w fs n (meaning.status_of xs c)) (λ t byte x full leads. stuck_same w fs n (meaning.status_of xs c)))
+    (λ (handle : IsHandle shape o.value.value o.content).
+    subst (λ z. Same w fs n (status (z ∷ []) m) (meaning.status_of xs c)) (sym handle.value) (stuck_same w fs n (meaning.status_of xs c))))
     (shown_one w m c shape o.value.value o.content taken o.value.shown)))
     (λ (o : NoResult shape vs xs). subst (λ z. Same w fs n (status z m) (meaning.status_of xs c)) (sym o.value.none)
     (stuck_same w fs n (meaning.status_of xs c)))

@@ -50,6 +50,7 @@ use Rattle.core_meaning.specs.Meaning as meaning
 use Rattle.source_lowering.specs.Layouts.{layout_of}
 use Rattle.source_lowering.specs.Lowered.{Named, put}
 use Rattle.source_lowering.specs.Lowerable.{IsObject}
+use Rattle.source_lowering.specs.Programs.{RegionsAround}
 use Rattle.source_lowering.proofs.StructCells.{HasCells}
 
 -- ---- spots are equal, number for number
@@ -165,6 +166,14 @@ pub record IsShown (w : World) (m : source.Memory) (c : core.Memory) (s : Spot) 
   pub shown : Shown w m c shape v contents
   pub held : PartsHold c (at s) 0 contents
 
+-- A region that is born is the heap or a lexical one: live, or dead.
+abbrev pub IsLexical : core.Standing → Type 0
+IsLexical core.Live = Unit {0}
+IsLexical core.Dead = Unit {0}
+IsLexical core.Opened = ⊥
+IsLexical core.Single = ⊥
+IsLexical core.Closed = ⊥
+
 -- Cells agree with parts where they hold a value; Blank, Gone and Lent are free.
 pub record Agree (w : World) (m : source.Memory) (c : core.Memory) : Type 0 where
   pub cells : (s : Spot) (shape : Shape) (v : Scalar) → m.cells s ≡ Some (record { shape = shape; content = Holds v }) → IsShown w m c s shape v
@@ -176,6 +185,12 @@ pub record Agree (w : World) (m : source.Memory) (c : core.Memory) : Type 0 wher
   pub unbegun : (k : ℕ) → m.activations ≤ k → (m.objects (source.Frame k) ≡ 0) × (c.objects (core.Frame k) ≡ 0)
   pub uncalled : (k : ℕ) (t : core.Spot) (j : ℕ) → c.calls ≤ k → t.region ≡ core.Own k → c.parts t j ≡ None
   pub unowned : (k : ℕ) → c.calls ≤ k → c.objects (core.Own k) ≡ 0
+  -- regions are born in both at once, the heap first, and have as many objects
+  pub births : m.births ≡ c.births
+  pub heap : 0 < m.births
+  pub lexical : (d : ℕ) → IsLexical (c.standing (core.Born d))
+  pub blocks : (d : ℕ) → m.objects (source.Born d) ≡ c.objects (core.Born d)
+  pub ungranted : (d : ℕ) (t : core.Spot) (j : ℕ) → t.region ≡ core.Born d → c.objects (core.Born d) ≤ t.object → c.parts t j ≡ None
 
 -- What stays as it was: how many locals the blocks before one have, how the functions' own regions before one stand, and what the own regions before one hold,
 -- and so many values of that one.
@@ -232,7 +247,7 @@ AreLed w m c (b ∷ bs) = IsLed w m c b.entity × AreLed w m c bs
 -- ---- a point of both runs
 
 -- What both have in common in a scope: the activation of its block, and those around it; how many locals it has, and the shapes of those to come; the number of
--- its function's activation, and the shapes of its unnamed values.
+-- its function's activation, and the shapes of its unnamed values; how many of these an expression leaves as they are; and how many regions are in scope.
 pub record Place : Type 0 where
   pub world : World
   pub program : Program
@@ -244,6 +259,8 @@ pub record Place : Type 0 where
   pub pending : List Shape
   pub own : ℕ
   pub owned : List Shape
+  pub kept : ℕ
+  pub regions : RegionsAround
 
 pub record Fits (p : Place) (m : source.Memory) (c : Config) : Type 0 where
   pub agree : Agree p.world m c.memory
@@ -257,6 +274,10 @@ pub record Fits (p : Place) (m : source.Memory) (c : Config) : Type 0 where
   pub called : p.own < c.memory.calls
   pub stands : core.is_live (c.memory.standing (core.Own p.own)) ≡ true
   pub owned : ArePending p.world c.memory (core.Own p.own) 0 p.owned
+
+-- the place where so many unnamed values are left as they are
+abbrev pub keeping : Place → ℕ → Place
+keeping p values = record p { kept = values }
 
 -- ---- runs
 
@@ -286,9 +307,9 @@ AreKept d old new = (k : ℕ) → k < d → new.temps k ≡ old.temps k
 abbrev pub activation : Config → List ℕ
 activation c = c.own ∷ c.blocks
 
--- what an expression keeps: nothing but locals of newer blocks is made, and all unnamed values stay
+-- what an expression keeps: nothing but locals of newer blocks and blocks of regions is made, and the first unnamed values stay
 abbrev pub within : Place → Bound
-within p = record { frames = suc p.frame; standing = suc p.own; own = suc p.own; values = 0 }
+within p = record { frames = suc p.frame; standing = suc p.own; own = p.own; values = p.kept }
 
 -- what a statement keeps, where the blocks before one have no more locals then
 abbrev pub around : Place → ℕ → Bound

@@ -4,7 +4,7 @@ use Rattle.cyc_tree.specs.Tree.{Suffixes, NoSuffixes, Index, Dot, Arrow}
 use Rattle.source_meaning.specs.Shapes.{Shape, pointee}
 use Rattle.source_meaning.specs.Steps.{World}
 use Rattle.core_meaning.specs.Core.{Statement}
-use Rattle.source_lowering.specs.Lowered.{check_code, offset_code, Left, left_of, member_at, suffixed_code}
+use Rattle.source_lowering.specs.Lowered.{check_code, offset_code, Left, left_of, member_at, suffixed_code, suffixed_place}
 use Rattle.source_lowering.specs.Lowerable.{TakesSuffixes}
 use Rattle.source_lowering.specs.Bounds.{suffix_nodes}
 use Rattle.source_lowering.proofs.Costs.{Costs, no_costs, both_cost}
@@ -14,13 +14,13 @@ use Rattle.source_lowering.proofs.PartCosts.{IsCheap, IsPointed, does_one, at_mo
 pub record IsLeft (t p n : ℕ) (left : Left) : Type 0 where
   pub pointer_operations : ℕ
   pub pointer : Costs t p 0 pointer_operations left.pointer
-  pub pointer_less : pointer_operations + 8 ≤ 6 * n
+  pub pointer_less : pointer_operations + 8 ≤ 8 * n
   pub value_operations : ℕ
   pub value : Costs t p 0 value_operations left.value
-  pub value_less : value_operations + 4 ≤ 6 * n
+  pub value_less : value_operations + 4 ≤ 8 * n
 
 member_costs : (w : World) (s : Shape) (pointer : List Statement) (cells bytes : ℕ) (f : List ℕ) (t p d n o : ℕ) → suc d ≤ t → Costs t p 0 o pointer
-    → o + 2 ≤ 6 * n → IsLeft t p (n + 1) (member_at w s pointer cells bytes f d)
+    → o + 2 ≤ 8 * n → IsLeft t p (n + 1) (member_at w s pointer cells bytes f d)
 member_costs w s pointer cells bytes f t p d n o h c less = record {
   pointer_operations = o;
   pointer = c;
@@ -71,7 +71,22 @@ primary_costs w (Arrow f others) t p d n shape value pointer for_value for_place
     (member_costs w (pointee shape) (value ++ check_code shape d) 0 0 f.text t p d n (c.operations + 2) h
     (both_cost t p 0 c.operations 0 2 value (check_code shape d) c.costs (check_costs t p d shape h)) (omega (arith, l)))
 
-pub offset_costs : (t p d cells bytes : ℕ) → suc d ≤ t → Costs t p 0 1 (offset_code d cells bytes)
+offset_costs : (t p d cells bytes : ℕ) → suc d ≤ t → Costs t p 0 1 (offset_code d cells bytes)
 offset_costs t p d zero zero h = at_most t p 0 1 [] (omega arith) (no_costs t p)
 offset_costs t p d zero (suc bytes) h = does_one t p _ (omega (arith, h))
 offset_costs t p d (suc cells) bytes h = does_one t p _ (omega (arith, h))
+
+-- a pointer to what suffixes lead to
+pub pointed_costs : (w : World) (suffixes : Suffixes) (t p d n : ℕ) (shape : Shape) (value pointer : List Statement) (for_value for_place : Type 0) → suc d ≤ t
+    → TakesSuffixes w suffixes shape for_value for_place → (for_value → IsCheap t p n value) → (for_place → IsPointed t p n pointer)
+    → IsPointed t p (n + suffix_nodes suffixes) (suffixed_place w suffixes shape d value pointer)
+pointed_costs w suffixes t p d n shape value pointer for_value for_place h takes cheap pointed =
+    let left : Left = suffixed_code w suffixes d (left_of shape value pointer) in
+    let one = primary_costs w suffixes t p d n shape value pointer for_value for_place h takes cheap pointed in
+    let l = one.pointer_less in
+    record {
+      operations = one.pointer_operations + 1;
+      costs = both_cost t p 0 one.pointer_operations 0 1 left.pointer (offset_code d left.cells left.bytes) one.pointer
+          (offset_costs t p d left.cells left.bytes h);
+      less = omega (arith, l);
+    }

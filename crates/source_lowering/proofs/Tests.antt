@@ -24,7 +24,7 @@ use Rattle.core_meaning.specs.Operations.{does}
 use Rattle.source_lowering.specs.Lowered.{put, all_of, truth_code, turned_code, word_code, not_code}
 use Rattle.source_lowering.proofs.Relations.{at, Place, Fits, SameAt, Next, AreKept, LaterAt, Given, GoesOn, GivesAs, within}
 use Rattle.source_lowering.proofs.Keeping.{later_on}
-use Rattle.source_lowering.proofs.Runs.{put_all}
+use Rattle.source_lowering.proofs.Runs.{stuck_same, put_all}
 use Rattle.core_meaning.proofs.Results.{truth_below}
 use Rattle.source_lowering.proofs.Operators.{truth_is}
 use Rattle.source_lowering.proofs.Integers.{IsTaken, word_given, one_same, thin_same}
@@ -93,7 +93,8 @@ truth_decided p n d e shape code m c s rest next taken gives fits tests =
           thin_same p.world p.program n shape m1 c1.memory v (c1.temps d) (λ u. need (is_true u) s) _ o
           (λ x b. tests.go m1 c1 false fits1 later1 kept1 (record { branches = λ these those. ap (λ z. meaning.branch z these those) x }))
           (λ t byte x full leads.
-          tests.go m1 c1 true fits1 later1 kept1 (record { branches = λ these those. ap (λ z. meaning.branch z these those) x })));
+          tests.go m1 c1 true fits1 later1 kept1 (record { branches = λ these those. ap (λ z. meaning.branch z these those) x })))
+          (λ birth x shape_is. stuck_same p.world p.program n _);
     })
 
 -- what comes after a test: the source has a truth, Core a word
@@ -169,7 +170,8 @@ truth_tested p n d e shape code m c s rest next taken gives fits tests =
           (λ x b. pointer_tested p n d 1 m c m1 c1 s rest next fits1 later1 kept1
           (null_is_one c1 d d (meaning.statements (put (turned_code d) rest) next) x) tests)
           (λ t byte x full leads. pointer_tested p n d 0 m c m1 c1 s rest next fits1 later1 kept1
-          (spot_is_zero c1 d d byte (at t) (meaning.statements (put (turned_code d) rest) next) x) tests)));
+          (spot_is_zero c1 d d byte (at t) (meaning.statements (put (turned_code d) rest) next) x) tests)))
+          (λ birth x shape_is. stuck_same p.world p.program n _);
     }))
 
 -- ---- &&
@@ -354,7 +356,8 @@ not_gives p n d e shape code taken gives = record {
             (below c c2 kept2) goes)
             (λ t byte x full leads.
             not_put p n d false m c m2 c2 c2 s _ (meaning.statements rest next) (spot_is_zero c2 d (d + 1) byte (at t) (meaning.statements rest next) x) fits2
-            later2 (below c c2 kept2) goes)));
+            later2 (below c c2 kept2) goes)))
+            (λ birth x shape_is. stuck_same p.world p.program n _);
       }));
 }
   where

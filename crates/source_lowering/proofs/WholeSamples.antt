@@ -17,7 +17,7 @@ use Rattle.core_meaning.specs.Core as code
 use Rattle.core_meaning.specs.Core.{Distance, Do, If, Raise, Constant, Narrow, Apply, LocalAddress, OwnAddress, DataAddress, Offset, Load, Store, Copy, NoStatements, MoreStatements}
 use Rattle.core_meaning.specs.Steps.{Visible, Called, Returned}
 use Rattle.core_meaning.specs.Meaning.{core}
-use Rattle.source_lowering.specs.Programs.{declaration_code, function_code, program_code, statement_code}
+use Rattle.source_lowering.specs.Programs.{no_regions, declaration_code, function_code, program_code, statement_code}
 use Rattle.source_lowering.specs.Lowered.{Named}
 use Rattle.source_lowering.specs.Programs.{named_here}
 use Rattle.source_lowering.specs.Lowerable.{GivesWord, IsLowerable}
@@ -131,23 +131,23 @@ own_values = refl
 abbrev part : (cells bytes width : ℕ) → Distance
 part cells bytes width = record { cells = cells; bytes = bytes; part = 0; width = width }
 
-initialized : declaration_code w with_t (tree.Local (struct_of (named "out")) (named "u") (Initializer.Value out_of_place)) 1 1 ≡
+initialized : declaration_code w with_t (tree.Local (struct_of (named "out")) (named "u") (Initializer.Value out_of_place)) 0 1 1 ≡
     Do (OwnAddress 0 1) ∷ Do (Constant 1 1) ∷ Do (Store 0 (part 0 0 4) 1) ∷ Do (LocalAddress 1 0 0) ∷ Do (OwnAddress 2 2) ∷ Do (Copy 2 1 in_layout) ∷
     Do (OwnAddress 1 2) ∷ Do (Offset 2 0 1 4) ∷ Do (Copy 2 1 in_layout) ∷ Do (LocalAddress 1 0 1) ∷ Do (Copy 1 0 out_layout) ∷ []
 initialized = refl
 
-assigned : statement_code w IntShape with_both 3 out_assigned ≡
+assigned : statement_code w IntShape with_both no_regions 3 out_assigned ≡
     Do (OwnAddress 0 3) ∷ Do (Constant 1 3) ∷ Do (Store 0 (part 0 0 4) 1) ∷ Do (OwnAddress 1 4) ∷ Do (Constant 2 66) ∷ Do (Narrow 2 2) ∷
     Do (Store 1 (part 0 0 1) 2) ∷ Do (LocalAddress 2 0 1) ∷ Do (Load 2 2 (part 2 8 4)) ∷ Do (Constant 3 5) ∷ Do (Apply code.Add 2 2 3) ∷
     Do (Store 1 (part 1 4 4) 2) ∷ Do (Offset 2 0 1 4) ∷ Do (Copy 2 1 in_layout) ∷ Do (DataAddress 1 0) ∷ Do (Copy 1 0 out_layout) ∷ []
 assigned = refl
 
-old_one_assigned : statement_code w IntShape with_both 5 old_assigned ≡
+old_one_assigned : statement_code w IntShape with_both no_regions 5 old_assigned ≡
     Do (DataAddress 0 0) ∷ Do (OwnAddress 1 5) ∷ Do (Copy 1 0 out_layout) ∷ Do (OwnAddress 0 5) ∷ code.Call (1 ∷ []) 0 [] ∷
     If 1 NoStatements (MoreStatements (Raise NullException) NoStatements) ∷ Do (Copy 1 0 out_layout) ∷ []
 old_one_assigned = refl
 
-dropped : statement_code w IntShape with_both 6 (Statement.Run (variable "s")) ≡
+dropped : statement_code w IntShape with_both no_regions 6 (Statement.Run (variable "s")) ≡
     Do (DataAddress 0 0) ∷ Do (OwnAddress 1 6) ∷ Do (Copy 1 0 out_layout) ∷ Do (OwnAddress 0 6) ∷ []
 dropped = refl
 

@@ -1,5 +1,5 @@
 -- Statements with structs as values: one that is dropped, assigned, or what a local begins as.
-use Rattle.std.proofs.Common.{◌≡◌, ℕ, suc, List, [], ◌∷◌, ◌++◌, length, Bool, true, false, refl, sym, ap, ◌∙◌, subst, arith}
+use Rattle.std.proofs.Common.{◌≡◌, ℕ, suc, ◌+◌, List, [], ◌∷◌, ◌++◌, length, Bool, true, false, refl, sym, ap, ◌∙◌, subst, arith}
 use Rattle.source_meaning.specs.Shapes.{Shape, StructShape}
 use Rattle.source_meaning.specs.Sizes.{Extent}
 use Rattle.source_meaning.specs.Placing.{Placed}
@@ -22,7 +22,7 @@ use Rattle.source_lowering.specs.Layouts.{padded, layout_of, placed_of, extent_o
 use Rattle.source_lowering.specs.Lowered.{put}
 use Rattle.source_lowering.specs.Lowerable.{IsObject, AreStructs}
 use Rattle.source_lowering.proofs.StructCells.{shapes_in, shapes_count, HasCells}
-use Rattle.source_lowering.proofs.Relations.{at, AreMade, Leads, Later, Place, Fits, SameAt, Same, Next, within, around, before_value}
+use Rattle.source_lowering.proofs.Relations.{at, AreMade, Leads, Later, Place, Fits, SameAt, Same, Next, around, before_value, keeping}
 use Rattle.source_lowering.proofs.Keeping.{IsLess, later_on, later_less, later_around, blocks_of}
 use Rattle.source_lowering.proofs.Runs.{stuck_same, put_all}
 use Rattle.source_lowering.proofs.Making.{local_spot}
@@ -32,10 +32,10 @@ use Rattle.source_lowering.proofs.Declaring.{with_local}
 use Rattle.source_lowering.proofs.Beginning.{BeginsIn}
 use Rattle.source_lowering.proofs.SameShapes.{shapes_same}
 use Rattle.source_lowering.proofs.Places.{IsPlaced}
-use Rattle.source_lowering.proofs.Initialising.{converted_whole, struct_with_same}
+use Rattle.source_lowering.proofs.Initialising.{copy_code, converted_whole, struct_with_same}
 use Rattle.source_lowering.proofs.Overwriting.{all_written, writes_all, overwritten}
-use Rattle.source_lowering.proofs.Wholes.{own_spot, IsWhole, before_less, own_apart, value_made}
-use Rattle.source_lowering.proofs.Statements.{WaysOn, RunsAs}
+use Rattle.source_lowering.proofs.Wholes.{own_spot, IsWhole, fits_keeping, fits_kept, before_less, own_apart, value_made}
+use Rattle.source_lowering.proofs.Ways.{Onward, WaysOn, RunsAs}
 
 -- what an expression keeps that is a struct, a statement keeps
 pub later_whole : (p : Place) (v : ℕ) (m m' : source.Memory) (c c' : core.Memory) → Later (before_value p v) m c m' c'
@@ -51,13 +51,18 @@ items_whole p v = record {
 
 -- ---- a struct that is dropped
 
-pub whole_dropped : (p : Place) (n value : ℕ) (result : Shape) (e : Sense) (code : List Statement) → IsWhole p n 0 value e code
+pub whole_dropped : (p : Place) (n value : ℕ) (result : Shape) (e : Sense) (code : List Statement) → IsWhole p n p.regions.all value e code
     → RunsAs p n (suc p.frame) result (e.value >>= λ vs. give steps.Falls) code
 whole_dropped p n value result e code one = record {
   same = λ m c next rest after fits ways.
       one.same m c (λ vs. next steps.Falls) rest after fits (record {
         go = λ m2 c2 vs fits2 later2 kept2 temp2 shown2.
-            ways.falls m2 c2 fits2.agree (later_whole p value m m2 c.memory c2.memory later2) (blocks_of p m m2 c c2 fits fits2);
+            ways.falls m2 c2 (record {
+              agree = fits2.agree;
+              later = later_whole p value m m2 c.memory c2.memory later2;
+              active = blocks_of p m m2 c c2 fits fits2;
+              kept = kept2;
+            });
       });
 }
 
@@ -66,11 +71,11 @@ whole_dropped p n value result e code one = record {
 pub whole_begins : (p : Place) (n value : ℕ) (scope : Scope) (name tag : List ℕ) (shapes : List Shape) (e : Sense) (code : List Statement)
     (then_act : Scope → Act Flow) (next : Flow → source.Memory → steps.Step) (m : source.Memory) (c : Config) (rest : Statements) (after : Next)
     → scope.world ≡ p.world → scope.frame ≡ p.frame → AreStructs p.world.unions p.world.structs → IsObject p.world.structs (StructShape tag)
-    → p.pending ≡ StructShape tag ∷ shapes → Fits p m c → IsWhole p n 0 value e code
+    → p.pending ≡ StructShape tag ∷ shapes → Fits p m c → IsWhole p n p.regions.all value e code
     → BeginsIn p (with_local p name (StructShape tag) shapes) n m c
     (λ m'. then_act (with_binding scope name (Variable (StructShape tag) (local_spot p.frame p.made))) next m') (meaning.statements rest after)
     → SameAt p n (initialised scope name (StructShape tag) e then_act next m) (meaning.statements (put code
-    (MoreStatements (Do (LocalAddress 1 0 p.made)) (MoreStatements (Do (Copy 1 0 (layout_of p.world (StructShape tag)))) rest))) after c)
+    (put (copy_code p (layout_of p.world (StructShape tag))) rest)) after c)
 whole_begins p n value scope name tag shapes e code then_act next m c rest after world frame structs object pending fits one goes =
     one.same m c (λ vs. converted scope.world (StructShape tag) e.shape vs (λ us. local_with scope name (StructShape tag) us then_act next)) copies after fits
     (record {
@@ -86,15 +91,15 @@ whole_begins p n value scope name tag shapes e code then_act next m c rest after
           (subst (λ z. AllShown p.world m1 c1.memory (own_spot p.own value 0) (cells_of p.world z) vs) (sym same) shown)
           fits1.stands refl
           (record {
-            go = λ m2 c2 fits2 later2 blocks2.
+            go = λ m2 c2 fits2 later2 blocks2 kept2.
                 goes.go m2 c2 fits2 (later_on (around p p.frame) m m1 m2 c.memory c1.memory c2.memory
                 (later_less (before_value p value) (around p p.frame) m m1 c.memory c1.memory (items_whole p value) later1) later2)
-                (blocks2 ∙ blocks_of p m m1 c c1 fits fits1);
+                (blocks2 ∙ blocks_of p m m1 c c1 fits fits1) (λ k less. kept2 k less ∙ kept1 k less);
           })));
     })
   where
     copies : Statements
-    copies = MoreStatements (Do (LocalAddress 1 0 p.made)) (MoreStatements (Do (Copy 1 0 (layout_of p.world (StructShape tag)))) rest)
+    copies = put (copy_code p (layout_of p.world (StructShape tag))) rest
 
 -- ---- a struct is assigned
 
@@ -120,17 +125,18 @@ dead_stuck : (w : World) (fs : Program) (n : ℕ) (x : Shape) (xs : List Shape) 
 dead_stuck w fs n x xs [] m t s k count dead = absurd (cc count)
 dead_stuck w fs n x xs (v ∷ vs) m t s k count dead = rw dead (stuck_same w fs n k)
 
-copy_over : (c : Config) (t from : core.Spot) (byte : ℕ) (l : Layout) (next : Config → core_steps.Step) → c.temps 1 ≡ Pointer t byte
-    → c.temps 0 ≡ Pointer from 0 → core.is_live (c.memory.standing t.region) ≡ true → core.is_live (c.memory.standing from.region) ≡ true
+copy_over : (c : Config) (d : ℕ) (t from : core.Spot) (byte : ℕ) (l : Layout) (next : Config → core_steps.Step) → c.temps (d + 1) ≡ Pointer t byte
+    → c.temps d ≡ Pointer from 0 → core.is_live (c.memory.standing t.region) ≡ true → core.is_live (c.memory.standing from.region) ≡ true
     → are_laid c.memory t byte l.cells ≡ true → are_laid c.memory from 0 l.cells ≡ true → same_object t from ≡ false
-    → does (Copy 1 0 l) next c ≡ next (with_memory (copied l t from c.memory) c)
-copy_over c t from byte l next temp temp_from live live_from laid laid_from apart = rw (temp, temp_from, live, laid, live_from, laid_from, apart) refl
+    → does (Copy (d + 1) d l) next c ≡ next (with_memory (copied l t from c.memory) c)
+copy_over c d t from byte l next temp temp_from live live_from laid laid_from apart = rw (temp, temp_from, live, laid, live_from, laid_from, apart) refl
 
+-- the value is an unnamed one, which stays while its place is evaluated
 pub whole_assigned : (p : Place) (n value : ℕ) (result : Shape) (to from : Sense) (tag : List ℕ) (code place : List Statement)
-    → AreStructs p.world.unions p.world.structs → IsObject p.world.structs (StructShape tag) → IsWhole p n 0 value from code
-    → IsPlaced p n 1 to (StructShape tag) place
+    → AreStructs p.world.unions p.world.structs → IsObject p.world.structs (StructShape tag) → IsWhole p n p.regions.all value from code
+    → IsPlaced (keeping p (suc value)) n (p.regions.all + 1) to (StructShape tag) place
     → RunsAs p n (suc p.frame) result ((assigned p.world to from).value >>= λ vs. give steps.Falls)
-    (code ++ (place ++ (Do (Copy 1 0 (layout_of p.world (StructShape tag))) ∷ [])))
+    (code ++ (place ++ (Do (Copy (p.regions.all + 1) p.regions.all (layout_of p.world (StructShape tag))) ∷ [])))
 whole_assigned p n value result to from tag code place structs object one placed = record {
   same = λ m c next rest after fits ways.
       subst (λ z. SameAt p n (from.value (λ vs. converted p.world to.shape from.shape vs (λ us. stores us next)) m) (meaning.statements z after c))
@@ -142,16 +148,24 @@ whole_assigned p n value result to from tag code place structs object one placed
             converted_whole p n tag from.shape vs (λ us. stores us next) m1 (meaning.statements (put place (put copies rest)) after c1)
             (λ equal.
             let same : shape ≡ StructShape one.tag = shapes_same shape from.shape equal ∙ one.shape_is in
-            placed.placed.same m1 c1 (λ t. write_cells t vs (λ u. next steps.Falls)) (put copies rest) after fits1 (record {
-              go = λ m2 c2 t byte fits2 later2 kept2 temp2 lies leads.
+            placed.placed.same m1 c1 (λ t. write_cells t vs (λ u. next steps.Falls)) (put copies rest) after (fits_keeping p (suc value) m1 c1 fits1) (record {
+              go = λ m2 c2 t byte fits2' later2 kept2 temp2 lies leads.
+                  let fits2 = fits_kept p (suc value) m2 c2 fits2' in
                   copy_same m c next rest after fits ways m2 c2 vs t byte fits2
-                  (later_on (around p (suc p.frame)) m m1 m2 c.memory c1.memory c2.memory (later_whole p value m m1 c.memory c1.memory later1)
-                  (later_around p m1 m2 c1 c2 later2)) temp2 (kept2 0 (omega arith) ∙ temp) lies.cells leads
+                  (record {
+                    agree = fits2.agree;
+                    later =
+                        later_on (around p (suc p.frame)) m m1 m2 c.memory c1.memory c2.memory (later_whole p value m m1 c.memory c1.memory later1)
+                        (later_whole p (suc value) m1 m2 c1.memory c2.memory later2);
+                    active = blocks_of p m m2 c c2 fits fits2;
+                    kept = λ k less. kept2 k (omega (arith, less)) ∙ kept1 k less;
+                  }) temp2 (kept2 p.regions.all (omega arith) ∙ temp) lies.cells leads
                   (subst (λ z. AreMade c2.memory (own_spot p.own value 0) 0 (layout_of p.world z).cells) (sym same)
                   (value_made p m2 c2 value (StructShape one.tag) fits2 one.numbered))
                   (subst (λ z. AllShown p.world m2 c2.memory (own_spot p.own value 0) (cells_of p.world z) vs) (sym same)
-                  (all_shown_kept (within p) p.world m1 m2 c1.memory c2.memory (own_spot p.own value 0) (cells_of p.world (StructShape one.tag)) vs later2
-                  (λ i less. later2.owned p.own (core.beyond (own_spot p.own value 0) i) 0 refl (omega arith, λ f. absurd (omega (arith, f)))) shown));
+                  (all_shown_kept (before_value p (suc value)) p.world m1 m2 c1.memory c2.memory (own_spot p.own value 0)
+                  (cells_of p.world (StructShape one.tag)) vs later2
+                  (λ i less. later2.owned p.own (core.beyond (own_spot p.own value 0) i) 0 refl (omega arith, λ f. omega arith)) shown));
             }));
       })));
 }
@@ -163,20 +177,21 @@ whole_assigned p n value result to from tag code place structs object one placed
     layout = layout_of p.world (StructShape tag)
 
     copies : List Statement
-    copies = Do (Copy 1 0 (layout_of p.world (StructShape tag))) ∷ []
+    copies = Do (Copy (p.regions.all + 1) p.regions.all (layout_of p.world (StructShape tag))) ∷ []
 
     stores : List Scalar → (Flow → source.Memory → steps.Step) → source.Memory → steps.Step
     stores us next = to.place (λ t. write_cells t us (λ u. next steps.Falls))
 
     copy_same : (m : source.Memory) (c : Config) (next : Flow → source.Memory → steps.Step) (rest : Statements) (after : Next) → Fits p m c
-        → WaysOn p.world p.program n (around p (suc p.frame)) m c result next (meaning.statements rest after) after
+        → WaysOn p.world p.program n p.regions (around p (suc p.frame)) m c result next (meaning.statements rest after) after
         → (m2 : source.Memory) (c2 : Config) (vs : List Scalar) (t : Spot) (byte : ℕ) → Fits p m2 c2
-        → Later (around p (suc p.frame)) m c.memory m2 c2.memory → c2.temps 1 ≡ Pointer (at t) byte → c2.temps 0 ≡ Pointer (own_spot p.own value 0) 0
+        → Onward p.world p.regions.all (around p (suc p.frame)) m c m2 c2 → c2.temps (p.regions.all + 1) ≡ Pointer (at t) byte
+        → c2.temps p.regions.all ≡ Pointer (own_spot p.own value 0) 0
         → HasCells p.world.unions p.world.structs (StructShape tag) → Leads p.world m2 c2.memory (StructShape tag) t byte
         → AreMade c2.memory (own_spot p.own value 0) 0 layout.cells
         → AllShown p.world m2 c2.memory (own_spot p.own value 0) (cells_of p.world shape) vs
         → SameAt p n (write_cells t vs (λ u. next steps.Falls) m2) (meaning.statements (put copies rest) after c2)
-    copy_same m c next rest after fits ways m2 c2 vs t byte fits2 later2 temp temp_from has leads made shown = by (is_live m2 t.region) refl
+    copy_same m c next rest after fits ways m2 c2 vs t byte fits2 onward2 temp temp_from has leads made shown = by (is_live m2 t.region) refl
       where
         from_spot : core.Spot
         from_spot = own_spot p.own value 0
@@ -199,10 +214,15 @@ whole_assigned p n value result to from tag code place structs object one placed
             let over = overwritten p.world m2 c2.memory t from_spot layout xs vs (layout_count p.world shape has) fits2.agree leads.0
             (whole_copied p.world m2 c2.memory (at t) from_spot byte shape vs structs object leads.1 shown) in
             subst (λ z. SameAt p n (write_cells t vs (λ u. next steps.Falls) m2) z)
-            (sym (copy_over c2 (at t) from_spot byte layout (meaning.statements rest after) temp temp_from (sym (fits2.agree.live t.region) ∙ live) fits2.stands
+            (sym (copy_over c2 p.regions.all (at t) from_spot byte layout (meaning.statements rest after) temp temp_from (sym (fits2.agree.live t.region) ∙ live) fits2.stands
             (laid_there c2.memory (at t) byte layout.cells leads.1) (laid_there c2.memory from_spot 0 layout.cells made) (own_apart t p.own value 0)))
             (writes_all p.world p.program n xs vs m2 t (λ u. next steps.Falls) (meaning.statements rest after c3)
             (shown_count p.world m2 c2.memory from_spot xs vs shown) live leads.0
-            (ways.falls (all_written m2 t xs vs) c3 over.agree
-            (later_on (around p (suc p.frame)) m m2 (all_written m2 t xs vs) c.memory c2.memory c3.memory later2 (over.later (around p (suc p.frame))))
-            (blocks_of p m m2 c c2 fits fits2)))
+            (ways.falls (all_written m2 t xs vs) c3 (record {
+              agree = over.agree;
+              later =
+                  later_on (around p (suc p.frame)) m m2 (all_written m2 t xs vs) c.memory c2.memory c3.memory onward2.later
+                  (over.later (around p (suc p.frame)));
+              active = onward2.active;
+              kept = onward2.kept;
+            })))

@@ -5,7 +5,7 @@ use Rattle.std.proofs.lemmas.Bool.{eq-eqb}
 use Rattle.std.proofs.lemmas.Bool.Decides.{nat_tests}
 use Rattle.source_meaning.specs.Shapes.{Shape, StructShape}
 use Rattle.source_meaning.specs.Memory as source
-use Rattle.source_meaning.specs.Memory.{Scalar, Spot, is_live}
+use Rattle.source_meaning.specs.Memory.{Holds, Scalar, Spot}
 use Rattle.source_meaning.specs.Steps as steps
 use Rattle.source_meaning.specs.Steps.{World}
 use Rattle.source_meaning.specs.Conversions.{cells_of}
@@ -36,12 +36,11 @@ use Rattle.source_lowering.proofs.Relations.{
   SameAt,
   Next,
   AreKept,
-  within,
   around,
   before_value,
-  LaterAt,
+  keeping,
 }
-use Rattle.source_lowering.proofs.Keeping.{IsLess, later_on, later_less, shown_later, free_nothing, fits_on}
+use Rattle.source_lowering.proofs.Keeping.{IsLess, later_on, shown_later, free_nothing, fits_on}
 use Rattle.source_lowering.proofs.Runs.{put_all}
 use Rattle.source_lowering.proofs.Values.{put_temp, kept_temp, temp_fits}
 use Rattle.source_lowering.proofs.Clearing.{laid_there, held_still}
@@ -54,7 +53,7 @@ use Rattle.source_lowering.proofs.Places.{IsPlaced}
 abbrev pub own_spot : ℕ → ℕ → ℕ → core.Spot
 own_spot own value cell = record { region = core.Own own; object = value; cell = cell }
 
--- a struct is an unnamed value to which there is a pointer in a temporary; temporaries below it, and values before it, are as they were
+-- A struct is an unnamed value to which there is a pointer in a temporary; temporaries below it, and values before it, are as they were.
 pub record WholeGoesOn (p : Place) (n d value : ℕ) (m0 : source.Memory) (c0 : Config) (shape : Shape) (s : List Scalar → source.Memory → steps.Step)
     (k : Config → core_steps.Step) : Type 0 where
   pub go : (m : source.Memory) (c : Config) (vs : List Scalar) → Fits p m c → Later (before_value p value) m0 c0.memory m c.memory → AreKept d c0 c
@@ -79,15 +78,36 @@ before_less p u v less = record {
   kept = λ k i h. (h.0, λ e. let f = h.1 e in omega (arith, f, less));
 }
 
-pub within_before : (p : Place) (v : ℕ) → IsLess (before_value p v) (within p)
-within_before p v = record {
-  frames = omega arith;
-  standing = omega arith;
-  kept = λ k i h. let f = h.0 in (omega (arith, f), λ e. absurd (omega (arith, e, f)));
+-- where that many unnamed values are left as they are, the same fits
+pub fits_keeping : (p : Place) (values : ℕ) (m : source.Memory) (c : Config) → Fits p m c → Fits (keeping p values) m c
+fits_keeping p values m c f = record {
+  agree = f.agree;
+  blocks = f.blocks;
+  locals = f.locals;
+  globals = f.globals;
+  begun = f.begun;
+  made = f.made;
+  pending = f.pending;
+  own = f.own;
+  called = f.called;
+  stands = f.stands;
+  owned = f.owned;
 }
 
-pub later_before : (p : Place) (v : ℕ) (m m' : source.Memory) (c c' : Config) → LaterAt p m c m' c' → Later (before_value p v) m c.memory m' c'.memory
-later_before p v m m' c c' l = later_less (within p) (before_value p v) m m' c.memory c'.memory (within_before p v) l
+pub fits_kept : (p : Place) (values : ℕ) (m : source.Memory) (c : Config) → Fits (keeping p values) m c → Fits p m c
+fits_kept p values m c f = record {
+  agree = f.agree;
+  blocks = f.blocks;
+  locals = f.locals;
+  globals = f.globals;
+  begun = f.begun;
+  made = f.made;
+  pending = f.pending;
+  own = f.own;
+  called = f.called;
+  stands = f.stands;
+  owned = f.owned;
+}
 
 abbrev own_number : core.Region → ℕ
 own_number (core.Frame k) = 0
@@ -103,13 +123,16 @@ own_free p u v cell less k r h =
 
 -- ---- an unnamed value's parts change
 
-pub agree_parts : (w : World) (m : source.Memory) (c : core.Memory) (f : core.Spot → ℕ → Option Part) → Agree w m c → Later nothing m c m (record c { parts = f })
-    → ((s : Spot) (j : ℕ) → f (at s) j ≡ c.parts (at s) j) → ((t : core.Spot) (j : ℕ) → c.parts t j ≡ None → f t j ≡ None) → Agree w m (record c { parts = f })
-agree_parts w m c f a later others none = record {
+-- memories still agree where the parts of cells that hold a value are as they were
+pub agree_changed : (w : World) (m : source.Memory) (c : core.Memory) (f : core.Spot → ℕ → Option Part) → Agree w m c
+    → Later nothing m c m (record c { parts = f })
+    → ((s : Spot) (shape : Shape) (v : Scalar) → m.cells s ≡ Some (record { shape = shape; content = Holds v }) → (j : ℕ) → f (at s) j ≡ c.parts (at s) j)
+    → ((t : core.Spot) (j : ℕ) → c.parts t j ≡ None → f t j ≡ None) → Agree w m (record c { parts = f })
+agree_changed w m c f a later held none = record {
   cells = λ s shape v h. let one = a.cells s shape v h in record {
     contents = one.contents;
     shown = shown_later nothing w m m c (record c { parts = f }) shape v one.contents later one.shown;
-    held = held_still c (record c { parts = f }) (at s) 0 one.contents (λ i. others s i) one.held;
+    held = held_still c (record c { parts = f }) (at s) 0 one.contents (held s shape v h) one.held;
   };
   live = a.live;
   activations = a.activations;
@@ -118,7 +141,18 @@ agree_parts w m c f a later others none = record {
   unbegun = a.unbegun;
   uncalled = λ k t j h r. none t j (a.uncalled k t j h r);
   unowned = a.unowned;
+  births = a.births;
+  heap = a.heap;
+  lexical = a.lexical;
+  blocks = a.blocks;
+  ungranted = λ d t j r h. none t j (a.ungranted d t j r h);
 }
+
+-- and where those of all cells are
+pub agree_parts : (w : World) (m : source.Memory) (c : core.Memory) (f : core.Spot → ℕ → Option Part) → Agree w m c
+    → Later nothing m c m (record c { parts = f }) → ((s : Spot) (j : ℕ) → f (at s) j ≡ c.parts (at s) j)
+    → ((t : core.Spot) (j : ℕ) → c.parts t j ≡ None → f t j ≡ None) → Agree w m (record c { parts = f })
+agree_parts w m c f a later others none = agree_changed w m c f a later (λ s shape v h. others s) none
 
 pub own_apart : (s : Spot) (own value cell : ℕ) → same_object (at s) (own_spot own value cell) ≡ false
 own_apart s own value cell = by s.region
@@ -139,7 +173,8 @@ pub agree_own_copied : (w : World) (m : source.Memory) (c : core.Memory) (l : La
 agree_own_copied w m c l own value cell from a =
     agree_parts w m c (copied l (own_spot own value cell) from c).parts a
     (copied_later nothing m c l (own_spot own value cell) from (free_nothing (own_spot own value cell)))
-    (λ s j. copied_other l (own_spot own value cell) from c (at s) j (own_apart s own value cell)) (λ t j e. copied_none l (own_spot own value cell) from c t j e)
+    (λ s j. copied_other l (own_spot own value cell) from c (at s) j (own_apart s own value cell))
+    (λ t j e. copied_none l (own_spot own value cell) from c t j e)
 
 -- what a place knows of its unnamed values
 pub pending_at : (w : World) (c : core.Memory) (r : core.Region) (index i : ℕ) (ss : List Shape) (s : Shape) → ArePending w c r index ss
@@ -176,7 +211,7 @@ value_copied c d own value byte t l next is temp live other laid laid_t apart =
     rw (is, here, there, temp, live, laid, other, laid_t, apart) refl
 
 pub place_whole : (p : Place) (n d value : ℕ) (e : Sense) (tag : List ℕ) (code : List Statement) → AreStructs p.world.unions p.world.structs
-    → IsObject p.world.structs (StructShape tag) → slice_get p.owned value ≡ Some (StructShape tag) → IsPlaced p n d e (StructShape tag) code
+    → IsObject p.world.structs (StructShape tag) → slice_get p.owned value ≡ Some (StructShape tag) → IsPlaced (keeping p value) n d e (StructShape tag) code
     → IsWhole p n d value e (code ++ copied_code p.world (StructShape tag) d value)
 place_whole p n d value e tag code structs object numbered one = record {
   tag = tag;
@@ -188,8 +223,10 @@ place_whole p n d value e tag code structs object numbered one = record {
       (subst (λ z. SameAt p n z (meaning.statements (put code (put (copied_code p.world shape d value) rest)) next c)) (sym (one.value s m))
       (subst (λ z. SameAt p n (e.place (λ t. take_cells (cells_of p.world z) t s) m)
       (meaning.statements (put code (put (copied_code p.world shape d value) rest)) next c)) (sym one.shape_is)
-      (one.placed.same m c (λ t. take_cells (cells_of p.world shape) t s) (put (copied_code p.world shape d value) rest) next fits (record {
-        go = λ m1 c1 t byte fits1 later1 kept1 temp lies leads.
+      (one.placed.same m c (λ t. take_cells (cells_of p.world shape) t s) (put (copied_code p.world shape d value) rest) next
+      (fits_keeping p value m c fits) (record {
+        go = λ m1 c1 t byte fits1' later1 kept1 temp lies leads.
+            let fits1 = fits_kept p value m1 c1 fits1' in
             let has = lies.cells in
             let cells : cells_of p.world shape ≡ has.first.shape ∷ shapes_in has.others = sym has.shapes ∙ ap shapes_in has.is in
             subst (λ z. SameAt p n z (meaning.statements (put (copied_code p.world shape d value) rest) next c1))
@@ -213,7 +250,7 @@ place_whole p n d value e tag code structs object numbered one = record {
 
     copy_same : (m : source.Memory) (c : Config) (s : List Scalar → source.Memory → steps.Step) (rest : Statements) (next : Next)
         → WholeGoesOn p n d value m c (StructShape tag) s (meaning.statements rest next) → (m1 : source.Memory) (c1 : Config) (t : Spot) (byte : ℕ)
-        (vs : List Scalar) → Fits p m1 c1 → LaterAt p m c m1 c1 → AreKept d c c1 → c1.temps d ≡ Pointer (at t) byte
+        (vs : List Scalar) → Fits p m1 c1 → Later (before_value p value) m c.memory m1 c1.memory → AreKept d c c1 → c1.temps d ≡ Pointer (at t) byte
         → AreMade c1.memory (at t) byte layout.cells → AllShown p.world m1 c1.memory (at t) (cells_of p.world shape) vs
         → core.is_live (c1.memory.standing (at t).region) ≡ true
         → SameAt p n (s vs m1) (meaning.statements (put (copied_code p.world shape d value) rest) next c1)
@@ -228,7 +265,7 @@ place_whole p n d value e tag code structs object numbered one = record {
         subst (λ z. SameAt p n (s vs m1) z)
         (sym (value_copied c1 d p.own value byte (at t) layout (meaning.statements rest next) fits1.own temp fits1.stands live
         (laid_there c1.memory spot 0 layout.cells here) (laid_there c1.memory (at t) byte layout.cells made) (apart_own t p.own value 0)))
-        (goes.go m1 c2 vs fits2 (later_on (before_value p value) m m1 m1 c.memory c1.memory c2.memory (later_before p value m m1 c c1 later1) copies)
+        (goes.go m1 c2 vs fits2 (later_on (before_value p value) m m1 m1 c.memory c1.memory c2.memory later1 copies)
         (kept_temp d d (Pointer spot 0) c middle (omega arith) (kept_temp d (d + 1) (Pointer spot 0) c c1 (omega arith) kept1))
         (put_temp d (Pointer spot 0) middle)
         (whole_copied p.world m1 c1.memory spot (at t) 0 shape vs structs object here held))

@@ -9,6 +9,9 @@ use Rattle.cyc_tree.specs.Tree.{
   Links,
   NoLinks,
   MoreLinks,
+  Made,
+  One,
+  Array,
   Suffixes,
   NoSuffixes,
   Index,
@@ -28,7 +31,7 @@ use Rattle.source_meaning.specs.Shapes.{Shape}
 use Rattle.source_meaning.specs.Steps.{World, Routine}
 use Rattle.core_meaning.specs.Core as core
 use Rattle.source_lowering.specs.Layouts.{extent_of}
-use Rattle.source_lowering.specs.Programs.{local_shape, function_code, routine_values}
+use Rattle.source_lowering.specs.Programs.{RegionsAround, no_regions, in_loop, regions_with, local_shape, function_code, routine_values}
 use Rattle.core_meaning.specs.Core.{Local, Do, If, While, Block, Break, Continue, Call, Return, Raise, Statements, NoStatements, MoreStatements, Function}
 
 -- ---- Core: words of a frame
@@ -114,7 +117,13 @@ abbrev mutual
   nodes_of (Expression.AllOf first others) = nodes_of first + tested_nodes others
   nodes_of (Expression.AnyOf first others) = nodes_of first + tested_nodes others
   nodes_of (Expression.Assign place value) = nodes_of place + (1 + nodes_of value)
+  nodes_of (Expression.New at new) = 1 + made_nodes new
+  nodes_of (Expression.NewIn at handle new) = 1 + (nodes_of handle + made_nodes new)
   nodes_of _ = 1
+
+  pub made_nodes : Made → ℕ
+  made_nodes (One value) = nodes_of value
+  made_nodes (Array index count element) = nodes_of count + nodes_of element
 
   pub all_nodes : Expressions → ℕ
   all_nodes NoExpressions = 0
@@ -204,9 +213,31 @@ abbrev pub routines_size : List Routine → ℕ
 routines_size [] = 0
 routines_size (f ∷ fs) = 5 + (length f.parameters + item_size f.body) + routines_size fs
 
--- 4,096 bytes, and 512 for each token that a program of these functions has at least
+-- ---- the source: how many regions are left by `return`, `break` and `continue`, each counted wherever it is left
+
+abbrev mutual
+  pub statement_left : RegionsAround → Statement → ℕ
+  statement_left h (Statement.Block at items) = items_left h items
+  statement_left h (Statement.If at condition body) = statement_left h body
+  statement_left h (Statement.IfElse at condition body otherwise) = statement_left h body + statement_left h otherwise
+  statement_left h (Statement.While at condition body) = statement_left (in_loop h) body
+  statement_left h (Statement.Break at) = h.inner
+  statement_left h (Statement.Continue at) = h.inner
+  statement_left h (Statement.Return at result) = h.all
+  statement_left h _ = 0
+
+  pub items_left : RegionsAround → BlockItems → ℕ
+  items_left h NoItems = 0
+  items_left h (Declare d others) = items_left (regions_with d h) others
+  items_left h (Execute s others) = statement_left h s + items_left h others
+
+abbrev pub regions_left : List Routine → ℕ
+regions_left [] = 0
+regions_left (f ∷ fs) = items_left no_regions f.body + regions_left fs
+
+-- 4,096 bytes, and 512 for each token that a program of these functions has at least, and for each region that is left
 abbrev pub code_bound : List Routine → ℕ
-code_bound fs = 4096 + 512 * routines_size fs
+code_bound fs = 4096 + 512 * (routines_size fs + regions_left fs)
 
 -- the words of values
 abbrev pub value_words : World → List Shape → ℕ

@@ -1,5 +1,6 @@
 pub mod Layouts
 pub mod Members
+pub mod Pieces
 pub mod Lowered
 pub mod Programs
 pub mod Taken

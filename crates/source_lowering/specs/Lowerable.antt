@@ -1,4 +1,5 @@
--- Which programs lowering takes: functions, globals and locals of integers, of structs and of thin pointers to these, by the forms of the tree and by shapes.
+-- Which programs lowering takes: functions, globals and locals of integers, of structs, of handles and of thin pointers to these, with the heap and lexical
+-- regions, by the forms of the tree and by shapes.
 use Rattle.std.specs.Prelude.{◌≡◌, ◌≤◌, ℕ, suc, Bool, true, false, Some, None, List, [], ◌∷◌, length}
 use Rattle.cyc_tree.specs.declared.expression.Prefix.{Prefix}
 use Rattle.cyc_tree.specs.declared.expression.Prefix.TheVariants as prefix
@@ -13,6 +14,9 @@ use Rattle.cyc_tree.specs.Tree.{
   Links,
   NoLinks,
   MoreLinks,
+  Made,
+  One,
+  Array,
   Suffixes,
   NoSuffixes,
   Index,
@@ -34,6 +38,7 @@ use Rattle.cyc_tree.specs.Tree.{
 use Rattle.source_meaning.specs.Shapes.{Shape, Shared, IntShape, UnsignedShape, CharShape, VoidShape, ThinShape, FatShape, HandleShape, KeyShape, StructShape, UnionShape, ArrayShape, Part, Layout, part_shapes, parts_of, has_tag, pointee, written, settled}
 use Rattle.source_meaning.specs.Sizes.{struct_extent}
 use Rattle.source_meaning.specs.Steps.{World, Routine}
+use Rattle.source_meaning.specs.Expressions.{is_unique_region}
 use Rattle.source_meaning.specs.Programs.{is_main, routine_of, world_of}
 use Rattle.source_meaning.specs.Strings.{program_strings}
 use Rattle.source_lowering.specs.Lowered.{Named, static_shape, member_shape, suffixed_shape}
@@ -43,7 +48,7 @@ use Rattle.source_lowering.specs.Taken.{IsVoidType, AreThin, HasFirst, IsIntType
 
 -- ---- shapes
 
--- what a pointer leads to, beside nothing: an integer, a pointer, a struct
+-- what a pointer leads to, beside nothing: an integer, a pointer, a handle, a struct
 abbrev pub IsTarget : Shape → Type 0
 IsTarget IntShape = Unit {0}
 IsTarget UnsignedShape = Unit {0}
@@ -51,13 +56,13 @@ IsTarget CharShape = Unit {0}
 IsTarget VoidShape = Unit {0}
 IsTarget (ThinShape may_be_null owner to) = (owner ≡ Shared) × IsTarget to
 IsTarget (FatShape to) = ⊥
-IsTarget HandleShape = ⊥
+IsTarget HandleShape = Unit {0}
 IsTarget KeyShape = ⊥
 IsTarget (StructShape tag) = Unit {0}
 IsTarget (UnionShape tag) = ⊥
 IsTarget (ArrayShape count of) = ⊥
 
--- a word: an integer, or a thin pointer that isn't unique
+-- a word: an integer, a thin pointer that isn't unique, or a handle
 abbrev pub IsWordShape : Shape → Type 0
 IsWordShape IntShape = Unit {0}
 IsWordShape UnsignedShape = Unit {0}
@@ -65,7 +70,7 @@ IsWordShape CharShape = Unit {0}
 IsWordShape VoidShape = ⊥
 IsWordShape (ThinShape may_be_null owner to) = (owner ≡ Shared) × IsTarget to
 IsWordShape (FatShape to) = ⊥
-IsWordShape HandleShape = ⊥
+IsWordShape HandleShape = Unit {0}
 IsWordShape KeyShape = ⊥
 IsWordShape (StructShape tag) = ⊥
 IsWordShape (UnionShape tag) = ⊥
@@ -115,6 +120,7 @@ IsObjectBase tree.Int = Unit {0}
 IsObjectBase tree.Unsigned = Unit {0}
 IsObjectBase tree.Char = Unit {0}
 IsObjectBase (tree.Struct tag arguments) = Unit {0}
+IsObjectBase (tree.Handle region) = Unit {0}
 IsObjectBase _ = ⊥
 
 -- a struct that is among these, or none
@@ -122,13 +128,13 @@ abbrev pub IsKnownIn : List Layout → Shape → Type 0
 IsKnownIn structs (StructShape tag) = (has_tag structs tag ≡ true)
 IsKnownIn structs s = Unit {0}
 
--- an integer, a struct, or a thin pointer to these, or to such a pointer
+-- an integer, a struct, a handle, or a thin pointer to these, or to such a pointer
 pub record IsObjectType (structs : List Layout) (t : TypeName) : Type 0 where
   pub pointers : AreThin t.pointers
   pub base : IsObjectBase t.base
   pub known : IsKnownIn structs (settled (written t))
 
--- an integer, or such a pointer
+-- an integer, a handle, or such a pointer
 pub record IsWordType (t : TypeName) : Type 0 where
   pub pointers : AreThin t.pointers
   pub base : IsObjectBase t.base
@@ -173,6 +179,11 @@ TakesSuffixes w (Dot f others) s value place = place × TakesMembers w (Dot f ot
 TakesSuffixes w (Arrow f others) s value place =
     value × (IsObject w.structs (member_shape w (pointee s) f.text) × TakesMembers w others (member_shape w (pointee s) f.text))
 
+-- a value of a shape, as a struct and as a word
+abbrev pub TakesMember : Shape → (whole word : Type 0) → Type 0
+TakesMember (StructShape tag) whole word = whole
+TakesMember s whole word = word
+
 abbrev mutual
   -- what is assigned to, has its address taken or is a struct: a name, `*e` or a member, in parentheses too
   pub TakesPlace : World → List Named → Expression → Type 0
@@ -188,6 +199,7 @@ abbrev mutual
   Takes w names (Expression.Number at value suffix) = Unit {0}
   Takes w names (Expression.Character at byte) = Unit {0}
   Takes w names (Expression.Null at) = Unit {0}
+  Takes w names (Expression.HeapRegion at) = Unit {0}
   Takes w names (Expression.Variable name) = IsNoStruct (static_shape w names (Expression.Variable name))
   Takes w names (Expression.Call name arguments) = (has_tag w.structs name.text ≡ false) × TakesAll w names arguments
   Takes w names (Expression.Grouped at inner) = Takes w names inner
@@ -196,6 +208,9 @@ abbrev mutual
       IsNoStruct (suffixed_shape w suffixes (static_shape w names primary))
   Takes w names (Expression.Prefixed at operator operand) =
       TakesPrefix operator (static_shape w names operand) (Takes w names operand) (TakesPlace w names operand)
+  Takes w names (Expression.New at new) = TakesNew w names new
+  -- not the unique region
+  Takes w names (Expression.NewIn at handle new) = (is_unique_region handle ≡ false) × (Takes w names handle × TakesNew w names new)
   Takes w names (Expression.Chain first others) = Takes w names first × TakesLinks w names others
   Takes w names (Expression.AllOf first others) = Takes w names first × TakesAll w names others
   Takes w names (Expression.AnyOf first others) = Takes w names first × TakesAll w names others
@@ -210,20 +225,25 @@ abbrev mutual
   TakesLinks w names NoLinks = Unit {0}
   TakesLinks w names (MoreLinks operator operand others) = Takes w names operand × TakesLinks w names others
 
--- ---- structs as values
+  -- one object is made: a struct, or a word
+  pub TakesNew : World → List Named → Made → Type 0
+  TakesNew w names (One value) =
+      IsObject w.structs (static_shape w names value) ×
+      TakesMember (static_shape w names value) (TakesWhole w names value) (Takes w names value)
+  TakesNew w names (Array index count element) = ⊥
 
--- an argument for a member of a shape, as a struct and as a word
-abbrev pub TakesMember : Shape → (whole word : Type 0) → Type 0
-TakesMember (StructShape tag) whole word = whole
-TakesMember s whole word = word
-
-abbrev mutual
   -- a struct that is made of its members, or what names one
   pub TakesWhole : World → List Named → Expression → Type 0
   TakesWhole w names (Expression.Call name arguments) =
       (makes_struct w name.text ≡ true) × TakesMade w names (parts_of w.structs name.text) arguments
   TakesWhole w names (Expression.Grouped at inner) = TakesWhole w names inner
-  TakesWhole w names e = TakesPlace w names e × IsStructShape w.structs (static_shape w names e)
+  TakesWhole w names (Expression.Variable name) = Unit {0} × IsStructShape w.structs (static_shape w names (Expression.Variable name))
+  TakesWhole w names (Expression.Suffixed primary suffixes) =
+      TakesSuffixes w suffixes (static_shape w names primary) (Takes w names primary) (TakesPlace w names primary) ×
+      IsStructShape w.structs (static_shape w names (Expression.Suffixed primary suffixes))
+  TakesWhole w names (Expression.Prefixed at operator operand) =
+      TakesPointer operator (Takes w names operand) × IsStructShape w.structs (static_shape w names (Expression.Prefixed at operator operand))
+  TakesWhole w names _ = ⊥
 
   -- so many arguments, each a value for its member
   pub TakesMade : World → List Named → List Part → Expressions → Type 0
@@ -231,6 +251,8 @@ abbrev mutual
   TakesMade w names [] (MoreExpressions first others) = ⊥
   TakesMade w names (p ∷ ps) NoExpressions = ⊥
   TakesMade w names (p ∷ ps) (MoreExpressions first others) = TakesMember p.shape (TakesWhole w names first) (Takes w names first) × TakesMade w names ps others
+
+-- ---- structs that are assigned
 
 -- what is assigned: a struct, or a word
 abbrev pub TakesAssigned : World → List Named → Shape → (place value : Expression) → Type 0
@@ -270,6 +292,7 @@ TakesInitializer w names shape (Initializer.Value e) = TakesValue w names shape 
 
 abbrev pub TakesDeclaration : World → List Named → Declaration → Type 0
 TakesDeclaration w names (tree.Local of name initializer) = IsObjectType w.structs of × TakesInitializer w names (settled (written of)) initializer
+TakesDeclaration w names (tree.Region at region handle) = Unit {0}
 TakesDeclaration w names _ = ⊥
 
 -- a `return` without a value stands in a function that gives none

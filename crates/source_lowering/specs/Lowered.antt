@@ -1,18 +1,17 @@
--- What an expression is lowered to. It leaves its value in the temporary of a number, and uses those from there on.
-use Rattle.std.specs.Prelude.{ℕ, zero, suc, ◌+◌, ◌%◌, true, false, Option, Some, None, List, [], ◌∷◌, ◌++◌, bytes_eq, codes, if◌then◌else◌}
-use Rattle.cyc_tree.specs.declared.expression.Operator.{Operator}
-use Rattle.cyc_tree.specs.declared.expression.Operator.TheVariants as operator
-use Rattle.cyc_tree.specs.declared.expression.Prefix.{Prefix}
-use Rattle.cyc_tree.specs.declared.expression.Prefix.TheVariants as prefix
-use Rattle.cyc_tree.specs.Tree.{Expression, Expressions, NoExpressions, MoreExpressions, Links, NoLinks, MoreLinks}
-use Rattle.source_meaning.specs.Shapes.{Shape, Shared, IntShape, UnsignedShape, CharShape, VoidShape, ThinShape, pointee, part_shapes}
-use Rattle.source_meaning.specs.Memory.{IntegerType, AsInt, AsUnsigned, AsChar}
-use Rattle.source_meaning.specs.Steps.{Entity, Variable, Fixed, Routine, World}
-use Rattle.source_meaning.specs.Operators.{common, by_type, operator_shape}
+-- What an expression is lowered to. It leaves its value in the temporary of a number, and uses those from there on. A struct that is made, or read whole, is an
+-- unnamed value of its function, and its code leaves a pointer to it in the temporary. Unnamed values are numbered in the order of the evaluation: from the left,
+-- but for an assigned value, which comes before its place, and each before those of its parts.
+use Rattle.std.specs.Prelude.{ℕ, suc, ◌+◌, ◌%◌, List, [], ◌∷◌, ◌++◌, length}
+use Rattle.cyc_tree.specs.Tree.{Expression, Expressions, NoExpressions, MoreExpressions, Links, NoLinks, MoreLinks, Suffixes, Made, One, Array}
+use Rattle.source_meaning.specs.Shapes.{Shape, StructShape, Part, parts_of}
+use Rattle.source_meaning.specs.Sizes.{rounded_up}
+use Rattle.source_meaning.specs.Steps.{World}
+use Rattle.source_meaning.specs.Operators.{operator_shape}
 use Rattle.source_meaning.specs.Places.{bound_to}
-use Rattle.source_meaning.specs.Calls.{number_type, function_of}
-use Rattle.source_meaning.specs.Programs.{integer_shape}
-pub use Rattle.source_lowering.specs.Members.{
+use Rattle.source_meaning.specs.Conversions.{cells_of}
+use Rattle.core_meaning.specs.Core.{Constant, Copy, Do, HeapHandle, If, NoStatements, NullPointer, Offset, OwnAddress, RegionAlloc, Statement, Store}
+use Rattle.source_lowering.specs.Layouts.{extent_of, layout_of}
+pub use Rattle.source_lowering.specs.Pieces.{
   put,
   all_of,
   width_of,
@@ -28,339 +27,249 @@ pub use Rattle.source_lowering.specs.Members.{
   suffixed_code,
   pointer_to,
   store_to,
+  Named,
+  local_named,
+  number_of,
+  entity_shape,
+  shape_by,
+  named_shape,
+  result_shape,
+  call_shape,
+  makes_struct,
+  is_made,
+  prefix_shape,
+  static_shape,
+  new_shape,
+  linked_shape,
+  get_global,
+  get_by,
+  get_code,
+  put_global,
+  put_by,
+  global_address,
+  address_by,
+  load_code,
+  store_code,
+  narrow_code,
+  conversion_code,
+  type_of,
+  applied_to,
+  turned_code,
+  pointers_code,
+  operator_code,
+  truth_code,
+  word_code,
+  not_code,
+  prefix_code,
+  pointed_code,
+  parameter_shapes,
+  call_parameters,
+  from_on,
+  results_in,
+  count_of,
+  function_call,
+  call_code,
 }
-use Rattle.core_meaning.specs.Core as core
-use Rattle.core_meaning.specs.Core.{
-  Distance,
-  Binary,
-  Operation,
-  Constant,
-  NullPointer,
-  Narrow,
-  Apply,
-  Offset,
-  LocalAddress,
-  DataAddress,
-  Get,
-  Put,
-  Load,
-  Store,
-  IsNull,
-  SamePlace,
-  Getchar,
-  Putchar,
-  Statement,
-  Do,
-  If,
-  Raise,
-  Call,
-  Statements,
-  NoStatements,
-  MoreStatements,
-}
 
--- ---- names
+-- ---- unnamed values
 
--- a local: its name and shape, how many blocks out it is, and its number in that block
-pub record Named : Type 0 where
-  pub name : List ℕ
-  pub shape : Shape
-  pub out : ℕ
-  pub index : ℕ
-
--- the innermost local of a name
-abbrev pub local_named : List Named → List ℕ → Option Named
-local_named [] name = None
-local_named (l ∷ ls) name = (if bytes_eq l.name name then Some l else local_named ls name)
-
--- the number of a function, from 0 on
-abbrev pub number_of : List Routine → List ℕ → ℕ
-number_of [] name = 0
-number_of (f ∷ fs) name = (if bytes_eq f.name name then 0 else suc (number_of fs name))
-
--- ---- shapes, which are known without a run
-
-abbrev pub entity_shape : Option Entity → Shape
-entity_shape None = VoidShape
-entity_shape (Some (Variable s at)) = s
-entity_shape (Some (Fixed s v)) = s
-
-abbrev pub shape_by : Option Named → Option Entity → Shape
-shape_by (Some l) global = l.shape
-shape_by None global = entity_shape global
-
--- a local's shape, or else a global's
-abbrev pub named_shape : World → List Named → List ℕ → Shape
-named_shape w names name = shape_by (local_named names name) (bound_to w.globals name)
-
-abbrev pub result_shape : Option Routine → Shape
-result_shape None = VoidShape
-result_shape (Some f) = f.result
-
-abbrev pub call_shape : World → List ℕ → Shape
-call_shape w name =
-    (if bytes_eq name (codes "getchar") then IntShape
-    else (if bytes_eq name (codes "putchar") then IntShape else result_shape (function_of w.functions name)))
-
-abbrev pub prefix_shape : Prefix → Shape → Shape
-prefix_shape prefix.Negate s = operator_shape operator.Subtract IntShape s
-prefix_shape prefix.Complement s = operator_shape operator.BitXor IntShape s
-prefix_shape prefix.Not s = IntShape
-prefix_shape prefix.Dereference s = pointee s
-prefix_shape prefix.AddressOf s = ThinShape false Shared s
+-- those of a value of a shape: as a struct, or as a word
+abbrev pub values_by : Shape → (whole word : List Shape) → List Shape
+values_by (StructShape tag) whole word = whole
+values_by s whole word = word
 
 abbrev mutual
-  -- the shape of an expression's type
-  pub static_shape : World → List Named → Expression → Shape
-  static_shape w names (Expression.Number at value suffix) = integer_shape (number_type value suffix)
-  static_shape w names (Expression.Character at byte) = CharShape
-  static_shape w names (Expression.Null at) = ThinShape true Shared VoidShape
-  static_shape w names (Expression.Variable name) = named_shape w names name.text
-  static_shape w names (Expression.Call name arguments) = call_shape w name.text
-  static_shape w names (Expression.Grouped at inner) = static_shape w names inner
-  static_shape w names (Expression.Suffixed primary suffixes) = suffixed_shape w suffixes (static_shape w names primary)
-  static_shape w names (Expression.Prefixed at operator operand) = prefix_shape operator (static_shape w names operand)
-  static_shape w names (Expression.Chain first others) = linked_shape w names others (static_shape w names first)
-  static_shape w names (Expression.AllOf first others) = IntShape
-  static_shape w names (Expression.AnyOf first others) = IntShape
-  static_shape w names (Expression.Assign place value) = static_shape w names place
-  static_shape w names _ = VoidShape
+  -- those of an expression, whether its value or its place is wanted
+  pub expression_values : World → List Named → Expression → List Shape
+  expression_values w names (Expression.Call name arguments) = all_values w names arguments
+  expression_values w names (Expression.Grouped at inner) = expression_values w names inner
+  expression_values w names (Expression.Suffixed primary _) = expression_values w names primary
+  expression_values w names (Expression.Prefixed at operator operand) = expression_values w names operand
+  expression_values w names (Expression.New at new) = new_values w names new
+  expression_values w names (Expression.NewIn at handle new) = expression_values w names handle ++ new_values w names new
+  expression_values w names (Expression.Chain first others) = expression_values w names first ++ link_values w names others
+  expression_values w names (Expression.AllOf first others) = expression_values w names first ++ all_values w names others
+  expression_values w names (Expression.AnyOf first others) = expression_values w names first ++ all_values w names others
+  expression_values w names (Expression.Assign place value) = expression_values w names value ++ expression_values w names place
+  expression_values w names _ = []
 
-  -- that of a chain, from what is on its left
-  pub linked_shape : World → List Named → Links → Shape → Shape
-  linked_shape w names NoLinks left = left
-  linked_shape w names (MoreLinks operator operand others) left = linked_shape w names others (operator_shape operator left (static_shape w names operand))
+  pub all_values : World → List Named → Expressions → List Shape
+  all_values w names NoExpressions = []
+  all_values w names (MoreExpressions first others) = expression_values w names first ++ all_values w names others
 
--- ---- variables
+  pub link_values : World → List Named → Links → List Shape
+  link_values w names NoLinks = []
+  link_values w names (MoreLinks operator operand others) = expression_values w names operand ++ link_values w names others
 
-abbrev pub get_global : Option Entity → ℕ → List Statement
-get_global (Some (Variable s at)) d = Do (DataAddress d at.object) ∷ Do (Load d d (distance 0 0 (width_of s))) ∷ []
-get_global (Some (Fixed s v)) d = []
-get_global None d = []
+  -- of what `new` and `rnew` make
+  pub new_values : World → List Named → Made → List Shape
+  new_values w names (One value) = values_by (static_shape w names value) (whole_values w names value) (expression_values w names value)
+  new_values w names (Array index count element) = []
 
-abbrev pub get_by : Option Named → Option Entity → ℕ → List Statement
-get_by (Some l) global d = Do (Get d l.out l.index (width_of l.shape)) ∷ []
-get_by None global d = get_global global d
+  -- of a struct: its own, and then those of its parts, or of the place that it is read from
+  pub whole_values : World → List Named → Expression → List Shape
+  whole_values w names (Expression.Call name arguments) = StructShape name.text ∷ made_values w names (parts_of w.structs name.text) arguments
+  whole_values w names (Expression.Grouped at inner) = whole_values w names inner
+  whole_values w names (Expression.Suffixed primary suffixes) =
+      static_shape w names (Expression.Suffixed primary suffixes) ∷ expression_values w names primary
+  whole_values w names (Expression.Prefixed at operator operand) =
+      static_shape w names (Expression.Prefixed at operator operand) ∷ expression_values w names operand
+  whole_values w names e = static_shape w names e ∷ []
 
--- a variable is read: a local by one operation
-abbrev pub get_code : World → List Named → List ℕ → ℕ → List Statement
-get_code w names name d = get_by (local_named names name) (bound_to w.globals name) d
+  pub made_values : World → List Named → List Part → Expressions → List Shape
+  made_values w names [] arguments = []
+  made_values w names (p ∷ ps) NoExpressions = []
+  made_values w names (p ∷ ps) (MoreExpressions first others) =
+      values_by p.shape (whole_values w names first) (expression_values w names first) ++ made_values w names ps others
 
-abbrev pub put_global : Option Entity → ℕ → List Statement
-put_global (Some (Variable s at)) d = Do (DataAddress (d + 1) at.object) ∷ Do (Store (d + 1) (distance 0 0 (width_of s)) d) ∷ []
-put_global (Some (Fixed s v)) d = []
-put_global None d = []
+-- ---- pieces of code with structs
 
-abbrev pub put_by : Option Named → Option Entity → ℕ → List Statement
-put_by (Some l) global d = Do (Put l.out l.index (width_of l.shape) d) ∷ []
-put_by None global d = put_global global d
+-- a place is copied to an unnamed value, from the pointer in the same temporary
+abbrev pub copied_code : World → Shape → (d own : ℕ) → List Statement
+copied_code w s d own = Do (OwnAddress (d + 1) own) ∷ Do (Copy (d + 1) d (layout_of w s)) ∷ Do (OwnAddress d own) ∷ []
 
--- ---- places
+-- A member that is a struct is copied so far on, from the pointer in the next temporary; another one is converted, and stored there.
+abbrev pub struct_member_code : World → Shape → (d cells bytes : ℕ) → List Statement
+struct_member_code w s d cells bytes = Do (Offset (d + 2) d cells bytes) ∷ Do (Copy (d + 2) (d + 1) (layout_of w s)) ∷ []
 
-abbrev pub global_address : Option Entity → ℕ → List Statement
-global_address (Some (Variable s at)) d = Do (DataAddress d at.object) ∷ []
-global_address (Some (Fixed s v)) d = []
-global_address None d = []
+abbrev pub word_member_code : Shape → Shape → (d cells bytes : ℕ) → List Statement
+word_member_code s from d cells bytes = conversion_code s from (d + 1) ++ (Do (Store d (distance cells bytes (width_of s)) (d + 1)) ∷ [])
 
--- a pointer to a variable
-abbrev pub address_by : Option Named → Option Entity → ℕ → List Statement
-address_by (Some l) global d = Do (LocalAddress d l.out l.index) ∷ []
-address_by None global d = global_address global d
+-- a member of a shape, by the code of its argument as a struct and as a word
+abbrev pub member_code : World → Shape → Shape → (d cells bytes : ℕ) → (whole word : List Statement) → List Statement
+member_code w (StructShape tag) from d cells bytes whole word = whole ++ struct_member_code w (StructShape tag) d cells bytes
+member_code w s from d cells bytes whole word = word ++ word_member_code s from d cells bytes
 
--- the object of a shape that a pointer leads to is read, into the pointer's temporary; or a value is stored there, from the temporary before it
-abbrev pub load_code : Shape → ℕ → List Statement
-load_code s d = Do (Load d d (distance 0 0 (width_of s))) ∷ []
+-- A block for one object is asked for in the region of the handle in this temporary, which gets a pointer to it.
+abbrev pub request_code : World → Shape → ℕ → List Statement
+request_code w s d = Do (Constant (d + 2) 1) ∷ Do (RegionAlloc d d (d + 2) (layout_of w s)) ∷ []
 
-abbrev pub store_code : Shape → ℕ → List Statement
-store_code s d = Do (Store (d + 1) (distance 0 0 (width_of s)) d) ∷ []
+-- The value of a shape comes into the next temporary, or a pointer to it; then the block is asked for, and the value is stored there.
+abbrev pub new_code_by : World → Shape → ℕ → (whole word : List Statement) → List Statement
+new_code_by w (StructShape tag) d whole word = whole ++ (request_code w (StructShape tag) d ++ (Do (Copy d (d + 1) (layout_of w (StructShape tag))) ∷ []))
+new_code_by w s d whole word = word ++ (request_code w s d ++ (Do (Store d (distance 0 0 (width_of s)) (d + 1)) ∷ []))
 
--- ---- conversions and operators
-
--- only what becomes a char changes
-abbrev pub narrow_code : Shape → ℕ → List Statement
-narrow_code CharShape d = []
-narrow_code s d = Do (Narrow d d) ∷ []
-
--- a pointer that may be NULL becomes one that never is by a check
-abbrev pub conversion_code : Shape → Shape → ℕ → List Statement
-conversion_code CharShape from d = narrow_code from d
-conversion_code (ThinShape false owner to) from d = check_code from d
-conversion_code to from d = []
-
-abbrev pub type_of : Shape → IntegerType
-type_of UnsignedShape = AsUnsigned
-type_of CharShape = AsChar
-type_of s = AsInt
-
--- `x > y` is `y < x`, and `x >= y` is `y <= x`
-abbrev pub applied_to : Operator → IntegerType → IntegerType → (t x y : ℕ) → Operation
-applied_to operator.BitOr s t d x y = Apply core.Or d x y
-applied_to operator.BitXor s t d x y = Apply core.Xor d x y
-applied_to operator.BitAnd s t d x y = Apply core.And d x y
-applied_to operator.Equal s t d x y = Apply core.Equal d x y
-applied_to operator.NotEqual s t d x y = Apply core.NotEqual d x y
-applied_to operator.Less s t d x y = Apply (by_type (common s t) core.Less core.LessUnsigned) d x y
-applied_to operator.LessEqual s t d x y = Apply (by_type (common s t) core.LessEqual core.LessEqualUnsigned) d x y
-applied_to operator.Greater s t d x y = Apply (by_type (common s t) core.Less core.LessUnsigned) d y x
-applied_to operator.GreaterEqual s t d x y = Apply (by_type (common s t) core.LessEqual core.LessEqualUnsigned) d y x
-applied_to operator.ShiftLeft s t d x y = Apply core.ShiftLeft d x y
-applied_to operator.ShiftRight s t d x y = Apply (by_type s core.ShiftRight core.ShiftRightUnsigned) d x y
-applied_to operator.Add s t d x y = Apply core.Add d x y
-applied_to operator.Subtract s t d x y = Apply core.Subtract d x y
-applied_to operator.Multiply s t d x y = Apply core.Multiply d x y
-applied_to operator.Divide s t d x y = Apply (by_type (common s t) core.Divide core.DivideUnsigned) d x y
-applied_to operator.Remainder s t d x y = Apply (by_type (common s t) core.Remainder core.RemainderUnsigned) d x y
-
--- 1 becomes 0, and 0 becomes 1
-abbrev pub turned_code : ℕ → List Statement
-turned_code d = Do (Constant (d + 1) 0) ∷ Do (Apply core.Equal d d (d + 1)) ∷ []
-
--- pointers are compared by `==` and `!=` alone
-abbrev pub pointers_code : Operator → ℕ → List Statement
-pointers_code operator.Equal d = Do (SamePlace d d (d + 1)) ∷ []
-pointers_code operator.NotEqual d = Do (SamePlace d d (d + 1)) ∷ turned_code d
-pointers_code o d = []
-
--- the operands are in this temporary and the next, and the result comes into this one
-abbrev pub operator_code : Operator → Shape → Shape → ℕ → List Statement
-operator_code o (ThinShape may_be_null owner to) t d = pointers_code o d
-operator_code o s t d = Do (applied_to o (type_of s) (type_of t) d d (d + 1)) ∷ []
-
--- 0 stays 0, and another word becomes 1
-abbrev pub truth_code : ℕ → List Statement
-truth_code d = Do (Constant (d + 1) 0) ∷ Do (Apply core.NotEqual d d (d + 1)) ∷ []
-
--- an operand of `&&` and `||` becomes a word: NULL 0, and another pointer 1
-abbrev pub word_code : Shape → ℕ → List Statement
-word_code (ThinShape may_be_null owner to) d = Do (IsNull d d) ∷ turned_code d
-word_code s d = []
-
--- `!e`, from the next temporary: whether it is 0, or NULL
-abbrev pub not_code : Shape → ℕ → List Statement
-not_code (ThinShape may_be_null owner to) d = Do (IsNull d (d + 1)) ∷ []
-not_code s d = Do (Constant d 0) ∷ Do (Apply core.Equal d (d + 1) d) ∷ []
-
--- `-e` is 0 - e, `~e` is all ones ^ e, and `!e` is e == 0: the operand goes into the next temporary. `*e` and `&e` have their pointer in this one.
-abbrev pub prefix_code : Prefix → Shape → ℕ → (above here place : List Statement) → List Statement
-prefix_code prefix.Negate s d above here place = (Do (Constant d 0) ∷ []) ++ (above ++ operator_code operator.Subtract IntShape s d)
-prefix_code prefix.Complement s d above here place = (Do (Constant d 4294967295) ∷ []) ++ (above ++ operator_code operator.BitXor IntShape s d)
-prefix_code prefix.Not s d above here place = above ++ not_code s d
-prefix_code prefix.Dereference s d above here place = (here ++ check_code s d) ++ load_code (pointee s) d
-prefix_code prefix.AddressOf s d above here place = place
-
--- a pointer to `*e`, whose code is here
-abbrev pub pointed_code : Prefix → Shape → ℕ → (here : List Statement) → List Statement
-pointed_code prefix.Negate s d here = []
-pointed_code prefix.Complement s d here = []
-pointed_code prefix.Not s d here = []
-pointed_code prefix.Dereference s d here = here ++ check_code s d
-pointed_code prefix.AddressOf s d here = []
-
--- ---- calls
-
-abbrev pub parameter_shapes : Option Routine → List Shape
-parameter_shapes None = []
-parameter_shapes (Some f) = part_shapes f.parameters
-
-abbrev pub call_parameters : World → List ℕ → List Shape
-call_parameters w name =
-    (if bytes_eq name (codes "getchar") then []
-    else (if bytes_eq name (codes "putchar") then IntShape ∷ [] else parameter_shapes (function_of w.functions name)))
-
--- so many temporaries from one on
-abbrev pub from_on : ℕ → ℕ → List ℕ
-from_on d zero = []
-from_on d (suc n) = d ∷ from_on (d + 1) n
-
--- where a result goes
-abbrev pub results_in : Shape → ℕ → List ℕ
-results_in VoidShape d = []
-results_in s d = d ∷ []
-
-abbrev pub count_of : Expressions → ℕ
-count_of NoExpressions = 0
-count_of (MoreExpressions first others) = suc (count_of others)
-
-abbrev pub function_call : Option Routine → ℕ → ℕ → ℕ → List Statement
-function_call None number count d = []
-function_call (Some f) number count d = Call (results_in f.result d) number (from_on d count) ∷ []
-
--- so many arguments are in the temporaries from this one on
-abbrev pub call_code : World → List ℕ → ℕ → ℕ → List Statement
-call_code w name count d =
-    (if bytes_eq name (codes "getchar") then Do (Getchar d) ∷ []
-    else (if bytes_eq name (codes "putchar") then Do (Putchar d d) ∷ [] else function_call (function_of w.functions name) (number_of w.functions name) count d))
+-- a pointer to what suffixes lead to, by the code of what stands on their left
+abbrev pub suffixed_place : World → Suffixes → Shape → ℕ → (value pointer : List Statement) → List Statement
+suffixed_place w suffixes s d value pointer = pointer_to (suffixed_code w suffixes d (left_of s value pointer)) d
 
 -- ---- expressions
 
+-- the first unnamed value has the number `own`
 abbrev mutual
-  pub expression_code : World → List Named → Expression → ℕ → List Statement
-  expression_code w names (Expression.Number at value suffix) d = Do (Constant d value) ∷ []
-  expression_code w names (Expression.Character at byte) d = Do (Constant d (byte % 256)) ∷ []
-  expression_code w names (Expression.Null at) d = Do (NullPointer d) ∷ []
-  expression_code w names (Expression.Variable name) d = get_code w names name.text d
-  expression_code w names (Expression.Call name arguments) d =
-      arguments_code w names (call_parameters w name.text) arguments d ++ call_code w name.text (count_of arguments) d
-  expression_code w names (Expression.Grouped at inner) d = expression_code w names inner d
-  expression_code w names (Expression.Suffixed primary suffixes) d = (suffixed_code w suffixes d
-      (left_of (static_shape w names primary) (expression_code w names primary d) (place_code w names primary d))).value
-  expression_code w names (Expression.Prefixed at operator operand) d =
-      prefix_code operator (static_shape w names operand) d (expression_code w names operand (d + 1)) (expression_code w names operand d)
-      (place_code w names operand d)
-  expression_code w names (Expression.Chain first others) d =
-      expression_code w names first d ++ links_code w names others (static_shape w names first) d
-  expression_code w names (Expression.AllOf first others) d =
-      (expression_code w names first d ++ word_code (static_shape w names first) d) ++ (all_code w names others d ++ truth_code d)
-  expression_code w names (Expression.AnyOf first others) d =
-      (expression_code w names first d ++ word_code (static_shape w names first) d) ++ (any_code w names others d ++ truth_code d)
-  expression_code w names (Expression.Assign place value) d =
-      expression_code w names value d ++ (conversion_code (static_shape w names place) (static_shape w names value) d ++ put_code w names place d)
-  expression_code w names _ d = []
+  pub expression_code : World → List Named → Expression → (d own : ℕ) → List Statement
+  expression_code w names (Expression.Number at value suffix) d own = Do (Constant d value) ∷ []
+  expression_code w names (Expression.Character at byte) d own = Do (Constant d (byte % 256)) ∷ []
+  expression_code w names (Expression.Null at) d own = Do (NullPointer d) ∷ []
+  expression_code w names (Expression.HeapRegion at) d own = Do (HeapHandle d) ∷ []
+  expression_code w names (Expression.Variable name) d own = get_code w names name.text d
+  expression_code w names (Expression.Call name arguments) d own =
+      arguments_code w names (call_parameters w name.text) arguments d own ++ call_code w name.text (count_of arguments) d
+  expression_code w names (Expression.Grouped at inner) d own = expression_code w names inner d own
+  expression_code w names (Expression.Suffixed primary suffixes) d own = (suffixed_code w suffixes d
+      (left_of (static_shape w names primary) (expression_code w names primary d own) (place_code w names primary d own))).value
+  expression_code w names (Expression.Prefixed at operator operand) d own =
+      prefix_code operator (static_shape w names operand) d (expression_code w names operand (d + 1) own) (expression_code w names operand d own)
+      (place_code w names operand d own)
+  -- the heap's handle comes first
+  expression_code w names (Expression.New at new) d own = Do (HeapHandle d) ∷ new_code w names new d own
+  expression_code w names (Expression.NewIn at handle new) d own =
+      expression_code w names handle d own ++ new_code w names new d (own + length (expression_values w names handle))
+  expression_code w names (Expression.Chain first others) d own =
+      expression_code w names first d own ++
+      links_code w names others (static_shape w names first) d (own + length (expression_values w names first))
+  expression_code w names (Expression.AllOf first others) d own =
+      (expression_code w names first d own ++ word_code (static_shape w names first) d) ++
+      (all_code w names others d (own + length (expression_values w names first)) ++ truth_code d)
+  expression_code w names (Expression.AnyOf first others) d own =
+      (expression_code w names first d own ++ word_code (static_shape w names first) d) ++
+      (any_code w names others d (own + length (expression_values w names first)) ++ truth_code d)
+  -- the value is evaluated first
+  expression_code w names (Expression.Assign place value) d own =
+      expression_code w names value d own ++
+      (conversion_code (static_shape w names place) (static_shape w names value) d ++
+      put_code w names place d (own + length (expression_values w names value)))
+  expression_code w names _ d own = []
 
   -- a pointer to the place that an expression names
-  pub place_code : World → List Named → Expression → ℕ → List Statement
-  place_code w names (Expression.Variable name) d = address_by (local_named names name.text) (bound_to w.globals name.text) d
-  place_code w names (Expression.Grouped at inner) d = place_code w names inner d
-  place_code w names (Expression.Suffixed primary suffixes) d = pointer_to (suffixed_code w suffixes d
-      (left_of (static_shape w names primary) (expression_code w names primary d) (place_code w names primary d))) d
-  place_code w names (Expression.Prefixed at operator operand) d =
-      pointed_code operator (static_shape w names operand) d (expression_code w names operand d)
-  place_code w names _ d = []
+  pub place_code : World → List Named → Expression → (d own : ℕ) → List Statement
+  place_code w names (Expression.Variable name) d own = address_by (local_named names name.text) (bound_to w.globals name.text) d
+  place_code w names (Expression.Grouped at inner) d own = place_code w names inner d own
+  place_code w names (Expression.Suffixed primary suffixes) d own =
+      suffixed_place w suffixes (static_shape w names primary) d (expression_code w names primary d own) (place_code w names primary d own)
+  place_code w names (Expression.Prefixed at operator operand) d own =
+      pointed_code operator (static_shape w names operand) d (expression_code w names operand d own)
+  place_code w names _ d own = []
 
   -- the value is stored: a variable is written by its name, and another place through its pointer, in the next temporary
-  pub put_code : World → List Named → Expression → ℕ → List Statement
-  put_code w names (Expression.Variable name) d = put_by (local_named names name.text) (bound_to w.globals name.text) d
-  put_code w names (Expression.Grouped at inner) d = put_code w names inner d
-  put_code w names (Expression.Suffixed primary suffixes) d = store_to (suffixed_code w suffixes (d + 1)
-      (left_of (static_shape w names primary) (expression_code w names primary (d + 1)) (place_code w names primary (d + 1)))) d
-  put_code w names (Expression.Prefixed at operator operand) d =
-      pointed_code operator (static_shape w names operand) (d + 1) (expression_code w names operand (d + 1)) ++
+  pub put_code : World → List Named → Expression → (d own : ℕ) → List Statement
+  put_code w names (Expression.Variable name) d own = put_by (local_named names name.text) (bound_to w.globals name.text) d
+  put_code w names (Expression.Grouped at inner) d own = put_code w names inner d own
+  put_code w names (Expression.Suffixed primary suffixes) d own = store_to (suffixed_code w suffixes (d + 1)
+      (left_of (static_shape w names primary) (expression_code w names primary (d + 1) own) (place_code w names primary (d + 1) own))) d
+  put_code w names (Expression.Prefixed at operator operand) d own =
+      pointed_code operator (static_shape w names operand) (d + 1) (expression_code w names operand (d + 1) own) ++
       store_code (prefix_shape operator (static_shape w names operand)) d
-  put_code w names _ d = []
+  put_code w names _ d own = []
 
   -- each operand goes into the next temporary, and the result into the chain's
-  pub links_code : World → List Named → Links → Shape → ℕ → List Statement
-  links_code w names NoLinks left d = []
-  links_code w names (MoreLinks operator operand others) left d =
-      expression_code w names operand (d + 1) ++
+  pub links_code : World → List Named → Links → Shape → (d own : ℕ) → List Statement
+  links_code w names NoLinks left d own = []
+  links_code w names (MoreLinks operator operand others) left d own =
+      expression_code w names operand (d + 1) own ++
       (operator_code operator left (static_shape w names operand) d ++
-      links_code w names others (operator_shape operator left (static_shape w names operand)) d)
+      links_code w names others (operator_shape operator left (static_shape w names operand)) d (own + length (expression_values w names operand)))
 
   -- of `&&`: each operand is evaluated where those before it were not 0
-  pub all_code : World → List Named → Expressions → ℕ → List Statement
-  all_code w names NoExpressions d = []
-  all_code w names (MoreExpressions first others) d =
-      If d (all_of (expression_code w names first d ++ word_code (static_shape w names first) d)) NoStatements ∷ all_code w names others d
+  pub all_code : World → List Named → Expressions → (d own : ℕ) → List Statement
+  all_code w names NoExpressions d own = []
+  all_code w names (MoreExpressions first others) d own =
+      If d (all_of (expression_code w names first d own ++ word_code (static_shape w names first) d)) NoStatements ∷
+      all_code w names others d (own + length (expression_values w names first))
 
   -- of `||`: each operand is evaluated where those before it were 0
-  pub any_code : World → List Named → Expressions → ℕ → List Statement
-  any_code w names NoExpressions d = []
-  any_code w names (MoreExpressions first others) d =
-      If d NoStatements (all_of (expression_code w names first d ++ word_code (static_shape w names first) d)) ∷ any_code w names others d
+  pub any_code : World → List Named → Expressions → (d own : ℕ) → List Statement
+  any_code w names NoExpressions d own = []
+  any_code w names (MoreExpressions first others) d own =
+      If d NoStatements (all_of (expression_code w names first d own ++ word_code (static_shape w names first) d)) ∷
+      any_code w names others d (own + length (expression_values w names first))
 
   -- each argument is converted to its parameter's shape, and goes into the next temporary
-  pub arguments_code : World → List Named → List Shape → Expressions → ℕ → List Statement
-  arguments_code w names [] arguments d = []
-  arguments_code w names (s ∷ ss) NoExpressions d = []
-  arguments_code w names (s ∷ ss) (MoreExpressions first others) d =
-      expression_code w names first d ++ (conversion_code s (static_shape w names first) d ++ arguments_code w names ss others (d + 1))
+  pub arguments_code : World → List Named → List Shape → Expressions → (d own : ℕ) → List Statement
+  arguments_code w names [] arguments d own = []
+  arguments_code w names (s ∷ ss) NoExpressions d own = []
+  arguments_code w names (s ∷ ss) (MoreExpressions first others) d own =
+      expression_code w names first d own ++
+      (conversion_code s (static_shape w names first) d ++ arguments_code w names ss others (d + 1) (own + length (expression_values w names first)))
+
+  -- what is made, in the region whose handle is in this temporary
+  pub new_code : World → List Named → Made → (d own : ℕ) → List Statement
+  new_code w names (One value) d own =
+      new_code_by w (static_shape w names value) d (whole_code w names value (d + 1) own) (expression_code w names value (d + 1) own)
+  new_code w names (Array index count element) d own = []
+
+  -- a struct: made of its members, or copied from a place
+  pub whole_code : World → List Named → Expression → (d own : ℕ) → List Statement
+  whole_code w names (Expression.Call name arguments) d own =
+      Do (OwnAddress d own) ∷ members_code w names (parts_of w.structs name.text) arguments d 0 0 (suc own)
+  whole_code w names (Expression.Grouped at inner) d own = whole_code w names inner d own
+  whole_code w names (Expression.Variable name) d own =
+      address_by (local_named names name.text) (bound_to w.globals name.text) d ++
+      copied_code w (static_shape w names (Expression.Variable name)) d own
+  whole_code w names (Expression.Suffixed primary suffixes) d own =
+      suffixed_place w suffixes (static_shape w names primary) d (expression_code w names primary d (suc own)) (place_code w names primary d (suc own)) ++
+      copied_code w (static_shape w names (Expression.Suffixed primary suffixes)) d own
+  whole_code w names (Expression.Prefixed at operator operand) d own =
+      pointed_code operator (static_shape w names operand) d (expression_code w names operand d (suc own)) ++
+      copied_code w (static_shape w names (Expression.Prefixed at operator operand)) d own
+  whole_code w names e d own = copied_code w (static_shape w names e) d own
+
+  -- each argument goes where its member lies: so many cells and bytes on, aligned
+  pub members_code : World → List Named → List Part → Expressions → (d cells bytes own : ℕ) → List Statement
+  members_code w names [] arguments d cells bytes own = []
+  members_code w names (p ∷ ps) NoExpressions d cells bytes own = []
+  members_code w names (p ∷ ps) (MoreExpressions first others) d cells bytes own =
+      let at = rounded_up bytes (extent_of w p.shape).align in
+      member_code w p.shape (static_shape w names first) d cells at (whole_code w names first (d + 1) own) (expression_code w names first (d + 1) own) ++
+      members_code w names ps others d (cells + length (cells_of w p.shape)) (at + (extent_of w p.shape).size)
+      (own + length (values_by p.shape (whole_values w names first) (expression_values w names first)))

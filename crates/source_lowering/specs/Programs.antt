@@ -1,9 +1,9 @@
 -- What statements, functions, globals and programs are lowered to.
-use Rattle.std.specs.Prelude.{ℕ, suc, ◌+◌, ◌%◌, Bool, true, false, if◌then◌else◌, Option, ◌^◌, Some, None, List, [], ◌∷◌, ◌++◌, map, slice_get, length, max, codes}
+use Rattle.std.specs.Prelude.{ℕ, zero, suc, ◌+◌, ◌%◌, Bool, true, false, if◌then◌else◌, Option, ◌^◌, Some, None, List, [], ◌∷◌, ◌++◌, map, slice_get, length, max, codes}
 use Rattle.cyc_tree.specs.Tree as tree
 use Rattle.cyc_tree.specs.Tree.{Expression, Initializer, Declaration, Statement, BlockItems, NoItems, Declare, Execute, Initial, Item, Program}
 use Rattle.cyc_words.specs.Words.{difference_of}
-use Rattle.source_meaning.specs.Shapes.{Shape, CharShape, VoidShape, ThinShape, StructShape, Part, part_shapes, written, settled}
+use Rattle.source_meaning.specs.Shapes.{Shape, CharShape, VoidShape, ThinShape, HandleShape, StructShape, Part, part_shapes, written, settled}
 use Rattle.source_meaning.specs.Steps.{Routine, World}
 use Rattle.source_meaning.specs.Programs.{world_of}
 use Rattle.core_meaning.specs.Memory as memory
@@ -56,7 +56,7 @@ use Rattle.core_meaning.specs.Core.{
   Datum,
 }
 use Rattle.source_lowering.specs.Layouts.{layout_of, local_of, first_part}
-use Rattle.source_lowering.specs.Whole.{is_made, run_code, run_values, whole_code, whole_values}
+use Rattle.source_lowering.specs.Whole.{expression_values, is_made, run_code, run_values, whole_code, whole_values}
 use Rattle.source_lowering.specs.Lowered.{Named, number_of, static_shape, all_of, width_of, conversion_code, results_in, place_code, expression_code}
 
 -- ---- locals of a block
@@ -64,7 +64,7 @@ use Rattle.source_lowering.specs.Lowered.{Named, number_of, static_shape, all_of
 -- a local's shape, as it is declared
 abbrev pub local_shape : Declaration → Shape
 local_shape (tree.Local of name initializer) = settled (written of)
-local_shape (tree.Region at region handle) = VoidShape
+local_shape (tree.Region at region handle) = HandleShape
 local_shape (tree.Open at region handle key) = VoidShape
 local_shape (tree.Alias at region of alias pointer) = VoidShape
 local_shape (tree.NewKey at region key) = VoidShape
@@ -89,42 +89,65 @@ outward names = map one_out names
 abbrev pub named_here : List ℕ → Shape → ℕ → Named
 named_here name shape index = record { name = name; shape = shape; out = 0; index = index }
 
--- ---- declarations: the local of a number gets 0 or NULL, or its initializer's value
+-- ---- declarations: the local of a number gets 0 or NULL, or its initializer's value, which comes into the first free temporary
 
-abbrev pub first_code : Shape → Operation
-first_code (ThinShape may_be_null owner to) = NullPointer 0
-first_code s = Constant 0 0
+abbrev pub first_code : Shape → ℕ → Operation
+first_code (ThinShape may_be_null owner to) d = NullPointer d
+first_code s d = Constant d 0
 
 -- a struct begins as its layout does
-abbrev pub unset_code : World → Shape → ℕ → List core.Statement
-unset_code w (StructShape tag) index = Do (LocalAddress 0 0 index) ∷ Do (Clear 0 (layout_of w (StructShape tag)) 1) ∷ []
-unset_code w s index = Do (first_code s) ∷ Do (Put 0 index (width_of s) 0) ∷ []
+abbrev pub unset_code : World → Shape → (d index : ℕ) → List core.Statement
+unset_code w (StructShape tag) d index = Do (LocalAddress d 0 index) ∷ Do (Clear d (layout_of w (StructShape tag)) 1) ∷ []
+unset_code w s d index = Do (first_code s d) ∷ Do (Put 0 index (width_of s) d) ∷ []
 
 -- a pointer to what a struct begins as: to the object that its initializer names, or to the struct that it makes
-abbrev pub source_code : World → List Named → Bool → Expression → ℕ → List core.Statement
-source_code w names true e own = whole_code w names e 0 own
-source_code w names false e own = place_code w names e 0
+abbrev pub source_code : World → List Named → Bool → Expression → (d own : ℕ) → List core.Statement
+source_code w names true e d own = whole_code w names e d own
+source_code w names false e d own = place_code w names e d own
 
 -- a struct gets the parts of that object
-abbrev pub value_code : World → List Named → Shape → Expression → (index own : ℕ) → List core.Statement
-value_code w names (StructShape tag) e index own =
-    source_code w names (is_made w e) e own ++ (Do (LocalAddress 1 0 index) ∷ Do (Copy 1 0 (layout_of w (StructShape tag))) ∷ [])
-value_code w names s e index own =
-    expression_code w names e 0 ++ (conversion_code s (static_shape w names e) 0 ++ (Do (Put 0 index (width_of s) 0) ∷ []))
+abbrev pub value_code : World → List Named → Shape → Expression → (d index own : ℕ) → List core.Statement
+value_code w names (StructShape tag) e d index own =
+    source_code w names (is_made w e) e d own ++ (Do (LocalAddress (d + 1) 0 index) ∷ Do (Copy (d + 1) d (layout_of w (StructShape tag))) ∷ [])
+value_code w names s e d index own =
+    expression_code w names e d own ++ (conversion_code s (static_shape w names e) d ++ (Do (Put 0 index (width_of s) d) ∷ []))
 
 -- the unnamed values of an initializer
 abbrev pub initial_values : World → List Named → Shape → Expression → List Shape
-initial_values w names (StructShape tag) e = (if is_made w e then whole_values w names e else [])
-initial_values w names s e = []
+initial_values w names (StructShape tag) e = (if is_made w e then whole_values w names e else expression_values w names e)
+initial_values w names s e = expression_values w names e
 
-abbrev pub declaration_code : World → List Named → Declaration → (index own : ℕ) → List core.Statement
-declaration_code w names (tree.Local of name Initializer.Unset) index own = unset_code w (settled (written of)) index
-declaration_code w names (tree.Local of name (Initializer.Elements count)) index own = []
-declaration_code w names (tree.Local of name (Initializer.Value e)) index own = value_code w names (settled (written of)) e index own
-declaration_code w names (tree.Region at region handle) index own = []
-declaration_code w names (tree.Open at region handle key) index own = []
-declaration_code w names (tree.Alias at region of alias pointer) index own = []
-declaration_code w names (tree.NewKey at region key) index own = []
+-- A region is born; its handle stays in the first free temporary while the region is in scope, and goes to its local.
+abbrev pub declaration_code : World → List Named → Declaration → (d index own : ℕ) → List core.Statement
+declaration_code w names (tree.Local of name Initializer.Unset) d index own = unset_code w (settled (written of)) d index
+declaration_code w names (tree.Local of name (Initializer.Elements count)) d index own = []
+declaration_code w names (tree.Local of name (Initializer.Value e)) d index own = value_code w names (settled (written of)) e d index own
+declaration_code w names (tree.Region at region handle) d index own = Do (RegionNew d) ∷ Do (Put 0 index 4 d) ∷ []
+declaration_code w names (tree.Open at region handle key) d index own = []
+declaration_code w names (tree.Alias at region of alias pointer) d index own = []
+declaration_code w names (tree.NewKey at region key) d index own = []
+
+-- the region of a declaration is freed at the end of its block
+abbrev pub ending_code : Declaration → ℕ → List core.Statement
+ending_code (tree.Local of name initializer) d = []
+ending_code (tree.Region at region handle) d = Do (RegionFree d) ∷ []
+ending_code (tree.Open at region handle key) d = []
+ending_code (tree.Alias at region of alias pointer) d = []
+ending_code (tree.NewKey at region key) d = []
+
+-- how many regions are in scope behind a declaration, by how many were before
+abbrev pub regions_behind : Declaration → ℕ → ℕ
+regions_behind (tree.Local of name initializer) n = n
+regions_behind (tree.Region at region handle) n = suc n
+regions_behind (tree.Open at region handle key) n = n
+regions_behind (tree.Alias at region of alias pointer) n = n
+regions_behind (tree.NewKey at region key) n = n
+
+-- Of so many regions in scope the innermost are freed, each before those around it: their handles are in the temporaries from 0 on, the outermost first.
+abbrev pub leaving_code : (all count : ℕ) → List core.Statement
+leaving_code all zero = []
+leaving_code zero (suc count) = []
+leaving_code (suc all) (suc count) = Do (RegionFree all) ∷ leaving_code all count
 
 abbrev pub declaration_values : World → List Named → Declaration → List Shape
 declaration_values w names (tree.Local of name (Initializer.Value e)) = initial_values w names (settled (written of)) e
@@ -136,9 +159,11 @@ abbrev mutual
   pub statement_values : World → List Named → Statement → List Shape
   statement_values w names (Statement.Block at items) = item_values w (outward names) 0 items
   statement_values w names (Statement.Run e) = run_values w names e
-  statement_values w names (Statement.If at condition body) = statement_values w names body
-  statement_values w names (Statement.IfElse at condition body otherwise) = statement_values w names body ++ statement_values w names otherwise
-  statement_values w names (Statement.While at condition body) = statement_values w names body
+  statement_values w names (Statement.If at condition body) = expression_values w names condition ++ statement_values w names body
+  statement_values w names (Statement.IfElse at condition body otherwise) =
+      expression_values w names condition ++ (statement_values w names body ++ statement_values w names otherwise)
+  statement_values w names (Statement.While at condition body) = expression_values w names condition ++ statement_values w names body
+  statement_values w names (Statement.Return at (Some e)) = expression_values w names e
   statement_values w names _ = []
 
   -- the next local of the block has this number
@@ -148,39 +173,62 @@ abbrev mutual
       declaration_values w names d ++ item_values w (named_here (tree.local_of d).text (local_shape d) index ∷ names) (suc index) others
   item_values w names index (Execute s others) = statement_values w names s ++ item_values w names index others
 
--- ---- statements, whose values are in the first temporary
+-- ---- statements
+
+-- What the code of a statement needs of the regions around it: how many of its function are in scope, whose handles are in the first temporaries, and how many of
+-- these were opened within the innermost loop. Its own values come into the temporaries behind.
+pub record RegionsAround : Type 0 where
+  pub all : ℕ
+  pub inner : ℕ
+
+-- no region is in scope
+abbrev pub no_regions : RegionsAround
+no_regions = record { all = 0; inner = 0 }
+
+-- within a loop
+abbrev pub in_loop : RegionsAround → RegionsAround
+in_loop h = record { all = h.all; inner = 0 }
+
+-- behind a declaration
+abbrev pub regions_with : Declaration → RegionsAround → RegionsAround
+regions_with d h = record { all = regions_behind d h.all; inner = regions_behind d h.inner }
 
 abbrev mutual
-  -- the first of its unnamed values has this number
-  pub statement_code : World → Shape → List Named → ℕ → Statement → List core.Statement
-  statement_code w result names own (Statement.Empty at) = []
-  statement_code w result names own (Statement.Block at items) =
-      Block (locals_of w (block_shapes items)) (all_of (items_code w result (outward names) 0 own items)) ∷ []
-  statement_code w result names own (Statement.Run e) = run_code w names e own
-  statement_code w result names own (Statement.If at condition body) =
-      expression_code w names condition 0 ++ (If 0 (all_of (statement_code w result names own body)) NoStatements ∷ [])
-  statement_code w result names own (Statement.IfElse at condition body otherwise) =
-      expression_code w names condition 0 ++
-      (If 0 (all_of (statement_code w result names own body))
-      (all_of (statement_code w result names (own + length (statement_values w names body)) otherwise)) ∷ [])
-  statement_code w result names own (Statement.While at condition body) =
-      While (all_of (expression_code w names condition 0)) 0 (all_of (statement_code w result names own body)) ∷ []
-  statement_code w result names own (Statement.Break at) = Break ∷ []
-  statement_code w result names own (Statement.Continue at) = Continue ∷ []
-  statement_code w result names own (Statement.Return at None) = Return [] ∷ []
-  statement_code w result names own (Statement.Return at (Some e)) =
-      expression_code w names e 0 ++ (conversion_code result (static_shape w names e) 0 ++ (Return (results_in result 0) ∷ []))
-  statement_code w result names own _ = []
+  -- The first of its unnamed values has this number. `break` and `continue` free the regions of the innermost loop, and `return` those of the function, when
+  -- the result is there.
+  pub statement_code : World → Shape → List Named → RegionsAround → (own : ℕ) → Statement → List core.Statement
+  statement_code w result names h own (Statement.Empty at) = []
+  statement_code w result names h own (Statement.Block at items) =
+      Block (locals_of w (block_shapes items)) (all_of (items_code w result (outward names) h 0 own items)) ∷ []
+  statement_code w result names h own (Statement.Run e) = run_code w names e h.all own
+  statement_code w result names h own (Statement.If at condition body) =
+      expression_code w names condition h.all own ++
+      (If h.all (all_of (statement_code w result names h (own + length (expression_values w names condition)) body)) NoStatements ∷ [])
+  statement_code w result names h own (Statement.IfElse at condition body otherwise) =
+      let first = own + length (expression_values w names condition) in
+      expression_code w names condition h.all own ++
+      (If h.all (all_of (statement_code w result names h first body))
+      (all_of (statement_code w result names h (first + length (statement_values w names body)) otherwise)) ∷ [])
+  statement_code w result names h own (Statement.While at condition body) =
+      While (all_of (expression_code w names condition h.all own)) h.all
+      (all_of (statement_code w result names (in_loop h) (own + length (expression_values w names condition)) body)) ∷ []
+  statement_code w result names h own (Statement.Break at) = leaving_code h.all h.inner ++ (Break ∷ [])
+  statement_code w result names h own (Statement.Continue at) = leaving_code h.all h.inner ++ (Continue ∷ [])
+  statement_code w result names h own (Statement.Return at None) = leaving_code h.all h.all ++ (Return [] ∷ [])
+  statement_code w result names h own (Statement.Return at (Some e)) =
+      expression_code w names e h.all own ++
+      (conversion_code result (static_shape w names e) h.all ++ (leaving_code h.all h.all ++ (Return (results_in result h.all) ∷ [])))
+  statement_code w result names h own _ = []
 
   -- the items of a block; the next local has the first number, and the next unnamed value the second
-  pub items_code : World → Shape → List Named → (index own : ℕ) → BlockItems → List core.Statement
-  items_code w result names index own NoItems = []
-  items_code w result names index own (Declare d others) =
-      declaration_code w names d index own ++
-      items_code w result (named_here (tree.local_of d).text (local_shape d) index ∷ names) (suc index)
-      (own + length (declaration_values w names d)) others
-  items_code w result names index own (Execute s others) =
-      statement_code w result names own s ++ items_code w result names index (own + length (statement_values w names s)) others
+  pub items_code : World → Shape → List Named → RegionsAround → (index own : ℕ) → BlockItems → List core.Statement
+  items_code w result names h index own NoItems = []
+  items_code w result names h index own (Declare d others) =
+      declaration_code w names d h.all index own ++
+      (items_code w result (named_here (tree.local_of d).text (local_shape d) index ∷ names) (regions_with d h) (suc index)
+      (own + length (declaration_values w names d)) others ++ ending_code d h.all)
+  items_code w result names h index own (Execute s others) =
+      statement_code w result names h own s ++ items_code w result names h index (own + length (statement_values w names s)) others
 
 -- ---- functions
 
@@ -202,10 +250,10 @@ abbrev pub body_code : World → Routine → Statements
 body_code w f =
     MoreStatements
     (Block (locals_of w (part_shapes f.parameters ++ block_shapes f.body))
-    (all_of (parameters_code f.parameters 0 ++ items_code w f.result (parameter_names f.parameters 0 []) (length f.parameters) 0 f.body)))
+    (all_of (parameters_code f.parameters 0 ++ items_code w f.result (parameter_names f.parameters 0 []) no_regions (length f.parameters) 0 f.body)))
     (all_of (end_code f.result))
 
--- the structs that a function makes or reads whole
+-- the structs that a function makes or reads whole, its unnamed values
 abbrev pub routine_values : World → Routine → List Shape
 routine_values w f = item_values w (parameter_names f.parameters 0 []) (length f.parameters) f.body
 

@@ -5,7 +5,7 @@ use Rattle.cyc_tree.specs.Tree.{Expression, Expressions, NoExpressions, MoreExpr
 use Rattle.cyc_tree.specs.Tree.{Made, One, Array}
 use Rattle.cyc_parser.specs.Phrases.{Tokens, InParentheses}
 use Rattle.cyc_parser.specs.ExpressionGrammar.{level_of, IsExpression, AreArguments, AreOperands, AreLinks, AreSuffixes, IsMade}
-use Rattle.source_lowering.specs.Bounds.{nodes_of, all_nodes, joined_nodes, link_nodes, suffix_nodes}
+use Rattle.source_lowering.specs.Bounds.{nodes_of, made_nodes, all_nodes, joined_nodes, link_nodes, suffix_nodes}
 use Rattle.spelled_programs.proofs.Shorter.{one_taken, keyword_taken, sign_taken, name_taken, string_taken, none_taken}
 
 -- a phrase takes at least so many tokens
@@ -66,13 +66,13 @@ mutual
   expression_size (Expression.Suffixed primary (Arrow member others)) from to (a, level, first, (b, c, sign, name, are)) =
       omega (arith, expression_size primary from a first, sign_taken sign, name_taken name, suffixes_size others c to are)
   expression_size (Expression.Prefixed at operator operand) from to (a, level, sign, is) = omega (arith, one_taken sign, expression_size operand a to is)
-  expression_size (Expression.New at made) from to (a, word, is) = omega (arith, one_taken word, made_shorter made a to is)
+  expression_size (Expression.New at made) from to (a, word, is) = omega (arith, one_taken word, made_size made a to is)
   expression_size (Expression.NewIn at handle made) from to (a, b, word, is, of) =
       omega (
         arith,
         one_taken word,
         in_parentheses (nodes_of handle) (IsExpression handle) (expression_size handle) a b is,
-        made_shorter made b to of,
+        made_size made b to of,
       )
   expression_size (Expression.Chain first links) from to is =
       let (a, level, leads, are) = chained first links from to is in
@@ -108,9 +108,9 @@ mutual
   suffixes_size (Dot member others) from to (a, b, sign, name, are) = omega (arith, sign_taken sign, name_taken name, suffixes_size others b to are)
   suffixes_size (Arrow member others) from to (a, b, sign, name, are) = omega (arith, sign_taken sign, name_taken name, suffixes_size others b to are)
 
-  made_shorter : (made : Made) (from to : Tokens) → IsMade made from to → length to ≤ length from
-  made_shorter (One value) from to (level, is) = omega (arith, expression_size value from to is)
-  made_shorter (Array index count element) from to (a, b, c, d, e, f, g, opened, word, name, less, counted, colon, each, closed) =
+  made_size : (made : Made) (from to : Tokens) → IsMade made from to → Takes (made_nodes made) from to
+  made_size (One value) from to (level, is) = omega (arith, expression_size value from to is)
+  made_size (Array index count element) from to (a, b, c, d, e, f, g, opened, word, name, less, counted, colon, each, closed) =
       omega (
         arith,
         sign_taken opened,

@@ -8,7 +8,7 @@ use Rattle.source_typing.specs.Programs.{tables_of}
 use Rattle.source_typing.specs.Scope.{Env}
 use Rattle.source_typing.specs.Tables.{Tables}
 use Rattle.source_typing.specs.Taken.{Taken, function_taken, item_taken, only_taken}
-use Rattle.accepted_sources.specs.Laws.{RegionsHaveNoFlowFaults, StructsHaveNoFlowFaults}
+use Rattle.accepted_sources.specs.Laws.{RegionsHaveNoFlowFaults}
 use Rattle.accepted_sources.proofs.CopiedHeads.{body_kept, tables_known}
 use Rattle.accepted_sources.proofs.CopiedNames.{AreNoOtherValues}
 use Rattle.accepted_sources.proofs.CopiedWritten.{copied_forms}
@@ -38,6 +38,3 @@ no_flow_faults b p = items_flow b (tables_of false (only_taken (k b) p)) 0 p (ta
 
 pub regions_have_no_flow_faults : RegionsHaveNoFlowFaults
 regions_have_no_flow_faults p = no_flow_faults true p
-
-pub structs_have_no_flow_faults : StructsHaveNoFlowFaults
-structs_have_no_flow_faults p = no_flow_faults false p

@@ -2,13 +2,9 @@
 use Rattle.std.specs.Prelude.{◌≡◌, []}
 use Rattle.cyc_tree.specs.Tree.{Program}
 use Rattle.source_typing.specs.Left.{flow_faults}
-use Rattle.source_typing.specs.Taken.{only_taken, region_structures, with_regions}
+use Rattle.source_typing.specs.Taken.{only_taken, with_regions}
 
 -- Each form that isn't taken stands as one that is at fault. Then flow finds no fault in any program, also where other rules do: no value of an integer, a
 -- thin pointer, a handle or a struct of such is moved, whatever the regions.
 abbrev pub RegionsHaveNoFlowFaults : Type 0
 RegionsHaveNoFlowFaults = (p : Program) → flow_faults (only_taken with_regions p) ≡ []
-
--- nor where the heap and lexical regions aren't taken
-abbrev pub StructsHaveNoFlowFaults : Type 0
-StructsHaveNoFlowFaults = (p : Program) → flow_faults (only_taken region_structures p) ≡ []

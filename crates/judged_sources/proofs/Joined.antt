@@ -4,10 +4,9 @@ use Rattle.cyc_tree.specs.Tree.{Program}
 use Rattle.source_meaning.specs.Programs.{world_of}
 use Rattle.source_typing.specs.Answers.{program_faults}
 use Rattle.source_typing.specs.Programs.{tables_of}
-use Rattle.source_typing.specs.Taken.{supported}
+use Rattle.accepted_sources.specs.Supported.{supported}
 use Rattle.judged_sources.specs.Good.{BodiesJudged}
-use Rattle.judged_sources.specs.Laws.{AcceptedAreJudged, AcceptedAreLowerable, AcceptedAreNeverStuck, AcceptedHaveMain, RegionsAreJudged}
-use Rattle.judged_sources.specs.Laws.{RegionsAreNeverStuck}
+use Rattle.judged_sources.specs.Laws.{AcceptedAreJudged, AcceptedAreLowerable, AcceptedAreNeverStuck, AcceptedHaveMain}
 use Rattle.judged_sources.proofs.GoodBodies.{bodies_judged}
 use Rattle.judged_sources.proofs.GoodExpressions.{expressions_judged}
 use Rattle.judged_sources.proofs.LoweredPrograms as lowered
@@ -18,22 +17,16 @@ bodies : BodiesJudged
 bodies = bodies_judged expressions_judged
 
 pub judged : AcceptedAreJudged
-judged = programs.structs_judged bodies
-
-pub with_regions_judged : RegionsAreJudged
-with_regions_judged = programs.regions_judged bodies
-
-pub with_regions_never_stuck : RegionsAreNeverStuck
-with_regions_never_stuck = programs.regions_never_stuck bodies
+judged = programs.programs_judged bodies
 
 pub lowerable : AcceptedAreLowerable
-lowerable = lowered.structs_lowerable bodies
+lowerable = lowered.programs_lowerable bodies
 
 pub sized : (p : Program) → program_faults supported p ≡ [] → AreSized (world_of p) (tables_of false p) 0 p
-sized = lowered.sized bodies
+sized = lowered.programs_sized bodies
 
 pub never_stuck : AcceptedAreNeverStuck
-never_stuck = programs.structs_never_stuck bodies
+never_stuck = programs.programs_never_stuck bodies
 
 pub have_main : AcceptedHaveMain
-have_main = programs.structs_have_main bodies
+have_main = programs.programs_have_main bodies

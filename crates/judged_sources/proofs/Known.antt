@@ -1,4 +1,4 @@
--- Shapes of the values of a program of integers, thin pointers and structs: each struct in them, behind pointers too, is one of the program's.
+-- Shapes of the values of a program of integers, thin pointers, structs and handles: each struct in them, behind pointers too, is one of the program's.
 use Rattle.std.proofs.Common.{◌≡◌, true, List, refl}
 use Rattle.source_lowering.specs.Lowerable.{IsNoStruct, IsObject, IsTarget}
 use Rattle.source_meaning.specs.Shapes.{
@@ -40,7 +40,7 @@ use Rattle.source_typing.specs.Types.{
 
 -- ---- shapes
 
--- an integer, a struct of the program, or a shared thin pointer to these
+-- an integer, a struct of the program, a handle, or a shared thin pointer to these
 abbrev pub IsKnown : List Layout → Shape → Type 0
 IsKnown structs IntShape = Unit {0}
 IsKnown structs UnsignedShape = Unit {0}
@@ -48,7 +48,7 @@ IsKnown structs CharShape = Unit {0}
 IsKnown structs VoidShape = ⊥
 IsKnown structs (ThinShape may_be_null owner to) = (owner ≡ Shared) × IsKnown structs to
 IsKnown structs (FatShape to) = ⊥
-IsKnown structs HandleShape = ⊥
+IsKnown structs HandleShape = Unit {0}
 IsKnown structs KeyShape = ⊥
 IsKnown structs (StructShape tag) = (has_tag structs tag ≡ true)
 IsKnown structs (UnionShape tag) = ⊥
@@ -59,6 +59,7 @@ known_target structs IntShape h = tt
 known_target structs UnsignedShape h = tt
 known_target structs CharShape h = tt
 known_target structs (ThinShape may_be_null owner to) h = (h.0, known_target structs to h.1)
+known_target structs HandleShape h = tt
 known_target structs (StructShape tag) h = tt
 known_target structs _ h = absurd h
 
@@ -67,6 +68,7 @@ known_object structs IntShape h = tt
 known_object structs UnsignedShape h = tt
 known_object structs CharShape h = tt
 known_object structs (ThinShape may_be_null owner to) h = (h.0, known_target structs to h.1)
+known_object structs HandleShape h = tt
 known_object structs (StructShape tag) h = h
 known_object structs _ h = absurd h
 

@@ -16,7 +16,7 @@ use Rattle.source_typing.specs.Programs.{Judged, bare_entry, bare_from, builtins
 use Rattle.source_typing.specs.Scope.{Env}
 use Rattle.source_typing.specs.Tables.{Entry, Named, OfBuiltin, OfFunction, OfOther, OfTag, OfValue, Part, Tables, Tag, find}
 use Rattle.source_typing.specs.Tags.{member_faults, member_fitting, member_type, settled_alone, tag_parts, tag_scope}
-use Rattle.source_typing.specs.Taken.{region_structures}
+use Rattle.source_typing.specs.Taken.{with_regions}
 use Rattle.source_typing.specs.Types.{Char, Handle, Int, StaticType, Struct, Thin, Unsigned, shape_of}
 use Rattle.source_typing.specs.Verdicts.{after, faults_of}
 use Rattle.source_typing.specs.Written.{all_found, spots_of}
@@ -26,7 +26,7 @@ use Rattle.judged_sources.proofs.HeadTags.{MeanAlike, TablesAlike, found_alike}
 use Rattle.judged_sources.proofs.LoweredTypes.{IsReached, TagsThere, base_there, reached_target, twice_keeps, type_reached}
 use Rattle.judged_sources.proofs.MemberTypes.{AreMembersTaken, MembersGood, members_are_taken}
 use Rattle.judged_sources.proofs.StructSizes.{AreOnce, MeasuredAlike, later_passed, layouts_both, same_parts, struct_small, structs_are, unions_none}
-use Rattle.judged_sources.proofs.TagOrder.{AreSorted, HasNoHandle, TagClean, builtins_alike}
+use Rattle.judged_sources.proofs.TagOrder.{AreSorted, TagClean, builtins_alike}
 
 -- ---- what members lead to
 
@@ -39,7 +39,7 @@ abbrev pub AllReached : List Layout → List Layout → Type 0
 AllReached structs [] = Unit {0}
 AllReached structs (l ∷ ls) = PartsReached structs l.parts × AllReached structs ls
 
-members_reached : (structs : List Layout) (g : Env) (ms : List tree.Member) → TagsThere structs g.tables → AreMembersTaken region_structures ms
+members_reached : (structs : List Layout) (g : Env) (ms : List tree.Member) → TagsThere structs g.tables → AreMembersTaken with_regions ms
     → member_faults g false ms ≡ [] → PartsReached structs (map part_of ms)
 members_reached structs g [] tags e p = tt
 members_reached structs g (m ∷ ms) tags e p =
@@ -82,7 +82,7 @@ member_object ds ls Unsigned k h r = tt
 member_object ds ls Char k h r = tt
 member_object ds ls (Thin n q t) k h r = r
 member_object ds ls (Struct tag rs) k h r = k tag ∙ h
-member_object ds ls (Handle q) k h r = absurd r
+member_object ds ls (Handle q) k h r = tt
 member_object ds ls _ k h r = absurd h
 
 members_objects : (structs : List Layout) (ds : List Declared) (ls : List Layout) (ps : List Part) (qs : List shapes.Part) (ts : List StaticType)
@@ -133,10 +133,10 @@ pub struct_laid : (structs : List Layout) (b h T : Tables) (i : ℕ) (done : Lis
     → second_names seen (tree.StructItem s ∷ is) ≡ [] → ((x : List ℕ) → declares ds x ≡ true → is_seen seen x ≡ true) → AreLaidOut T ds found
     → declares ds s.tag.text ≡ false → TagClean (builtins (entries done ++ first_from h i (tree.StructItem s ∷ is))) i s
     → MembersGood (length s.regions) (tag_scope (builtins (entries done ++ first_from h i (tree.StructItem s ∷ is))) i s) ds s.members
-    → HasNoHandle (tree.StructItem s) → StructsLaid structs (entries done) found
+    → StructsLaid structs (entries done) found
     → StructsLaid structs (entries (done ++ judged_tag (builtins (entries done ++ first_from h i (tree.StructItem s ∷ is))) i (tree.StructItem s) ∷ []))
     (layout_of s ∷ found)
-struct_laid structs b h T i done is seen ds found s there once sorted alike names declared out new clean ms own l = record {
+struct_laid structs b h T i done is seen ds found s there once sorted alike names declared out new clean ms l = record {
   in_order = (
     record {
       new = tags_declared T ds found s.tag.text out ∙ new;
@@ -166,7 +166,7 @@ struct_laid structs b h T i done is seen ds found s there once sorted alike name
 
     reached : PartsReached structs (map part_of s.members)
     reached =
-        members_reached structs (tag_scope g i s) s.members tags (members_are_taken region_structures (tag_scope g i s) s.members own clean.members)
+        members_reached structs (tag_scope g i s) s.members tags (members_are_taken with_regions (tag_scope g i s) s.members sorted.0.members clean.members)
         clean.members
 
     measured : MeasuredAlike ds (layouts_of false g) found

@@ -13,7 +13,6 @@ pub mod TagOrder
 pub mod StructTags
 pub mod StructsFound
 pub mod Heads
-pub mod MoreTaken
 pub mod AlignedTables
 pub mod Constants
 pub mod Globals
@@ -34,9 +33,10 @@ pub mod LoweredForms
 pub mod LoweredCalls
 pub mod LoweredMembers
 pub mod LoweredOperators
-pub mod LoweredExpressions
+pub mod LoweredMakings
 pub mod LoweredTypes
 pub mod LoweredScopes
+pub mod LoweredExpressions
 pub mod LoweredBodies
 pub mod StructSizes
 pub mod LaidStructs

@@ -8,7 +8,7 @@ use Rattle.source_lowering.specs.Lowered.{Named, call_shape, result_shape, stati
 use Rattle.source_lowering.specs.Whole.{makes_struct}
 use Rattle.source_meaning.specs.Calls.{function_of}
 use Rattle.source_meaning.specs.Shapes as shapes
-use Rattle.source_meaning.specs.Shapes.{IntShape, Part, Shape, has_tag, parts_of}
+use Rattle.source_meaning.specs.Shapes.{IntShape, Part, Shape, StructShape, has_tag, parts_of}
 use Rattle.source_meaning.specs.Steps.{World}
 use Rattle.source_typing.specs.Calls.{Target, ToBuiltin, ToFunction, ToStruct, arguments_fit, builtin_parameters}
 use Rattle.source_typing.specs.Calls.{call_entered, called, part_types, target, typed_result}
@@ -59,12 +59,22 @@ makes_one w x a b c =
     ap (λ z. if z then false else (if bytes_eq x (codes "putchar") then false else has_tag w.structs x)) a
     ∙ (ap (λ z. if z then false else has_tag w.structs x) b ∙ c)
 
+-- what another name gives: the struct that it makes, or a function's result
+abbrev called_shape : World → List ℕ → Shape
+called_shape w x = (if has_tag w.structs x then StructShape x else result_shape (function_of w.functions x))
+
 builtin_shape : (w : World) (x : List ℕ) (n : ℕ) → Builtin x n → call_shape w x ≡ IntShape
 builtin_shape w x n (inl z) =
-    ap (λ b. if b then IntShape else (if bytes_eq x (codes "putchar") then IntShape else result_shape (function_of w.functions x))) z.0
+    ap (λ b. if b then IntShape else (if bytes_eq x (codes "putchar") then IntShape else called_shape w x)) z.0
 builtin_shape w x n (inr z) =
-    ap (λ b. if b then IntShape else (if bytes_eq x (codes "putchar") then IntShape else result_shape (function_of w.functions x))) z.0
-    ∙ ap (λ b. if b then IntShape else result_shape (function_of w.functions x)) z.1
+    ap (λ b. if b then IntShape else (if bytes_eq x (codes "putchar") then IntShape else called_shape w x)) z.0
+    ∙ ap (λ b. if b then IntShape else called_shape w x) z.1
+
+struct_shape : (w : World) (x : List ℕ) → bytes_eq x (codes "getchar") ≡ false → bytes_eq x (codes "putchar") ≡ false → has_tag w.structs x ≡ true
+    → call_shape w x ≡ StructShape x
+struct_shape w x a b c =
+    ap (λ z. if z then IntShape else (if bytes_eq x (codes "putchar") then IntShape else called_shape w x)) a
+    ∙ (ap (λ z. if z then IntShape else called_shape w x) b ∙ ap (λ z. if z then StructShape x else result_shape (function_of w.functions x)) c)
 
 module _ (w : World) (names : List Named) where
   -- arguments, one after another
@@ -89,7 +99,7 @@ module _ (w : World) (names : List Named) where
   words_taken g rs (t ∷ ts) (MoreExpressions e es) [] i c a h = absurd h
 
   -- an argument for a member of a type
-  word_member : (s : Shape) (whole word : Type 0) → Rattle.source_lowering.specs.Lowerable.IsNoStruct s → word → TakesMember s whole word
+  pub word_member : (s : Shape) (whole word : Type 0) → Rattle.source_lowering.specs.Lowerable.IsNoStruct s → word → TakesMember s whole word
   word_member (shapes.StructShape tag) whole word h k = absurd h
   word_member shapes.IntShape whole word h k = k
   word_member shapes.UnsignedShape whole word h k = k
@@ -118,7 +128,7 @@ module _ (w : World) (names : List Named) where
   word_or_struct (Union tag rs) h = inl tt
 
   pub struct_taken : (t : StaticType) (e : Expression) → IsStruct t → TakenAs w names t e → TakesWhole w names e
-  struct_taken (Struct tag rs) e h k = k
+  struct_taken (Struct tag rs) e h k = k.takes
   struct_taken _ e h k = absurd h
 
   struct_renamed : (f : Region → Region) (t : StaticType) → IsStruct t → IsStruct (renamed f t)
@@ -174,7 +184,7 @@ module _ (w : World) (names : List Named) where
   given_known f (Thin n r t) h = (h.1.0, subst (λ s. IsKnown w.structs s) (sym (shape_renamed f t)) h.1.1)
   given_known f (Fat r t) h = absurd h.1
   given_known f (Unique n t) h = absurd (let q : shapes.Alone ≡ shapes.Shared = h.1.0 in cc)
-  given_known f (Handle r) h = absurd h.1
+  given_known f (Handle r) h = tt
   given_known f (Key r) h = absurd h.1
   given_known f (Union tag rs) h = absurd h.1
 
@@ -189,7 +199,7 @@ module _ (w : World) (names : List Named) where
   given_value f (Thin n r t) e h k s = record { takes = k; shape = s ∙ sym (shape_renamed f (Thin n r t)) }
   given_value f (Fat r t) e h k s = absurd h.1
   given_value f (Unique n t) e h k s = record { takes = k; shape = s ∙ sym (shape_renamed f (Unique n t)) }
-  given_value f (Handle r) e h k s = absurd h.1
+  given_value f (Handle r) e h k s = record { takes = k; shape = s }
   given_value f (Key r) e h k s = absurd h.1
   given_value f (Union tag rs) e h k s = absurd h.1
 
@@ -247,7 +257,10 @@ module _ (w : World) (names : List Named) where
         let d : Valued v (Struct t.text z.0) = value_of x.at (Struct t.text z.0) v z.2 in
         record {
           known = subst (λ y. IsKnownValue w.structs y) (sym d.type) (subst (λ (y : List ℕ). has_tag w.structs y ≡ true) (sym k.named) k.there);
-          value = subst (λ y. TakenAs w names y (Expression.Call x es)) (sym d.type) (one, made);
+          value = subst (λ y. TakenAs w names y (Expression.Call x es)) (sym d.type) (record {
+            takes = (one, made);
+            shape = struct_shape w x.text k.not_read k.not_written k.there ∙ ap (λ (y : List ℕ). StructShape y) (sym k.named);
+          });
           run = subst (λ b. TakesCalled b (TakesWhole w names (Expression.Call x es)) (Takes w names (Expression.Call x es))) (sym one) (one, made);
           place = λ y. absurd (false≢true (sym (ap (λ (y : Rattle.source_typing.specs.Scope.Seat). is_place y) d.seat) ∙ y));
           outside = λ y. let z : Nowhere ≡ Rattle.source_typing.specs.Scope.InBlock = sym d.seat ∙ y in cc;

@@ -1,9 +1,9 @@
--- Each expression of integers, thin pointers and structs that was judged is taken by lowering, where all is known of each name in scope.
+-- Each expression of integers, thin pointers, structs and lexical regions that was judged is taken by lowering, where all is known of each name in scope.
 use Rattle.std.proofs.Common.{◌≡◌, ℕ, Bool, true, false, Option, Some, None, List, [], ◌∷◌, refl, sym, subst, ap, ◌∙◌}
 use Rattle.std.specs.Prelude.{◌&&◌}
 use Rattle.cyc_tree.specs.declared.expression.Operator.{Operator}
 use Rattle.cyc_tree.specs.Places.{expression_place}
-use Rattle.cyc_tree.specs.Tree.{Expression, Expressions, Links, MoreExpressions, MoreLinks, Name, NoExpressions, NoLinks, NoSuffixes, Suffixes}
+use Rattle.cyc_tree.specs.Tree.{Array, Expression, Expressions, Links, MoreExpressions, MoreLinks, Name, NoExpressions, NoLinks, NoSuffixes, One, Suffixes}
 use Rattle.source_lowering.specs.Lowerable.{TakesAll, TakesLinks}
 use Rattle.source_lowering.specs.Lowered.{Named, linked_shape, static_shape}
 use Rattle.source_meaning.specs.Calls.{number_type}
@@ -15,23 +15,27 @@ use Rattle.source_meaning.specs.Shapes.{Shape}
 use Rattle.source_meaning.specs.Steps.{World}
 use Rattle.source_typing.specs.Expressions.{judge, judge_all, judge_links, judge_suffixes, judge_tests}
 use Rattle.source_typing.specs.Fixing.{more}
+use Rattle.source_typing.specs.Making.{Goal, To, goal_of, handled, inside, made}
 use Rattle.source_typing.specs.Operators.{applied, tested_both}
 use Rattle.source_typing.specs.Places.{grouped, variable}
+use Rattle.source_typing.specs.Regions.{TheHeap}
 use Rattle.source_typing.specs.Scope.{Env, In, InBlock, Nowhere, Value, meant, value}
 use Rattle.source_typing.specs.Tables.{Arrayed, Counter, Entry, OfBuiltin, OfFunction, OfOther, OfTag, OfValue, Stored, Unknown}
-use Rattle.source_typing.specs.Taken.{all_taken, are_suffixed, if_taken, links_taken, region_structures, suffixes_taken, taken, takes_handle}
-use Rattle.source_typing.specs.Taken.{takes_made, takes_suffixes}
-use Rattle.source_typing.specs.Taken.{made_taken}
-use Rattle.source_typing.specs.Types.{Char, Int, Null, integer_type, is_testable, shape_of}
+use Rattle.source_typing.specs.Taken.{all_taken, are_suffixed, if_taken, links_taken, made_taken, suffixes_taken, taken, takes_handle, takes_suffixes}
+use Rattle.source_typing.specs.Taken.{with_regions}
+use Rattle.source_typing.specs.Types.{Char, Handle, Int, Null, integer_type, is_testable, shape_of}
 use Rattle.source_typing.specs.Verdicts.{Of, Verdict, after, both, if_fits, other_kind}
-use Rattle.source_typing.proofs.Inversion.{after_is, assign_is, both_is, call_is, links_first, of_is, prefix_is, suffixes_first, tests_first}
+use Rattle.source_typing.proofs.Inversion.{after_is, assign_is, both_is, call_is, goal_is, links_first, of_is, prefix_is, suffixes_first, tests_first}
 use Rattle.source_typing.proofs.OperatorsFit.{applied_to_is, tested_both_is}
+use Rattle.source_safety.proofs.Makings.{Handled, handled_is}
 use Rattle.source_safety.proofs.WordRules.{Valued, value_of}
 use Rattle.judged_sources.proofs.Known.{IsKnownValue, IsWord, known_value, testable_word}
 use Rattle.judged_sources.proofs.LoweredForms.{IsKnownScope, IsTaken, TakenWord, taken_grouped, taken_place, taken_word, word_is}
 use Rattle.judged_sources.proofs.LoweredCalls.{AllTaken, call_taken}
+use Rattle.judged_sources.proofs.LoweredMakings.{making_taken}
 use Rattle.judged_sources.proofs.LoweredMembers.{suffixed_taken}
 use Rattle.judged_sources.proofs.LoweredOperators.{AreJoined, applied_seat, are_joined, assign_taken, no_place, prefixed_taken}
+use Rattle.judged_sources.proofs.LoweredScopes.{scope_inside}
 
 number_shape : (i : IntegerType) → integer_shape i ≡ shape_of (integer_type i)
 number_shape AsInt = refl
@@ -60,17 +64,36 @@ both_seat a b v e = by (is_testable a.type && is_testable b.type) e
     by false q = absurd cc
 
 -- a form with suffixes that is taken has some
-some_suffix : (es : Suffixes) → are_suffixed es && takes_suffixes region_structures es ≡ true → es ≡ NoSuffixes → ⊥
+some_suffix : (es : Suffixes) → are_suffixed es && takes_suffixes with_regions es ≡ true → es ≡ NoSuffixes → ⊥
 some_suffix NoSuffixes q z = cc
 some_suffix (Rattle.cyc_tree.specs.Tree.Index x others) q z = cc
 some_suffix (Rattle.cyc_tree.specs.Tree.Dot f others) q z = cc
 some_suffix (Rattle.cyc_tree.specs.Tree.Arrow f others) q z = cc
 
-suffixes_kept : (e : Expression) (es : Suffixes) (b : Bool) → are_suffixed es && takes_suffixes region_structures es ≡ b
-    → if_taken b (expression_place e) (Expression.Suffixed (taken region_structures e) (suffixes_taken region_structures es)) ≡ Expression.Suffixed e es
+suffixes_kept : (e : Expression) (es : Suffixes) (b : Bool) → are_suffixed es && takes_suffixes with_regions es ≡ b
+    → if_taken b (expression_place e) (Expression.Suffixed (taken with_regions e) (suffixes_taken with_regions es)) ≡ Expression.Suffixed e es
     → b ≡ true
 suffixes_kept e es true q t = refl
 suffixes_kept e es false q t = absurd cc
+
+-- a making in the region of a handle that is taken: none in the unique region, and none of an array
+record HandleKept (h e : Expression) : Type 0 where
+  shared : is_unique_region h ≡ false
+  handle : taken with_regions h ≡ h
+  value : taken with_regions e ≡ e
+
+handle_kept : (at : ℕ) (h e : Expression) (b : Bool) → is_unique_region h ≡ b
+    → if_taken (takes_handle with_regions b && true) at (Expression.NewIn at (taken with_regions h) (One (taken with_regions e)))
+    ≡ Expression.NewIn at h (One e) → HandleKept h e
+handle_kept at h e true q t = absurd cc
+handle_kept at h e false q t =
+    let i : taken with_regions h ≡ h = cc in let j : taken with_regions e ≡ e = cc in record { shared = q; handle = i; value = j }
+
+no_array : (at : ℕ) (h : Expression) (x : Name) (n e : Expression) (b : Bool)
+    → if_taken (takes_handle with_regions b && false) at (Expression.NewIn at (taken with_regions h) (made_taken with_regions (Array x n e)))
+    ≡ Expression.NewIn at h (Array x n e) → ⊥
+no_array at h x n e true t = cc
+no_array at h x n e false t = cc
 
 module _ (w : World) (names : List Named) (g : Env) (scope : IsKnownScope w names g) where
   abbrev Is : Expression → Value → Type 0
@@ -91,6 +114,16 @@ module _ (w : World) (names : List Named) (g : Env) (scope : IsKnownScope w name
   variable_taken x (Some (OfFunction s)) v q e = absurd (no_kind s.sound x.at v e)
   variable_taken x (Some (OfBuiltin n)) v q e = absurd cc
   variable_taken x (Some OfOther) v q e = absurd cc
+
+  -- ---- makings
+
+  made_in_taken : (at : ℕ) (h e : Expression) → is_unique_region h ≡ false → (x : Goal) (y a v : Value) → handled g y ≡ Of x → Is h y → Is e a
+      → made at x a ≡ Of v → Is (Expression.NewIn at h (One e)) v
+  made_in_taken at h e shared x y a v q k i p =
+      let d : Handled g y.type x = handled_is g y.at at y.type x a v q p in
+      let handle : TakenWord w names h y.type = word_is w names y.type h (subst (λ u. IsWord u) (sym d.is) tt) k.value in
+      making_taken w names (Expression.NewIn at h (One e)) at d.region e a v i (subst (λ (z : Goal). made at z a ≡ Of v) d.goal p)
+      (λ n. (shared, (handle.takes, n))) refl (λ z. z)
 
   -- ---- several operands
 
@@ -186,124 +219,142 @@ module _ (w : World) (names : List Named) (g : Env) (scope : IsKnownScope w name
   known_first : (a x : Value) (e : Expression) → Is e a → Of a ≡ Of x → IsKnownValue w.structs x.type
   known_first a x e h q = subst (λ (y : Value). IsKnownValue w.structs y.type) (of_is a x q) h.known
 
-  -- ---- all of them
+  links_whole : (e : Expression) (es : Links) (a v : Value) → Is e a → Joined es (judge g e) v → judge g e ≡ Of a → Is (Expression.Chain e es) v
+  links_whole e es a v h k p =
+      let z : a ≡ k.first = of_is a k.first (sym p ∙ k.is) in
+      let s : TakenWord w names e a.type = word_is w names a.type e (subst (λ (x : Value). IsWord x.type) (sym z) k.first_word) h.value in
+      taken_word w names (Expression.Chain e es) v v.type refl (no_place v k.seat) k.word k.known
+      (record { takes = (s.takes, k.takes); shape = k.shape (static_shape w names e) (s.shape ∙ ap (λ (x : Value). shape_of x.type) z) }) (λ x. x)
 
+-- ---- all of them
+
+module _ (w : World) (names : List Named) where
   mutual
-    pub taken_is : (e : Expression) (v : Value) → taken region_structures e ≡ e → judge g e ≡ Of v → Is e v
-    taken_is (Expression.Number at n suffix) v t p =
+    pub taken_is : (g : Env) (scope : IsKnownScope w names g) (e : Expression) (v : Value) → taken with_regions e ≡ e → judge g e ≡ Of v → IsTaken w names e v
+    taken_is g scope (Expression.Number at n suffix) v t p =
         let i : IntegerType = number_type n suffix in
         let d : Valued v (integer_type i) = value_of at (integer_type i) v p in
         taken_word w names (Expression.Number at n suffix) v (integer_type i) d.type (no_place v d.seat) (number_word i) (number_known w.structs i)
         (record { takes = tt; shape = number_shape i }) (λ z. z)
-    taken_is (Expression.Character at byte) v t p =
+    taken_is g scope (Expression.Character at byte) v t p =
         let d : Valued v Char = value_of at Char v p in
         taken_word w names (Expression.Character at byte) v Char d.type (no_place v d.seat) tt tt (record { takes = tt; shape = refl }) (λ z. z)
-    taken_is (Expression.Text at bytes) v t p = absurd cc
-    taken_is (Expression.Null at) v t p =
+    taken_is g scope (Expression.Text at bytes) v t p = absurd cc
+    taken_is g scope (Expression.Null at) v t p =
         let d : Valued v Null = value_of at Null v p in
         taken_word w names (Expression.Null at) v Null d.type (no_place v d.seat) tt tt (record { takes = tt; shape = refl }) (λ z. z)
-    taken_is (Expression.HeapRegion at) v t p = absurd cc
-    taken_is (Expression.UniqueRegion at) v t p = absurd cc
-    taken_is (Expression.Variable x) v t p = variable_taken x (meant g x.text) v refl p
-    taken_is (Expression.Call x es) v t p =
-        let i : all_taken region_structures es ≡ es = cc in
+    taken_is g scope (Expression.HeapRegion at) v t p =
+        let d : Valued v (Handle TheHeap) = value_of at (Handle TheHeap) v p in
+        taken_word w names (Expression.HeapRegion at) v (Handle TheHeap) d.type (no_place v d.seat) tt tt (record { takes = tt; shape = refl }) (λ z. z)
+    taken_is g scope (Expression.UniqueRegion at) v t p = absurd cc
+    taken_is g scope (Expression.Variable x) v t p = variable_taken w names g scope x (meant g x.text) v refl p
+    taken_is g scope (Expression.Call x es) v t p =
+        let i : all_taken with_regions es ≡ es = cc in
         let z = call_is g x es v p in
-        call_taken w names g x es (meant g x.text) z.0 z.1 v (λ e q. scope.entries x.text e q) z.2 (all_are es z.1 i z.3) z.4
-    taken_is (Expression.MakeUnion tag f e) v t p = absurd cc
-    taken_is (Expression.NumElts at e) v t p = absurd cc
-    taken_is (Expression.Grouped at e) v t p =
-        let i : taken region_structures e ≡ e = cc in
+        call_taken w names g x es (meant g x.text) z.0 z.1 v (λ e q. scope.entries x.text e q) z.2 (all_are g scope es z.1 i z.3) z.4
+    taken_is g scope (Expression.MakeUnion tag f e) v t p = absurd cc
+    taken_is g scope (Expression.NumElts at e) v t p = absurd cc
+    taken_is g scope (Expression.Grouped at e) v t p =
+        let i : taken with_regions e ≡ e = cc in
         let z = after_is (judge g e) (grouped at) v p in
-        subst (λ (y : Value). Is (Expression.Grouped at e) y) (of_is (record { at = at; type = z.0.type; seat = z.0.seat }) v z.2)
-        (taken_grouped w names at e z.0 (taken_is e z.0 i z.1))
-    taken_is (Expression.Suffixed e es) v t p =
-        let inside : Expression = Expression.Suffixed (taken region_structures e) (suffixes_taken region_structures es) in
-        let q : are_suffixed es && takes_suffixes region_structures es ≡ true =
-        suffixes_kept e es (are_suffixed es && takes_suffixes region_structures es) refl t in
-        let u : if_taken true (expression_place e) inside ≡ Expression.Suffixed e es =
-        subst (λ b. if_taken b (expression_place e) inside ≡ Expression.Suffixed e es) q t in
-        let i : taken region_structures e ≡ e = cc in
+        subst (λ (y : Value). IsTaken w names (Expression.Grouped at e) y) (of_is (record { at = at; type = z.0.type; seat = z.0.seat }) v z.2)
+        (taken_grouped w names at e z.0 (taken_is g scope e z.0 i z.1))
+    taken_is g scope (Expression.Suffixed e es) v t p =
+        let kept : Expression = Expression.Suffixed (taken with_regions e) (suffixes_taken with_regions es) in
+        let q : are_suffixed es && takes_suffixes with_regions es ≡ true =
+        suffixes_kept e es (are_suffixed es && takes_suffixes with_regions es) refl t in
+        let u : if_taken true (expression_place e) kept ≡ Expression.Suffixed e es =
+        subst (λ b. if_taken b (expression_place e) kept ≡ Expression.Suffixed e es) q t in
+        let i : taken with_regions e ≡ e = cc in
         let z = suffixes_first g (judge g e) es v p in
-        suffixed_taken w names g scope e es z.0 v (taken_is e z.0 i z.1) (subst (λ (y : Verdict Value). judge_suffixes g y es ≡ Of v) z.1 p) (some_suffix es q)
-    taken_is (Expression.Prefixed at o e) v t p =
-        let i : taken region_structures e ≡ e = by o t in
+        suffixed_taken w names g scope e es z.0 v (taken_is g scope e z.0 i z.1)
+        (subst (λ (y : Verdict Value). judge_suffixes g y es ≡ Of v) z.1 p) (some_suffix es q)
+    taken_is g scope (Expression.Prefixed at o e) v t p =
+        let i : taken with_regions e ≡ e = by o t in
         let z = prefix_is g at o e v p in
-        prefixed_taken w names g at o e z.0 v (taken_is e z.0 i z.1) z.2
+        prefixed_taken w names g at o e z.0 v (taken_is g scope e z.0 i z.1) z.2
       where
-        by : (o : Rattle.cyc_tree.specs.declared.expression.Prefix.Prefix) → taken region_structures (Expression.Prefixed at o e) ≡ Expression.Prefixed at o e
-            → taken region_structures e ≡ e
+        by : (o : Rattle.cyc_tree.specs.declared.expression.Prefix.Prefix) → taken with_regions (Expression.Prefixed at o e) ≡ Expression.Prefixed at o e
+            → taken with_regions e ≡ e
         by Rattle.cyc_tree.specs.declared.expression.Prefix.TheVariants.Negate t = cc
         by Rattle.cyc_tree.specs.declared.expression.Prefix.TheVariants.Complement t = cc
         by Rattle.cyc_tree.specs.declared.expression.Prefix.TheVariants.Not t = cc
         by Rattle.cyc_tree.specs.declared.expression.Prefix.TheVariants.Dereference t = cc
         by Rattle.cyc_tree.specs.declared.expression.Prefix.TheVariants.AddressOf t = cc
-    taken_is (Expression.New at new) v t p = absurd cc
-    taken_is (Expression.NewIn at h new) v t p = absurd (by (is_unique_region h) (takes_made region_structures new) t)
-      where
-        by : (b c : Bool)
-            → if_taken (takes_handle region_structures b && c) at (Expression.NewIn at (taken region_structures h) (made_taken region_structures new))
-            ≡ Expression.NewIn at h new → ⊥
-        by true c t = cc
-        by false c t = cc
-    taken_is (Expression.Chain e NoLinks) v t p = absurd cc
-    taken_is (Expression.Chain e (MoreLinks o y es)) v t p =
-        let i : taken region_structures e ≡ e = cc in
-        let j : links_taken region_structures (MoreLinks o y es) ≡ MoreLinks o y es = cc in
+    taken_is g scope (Expression.New at (One e)) v t p =
+        let i : taken with_regions e ≡ e = cc in
+        let z = goal_is at (Of (To TheHeap)) (judge g e) (made at) v p in
+        making_taken w names (Expression.New at (One e)) at TheHeap e z.1 v (taken_is g scope e z.1 i z.3)
+        (subst (λ (y : Goal). made at y z.1 ≡ Of v) (sym (of_is (To TheHeap) z.0 z.2)) z.4) (λ y. y) refl (λ y. y)
+    taken_is g scope (Expression.New at (Array x n e)) v t p = absurd cc
+    taken_is g scope (Expression.NewIn at h (One e)) v t p =
+        let own : HandleKept h e = handle_kept at h e (is_unique_region h) refl t in
+        let goal : Verdict Goal = goal_of (is_unique_region h) g (judge g h) in
+        let z = goal_is at goal (judge (inside goal g) e) (made at) v p in
+        let y = after_is (judge g h) (handled g) z.0 (subst (λ b. goal_of b g (judge g h) ≡ Of z.0) own.shared z.2) in
+        made_in_taken w names g scope at h e own.shared z.0 y.0 z.1 v y.2 (taken_is g scope h y.0 own.handle y.1)
+        (taken_is (inside goal g) (scope_inside w names goal g scope) e z.1 own.value z.3) z.4
+    taken_is g scope (Expression.NewIn at h (Array x n e)) v t p = absurd (no_array at h x n e (is_unique_region h) t)
+    taken_is g scope (Expression.Chain e NoLinks) v t p = absurd cc
+    taken_is g scope (Expression.Chain e (MoreLinks o y es)) v t p =
+        let i : taken with_regions e ≡ e = cc in
+        let j : links_taken with_regions (MoreLinks o y es) ≡ MoreLinks o y es = cc in
         let f = links_first g (judge g e) (MoreLinks o y es) v p in
-        let h : Is e f.0 = taken_is e f.0 i f.1 in
-        let k : Joined (MoreLinks o y es) (judge g e) v = links_are (MoreLinks o y es) (judge g e) v j (λ x q. known_first f.0 x e h (sym f.1 ∙ q)) p in
-        let z : f.0 ≡ k.first = of_is f.0 k.first (sym f.1 ∙ k.is) in
-        let s : TakenWord w names e f.0.type = word_is w names f.0.type e (subst (λ (x : Value). IsWord x.type) (sym z) k.first_word) h.value in
-        taken_word w names (Expression.Chain e (MoreLinks o y es)) v v.type refl (no_place v k.seat) k.word k.known
-        (record { takes = (s.takes, k.takes); shape = k.shape (static_shape w names e) (s.shape ∙ ap (λ (x : Value). shape_of x.type) z) }) (λ x. x)
-    taken_is (Expression.AllOf e NoExpressions) v t p = absurd cc
-    taken_is (Expression.AllOf e (MoreExpressions y es)) v t p =
-        let i : taken region_structures e ≡ e = cc in
-        let j : all_taken region_structures (MoreExpressions y es) ≡ MoreExpressions y es = cc in
+        let h : IsTaken w names e f.0 = taken_is g scope e f.0 i f.1 in
+        links_whole w names g scope e (MoreLinks o y es) f.0 v h
+        (links_are g scope (MoreLinks o y es) (judge g e) v j (λ x q. known_first w names g scope f.0 x e h (sym f.1 ∙ q)) p) f.1
+    taken_is g scope (Expression.AllOf e NoExpressions) v t p = absurd cc
+    taken_is g scope (Expression.AllOf e (MoreExpressions y es)) v t p =
+        let i : taken with_regions e ≡ e = cc in
+        let j : all_taken with_regions (MoreExpressions y es) ≡ MoreExpressions y es = cc in
         let f = tests_first g (judge g e) (MoreExpressions y es) v p in
-        tests_whole (Expression.AllOf e (MoreExpressions y es)) e (MoreExpressions y es) f.0 v (taken_is e f.0 i f.1)
-        (tests_are (MoreExpressions y es) (judge g e) v j p) f.1 (λ z. record { takes = z; shape = refl }) (λ z. z)
-    taken_is (Expression.AnyOf e NoExpressions) v t p = absurd cc
-    taken_is (Expression.AnyOf e (MoreExpressions y es)) v t p =
-        let i : taken region_structures e ≡ e = cc in
-        let j : all_taken region_structures (MoreExpressions y es) ≡ MoreExpressions y es = cc in
+        tests_whole w names g scope (Expression.AllOf e (MoreExpressions y es)) e (MoreExpressions y es) f.0 v (taken_is g scope e f.0 i f.1)
+        (tests_are g scope (MoreExpressions y es) (judge g e) v j p) f.1 (λ z. record { takes = z; shape = refl }) (λ z. z)
+    taken_is g scope (Expression.AnyOf e NoExpressions) v t p = absurd cc
+    taken_is g scope (Expression.AnyOf e (MoreExpressions y es)) v t p =
+        let i : taken with_regions e ≡ e = cc in
+        let j : all_taken with_regions (MoreExpressions y es) ≡ MoreExpressions y es = cc in
         let f = tests_first g (judge g e) (MoreExpressions y es) v p in
-        tests_whole (Expression.AnyOf e (MoreExpressions y es)) e (MoreExpressions y es) f.0 v (taken_is e f.0 i f.1)
-        (tests_are (MoreExpressions y es) (judge g e) v j p) f.1 (λ z. record { takes = z; shape = refl }) (λ z. z)
-    taken_is (Expression.Assign to from) v t p =
-        let i : taken region_structures to ≡ to = cc in
-        let j : taken region_structures from ≡ from = cc in
+        tests_whole w names g scope (Expression.AnyOf e (MoreExpressions y es)) e (MoreExpressions y es) f.0 v (taken_is g scope e f.0 i f.1)
+        (tests_are g scope (MoreExpressions y es) (judge g e) v j p) f.1 (λ z. record { takes = z; shape = refl }) (λ z. z)
+    taken_is g scope (Expression.Assign to from) v t p =
+        let i : taken with_regions to ≡ to = cc in
+        let j : taken with_regions from ≡ from = cc in
         let z = assign_is g to from v p in
-        assign_taken w names g to from z.0 z.1 v (taken_is to z.0 i z.2) (taken_is from z.1 j z.3) z.4
+        assign_taken w names g to from z.0 z.1 v (taken_is g scope to z.0 i z.2) (taken_is g scope from z.1 j z.3) z.4
 
-    all_are : (es : Expressions) (vs : List Value) → all_taken region_structures es ≡ es → judge_all g es ≡ Of vs → AllTaken w names es vs
-    all_are NoExpressions vs t p = subst (λ (ys : List Value). AllTaken w names NoExpressions ys) (of_is [] vs p) tt
-    all_are (MoreExpressions e es) vs t p =
-        let i : taken region_structures e ≡ e = cc in
-        let j : all_taken region_structures es ≡ es = cc in
+    all_are : (g : Env) (scope : IsKnownScope w names g) (es : Expressions) (vs : List Value) → all_taken with_regions es ≡ es
+        → judge_all g es ≡ Of vs → AllTaken w names es vs
+    all_are g scope NoExpressions vs t p = subst (λ (ys : List Value). AllTaken w names NoExpressions ys) (of_is [] vs p) tt
+    all_are g scope (MoreExpressions e es) vs t p =
+        let i : taken with_regions e ≡ e = cc in
+        let j : all_taken with_regions es ≡ es = cc in
         let z = both_is (judge g e) (judge_all g es) more vs p in
-        subst (λ (ys : List Value). AllTaken w names (MoreExpressions e es) ys) (of_is (z.0 ∷ z.1) vs z.4) (taken_is e z.0 i z.2, all_are es z.1 j z.3)
+        subst (λ (ys : List Value). AllTaken w names (MoreExpressions e es) ys) (of_is (z.0 ∷ z.1) vs z.4)
+        (taken_is g scope e z.0 i z.2, all_are g scope es z.1 j z.3)
 
-    tests_are : (es : Expressions) (a : Verdict Value) (v : Value) → all_taken region_structures es ≡ es → judge_tests g a es ≡ Of v → AreTested es a v
-    tests_are NoExpressions a v t p = p
-    tests_are (MoreExpressions e es) a v t p =
-        let i : taken region_structures e ≡ e = cc in
-        let j : all_taken region_structures es ≡ es = cc in
+    tests_are : (g : Env) (scope : IsKnownScope w names g) (es : Expressions) (a : Verdict Value) (v : Value) → all_taken with_regions es ≡ es
+        → judge_tests g a es ≡ Of v → AreTested w names g scope es a v
+    tests_are g scope NoExpressions a v t p = p
+    tests_are g scope (MoreExpressions e es) a v t p =
+        let i : taken with_regions e ≡ e = cc in
+        let j : all_taken with_regions es ≡ es = cc in
         let b : Verdict Value = both a (judge g e) tested_both in
         let z = tests_first g b es v p in
         let y = both_is a (judge g e) tested_both z.0 z.1 in
-        tested_more e es a y.0 y.1 z.0 v y.2 (taken_is e y.1 i y.3) y.4 z.1 (tests_are es b v j p)
+        tested_more w names g scope e es a y.0 y.1 z.0 v y.2 (taken_is g scope e y.1 i y.3) y.4 z.1 (tests_are g scope es b v j p)
 
-    links_are : (es : Links) (a : Verdict Value) (v : Value) → links_taken region_structures es ≡ es → ((x : Value) → a ≡ Of x → IsKnownValue w.structs x.type)
-        → judge_links g a es ≡ Of v → AreLinked es a v
-    links_are NoLinks a v t n p = p
-    links_are (MoreLinks o e es) a v t n p =
-        let i : taken region_structures e ≡ e = cc in
-        let j : links_taken region_structures es ≡ es = cc in
+    links_are : (g : Env) (scope : IsKnownScope w names g) (es : Links) (a : Verdict Value) (v : Value) → links_taken with_regions es ≡ es
+        → ((x : Value) → a ≡ Of x → IsKnownValue w.structs x.type)
+        → judge_links g a es ≡ Of v → AreLinked w names g scope es a v
+    links_are g scope NoLinks a v t n p = p
+    links_are g scope (MoreLinks o e es) a v t n p =
+        let i : taken with_regions e ≡ e = cc in
+        let j : links_taken with_regions es ≡ es = cc in
         let b : Verdict Value = both a (judge g e) (applied g o) in
         let z = links_first g b es v p in
         let y = both_is a (judge g e) (applied g o) z.0 z.1 in
         let k : IsKnownValue w.structs z.0.type = (are_joined w.structs g o y.0.type y.1.type z.0.type
         (applied_to_is g o y.0.at y.0.type y.1.type z.0 y.4) (n y.0 y.2)).known in
-        linked_more o e es a y.0 y.1 z.0 v y.2 (n y.0 y.2) (taken_is e y.1 i y.3) y.4 z.1
-        (links_are es b v j (λ x q. subst (λ (u : Value). IsKnownValue w.structs u.type) (of_is z.0 x (sym z.1 ∙ q)) k) p)
+        linked_more w names g scope o e es a y.0 y.1 z.0 v y.2 (n y.0 y.2) (taken_is g scope e y.1 i y.3) y.4 z.1
+        (links_are g scope es b v j (λ x q. subst (λ (u : Value). IsKnownValue w.structs u.type) (of_is z.0 x (sym z.1 ∙ q)) k) p)

@@ -112,10 +112,15 @@ module _ (w : World) (names : List Named) where
     pub takes : Takes w names e
     pub shape : static_shape w names e ≡ shape_of t
 
+  -- a struct, of the shape that its type says
+  pub record TakenStruct (e : Expression) (tag : List ℕ) : Type 0 where
+    pub takes : TakesWhole w names e
+    pub shape : static_shape w names e ≡ StructShape tag
+
   -- as a value of a type; `void` has none
   abbrev pub TakenAs : StaticType → Expression → Type 0
   TakenAs Void e = Unit {0}
-  TakenAs (Struct tag rs) e = TakesWhole w names e
+  TakenAs (Struct tag rs) e = TakenStruct e tag
   TakenAs t e = TakenWord e t
 
   pub record TakenPlace (e : Expression) (t : StaticType) : Type 0 where
@@ -197,7 +202,8 @@ module _ (w : World) (names : List Named) where
   place_value : (t : StaticType) (e : Expression) → TakenPlace e t → (IsNoStruct (static_shape w names e) → Takes w names e)
       → (TakesPlace w names e × IsStructShape w.structs (static_shape w names e) → TakesWhole w names e) → TakenAs t e
   place_value Void e p word whole = tt
-  place_value (Struct tag rs) e p word whole = whole (p.takes, struct_there tag p.known (static_shape w names e) p.shape)
+  place_value (Struct tag rs) e p word whole =
+      record { takes = whole (p.takes, struct_there tag p.known (static_shape w names e) p.shape); shape = p.shape }
   place_value Null e p word whole = record { takes = word (subst (λ s. IsNoStruct s) (sym p.shape) tt); shape = p.shape }
   place_value Int e p word whole = record { takes = word (subst (λ s. IsNoStruct s) (sym p.shape) tt); shape = p.shape }
   place_value Unsigned e p word whole = record { takes = word (subst (λ s. IsNoStruct s) (sym p.shape) tt); shape = p.shape }
@@ -205,7 +211,7 @@ module _ (w : World) (names : List Named) where
   place_value (Thin n r t) e p word whole = record { takes = word (subst (λ s. IsNoStruct s) (sym p.shape) tt); shape = p.shape }
   place_value (Fat r t) e p word whole = absurd p.known
   place_value (Unique n t) e p word whole = record { takes = word (subst (λ s. IsNoStruct s) (sym p.shape) tt); shape = p.shape }
-  place_value (Handle r) e p word whole = absurd p.known
+  place_value (Handle r) e p word whole = record { takes = word (subst (λ s. IsNoStruct s) (sym p.shape) tt); shape = p.shape }
   place_value (Key r) e p word whole = absurd p.known
   place_value (Union tag rs) e p word whole = absurd p.known
 
@@ -244,7 +250,7 @@ module _ (w : World) (names : List Named) where
 
   grouped_as : (t : StaticType) (at : ℕ) (e : Expression) → TakenAs t e → TakenAs t (Expression.Grouped at e)
   grouped_as Void at e h = tt
-  grouped_as (Struct tag rs) at e h = h
+  grouped_as (Struct tag rs) at e h = record { takes = h.takes; shape = h.shape }
   grouped_as Null at e h = record { takes = h.takes; shape = h.shape }
   grouped_as Int at e h = record { takes = h.takes; shape = h.shape }
   grouped_as Unsigned at e h = record { takes = h.takes; shape = h.shape }

@@ -16,7 +16,7 @@ use Rattle.source_typing.specs.Globals.{count_of, fitting_global, foreign_names,
 use Rattle.source_typing.specs.Scope.{Env, at_item}
 use Rattle.source_typing.specs.Tables.{Tables}
 use Rattle.source_typing.specs.Tags.{settled_alone}
-use Rattle.source_typing.specs.Taken.{function_taken, item_forms, item_taken, region_structures, takes_type}
+use Rattle.source_typing.specs.Taken.{function_taken, item_forms, item_taken, with_regions, takes_type}
 use Rattle.source_typing.specs.Types.{Char, Fat, Handle, Int, Key, Null, StaticType, Struct, Thin, Union, Unique, Unsigned, Void, is_void, shape_of}
 use Rattle.source_typing.specs.Verdicts.{Faulty, Of, Unjudged, Verdict, after, faults_of, if_fits, known}
 use Rattle.source_typing.specs.Written.{RegionNamed, all_found, spots_of}
@@ -70,7 +70,7 @@ module _ (structs : List Layout) (g : Tables) (tags : TagsThere structs g) where
     pub words : AreWords ts
     pub known : AreKnown structs ts
 
-  parameters_lowered : (vs : Variables) (ms : List tree.Member) (ts : List StaticType) → AreTaken region_structures ms
+  parameters_lowered : (vs : Variables) (ms : List tree.Member) (ts : List StaticType) → AreTaken with_regions ms
       → all_faults (read_parameters g vs ms).types ≡ [] → map known (read_parameters g vs ms).types ≡ map (λ (t : StaticType). Some t) ts
       → part_shapes (map part_of ms) ≡ map (λ (t : StaticType). shape_of t) ts → AreObjects ts → ParametersLowered ms ts
   parameters_lowered vs [] [] k p q s o = record { takes = tt; words = tt; known = tt }
@@ -113,7 +113,7 @@ module _ (structs : List Layout) (g : Tables) (tags : TagsThere structs g) where
     pub takes : TakesResult t
     pub given : IsGiven structs u
 
-  result_lowered : (names : List RegionNamed) (t : TypeName) (u : StaticType) → takes_type region_structures t ≡ true → result_type g names t ≡ Of u → IsPlain u
+  result_lowered : (names : List RegionNamed) (t : TypeName) (u : StaticType) → takes_type with_regions t ≡ true → result_type g names t ≡ Of u → IsPlain u
       → settled (written t) ≡ shape_of u → ResultLowered t u
   result_lowered names t u e q o s =
       let there : BaseThere structs t.base =
@@ -131,12 +131,12 @@ module _ (structs : List Layout) (g : Tables) (tags : TagsThere structs g) where
     pub parameters : ParametersLowered f.parameters k.signature.types
     pub result : ResultLowered f.result k.signature.gives
 
-  pub head_lowered : (f : tree.Function) (k : HeadGood g f) → function_taken region_structures f ≡ f → (head_of false g f).faults ≡ [] → HeadLowered f k
+  pub head_lowered : (f : tree.Function) (k : HeadGood g f) → function_taken with_regions f ≡ f → (head_of false g f).faults ≡ [] → HeadLowered f k
   head_lowered f k t p =
       let ps : Parameters = read_parameters g (variables [] 0) f.parameters in
       let r : Verdict StaticType = result_type g ps.variables_after.names f.result in
       let c : HeadClean g f ps r = head_clean g f p in
-      let h : HeadTaken region_structures f = head_taken region_structures g f t p in
+      let h : HeadTaken with_regions f = head_taken with_regions g f t p in
       record {
         parameters = parameters_lowered (variables [] 0) f.parameters k.signature.types h.parameters c.parameters k.signature.parameters k.shapes
             k.signature.objects;
@@ -147,14 +147,14 @@ module _ (structs : List Layout) (g : Tables) (tags : TagsThere structs g) where
 -- ---- functions
 
 pub function_lowered : (w : World) (g : Tables) (i : ℕ) (f : tree.Function) (k : FunctionGood g i f) → TagsThere w.structs g
-    → function_taken region_structures f ≡ f
+    → function_taken with_regions f ≡ f
     → IsKnownScope w [] (function_scope false g i (head_of false g f)) → TakesFunction w f
 function_lowered w g i f k tags t scope =
     let h : HeadLowered w.structs g tags f k.head = head_lowered w.structs g tags f k.head t k.clean in
     let inside : Env = function_scope false g i (head_of false g f) in
     record {
       result = h.result.takes;
-      main = λ e. int_written f.result (head_taken region_structures g f t k.clean).result
+      main = λ e. int_written f.result (head_taken with_regions g f t k.clean).result
           (k.head.result.shape ∙ ap (λ (u : StaticType). shape_of u) (k.head.main_gives e));
       parameters = h.parameters.takes;
       body = subst (λ (s : Shape). TakesItems w s (parameter_names (map part_of f.parameters) 0 []) (length (map part_of f.parameters)) f.body)
@@ -174,12 +174,12 @@ pub record GlobalLowered (w : World) (x : tree.Global) (u : StaticType) : Type 0
 
 -- by the program's tables `g` it has no fault, and `h` are those by which its type was read
 pub global_lowered : (w : World) (g h : Tables) (i : ℕ) (x : tree.Global) (k : GlobalGood h i x) → TagsThere w.structs g
-    → item_taken region_structures (tree.GlobalItem x) ≡ tree.GlobalItem x → item_forms region_structures (tree.GlobalItem x) ≡ []
+    → item_taken with_regions (tree.GlobalItem x) ≡ tree.GlobalItem x → item_forms with_regions (tree.GlobalItem x) ≡ []
     → global_faults (at_item false g i) x ≡ [] → GlobalLowered w x k.type
 global_lowered w g h i x k tags t f p =
     let s : Env = at_item false g i in
     let names : List RegionNamed = foreign_names (spots_of g x.of) in
-    let e : GlobalTaken region_structures x = global_taken region_structures s x t f p in
+    let e : GlobalTaken with_regions x = global_taken with_regions s x t f p in
     let q = none_of_both (faults_of (global_type s x)) (initial_faults s x.initial (global_type s x)) p in
     let there : BaseThere w.structs x.of.base =
     base_there w.structs g x.of (all_found names (spots_of g x.of))

@@ -305,6 +305,6 @@ module _ (w : World) (names : List Named) where
       by (Thin n r u) z p q t = same (Thin n r u) z p q tt t
       by (Fat r u) z p q t = absurd p.known
       by (Unique n u) z p q t = absurd (let y : shapes.Alone ≡ shapes.Shared = p.known.0 in cc)
-      by (Handle r) z p q t = absurd p.known
+      by (Handle r) z p q t = same (Handle r) z p q tt t
       by (Key r) z p q t = absurd p.known
       by (Union tag rs) z p q t = absurd p.known

@@ -1,4 +1,4 @@
--- Lowering takes each program of integers, thin pointers and structs in which the rules find no fault.
+-- Lowering takes each program of integers, thin pointers, structs, the heap and lexical regions in which the rules find no fault.
 use Rattle.std.proofs.Common.{◌≡◌, ℕ, suc, false, List, [], ◌∷◌, refl, sym, subst, ◌∙◌}
 use Rattle.cyc_tree.specs.Tree as tree
 use Rattle.cyc_tree.specs.Tree.{Item, Program}
@@ -13,7 +13,8 @@ use Rattle.source_typing.specs.Globals.{global_faults}
 use Rattle.source_typing.specs.Programs.{Judged, builtins, entries, items_from, judged_tags, tables_of}
 use Rattle.source_typing.specs.Scope.{at_item}
 use Rattle.source_typing.specs.Tables.{Tables}
-use Rattle.source_typing.specs.Taken.{constant_forms, function_taken, item_forms, item_taken, only_taken, region_structures, with_regions}
+use Rattle.source_typing.specs.Taken.{constant_forms, function_taken, item_forms, item_taken, only_taken, with_regions}
+use Rattle.accepted_sources.specs.Supported.{supported}
 use Rattle.source_typing.proofs.Inversion.{none_of_both}
 use Rattle.source_typing.proofs.NoStrings.{program_silent}
 use Rattle.judged_sources.specs.Good.{BodiesJudged}
@@ -25,59 +26,50 @@ use Rattle.judged_sources.proofs.LoweredForms.{IsKnownScope}
 use Rattle.judged_sources.proofs.LoweredHeads.{function_lowered, global_lowered}
 use Rattle.judged_sources.proofs.LoweredTables.{AllTypesKnown, entry_known, member_known, types_known}
 use Rattle.judged_sources.proofs.LoweredTypes.{TagsThere}
-use Rattle.judged_sources.proofs.MoreTaken.{faults_more}
 use Rattle.judged_sources.proofs.Programs as programs
 use Rattle.judged_sources.proofs.SizedGlobals.{AreSized, globals_sized}
 use Rattle.judged_sources.proofs.StructsFound.{StructsFound}
-use Rattle.judged_sources.proofs.TagOrder.{HaveNoHandles, no_handles}
 
 -- ---- items
 
 all_lowered : (w : World) (g h : Tables) (i : ℕ) (js : List Judged) (is : List Item) → TagsThere w.structs g
     → ((i : ℕ) (f : tree.Function) → IsKnownScope w [] (function_scope false g i (head_of false g f))) → AllKnown g h i js is
-    → only_taken region_structures is ≡ is → constant_forms region_structures is ≡ [] → items_from false g i is ≡ [] → TakesProgram w is
+    → only_taken with_regions is ≡ is → constant_forms with_regions is ≡ [] → items_from false g i is ≡ [] → TakesProgram w is
 all_lowered w g h i [] [] tags scope k t f p = tt
 all_lowered w g h i [] (x ∷ is) tags scope k t f p = absurd k
 all_lowered w g h i (j ∷ js) [] tags scope k t f p = tt
 all_lowered w g h i (j ∷ js) (tree.StructItem s ∷ is) tags scope k t f p =
-    let b : only_taken region_structures is ≡ is = cc in (tt, all_lowered w g h (suc i) js is tags scope k.1 b f p)
+    let b : only_taken with_regions is ≡ is = cc in (tt, all_lowered w g h (suc i) js is tags scope k.1 b f p)
 all_lowered w g h i (j ∷ js) (tree.UnionItem s ∷ is) tags scope k t f p = absurd k.0
 all_lowered w g h i (j ∷ js) (tree.GlobalItem x ∷ is) tags scope k t f p =
-    let a : item_taken region_structures (tree.GlobalItem x) ≡ tree.GlobalItem x = cc in
-    let b : only_taken region_structures is ≡ is = cc in
-    let c = none_of_both (item_forms region_structures (tree.GlobalItem x)) (constant_forms region_structures is) f in
+    let a : item_taken with_regions (tree.GlobalItem x) ≡ tree.GlobalItem x = cc in
+    let b : only_taken with_regions is ≡ is = cc in
+    let c = none_of_both (item_forms with_regions (tree.GlobalItem x)) (constant_forms with_regions is) f in
     let d = none_of_both (global_faults (at_item false g i) x) (items_from false g (suc i) is) p in
     ((global_lowered w g h i x k.0.1 tags a c.0 d.0).takes, all_lowered w g h (suc i) js is tags scope k.1 b c.1 d.1)
 all_lowered w g h i (j ∷ js) (tree.FunctionItem x ∷ is) tags scope k t f p =
-    let a : function_taken region_structures x ≡ x = cc in
-    let b : only_taken region_structures is ≡ is = cc in
+    let a : function_taken with_regions x ≡ x = cc in
+    let b : only_taken with_regions is ≡ is = cc in
     let d = none_of_both (function_faults false g i x) (items_from false g (suc i) is) p in
     (function_lowered w g i x k.0.good tags a (scope i x), all_lowered w g h (suc i) js is tags scope k.1 b f d.1)
 
 -- ---- a program
 
-module _ (bodies : BodiesJudged) (p : Program) (e : program_faults region_structures p ≡ []) where
+module _ (bodies : BodiesJudged) (p : Program) (e : program_faults with_regions p ≡ []) where
   abbrev tables : Tables
   tables = tables_of false p
 
-  -- the program's forms are taken without regions, and so with them
-  clean : IsClean region_structures p
-  clean = is_clean_program region_structures p e
-
-  with_more : program_faults with_regions p ≡ []
-  with_more = faults_more p e
-
-  plain : HaveNoHandles p
-  plain = no_handles p clean.taken
+  clean : IsClean with_regions p
+  clean = is_clean_program with_regions p e
 
   found : StructsFound p
-  found = programs.found bodies p with_more
+  found = programs.found bodies p e
 
   judged : ProgramJudged p tables
-  judged = programs.judged bodies p with_more
+  judged = programs.judged bodies p e
 
   known : AllKnown tables (builtins (entries (judged_tags p))) 0 (judged_tags p) p
-  known = programs.known bodies p with_more
+  known = programs.known bodies p e
 
   types : AllTypesKnown (world_of p).structs tables
   types = (
@@ -89,22 +81,27 @@ module _ (bodies : BodiesJudged) (p : Program) (e : program_faults region_struct
   )
 
   scope : (i : ℕ) (f : tree.Function) → IsKnownScope (world_of p) [] (function_scope false tables i (head_of false tables f))
-  scope i f = record { entries = entry_known p judged found plain types; members = member_known p judged found plain types }
+  scope i f = record { entries = entry_known p judged found types; members = member_known p judged found types }
 
   pub lowerable : IsLowerable p
   lowerable = record {
     items = all_lowered (world_of p) tables (builtins (entries (judged_tags p))) 0 (judged_tags p) p found.there scope known clean.taken clean.forms
         clean.items;
-    structs = subst (λ (unions : List Layout). AreStructs unions (world_of p).structs) (sym found.no_unions) (found.lowered plain).0;
-    strings = program_silent region_structures refl p clean.taken;
+    structs = subst (λ (unions : List Layout). AreStructs unions (world_of p).structs) (sym found.no_unions) found.lowered.0;
+    strings = program_silent with_regions refl p clean.taken;
   }
 
   -- and the rules measure its globals as they are laid out
   pub sized : AreSized (world_of p) tables 0 p
   sized =
-      let all : IsClean with_regions p = is_clean_program with_regions p with_more in
-      globals_sized (world_of p) tables found.layouts (found.union_layouts ∙ sym found.no_unions) 0 p (good_tags 0 tables (programs.good bodies p with_more))
-      all.taken all.forms all.items
+      globals_sized (world_of p) tables found.layouts (found.union_layouts ∙ sym found.no_unions) 0 p (good_tags 0 tables (programs.good bodies p e))
+      clean.taken clean.forms clean.items
 
-pub structs_lowerable : BodiesJudged → AcceptedAreLowerable
-structs_lowerable bodies p e = lowerable bodies p e
+-- ---- the laws
+
+module _ (bodies : BodiesJudged) where
+  pub programs_lowerable : AcceptedAreLowerable
+  programs_lowerable p e = lowerable bodies p e
+
+  pub programs_sized : (p : Program) → program_faults supported p ≡ [] → AreSized (world_of p) (tables_of false p) 0 p
+  programs_sized p e = sized bodies p e

@@ -9,10 +9,14 @@ use Rattle.source_meaning.specs.Shapes.{Part, Shape, part_shapes}
 use Rattle.source_meaning.specs.Steps.{Entity, World}
 use Rattle.source_safety.specs.Judged.{extended}
 use Rattle.source_safety.specs.Programs.{name_alone, with_all}
+use Rattle.source_typing.specs.Declarations.{with_region}
+use Rattle.source_typing.specs.Making.{Goal, inside}
+use Rattle.source_typing.specs.Regions.{with_scope}
 use Rattle.source_typing.specs.Scope.{Env, block_entered, in_scope, meant}
 use Rattle.source_typing.specs.Statements.{in_a_loop}
 use Rattle.source_typing.specs.Tables.{Arrayed, Counter, Entry, OfBuiltin, OfFunction, OfOther, OfTag, OfValue, Stored, Unknown}
 use Rattle.source_typing.specs.Types.{StaticType, shape_of}
+use Rattle.source_typing.specs.Verdicts.{Verdict}
 use Rattle.judged_sources.proofs.Known.{IsKnown}
 use Rattle.judged_sources.proofs.LoweredForms.{AreKnown, IsKnownScope, KnownEntry}
 use Rattle.judged_sources.proofs.LoweredTypes.{TagsThere}
@@ -73,6 +77,15 @@ module _ (w : World) where
 
   pub scope_loop : (names : List Named) (g : Env) → IsKnownScope w names g → IsKnownScope w names (in_a_loop g)
   scope_loop names g scope = record { entries = scope.entries; members = scope.members }
+
+  -- where a region begins, and within an operand of `rnew`
+  pub scope_region : (names : List Named) (r : tree.RegionName) (g : Env) → IsKnownScope w names g → IsKnownScope w names (with_region r with_scope g)
+  scope_region names (tree.Named n) g scope = record { entries = scope.entries; members = scope.members }
+  scope_region names (tree.Heap at) g scope = record { entries = scope.entries; members = scope.members }
+  scope_region names (tree.Unique at) g scope = record { entries = scope.entries; members = scope.members }
+
+  pub scope_inside : (names : List Named) (goal : Verdict Goal) (g : Env) → IsKnownScope w names g → IsKnownScope w names (inside goal g)
+  scope_inside names goal g scope = record { entries = scope.entries; members = scope.members }
 
   -- ---- parameters
 

@@ -1,13 +1,13 @@
 -- The tables of a program in which the rules find no fault: lowering knows what each name in them means.
 use Rattle.std.proofs.Common.{◌≡◌, ℕ, suc, Bool, true, false, Option, Some, None, List, [], ◌∷◌, refl, sym, subst, ap, ◌∙◌}
-use Rattle.std.specs.Prelude.{bytes_eq, if◌then◌else◌, map}
+use Rattle.std.specs.Prelude.{bytes_eq, codes, if◌then◌else◌, map}
 use Rattle.cyc_tree.specs.Tree as tree
 use Rattle.cyc_tree.specs.Tree.{Item, Program}
-use Rattle.source_lowering.specs.Lowered.{entity_shape, result_shape}
+use Rattle.source_lowering.specs.Lowered.{call_shape, entity_shape, result_shape}
 use Rattle.source_meaning.specs.Calls.{function_of}
 use Rattle.source_meaning.specs.Programs.{world_of}
 use Rattle.source_meaning.specs.Shapes as shapes
-use Rattle.source_meaning.specs.Shapes.{Layout, Shape, part_shape, parts_of}
+use Rattle.source_meaning.specs.Shapes.{Layout, Shape, has_tag, part_shape, parts_of}
 use Rattle.source_meaning.specs.Steps.{Entity, Routine, World}
 use Rattle.source_safety.proofs.Layouts.{member_object, member_types, members_at, members_typed}
 use Rattle.source_safety.proofs.Members.{Found, member_found}
@@ -22,7 +22,7 @@ use Rattle.source_typing.specs.Scope.{at_item}
 use Rattle.source_typing.specs.Tables.{Arrayed, Counter, Entry, Named, OfBuiltin, OfFunction, OfOther, OfTag}
 use Rattle.source_typing.specs.Tables.{OfValue, Part, Signature, Stored, Tables, Tag, Unknown}
 use Rattle.source_typing.specs.Tables.{as_tag, find, part_in, parts_in, parts_of_tag}
-use Rattle.source_typing.specs.Taken.{constant_forms, function_taken, item_forms, item_taken, only_taken, region_structures}
+use Rattle.source_typing.specs.Taken.{constant_forms, function_taken, item_forms, item_taken, only_taken, with_regions}
 use Rattle.source_typing.specs.Types.{StaticType, shape_of}
 use Rattle.source_typing.proofs.Inversion.{none_of_both}
 use Rattle.judged_sources.proofs.Found.{AllKnown}
@@ -32,7 +32,6 @@ use Rattle.judged_sources.proofs.LoweredForms.{AreKnown, AreWords, IsGiven, Know
 use Rattle.judged_sources.proofs.LoweredHeads.{GlobalLowered, HeadLowered, global_lowered, head_lowered}
 use Rattle.judged_sources.proofs.LoweredTypes.{IsReached, TagsThere, reached_known}
 use Rattle.judged_sources.proofs.StructsFound.{StructsFound, not_made}
-use Rattle.judged_sources.proofs.TagOrder.{HaveNoHandles}
 
 -- ---- the types of each entry
 
@@ -55,24 +54,24 @@ AllTypesKnown structs (n ∷ g) = TypesKnown structs n.entry × AllTypesKnown st
 
 -- `g` are the program's tables, and `h` those by which its heads and globals were read
 pub types_known : (w : World) (g h : Tables) (i : ℕ) (js : List Judged) (is : List Item) → TagsThere w.structs g → AllKnown g h i js is
-    → only_taken region_structures is ≡ is → constant_forms region_structures is ≡ [] → items_from false g i is ≡ []
+    → only_taken with_regions is ≡ is → constant_forms with_regions is ≡ [] → items_from false g i is ≡ []
     → AllTypesKnown w.structs (entries_with false h i js is)
 types_known w g h i [] is tags k t f p = tt
 types_known w g h i (j ∷ js) [] tags k t f p = tt
 types_known w g h i (j ∷ js) (tree.StructItem s ∷ is) tags k t f p =
-    let b : only_taken region_structures is ≡ is = cc in
+    let b : only_taken with_regions is ≡ is = cc in
     (subst (λ (n : Named). TypesKnown w.structs n.entry) (sym k.0.is) tt, types_known w g h (suc i) js is tags k.1 b f p)
 types_known w g h i (j ∷ js) (tree.UnionItem s ∷ is) tags k t f p = absurd k.0
 types_known w g h i (j ∷ js) (tree.GlobalItem x ∷ is) tags k t f p =
-    let a : item_taken region_structures (tree.GlobalItem x) ≡ tree.GlobalItem x = cc in
-    let b : only_taken region_structures is ≡ is = cc in
-    let c = none_of_both (item_forms region_structures (tree.GlobalItem x)) (constant_forms region_structures is) f in
+    let a : item_taken with_regions (tree.GlobalItem x) ≡ tree.GlobalItem x = cc in
+    let b : only_taken with_regions is ≡ is = cc in
+    let c = none_of_both (item_forms with_regions (tree.GlobalItem x)) (constant_forms with_regions is) f in
     let d = none_of_both (global_faults (at_item false g i) x) (items_from false g (suc i) is) p in
     let u : GlobalLowered w x k.0.1.type = global_lowered w g h i x k.0.1 tags a c.0 d.0 in
     (subst (λ (e : Entry). TypesKnown w.structs e) (sym k.0.1.entry) u.known, types_known w g h (suc i) js is tags k.1 b c.1 d.1)
 types_known w g h i (j ∷ js) (tree.FunctionItem x ∷ is) tags k t f p =
-    let a : function_taken region_structures x ≡ x = cc in
-    let b : only_taken region_structures is ≡ is = cc in
+    let a : function_taken with_regions x ≡ x = cc in
+    let b : only_taken with_regions is ≡ is = cc in
     let d = none_of_both (function_faults false g i x) (items_from false g (suc i) is) p in
     let u : HeadLowered w.structs g tags x k.0.good.head = head_lowered w.structs g tags x k.0.good.head a k.0.good.clean in
     let s : SignatureKnown w.structs (head_of false g x).signature =
@@ -124,9 +123,19 @@ members_known structs ds [] (q ∷ qs) ts h o r = absurd h
 members_known structs ds (p ∷ ps) [] ts h o r = absurd h
 members_known structs ds (p ∷ ps) (q ∷ qs) [] h o r = absurd h
 
+-- ---- a call of a function
+
+function_shape : (w : World) (x : List ℕ) → bytes_eq x (codes "getchar") ≡ false → bytes_eq x (codes "putchar") ≡ false → has_tag w.structs x ≡ false
+    → call_shape w x ≡ result_shape (function_of w.functions x)
+function_shape w x a b c =
+    let made : Shape = (if has_tag w.structs x then shapes.StructShape x else result_shape (function_of w.functions x)) in
+    ap (λ (z : Bool). if z then shapes.IntShape else (if bytes_eq x (codes "putchar") then shapes.IntShape else made)) a
+    ∙ (ap (λ (z : Bool). if z then shapes.IntShape else made) b
+    ∙ ap (λ (z : Bool). if z then shapes.StructShape x else result_shape (function_of w.functions x)) c)
+
 -- ---- a program
 
-module _ (p : Program) (judged : ProgramJudged p (tables_of false p)) (found : StructsFound p) (plain : HaveNoHandles p)
+module _ (p : Program) (judged : ProgramJudged p (tables_of false p)) (found : StructsFound p)
     (known : AllTypesKnown (world_of p).structs (tables_of false p))
   where
     abbrev world : World
@@ -157,7 +166,7 @@ module _ (p : Program) (judged : ProgramJudged p (tables_of false p)) (found : S
           types = member_types declared x;
           members = m;
           known = members_known world.structs declared t.parts (parts_of world.structs x) (member_types declared x) m
-              (members_typed declared x found.structs.in_order) (reached_at world.structs world.structs x (found.lowered plain).1);
+              (members_typed declared x found.structs.in_order) (reached_at world.structs world.structs x found.lowered.1);
         }
 
     function_known : (x : List ℕ) (s : Signature) → find tables x ≡ Some (OfFunction s) → KnownFunction world x s
@@ -175,10 +184,8 @@ module _ (p : Program) (judged : ProgramJudged p (tables_of false p)) (found : S
           gives = k.gives;
           result = k.result;
           given = k.given;
-          shape = ap (λ (b : Bool). if b then shapes.IntShape else (if bytes_eq x (Rattle.std.specs.Prelude.codes "putchar") then shapes.IntShape
-              else result_shape (function_of world.functions x))) f.not_read
-              ∙ (ap (λ (b : Bool). if b then shapes.IntShape else result_shape (function_of world.functions x)) f.not_written
-              ∙ (ap (λ (o : Option Routine). result_shape o) f.found ∙ (f.shape ∙ ap (λ (t : StaticType). shape_of t) same)));
+          shape = function_shape world x f.not_read f.not_written f.not_made ∙ (ap (λ (o : Option Routine). result_shape o) f.found
+              ∙ (f.shape ∙ ap (λ (t : StaticType). shape_of t) same));
         }
 
     pub entry_known : (x : List ℕ) (e : Entry) → find tables x ≡ Some e → KnownEntry world [] x e
@@ -213,5 +220,5 @@ module _ (p : Program) (judged : ProgramJudged p (tables_of false p)) (found : S
             record {
               shape = m.shape;
               known = reached_known world.structs t m.object (subst (λ (s : Shape). IsReached world.structs s) m.shape
-                  (part_reached world.structs (parts_of world.structs tag) f (reached_at world.structs world.structs tag (found.lowered plain).1)));
+                  (part_reached world.structs (parts_of world.structs tag) f (reached_at world.structs world.structs tag found.lowered.1)));
             }

@@ -33,7 +33,7 @@ use Rattle.source_meaning.specs.Shapes.{
 use Rattle.source_safety.specs.Entries.{IsObjectType, IsPlain}
 use Rattle.source_typing.specs.Faults.{Fault}
 use Rattle.source_typing.specs.Tables.{Entry, OfBuiltin, OfFunction, OfOther, OfTag, OfValue, Tables, Tag, find, has_beginning}
-use Rattle.source_typing.specs.Taken.{region_structures, takes_base, takes_pointers, takes_type}
+use Rattle.source_typing.specs.Taken.{with_regions, takes_base, takes_pointers, takes_type}
 use Rattle.source_typing.specs.Types.{Char, Handle, Int, PartialType, StaticType, Struct, Thin, Unsigned, Void, shape_of}
 use Rattle.source_typing.specs.Verdicts.{Faulty, Verdict, after, faults_of}
 use Rattle.source_typing.specs.Written.{Found, tag_of, written_on, written_with}
@@ -91,7 +91,7 @@ base_there structs g t (fs, bad) rest tags keeps p = by t.base p
 
 -- ---- shapes
 
--- an integer, a struct of the program, nothing, or a shared thin pointer to these
+-- an integer, a struct of the program, a handle, nothing, or a shared thin pointer to these
 abbrev pub IsReached : List Layout → Shape → Type 0
 IsReached structs IntShape = Unit {0}
 IsReached structs UnsignedShape = Unit {0}
@@ -99,7 +99,7 @@ IsReached structs CharShape = Unit {0}
 IsReached structs VoidShape = Unit {0}
 IsReached structs (ThinShape may_be_null owner to) = (owner ≡ Shared) × IsReached structs to
 IsReached structs (FatShape to) = ⊥
-IsReached structs HandleShape = ⊥
+IsReached structs HandleShape = Unit {0}
 IsReached structs KeyShape = ⊥
 IsReached structs (StructShape tag) = (has_tag structs tag ≡ true)
 IsReached structs (UnionShape tag) = ⊥
@@ -111,6 +111,7 @@ reached_target structs UnsignedShape h = tt
 reached_target structs CharShape h = tt
 reached_target structs VoidShape h = tt
 reached_target structs (ThinShape may_be_null owner to) h = (h.0, reached_target structs to h.1)
+reached_target structs HandleShape h = tt
 reached_target structs (StructShape tag) h = tt
 reached_target structs _ h = absurd h
 
@@ -125,7 +126,7 @@ reached_known structs Unsigned o h = tt
 reached_known structs Char o h = tt
 reached_known structs (Thin b r t) o h = (h.0, reached_known structs t o h.1)
 reached_known structs (Struct tag rs) o h = h
-reached_known structs (Handle r) o h = absurd h
+reached_known structs (Handle r) o h = tt
 reached_known structs _ o h = absurd o
 
 module _ (structs : List Layout) where
@@ -141,23 +142,23 @@ module _ (structs : List Layout) where
       all_reached ps (signed_shape p.sign (owner_of p.region) s) k.1 (signed_reached p.sign p.region s k.0.0 k.0.1 h)
 
   -- what is written of a type that is taken
-  pub type_reached : (t : TypeName) → takes_type region_structures t ≡ true → BaseThere structs t.base → IsReached structs (settled (written t))
+  pub type_reached : (t : TypeName) → takes_type with_regions t ≡ true → BaseThere structs t.base → IsReached structs (settled (written t))
   type_reached t e h =
-      let a = and_is (takes_base region_structures t.base) (takes_pointers region_structures t.pointers) e in
-      all_reached t.pointers (base_shape t.base) (thin_pointers_are region_structures refl refl t.pointers a.1) (by t.base a.0 h)
+      let a = and_is (takes_base with_regions t.base) (takes_pointers with_regions t.pointers) e in
+      all_reached t.pointers (base_shape t.base) (thin_pointers_are with_regions refl refl t.pointers a.1) (by t.base a.0 h)
     where
-      by : (b : tree.Base) → takes_base region_structures b ≡ true → BaseThere structs b → IsReached structs (settled (base_shape b))
+      by : (b : tree.Base) → takes_base with_regions b ≡ true → BaseThere structs b → IsReached structs (settled (base_shape b))
       by tree.Int q h = tt
       by tree.Unsigned q h = tt
       by tree.Char q h = tt
       by tree.Void q h = tt
       by (tree.Struct tag rs) q h = h
       by (tree.Union tag rs) q h = absurd cc
-      by (tree.Handle r) q h = absurd cc
+      by (tree.Handle r) q h = tt
       by (tree.Key r) q h = absurd cc
 
   -- and of an object's
-  pub written_known : (t : TypeName) (u : StaticType) → takes_type region_structures t ≡ true → BaseThere structs t.base → IsObjectType u
+  pub written_known : (t : TypeName) (u : StaticType) → takes_type with_regions t ≡ true → BaseThere structs t.base → IsObjectType u
       → settled (written t) ≡ shape_of u → IsKnown structs (shape_of u)
   written_known t u e h o s = reached_known structs u o (subst (λ z. IsReached structs z) s (type_reached t e h))
 
@@ -174,30 +175,30 @@ module _ (structs : List Layout) where
   known_under (p ∷ ps) s k h =
       signed_under p.sign p.region s k.0.0 (known_under ps (signed_shape p.sign (owner_of p.region) s) k.1 h)
 
-  object_base : (b : tree.Base) → takes_base region_structures b ≡ true → IsKnown structs (settled (base_shape b)) → IsObjectBase b
+  object_base : (b : tree.Base) → takes_base with_regions b ≡ true → IsKnown structs (settled (base_shape b)) → IsObjectBase b
   object_base tree.Int q h = tt
   object_base tree.Unsigned q h = tt
   object_base tree.Char q h = tt
   object_base tree.Void q h = absurd h
   object_base (tree.Struct tag rs) q h = tt
   object_base (tree.Union tag rs) q h = absurd h
-  object_base (tree.Handle r) q h = absurd h
+  object_base (tree.Handle r) q h = tt
   object_base (tree.Key r) q h = absurd h
 
   -- the type of a variable
-  pub object_type : (t : TypeName) (u : StaticType) → takes_type region_structures t ≡ true → BaseThere structs t.base → IsObjectType u
+  pub object_type : (t : TypeName) (u : StaticType) → takes_type with_regions t ≡ true → BaseThere structs t.base → IsObjectType u
       → settled (written t) ≡ shape_of u → lowering.IsObjectType structs t
   object_type t u e h o s =
-      let a = and_is (takes_base region_structures t.base) (takes_pointers region_structures t.pointers) e in
+      let a = and_is (takes_base with_regions t.base) (takes_pointers with_regions t.pointers) e in
       let k : IsKnown structs (settled (written t)) = subst (λ z. IsKnown structs z) (sym s) (written_known t u e h o s) in
       record {
-        pointers = thin_pointers_are region_structures refl refl t.pointers a.1;
-        base = object_base t.base a.0 (known_under t.pointers (base_shape t.base) (thin_pointers_are region_structures refl refl t.pointers a.1) k);
+        pointers = thin_pointers_are with_regions refl refl t.pointers a.1;
+        base = object_base t.base a.0 (known_under t.pointers (base_shape t.base) (thin_pointers_are with_regions refl refl t.pointers a.1) k);
         known = reached_in structs (settled (written t)) (type_reached t e h);
       }
 
   -- that of a parameter
-  pub word_type : (t : TypeName) (u : StaticType) → takes_type region_structures t ≡ true → BaseThere structs t.base → IsObjectType u → IsWord u
+  pub word_type : (t : TypeName) (u : StaticType) → takes_type with_regions t ≡ true → BaseThere structs t.base → IsObjectType u → IsWord u
       → settled (written t) ≡ shape_of u → lowering.IsWordType t
   word_type t u e h o w s =
       let k : lowering.IsObjectType structs t = object_type t u e h o s in
@@ -218,12 +219,12 @@ no_int : (s : Shape) → IsPointerShape s → settled s ≡ IntShape → ⊥
 no_int (ThinShape b o s) h e = cc
 no_int _ h e = h
 
-void_written : (t : TypeName) → takes_type region_structures t ≡ true → settled (written t) ≡ VoidShape → IsVoidType t
+void_written : (t : TypeName) → takes_type with_regions t ≡ true → settled (written t) ≡ VoidShape → IsVoidType t
 void_written t e s =
-    let a = and_is (takes_base region_structures t.base) (takes_pointers region_structures t.pointers) e in
-    by t.base t.pointers a.0 (thin_pointers_are region_structures refl refl t.pointers a.1) s
+    let a = and_is (takes_base with_regions t.base) (takes_pointers with_regions t.pointers) e in
+    by t.base t.pointers a.0 (thin_pointers_are with_regions refl refl t.pointers a.1) s
   where
-    by : (b : tree.Base) (ps : List Pointer) → takes_base region_structures b ≡ true → AreThin ps
+    by : (b : tree.Base) (ps : List Pointer) → takes_base with_regions b ≡ true → AreThin ps
         → settled (written (record { at = t.at; base = b; pointers = ps })) ≡ VoidShape → IsVoidType (record { at = t.at; base = b; pointers = ps })
     by b (p ∷ ps) q k s = absurd (no_void (pointed (p ∷ ps) (base_shape b)) (pointers_shape p ps b k) s)
     by tree.Void [] q k s = record { pointers = refl; base = tt }
@@ -235,12 +236,12 @@ void_written t e s =
     by (tree.Handle r) [] q k s = absurd cc
     by (tree.Key r) [] q k s = absurd cc
 
-pub int_written : (t : TypeName) → takes_type region_structures t ≡ true → settled (written t) ≡ IntShape → IsIntType t
+pub int_written : (t : TypeName) → takes_type with_regions t ≡ true → settled (written t) ≡ IntShape → IsIntType t
 int_written t e s =
-    let a = and_is (takes_base region_structures t.base) (takes_pointers region_structures t.pointers) e in
-    by t.base t.pointers a.0 (thin_pointers_are region_structures refl refl t.pointers a.1) s
+    let a = and_is (takes_base with_regions t.base) (takes_pointers with_regions t.pointers) e in
+    by t.base t.pointers a.0 (thin_pointers_are with_regions refl refl t.pointers a.1) s
   where
-    by : (b : tree.Base) (ps : List Pointer) → takes_base region_structures b ≡ true → AreThin ps
+    by : (b : tree.Base) (ps : List Pointer) → takes_base with_regions b ≡ true → AreThin ps
         → settled (written (record { at = t.at; base = b; pointers = ps })) ≡ IntShape → IsIntType (record { at = t.at; base = b; pointers = ps })
     by b (p ∷ ps) q k s = absurd (no_int (pointed (p ∷ ps) (base_shape b)) (pointers_shape p ps b k) s)
     by tree.Int [] q k s = record { pointers = refl; base = refl }
@@ -253,7 +254,7 @@ int_written t e s =
     by (tree.Key r) [] q k s = absurd cc
 
 -- the type of a result
-pub result_takes : (structs : List Layout) (t : TypeName) (u : StaticType) → takes_type region_structures t ≡ true → BaseThere structs t.base → IsPlain u
+pub result_takes : (structs : List Layout) (t : TypeName) (u : StaticType) → takes_type with_regions t ≡ true → BaseThere structs t.base → IsPlain u
     → IsGiven structs u → settled (written t) ≡ shape_of u → TakesResult t
 result_takes structs t Void e h o w s = GivesNothing (void_written t e s)
 result_takes structs t Int e h o w s = GivesWord (word_type structs t Int e h o w.0 s)
@@ -277,21 +278,21 @@ begins_first g (Handle r) o e = absurd cc
 begins_first g _ o e = absurd o
 
 -- an owner that a type leaves open isn't unique
-pub type_open : (t : TypeName) → takes_type region_structures t ≡ true → IsOpen (written t)
+pub type_open : (t : TypeName) → takes_type with_regions t ≡ true → IsOpen (written t)
 type_open t e =
-    let a = and_is (takes_base region_structures t.base) (takes_pointers region_structures t.pointers) e in
-    all_open t.pointers (base_shape t.base) (thin_pointers_are region_structures refl refl t.pointers a.1) (by t.base a.0)
+    let a = and_is (takes_base with_regions t.base) (takes_pointers with_regions t.pointers) e in
+    all_open t.pointers (base_shape t.base) (thin_pointers_are with_regions refl refl t.pointers a.1) (by t.base a.0)
   where
     all_open : (ps : List Pointer) (s : Shape) → AreThin ps → IsOpen s → IsOpen (pointed ps s)
     all_open [] s k h = h
     all_open (p ∷ ps) s k h = all_open ps (signed_shape p.sign (owner_of p.region) s) k.1 (signed_open p.sign p.region s k.0.0 k.0.1 h)
 
-    by : (b : tree.Base) → takes_base region_structures b ≡ true → IsOpen (base_shape b)
+    by : (b : tree.Base) → takes_base with_regions b ≡ true → IsOpen (base_shape b)
     by tree.Int q = tt
     by tree.Unsigned q = tt
     by tree.Char q = tt
     by tree.Void q = tt
     by (tree.Struct tag rs) q = tt
     by (tree.Union tag rs) q = absurd cc
-    by (tree.Handle r) q = absurd cc
+    by (tree.Handle r) q = tt
     by (tree.Key r) q = absurd cc

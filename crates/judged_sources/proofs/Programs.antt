@@ -38,7 +38,7 @@ use Rattle.source_typing.proofs.TakenOperands.{taken_has_operands}
 use Rattle.source_safety.proofs.Never.{never_stuck}
 use Rattle.source_safety.proofs.Same.{judged_same}
 use Rattle.judged_sources.specs.Good.{AllGood, BodiesJudged, IsGoodEntry, IsGoodTag}
-use Rattle.judged_sources.specs.Laws.{AcceptedAreJudged, AcceptedAreNeverStuck, AcceptedHaveMain, RegionsAreJudged, RegionsAreNeverStuck}
+use Rattle.judged_sources.specs.Laws.{AcceptedAreJudged, AcceptedAreNeverStuck, AcceptedHaveMain}
 use Rattle.judged_sources.proofs.StructsFound.{StructsFound, not_made, structs_found}
 use Rattle.judged_sources.proofs.AlignedTables.{AreAligned, tables_aligned}
 use Rattle.judged_sources.proofs.Found.{AllKnown, FunctionFound, VariableFound, all_known, find_function, find_variable, globals_judged}
@@ -49,7 +49,6 @@ use Rattle.judged_sources.proofs.GoodTables.{AreHeaded, IsClean, all_headed, is_
 use Rattle.judged_sources.proofs.GoodTypes.{KnowsTags}
 use Rattle.judged_sources.proofs.Named.{builtins_known, entries_known}
 use Rattle.judged_sources.proofs.Main.{MainHere, find_main, number_below}
-use Rattle.judged_sources.proofs.MoreTaken.{faults_more}
 
 -- ---- names
 
@@ -129,7 +128,13 @@ module _ (bodies : BodiesJudged) (p : Program) (e : program_faults with_regions 
   function_named x s h =
       let own : IsOwn items x (OfFunction s) = function_own x s h in
       let f : FunctionFound tables p x s = function_found x s h in
-      record { not_made = not_made p x (OfFunction s) found h (λ t z. cc); found = f.found; not_read = own.not_read; not_written = own.not_written; signature = f.signature }
+      record {
+        not_made = not_made p x (OfFunction s) found h (λ t z. cc);
+        found = f.found;
+        not_read = own.not_read;
+        not_written = own.not_written;
+        signature = f.signature;
+      }
 
   abbrev its_function : (x : List ℕ) (s : Signature) → find tables x ≡ Some (OfFunction s) → Function world x s
   its_function x s h =
@@ -239,18 +244,11 @@ module _ (bodies : BodiesJudged) (p : Program) (e : program_faults with_regions 
 -- ---- the laws
 
 module _ (bodies : BodiesJudged) where
-  pub regions_judged : RegionsAreJudged
-  regions_judged p e = judged bodies p e
+  pub programs_judged : AcceptedAreJudged
+  programs_judged p e = judged bodies p e
 
-  pub regions_never_stuck : RegionsAreNeverStuck
-  regions_never_stuck p e = never_stuck p (tables_of false p) (regions_judged p e)
+  pub programs_never_stuck : AcceptedAreNeverStuck
+  programs_never_stuck p e = never_stuck p (tables_of false p) (programs_judged p e)
 
-  -- what is taken today is taken with regions
-  pub structs_judged : AcceptedAreJudged
-  structs_judged p e = judged bodies p (faults_more p e)
-
-  pub structs_never_stuck : AcceptedAreNeverStuck
-  structs_never_stuck p e = regions_never_stuck p (faults_more p e)
-
-  pub structs_have_main : AcceptedHaveMain
-  structs_have_main p e = main_below bodies p (faults_more p e)
+  pub programs_have_main : AcceptedHaveMain
+  programs_have_main p e = main_below bodies p e

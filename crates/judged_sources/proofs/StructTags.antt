@@ -33,7 +33,7 @@ use Rattle.judged_sources.proofs.LoweredTypes.{TagsThere}
 use Rattle.judged_sources.proofs.StructSizes.{AreOnce, same_parts}
 use Rattle.judged_sources.proofs.MemberTypes.{EarlierDeclared, MembersGood, members_are_taken, members_good}
 use Rattle.judged_sources.proofs.Named.{AreNamed, IsNamed, StructKnown, builtins_known, named_known}
-use Rattle.judged_sources.proofs.TagOrder.{AreSorted, HasNoHandle, HaveNoHandles, IsSorted, StructTaken, TagClean, first_known}
+use Rattle.judged_sources.proofs.TagOrder.{AreSorted, IsSorted, StructTaken, TagClean, first_known}
 use Rattle.judged_sources.proofs.TagOrder.{alike_step, item_alike, parameters_below, tag_clean}
 use Rattle.judged_sources.proofs.Tags.{behind_builtins, judged_list}
 
@@ -142,42 +142,42 @@ not_declared ds seen x h n = by (declares ds x) (h x)
 
 -- ---- one item after another
 
--- what is known once these items are judged; what lowering wants holds where no struct of the program has a handle, which is `C` here
-pub record Outcome (C : Type 0) (structs : List Layout) (T : Tables) (js : List Judged) (is : List Item) (found : List Layout) (most : ℕ) : Type 0 where
+-- what is known once these items are judged
+pub record Outcome (structs : List Layout) (T : Tables) (js : List Judged) (is : List Item) (found : List Layout) (most : ℕ) : Type 0 where
   pub named : AreNamed js is
   pub types : List Declared
   pub in_order : AreInOrder types
   pub laid_out : AreLaidOut T types (structs_from is found)
   pub in_tables : InTables T (structs_from is found)
-  pub lowered : C → AreStructs [] (structs_from is found) × AllReached structs (structs_from is found)
+  pub lowered : AreStructs [] (structs_from is found) × AllReached structs (structs_from is found)
   pub layouts : layouts_onto false found (entries js) ≡ structs_from is found
   pub unions : layouts_onto true [] (entries js) ≡ []
   pub few : length types ≤ most
 
 -- what is known when the i-th item is judged
-pub record State (C : Type 0) (structs : List Layout) (T h : Tables) (i : ℕ) (done : List Judged) (ds : List Declared) (found : List Layout)
-    (seen : List (List ℕ)) : Type 0 where
+pub record State (structs : List Layout) (T h : Tables) (i : ℕ) (done : List Judged) (ds : List Declared) (found : List Layout) (seen : List (List ℕ))
+    : Type 0 where
   pub known : KnowsTags (entries done)
   pub declared : AllDeclared done ds
   pub in_order : AreInOrder ds
   pub laid_out : AreLaidOut T ds found
   pub in_tables : InTables T found
-  pub laid : C → StructsLaid structs (entries done) found
+  pub laid : StructsLaid structs (entries done) found
   pub seen_all : DeclaredSeen ds seen
   pub few : length ds ≤ i
 
 -- an item without a tag is judged
-other_step : (C : Type 0) (structs : List Layout) (T h : Tables) (i : ℕ) (done : List Judged) (ds : List Declared) (found : List Layout)
-    (seen : List (List ℕ)) (x : tree.Name) (j : Judged) → j.entry ≡ named x OfOther → State C structs T h i done ds found seen
-    → State C structs T h (suc i) (done ++ j ∷ []) ds found (x.text ∷ seen)
-other_step C structs T h i done ds found seen x j e s = record {
+other_step : (structs : List Layout) (T h : Tables) (i : ℕ) (done : List Judged) (ds : List Declared) (found : List Layout)
+    (seen : List (List ℕ)) (x : tree.Name) (j : Judged) → j.entry ≡ named x OfOther → State structs T h i done ds found seen
+    → State structs T h (suc i) (done ++ j ∷ []) ds found (x.text ∷ seen)
+other_step structs T h i done ds found seen x j e s = record {
   known = one_known done j s.known (subst (λ (n : Named). KnowsTags (n ∷ [])) (sym e) (named_known (named x OfOther) [] tt (λ y. tt)));
   declared = λ y t q. by y t (find (entries done) y) refl
       (sym (found_one done j y) ∙ q);
   in_order = s.in_order;
   laid_out = s.laid_out;
   in_tables = s.in_tables;
-  laid = λ c. other_laid structs done found x j e (s.laid c);
+  laid = other_laid structs done found x j e s.laid;
   seen_all = seen_more ds seen x.text s.seen_all;
   few = let l : length ds ≤ i = s.few in omega (arith, l);
 }
@@ -193,7 +193,7 @@ other_step C structs T h i done ds found seen x j e s = record {
     by y t None q p = absurd (none y t p)
     by y t (Some d) q p = s.declared y t (q ∙ p)
 
-module _ (C : Type 0) (structs : List Layout) (T b hs : Tables) (tags : KnowsTags (builtins b)) (program : TagsThere structs (builtins b))
+module _ (structs : List Layout) (T b hs : Tables) (tags : KnowsTags (builtins b)) (program : TagsThere structs (builtins b))
     (once : AreOnce (codes "getchar" ∷ codes "putchar" ∷ []) b)
   where
     abbrev h : Tables
@@ -208,17 +208,18 @@ module _ (C : Type 0) (structs : List Layout) (T b hs : Tables) (tags : KnowsTag
         : Type 0 where
       known : StructKnown s j.entry
       types : List Declared
-      state : State C structs T h (suc i) (done ++ j ∷ []) types (layout_of s ∷ found) (s.tag.text ∷ seen)
+      state : State structs T h (suc i) (done ++ j ∷ []) types (layout_of s ∷ found) (s.tag.text ∷ seen)
       layout : layouts_onto false found (j.entry ∷ []) ≡ layout_of s ∷ found
 
     struct_step : (i : ℕ) (done : List Judged) (is : List Item) (ds : List Declared) (found : List Layout) (seen : List (List ℕ)) (s : tree.Structure)
-        → AreSorted (tree.StructItem s ∷ is) → (C → HasNoHandle (tree.StructItem s)) → TablesAlike (entries done ++ first_from h i (tree.StructItem s ∷ is)) b
-        → second_names seen (tree.StructItem s ∷ is) ≡ [] → KnowsTags (first_from h i (tree.StructItem s ∷ is)) → tag_faults (builtins (entries done ++ first_from h i (tree.StructItem s ∷ is))) i false s ≡ []
+        → AreSorted (tree.StructItem s ∷ is) → TablesAlike (entries done ++ first_from h i (tree.StructItem s ∷ is)) b
+        → second_names seen (tree.StructItem s ∷ is) ≡ [] → KnowsTags (first_from h i (tree.StructItem s ∷ is))
+        → tag_faults (builtins (entries done ++ first_from h i (tree.StructItem s ∷ is))) i false s ≡ []
         → is_seen seen s.tag.text ≡ false
         → find T s.tag.text ≡ Some (judged_tag (builtins (entries done ++ first_from h i (tree.StructItem s ∷ is))) i (tree.StructItem s)).entry.entry
-        → State C structs T h i done ds found seen
+        → State structs T h i done ds found seen
         → StructStep i done ds found seen s (judged_tag (builtins (entries done ++ first_from h i (tree.StructItem s ∷ is))) i (tree.StructItem s))
-    struct_step i done is ds found seen s sorted own alike names first p unseen there st = record {
+    struct_step i done is ds found seen s sorted alike names first p unseen there st = record {
       known = known;
       types = d ∷ ds;
       layout = ap (λ (ps : List Part). record { tag = s.tag.text; parts = ps } ∷ found)
@@ -233,8 +234,8 @@ module _ (C : Type 0) (structs : List Layout) (T b hs : Tables) (tags : KnowsTag
           st.laid_out,
         );
         in_tables = ((known.tag, there), st.in_tables);
-        laid = λ c. struct_laid structs b h T i done is seen ds found s program once sorted alike names st.seen_all st.laid_out
-            (not_declared ds seen s.tag.text st.seen_all unseen) clean ms (own c) (st.laid c);
+        laid = struct_laid structs b h T i done is seen ds found s program once sorted alike names st.seen_all st.laid_out
+            (not_declared ds seen s.tag.text st.seen_all unseen) clean ms st.laid;
         seen_all = seen_struct ds seen d st.seen_all;
         few = let l : length ds ≤ i = st.few in omega (arith, l);
       };
@@ -254,7 +255,8 @@ module _ (C : Type 0) (structs : List Layout) (T b hs : Tables) (tags : KnowsTag
 
         ms : MembersGood (length s.regions) (tag_scope g i s) ds s.members
         ms = members_good (length s.regions) (tag_scope g i s) ds s.members (earlier_declared h i done (tree.StructItem s ∷ is) s ds st.declared)
-            (builtins_known (entries done ++ first_from h i (tree.StructItem s ∷ is)) (either_known (entries done) (first_from h i (tree.StructItem s ∷ is)) st.known first))
+            (builtins_known (entries done ++ first_from h i (tree.StructItem s ∷ is))
+            (either_known (entries done) (first_from h i (tree.StructItem s ∷ is)) st.known first))
             (parameters_below g i s) (members_are_taken with_regions (tag_scope g i s) s.members k.members clean.members) clean.members
 
         d : Declared
@@ -296,21 +298,21 @@ module _ (C : Type 0) (structs : List Layout) (T b hs : Tables) (tags : KnowsTag
         by y t (Some e) q r = older y (bytes_eq s.tag.text y) (st.declared y t (q ∙ r))
 
     pub all_steps : (i : ℕ) (done : List Judged) (is : List Item) (ds : List Declared) (found : List Layout) (seen : List (List ℕ)) → AreSorted is
-        → (C → HaveNoHandles is) → TablesAlike (entries done ++ first_from h i is) b → all_tag_faults (judged_list h i done is) ≡ [] → second_names seen is ≡ []
-        → Unseen T seen (its_entries i done is) → State C structs T h i done ds found seen
-        → Outcome C structs T (judged_list h i done is) is found (i + length is)
-    all_steps i done [] ds found seen k own alike p names unseen st = record {
+        → TablesAlike (entries done ++ first_from h i is) b → all_tag_faults (judged_list h i done is) ≡ [] → second_names seen is ≡ []
+        → Unseen T seen (its_entries i done is) → State structs T h i done ds found seen
+        → Outcome structs T (judged_list h i done is) is found (i + length is)
+    all_steps i done [] ds found seen k alike p names unseen st = record {
       named = tt;
       types = ds;
       in_order = st.in_order;
       laid_out = st.laid_out;
       in_tables = st.in_tables;
-      lowered = λ c. ((st.laid c).in_order, (st.laid c).reached);
+      lowered = (st.laid.in_order, st.laid.reached);
       layouts = refl;
       unions = refl;
       few = let l : length ds ≤ i = st.few in omega (arith, l);
     }
-    all_steps i done (x ∷ is) ds found seen k own alike p names unseen st =
+    all_steps i done (x ∷ is) ds found seen k alike p names unseen st =
         let g : Tables = builtins (entries done ++ first_from h i (x ∷ is)) in
         let j : Judged = judged_tag g i x in
         let c : (j.faults ≡ []) × (all_tag_faults (judged_list h (suc i) (done ++ j ∷ []) is) ≡ []) =
@@ -321,8 +323,8 @@ module _ (C : Type 0) (structs : List Layout) (T b hs : Tables) (tags : KnowsTag
         not-true (is_seen seen (name_of x).text) (test_is (not (is_seen seen (name_of x).text)) name_rule (name_of x).at e.0) in
         let alike2 : TablesAlike (entries (done ++ j ∷ []) ++ first_from h (suc i) is) b =
         alike_step done j (named (name_of x) (first_entry h i x)) (first_from h (suc i) is) b (judged_name g i x) (λ d q. item_alike g h i x d q) alike in
-        by x k.0 (λ z. (own z).0) c.0 new (first_known b i done (x ∷ is) tags alike k p) alike names unseen
-        (λ types layouts later s. all_steps (suc i) (done ++ j ∷ []) is types layouts ((name_of x).text ∷ seen) k.1 (λ z. (own z).1) alike2 c.1 e.1 later s)
+        by x k.0 c.0 new (first_known b i done (x ∷ is) tags alike k p) alike names unseen
+        (λ types layouts later s. all_steps (suc i) (done ++ j ∷ []) is types layouts ((name_of x).text ∷ seen) k.1 alike2 c.1 e.1 later s)
       where
         judged : Item → Judged
         judged x = judged_tag (builtins (entries done ++ first_from h i (x ∷ is))) i x
@@ -334,42 +336,46 @@ module _ (C : Type 0) (structs : List Layout) (T b hs : Tables) (tags : KnowsTag
         Follows : Item → Type 0
         Follows x =
             (types : List Declared) (layouts : List Layout) → Unseen T ((name_of x).text ∷ seen) (others_with x)
-            → State C structs T h (suc i) (done ++ judged x ∷ []) types layouts ((name_of x).text ∷ seen)
-            → Outcome C structs T (judged_list h (suc i) (done ++ judged x ∷ []) is) is layouts (suc i + length is)
+            → State structs T h (suc i) (done ++ judged x ∷ []) types layouts ((name_of x).text ∷ seen)
+            → Outcome structs T (judged_list h (suc i) (done ++ judged x ∷ []) is) is layouts (suc i + length is)
 
         ending : {js : List Judged} {layouts : List Layout} (x : Item) (later : List Layout) → structs_from (x ∷ is) layouts ≡ structs_from is later
             → layouts_onto false layouts ((judged x).entry ∷ []) ≡ later → layouts_onto true [] ((judged x).entry ∷ []) ≡ []
-            → IsNamed (judged x) x → Outcome C structs T js is later (suc i + length is)
-            → Outcome C structs T (judged x ∷ js) (x ∷ is) layouts (i + length (x ∷ is))
+            → IsNamed (judged x) x → Outcome structs T js is later (suc i + length is)
+            → Outcome structs T (judged x ∷ js) (x ∷ is) layouts (i + length (x ∷ is))
         ending {js = js} {layouts = layouts} x later e l u n o = record {
           named = (n, o.named);
           types = o.types;
           in_order = o.in_order;
           laid_out = subst (λ (ls : List Layout). AreLaidOut T o.types ls) (sym e) o.laid_out;
           in_tables = subst (λ (ls : List Layout). InTables T ls) (sym e) o.in_tables;
-          lowered = λ c. subst (λ (ls : List Layout). AreStructs [] ls × AllReached structs ls) (sym e) (o.lowered c);
+          lowered = subst (λ (ls : List Layout). AreStructs [] ls × AllReached structs ls) (sym e) o.lowered;
           layouts = ap (λ (ls : List Layout). layouts_onto false ls (entries js)) l ∙ (o.layouts ∙ sym e);
           unions = ap (λ (ls : List Layout). layouts_onto true ls (entries js)) u ∙ o.unions;
           few = let l : length o.types ≤ suc i + length is = o.few in omega (arith, l);
         }
 
-        by : (x : Item) → IsSorted x → (C → HasNoHandle x) → (judged x).faults ≡ [] → is_seen seen (name_of x).text ≡ false
+        by : (x : Item) → IsSorted x → (judged x).faults ≡ [] → is_seen seen (name_of x).text ≡ false
             → KnowsTags (first_from h i (x ∷ is))
-            → TablesAlike (entries done ++ first_from h i (x ∷ is)) b → second_names seen (x ∷ is) ≡ [] → Unseen T seen (its_entries i done (x ∷ is)) → Follows x
-            → Outcome C structs T (judged_list h i done (x ∷ is)) (x ∷ is) found (i + length (x ∷ is))
-        by (tree.StructItem s) taken own p new first alike names unseen go =
+            → TablesAlike (entries done ++ first_from h i (x ∷ is)) b → second_names seen (x ∷ is) ≡ []
+            → Unseen T seen (its_entries i done (x ∷ is)) → Follows x
+            → Outcome structs T (judged_list h i done (x ∷ is)) (x ∷ is) found (i + length (x ∷ is))
+        by (tree.StructItem s) taken p new first alike names unseen go =
             let there : find T s.tag.text ≡ Some (judged (tree.StructItem s)).entry.entry =
-            unseen s.tag.text new ∙ ap (λ (c : Bool). if c then Some (judged (tree.StructItem s)).entry.entry else find (others_with (tree.StructItem s)) s.tag.text) (same_text s.tag.text) in
+            unseen s.tag.text new
+            ∙ ap (λ (c : Bool). if c then Some (judged (tree.StructItem s)).entry.entry else find (others_with (tree.StructItem s)) s.tag.text)
+            (same_text s.tag.text) in
             let r : StructStep i done ds found seen s (judged (tree.StructItem s)) =
-            struct_step i done is ds found seen s (taken, k.1) own alike names first p new there st in
+            struct_step i done is ds found seen s (taken, k.1) alike names first p new there st in
             ending (tree.StructItem s) (layout_of s ∷ found) refl r.layout refl r.known
-            (go r.types (layout_of s ∷ found) (unseen_step T (others_with (tree.StructItem s)) seen (named s.tag (judged (tree.StructItem s)).entry.entry) unseen) r.state)
-        by (tree.UnionItem s) taken own p new first alike names unseen go = absurd taken
-        by (tree.GlobalItem y) taken own p new first alike names unseen go =
+            (go r.types (layout_of s ∷ found)
+            (unseen_step T (others_with (tree.StructItem s)) seen (named s.tag (judged (tree.StructItem s)).entry.entry) unseen) r.state)
+        by (tree.UnionItem s) taken p new first alike names unseen go = absurd taken
+        by (tree.GlobalItem y) taken p new first alike names unseen go =
             ending (tree.GlobalItem y) found refl refl refl refl
             (go ds found (unseen_step T (others_with (tree.GlobalItem y)) seen (named y.name (global_entry (at_item false hs i) y)) unseen)
-            (other_step C structs T h i done ds found seen y.name (judged (tree.GlobalItem y)) refl st))
-        by (tree.FunctionItem f) taken own p new first alike names unseen go =
+            (other_step structs T h i done ds found seen y.name (judged (tree.GlobalItem y)) refl st))
+        by (tree.FunctionItem f) taken p new first alike names unseen go =
             ending (tree.FunctionItem f) found refl refl refl refl
             (go ds found (unseen_step T (others_with (tree.FunctionItem f)) seen (named f.name (OfFunction (head_of false hs f).signature)) unseen)
-            (other_step C structs T h i done ds found seen f.name (judged (tree.FunctionItem f)) refl st))
+            (other_step structs T h i done ds found seen f.name (judged (tree.FunctionItem f)) refl st))

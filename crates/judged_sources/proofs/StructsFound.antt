@@ -19,7 +19,7 @@ use Rattle.source_typing.specs.Tables.{Entry, Named, OfBuiltin, OfFunction, OfTa
 use Rattle.source_typing.specs.Taken.{only_taken, with_regions}
 use Rattle.judged_sources.proofs.AlignedTables.{layouts_same, tables_aligned}
 use Rattle.judged_sources.proofs.Named.{AreNamed, builtins_known}
-use Rattle.judged_sources.proofs.TagOrder.{AreSorted, HaveNoHandles, all_sorted, bare_known, first_alike}
+use Rattle.judged_sources.proofs.TagOrder.{AreSorted, all_sorted, bare_known, first_alike}
 use Rattle.judged_sources.proofs.Tags.{behind_builtins, first_tables, judged_list, tags_are}
 use Rattle.judged_sources.proofs.LaidStructs.{AllReached, bare_there, tag_stays}
 use Rattle.judged_sources.proofs.StructSizes.{bare_once, builtins_meant, named_once}
@@ -84,8 +84,8 @@ pub record StructsFound (p : Program) : Type 0 where
   pub there : (x : List ℕ) (t : Tag) → find (tables_of false p) x ≡ Some (OfTag t) → has_tag (world_of p).structs x ≡ true
   pub texts : (x : List ℕ) (t : Tag) → find (tables_of false p) x ≡ Some (OfTag t) → t.text ≡ x
   pub tags : (x : List ℕ) → has_tag (world_of p).structs x ≡ true → (t : Tag) × (find (tables_of false p) x ≡ Some (OfTag t))
-  -- where none has a handle as a member, each is made of earlier ones, has a member and few bytes
-  pub lowered : HaveNoHandles p → AreStructs [] (world_of p).structs × AllReached (world_of p).structs (world_of p).structs
+  -- each is made of earlier ones, has a member and few bytes
+  pub lowered : AreStructs [] (world_of p).structs × AllReached (world_of p).structs (world_of p).structs
   pub no_unions : (world_of p).unions ≡ []
   -- the rules lay out these structs, and no unions
   pub layouts : layouts_of false (tables_of false p) ≡ (world_of p).structs
@@ -112,13 +112,13 @@ module _ (p : Program) (t : only_taken with_regions p ≡ p) (clean : all_tag_fa
     sorted : AreSorted p
     sorted = all_sorted (first_tables p) 0 [] p t list_clean
 
-    outcome : Outcome (HaveNoHandles p) (world_of p).structs (tables_of false p) (judged_list (first_tables p) 0 [] p) p [] (0 + length p)
+    outcome : Outcome (world_of p).structs (tables_of false p) (judged_list (first_tables p) 0 [] p) p [] (0 + length p)
     outcome =
-        all_steps (HaveNoHandles p) (world_of p).structs (tables_of false p) (bare_from 0 p) heads_tables
+        all_steps (world_of p).structs (tables_of false p) (bare_from 0 p) heads_tables
         (builtins_known (bare_from 0 p) (bare_known 0 p sorted))
         (λ x u e. bare_there 0 p [] x u sorted (behind_builtins (bare_from 0 p) x u e))
         (bare_once (codes "getchar" ∷ codes "putchar" ∷ []) 0 p names) 0 [] p [] []
-        (codes "getchar" ∷ codes "putchar" ∷ []) sorted (λ c. c) (first_alike (first_tables p) 0 p) list_clean names
+        (codes "getchar" ∷ codes "putchar" ∷ []) sorted (first_alike (first_tables p) 0 p) list_clean names
         (subst (λ (js : List Judged). Unseen (tables_of false p) (codes "getchar" ∷ codes "putchar" ∷ []) (entries_with false heads_tables 0 js p)) (tags_are p)
         (builtins_unseen (entries_with false heads_tables 0 (judged_tags p) p))) (record {
           known = λ x. tt;
@@ -126,7 +126,7 @@ module _ (p : Program) (t : only_taken with_regions p ≡ p) (clean : all_tag_fa
           in_order = tt;
           laid_out = tt;
           in_tables = tt;
-          laid = λ c. record { in_order = tt; reached = tt; layouts = refl; unions = refl };
+          laid = record { in_order = tt; reached = tt; layouts = refl; unions = refl };
           seen_all = λ x e. absurd (false≢true e);
           few = omega arith;
         })

@@ -12,7 +12,7 @@ use Rattle.source_typing.specs.Tables.{Entry, Named, OfBuiltin, OfFunction, OfOt
 use Rattle.source_typing.specs.Tags.{head_faults, member_faults, parameter_added, parameters_from, region_parameters, repeated, struct_sized, tag_faults}
 use Rattle.source_typing.specs.Tags.{tag_parts, tag_scope}
 use Rattle.source_typing.specs.Taken.{Taken, are_members, item_taken, members_taken, only_taken, refused_member, refused_structure, structure_if}
-use Rattle.source_typing.specs.Taken.{region_structures, takes_arguments, takes_structure, with_regions}
+use Rattle.source_typing.specs.Taken.{takes_arguments, takes_structure, with_regions}
 use Rattle.source_typing.specs.Written.{RegionNamed, find_region}
 use Rattle.source_typing.proofs.Entries.{judged_name}
 use Rattle.source_typing.proofs.Inversion.{both_none, none_of_both, own_is}
@@ -83,32 +83,6 @@ all_sorted g i done (x ∷ is) t p =
     let c : (j.faults ≡ []) × (all_tag_faults (judged_list g (suc i) (done ++ j ∷ []) is) ≡ []) =
     none_of_both j.faults (all_tag_faults (judged_list g (suc i) (done ++ j ∷ []) is)) p in
     (item_sorted (builtins (entries done ++ first_from g i (x ∷ is))) i x a c.0, all_sorted g (suc i) (done ++ j ∷ []) is b c.1)
-
--- no struct among these has a handle as a member: all of its members are taken without regions
-abbrev pub HasNoHandle : Item → Type 0
-HasNoHandle (tree.StructItem s) = (members_taken region_structures s.members ≡ s.members)
-HasNoHandle (tree.UnionItem s) = Unit {0}
-HasNoHandle (tree.GlobalItem x) = Unit {0}
-HasNoHandle (tree.FunctionItem f) = Unit {0}
-
-abbrev pub HaveNoHandles : List Item → Type 0
-HaveNoHandles [] = Unit {0}
-HaveNoHandles (x ∷ is) = HasNoHandle x × HaveNoHandles is
-
-item_handles : (x : Item) → item_taken region_structures x ≡ x → HasNoHandle x
-item_handles (tree.StructItem s) e =
-    let q : structure_if (takes_structure region_structures true s) s (members_taken region_structures s.members) ≡ s = cc in
-    (struct_taken region_structures (takes_arguments region_structures s.regions) s.members s (any_arguments region_structures refl s.regions) refl q).members
-item_handles (tree.UnionItem s) e = tt
-item_handles (tree.GlobalItem x) e = tt
-item_handles (tree.FunctionItem f) e = tt
-
-pub no_handles : (is : List Item) → only_taken region_structures is ≡ is → HaveNoHandles is
-no_handles [] t = tt
-no_handles (x ∷ is) t =
-    let a : item_taken region_structures x ≡ x = cc in
-    let b : only_taken region_structures is ≡ is = cc in
-    (item_handles x a, no_handles is b)
 
 -- ---- tags alone
 

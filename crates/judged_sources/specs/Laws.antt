@@ -1,4 +1,4 @@
--- What holds of all programs of the forms that are taken today in which the rules find no fault, and of those with regions.
+-- What holds of all programs of the forms that are taken today in which the rules find no fault.
 use Rattle.std.specs.Prelude.{◌≡◌, ◌<◌, ℕ, false, List, [], length}
 use Rattle.cyc_tree.specs.Tree.{Program}
 use Rattle.cyc_words.specs.Events.{SourceEnding}
@@ -8,7 +8,7 @@ use Rattle.source_meaning.specs.Programs.{source}
 use Rattle.source_safety.specs.Programs.{ProgramJudged}
 use Rattle.source_typing.specs.Answers.{program_faults}
 use Rattle.source_typing.specs.Programs.{tables_of}
-use Rattle.source_typing.specs.Taken.{supported, with_regions}
+use Rattle.accepted_sources.specs.Supported.{supported}
 
 -- each phrase of each is judged, by the tables that the rules have of its names
 abbrev pub AcceptedAreJudged : Type 0
@@ -27,14 +27,3 @@ AcceptedAreNeverStuck = (p : Program) → program_faults supported p ≡ []
 abbrev pub AcceptedHaveMain : Type 0
 AcceptedHaveMain = (p : Program) → program_faults supported p ≡ []
     → (program_code p).main < length (program_code p).functions
-
--- ---- with the heap and lexical regions
-
--- each phrase of each is judged, by the tables that the rules have of its names
-abbrev pub RegionsAreJudged : Type 0
-RegionsAreJudged = (p : Program) → program_faults with_regions p ≡ [] → ProgramJudged p (tables_of false p)
-
--- none is ever stuck, on any input, with any fuel
-abbrev pub RegionsAreNeverStuck : Type 0
-RegionsAreNeverStuck = (p : Program) → program_faults with_regions p ≡ []
-    → (input : List ℕ) (n : ℕ) → (source p input n).ending ≡ SourceEnding.Stuck → ⊥

@@ -1,10 +1,9 @@
-// What holds of all programs of the forms that are taken today in which the rules find no fault, and of those with regions.
+// What holds of all programs of the forms that are taken today in which the rules find no fault.
 
 ghost use Rattle.judged_sources.specs.Laws.{AcceptedAreJudged, AcceptedAreLowerable, AcceptedAreNeverStuck, AcceptedHaveMain};
-ghost use Rattle.judged_sources.specs.Laws.{RegionsAreJudged, RegionsAreNeverStuck};
 
-/// A law, with nothing to run: a program in which the rules find no fault, where integers, thin pointers and structs are taken,
-/// is in order by the rules' own tables of its names.
+/// A law, with nothing to run: a program in which the rules find no fault, where integers, thin pointers, structs, the heap and
+/// lexical regions are taken, is in order by the rules' own tables of its names.
 pub fn accepted_are_judged()
     ensures { AcceptedAreJudged }
 {}
@@ -22,15 +21,4 @@ pub fn accepted_are_never_stuck()
 /// A law, with nothing to run: the Core that such a program is lowered to has the function that it begins with.
 pub fn accepted_have_main()
     ensures { AcceptedHaveMain }
-{}
-
-/// A law, with nothing to run: a program in which the rules find no fault, where the heap and lexical regions are taken too,
-/// with handles, makings, effects and bounds, is in order by the rules' own tables of its names.
-pub fn regions_are_judged()
-    ensures { RegionsAreJudged }
-{}
-
-/// A law, with nothing to run: no such program is ever stuck, on any input and with any fuel.
-pub fn regions_are_never_stuck()
-    ensures { RegionsAreNeverStuck }
 {}

@@ -2,13 +2,11 @@
 //! it and it has its `main`.
 //!
 //! `source_typing` says which faults there are, `source_safety` which programs are never stuck, by a judgement of its own, and
-//! `source_lowering` which programs lowering takes. Here the first gives the two others; the one of safety also where the heap and
-//! lexical regions are taken. Six laws and no other code.
+//! `source_lowering` which programs lowering takes. Here the first gives the two others. Four laws and no other code.
 #![tactic(auto)]
 
 mod laws;
 
 pub use laws::{
     accepted_are_judged, accepted_are_lowerable, accepted_are_never_stuck, accepted_have_main,
-    regions_are_judged, regions_are_never_stuck,
 };

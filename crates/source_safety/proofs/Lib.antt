@@ -45,5 +45,4 @@ pub mod GlobalTypes
 pub mod Started
 pub mod Never
 pub mod Same
-pub mod WithRegions
 pub mod Sample

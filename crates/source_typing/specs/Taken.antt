@@ -52,10 +52,6 @@ region_structures = record structures { parameters = true }
 abbrev pub with_regions : Taken
 with_regions = record region_structures { regions = true }
 
--- What the compiler and the evaluator take today: the one list that says so. Each further form of the language is added here.
-abbrev pub supported : Taken
-supported = region_structures
-
 -- the whole language
 abbrev pub whole : Taken
 whole = record { structs = true; pointers = true; parameters = true; regions = true; arrays = true; unions = true; unique = true; keys = true }

@@ -2,7 +2,7 @@
 use Rattle.std.specs.Prelude.{false}
 use Rattle.compiled_sources.specs.Laws.{AllAcceptedDo}
 use Rattle.source_lowering.specs.Lowerable.{IsLowerable}
-use Rattle.source_typing.specs.Taken.{supported}
+use Rattle.accepted_sources.specs.Supported.{supported}
 use Rattle.judged_sources.proofs.GoodTables.{no_typing_faults}
 use Rattle.judged_sources.proofs.Joined as joined
 use Rattle.source_meaning.specs.Programs.{world_of}

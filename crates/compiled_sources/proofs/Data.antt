@@ -76,6 +76,16 @@ pointer_plain Initial.Unset b o to h = tt
 pointer_plain (Initial.Elements count) b o to h = absurd h
 pointer_plain (Initial.Given c) b o to h = null_plain c b o to h
 
+-- no global is a handle
+no_handle : (i : Initial) → TakesGlobal HandleShape i → ⊥
+no_handle Initial.Unset h = h
+no_handle (Initial.Elements count) h = h
+no_handle (Initial.Given (tree.Number at value suffix)) h = h
+no_handle (Initial.Given (tree.Negative at value suffix)) h = h
+no_handle (Initial.Given (tree.Character at byte)) h = h
+no_handle (Initial.Given (tree.Text at bytes)) h = h
+no_handle (Initial.Given (tree.Null at)) h = h
+
 -- a part of a struct begins as its layout says
 parts_zero : (l : Layout) → IsZero l → (cell part : ℕ) → IsNothing (first_content (shape_in (slice_get l.cells cell) part))
 parts_zero l h cell part = by (shape_in (slice_get l.cells cell) part) refl
@@ -96,7 +106,7 @@ datum_plain w i (StructShape tag) k h t =
     zero_plain (global_datum w i (StructShape tag)) l.joined l.whole (parts_zero (layout_of w (StructShape tag)) l.nothing)
 datum_plain w i VoidShape k h t = absurd h
 datum_plain w i (FatShape to) k h t = absurd h
-datum_plain w i HandleShape k h t = absurd h
+datum_plain w i HandleShape k h t = absurd (no_handle i t)
 datum_plain w i KeyShape k h t = absurd h
 datum_plain w i (UnionShape tag) k h t = absurd h
 datum_plain w i (ArrayShape count of) k h t = absurd h

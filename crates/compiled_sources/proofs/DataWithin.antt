@@ -34,7 +34,7 @@ use Rattle.source_typing.specs.Globals.{Static, global_size, if_passed, item_sta
 use Rattle.source_typing.specs.Programs.{if_first, is_seen, second_names, statics_from, tables_of}
 use Rattle.source_typing.specs.Scope.{at_item}
 use Rattle.source_typing.specs.Tables.{Tables}
-use Rattle.source_typing.specs.Taken.{region_structures}
+use Rattle.accepted_sources.specs.Supported.{supported}
 use Rattle.source_typing.proofs.Inversion.{test_is, none_of_both}
 use Rattle.judged_sources.proofs.GoodTables.{IsClean, is_clean_program}
 use Rattle.judged_sources.proofs.Joined.{sized}
@@ -141,8 +141,8 @@ module _ (g : Tables) (w : World) where
       (omega (arith, room, bytes, above)) below none
 
 -- where the rules find no fault, the data end within the limit
-pub data_within : (p : Program) → program_faults region_structures p ≡ [] → data_end (program_code p).data_objects ≤ 2 ^ 20
+pub data_within : (p : Program) → program_faults supported p ≡ [] → data_end (program_code p).data_objects ≤ 2 ^ 20
 data_within p e =
-    let clean : IsClean region_structures p = is_clean_program region_structures p e in
+    let clean : IsClean supported p = is_clean_program supported p e in
     within (tables_of false p) (world_of p) p 0 0 0 [] (codes "getchar" ∷ codes "putchar" ∷ []) (λ x f. absurd cc) clean.names (sized p e) (omega arith)
     (omega arith) clean.sizes

@@ -1,23 +1,38 @@
--- The code of an expression names locals of the blocks around it and globals, where its names and the program's globals lie there.
-use Rattle.std.proofs.Common.{ℕ, zero, suc, ◌+◌, List, [], ◌∷◌}
+-- The code of an expression names locals of the blocks around it, globals, and unnamed values of its function, where its names and the program's globals lie
+-- there, and its unnamed values are numbered among the function's.
+use Rattle.std.proofs.Common.{ℕ, zero, suc, ◌+◌, ◌≤◌, List, [], ◌∷◌, ◌++◌, length, arith, length-append}
 use Rattle.cyc_tree.specs.Tree.{Expression, Expressions, NoExpressions, MoreExpressions, Links, NoLinks, MoreLinks, Suffixes, NoSuffixes, Index, Dot, Arrow}
-use Rattle.source_meaning.specs.Shapes.{Shape}
+use Rattle.cyc_tree.specs.Tree.{Made, One, Array}
+use Rattle.source_meaning.specs.Shapes.{Shape, Part, part_shapes, parts_of}
+use Rattle.source_meaning.specs.Sizes.{rounded_up}
 use Rattle.source_meaning.specs.Steps.{World}
 use Rattle.source_meaning.specs.Operators.{operator_shape}
 use Rattle.source_meaning.specs.Places.{bound_to}
+use Rattle.source_meaning.specs.Conversions.{cells_of}
+use Rattle.core_meaning.specs.Core.{Statement}
+use Rattle.source_lowering.specs.Layouts.{extent_of}
 use Rattle.source_lowering.specs.Lowered.{
   Named,
   local_named,
   static_shape,
+  values_by,
+  expression_values,
+  all_values,
+  link_values,
+  new_values,
+  whole_values,
+  made_values,
   Left,
   left_of,
   suffixed_code,
+  suffixed_place,
   offset_code,
   put_code,
   place_code,
   operator_code,
   truth_code,
   word_code,
+  address_by,
   call_parameters,
   count_of,
   expression_code,
@@ -25,9 +40,15 @@ use Rattle.source_lowering.specs.Lowered.{
   all_code,
   any_code,
   arguments_code,
+  new_code,
+  whole_code,
+  members_code,
 }
+use Rattle.source_lowering.specs.Lowerable.{AreObjects, AreStructs, TakesSuffixes, Takes, TakesPlace, TakesAll, TakesLinks, TakesNew, TakesWhole, TakesMade}
+use Rattle.source_lowering.proofs.Structs.{struct_made}
 use Rattle.compiled_sources.specs.Naming.{CodeNames}
 use Rattle.compiled_sources.proofs.Naming.{both_name, all_name}
+use Rattle.compiled_sources.proofs.MadeNames.{read_names, member_names, made_names}
 use Rattle.compiled_sources.proofs.Parts.{
   local_lies,
   global_lies,
@@ -60,153 +81,207 @@ suffixes_names blocks own n w (Arrow f others) d left h =
     let checked = both_name blocks own n _ _ h.value (check_names blocks own n d left.shape) in
     suffixes_names blocks own n w others d _ (record { value = both_name blocks own n _ _ checked (tt, tt); pointer = checked })
 
+-- suffixes on a primary expression
+primary_names : (blocks : List ℕ) (own n : ℕ) (w : World) (suffixes : Suffixes) (d : ℕ) (shape : Shape) (value pointer : List Statement)
+    (for_value for_place : Type 0) → TakesSuffixes w suffixes shape for_value for_place → (for_value → CodeNames blocks own n value)
+    → (for_place → CodeNames blocks own n pointer) → LeftNames blocks own n (suffixed_code w suffixes d (left_of shape value pointer))
+primary_names blocks own n w NoSuffixes d shape value pointer for_value for_place takes v p = absurd takes
+primary_names blocks own n w (Index index others) d shape value pointer for_value for_place takes v p = absurd takes
+primary_names blocks own n w (Dot f others) d shape value pointer for_value for_place takes v p =
+    let h = p takes.0 in suffixes_names blocks own n w others d _ (record { value = both_name blocks own n _ _ h (tt, tt); pointer = h })
+primary_names blocks own n w (Arrow f others) d shape value pointer for_value for_place takes v p =
+    let checked = both_name blocks own n _ _ (v takes.0) (check_names blocks own n d shape) in
+    suffixes_names blocks own n w others d _ (record { value = both_name blocks own n _ _ checked (tt, tt); pointer = checked })
+
 offset_names : (blocks : List ℕ) (own n d cells bytes : ℕ) → CodeNames blocks own n (offset_code d cells bytes)
 offset_names blocks own n d zero zero = tt
 offset_names blocks own n d zero (suc bytes) = (tt, tt)
 offset_names blocks own n d (suc cells) bytes = (tt, tt)
 
+placed_names : (blocks : List ℕ) (own n : ℕ) (w : World) (suffixes : Suffixes) (d : ℕ) (shape : Shape) (value pointer : List Statement)
+    (for_value for_place : Type 0) → TakesSuffixes w suffixes shape for_value for_place → (for_value → CodeNames blocks own n value)
+    → (for_place → CodeNames blocks own n pointer) → CodeNames blocks own n (suffixed_place w suffixes shape d value pointer)
+placed_names blocks own n w suffixes d shape value pointer for_value for_place takes v p =
+    both_name blocks own n _ _ (primary_names blocks own n w suffixes d shape value pointer for_value for_place takes v p).pointer
+    (offset_names blocks own n d _ _)
+
 -- ---- expressions
 
-mutual
-  stored_names : (blocks : List ℕ) (own n : ℕ) (w : World) (names : List Named) → Around blocks n w names → (e : Expression) (d : ℕ)
-      → CodeNames blocks own n (put_code w names e d)
-  stored_names blocks own n w names a (Expression.Variable name) d =
-      put_names blocks own n d (local_named names name.text) (bound_to w.globals name.text) (local_lies blocks names name.text a.locals)
-      (global_lies n w.globals name.text a.globals)
-  stored_names blocks own n w names a (Expression.Grouped at inner) d = stored_names blocks own n w names a inner d
-  stored_names blocks own n w names a (Expression.Prefixed at operator operand) d =
-      both_name blocks own n _ _
-      (pointed_names blocks own n operator (static_shape w names operand) (d + 1) (expression_code w names operand (d + 1))
-      (expression_names blocks own n w names a operand (d + 1))) (tt, tt)
-  stored_names blocks own n w names a (Expression.Number at value suffix) d = tt
-  stored_names blocks own n w names a (Expression.Character at byte) d = tt
-  stored_names blocks own n w names a (Expression.Text at bytes) d = tt
-  stored_names blocks own n w names a (Expression.Null at) d = tt
-  stored_names blocks own n w names a (Expression.HeapRegion at) d = tt
-  stored_names blocks own n w names a (Expression.UniqueRegion at) d = tt
-  stored_names blocks own n w names a (Expression.Call name arguments) d = tt
-  stored_names blocks own n w names a (Expression.MakeUnion tag member value) d = tt
-  stored_names blocks own n w names a (Expression.NumElts at operand) d = tt
-  stored_names blocks own n w names a (Expression.Suffixed primary others) d =
-      let left = suffixes_names blocks own n w others (d + 1)
-      (left_of (static_shape w names primary) (expression_code w names primary (d + 1)) (place_code w names primary (d + 1)))
-      (record { value = expression_names blocks own n w names a primary (d + 1); pointer = place_names blocks own n w names a primary (d + 1) }) in
-      both_name blocks own n _ _ left.pointer (tt, tt)
-  stored_names blocks own n w names a (Expression.New at made) d = tt
-  stored_names blocks own n w names a (Expression.NewIn at handle made) d = tt
-  stored_names blocks own n w names a (Expression.Chain first others) d = tt
-  stored_names blocks own n w names a (Expression.AllOf first others) d = tt
-  stored_names blocks own n w names a (Expression.AnyOf first others) d = tt
-  stored_names blocks own n w names a (Expression.Assign place value) d = tt
+-- the code is in blocks that have so many locals each, in a function of so many unnamed values, over so many objects of the data
+module _ (blocks : List ℕ) (own n : ℕ) (w : World) (names : List Named) (structs : AreStructs w.unions w.structs) (around : Around blocks n w names) where
+  -- a pointer to a variable
+  variable_names : (name : List ℕ) (d : ℕ) → CodeNames blocks own n (address_by (local_named names name) (bound_to w.globals name) d)
+  variable_names name d =
+      address_names blocks own n d (local_named names name) (bound_to w.globals name) (local_lies blocks names name around.locals)
+      (global_lies n w.globals name around.globals)
 
-  pub place_names : (blocks : List ℕ) (own n : ℕ) (w : World) (names : List Named) → Around blocks n w names → (e : Expression) (d : ℕ)
-      → CodeNames blocks own n (place_code w names e d)
-  place_names blocks own n w names a (Expression.Variable name) d =
-      address_names blocks own n d (local_named names name.text) (bound_to w.globals name.text) (local_lies blocks names name.text a.locals)
-      (global_lies n w.globals name.text a.globals)
-  place_names blocks own n w names a (Expression.Grouped at inner) d = place_names blocks own n w names a inner d
-  place_names blocks own n w names a (Expression.Prefixed at operator operand) d =
-      pointed_names blocks own n operator (static_shape w names operand) d (expression_code w names operand d)
-      (expression_names blocks own n w names a operand d)
-  place_names blocks own n w names a (Expression.Number at value suffix) d = tt
-  place_names blocks own n w names a (Expression.Character at byte) d = tt
-  place_names blocks own n w names a (Expression.Text at bytes) d = tt
-  place_names blocks own n w names a (Expression.Null at) d = tt
-  place_names blocks own n w names a (Expression.HeapRegion at) d = tt
-  place_names blocks own n w names a (Expression.UniqueRegion at) d = tt
-  place_names blocks own n w names a (Expression.Call name arguments) d = tt
-  place_names blocks own n w names a (Expression.MakeUnion tag member value) d = tt
-  place_names blocks own n w names a (Expression.NumElts at operand) d = tt
-  place_names blocks own n w names a (Expression.Suffixed primary others) d =
-      let left = suffixes_names blocks own n w others d
-      (left_of (static_shape w names primary) (expression_code w names primary d) (place_code w names primary d))
-      (record { value = expression_names blocks own n w names a primary d; pointer = place_names blocks own n w names a primary d }) in
-      both_name blocks own n _ _ left.pointer (offset_names blocks own n d _ _)
-  place_names blocks own n w names a (Expression.New at made) d = tt
-  place_names blocks own n w names a (Expression.NewIn at handle made) d = tt
-  place_names blocks own n w names a (Expression.Chain first others) d = tt
-  place_names blocks own n w names a (Expression.AllOf first others) d = tt
-  place_names blocks own n w names a (Expression.AnyOf first others) d = tt
-  place_names blocks own n w names a (Expression.Assign place value) d = tt
+  mutual
+    stored_names : (e : Expression) (d next : ℕ) → TakesPlace w names e → next + length (expression_values w names e) ≤ own
+        → CodeNames blocks own n (put_code w names e d next)
+    stored_names (Expression.Variable name) d next h f =
+        put_names blocks own n d (local_named names name.text) (bound_to w.globals name.text) (local_lies blocks names name.text around.locals)
+        (global_lies n w.globals name.text around.globals)
+    stored_names (Expression.Grouped at inner) d next h f = stored_names inner d next h f
+    stored_names (Expression.Prefixed at operator operand) d next h f =
+        both_name blocks own n _ _
+        (pointed_names blocks own n operator (static_shape w names operand) (d + 1) (expression_code w names operand (d + 1) next) (Takes w names operand) h
+        (λ k. expression_names operand (d + 1) next k f)) (tt, tt)
+    stored_names (Expression.Suffixed primary others) d next h f =
+        both_name blocks own n _ _
+        (primary_names blocks own n w others (d + 1) (static_shape w names primary) (expression_code w names primary (d + 1) next)
+        (place_code w names primary (d + 1) next) (Takes w names primary) (TakesPlace w names primary) h
+        (λ k. expression_names primary (d + 1) next k f) (λ k. place_names primary (d + 1) next k f)).pointer (tt, tt)
+    stored_names _ d next h f = absurd h
 
-  pub expression_names : (blocks : List ℕ) (own n : ℕ) (w : World) (names : List Named) → Around blocks n w names → (e : Expression) (d : ℕ)
-      → CodeNames blocks own n (expression_code w names e d)
-  expression_names blocks own n w names a (Expression.Number at value suffix) d = (tt, tt)
-  expression_names blocks own n w names a (Expression.Character at byte) d = (tt, tt)
-  expression_names blocks own n w names a (Expression.Variable name) d =
-      get_names blocks own n d (local_named names name.text) (bound_to w.globals name.text) (local_lies blocks names name.text a.locals)
-      (global_lies n w.globals name.text a.globals)
-  expression_names blocks own n w names a (Expression.Call name arguments) d =
-      both_name blocks own n _ _ (arguments_name blocks own n w names a (call_parameters w name.text) arguments d)
-      (call_names blocks own n w name.text (count_of arguments) d)
-  expression_names blocks own n w names a (Expression.Grouped at inner) d = expression_names blocks own n w names a inner d
-  expression_names blocks own n w names a (Expression.Prefixed at operator operand) d =
-      prefix_names blocks own n operator (static_shape w names operand) d (expression_code w names operand (d + 1)) (expression_code w names operand d)
-      (place_code w names operand d) (expression_names blocks own n w names a operand (d + 1)) (expression_names blocks own n w names a operand d)
-      (place_names blocks own n w names a operand d)
-  expression_names blocks own n w names a (Expression.Chain first others) d =
-      both_name blocks own n _ _ (expression_names blocks own n w names a first d) (links_name blocks own n w names a others (static_shape w names first) d)
-  expression_names blocks own n w names a (Expression.AllOf first others) d =
-      both_name blocks own n _ _
-      (both_name blocks own n _ _ (expression_names blocks own n w names a first d) (word_names blocks own n d (static_shape w names first)))
-      (both_name blocks own n (all_code w names others d) (truth_code d) (each_names blocks own n w names a others d) (tt, (tt, tt)))
-  expression_names blocks own n w names a (Expression.AnyOf first others) d =
-      both_name blocks own n _ _
-      (both_name blocks own n _ _ (expression_names blocks own n w names a first d) (word_names blocks own n d (static_shape w names first)))
-      (both_name blocks own n (any_code w names others d) (truth_code d) (any_names blocks own n w names a others d) (tt, (tt, tt)))
-  expression_names blocks own n w names a (Expression.Assign place value) d =
-      both_name blocks own n _ _ (expression_names blocks own n w names a value d)
-      (both_name blocks own n _ _ (conversion_names blocks own n d (static_shape w names place) (static_shape w names value))
-      (stored_names blocks own n w names a place d))
-  expression_names blocks own n w names a (Expression.Text at bytes) d = tt
-  expression_names blocks own n w names a (Expression.Null at) d = (tt, tt)
-  expression_names blocks own n w names a (Expression.HeapRegion at) d = tt
-  expression_names blocks own n w names a (Expression.UniqueRegion at) d = tt
-  expression_names blocks own n w names a (Expression.MakeUnion tag member value) d = tt
-  expression_names blocks own n w names a (Expression.NumElts at operand) d = tt
-  expression_names blocks own n w names a (Expression.Suffixed primary others) d = (suffixes_names blocks own n w others d
-      (left_of (static_shape w names primary) (expression_code w names primary d) (place_code w names primary d))
-      (record { value = expression_names blocks own n w names a primary d; pointer = place_names blocks own n w names a primary d })).value
-  expression_names blocks own n w names a (Expression.New at made) d = tt
-  expression_names blocks own n w names a (Expression.NewIn at handle made) d = tt
+    pub place_names : (e : Expression) (d next : ℕ) → TakesPlace w names e → next + length (expression_values w names e) ≤ own
+        → CodeNames blocks own n (place_code w names e d next)
+    place_names (Expression.Variable name) d next h f = variable_names name.text d
+    place_names (Expression.Grouped at inner) d next h f = place_names inner d next h f
+    place_names (Expression.Prefixed at operator operand) d next h f =
+        pointed_names blocks own n operator (static_shape w names operand) d (expression_code w names operand d next) (Takes w names operand) h
+        (λ k. expression_names operand d next k f)
+    place_names (Expression.Suffixed primary others) d next h f =
+        placed_names blocks own n w others d (static_shape w names primary) (expression_code w names primary d next) (place_code w names primary d next)
+        (Takes w names primary) (TakesPlace w names primary) h (λ k. expression_names primary d next k f) (λ k. place_names primary d next k f)
+    place_names _ d next h f = absurd h
 
-  arguments_name : (blocks : List ℕ) (own n : ℕ) (w : World) (names : List Named) → Around blocks n w names → (shapes : List Shape) (es : Expressions) (d : ℕ)
-      → CodeNames blocks own n (arguments_code w names shapes es d)
-  arguments_name blocks own n w names a [] es d = tt
-  arguments_name blocks own n w names a (s ∷ ss) NoExpressions d = tt
-  arguments_name blocks own n w names a (s ∷ ss) (MoreExpressions e es) d =
-      both_name blocks own n _ _ (expression_names blocks own n w names a e d)
-      (both_name blocks own n _ _ (conversion_names blocks own n d s (static_shape w names e)) (arguments_name blocks own n w names a ss es (d + 1)))
+    pub expression_names : (e : Expression) (d next : ℕ) → Takes w names e → next + length (expression_values w names e) ≤ own
+        → CodeNames blocks own n (expression_code w names e d next)
+    expression_names (Expression.Number at value suffix) d next h f = (tt, tt)
+    expression_names (Expression.Character at byte) d next h f = (tt, tt)
+    expression_names (Expression.Null at) d next h f = (tt, tt)
+    expression_names (Expression.HeapRegion at) d next h f = (tt, tt)
+    expression_names (Expression.Variable name) d next h f =
+        get_names blocks own n d (local_named names name.text) (bound_to w.globals name.text) (local_lies blocks names name.text around.locals)
+        (global_lies n w.globals name.text around.globals)
+    expression_names (Expression.Call name arguments) d next h f =
+        both_name blocks own n _ _ (arguments_name (call_parameters w name.text) arguments d next h.1 f)
+        (call_names blocks own n w name.text (count_of arguments) d)
+    expression_names (Expression.Grouped at inner) d next h f = expression_names inner d next h f
+    expression_names (Expression.Prefixed at operator operand) d next h f =
+        prefix_names blocks own n operator (static_shape w names operand) d (expression_code w names operand (d + 1) next)
+        (expression_code w names operand d next) (place_code w names operand d next) (Takes w names operand) (TakesPlace w names operand) h
+        (λ k. expression_names operand (d + 1) next k f) (λ k. expression_names operand d next k f) (λ k. place_names operand d next k f)
+    expression_names (Expression.Suffixed primary others) d next h f =
+        (primary_names blocks own n w others d (static_shape w names primary) (expression_code w names primary d next) (place_code w names primary d next)
+        (Takes w names primary) (TakesPlace w names primary) h.0 (λ k. expression_names primary d next k f) (λ k. place_names primary d next k f)).value
+    expression_names (Expression.New at new) d next h f = (tt, new_names new d next h f)
+    expression_names (Expression.NewIn at handle new) d next h f =
+        let many = length-append (expression_values w names handle) (new_values w names new) in
+        both_name blocks own n _ _ (expression_names handle d next h.1.0 (omega (arith, f, many)))
+        (new_names new d (next + length (expression_values w names handle)) h.1.1 (omega (arith, f, many)))
+    expression_names (Expression.Chain first others) d next h f =
+        let many = length-append (expression_values w names first) (link_values w names others) in
+        both_name blocks own n _ _ (expression_names first d next h.0 (omega (arith, f, many)))
+        (links_name others (static_shape w names first) d (next + length (expression_values w names first)) h.1 (omega (arith, f, many)))
+    expression_names (Expression.AllOf first others) d next h f =
+        let many = length-append (expression_values w names first) (all_values w names others) in
+        let behind = next + length (expression_values w names first) in
+        both_name blocks own n _ _
+        (both_name blocks own n _ _ (expression_names first d next h.0 (omega (arith, f, many))) (word_names blocks own n d (static_shape w names first)))
+        (both_name blocks own n (all_code w names others d behind) (truth_code d) (each_names others d behind h.1 (omega (arith, f, many))) (tt, (tt, tt)))
+    expression_names (Expression.AnyOf first others) d next h f =
+        let many = length-append (expression_values w names first) (all_values w names others) in
+        let behind = next + length (expression_values w names first) in
+        both_name blocks own n _ _
+        (both_name blocks own n _ _ (expression_names first d next h.0 (omega (arith, f, many))) (word_names blocks own n d (static_shape w names first)))
+        (both_name blocks own n (any_code w names others d behind) (truth_code d) (any_names others d behind h.1 (omega (arith, f, many))) (tt, (tt, tt)))
+    expression_names (Expression.Assign place value) d next h f =
+        let many = length-append (expression_values w names value) (expression_values w names place) in
+        both_name blocks own n _ _ (expression_names value d next h.1.0 (omega (arith, f, many)))
+        (both_name blocks own n _ _ (conversion_names blocks own n d (static_shape w names place) (static_shape w names value))
+        (stored_names place d (next + length (expression_values w names value)) h.0 (omega (arith, f, many))))
+    expression_names _ d next h f = absurd h
 
-  links_name : (blocks : List ℕ) (own n : ℕ) (w : World) (names : List Named) → Around blocks n w names → (links : Links) (left : Shape) (d : ℕ)
-      → CodeNames blocks own n (links_code w names links left d)
-  links_name blocks own n w names a NoLinks left d = tt
-  links_name blocks own n w names a (MoreLinks operator operand others) left d =
-      both_name blocks own n _ _ (expression_names blocks own n w names a operand (d + 1))
-      (both_name blocks own n (operator_code operator left (static_shape w names operand) d) _
-      (operator_names blocks own n operator left (static_shape w names operand) d)
-      (links_name blocks own n w names a others (operator_shape operator left (static_shape w names operand)) d))
+    arguments_name : (shapes : List Shape) (es : Expressions) (d next : ℕ) → TakesAll w names es → next + length (all_values w names es) ≤ own
+        → CodeNames blocks own n (arguments_code w names shapes es d next)
+    arguments_name [] es d next h f = tt
+    arguments_name (s ∷ ss) NoExpressions d next h f = tt
+    arguments_name (s ∷ ss) (MoreExpressions e es) d next h f =
+        let many = length-append (expression_values w names e) (all_values w names es) in
+        both_name blocks own n _ _ (expression_names e d next h.0 (omega (arith, f, many)))
+        (both_name blocks own n _ _ (conversion_names blocks own n d s (static_shape w names e))
+        (arguments_name ss es (d + 1) (next + length (expression_values w names e)) h.1 (omega (arith, f, many))))
 
-  each_names : (blocks : List ℕ) (own n : ℕ) (w : World) (names : List Named) → Around blocks n w names → (es : Expressions) (d : ℕ)
-      → CodeNames blocks own n (all_code w names es d)
-  each_names blocks own n w names a NoExpressions d = tt
-  each_names blocks own n w names a (MoreExpressions e es) d = (
-    (
-      all_name blocks own n _ (both_name blocks own n (expression_code w names e d) (word_code (static_shape w names e) d)
-          (expression_names blocks own n w names a e d) (word_names blocks own n d (static_shape w names e))),
-      tt,
-    ),
-    each_names blocks own n w names a es d,
-  )
+    links_name : (links : Links) (left : Shape) (d next : ℕ) → TakesLinks w names links → next + length (link_values w names links) ≤ own
+        → CodeNames blocks own n (links_code w names links left d next)
+    links_name NoLinks left d next h f = tt
+    links_name (MoreLinks operator operand others) left d next h f =
+        let many = length-append (expression_values w names operand) (link_values w names others) in
+        both_name blocks own n _ _ (expression_names operand (d + 1) next h.0 (omega (arith, f, many)))
+        (both_name blocks own n (operator_code operator left (static_shape w names operand) d) _
+        (operator_names blocks own n operator left (static_shape w names operand) d)
+        (links_name others (operator_shape operator left (static_shape w names operand)) d (next + length (expression_values w names operand)) h.1
+        (omega (arith, f, many))))
 
-  any_names : (blocks : List ℕ) (own n : ℕ) (w : World) (names : List Named) → Around blocks n w names → (es : Expressions) (d : ℕ)
-      → CodeNames blocks own n (any_code w names es d)
-  any_names blocks own n w names a NoExpressions d = tt
-  any_names blocks own n w names a (MoreExpressions e es) d = (
-    (
-      tt,
-      all_name blocks own n _ (both_name blocks own n (expression_code w names e d) (word_code (static_shape w names e) d)
-          (expression_names blocks own n w names a e d) (word_names blocks own n d (static_shape w names e))),
-    ),
-    any_names blocks own n w names a es d,
-  )
+    each_names : (es : Expressions) (d next : ℕ) → TakesAll w names es → next + length (all_values w names es) ≤ own
+        → CodeNames blocks own n (all_code w names es d next)
+    each_names NoExpressions d next h f = tt
+    each_names (MoreExpressions e es) d next h f =
+        let many = length-append (expression_values w names e) (all_values w names es) in (
+          (
+            all_name blocks own n _ (both_name blocks own n (expression_code w names e d next) (word_code (static_shape w names e) d)
+                (expression_names e d next h.0 (omega (arith, f, many))) (word_names blocks own n d (static_shape w names e))),
+            tt,
+          ),
+          each_names es d (next + length (expression_values w names e)) h.1 (omega (arith, f, many)),
+        )
+
+    any_names : (es : Expressions) (d next : ℕ) → TakesAll w names es → next + length (all_values w names es) ≤ own
+        → CodeNames blocks own n (any_code w names es d next)
+    any_names NoExpressions d next h f = tt
+    any_names (MoreExpressions e es) d next h f =
+        let many = length-append (expression_values w names e) (all_values w names es) in (
+          (
+            tt,
+            all_name blocks own n _ (both_name blocks own n (expression_code w names e d next) (word_code (static_shape w names e) d)
+                (expression_names e d next h.0 (omega (arith, f, many))) (word_names blocks own n d (static_shape w names e))),
+          ),
+          any_names es d (next + length (expression_values w names e)) h.1 (omega (arith, f, many)),
+        )
+
+    new_names : (new : Made) (d next : ℕ) → TakesNew w names new → next + length (new_values w names new) ≤ own
+        → CodeNames blocks own n (new_code w names new d next)
+    new_names (One e) d next h f =
+        made_names blocks own n w structs d next (whole_values w names e) (expression_values w names e) (whole_code w names e (d + 1) next)
+        (expression_code w names e (d + 1) next) (TakesWhole w names e) (Takes w names e) (λ k room. whole_names e (d + 1) next k room)
+        (λ k room. expression_names e (d + 1) next k room) (static_shape w names e) h.0 h.1 f
+    new_names (Array index count element) d next h f = absurd h
+
+    -- structs
+    pub whole_names : (e : Expression) (d next : ℕ) → TakesWhole w names e → next + length (whole_values w names e) ≤ own
+        → CodeNames blocks own n (whole_code w names e d next)
+    whole_names (Expression.Call name arguments) d next h f = (
+      omega (arith, f),
+      members_names (parts_of w.structs name.text) arguments d 0 0 (suc next) (struct_made w.unions w.structs name.text structs).members h.1
+          (omega (arith, f)),
+    )
+    whole_names (Expression.Grouped at inner) d next h f = whole_names inner d next h f
+    whole_names (Expression.Variable name) d next h f =
+        read_names blocks own n w structs (static_shape w names (Expression.Variable name)) d next _ h.1 (omega (arith, f)) (variable_names name.text d)
+    whole_names (Expression.Suffixed primary others) d next h f =
+        read_names blocks own n w structs (static_shape w names (Expression.Suffixed primary others)) d next _ h.1 (omega (arith, f))
+        (placed_names blocks own n w others d (static_shape w names primary) (expression_code w names primary d (suc next))
+        (place_code w names primary d (suc next)) (Takes w names primary) (TakesPlace w names primary) h.0
+        (λ k. expression_names primary d (suc next) k (omega (arith, f))) (λ k. place_names primary d (suc next) k (omega (arith, f))))
+    whole_names (Expression.Prefixed at operator operand) d next h f =
+        read_names blocks own n w structs (static_shape w names (Expression.Prefixed at operator operand)) d next _ h.1 (omega (arith, f))
+        (pointed_names blocks own n operator (static_shape w names operand) d (expression_code w names operand d (suc next)) (Takes w names operand) h.0
+        (λ k. expression_names operand d (suc next) k (omega (arith, f))))
+    whole_names _ d next h f = absurd h
+
+    members_names : (ps : List Part) (arguments : Expressions) (d cells bytes next : ℕ) → AreObjects w.structs (part_shapes ps)
+        → TakesMade w names ps arguments → next + length (made_values w names ps arguments) ≤ own
+        → CodeNames blocks own n (members_code w names ps arguments d cells bytes next)
+    members_names [] arguments d cells bytes next objects h f = tt
+    members_names (p ∷ ps) NoExpressions d cells bytes next objects h f = tt
+    members_names (p ∷ ps) (MoreExpressions first others) d cells bytes next objects h f =
+        let at = rounded_up bytes (extent_of w p.shape).align in
+        let values = values_by p.shape (whole_values w names first) (expression_values w names first) in
+        let many = length-append values (made_values w names ps others) in
+        both_name blocks own n _ _
+        (member_names blocks own n w structs d next (whole_values w names first) (expression_values w names first) (whole_code w names first (d + 1) next)
+        (expression_code w names first (d + 1) next) (TakesWhole w names first) (Takes w names first) (λ k room. whole_names first (d + 1) next k room)
+        (λ k room. expression_names first (d + 1) next k room) p.shape (static_shape w names first) cells at objects.0 h.0 (omega (arith, f, many)))
+        (members_names ps others d (cells + length (cells_of w p.shape)) (at + (extent_of w p.shape).size) (next + length values) objects.1 h.1
+        (omega (arith, f, many)))

@@ -1,32 +1,15 @@
 -- The code of statements, functions and globals of a program that is taken names what there is: the program can be selected.
-use Rattle.std.proofs.Common.{◌≡◌, ℕ, suc, ◌+◌, ◌<◌, ◌≤◌, List, [], ◌∷◌, ◌++◌, length, Some, None, refl, sym, ap, subst, arith, length-append}
+use Rattle.std.proofs.Common.{◌≡◌, ℕ, zero, suc, ◌+◌, ◌<◌, ◌≤◌, List, [], ◌∷◌, ◌++◌, length, Some, None, refl, sym, ap, subst, arith, length-append}
 use Rattle.cyc_tree.specs.Tree as tree
 use Rattle.cyc_tree.specs.Tree.{Expression, Initializer, Declaration, Statement, BlockItems, NoItems, Declare, Execute, Item}
-use Rattle.source_meaning.specs.Shapes.{
-  Shape,
-  IntShape,
-  UnsignedShape,
-  CharShape,
-  VoidShape,
-  ThinShape,
-  FatShape,
-  HandleShape,
-  KeyShape,
-  StructShape,
-  UnionShape,
-  ArrayShape,
-  Part,
-  part_shapes,
-  written,
-  settled,
-}
+use Rattle.source_meaning.specs.Shapes.{Shape, VoidShape, ThinShape, StructShape, Part, part_shapes, written, settled}
 use Rattle.source_meaning.specs.Steps.{World, Routine}
 use Rattle.source_meaning.specs.Programs.{globals_from}
 use Rattle.core_meaning.specs.Core as core
 use Rattle.core_meaning.specs.Core.{Do, Put}
 use Rattle.core_frames.specs.Layouts.{IsLayout}
 use Rattle.core_frames.specs.Selectable.{AreLayouts, HaveLayouts}
-use Rattle.source_lowering.specs.Lowered.{Named, static_shape, width_of, conversion_code, expression_code}
+use Rattle.source_lowering.specs.Lowered.{Named, static_shape, width_of, conversion_code, expression_values, expression_code}
 use Rattle.source_lowering.specs.Programs.{
   local_shape,
   block_shapes,
@@ -37,9 +20,15 @@ use Rattle.source_lowering.specs.Programs.{
   value_code,
   initial_values,
   declaration_code,
+  ending_code,
+  leaving_code,
   declaration_values,
   statement_values,
   item_values,
+  RegionsAround,
+  no_regions,
+  in_loop,
+  regions_with,
   statement_code,
   items_code,
   parameter_names,
@@ -49,7 +38,7 @@ use Rattle.source_lowering.specs.Programs.{
   routine_values,
   data_of,
 }
-use Rattle.source_lowering.specs.Lowerable.{IsObject, AreObjects, AreStructs, TakesValue, TakesDeclaration, TakesStatement, TakesItems, TakesProgram}
+use Rattle.source_lowering.specs.Lowerable.{IsObject, AreObjects, AreStructs, Takes, TakesValue, TakesDeclaration, TakesStatement, TakesItems, TakesProgram}
 use Rattle.source_lowering.proofs.Integers.{word_object}
 use Rattle.source_lowering.proofs.Names.{AreParameters, IsRoutine}
 use Rattle.source_lowering.proofs.EachDeclaration.{shape_object}
@@ -102,128 +91,135 @@ one_more : (k : ℕ) (blocks : List ℕ) (n : ℕ) (w : World) (names : List Nam
     → Around (k ∷ blocks) n w names → Around (k ∷ blocks) n w (named_here name s index ∷ names)
 one_more k blocks n w names name s index h a = record { locals = (h, a.locals); globals = a.globals }
 
--- ---- statements
+-- ---- declarations
 
-unset_names : (k : ℕ) (blocks : List ℕ) (own n : ℕ) (w : World) (s : Shape) (index : ℕ) → AreStructs w.unions w.structs → IsObject w.structs s
-    → index < k → CodeNames (k ∷ blocks) own n (unset_code w s index)
-unset_names k blocks own n w (StructShape tag) index structs object h =
+unset_names : (k : ℕ) (blocks : List ℕ) (own n : ℕ) (w : World) (s : Shape) (d index : ℕ) → AreStructs w.unions w.structs → IsObject w.structs s
+    → index < k → CodeNames (k ∷ blocks) own n (unset_code w s d index)
+unset_names k blocks own n w (StructShape tag) d index structs object h =
     let l = object_layout w (StructShape tag) structs object in (h, ((l.lies, l.full, l.nothing), tt))
-unset_names k blocks own n w IntShape index structs object h = (tt, (h, tt))
-unset_names k blocks own n w UnsignedShape index structs object h = (tt, (h, tt))
-unset_names k blocks own n w CharShape index structs object h = (tt, (h, tt))
-unset_names k blocks own n w (ThinShape b owner to) index structs object h = (tt, (h, tt))
-unset_names k blocks own n w VoidShape index structs object h = absurd object
-unset_names k blocks own n w (FatShape to) index structs object h = absurd object
-unset_names k blocks own n w HandleShape index structs object h = absurd object
-unset_names k blocks own n w KeyShape index structs object h = absurd object
-unset_names k blocks own n w (UnionShape tag) index structs object h = absurd object
-unset_names k blocks own n w (ArrayShape count of) index structs object h = absurd object
+unset_names k blocks own n w (ThinShape b owner to) d index structs object h = (tt, (h, tt))
+unset_names k blocks own n w _ d index structs object h = (tt, (h, tt))
 
-value_names : (k : ℕ) (blocks : List ℕ) (own n : ℕ) (w : World) (names : List Named) (s : Shape) (e : Expression) (index next : ℕ)
+value_names : (k : ℕ) (blocks : List ℕ) (own n : ℕ) (w : World) (names : List Named) (s : Shape) (e : Expression) (d index next : ℕ)
     → AreStructs w.unions w.structs → Around (k ∷ blocks) n w names → IsObject w.structs s → TakesValue w names s e → index < k
-    → next + length (initial_values w names s e) ≤ own → CodeNames (k ∷ blocks) own n (value_code w names s e index next)
-value_names k blocks own n w names s e index next structs a object takes h f = by s object takes f
+    → next + length (initial_values w names s e) ≤ own → CodeNames (k ∷ blocks) own n (value_code w names s e d index next)
+value_names k blocks own n w names s e d index next structs a object takes h f = by s object takes f
   where
-    word : (of : Shape) → CodeNames (k ∷ blocks) own n
-        (expression_code w names e 0 ++ (conversion_code of (static_shape w names e) 0 ++ (core.Do (Put 0 index (width_of of) 0) ∷ [])))
-    word of =
-        both_name (k ∷ blocks) own n _ _ (expression_names (k ∷ blocks) own n w names a e 0)
-        (both_name (k ∷ blocks) own n _ _ (conversion_names (k ∷ blocks) own n 0 of (static_shape w names e)) (h, tt))
+    word : (of : Shape) → Takes w names e → next + length (expression_values w names e) ≤ own → CodeNames (k ∷ blocks) own n
+        (expression_code w names e d next ++ (conversion_code of (static_shape w names e) d ++ (core.Do (Put 0 index (width_of of) d) ∷ [])))
+    word of takes f =
+        both_name (k ∷ blocks) own n _ _ (expression_names (k ∷ blocks) own n w names structs a e d next takes f)
+        (both_name (k ∷ blocks) own n _ _ (conversion_names (k ∷ blocks) own n d of (static_shape w names e)) (h, tt))
 
     by : (of : Shape) → IsObject w.structs of → TakesValue w names of e → next + length (initial_values w names of e) ≤ own
-        → CodeNames (k ∷ blocks) own n (value_code w names of e index next)
+        → CodeNames (k ∷ blocks) own n (value_code w names of e d index next)
     by (StructShape tag) o takes f =
         let l = object_layout w (StructShape tag) structs o in
-        both_name (k ∷ blocks) own n _ _ (source_names (k ∷ blocks) own n w names structs a e next takes f) (h, ((l.lies, l.full), tt))
-    by IntShape o takes f = word IntShape
-    by UnsignedShape o takes f = word UnsignedShape
-    by CharShape o takes f = word CharShape
-    by (ThinShape b owner to) o takes f = word (ThinShape b owner to)
-    by VoidShape o takes f = absurd o
-    by (FatShape to) o takes f = absurd o
-    by HandleShape o takes f = absurd o
-    by KeyShape o takes f = absurd o
-    by (UnionShape tag) o takes f = absurd o
-    by (ArrayShape count from) o takes f = absurd o
+        both_name (k ∷ blocks) own n _ _ (source_names (k ∷ blocks) own n w names structs a e d next takes f) (h, ((l.lies, l.full), tt))
+    by of o takes f = word of takes f
 
 declaration_names : (k : ℕ) (blocks : List ℕ) (own n : ℕ) (w : World) (names : List Named) → AreStructs w.unions w.structs
-    → Around (k ∷ blocks) n w names → (d : Declaration) (index next : ℕ) → TakesDeclaration w names d → index < k
-    → next + length (declaration_values w names d) ≤ own → CodeNames (k ∷ blocks) own n (declaration_code w names d index next)
-declaration_names k blocks own n w names structs a (tree.Local of name Initializer.Unset) index next takes h f =
-    unset_names k blocks own n w (settled (written of)) index structs (object_settled w.structs of takes.0) h
-declaration_names k blocks own n w names structs a (tree.Local of name (Initializer.Elements count)) index next takes h f = tt
-declaration_names k blocks own n w names structs a (tree.Local of name (Initializer.Value e)) index next takes h f =
-    value_names k blocks own n w names (settled (written of)) e index next structs a (object_settled w.structs of takes.0) takes.1 h f
-declaration_names k blocks own n w names structs a (tree.Region at region handle) index next takes h f = tt
-declaration_names k blocks own n w names structs a (tree.Open at region handle key) index next takes h f = tt
-declaration_names k blocks own n w names structs a (tree.Alias at region of alias pointer) index next takes h f = tt
-declaration_names k blocks own n w names structs a (tree.NewKey at region key) index next takes h f = tt
+    → Around (k ∷ blocks) n w names → (declared : Declaration) (d index next : ℕ) → TakesDeclaration w names declared → index < k
+    → next + length (declaration_values w names declared) ≤ own → CodeNames (k ∷ blocks) own n (declaration_code w names declared d index next)
+declaration_names k blocks own n w names structs a (tree.Local of name Initializer.Unset) d index next takes h f =
+    unset_names k blocks own n w (settled (written of)) d index structs (object_settled w.structs of takes.0) h
+declaration_names k blocks own n w names structs a (tree.Local of name (Initializer.Elements count)) d index next takes h f = tt
+declaration_names k blocks own n w names structs a (tree.Local of name (Initializer.Value e)) d index next takes h f =
+    value_names k blocks own n w names (settled (written of)) e d index next structs a (object_settled w.structs of takes.0) takes.1 h f
+declaration_names k blocks own n w names structs a (tree.Region at region handle) d index next takes h f = (tt, (h, tt))
+declaration_names k blocks own n w names structs a _ d index next takes h f = absurd takes
+
+-- regions are freed
+ending_names : (blocks : List ℕ) (own n : ℕ) (declared : Declaration) (d : ℕ) → CodeNames blocks own n (ending_code declared d)
+ending_names blocks own n (tree.Local of name initializer) d = tt
+ending_names blocks own n (tree.Region at region handle) d = (tt, tt)
+ending_names blocks own n (tree.Open at region handle key) d = tt
+ending_names blocks own n (tree.Alias at region of alias pointer) d = tt
+ending_names blocks own n (tree.NewKey at region key) d = tt
+
+leaving_names : (blocks : List ℕ) (own n all count : ℕ) → CodeNames blocks own n (leaving_code all count)
+leaving_names blocks own n all zero = tt
+leaving_names blocks own n zero (suc count) = tt
+leaving_names blocks own n (suc all) (suc count) = (tt, leaving_names blocks own n all count)
+
+-- ---- statements
 
 mutual
   -- the unnamed values of a statement are the function's next ones
   statement_names : (blocks : List ℕ) (own n : ℕ) (w : World) (result : Shape) (names : List Named) → AreStructs w.unions w.structs
-      → Around blocks n w names → (s : Statement) (next : ℕ) → TakesStatement w result names s → next + length (statement_values w names s) ≤ own
-      → CodeNames blocks own n (statement_code w result names next s)
-  statement_names blocks own n w result names structs a (Statement.Empty at) next h f = tt
-  statement_names blocks own n w result names structs a (Statement.Block at items) next h f =
+      → Around blocks n w names → (r : RegionsAround) (s : Statement) (next : ℕ) → TakesStatement w result names s
+      → next + length (statement_values w names s) ≤ own → CodeNames blocks own n (statement_code w result names r next s)
+  statement_names blocks own n w result names structs a r (Statement.Empty at) next h f = tt
+  statement_names blocks own n w result names structs a r (Statement.Block at items) next h f =
       let shapes = block_shapes items in
       let k = length (locals_of w shapes) in
       let many = as_many w shapes in (
         (
           layouts_taken w shapes structs (items_objects w result (outward names) 0 items h),
-          all_name (k ∷ blocks) own n _ (items_names k blocks own n w result (outward names) structs (further_in blocks n k w names a) 0 next items h
+          all_name (k ∷ blocks) own n _ (items_names k blocks own n w result (outward names) structs (further_in blocks n k w names a) r 0 next items h
               (omega (arith, many)) f),
         ),
         tt,
       )
-  statement_names blocks own n w result names structs a (Statement.Run e) next h f = run_names blocks own n w names structs a e next h f
-  statement_names blocks own n w result names structs a (Statement.If at condition body) next h f =
-      both_name blocks own n _ _ (expression_names blocks own n w names a condition 0)
-      ((all_name blocks own n _ (statement_names blocks own n w result names structs a body next h.1 f), tt), tt)
-  statement_names blocks own n w result names structs a (Statement.IfElse at condition body otherwise) next h f =
-      let many = length-append (statement_values w names body) (statement_values w names otherwise) in
-      both_name blocks own n _ _ (expression_names blocks own n w names a condition 0) (
+  statement_names blocks own n w result names structs a r (Statement.Run e) next h f = run_names blocks own n w names structs a e r.all next h f
+  statement_names blocks own n w result names structs a r (Statement.If at condition body) next h f =
+      let tested = length (expression_values w names condition) in
+      let many = length-append (expression_values w names condition) (statement_values w names body) in
+      both_name blocks own n _ _ (expression_names blocks own n w names structs a condition r.all next h.0 (omega (arith, f, many)))
+      ((all_name blocks own n _ (statement_names blocks own n w result names structs a r body (next + tested) h.1 (omega (arith, f, many))), tt), tt)
+  statement_names blocks own n w result names structs a r (Statement.IfElse at condition body otherwise) next h f =
+      let first = next + length (expression_values w names condition) in
+      let both = length-append (statement_values w names body) (statement_values w names otherwise) in
+      let many = length-append (expression_values w names condition) (statement_values w names body ++ statement_values w names otherwise) in
+      both_name blocks own n _ _ (expression_names blocks own n w names structs a condition r.all next h.0 (omega (arith, f, many))) (
         (
-          all_name blocks own n _ (statement_names blocks own n w result names structs a body next h.1.0 (omega (arith, f, many))),
-          all_name blocks own n _ (statement_names blocks own n w result names structs a otherwise (next + length (statement_values w names body)) h.1.1
-              (omega (arith, f, many))),
+          all_name blocks own n _ (statement_names blocks own n w result names structs a r body first h.1.0 (omega (arith, f, many, both))),
+          all_name blocks own n _ (statement_names blocks own n w result names structs a r otherwise (first + length (statement_values w names body)) h.1.1
+              (omega (arith, f, many, both))),
         ),
         tt,
       )
-  statement_names blocks own n w result names structs a (Statement.While at condition body) next h f = (
-    (
-      all_name blocks own n _ (expression_names blocks own n w names a condition 0),
-      all_name blocks own n _ (statement_names blocks own n w result names structs a body next h.1 f),
-    ),
-    tt,
-  )
-  statement_names blocks own n w result names structs a (Statement.Break at) next h f = (tt, tt)
-  statement_names blocks own n w result names structs a (Statement.Continue at) next h f = (tt, tt)
-  statement_names blocks own n w result names structs a (Statement.Return at None) next h f = (omega arith, tt)
-  statement_names blocks own n w result names structs a (Statement.Return at (Some e)) next h f =
-      both_name blocks own n _ _ (expression_names blocks own n w names a e 0)
-      (both_name blocks own n _ _ (conversion_names blocks own n 0 result (static_shape w names e)) (let few = results_many result 0 in omega (arith, few), tt))
-  statement_names blocks own n w result names structs a (Statement.Exchange left right) next h f = absurd h
-  statement_names blocks own n w result names structs a (Statement.Switch at place _) next h f = absurd h
-  statement_names blocks own n w result names structs a (Statement.FreeUnique at pointer) next h f = absurd h
-  statement_names blocks own n w result names structs a (Statement.FreeKey at key) next h f = absurd h
+  statement_names blocks own n w result names structs a r (Statement.While at condition body) next h f =
+      let tested = length (expression_values w names condition) in
+      let many = length-append (expression_values w names condition) (statement_values w names body) in (
+        (
+          all_name blocks own n _ (expression_names blocks own n w names structs a condition r.all next h.0 (omega (arith, f, many))),
+          all_name blocks own n _ (statement_names blocks own n w result names structs a (in_loop r) body (next + tested) h.1 (omega (arith, f, many))),
+        ),
+        tt,
+      )
+  statement_names blocks own n w result names structs a r (Statement.Break at) next h f =
+      both_name blocks own n _ _ (leaving_names blocks own n r.all r.inner) (tt, tt)
+  statement_names blocks own n w result names structs a r (Statement.Continue at) next h f =
+      both_name blocks own n _ _ (leaving_names blocks own n r.all r.inner) (tt, tt)
+  statement_names blocks own n w result names structs a r (Statement.Return at None) next h f =
+      both_name blocks own n _ _ (leaving_names blocks own n r.all r.all) (omega arith, tt)
+  statement_names blocks own n w result names structs a r (Statement.Return at (Some e)) next h f =
+      let few = results_many result r.all in
+      both_name blocks own n _ _ (expression_names blocks own n w names structs a e r.all next h f)
+      (both_name blocks own n _ _ (conversion_names blocks own n r.all result (static_shape w names e))
+      (both_name blocks own n _ _ (leaving_names blocks own n r.all r.all) (omega (arith, few), tt)))
+  statement_names blocks own n w result names structs a r _ next h f = absurd h
 
   -- the locals that the items declare are the block's next ones
   items_names : (k : ℕ) (blocks : List ℕ) (own n : ℕ) (w : World) (result : Shape) (names : List Named) → AreStructs w.unions w.structs
-      → Around (k ∷ blocks) n w names → (index next : ℕ) (items : BlockItems) → TakesItems w result names index items → index + length (block_shapes items) ≤ k
-      → next + length (item_values w names index items) ≤ own → CodeNames (k ∷ blocks) own n (items_code w result names index next items)
-  items_names k blocks own n w result names structs a index next NoItems h f g = tt
-  items_names k blocks own n w result names structs a index next (Declare d others) h f g =
+      → Around (k ∷ blocks) n w names → (r : RegionsAround) (index next : ℕ) (items : BlockItems) → TakesItems w result names index items
+      → index + length (block_shapes items) ≤ k → next + length (item_values w names index items) ≤ own
+      → CodeNames (k ∷ blocks) own n (items_code w result names r index next items)
+  items_names k blocks own n w result names structs a r index next NoItems h f g = tt
+  items_names k blocks own n w result names structs a r index next (Declare d others) h f g =
       let less : index < k = omega (arith, f) in
       let inside = named_here (tree.local_of d).text (local_shape d) index ∷ names in
       let many = length-append (declaration_values w names d) (item_values w inside (suc index) others) in
-      both_name (k ∷ blocks) own n _ _ (declaration_names k blocks own n w names structs a d index next h.0 less (omega (arith, g, many)))
-      (items_names k blocks own n w result inside structs (one_more k blocks n w names (tree.local_of d).text (local_shape d) index less a) (suc index)
-      (next + length (declaration_values w names d)) others h.1 (omega (arith, f)) (omega (arith, g, many)))
-  items_names k blocks own n w result names structs a index next (Execute s others) h f g =
+      both_name (k ∷ blocks) own n _ _ (declaration_names k blocks own n w names structs a d r.all index next h.0 less (omega (arith, g, many)))
+      (both_name (k ∷ blocks) own n _ _
+      (items_names k blocks own n w result inside structs (one_more k blocks n w names (tree.local_of d).text (local_shape d) index less a) (regions_with d r)
+      (suc index) (next + length (declaration_values w names d)) others h.1 (omega (arith, f)) (omega (arith, g, many)))
+      (ending_names (k ∷ blocks) own n d r.all))
+  items_names k blocks own n w result names structs a r index next (Execute s others) h f g =
       let many = length-append (statement_values w names s) (item_values w names index others) in
-      both_name (k ∷ blocks) own n _ _ (statement_names (k ∷ blocks) own n w result names structs a s next h.0 (omega (arith, g, many)))
-      (items_names k blocks own n w result names structs a index (next + length (statement_values w names s)) others h.1 f (omega (arith, g, many)))
+      both_name (k ∷ blocks) own n _ _ (statement_names (k ∷ blocks) own n w result names structs a r s next h.0 (omega (arith, g, many)))
+      (items_names k blocks own n w result names structs a r index (next + length (statement_values w names s)) others h.1 f (omega (arith, g, many)))
 
 -- ---- functions
 
@@ -245,16 +241,7 @@ end_names s own n = by s
 
     by : (of : Shape) → CodeNames [] own n (end_code of)
     by VoidShape = (omega arith, tt)
-    by IntShape = zero_names
-    by UnsignedShape = zero_names
-    by CharShape = zero_names
-    by (ThinShape may_be_null owner to) = zero_names
-    by (FatShape to) = zero_names
-    by HandleShape = zero_names
-    by KeyShape = zero_names
-    by (StructShape tag) = zero_names
-    by (UnionShape tag) = zero_names
-    by (ArrayShape count of) = zero_names
+    by _ = zero_names
 
 many_shapes : (ps : List Part) (items : BlockItems) → length (part_shapes ps ++ block_shapes items) ≡ length ps + length (block_shapes items)
 many_shapes [] items = omega arith
@@ -278,9 +265,10 @@ body_names n w f globals structs is =
       (
         layouts_taken w shapes structs objects,
         all_name (k ∷ []) own n _
-            (both_name (k ∷ []) own n (parameters_code f.parameters 0) (items_code w f.result names (length f.parameters) 0 f.body)
+            (both_name (k ∷ []) own n (parameters_code f.parameters 0) (items_code w f.result names no_regions (length f.parameters) 0 f.body)
             (parameters_name k own n f.parameters 0 (omega (arith, many, all)))
-            (items_names k [] own n w f.result names structs a (length f.parameters) 0 f.body is.body (omega (arith, many, all)) (omega (arith, room)))),
+            (items_names k [] own n w f.result names structs a no_regions (length f.parameters) 0 f.body is.body (omega (arith, many, all))
+            (omega (arith, room)))),
       ),
       all_name [] own n (end_code f.result) (end_names f.result own n),
     )

@@ -1,6 +1,7 @@
 pub mod Naming
 pub mod Layouts
 pub mod Parts
+pub mod MadeNames
 pub mod Expressions
 pub mod WholeNames
 pub mod Functions

@@ -1,4 +1,4 @@
--- All that is promised of a program of integers, structs and thin pointers.
+-- All that is promised of a program that lowering takes.
 use Rattle.std.proofs.Common.{arith}
 use Rattle.cyc_tree.specs.Tree.{Program}
 use Rattle.source_meaning.specs.Programs.{world_of}

@@ -48,6 +48,7 @@ use Rattle.source_lowering.specs.Lowered.{
   function_call,
   call_code,
 }
+use Rattle.source_lowering.specs.Lowerable.{TakesPrefix, TakesPointer}
 use Rattle.compiled_sources.specs.Naming.{NamesIn, CodeNames}
 use Rattle.compiled_sources.proofs.Naming.{both_name}
 
@@ -232,25 +233,25 @@ not_names blocks own n d (StructShape tag) = (tt, (tt, tt))
 not_names blocks own n d (UnionShape tag) = (tt, (tt, tt))
 not_names blocks own n d (ArrayShape count of) = (tt, (tt, tt))
 
-pub prefix_names : (blocks : List ℕ) (own n : ℕ) (o : Prefix) (s : Shape) (d : ℕ) (above here place : List Statement) → CodeNames blocks own n above
-    → CodeNames blocks own n here → CodeNames blocks own n place → CodeNames blocks own n (prefix_code o s d above here place)
-prefix_names blocks own n prefix.Negate s d above here place h g p =
-    (tt, both_name blocks own n above (operator_code operator.Subtract IntShape s d) h (operator_names blocks own n operator.Subtract IntShape s d))
-prefix_names blocks own n prefix.Complement s d above here place h g p =
-    (tt, both_name blocks own n above (operator_code operator.BitXor IntShape s d) h (operator_names blocks own n operator.BitXor IntShape s d))
-prefix_names blocks own n prefix.Not s d above here place h g p = both_name blocks own n above (not_code s d) h (not_names blocks own n d s)
-prefix_names blocks own n prefix.Dereference s d above here place h g p =
+-- an operator on an operand that is taken as a value, or as a place
+pub prefix_names : (blocks : List ℕ) (own n : ℕ) (o : Prefix) (s : Shape) (d : ℕ) (above here place : List Statement) (value pointed : Type 0)
+    → TakesPrefix o s value pointed → (value → CodeNames blocks own n above) → (value → CodeNames blocks own n here)
+    → (pointed → CodeNames blocks own n place) → CodeNames blocks own n (prefix_code o s d above here place)
+prefix_names blocks own n prefix.Negate s d above here place value pointed takes h g p =
+    (tt, both_name blocks own n above (operator_code operator.Subtract IntShape s d) (h takes) (operator_names blocks own n operator.Subtract IntShape s d))
+prefix_names blocks own n prefix.Complement s d above here place value pointed takes h g p =
+    (tt, both_name blocks own n above (operator_code operator.BitXor IntShape s d) (h takes) (operator_names blocks own n operator.BitXor IntShape s d))
+prefix_names blocks own n prefix.Not s d above here place value pointed takes h g p =
+    both_name blocks own n above (not_code s d) (h takes) (not_names blocks own n d s)
+prefix_names blocks own n prefix.Dereference s d above here place value pointed takes h g p =
     both_name blocks own n (here ++ check_code s d) (load_code (pointee s) d)
-    (both_name blocks own n here (check_code s d) g (check_names blocks own n d s)) (tt, tt)
-prefix_names blocks own n prefix.AddressOf s d above here place h g p = p
+    (both_name blocks own n here (check_code s d) (g takes.0) (check_names blocks own n d s)) (tt, tt)
+prefix_names blocks own n prefix.AddressOf s d above here place value pointed takes h g p = p takes
 
-pub pointed_names : (blocks : List ℕ) (own n : ℕ) (o : Prefix) (s : Shape) (d : ℕ) (here : List Statement) → CodeNames blocks own n here
-    → CodeNames blocks own n (pointed_code o s d here)
-pointed_names blocks own n prefix.Negate s d here h = tt
-pointed_names blocks own n prefix.Complement s d here h = tt
-pointed_names blocks own n prefix.Not s d here h = tt
-pointed_names blocks own n prefix.Dereference s d here h = both_name blocks own n here (check_code s d) h (check_names blocks own n d s)
-pointed_names blocks own n prefix.AddressOf s d here h = tt
+pub pointed_names : (blocks : List ℕ) (own n : ℕ) (o : Prefix) (s : Shape) (d : ℕ) (here : List Statement) (value : Type 0) → TakesPointer o value
+    → (value → CodeNames blocks own n here) → CodeNames blocks own n (pointed_code o s d here)
+pointed_names blocks own n prefix.Dereference s d here value takes h = both_name blocks own n here (check_code s d) (h takes) (check_names blocks own n d s)
+pointed_names blocks own n _ s d here value takes h = absurd takes
 
 pub call_names : (blocks : List ℕ) (own n : ℕ) (w : World) (name : List ℕ) (count d : ℕ) → CodeNames blocks own n (call_code w name count d)
 call_names blocks own n w name count d = by (bytes_eq name (codes "getchar")) (bytes_eq name (codes "putchar")) (function_of w.functions name)

@@ -1,4 +1,4 @@
--- What a program of integers, structs and thin pointers is lowered to has code.
+-- What a program that lowering takes is lowered to has code.
 use Rattle.std.proofs.Common.{◌≡◌, ℕ, zero, suc, List, [], ◌∷◌, length, map, Some, refl, subst, arith}
 use Rattle.std.specs.Prelude.{slice_get}
 use Rattle.cyc_tree.specs.Tree.{Program}

@@ -1,4 +1,4 @@
--- What holds of all programs of integers, thin pointers and structs.
+-- What holds of all programs that lowering takes.
 use Rattle.std.specs.Prelude.{◌≡◌, ◌≤◌, ◌^◌, []}
 use Rattle.cyc_tree.specs.Tree.{Program}
 use Rattle.source_meaning.specs.Programs.{world_of}
@@ -6,7 +6,7 @@ use Rattle.core_frames.specs.Statics.{ArePlainData}
 use Rattle.source_lowering.specs.Lowerable.{IsLowerable}
 use Rattle.source_lowering.specs.Programs.{program_code}
 use Rattle.source_typing.specs.Answers.{program_faults}
-use Rattle.source_typing.specs.Taken.{supported}
+use Rattle.accepted_sources.specs.Supported.{supported}
 use Rattle.core_frames.specs.Running.{data_end}
 use Rattle.compiled_sources.specs.Promise.{AreNamedApart, LowerableDoes}
 

@@ -1,0 +1,65 @@
+-- What stands around the code of values names unnamed values of its function: structs that are copied, members, and what `new` and `rnew` make.
+use Rattle.std.proofs.Common.{ℕ, ◌+◌, ◌<◌, ◌≤◌, List, [], ◌∷◌, ◌++◌, length}
+use Rattle.source_meaning.specs.Shapes.{
+  Shape,
+  IntShape,
+  UnsignedShape,
+  CharShape,
+  VoidShape,
+  ThinShape,
+  FatShape,
+  HandleShape,
+  KeyShape,
+  StructShape,
+  UnionShape,
+  ArrayShape,
+}
+use Rattle.source_meaning.specs.Steps.{World}
+use Rattle.core_meaning.specs.Core.{Do, Statement, Store}
+use Rattle.source_lowering.specs.Lowered.{distance, width_of, values_by, copied_code, word_member_code, member_code, request_code, new_code_by}
+use Rattle.source_lowering.specs.Lowerable.{IsObject, AreStructs, IsStructShape, TakesMember}
+use Rattle.source_lowering.proofs.WholeObjects.{struct_object}
+use Rattle.compiled_sources.specs.Naming.{CodeNames}
+use Rattle.compiled_sources.proofs.Naming.{both_name}
+use Rattle.compiled_sources.proofs.Layouts.{object_layout}
+use Rattle.compiled_sources.proofs.Parts.{conversion_names}
+
+module _ (blocks : List ℕ) (own n : ℕ) (w : World) (structs : AreStructs w.unions w.structs) where
+  -- a place that is read whole
+  pub read_names : (s : Shape) (d next : ℕ) (place : List Statement) → IsStructShape w.structs s → next < own → CodeNames blocks own n place
+      → CodeNames blocks own n (place ++ copied_code w s d next)
+  read_names s d next place h less names =
+      let l = object_layout w s structs (struct_object w.structs s h) in
+      both_name blocks own n _ _ names (less, ((l.lies, l.full), (less, tt)))
+
+  module _ (d next : ℕ) (whole_values word_values : List Shape) (whole word : List Statement) (for_whole for_word : Type 0)
+      (as_whole : for_whole → next + length whole_values ≤ own → CodeNames blocks own n whole)
+      (as_word : for_word → next + length word_values ≤ own → CodeNames blocks own n word) where
+    -- a member of a struct
+    pub member_names : (s from : Shape) (cells bytes : ℕ) → IsObject w.structs s → TakesMember s for_whole for_word
+        → next + length (values_by s whole_values word_values) ≤ own → CodeNames blocks own n (member_code w s from d cells bytes whole word)
+    member_names s from cells bytes object takes room = by s object takes room
+      where
+        as_a_word : (of : Shape) → CodeNames blocks own n word → CodeNames blocks own n (word ++ word_member_code of from d cells bytes)
+        as_a_word of names = both_name blocks own n _ _ names (both_name blocks own n _ _ (conversion_names blocks own n (d + 1) of from) (tt, tt))
+
+        by : (of : Shape) → IsObject w.structs of → TakesMember of for_whole for_word → next + length (values_by of whole_values word_values) ≤ own
+            → CodeNames blocks own n (member_code w of from d cells bytes whole word)
+        by (StructShape tag) o takes room =
+            let l = object_layout w (StructShape tag) structs o in both_name blocks own n _ _ (as_whole takes room) (tt, ((l.lies, l.full), tt))
+        by of o takes room = as_a_word of (as_word takes room)
+
+    -- what is made: a block is asked for, and the value stored there
+    pub made_names : (s : Shape) → IsObject w.structs s → TakesMember s for_whole for_word → next + length (values_by s whole_values word_values) ≤ own
+        → CodeNames blocks own n (new_code_by w s d whole word)
+    made_names s object takes room = by s object takes room
+      where
+        as_a_word : (of : Shape) → IsObject w.structs of → CodeNames blocks own n word
+            → CodeNames blocks own n (word ++ (request_code w of d ++ (Do (Store d (distance 0 0 (width_of of)) (d + 1)) ∷ [])))
+        as_a_word of o names = both_name blocks own n _ _ names (tt, ((object_layout w of structs o).lies, (tt, tt)))
+
+        by : (of : Shape) → IsObject w.structs of → TakesMember of for_whole for_word → next + length (values_by of whole_values word_values) ≤ own
+            → CodeNames blocks own n (new_code_by w of d whole word)
+        by (StructShape tag) o takes room =
+            let l = object_layout w (StructShape tag) structs o in both_name blocks own n _ _ (as_whole takes room) (tt, (l.lies, ((l.lies, l.full), tt)))
+        by of o takes room = as_a_word of o (as_word takes room)

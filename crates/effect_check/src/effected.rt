@@ -4,15 +4,15 @@ ghost use Rattle.std.specs.Prelude.{◌≡◌, Some, None, Err, IfOk};
 ghost use Rattle.type_verdicts.specs.Faults.{fault_of, faults_of};
 ghost use Rattle.type_verdicts.specs.declared.fault.Fault.{Fault as Broken_fault};
 ghost use Rattle.source_typing.specs.Answers.{effect_fault};
-ghost use Rattle.source_typing.specs.Taken.{supported};
+ghost use Rattle.accepted_sources.specs.Supported.{supported};
 
 use crate::fault::CheckFault;
 use cyc_tree::Program;
 use program_types::program_fault;
-use region_types::Typed;
+use region_types::{Typed, supported};
 use std::alloc::{AllocError, Global};
 use std::marker::Model;
-use type_verdicts::{Fault, Taken};
+use type_verdicts::Fault;
 
 /// A program without a fault of names, types, regions, effects and sizes. A contract sees it as the program.
 #[derive(Drop)]
@@ -25,7 +25,7 @@ impl Model for Effected {
     ghost use Rattle.cyc_tree.specs.Tree.{Program as Tree};
     ghost use Rattle.cyc_tree.specs.Stored.{coded_program};
     ghost use Rattle.source_typing.specs.Answers.{effect_fault};
-    ghost use Rattle.source_typing.specs.Taken.{supported};
+    ghost use Rattle.accepted_sources.specs.Supported.{supported};
 
     ghost Value = { Tree };
 
@@ -58,7 +58,7 @@ impl Effected {
 fn earliest_fault(alloc: Global, program: &Program) -> Result<Option<Fault>, AllocError>
     ensures { IfOk result (λ f. faults_of f ≡ effect_fault supported program.now) }
 {
-    program_fault(alloc, Taken::supported(), program, false)
+    program_fault(alloc, supported(), program, false)
 }
 
 /// Looks at a program's regions and effects. A program with a fault is refused with its earliest one, or for want of memory; one

@@ -1,30 +1,21 @@
 -- What region variables are fixed to, one fit after another.
-use Rattle.std.specs.Prelude.{is_some, min, nat_eq, option_map, replicate, ◌&&◌, ◌+◌, ◌++◌, if◌then◌else◌}
+use Rattle.std.specs.Prelude.{is_some, min, nat_eq, option_map, ◌&&◌, ◌+◌, ◌++◌, if◌then◌else◌}
 use Rattle.std.proofs.Common.{◌≡◌, ◌<◌, ◌≤◌, ℕ, zero, suc, Bool, true, false, Option, Some, None}
 use Rattle.std.proofs.Common.{List, [], ◌∷◌, refl, sym, ◌∙◌, ap, arith, drop, get_or, length, set, true≢false}
-use Rattle.cyc_types.specs.Regions.{region_of}
-use Rattle.source_typing.specs.Faults.{Fault, fault, region_rule}
-use Rattle.source_typing.specs.Fixing.{Fit, first_fit, fit, fixed_from, fixed_known, fixed_one, is_found, more}
-use Rattle.source_typing.specs.Regions.{Level, Region, TheHeap, same_id}
-use Rattle.source_typing.specs.Scope.{InRegion}
-use Rattle.source_typing.specs.Verdicts.{Of, Verdict, both, known, unless_faulty}
+use Rattle.source_typing.specs.Fixing.{Fit, first_fit, fit, is_found}
+use Rattle.source_typing.specs.Regions.{Level, TheHeap, same_id}
 use Rattle.source_typing.specs.Written.{Found}
 use Rattle.judged_calls.specs.Fixings.{
   Fixing,
-  all_stand_for,
   first_fixing,
   fixed_with,
   fixing,
-  fixing_faults,
   fixing_of,
   fixings_of,
   found_of,
   noted,
   of_fit,
   or_else,
-  regions_by,
-  stands_for,
-  which_are_known,
 }
 use Rattle.judged_calls.specs.declared.fixing.Fixed.{Fixed}
 use Rattle.judged_calls.specs.declared.fixing.Fixed.TheVariants as region
@@ -105,52 +96,6 @@ level_fixes at j k (suc i) f (Some g ∷ os) h e = ap (λ xs. Some g ∷ xs) (le
 pub all_are_found : (f : Fixed) → is_found (found_of f) ≡ true
 all_are_found (region.Is r) = refl
 all_are_found region.Unique = refl
-
--- ---- what the variables stand for
-
-module _ (at : ℕ) (fs : List Fit) where
-  one_is : (o : Option Fit) → fixed_one (InRegion TheHeap) at o ≡ stands_for (option_map of_fit o)
-  one_is None = refl
-  one_is (Some f) = refl
-
-  pub fixed_is : (k n : ℕ) → fixed_from (InRegion TheHeap) at fs k n ≡ all_stand_for (fixed_with fs k (replicate n None))
-  fixed_is k zero = refl
-  fixed_is k (suc n) =
-      ap (λ v. both v (fixed_from (InRegion TheHeap) at fs (suc k) n) more) (one_is (first_fit fs k))
-      ∙ ap (λ v. both (stands_for (first_fixing fs k)) v more) (fixed_is (suc k) n)
-
-  pub known_is : (k n : ℕ) → fixed_known (InRegion TheHeap) at fs k n ≡ which_are_known (fixed_with fs k (replicate n None))
-  known_is k zero = refl
-  known_is k (suc n) =
-      ap (λ v. known v ∷ fixed_known (InRegion TheHeap) at fs (suc k) n) (one_is (first_fit fs k))
-      ∙ ap (λ os. known (stands_for (first_fixing fs k)) ∷ os) (known_is (suc k) n)
-
-then_more : (r : Region) (gs : List Fault) (rs : List Region)
-    → both (Of r) (unless_faulty gs (Of rs)) more ≡ unless_faulty gs (Of (r ∷ rs))
-then_more r [] rs = refl
-then_more r (g ∷ gs) rs = refl
-
-faulty_more : (f : Fault) (gs : List Fault) (rs : List Region) (V : Verdict (List Region)) (r : Region)
-    → both (unless_faulty (f ∷ []) (Of r)) (unless_faulty gs (Of rs)) more ≡ unless_faulty (f ∷ gs) V
-faulty_more f [] rs V r = refl
-faulty_more f (g ∷ gs) rs V r = refl
-
-pub all_stand : (fs : List (Option code.Fixing))
-    → all_stand_for (fixings_of fs) ≡ unless_faulty (fixing_faults (fixings_of fs)) (Of (regions_by (fixings_of fs)))
-all_stand [] = refl
-all_stand (None ∷ fs) =
-    ap (λ v. both (Of TheHeap) v more) (all_stand fs) ∙ then_more TheHeap (fixing_faults (fixings_of fs)) (regions_by (fixings_of fs))
-all_stand (Some f ∷ fs) = by (all_stand fs) f.is
-  where
-    by : all_stand_for (fixings_of fs) ≡ unless_faulty (fixing_faults (fixings_of fs)) (Of (regions_by (fixings_of fs)))
-        → (is : Fixed) → both (stands_for (Some (fixing (found_of is) f.at))) (all_stand_for (fixings_of fs)) more
-        ≡ unless_faulty (fixing_faults (Some (fixing (found_of is) f.at) ∷ fixings_of fs)) (Of (regions_by (Some (fixing (found_of is) f.at) ∷ fixings_of fs)))
-    by h (region.Is r) =
-        ap (λ v. both (Of (region_of r)) v more) h ∙ then_more (region_of r) (fixing_faults (fixings_of fs)) (regions_by (fixings_of fs))
-    by h region.Unique =
-        ap (λ v. both (stands_for (Some (fixing (found_of region.Unique) f.at))) v more) h
-        ∙ faulty_more (fault region_rule f.at) (fixing_faults (fixings_of fs)) (regions_by (fixings_of fs))
-        (Of (TheHeap ∷ regions_by (fixings_of fs))) TheHeap
 
 pub next_fixed : (one rest : List Fit) (before after : List (Option Fixing)) (all : List (Option Fixing)) → after ≡ fixed_with one 0 before
     → fixed_with (one ++ rest) 0 before ≡ all → fixed_with rest 0 after ≡ all

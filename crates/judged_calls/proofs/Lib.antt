@@ -6,4 +6,5 @@ pub mod Found
 pub mod Holding
 pub mod Paired
 pub mod Places
+pub mod Settling
 pub mod StructsMade

@@ -2,7 +2,7 @@
 use Rattle.std.specs.Prelude.{if◌then◌else◌, bytes_eq}
 use Rattle.std.proofs.Common.{◌≡◌, ℕ, Bool, true, false, Option, Some, List, [], ◌∷◌, refl, sym, ◌∙◌, ap}
 use Rattle.cyc_types.specs.Tables.{tables_of}
-use Rattle.scoped_names.specs.Knows.{Knows, means_in}
+use Rattle.scoped_names.specs.Knows.{Sees, means_in}
 use Rattle.scoped_names.specs.Means.{Means}
 use Rattle.scoped_names.specs.Means as means
 use Rattle.scoped_names.specs.declared.meaning.Meaning.{Meaning}
@@ -26,11 +26,11 @@ behind_locals (l ∷ ls) g x t h = by (bytes_eq l.name x) (behind_locals ls g x 
     by true others h = absurd cc
     by false others h = others h
 
-module _ (s : Scope) (g : Env) (h : Knows s g) (at : ℕ) (x : List ℕ) where
+module _ (s : Scope) (g : Env) (h : Sees s g) (at : ℕ) (x : List ℕ) where
   struct_there : (t : Tag) (b : Bool) (n : ℕ) → s.taken.structs ≡ b → means_in s x ≡ Some (meaning.Tag false n) → meant g x ≡ Some (OfTag t)
       → tag_in (tables_of s.tables.now) x ≡ Some t
-  struct_there t true n k m e = sym ((h.tags k).tags x) ∙ ap as_tag (behind_locals g.locals g.tables x t e)
-  struct_there t false n k m e = absurd (h.untaken k x false n m)
+  struct_there t true n k m e = sym ((h.outside.tags k).tags x) ∙ ap as_tag (behind_locals g.locals g.tables x t e)
+  struct_there t false n k m e = absurd (h.outside.untaken k x false n m)
 
   by_meaning : (e : Option Entry) (m : Option Meaning) (n : ℕ) → Means e m → meant g x ≡ e → means_in s x ≡ m → m ≡ Some (meaning.Tag false n)
       → shortened (struct_in (tag_in (tables_of s.tables.now) x)) ≡ shortened (target at e)
@@ -50,4 +50,4 @@ module _ (s : Scope) (g : Env) (h : Knows s g) (at : ℕ) (x : List ℕ) where
   -- a struct's name calls the struct that is known by it
   pub struct_found : (n : ℕ) → means_in s x ≡ Some (meaning.Tag false n)
       → shortened (struct_in (tag_in (tables_of s.tables.now) x)) ≡ shortened (target at (meant g x))
-  struct_found n m = by_meaning (meant g x) (means_in s x) n (h.names x) refl refl m
+  struct_found n m = by_meaning (meant g x) (means_in s x) n (h.outside.names x) refl refl m

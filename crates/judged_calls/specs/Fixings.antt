@@ -4,7 +4,8 @@ use Rattle.cyc_types.specs.Regions.{region_of}
 use Rattle.source_typing.specs.Faults.{Fault, fault, region_rule}
 use Rattle.source_typing.specs.Fixing.{Fit, first_fit, fixed_by, more}
 use Rattle.source_typing.specs.Regions.{Region, TheHeap}
-use Rattle.source_typing.specs.Verdicts.{Of, Verdict, both, known}
+use Rattle.source_typing.specs.Scope.{Enclosing, InRegion, InUnique, NotKnown}
+use Rattle.source_typing.specs.Verdicts.{Of, Unjudged, Verdict, both, known}
 use Rattle.source_typing.specs.Written.{Found, Is, IsUnique, Missing}
 use Rattle.judged_calls.specs.declared.fixing.Fixed.{Fixed}
 use Rattle.judged_calls.specs.declared.fixing.Fixed.TheVariants as region
@@ -53,10 +54,20 @@ noted (None ∷ os) zero f = Some f ∷ os
 noted (Some g ∷ os) zero f = Some g ∷ os
 noted (o ∷ os) (suc i) f = o ∷ noted os i f
 
--- ---- what the variables stand for; one that nothing fixes is the heap
+-- ---- what nothing fixes is fixed by the `rnew` around
+
+abbrev pub last_fixing : Enclosing → ℕ → Option Fixing
+last_fixing (InRegion r) at = Some (fixing (Is r) at)
+last_fixing InUnique at = Some (fixing IsUnique at)
+last_fixing NotKnown at = None
+
+abbrev pub settled : Option Fixing → List (Option Fixing) → List (Option Fixing)
+settled last os = map (λ o. or_else o last) os
+
+-- ---- what the variables stand for
 
 abbrev pub stands_for : Option Fixing → Verdict Region
-stands_for None = Of TheHeap
+stands_for None = Unjudged
 stands_for (Some f) = fixed_by f.at f.is
 
 abbrev pub all_stand_for : List (Option Fixing) → Verdict (List Region)
@@ -80,7 +91,7 @@ abbrev pub fixing_faults : List (Option Fixing) → List Fault
 fixing_faults [] = []
 fixing_faults (o ∷ os) = fixing_fault o ++ fixing_faults os
 
--- the heap stands in for one at fault
+-- the heap stands in for one at fault, and for one that nothing fixes
 abbrev pub region_by : Option Fixing → Region
 region_by None = TheHeap
 region_by (Some f) = found_or_heap f.is

@@ -1,4 +1,5 @@
 pub mod Converted
+pub mod Enclosings
 pub mod Fixings
 pub mod Fitted
 pub mod Held

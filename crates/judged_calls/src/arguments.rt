@@ -1,21 +1,23 @@
 // The conversions of a call's arguments.
 
 ghost use Rattle.std.specs.List.{list_all};
-ghost use Rattle.std.specs.Prelude.{◌≡◌, IfOk, is_some, map};
+ghost use Rattle.std.specs.Prelude.{◌≡◌, ◌&&◌, ◌||◌, IfOk, is_some, map, not};
 ghost use Rattle.cyc_types.specs.Regions.{regions_of};
 ghost use Rattle.cyc_types.specs.Types.{static_type};
 ghost use Rattle.judged_values.specs.Values.{value_of};
-ghost use Rattle.scoped_names.specs.Knows.{Knows};
+ghost use Rattle.scoped_names.specs.Knows.{Sees};
 ghost use Rattle.source_typing.specs.Calls.{arguments_fit};
 ghost use Rattle.source_typing.specs.Faults.{earliest};
 ghost use Rattle.source_typing.specs.Scope.{Env};
 ghost use Rattle.type_verdicts.specs.Faults.{faults_of};
 ghost use Rattle.type_verdicts.specs.Verdicts.{short_of, shortened};
 ghost use Rattle.judged_calls.specs.Converted.{argument_faults, arguments_faults, counted, is_whole, regions_in, short_unless, type_alone};
+ghost use Rattle.judged_calls.specs.Enclosings.{enclosing_of};
 ghost use Rattle.judged_calls.specs.Fitted.{parameter_types};
 ghost use Rattle.judged_calls.specs.Fixings.{fixings_of, which_are_known};
 
-use crate::fixing::{Fixing, fixings_fault, fixings_for, regions_by};
+use crate::enclosing::Enclosing;
+use crate::fixing::{Fixing, are_settled, fixings_fault, fixings_for, regions_by};
 use crate::known::is_known_type;
 use cyc_types::{CType, RegionId};
 use judged_values::{Value, converted, renamed_type};
@@ -48,8 +50,8 @@ fn counted(is_whole: bool, fault: Option<Fault>) -> Option<Fault>
     if is_whole { fault } else { type_alone(fault) }
 }
 
-/// Whether a conversion to a parameter's type is looked at with its regions: where a variable is at fault, all others of the
-/// type have to be known.
+/// Whether a conversion to a parameter's type is looked at with its regions: where a variable is at fault or isn't known, all of
+/// the type have to be known.
 fn is_whole(partly: bool, fixings: &[Option<Fixing>], parameter: &CType) -> bool
     ensures { result ≡ is_whole partly (which_are_known (fixings_of fixings.now)) (static_type parameter.now) }
 {
@@ -58,6 +60,13 @@ fn is_whole(partly: bool, fixings: &[Option<Fixing>], parameter: &CType) -> bool
     } else {
         true
     }
+}
+
+/// Whether conversions are looked at with those regions alone that are known: a variable is at fault, or isn't known.
+fn is_partly(fixing: Option<Fault>, are_settled: bool) -> bool
+    ensures { result ≡ (is_some fixing || not are_settled) }
+{
+    fixing.is_some() || !are_settled
 }
 
 /// The fault of an argument that is converted to a parameter's type, if any; to one of no known type there is none. Fails only where
@@ -70,7 +79,7 @@ fn argument_fault(
     parameter: &Option<CType>,
     value: &Value,
 ) -> Result<Option<Fault>, AllocError>
-    ensures { (g : Env) → Knows scope.now g → IfOk result (λ f. faults_of f
+    ensures { (g : Env) → Sees scope.now g → IfOk result (λ f. faults_of f
         ≡ earliest (argument_faults partly g (which_are_known (fixings_of fixings.now)) (regions_of regions.now) parameter.now value.now)) }
 {
     match parameter {
@@ -92,7 +101,7 @@ fn conversions_fault(
     parameters: &[Option<CType>],
     arguments: &[Value],
 ) -> Result<Option<Fault>, AllocError>
-    ensures { (g : Env) → Knows scope.now g → IfOk result (λ f. faults_of f
+    ensures { (g : Env) → Sees scope.now g → IfOk result (λ f. faults_of f
         ≡ earliest (arguments_faults partly g (which_are_known (fixings_of fixings.now)) (regions_of regions.now) parameters.now arguments.now)) }
 {
     let count = parameters.len().min(arguments.len());
@@ -112,18 +121,19 @@ fn are_known(parameters: &[Option<CType>]) -> bool
     parameters.iter().all(|of| of.is_some())
 }
 
-/// What the variables stand for, unless there is a fault, and where all parameters are known.
+/// What the variables stand for, unless there is a fault, and where all of them and all parameters are known.
 fn unless_found(
     fault: Option<Fault>,
+    are_settled: bool,
     are_known: bool,
     regions: Vec<RegionId>,
 ) -> Verdict<Vec<RegionId>>
-    ensures { short_of regions_in result ≡ short_unless (faults_of fault) are_known (regions_in regions) }
+    ensures { short_of regions_in result ≡ short_unless (faults_of fault) (are_settled && are_known) (regions_in regions) }
 {
     match fault {
         Some(fault) => Verdict::Wrong(fault),
         None => {
-            if are_known {
+            if are_settled && are_known {
                 Verdict::Of(regions)
             } else {
                 Verdict::NotJudged
@@ -136,12 +146,13 @@ fn unless_found(
 pub(crate) fn arguments_fit(
     scope: &Scope,
     alloc: Global,
+    enclosing: Enclosing,
     at: u32,
     variables: u32,
     parameters: &[Option<CType>],
     arguments: &[Value],
 ) -> Result<Verdict<Vec<RegionId>>, AllocError>
-    ensures { (g : Env) → Knows scope.now g → IfOk result (λ v. short_of regions_in v
+    ensures { (g : Env) → Sees scope.now g → g.enclosing ≡ enclosing_of enclosing → IfOk result (λ v. short_of regions_in v
         ≡ shortened (arguments_fit g at variables (parameter_types parameters.now) (map value_of arguments.now))) }
 {
     if parameters.len() != arguments.len() {
@@ -150,17 +161,18 @@ pub(crate) fn arguments_fit(
             at,
         }));
     }
-    let fixings = fixings_for(alloc, variables, parameters, arguments)?;
+    let fixings = fixings_for(alloc, enclosing, at, variables, parameters, arguments)?;
     let regions = regions_by(alloc, fixings.as_slice())?;
     let fixing = fixings_fault(fixings.as_slice());
+    let are_settled = are_settled(fixings.as_slice());
     let conversion = conversions_fault(
         scope,
         fixings.as_slice(),
         regions.as_slice(),
-        fixing.is_some(),
+        is_partly(fixing, are_settled),
         parameters,
         arguments,
     )?;
     let are_known = are_known(parameters);
-    Ok(unless_found(sooner(fixing, conversion), are_known, regions))
+    Ok(unless_found(sooner(fixing, conversion), are_settled, are_known, regions))
 }

@@ -4,7 +4,7 @@ ghost use Rattle.std.specs.Prelude.{◌≡◌, ◌++◌, IfOk, List, map, option
 ghost use Rattle.cyc_types.specs.Regions.{regions_of};
 ghost use Rattle.cyc_types.specs.Types.{static_type};
 ghost use Rattle.judged_values.specs.Values.{value_of};
-ghost use Rattle.scoped_names.specs.Knows.{Knows};
+ghost use Rattle.scoped_names.specs.Knows.{Sees};
 ghost use Rattle.scoped_names.specs.Means.{signature_of};
 ghost use Rattle.scoped_types.specs.Fields.{pair_of};
 ghost use Rattle.source_typing.specs.Calls.{ToBuiltin, ToFunction, all_live, all_ordered, builtin_parameters, call_entered, called};
@@ -16,11 +16,13 @@ ghost use Rattle.source_typing.specs.Types.{Int, renamed};
 ghost use Rattle.source_typing.specs.Verdicts.{after, unless_faulty};
 ghost use Rattle.type_verdicts.specs.Verdicts.{short_of, shortened};
 ghost use Rattle.judged_calls.specs.Converted.{given_of, regions_in};
+ghost use Rattle.judged_calls.specs.Enclosings.{enclosing_of};
 ghost use Rattle.judged_calls.specs.Fitted.{parameter_types};
 ghost use Rattle.judged_calls.specs.Targets.{target_of};
 ghost use Rattle.source_typing.specs.Verdicts as verdict;
 
 use crate::arguments::arguments_fit;
+use crate::enclosing::Enclosing;
 use crate::making::struct_called;
 use crate::target::Target;
 use cyc_types::{BaseType, CType, RegionId};
@@ -42,7 +44,7 @@ pub(crate) fn given<'p>(at: u32, of: CType<'p>) -> Verdict<Value<'p>>
 
 /// Whether all regions of a function's effect are live, where its variables stand for these.
 fn are_live(scope: &Scope, regions: &[RegionId], effect: &[RegionId]) -> bool
-    ensures { (g : Env) → Knows scope.now g → result ≡ all_live g (regions_of regions.now) (regions_of effect.now) }
+    ensures { (g : Env) → Sees scope.now g → result ≡ all_live g (regions_of regions.now) (regions_of effect.now) }
 {
     'each: for region in effect {
         if !scope.is_live(argument(regions, *region)) {
@@ -58,7 +60,7 @@ fn are_ordered(
     regions: &[RegionId],
     bounds: &[(RegionId, RegionId)],
 ) -> Result<bool, AllocError>
-    ensures { (g : Env) → Knows scope.now g → IfOk result (λ b. b ≡ all_ordered g (regions_of regions.now) (map pair_of bounds.now)) }
+    ensures { (g : Env) → Sees scope.now g → IfOk result (λ b. b ≡ all_ordered g (regions_of regions.now) (map pair_of bounds.now)) }
 {
     'each: for bound in bounds {
         let one = argument(regions, bound.0);
@@ -126,7 +128,7 @@ fn call_entered<'p>(
     signature: &Signature<'p>,
     regions: &[RegionId],
 ) -> Result<Verdict<Value<'p>>, AllocError>
-    ensures { (g : Env) → Knows scope.now g
+    ensures { (g : Env) → Sees scope.now g
         → IfOk result (λ v. short_of value_of v ≡ shortened (call_entered g at (signature_of signature.now) (regions_of regions.now))) }
 {
     let are_live = are_live(scope, regions, signature.effect.as_slice());
@@ -142,7 +144,7 @@ fn function_entered<'p>(
     signature: &Signature<'p>,
     fit: Verdict<Vec<RegionId>>,
 ) -> Result<Verdict<Value<'p>>, AllocError>
-    ensures { (g : Env) → Knows scope.now g → (v : verdict.Verdict (List Region)) → short_of regions_in fit ≡ shortened v
+    ensures { (g : Env) → Sees scope.now g → (v : verdict.Verdict (List Region)) → short_of regions_in fit ≡ shortened v
         → IfOk result (λ r. short_of value_of r ≡ shortened (after v (call_entered g at (signature_of signature.now)))) }
 {
     match fit {
@@ -156,15 +158,19 @@ fn function_entered<'p>(
 fn function_called<'p>(
     scope: &Scope<'_, 'p>,
     alloc: Global,
+    enclosing: Enclosing,
     at: u32,
     signature: &Signature<'p>,
     arguments: &[Value<'p>],
 ) -> Result<Verdict<Value<'p>>, AllocError>
-    ensures { (g : Env) → Knows scope.now g
+    ensures { (g : Env) → Sees scope.now g → g.enclosing ≡ enclosing_of enclosing
         → IfOk result (λ v. short_of value_of v ≡ shortened (called g at (ToFunction (signature_of signature.now)) (map value_of arguments.now))) }
 {
     let parameters = signature.parameters.as_slice();
-    let fit = arguments_fit(scope, alloc, at, signature.regions, parameters, arguments)?;
+    let variables = signature.regions;
+    let fit = arguments_fit(
+        scope, alloc, enclosing, at, variables, parameters, arguments,
+    )?;
     function_entered(scope, at, signature, fit)
 }
 
@@ -195,32 +201,39 @@ fn builtin_parameters<'p>(alloc: Global, count: u32) -> Result<Vec<Option<CType<
 fn builtin_called<'p>(
     scope: &Scope<'_, 'p>,
     alloc: Global,
+    enclosing: Enclosing,
     at: u32,
     count: u32,
     arguments: &[Value<'p>],
 ) -> Result<Verdict<Value<'p>>, AllocError>
-    ensures { (g : Env) → Knows scope.now g
+    ensures { (g : Env) → Sees scope.now g → g.enclosing ≡ enclosing_of enclosing
         → IfOk result (λ v. short_of value_of v ≡ shortened (called g at (ToBuiltin count) (map value_of arguments.now))) }
 {
     let parameters = builtin_parameters(alloc, count)?;
-    let fit = arguments_fit(scope, alloc, at, 0, parameters.as_slice(), arguments)?;
+    let types = parameters.as_slice();
+    let fit = arguments_fit(scope, alloc, enclosing, at, 0, types, arguments)?;
     Ok(builtin_entered(alloc, at, fit))
 }
 
-/// A call. Fails only where no host memory is left.
+/// A call, with this `rnew` around. Fails only where no host memory is left.
 pub fn called<'p>(
     scope: &Scope<'_, 'p>,
     alloc: Global,
+    enclosing: Enclosing,
     at: u32,
     target: Target<'_, 'p>,
     arguments: &[Value<'p>],
 ) -> Result<Verdict<Value<'p>>, AllocError>
-    ensures { (g : Env) → Knows scope.now g
+    ensures { (g : Env) → Sees scope.now g → g.enclosing ≡ enclosing_of enclosing
         → IfOk result (λ v. short_of value_of v ≡ shortened (called g at (target_of target.entry) (map value_of arguments.now))) }
 {
     match target {
-        Target::Builtin(count) => builtin_called(scope, alloc, at, count, arguments),
-        Target::Struct(text, tag) => struct_called(scope, alloc, at, text, tag, arguments),
-        Target::Function(signature) => { function_called(scope, alloc, at, signature, arguments) }
+        Target::Builtin(count) => builtin_called(scope, alloc, enclosing, at, count, arguments),
+        Target::Struct(text, tag) => {
+            struct_called(scope, alloc, enclosing, at, text, tag, arguments)
+        }
+        Target::Function(signature) => {
+            function_called(scope, alloc, enclosing, at, signature, arguments)
+        }
     }
 }

@@ -1,6 +1,7 @@
 // What the region variables of a call are fixed to by its arguments.
 
-ghost use Rattle.std.specs.Prelude.{◌≡◌, [], ◌∷◌, IfOk, None, Some, replicate};
+ghost use Rattle.std.specs.List.{list_all};
+ghost use Rattle.std.specs.Prelude.{◌≡◌, [], ◌∷◌, IfOk, None, Some, is_some, option_map, replicate};
 ghost use Rattle.cyc_types.specs.Bases.{base_type};
 ghost use Rattle.cyc_types.specs.Regions.{region_of, regions_of};
 ghost use Rattle.cyc_types.specs.Types.{static_type};
@@ -8,8 +9,10 @@ ghost use Rattle.source_typing.specs.Faults.{earliest};
 ghost use Rattle.source_typing.specs.Fixing.{fit, fit_all, fits_of};
 ghost use Rattle.type_verdicts.specs.Faults.{faults_of};
 ghost use Rattle.judged_calls.specs.Fitted.{base_fits, fits_all, found_in, layer_fits, parameter_fits, pointer_fits};
-ghost use Rattle.judged_calls.specs.Fixings.{fixed_with, fixing_faults, fixing_of, fixings_of, found_of, noted, regions_by};
+ghost use Rattle.judged_calls.specs.Enclosings.{enclosing_of};
+ghost use Rattle.judged_calls.specs.Fixings.{fixed_with, fixing_faults, fixing_of, fixings_of, found_of, last_fixing, noted, regions_by, settled};
 
+use crate::enclosing::Enclosing;
 use cyc_types::{BaseType, CType, Layer, RegionId};
 use judged_values::Value;
 use std::alloc::{AllocError, Global};
@@ -188,18 +191,66 @@ fn not_fixed(alloc: Global, variables: u32) -> Result<Vec<Option<Fixing>>, Alloc
     Ok(fixings)
 }
 
-/// What so many region variables are fixed to.
+/// What a variable of a call at a place is fixed to that no argument fixes.
+fn last_fixing(enclosing: Enclosing, at: u32) -> Option<Fixing>
+    ensures { option_map fixing_of result ≡ last_fixing (enclosing_of enclosing) at }
+{
+    match enclosing {
+        Enclosing::In(region) => Some(Fixing {
+            is: Fixed::Is(region),
+            at,
+        }),
+        Enclosing::Unique => Some(Fixing {
+            is: Fixed::Unique,
+            at,
+        }),
+        Enclosing::NotKnown => None,
+    }
+}
+
+/// Fixes each variable that nothing fixed yet.
+fn note_all(fixings: &mut Vec<Option<Fixing>>, last: Fixing)
+    ensures { fixings_of fixings.new.items ≡ settled (Some (fixing_of last)) (fixings_of fixings.old.items) }
+{
+    'each: for variable in 0..fixings.len() {
+        note_at(fixings, variable, last);
+    }
+}
+
+/// The same, where there is what fixes them.
+#[tactic(auto, using(crate::proofs::Settling::settled_by_none))]
+fn settle(fixings: &mut Vec<Option<Fixing>>, last: Option<Fixing>)
+    ensures { fixings_of fixings.new.items ≡ settled (option_map fixing_of last) (fixings_of fixings.old.items) }
+{
+    match last {
+        Some(last) => note_all(fixings, last),
+        None => {}
+    }
+}
+
+/// What so many region variables of a call at a place are fixed to. Fails only where no host memory is left.
 pub(crate) fn fixings_for(
     alloc: Global,
+    enclosing: Enclosing,
+    at: u32,
     variables: u32,
     parameters: &[Option<CType>],
     arguments: &[Value],
 ) -> Result<Vec<Option<Fixing>>, AllocError>
-    ensures { IfOk result (λ fixings. fixings_of fixings.items ≡ fixed_with (fits_all parameters.now arguments.now) 0 (replicate variables None)) }
+    ensures { IfOk result (λ fixings. fixings_of fixings.items
+        ≡ settled (last_fixing (enclosing_of enclosing) at) (fixed_with (fits_all parameters.now arguments.now) 0 (replicate variables None))) }
 {
     let mut fixings = not_fixed(alloc, variables)?;
     note_types(&mut fixings, parameters, arguments);
+    settle(&mut fixings, last_fixing(enclosing, at));
     Ok(fixings)
+}
+
+/// Whether something fixes each variable.
+pub(crate) fn are_settled(fixings: &[Option<Fixing>]) -> bool
+    ensures { result ≡ list_all (λ fixing. is_some fixing) fixings.now }
+{
+    fixings.iter().all(|fixing| fixing.is_some())
 }
 
 /// The fault of a variable that would be the unique region.
@@ -231,7 +282,7 @@ pub(crate) fn fixings_fault(fixings: &[Option<Fixing>]) -> Option<Fault>
     found
 }
 
-/// What a variable stands for; the heap stands in for one at fault.
+/// What a variable stands for; the heap stands in for one at fault, and for one that nothing fixes.
 fn region_by(fixing: Option<Fixing>) -> RegionId
     ensures { regions_of (result ∷ []) ≡ regions_by (fixings_of (fixing ∷ [])) }
 {

@@ -31,11 +31,11 @@ fn stands_for_one(fixing: Option<Fixing>) -> bool
     match fixing {
         Some(
             Fixing {
-                is: Fixed::Unique,
+                is: Fixed::Is(_),
                 ..
             },
-        ) => false,
-        _ => true,
+        ) => true,
+        _ => false,
     }
 }
 

@@ -5,10 +5,12 @@
 
 mod arguments;
 mod call;
+mod enclosing;
 mod fixing;
 mod known;
 mod making;
 mod target;
 
 pub use call::called;
+pub use enclosing::Enclosing;
 pub use target::{Target, called_target};

@@ -5,7 +5,7 @@ ghost use Rattle.cyc_types.specs.Regions.{regions_of};
 ghost use Rattle.cyc_types.specs.Tags.{members_of, tag_of};
 ghost use Rattle.cyc_types.specs.Types.{static_type};
 ghost use Rattle.judged_values.specs.Values.{value_of};
-ghost use Rattle.scoped_names.specs.Knows.{Knows};
+ghost use Rattle.scoped_names.specs.Knows.{Sees};
 ghost use Rattle.source_typing.specs.Calls.{ToStruct, called, part_types};
 ghost use Rattle.source_typing.specs.Regions.{Region};
 ghost use Rattle.source_typing.specs.Scope.{Env, value};
@@ -14,10 +14,12 @@ ghost use Rattle.source_typing.specs.Verdicts as verdict;
 ghost use Rattle.source_typing.specs.Verdicts.{after};
 ghost use Rattle.type_verdicts.specs.Verdicts.{short_of, shortened};
 ghost use Rattle.judged_calls.specs.Converted.{regions_in};
+ghost use Rattle.judged_calls.specs.Enclosings.{enclosing_of};
 ghost use Rattle.judged_calls.specs.Fitted.{parameter_types};
 
 use crate::arguments::arguments_fit;
 use crate::call::given;
+use crate::enclosing::Enclosing;
 use cyc_types::{BaseType, CType, Member, RegionId, Tag};
 use judged_values::Value;
 use scoped_names::Scope;
@@ -84,16 +86,18 @@ fn made<'p>(
 pub(crate) fn struct_called<'p>(
     scope: &Scope<'_, 'p>,
     alloc: Global,
+    enclosing: Enclosing,
     at: u32,
     text: &'p [u8],
     tag: &Tag<'p>,
     arguments: &[Value<'p>],
 ) -> Result<Verdict<Value<'p>>, AllocError>
-    ensures { (g : Env) → Knows scope.now g → IfOk result (λ v. short_of value_of v
+    ensures { (g : Env) → Sees scope.now g → g.enclosing ≡ enclosing_of enclosing → IfOk result (λ v. short_of value_of v
         ≡ shortened (called g at (ToStruct (tag_of text.entry.now tag.now)) (map value_of arguments.now))) }
 {
     let parameters = member_types(alloc, tag.members.as_slice())?;
     let types = parameters.as_slice();
-    let fit = arguments_fit(scope, alloc, at, tag.regions, types, arguments)?;
+    let variables = tag.regions;
+    let fit = arguments_fit(scope, alloc, enclosing, at, variables, types, arguments)?;
     made(alloc, at, text, fit)
 }

@@ -6,7 +6,7 @@ ghost use Rattle.source_typing.specs.Calls.{target};
 ghost use Rattle.source_typing.specs.Scope.{Env, meant};
 ghost use Rattle.source_typing.specs.Tables.{Entry, tag_in};
 ghost use Rattle.type_verdicts.specs.Verdicts.{short_of, shortened};
-ghost use Rattle.scoped_names.specs.Knows.{Knows};
+ghost use Rattle.scoped_names.specs.Knows.{Sees};
 ghost use Rattle.scoped_names.specs.Means.{Means, meaning_of};
 ghost use Rattle.scoped_names.specs.declared.meaning.Meaning.TheVariants as code;
 ghost use Rattle.judged_calls.specs.Targets.{struct_in, target_of};
@@ -74,7 +74,7 @@ pub fn called_target<'a, 'p>(
     at: u32,
     name: &[u8],
 ) -> Verdict<Target<'a, 'p>>
-    ensures { (g : Env) → Knows scope.now g → short_of target_of result ≡ shortened (target at (meant g name.now)) }
+    ensures { (g : Env) → Sees scope.now g → short_of target_of result ≡ shortened (target at (meant g name.now)) }
 {
     let made = struct_named(scope.tables, name);
     let named = scope.meaning(name);

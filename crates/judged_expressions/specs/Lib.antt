@@ -1,3 +1,4 @@
 pub mod Forms
+pub mod Goals
 pub mod Joined
 pub mod Suffixes

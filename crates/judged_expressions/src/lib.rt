@@ -1,7 +1,8 @@
-//! What the expressions of a program of integers, thin pointers and structs are, by which of them are taken.
+//! What the expressions of a program of integers, thin pointers, structs and regions are, by which of them are taken.
 #![tactic(auto)]
 
 mod expression;
+mod making;
 mod members;
 mod parts;
 

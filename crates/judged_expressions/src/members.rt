@@ -8,7 +8,7 @@ ghost use Rattle.cyc_tree.specs.View.{suffix_tree, suffixes_of};
 ghost use Rattle.cyc_types.specs.Sameness.{HasTags};
 ghost use Rattle.judged_expressions.specs.Suffixes.{short_suffix, short_suffixes, suffix_taken};
 ghost use Rattle.judged_values.specs.Values.{value_of};
-ghost use Rattle.scoped_names.specs.Knows.{Knows};
+ghost use Rattle.scoped_names.specs.Knows.{Sees};
 ghost use Rattle.source_typing.specs.Expressions.{judge};
 ghost use Rattle.source_typing.specs.Faults.{fault, type_rule};
 ghost use Rattle.source_typing.specs.Scope.{Env};
@@ -59,7 +59,7 @@ fn member_of<'p>(
     suffix: &Suffix,
     value: Value<'p>,
 ) -> Result<Verdict<Value<'p>>, AllocError>
-    ensures { (g : Env) → Knows scope.now g → HasTags tables.now g.tables
+    ensures { (g : Env) → Sees scope.now g → HasTags tables.now g.tables
         → IfOk result (λ v. short_of value_of v ≡ short_suffix g (Is (value_of value.entry)) (suffix_tree suffix.now)) }
 {
     match suffix {
@@ -82,7 +82,7 @@ fn member_part<'p>(
     suffix: &Suffix,
     operand: Verdict<Value<'p>>,
 ) -> Result<Verdict<Value<'p>>, AllocError>
-    ensures { (g : Env) → Knows scope.now g → HasTags tables.now g.tables
+    ensures { (g : Env) → Sees scope.now g → HasTags tables.now g.tables
         → IfOk result (λ v. short_of value_of v ≡ short_suffix g (short_of value_of operand.entry) (suffix_tree suffix.now)) }
 {
     match operand {
@@ -102,7 +102,7 @@ fn member_parts<'p>(
     first: Verdict<Value<'p>>,
     suffixes: &[Suffix],
 ) -> Result<Verdict<Value<'p>>, AllocError>
-    ensures { (g : Env) → Knows scope.now g → HasTags tables.now g.tables
+    ensures { (g : Env) → Sees scope.now g → HasTags tables.now g.tables
         → IfOk result (λ v. short_of value_of v ≡ short_suffixes g (short_of value_of first.entry) (map suffix_tree suffixes.now)) }
 {
     let mut judged = first;
@@ -119,7 +119,7 @@ fn judged_suffixes<'p>(
     first: Verdict<Value<'p>>,
     suffixes: &[Suffix],
 ) -> Result<Verdict<Value<'p>>, AllocError>
-    ensures { (g : Env) → Knows scope.now g → IfOk result (λ v. short_of value_of v
+    ensures { (g : Env) → Sees scope.now g → IfOk result (λ v. short_of value_of v
         ≡ (if are_suffixed (suffixes_of (map suffix_tree suffixes.now))
         && takes_suffixes (taken_of scope.now.taken) (suffixes_of (map suffix_tree suffixes.now))
         then short_suffixes g (short_of value_of first.entry) (map suffix_tree suffixes.now) else Wrong (fault type_rule at))) }
@@ -140,7 +140,7 @@ pub fn suffixed<'p>(
     first: Verdict<Value<'p>>,
     suffixes: &[Suffix],
 ) -> Result<Verdict<Value<'p>>, AllocError>
-    ensures { (g : Env) (e : Expression) → Knows scope.now g
+    ensures { (g : Env) (e : Expression) → Sees scope.now g
         → short_of value_of first.entry ≡ shortened (judge g (rules.taken (taken_of scope.now.taken) e)) → at ≡ expression_place e
         → IfOk result (λ v. short_of value_of v
         ≡ shortened (judge g (rules.taken (taken_of scope.now.taken) (Suffixed e (suffixes_of (map suffix_tree suffixes.now)))))) }

@@ -7,13 +7,14 @@ ghost use Rattle.source_typing.specs.Calls.{called};
 ghost use Rattle.source_typing.specs.Scope.{Env};
 ghost use Rattle.source_typing.specs.Faults.{fault, type_rule};
 ghost use Rattle.type_verdicts.specs.Verdicts.{Wrong, short_after, short_both, short_of, shortened};
-ghost use Rattle.scoped_names.specs.Knows.{Knows};
+ghost use Rattle.scoped_names.specs.Knows.{Sees};
 ghost use Rattle.judged_values.specs.Values.{value_of};
+ghost use Rattle.judged_calls.specs.Enclosings.{enclosing_of};
 ghost use Rattle.judged_calls.specs.Targets.{target_of};
 ghost use Rattle.judged_expressions.specs.Joined.{one_more, values_of};
 
 use cyc_tree::{Operator, Prefix};
-use judged_calls::{Target, called};
+use judged_calls::{Enclosing, Target, called};
 use judged_values::{Value, applied, assigned, grouped, prefixed, tested_both};
 use scoped_names::Scope;
 use std::alloc::{AllocError, Global};
@@ -48,7 +49,7 @@ pub(crate) fn prefixed_part<'p>(
     operator: Prefix,
     operand: Verdict<Value<'p>>,
 ) -> Result<Verdict<Value<'p>>, AllocError>
-    ensures { (g : Env) → Knows scope.now g
+    ensures { (g : Env) → Sees scope.now g
         → IfOk result (λ v. short_of value_of v ≡ short_after (short_of value_of operand.entry) (λ a. shortened (prefixed g at operator a))) }
 {
     match operand {
@@ -78,7 +79,7 @@ pub(crate) fn applied_parts<'p>(
     one: Verdict<Value<'p>>,
     two: Verdict<Value<'p>>,
 ) -> Result<Verdict<Value<'p>>, AllocError>
-    ensures { (g : Env) → Knows scope.now g → IfOk result
+    ensures { (g : Env) → Sees scope.now g → IfOk result
         (λ v. short_of value_of v ≡ short_both (short_of value_of one.entry) (short_of value_of two.entry) (λ a b. shortened (applied g operator a b))) }
 {
     match one.paired(two) {
@@ -112,7 +113,7 @@ pub(crate) fn assigned_parts<'p>(
     to: Verdict<Value<'p>>,
     from: Verdict<Value<'p>>,
 ) -> Result<Verdict<Value<'p>>, AllocError>
-    ensures { (g : Env) → Knows scope.now g → IfOk result
+    ensures { (g : Env) → Sees scope.now g → IfOk result
         (λ v. short_of value_of v ≡ short_both (short_of value_of to.entry) (short_of value_of from.entry) (λ a b. shortened (assigned g a b))) }
 {
     match to.paired(from) {
@@ -127,16 +128,19 @@ pub(crate) fn assigned_parts<'p>(
 pub(crate) fn called_parts<'p>(
     scope: &Scope<'_, 'p>,
     alloc: Global,
+    enclosing: Enclosing,
     at: u32,
     callee: Verdict<Target<'_, 'p>>,
     given: Verdict<Vec<Value<'p>>>,
 ) -> Result<Verdict<Value<'p>>, AllocError>
-    ensures { (g : Env) → Knows scope.now g → IfOk result
+    ensures { (g : Env) → Sees scope.now g → g.enclosing ≡ enclosing_of enclosing → IfOk result
         (λ v. short_of value_of v
         ≡ short_both (short_of target_of callee.entry) (short_of (λ vs. values_of vs.items) given.entry) (λ t vs. shortened (called g at t vs))) }
 {
     match callee.paired(given) {
-        Verdict::Of((callee, given)) => called(scope, alloc, at, callee, given.as_slice()),
+        Verdict::Of((callee, given)) => {
+            called(scope, alloc, enclosing, at, callee, given.as_slice())
+        }
         Verdict::Wrong(fault) => Ok(Verdict::Wrong(fault)),
         Verdict::NotJudged => Ok(Verdict::NotJudged),
     }

@@ -1,7 +1,7 @@
 -- What is in scope where a body begins, and the fault of a function that is answered.
 use Rattle.std.proofs.Common.{◌≡◌, ℕ, Bool, false, true, Option, Some, None, List, [], ◌∷◌, refl, sym, ◌∙◌, ap, subst, arith}
-use Rattle.std.specs.Prelude.{◌++◌, option_map}
-use Rattle.cyc_types.specs.Regions.{region_of}
+use Rattle.std.specs.Prelude.{◌++◌, map, option_map}
+use Rattle.cyc_types.specs.Regions.{region_of, regions_of}
 use Rattle.cyc_types.specs.Sameness.{HasTags}
 use Rattle.cyc_types.specs.Types.{static_type}
 use Rattle.cyc_types.specs.declared.region.RegionId.TheVariants as code_region
@@ -17,26 +17,38 @@ use Rattle.scoped_names.specs.Locals.{find_what, is_after}
 use Rattle.scoped_names.specs.Means.{Means}
 use Rattle.scoped_names.specs.declared.meaning.Meaning.TheVariants as meaning
 use Rattle.scoped_names.specs.declared.scope.Scope.{Scope}
-use Rattle.scoped_types.specs.Scopes.{AreThose}
+use Rattle.scoped_types.specs.Fields.{pair_of}
+use Rattle.scoped_types.specs.Scopes.{AreThose, Scoped}
+use Rattle.source_safety.specs.Named.{AllBelow, BoundsBelow}
+use Rattle.source_typing.specs.Written.{RegionNamed}
 use Rattle.type_verdicts.proofs.Earliest.{earliest_of_both, found_sooner}
 use Rattle.type_verdicts.specs.Faults.{faults_of, first_of, sooner_found}
 use Rattle.type_verdicts.specs.declared.fault.Fault as found
 use Rattle.judged_statements.specs.Contexts.{StandsIn}
 use Rattle.judged_statements.specs.declared.context.Context.{Context}
 use Rattle.judged_heads.specs.Bodies.{KnowsGlobals, own_found, types_of}
-use Rattle.judged_heads.specs.Heads.{IsHead, effect_in, known_static}
+use Rattle.judged_heads.specs.Heads.{IsHead, known_static}
 use Rattle.judged_heads.specs.declared.head.Head as code
 use Rattle.cyc_tree.specs.Tree as tree
 
 -- ---- where the body begins
 
 module _ (c : code.Head) (f : tree.Function) (h : rules.Head) (is : IsHead c f h) where
-  pub same_regions : (n : ℕ) (rs : List Region) → n ≡ c.variables.count → rs ≡ effect_in c.is_whole n
-      → entry_regions n rs [] ≡ entry_regions h.signature.regions h.signature.effect h.signature.bounds
-  same_regions n rs a e =
-      ap (λ k. entry_regions k rs []) (a ∙ is.count)
-      ∙ ap (λ qs. entry_regions h.signature.regions qs []) (e ∙ ap (effect_in c.is_whole) a ∙ is.effect)
-      ∙ ap (λ bs. entry_regions h.signature.regions h.signature.effect bs) (sym is.bounds)
+  -- what the regions are where it begins, by those in code
+  module _ (n : ℕ) (rs : List Region) (bs : List (Region × Region)) (s : Scoped) (count : n ≡ c.variables.count) (effect : rs ≡ regions_of c.effect.items)
+      (bounds : bs ≡ map pair_of c.bounds.items) where
+    pub same_regions : (AllBelow n rs → BoundsBelow n bs → AreThose s (entry_regions n rs bs))
+        → AreThose s (entry_regions h.signature.regions h.signature.effect h.signature.bounds)
+    same_regions enters =
+        let a : n ≡ h.signature.regions = count ∙ is.count in
+        let e : rs ≡ h.signature.effect = effect ∙ is.effect in
+        let b : bs ≡ h.signature.bounds = bounds ∙ is.bounds in
+        let same : entry_regions n rs bs ≡ entry_regions h.signature.regions h.signature.effect h.signature.bounds =
+        ap (λ k. entry_regions k rs bs) a ∙ ap (λ qs. entry_regions h.signature.regions qs bs) e
+        ∙ ap (λ qs. entry_regions h.signature.regions h.signature.effect qs) b in
+        subst (AreThose s) same
+        (enters (subst (λ k. AllBelow k rs) (sym a) (subst (AllBelow h.signature.regions) (sym e) is.effect_below))
+        (subst (λ k. BoundsBelow k bs) (sym a) (subst (BoundsBelow h.signature.regions) (sym b) is.bounds_below)))
 
   module _ (lenient : Bool) (g : Tables) (i : ℕ) (s : Scope) (alone : s.locals ≡ []) where
     pub begins : KnowsGlobals s.globals.now g → (s.taken.structs ≡ true → HasTags s.tables.now g)
@@ -60,10 +72,10 @@ module _ (c : code.Head) (f : tree.Function) (h : rules.Head) (is : IsHead c f h
       around = tt;
     }
 
-    pub stands : (d : Context) → Knows s (function_scope lenient g i h) → d.names.now ≡ c.variables.names
+    pub stands : (d : Context) (ns : List RegionNamed) → Knows s (function_scope lenient g i h) → ns ≡ c.variables.names
         → option_map (λ t. static_type t.now) d.result ≡ known_static c.result → d.frame ≡ code_region.Level c.variables.count → d.item ≡ i → d.in_loop ≡ false
-        → StandsIn d 0 s (function_scope lenient g i h)
-    stands d known names result frame item in_loop = record {
+        → StandsIn d ns 0 s (function_scope lenient g i h)
+    stands d ns known names result frame item in_loop = record {
       known = known;
       suits = record {
         names = names ∙ is.names;
@@ -77,9 +89,10 @@ module _ (c : code.Head) (f : tree.Function) (h : rules.Head) (is : IsHead c f h
     }
 
     -- with the parameters it is the body's scope
-    pub at_body : (d : Context) (t : Scope) → StandsIn d 0 t (with_parameters f.parameters (types_of c.parameters.items) (function_scope lenient g i h))
-        → StandsIn d 0 t (body_scope lenient g i f h)
-    at_body d t q = subst (λ ts. StandsIn d 0 t (with_parameters f.parameters ts (function_scope lenient g i h))) is.types q
+    pub at_body : (d : Context) (ns : List RegionNamed) (t : Scope)
+        → StandsIn d ns 0 t (with_parameters f.parameters (types_of c.parameters.items) (function_scope lenient g i h))
+        → StandsIn d ns 0 t (body_scope lenient g i f h)
+    at_body d ns t q = subst (λ ts. StandsIn d ns 0 t (with_parameters f.parameters ts (function_scope lenient g i h))) is.types q
 
 -- ---- the fault that is answered
 

@@ -1,27 +1,124 @@
--- The effects of heads: all region variables, or none.
-use Rattle.std.proofs.Common.{◌≡◌, ℕ, zero, suc, ◌≤◌, Bool, true, false, List, [], ◌∷◌, sym, ◌∙◌, ap, arith, append_assoc}
-use Rattle.std.specs.Prelude.{◌++◌}
-use Rattle.std.proofs.lemmas.List.{map-append}
+-- The effects and bounds of heads, one region name after another.
+use Rattle.std.proofs.Common.{◌≡◌, ℕ, suc, ◌+◌, ◌<◌, ◌≤◌, Bool, true, false, None, List, [], ◌∷◌, refl, sym, ◌∙◌, ap, subst}
+use Rattle.std.proofs.Common.{append-nil, append_assoc, get_or, length, map, take}
+use Rattle.std.specs.Prelude.{not, ◌++◌, ◌||◌}
+use Rattle.std.proofs.lemmas.List.{map-append, take_all, take_more}
 use Rattle.cyc_types.specs.Regions.{region_of, regions_of}
 use Rattle.cyc_types.specs.declared.region.RegionId.{RegionId}
-use Rattle.cyc_types.specs.declared.region.RegionId.TheVariants as code
-use Rattle.source_safety.specs.Named.{AllBelow}
-use Rattle.source_typing.specs.Functions.{levels_but}
-use Rattle.source_typing.specs.Regions.{Level}
-use Rattle.judged_heads.specs.Heads.{effect_in}
+use Rattle.cyc_types.specs.declared.region.RegionId.TheVariants as code_region
+use Rattle.source_typing.specs.Faults.{earliest}
+use Rattle.source_typing.specs.Functions.{all_faults, all_of, and_known, effect_region, if_no_key, levels_but, used_region}
+use Rattle.source_typing.specs.Regions.{Level, Region, is_among}
+use Rattle.source_typing.specs.Verdicts.{Faulty, Of, Unjudged, Verdict, after}
+use Rattle.source_typing.specs.Written.{RegionNamed}
+use Rattle.type_verdicts.proofs.Earliest.{earliest_of_both, found_sooner}
+use Rattle.type_verdicts.specs.Faults.{faults_of, first_of, sooner_found}
+use Rattle.type_verdicts.specs.Verdicts.{fault_found, short_of, shortened}
+use Rattle.judged_statements.proofs.Answered.{fault_is}
+use Rattle.judged_heads.specs.Used.{IsUsed, in_order}
+use Rattle.judged_heads.specs.declared.effect.Used.{Used}
+use Rattle.cyc_tree.specs.Tree as tree
+use Rattle.source_typing.specs.Verdicts as rules_of
+use Rattle.type_verdicts.specs.declared.verdict.Verdict as code
+use Rattle.type_verdicts.specs.declared.verdict.Verdict.TheVariants as variant
 
 -- one more level
-pub one_level : (rs : List RegionId) (n m : ℕ) → m ≡ suc n → regions_of (rs ++ code.Level n ∷ []) ++ levels_but [] n ≡ regions_of rs ++ levels_but [] m
+pub one_level : (rs : List RegionId) (n m : ℕ) → m ≡ suc n → regions_of (rs ++ code_region.Level n ∷ []) ++ levels_but [] n ≡ regions_of rs ++ levels_but [] m
 one_level rs n m e =
-    ap (λ qs. qs ++ levels_but [] n) (map-append region_of rs (code.Level n ∷ []))
+    ap (λ qs. qs ++ levels_but [] n) (map-append region_of rs (code_region.Level n ∷ []))
     ∙ append_assoc (regions_of rs) (Level n ∷ []) (levels_but [] n)
     ∙ ap (λ k. regions_of rs ++ levels_but [] k) (sym e)
 
-levels_below : (count n : ℕ) → n ≤ count → AllBelow count (levels_but [] n)
-levels_below count zero h = tt
-levels_below count (suc n) h = (omega (arith, h), levels_below count n (omega (arith, h)))
+-- ---- one phrase more
 
--- an effect's regions are in scope
-pub effect_below : (is_whole : Bool) (count : ℕ) → AllBelow count (effect_in is_whole count)
-effect_below true count = levels_below count count (omega arith)
-effect_below false count = tt
+module _ {A : Type 0} where
+  known_first : (v : Verdict A) (vs ws : List A) → and_known v (vs ++ ws) ≡ and_known v vs ++ ws
+  known_first (Faulty f fs) vs ws = refl
+  known_first Unjudged vs ws = refl
+  known_first (Of a) vs ws = refl
+
+  known_last : (vs : List (Verdict A)) (v : Verdict A) → all_of (vs ++ v ∷ []) ≡ all_of vs ++ and_known v []
+  known_last [] v = refl
+  known_last (w ∷ vs) v = ap (and_known w) (known_last vs v) ∙ known_first w (all_of vs) (and_known v [])
+
+  faults_last : (vs : List (Verdict A)) (v : Verdict A) → all_faults (vs ++ v ∷ []) ≡ all_faults vs ++ rules_of.faults_of v
+  faults_last [] v = append-nil (rules_of.faults_of v)
+  faults_last (w ∷ vs) v =
+      ap (λ fs. rules_of.faults_of w ++ fs) (faults_last vs v) ∙ sym (append_assoc (rules_of.faults_of w) (all_faults vs) (rules_of.faults_of v))
+
+module _ {T A : Type 0} (as_is : T → A) where
+  in_order_is : (c : code.Verdict T) (v : Verdict A) → short_of as_is c ≡ shortened v → map as_is (in_order c) ≡ and_known v []
+  in_order_is (variant.Of t) (Of a) e = let same : as_is t ≡ a = cc in ap (λ b. b ∷ []) same
+  in_order_is (variant.Of t) (Faulty f fs) e = absurd cc
+  in_order_is (variant.Of t) Unjudged e = absurd cc
+  in_order_is (variant.Wrong x) (Of a) e = absurd cc
+  in_order_is (variant.Wrong x) (Faulty f fs) e = refl
+  in_order_is (variant.Wrong x) Unjudged e = absurd cc
+  in_order_is variant.NotJudged (Of a) e = absurd cc
+  in_order_is variant.NotJudged (Faulty f fs) e = absurd cc
+  in_order_is variant.NotJudged Unjudged e = refl
+
+  used_more : (vs : List (Verdict A)) (v : Verdict A) (u new : Used T) (c : code.Verdict T) → IsUsed as_is vs u → short_of as_is c ≡ shortened v
+      → new.known.items ≡ u.known.items ++ in_order c → new.fault ≡ sooner_found u.fault (fault_found c) → IsUsed as_is (vs ++ v ∷ []) new
+  used_more vs v u new c h e known fault = record {
+    known = ap (map as_is) known ∙ map-append as_is u.known.items (in_order c)
+        ∙ ap (λ ts. ts ++ map as_is (in_order c)) h.known ∙ ap (λ ts. all_of vs ++ ts) (in_order_is c v e) ∙ sym (known_last vs v);
+    fault = ap faults_of fault ∙ found_sooner u.fault (fault_found c)
+        ∙ ap (λ o. first_of o (faults_of (fault_found c))) h.fault ∙ ap (λ o. first_of (earliest (all_faults vs)) o) (fault_is as_is c v e)
+        ∙ sym (earliest_of_both (all_faults vs) (rules_of.faults_of v)) ∙ ap earliest (sym (faults_last vs v));
+  }
+
+-- some of them were judged
+module _ {X T A : Type 0} (as_is : T → A) (judged : X → Verdict A) (xs : List X) where
+  abbrev pub UsedTo : ℕ → Used T → Type 0
+  UsedTo i u = IsUsed as_is (map judged (take i xs)) u
+
+  pub used_next : (i : ℕ) (x : X) (u new : Used T) (c : code.Verdict T) → i < length xs → x ≡ get_or xs i x → UsedTo i u
+      → short_of as_is c ≡ shortened (judged x) → new.known.items ≡ u.known.items ++ in_order c → new.fault ≡ sooner_found u.fault (fault_found c)
+      → UsedTo (i + 1) new
+  used_next i x u new c lt is h e known fault =
+      let next : map judged (take (i + 1) xs) ≡ map judged (take i xs) ++ judged x ∷ [] =
+      ap (map judged) (take_more xs i x lt ∙ ap (λ y. take i xs ++ y ∷ []) (sym is)) ∙ map-append judged (take i xs) (x ∷ []) in
+      subst (λ vs. IsUsed as_is vs new) (sym next) (used_more as_is (map judged (take i xs)) (judged x) u new c h e known fault)
+
+  pub used_all : (i : ℕ) (u : Used T) → length xs ≤ i → UsedTo i u → IsUsed as_is (map judged xs) u
+  used_all i u le h = subst (λ ys. IsUsed as_is (map judged ys) u) (take_all i xs le) h
+
+pub map_twice : {X Y Z : Type 0} (f : Y → Z) (g : X → Y) (xs : List X) → map (λ x. f (g x)) xs ≡ map f (map g xs)
+map_twice f g [] = refl
+map_twice f g (x ∷ xs) = ap (λ zs. f (g x) ∷ zs) (map_twice f g xs)
+
+-- ---- effects
+
+all_known : (rs : List Region) → all_of (map (λ r. Of r) rs) ≡ rs
+all_known [] = refl
+all_known (r ∷ rs) = ap (λ qs. r ∷ qs) (all_known rs)
+
+none_wrong : (rs : List Region) → all_faults (map (λ r. Of r) rs) ≡ []
+none_wrong [] = refl
+none_wrong (r ∷ rs) = none_wrong rs
+
+-- all region variables are known
+pub levels_used : (n : ℕ) (u : Used RegionId) → regions_of u.known.items ≡ levels_but [] n → u.fault ≡ None
+    → IsUsed region_of (map (λ r. Of r) (levels_but [] n)) u
+levels_used n u e f = record {
+  known = e ∙ sym (all_known (levels_but [] n));
+  fault = ap faults_of f ∙ ap earliest (sym (none_wrong (levels_but [] n)));
+}
+
+no_key : (lenient : Bool) (at : ℕ) (v : Verdict Region) → v ≡ after v (λ a. if_no_key (lenient || not (is_among [] a)) at a)
+no_key lenient at (Faulty f fs) = refl
+no_key lenient at Unjudged = refl
+no_key true at (Of a) = refl
+no_key false at (Of a) = refl
+
+-- no key is a parameter
+pub effect_named : (lenient : Bool) (names : List RegionNamed) (rs : List tree.RegionName)
+    → map (used_region names) rs ≡ map (effect_region lenient names []) rs
+effect_named lenient names [] = refl
+effect_named lenient names (r ∷ rs) =
+    ap (λ v. v ∷ map (used_region names) rs) (no_key lenient _ (used_region names r))
+    ∙ ap (λ vs. effect_region lenient names [] r ∷ vs) (effect_named lenient names rs)
+
+pub levels_known : (n : ℕ) → all_of (map (λ r. Of r) (levels_but [] n)) ≡ levels_but [] n
+levels_known n = all_known (levels_but [] n)

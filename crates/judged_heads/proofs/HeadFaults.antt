@@ -1,5 +1,5 @@
 -- The faults of heads.
-use Rattle.std.proofs.Common.{◌≡◌, ℕ, Bool, true, false, Bor, Option, Some, None, List, [], ◌∷◌, ◌++◌, cond, refl, sym, ap, ◌∙◌, nat_eq, length}
+use Rattle.std.proofs.Common.{◌≡◌, ℕ, Bool, true, false, Bor, Option, Some, None, List, [], ◌∷◌, ◌++◌, append_assoc, cond, refl, sym, ap, ◌∙◌, nat_eq, length}
 use Rattle.std.specs.Prelude.{bytes_eq, is_none, is_some, not, ◌||◌, ◌&&◌}
 use Rattle.cyc_types.proofs.KindsUnder.{no_pointer}
 use Rattle.cyc_types.specs.Bases.{base_type}
@@ -170,14 +170,20 @@ module _ (parts : Option found.Fault) (own fs : List rules.Fault) (e : faults_of
       by None h m = absurd cc
       by (Some g) h m = h ∙ some_after own fs (fault_of g) (sym h)
 
--- the earliest fault of all parts
-pub parts_are : (a b c : Option found.Fault) (fs gs hs : List rules.Fault) → faults_of a ≡ earliest fs → faults_of b ≡ earliest gs
-    → faults_of c ≡ earliest hs → faults_of (sooner_found (sooner_found a b) c) ≡ earliest (fs ++ gs ++ hs)
-parts_are a b c fs gs hs p q r =
-    found_sooner (sooner_found a b) c
-    ∙ ap (λ o. first_of o (faults_of c)) (found_sooner a b ∙ ap (λ o. first_of o (faults_of b)) p ∙ ap (λ o. first_of (earliest fs) o) q
-    ∙ sym (earliest_of_both fs gs))
-    ∙ ap (λ o. first_of (earliest (fs ++ gs)) o) r ∙ sym (earliest_of_both (fs ++ gs) hs)
+-- the earliest fault of two parts
+pub two_are : (a b : Option found.Fault) (fs gs : List rules.Fault) → faults_of a ≡ earliest fs → faults_of b ≡ earliest gs
+    → faults_of (sooner_found a b) ≡ earliest (fs ++ gs)
+two_are a b fs gs p q =
+    found_sooner a b ∙ ap (λ o. first_of o (faults_of b)) p ∙ ap (λ o. first_of (earliest fs) o) q ∙ sym (earliest_of_both fs gs)
+
+-- and of all
+pub parts_are : (a b c d : Option found.Fault) (fs gs hs us : List rules.Fault) → faults_of a ≡ earliest fs → faults_of b ≡ earliest gs
+    → faults_of c ≡ earliest hs → faults_of d ≡ earliest us
+    → faults_of (sooner_found a (sooner_found b (sooner_found c d))) ≡ earliest (fs ++ gs ++ hs ++ us)
+parts_are a b c d fs gs hs us p q r s =
+    two_are a (sooner_found b (sooner_found c d)) fs (gs ++ (hs ++ us)) p
+    (two_are b (sooner_found c d) gs (hs ++ us) q (two_are c d hs us r s))
+    ∙ sym (ap earliest (append_assoc (fs ++ gs) hs us ∙ append_assoc fs gs (hs ++ us)))
 
 -- a head is sound where it has no fault
 pub sound_found : (f : Option found.Fault) (fs : List rules.Fault) → faults_of f ≡ earliest fs → is_none f ≡ is_clean fs

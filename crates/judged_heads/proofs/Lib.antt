@@ -4,5 +4,6 @@ pub mod HeadFaults
 pub mod Heads
 pub mod Bodies
 pub mod Effects
+pub mod Below
 pub mod Parameters
 pub mod Signatures

@@ -11,6 +11,7 @@ use Rattle.source_typing.specs.Functions.{what_of_known, with_parameters}
 use Rattle.source_typing.specs.Scope.{Env, is_second, with_local}
 use Rattle.source_typing.specs.Tables.{What}
 use Rattle.source_typing.specs.Types.{StaticType}
+use Rattle.source_typing.specs.Written.{RegionNamed}
 use Rattle.scoped_names.proofs.Keeping.{block_goes_on, declared_known, not_declared, second_known}
 use Rattle.scoped_names.specs.Changes.{IsBlock, with_known}
 use Rattle.scoped_names.specs.Means.{WhatIs}
@@ -36,11 +37,11 @@ module _ (frame : RegionId) (k : Option StaticType) where
 
 -- ---- one parameter is declared
 
-module _ (c : Context) (s : Scope) (g : Env) (h : StandsIn c 0 s g) (x : tree.Name) (w : What) where
-  still_suits : Suits c (with_local x w g)
+module _ (c : Context) (ns : List RegionNamed) (s : Scope) (g : Env) (h : StandsIn c ns 0 s g) (x : tree.Name) (w : What) where
+  still_suits : Suits c ns (with_local x w g)
   still_suits = by (is_second g.locals g.block x.text)
     where
-      by : (b : Bool) → Suits c (if b then g else record g { locals = record { name = x.text; what = w; block = g.block } ∷ g.locals })
+      by : (b : Bool) → Suits c ns (if b then g else record g { locals = record { name = x.text; what = w; block = g.block } ∷ g.locals })
       by true = h.suits
       by false = record {
         names = h.suits.names;
@@ -51,14 +52,14 @@ module _ (c : Context) (s : Scope) (g : Env) (h : StandsIn c 0 s g) (x : tree.Na
         no_switch = h.suits.no_switch;
       }
 
-  pub stays_first : is_second g.locals g.block x.text ≡ true → StandsIn c 0 s (with_local x w g)
+  pub stays_first : is_second g.locals g.block x.text ≡ true → StandsIn c ns 0 s (with_local x w g)
   stays_first e = record {
     known = second_known s g h.known x w e;
     suits = still_suits;
     block = subst (IsBlock 0 s) (sym (not_declared x w g e)) h.block;
   }
 
-  pub is_added : (v : local.What) → WhatIs w v → is_second g.locals g.block x.text ≡ false → StandsIn c 0 (with_known x.text v s) (with_local x w g)
+  pub is_added : (v : local.What) → WhatIs w v → is_second g.locals g.block x.text ≡ false → StandsIn c ns 0 (with_known x.text v s) (with_local x w g)
   is_added v is e = record {
     known = declared_known s g h.known x w v is e;
     suits = still_suits;

@@ -17,6 +17,7 @@ use Rattle.source_typing.specs.Written.{
   Missing,
   as_region,
   base_of,
+  built,
   count_fits,
   counted_type,
   pointer_to,
@@ -30,8 +31,10 @@ use Rattle.source_typing.specs.Written.{
 use Rattle.judged_heads.specs.Reading.{IsPlain, NoKey, NoKeyIn}
 use Rattle.type_verdicts.specs.Taken.{taken_of}
 use Rattle.type_verdicts.specs.declared.taken.Taken as code_taken
+use Rattle.written_types.proofs.HandleTypes.{handle_is_base, handle_type}
 use Rattle.written_types.proofs.Structs.{other_type, struct_is_base, struct_type, takes_structs}
 use Rattle.written_types.specs.Arguments.{written_arguments}
+use Rattle.written_types.specs.Handles.{handle_taken}
 use Rattle.written_types.specs.Tagged.{struct_taken}
 use Rattle.written_types.proofs.Pointers.{base_taken, is_taken, not_taken, taken_built}
 use Rattle.written_types.specs.Reading.{plain_of, taken_base}
@@ -84,6 +87,18 @@ written_plain s g t b x e =
     subst (λ (v : Verdict PartialType). IsPlain s v) (sym (taken_built g t b x e))
     (unless_plain s x.1 (type_built t.at (pointers_to t.pointers x.0 (Some b)))
     (built_plain s t.at (pointers_to t.pointers x.0 (Some b)) (pointers_plain t.pointers x.0 (Some b) (subst NoKeyIn e (base_plain t.base)))))
+
+-- pointers to handles
+handle_built : (r : tree.RegionName) (ps : List tree.Pointer) (fs : List Found) → NoKeyIn (built (tree.Handle r) 0 ps fs)
+handle_built r ps [] = tt
+handle_built r ps (f ∷ fs) = pointers_plain ps fs (Some (Handle (as_region f))) tt
+
+handle_plain : (s : Bool) (g : Tables) (t : TypeName) (r : tree.RegionName) (y : List Found × List rules.Fault) → t.base ≡ tree.Handle r
+    → IsPlain s (written_with g t y)
+handle_plain s g t r (fs, bad) e =
+    let o = built (tree.Handle r) 0 t.pointers fs in
+    subst (λ b. IsPlain s (written_on (record { at = t.at; base = b; pointers = t.pointers }) fs bad (base_of g b))) (sym e)
+    (unless_plain s bad (type_built t.at o) (built_plain s t.at o (handle_built r t.pointers fs)))
 
 -- pointers to a struct, with any arguments
 arguments_plain : (n : ℕ) (x : List ℕ) (args : List Found) (ps : List tree.Pointer) (fs : List Found)
@@ -187,7 +202,15 @@ module _ (k : code_taken.Taken) (g : Tables) (t : TypeName) where
           (as_parameter k.structs g t vs (written_plain k.structs g t b (x.found, x.faults) (base_taken t b e)))
 
       by : (o : Option tree.Name) → struct_taken (taken_of k) t ≡ o → IsPlain k.structs (parameter_at g vs (type_taken (taken_of k) t))
-      by None e = subst (λ u. IsPlain k.structs (parameter_at g vs u)) (sym (other_type k t e)) (of_base (taken_base t) refl)
+      by None e = no_struct (handle_taken (taken_of k) t) refl
+        where
+          no_struct : (o : Option tree.RegionName) → handle_taken (taken_of k) t ≡ o
+              → IsPlain k.structs (parameter_at g vs (type_taken (taken_of k) t))
+          no_struct None i = subst (λ u. IsPlain k.structs (parameter_at g vs u)) (sym (other_type k t e i)) (of_base (taken_base t) refl)
+          no_struct (Some r) i =
+              let x = take_spots vs (spots_of g t) in
+              subst (λ u. IsPlain k.structs (parameter_at g vs u)) (sym (handle_type k t r i))
+              (as_parameter k.structs g t vs (handle_plain k.structs g t r (x.found, x.faults) (handle_is_base k t r i)))
       by (Some n) e =
           let x = take_spots vs (spots_of g t) in
           subst (λ u. IsPlain k.structs (parameter_at g vs u)) (sym (struct_type k t n e))

@@ -1,5 +1,5 @@
 -- What the name of a function means, by its head.
-use Rattle.std.proofs.Common.{◌≡◌, true, false, Option, Some, None, [], refl, sym, ◌∙◌, ap, subst}
+use Rattle.std.proofs.Common.{◌≡◌, true, false, Option, Some, None, refl, sym, ◌∙◌, ap, subst}
 use Rattle.std.specs.Prelude.{is_none, is_some, map, option_map}
 use Rattle.cyc_types.specs.Regions.{regions_of}
 use Rattle.cyc_types.specs.Types.{static_type}
@@ -12,7 +12,7 @@ use Rattle.source_typing.specs.Functions as rules
 use Rattle.source_typing.specs.Tables.{OfFunction, Signature}
 use Rattle.type_verdicts.specs.declared.fault.Fault.{Fault}
 use Rattle.judged_heads.specs.Bodies.{types_of}
-use Rattle.judged_heads.specs.Heads.{IsHead, effect_in, known_static}
+use Rattle.judged_heads.specs.Heads.{IsHead, known_static}
 use Rattle.judged_heads.specs.declared.head.Head as found
 use Rattle.cyc_tree.specs.Tree as tree
 
@@ -35,11 +35,11 @@ module _ (c : found.Head) (f : tree.Function) (h : rules.Head) (is : IsHead c f 
 
   pub sound_means : (s : head.Signature) → c.fault ≡ None → s.regions ≡ c.variables.count
       → map (option_map static_type) s.parameters.items ≡ types_of c.parameters.items → option_map static_type s.result ≡ known_static c.result
-      → regions_of s.effect.items ≡ effect_in c.is_whole c.variables.count → s.bounds.items ≡ []
+      → s.effect ≡ c.effect → s.bounds ≡ c.bounds
       → Means (Some (OfFunction h.signature)) (Some (code.Function s))
   sound_means s none regions parameters result effect bounds =
       subst (λ (t : Signature). Means (Some (OfFunction t)) (Some (code.Function s)))
       (same_signature s h.signature (regions ∙ is.count) (parameters ∙ is.types)
       (result ∙ is.result)
-      (effect ∙ is.effect) (ap (λ bs. map pair_of bs) bounds ∙ sym is.bounds) (sym (ap is_none none) ∙ is.sound))
+      (ap (λ rs. regions_of rs.items) effect ∙ is.effect) (ap (λ bs. map pair_of bs.items) bounds ∙ is.bounds) (sym (ap is_none none) ∙ is.sound))
       (means.Means.Function s)

@@ -1,10 +1,11 @@
 -- What a head in code says, as the rules say it.
-use Rattle.std.specs.Prelude.{Bool, List, None, Option, Some, false, is_none, map, true, ℕ, ◌≡◌, []}
+use Rattle.std.specs.Prelude.{None, Option, Some, is_none, map, ◌≡◌}
+use Rattle.cyc_types.specs.Regions.{regions_of}
 use Rattle.cyc_types.specs.Types.{static_type}
 use Rattle.cyc_types.specs.declared.ctype.CType.{CType}
 use Rattle.source_typing.specs.Faults.{earliest}
-use Rattle.source_typing.specs.Functions.{levels_but}
-use Rattle.source_typing.specs.Regions.{Region}
+use Rattle.scoped_types.specs.Fields.{pair_of}
+use Rattle.source_safety.specs.Named.{AllBelow, BoundsBelow}
 use Rattle.source_typing.specs.Types.{StaticType}
 use Rattle.type_verdicts.specs.Faults.{faults_of}
 use Rattle.type_verdicts.specs.declared.verdict.Verdict as verdict
@@ -20,19 +21,17 @@ known_static (variant.Of t) = Some (static_type t)
 known_static (variant.Wrong f) = None
 known_static variant.NotJudged = None
 
--- all region variables, or none
-abbrev pub effect_in : Bool → ℕ → List Region
-effect_in true count = levels_but [] count
-effect_in false count = []
-
--- The head in code has the region variables, parameters, result, effect and earliest fault of that of the rules.
+-- The head in code has the region variables, parameters, result, effect, bounds and earliest fault of that of the rules.
 pub record IsHead (c : code.Head) (f : tree.Function) (h : rules.Head) : Type 0 where
   pub names : c.variables.names ≡ h.names
   pub count : c.variables.count ≡ h.signature.regions
   pub named : map (λ (p : Parameter). p.name.now) c.parameters.items ≡ map (λ (m : tree.Member). m.name.text) f.parameters
   pub types : map (λ (p : Parameter). known_static p.of) c.parameters.items ≡ h.signature.parameters
   pub result : known_static c.result ≡ h.signature.result
-  pub effect : effect_in c.is_whole c.variables.count ≡ h.signature.effect
-  pub bounds : h.signature.bounds ≡ []
+  pub effect : regions_of c.effect.items ≡ h.signature.effect
+  pub bounds : map pair_of c.bounds.items ≡ h.signature.bounds
+  -- they speak of the head's region variables
+  pub effect_below : AllBelow h.signature.regions h.signature.effect
+  pub bounds_below : BoundsBelow h.signature.regions h.signature.bounds
   pub fault : faults_of c.fault ≡ earliest h.faults
   pub sound : is_none c.fault ≡ h.signature.sound

@@ -69,6 +69,11 @@ abbrev pub bound_place : List tree.Bound → Option ℕ
 bound_place [] = None
 bound_place (b ∷ bs) = Some (region_place b.longer)
 
+-- the place of a form, unless it is taken
+abbrev pub place_unless : Bool → Option ℕ → Option ℕ
+place_unless true place = None
+place_unless false place = place
+
 -- what stands for one
 abbrev pub form_at : Option ℕ → List ℕ → List tree.Member
 form_at None name = []
@@ -104,9 +109,3 @@ main_faults_of n v ms = test (not (bytes_eq n.text (codes "main")) || main_form 
 
 abbrev pub main_faults_in : tree.Name → verdict.Verdict CType → List Parameter → List rules.Fault
 main_faults_in n v ps = test (not (bytes_eq n.text (codes "main")) || main_in v ps) type_rule n.at
-
--- whether an effect is left out, or refused
-abbrev pub is_whole : Option (List tree.RegionName) → Bool
-is_whole None = true
-is_whole (Some []) = false
-is_whole (Some (r ∷ rs)) = true

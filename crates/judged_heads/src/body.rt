@@ -11,6 +11,7 @@ ghost use Rattle.source_typing.specs.Scope.{Env, with_local};
 ghost use Rattle.source_typing.specs.Statements.{items_faults};
 ghost use Rattle.source_typing.specs.Tables as known;
 ghost use Rattle.source_typing.specs.Taken.{function_taken};
+ghost use Rattle.source_typing.specs.Written.{RegionNamed};
 ghost use Rattle.type_verdicts.specs.Taken.{taken_of};
 ghost use Rattle.type_verdicts.specs.declared.taken.Taken as code_taken;
 ghost use Rattle.type_verdicts.specs.Faults.{faults_of};
@@ -20,7 +21,6 @@ ghost use Rattle.judged_statements.specs.Contexts.{StandsIn};
 ghost use Rattle.judged_heads.specs.Bodies.{KnowsNames, code_names, names_of, own_found, types_of};
 ghost use Rattle.judged_heads.specs.Heads.{IsHead, known_static};
 
-use crate::effect::effect_of;
 use crate::head::{Head, Parameter, is_main, read_head};
 use crate::meaning::known_type;
 use crate::ways::items_fall;
@@ -59,8 +59,8 @@ fn declare_parameter<'p>(
     context: Context<'_, 'p>,
     parameter: &Parameter<'p>,
 ) -> Result<(), AllocError>
-    ensures stands { (g : Env) (x : tree.Name) → x.text ≡ parameter.now.name.now → StandsIn context.entry 0 scope.old g
-        → OnOk result (StandsIn context.entry 0 scope.new (with_local x (what_of_known g.frame (known_static parameter.now.of)) g)) }
+    ensures stands { (ns : List RegionNamed) (g : Env) (x : tree.Name) → x.text ≡ parameter.now.name.now → StandsIn context.entry ns 0 scope.old g
+        → OnOk result (StandsIn context.entry ns 0 scope.new (with_local x (what_of_known g.frame (known_static parameter.now.of)) g)) }
     ensures taken { OnOk result (scope.new.taken ≡ scope.old.taken) }
 {
     if scope.locals.is_second(0, parameter.name) {
@@ -77,8 +77,8 @@ fn declare_parameters<'p>(
     context: Context<'_, 'p>,
     parameters: &[Parameter<'p>],
 ) -> Result<(), AllocError>
-    ensures stands { (g : Env) (ms : List tree.Member) → code_names parameters.now ≡ names_of ms → StandsIn context.entry 0 scope.old g
-        → OnOk result (StandsIn context.entry 0 scope.new (with_parameters ms (types_of parameters.now) g)) }
+    ensures stands { (ns : List RegionNamed) (g : Env) (ms : List tree.Member) → code_names parameters.now ≡ names_of ms
+        → StandsIn context.entry ns 0 scope.old g → OnOk result (StandsIn context.entry ns 0 scope.new (with_parameters ms (types_of parameters.now) g)) }
     ensures taken { OnOk result (scope.new.taken ≡ scope.old.taken) }
 {
     'each: for parameter in parameters {
@@ -99,9 +99,12 @@ fn entered<'g, 'p>(
     ensures alone { IfOk result (λ s. s.locals ≡ []) }
     ensures taken { IfOk result (λ s. s.taken ≡ names.entry.taken) }
 {
-    let count = head.variables.count();
-    let effect = effect_of(alloc, head.is_whole, count)?;
-    let mut regions = RegionScope::of_function(alloc, count, effect.as_slice(), &[])?;
+    let mut regions = RegionScope::of_function(
+        alloc,
+        head.variables.count(),
+        head.effect.as_slice(),
+        head.bounds.as_slice(),
+    )?;
     regions.begin_block()?;
     Ok(Scope {
         globals: names.globals,
@@ -119,23 +122,24 @@ fn body_fault<'p>(
     names: Names<'_, 'p>,
     lenient: bool,
     item: u32,
-    head: &Head<'p>,
+    head: Head<'p>,
     function: &'p Function,
 ) -> Result<Option<Fault>, AllocError>
     ensures { (g : known.Tables) (h : rules.Head) → KnowsNames names.entry g
-        → let f = function_taken (taken_of names.entry.taken) (function_tree function.entry.now) in IsHead head.now f h
+        → let f = function_taken (taken_of names.entry.taken) (function_tree function.entry.now) in IsHead head.entry f h
         → IfOk result (λ found. faults_of found ≡ earliest (items_faults (body_scope lenient g item f h) true f.body)) }
 {
-    let mut scope = entered(alloc, names, lenient, head)?;
+    let mut scope = entered(alloc, names, lenient, &head)?;
+    let frame = RegionId::Level(head.variables.count());
+    let mut known = head.variables.into_names();
     let context = Context {
-        names: head.variables.names(),
         result: known_type(&head.result),
-        frame: RegionId::Level(head.variables.count()),
+        frame,
         item,
         in_loop: false,
     };
     declare_parameters(&mut scope, context, head.parameters.as_slice())?;
-    items_fault(&mut scope, alloc, context, 0, &function.body)
+    items_fault(&mut scope, &mut known, alloc, context, 0, &function.body)
 }
 
 /// Whether a function with a result of this type has to return one.
@@ -190,7 +194,8 @@ pub fn function_fault<'p>(
         ≡ earliest (function_faults lenient g item (function_taken (taken_of names.entry.taken) (function_tree function.entry.now)))) }
 {
     let head = read_head(alloc, names.taken, names.tags, function)?;
-    let body = body_fault(alloc, names, lenient, item, &head, function)?;
     let end = end_fault(&head, function);
-    Ok(sooner(head.fault, first_or(body, end)))
+    let own = head.fault;
+    let body = body_fault(alloc, names, lenient, item, head, function)?;
+    Ok(sooner(own, first_or(body, end)))
 }

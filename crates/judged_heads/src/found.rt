@@ -4,7 +4,7 @@ ghost use Rattle.std.specs.Prelude.{◌≡◌, ◌++◌, ◌||◌, IfOk, List, [
 ghost use Rattle.cyc_tree.specs.Tree.{Member};
 ghost use Rattle.cyc_tree.specs.View.{name_tree};
 ghost use Rattle.cyc_types.specs.Types.{static_type};
-ghost use Rattle.source_typing.specs.Faults.{earliest, own_after, test};
+ghost use Rattle.source_typing.specs.Faults.{Fault as TheFault, earliest, own_after, test};
 ghost use Rattle.source_typing.specs.Functions.{all_faults};
 ghost use Rattle.source_typing.specs.Tags.{repeated};
 ghost use Rattle.source_typing.specs.Types.{StaticType};
@@ -86,21 +86,25 @@ fn main_fault(name: &Name, parameters: &[Parameter<'_>], of: &Verdict<CType<'_>>
     )
 }
 
-/// The earliest fault of a head of this name, result and parameters. The form of `main` is looked at only where nothing else is at
-/// fault. Fails only where no host memory is left.
+/// The earliest fault of a head of this name, result and parameters, with the fault of its effect and bounds. The form of `main` is
+/// looked at only where nothing else is at fault. Fails only where no host memory is left.
 pub(crate) fn head_fault(
     alloc: Global,
     name: &Name,
     parameters: &[Parameter<'_>],
     of: &Verdict<CType<'_>>,
+    used: Option<Fault>,
 ) -> Result<Option<Fault>, AllocError>
-    ensures { (v : rules.Verdict StaticType) (ms : List Member) (vs : List (rules.Verdict StaticType)) → short_of static_type of.now ≡ shortened v
-        → AreParameters parameters.now ms vs
+    ensures { (v : rules.Verdict StaticType) (ms : List Member) (vs : List (rules.Verdict StaticType)) (us : List TheFault)
+        → short_of static_type of.now ≡ shortened v → AreParameters parameters.now ms vs → faults_of used ≡ earliest us
         → IfOk result (λ f. faults_of f ≡ earliest (own_after (main_faults_of (name_tree name.now) v ms)
-        (all_faults vs ++ repeated [] ms ++ rules.faults_of v))) }
+        (all_faults vs ++ repeated [] ms ++ rules.faults_of v ++ us))) }
 {
     let second = repeated_fault(alloc, parameters)?;
-    let parts = sooner(sooner(types_fault(parameters), second), of.fault());
+    let parts = sooner(
+        types_fault(parameters),
+        sooner(second, sooner(of.fault(), used)),
+    );
     if parts.is_some() {
         return Ok(parts);
     }

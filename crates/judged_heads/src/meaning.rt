@@ -9,7 +9,6 @@ ghost use Rattle.scoped_names.specs.Means.{Means};
 ghost use Rattle.judged_heads.specs.Bodies.{types_of};
 ghost use Rattle.judged_heads.specs.Heads.{IsHead, known_static};
 
-use crate::effect::effect_of;
 use crate::head::{Head, Parameter};
 use cyc_types::CType;
 use scoped_names::{Meaning, Signature};
@@ -60,13 +59,12 @@ pub fn head_meaning<'p>(alloc: Global, head: Head<'p>) -> Result<Meaning<'p>, Al
     }
     let regions = head.variables.count();
     let parameters = known_types(alloc, head.parameters.as_slice())?;
-    let effect = effect_of(alloc, head.is_whole, regions)?;
     let result = known_clone(&head.result)?;
     Ok(Meaning::Function(Signature {
         regions,
         parameters,
         result,
-        effect,
-        bounds: Vec::new(alloc),
+        effect: head.effect,
+        bounds: head.bounds,
     }))
 }

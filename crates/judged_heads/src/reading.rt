@@ -7,7 +7,7 @@ ghost use Rattle.source_typing.specs.Tables.{Tables};
 ghost use Rattle.source_typing.specs.Taken.{function_taken, member_taken, members_taken, refused_member};
 ghost use Rattle.type_verdicts.specs.Taken.{taken_of};
 ghost use Rattle.written_types.specs.Naming.{AreTagNames};
-ghost use Rattle.judged_heads.specs.Reading.{AreRead, bound_place, effect_place, form_at};
+ghost use Rattle.judged_heads.specs.Reading.{AreRead, bound_place, effect_place, form_at, place_unless};
 
 use crate::head::Parameter;
 use cyc_tree::{Bound, Function, Member, RegionNames};
@@ -43,6 +43,13 @@ fn bound_place(bounds: &[Bound]) -> Option<u32>
         Some(bound) => Some(bound.longer.place()),
         None => None,
     }
+}
+
+/// The place of a form of regions, unless it is taken.
+fn place_unless(taken: Taken, place: Option<u32>) -> Option<u32>
+    ensures { result ≡ place_unless taken.regions place }
+{
+    if taken.regions { None } else { place }
 }
 
 impl<'p> Parameters<'p> {
@@ -117,8 +124,8 @@ impl<'p> Parameters<'p> {
         }
     }
 
-    /// The parameters of a function, and what stands for an effect that names a region and for bounds. Fails only where no host memory
-    /// is left.
+    /// The parameters of a function, and what stands for an effect that names a region and for bounds, where these aren't taken. Fails
+    /// only where no host memory is left.
     pub(crate) fn of(
         alloc: Global,
         taken: Taken,
@@ -130,8 +137,10 @@ impl<'p> Parameters<'p> {
     {
         let mut parameters = Parameters::new(alloc);
         parameters.add_all(alloc, taken, tags, &function.parameters)?;
-        parameters.add_form(effect_place(&function.effect), b"".as_slice())?;
-        parameters.add_form(bound_place(&function.bounds), b"\0".as_slice())?;
+        let effect = place_unless(taken, effect_place(&function.effect));
+        let bounds = place_unless(taken, bound_place(&function.bounds));
+        parameters.add_form(effect, b"".as_slice())?;
+        parameters.add_form(bounds, b"\0".as_slice())?;
         Ok(parameters)
     }
 }

@@ -10,7 +10,7 @@ use Rattle.source_typing.specs.Tables.{Tables}
 use Rattle.source_typing.specs.Taken.{Taken, refused_type, takes_base, takes_pointers, takes_type, thin_pointers, type_taken}
 use Rattle.source_typing.specs.Types.{Char, Fat, Handle, Int, Key, Null, PartialType, StaticType, Struct, Thin, TypeIn, Union, Unique, Unsigned, Void}
 use Rattle.source_typing.specs.Verdicts.{Verdict, unless_faulty}
-use Rattle.source_typing.specs.Written.{Found, Is, IsUnique, Missing, RegionNamed, all_found, pointers_to, spots_of, type_built, written}
+use Rattle.source_typing.specs.Written.{Found, Is, IsUnique, Missing, RegionNamed, all_found, as_region, built, pointers_to, spots_of, type_built, written}
 use Rattle.source_typing.specs.Written as reading
 use Rattle.type_verdicts.specs.Taken.{taken_of}
 use Rattle.type_verdicts.specs.Verdicts.{Is, shortened}
@@ -98,40 +98,48 @@ built_tagless at [] None h = refl
 built_tagless at [] (Some t) h = h
 built_tagless at (f ∷ fs) o h = refl
 
--- without structs, whatever is taken of their parameters
-abbrev structless : Bool → Taken
-structless parameters = record thin_pointers { structs = false; parameters = parameters }
+-- a handle
+handle_tagless : (r : tree.RegionName) (ps : List tree.Pointer) (fs : List Found) → tagless_some (built (tree.Handle r) 0 ps fs) ≡ true
+handle_tagless r ps [] = refl
+handle_tagless r ps (f ∷ fs) = pointers_tagless ps fs (Some (Handle (as_region f))) refl
+
+-- without structs, whatever is taken of their parameters and of regions
+abbrev structless : Bool → Bool → Taken
+structless parameters regions = record thin_pointers { structs = false; parameters = parameters; regions = regions }
 
 module _ (g : Tables) (names : List RegionNamed) where
-  on_base : (k : Bool) (at : ℕ) (b : tree.Base) (ps : List tree.Pointer) → takes_base (structless k) b && takes_pointers (structless k) ps ≡ true
+  on_base : (k l : Bool) (at : ℕ) (b : tree.Base) (ps : List tree.Pointer) → takes_base (structless k l) b && takes_pointers (structless k l) ps ≡ true
       → tagless_short (shortened (written g names record { at = at; base = b; pointers = ps })) ≡ true
-  on_base k at tree.Int ps h =
+  on_base k l at tree.Int ps h =
       let found = all_found names (spots_of g record { at = at; base = tree.Int; pointers = ps }) in
       built_tagless at found.1 (pointers_to ps found.0 (Some Int)) (pointers_tagless ps found.0 (Some Int) refl)
-  on_base k at tree.Unsigned ps h =
+  on_base k l at tree.Unsigned ps h =
       let found = all_found names (spots_of g record { at = at; base = tree.Unsigned; pointers = ps }) in
       built_tagless at found.1 (pointers_to ps found.0 (Some Unsigned)) (pointers_tagless ps found.0 (Some Unsigned) refl)
-  on_base k at tree.Char ps h =
+  on_base k l at tree.Char ps h =
       let found = all_found names (spots_of g record { at = at; base = tree.Char; pointers = ps }) in
       built_tagless at found.1 (pointers_to ps found.0 (Some Char)) (pointers_tagless ps found.0 (Some Char) refl)
-  on_base k at tree.Void ps h =
+  on_base k l at tree.Void ps h =
       let found = all_found names (spots_of g record { at = at; base = tree.Void; pointers = ps }) in
       built_tagless at found.1 (pointers_to ps found.0 (Some Void)) (pointers_tagless ps found.0 (Some Void) refl)
-  on_base k at (tree.Struct tag rs) ps h = absurd (true≢false (sym h))
-  on_base k at (tree.Union tag rs) ps h = absurd (true≢false (sym h))
-  on_base k at (tree.Handle r) ps h = absurd (true≢false (sym h))
-  on_base k at (tree.Key r) ps h = absurd (true≢false (sym h))
+  on_base k l at (tree.Struct tag rs) ps h = absurd (true≢false (sym h))
+  on_base k l at (tree.Union tag rs) ps h = absurd (true≢false (sym h))
+  on_base k l at (tree.Handle r) ps h =
+      let found = all_found names (spots_of g record { at = at; base = tree.Handle r; pointers = ps }) in
+      built_tagless at found.1 (built (tree.Handle r) 0 ps found.0) (handle_tagless r ps found.0)
+  on_base k l at (tree.Key r) ps h = absurd (true≢false (sym h))
 
-  written_tagless : (k : Bool) (t : tree.TypeName) → tagless_short (shortened (written g names (type_taken (structless k) t))) ≡ true
-  written_tagless k t = by (takes_type (structless k) t) refl
+  written_tagless : (k l : Bool) (t : tree.TypeName) → tagless_short (shortened (written g names (type_taken (structless k l) t))) ≡ true
+  written_tagless k l t = by (takes_type (structless k l) t) refl
     where
-      by : (b : Bool) → takes_type (structless k) t ≡ b → tagless_short (shortened (written g names (if b then t else refused_type t.at))) ≡ true
-      by true e = on_base k t.at t.base t.pointers e
+      by : (b : Bool) → takes_type (structless k l) t ≡ b → tagless_short (shortened (written g names (if b then t else refused_type t.at))) ≡ true
+      by true e = on_base k l t.at t.base t.pointers e
       by false e = refl
 
   pub written_allowed : (k : code_taken.Taken) (t : tree.TypeName) → allowed_short k.structs (shortened (written g names (type_taken (taken_of k) t))) ≡ true
   written_allowed k t = by k.structs
     where
-      by : (s : Bool) → allowed_short s (shortened (written g names (type_taken (record thin_pointers { structs = s; parameters = k.parameters }) t))) ≡ true
+      by : (s : Bool) → allowed_short s
+          (shortened (written g names (type_taken (record thin_pointers { structs = s; parameters = k.parameters; regions = k.regions }) t))) ≡ true
       by true = refl
-      by false = written_tagless k.parameters t
+      by false = written_tagless k.parameters k.regions t

@@ -1,12 +1,14 @@
 -- The earliest fault of a block's items, one at a time, and what is in scope after them.
-use Rattle.std.proofs.Common.{◌≡◌, ℕ, ◌+◌, ◌<◌, ◌≤◌, List, ◌∷◌, [], ◌++◌, Bool, true, false, Option, Some, None, refl, sym, ap, subst, ◌∙◌, map, length, drop, get_or, arith}
+use Rattle.std.proofs.Common.{◌≡◌, ℕ, suc, ◌+◌, ◌-◌, ◌<◌, ◌≤◌, List, ◌∷◌, [], ◌++◌, Bool, true, false, Option, Some, None, refl, sym, ap, subst, ◌∙◌}
+use Rattle.std.proofs.Common.{map, length, drop, take, get_or, arith}
 use Rattle.std.specs.Prelude.{nat_le, option_map, ◌&&◌, if◌then◌else◌}
-use Rattle.std.proofs.lemmas.List.{drop_more}
+use Rattle.std.proofs.lemmas.List.{drop_more, length-append, length-drop, length-take}
+use Rattle.cyc_tree.specs.Tree as tree
 use Rattle.cyc_tree.specs.declared.statement.BlockItem as code_item
 use Rattle.cyc_tree.specs.declared.expression.Expression as code_expression
 use Rattle.cyc_tree.specs.View.{OneItem, expression_tree, item_tree, items_of}
 use Rattle.cyc_tree.specs.Tree.{BlockItems, Statement}
-use Rattle.source_typing.specs.Declarations.{declare}
+use Rattle.source_typing.specs.Declarations.{declare, name_added}
 use Rattle.source_typing.specs.Expressions.{judge}
 use Rattle.source_typing.specs.Faults.{Fault, earliest}
 use Rattle.source_typing.specs.Scope.{Env, block_entered}
@@ -29,8 +31,9 @@ use Rattle.scoped_types.specs.declared.begun.Begun.TheVariants.{Block}
 use Rattle.scoped_types.specs.declared.scope.RegionMark.{RegionMark}
 use Rattle.cyc_types.specs.Regions.{region_of}
 use Rattle.cyc_types.specs.declared.region.RegionId.{RegionId}
-use Rattle.source_typing.specs.Regions.{Level}
-use Rattle.judged_statements.specs.Contexts.{StandsIn, Suits}
+use Rattle.source_typing.specs.Regions.{Level, Region}
+use Rattle.source_typing.specs.Written.{RegionNamed}
+use Rattle.judged_statements.specs.Contexts.{StandsIn, Suits, kept_to}
 use Rattle.judged_statements.specs.declared.context.Context.{Context}
 
 -- the items of a block as far as they are taken
@@ -60,18 +63,19 @@ first_joined None b c = refl
 first_joined (Some f) b c = sym (sooner_first f b c)
 
 -- where some items were judged: what stands in scope by the rules, and what was found, with the faults of the rest, is what is found of all
-pub record Going (k : Taken) (c : Context) (outer : ℕ) (s : Scope) (o : Option found.Fault) (rest : List OneItem) (all : Option Fault) : Type 0 where
+pub record Going (k : Taken) (c : Context) (names : List RegionNamed) (outer : ℕ) (s : Scope) (o : Option found.Fault) (rest : List OneItem)
+    (all : Option Fault) : Type 0 where
   pub env : Env
   pub reached : Bool
-  pub stands : StandsIn c outer s env
+  pub stands : StandsIn c names outer s env
   pub same : first_of (faults_of o) (earliest (items_faults env reached (taken_items k rest))) ≡ all
 
-pub goes_on : (k : Taken) (c : Context) (outer : ℕ) (s after : Scope) (o fault : Option found.Fault) (items : List code_item.BlockItem) (index : ℕ)
-    (item : code_item.BlockItem) (all : Option Fault) → index < length items → item ≡ get_or items index item
-    → (h : Going k c outer s o (map item_tree (drop index items)) all)
-    → faults_of fault ≡ earliest (item_faults k h.env h.reached (item_tree item)) → StandsIn c outer after (scope_behind k h.env (item_tree item))
-    → Going k c outer after (sooner_found o fault) (map item_tree (drop (index + 1) items)) all
-goes_on k c outer s after o fault items index item all l is_item h own stands =
+pub goes_on : (k : Taken) (c : Context) (names later : List RegionNamed) (outer : ℕ) (s after : Scope) (o fault : Option found.Fault)
+    (items : List code_item.BlockItem) (index : ℕ) (item : code_item.BlockItem) (all : Option Fault) → index < length items
+    → item ≡ get_or items index item → (h : Going k c names outer s o (map item_tree (drop index items)) all)
+    → faults_of fault ≡ earliest (item_faults k h.env h.reached (item_tree item)) → StandsIn c later outer after (scope_behind k h.env (item_tree item))
+    → Going k c later outer after (sooner_found o fault) (map item_tree (drop (index + 1) items)) all
+goes_on k c names later outer s after o fault items index item all l is_item h own stands =
     let i : OneItem = item_tree item in
     let rest : List OneItem = map item_tree (drop (index + 1) items) in
     let others : Option Fault = earliest (items_faults (scope_behind k h.env i) (reached_behind k h.reached i) (taken_items k rest)) in
@@ -106,11 +110,11 @@ return_faults k g reached at (Some e) = refl
 -- ---- blocks
 
 -- a block begins: all that is in scope is known, and its stack region is the one that is next
-pub block_stands : (c : Context) (s : Scope) (g : Env) (regions : Scoped) (frame : RegionId) (outer : ℕ) → Knows s g → Suits c g → AllAround g.block g.locals
-    → regions ≡ with_begun Block s.regions → region_of frame ≡ Level (length s.regions.begun) → outer ≡ length s.locals
-    → StandsIn (record c { frame = frame }) outer (record s { regions = regions }) (block_entered g)
-block_stands c s g regions frame outer h suits around e f o =
-    subst (λ r. StandsIn (record c { frame = frame }) outer (record s { regions = r }) (block_entered g)) (sym e) record {
+pub block_stands : (c : Context) (names : List RegionNamed) (s : Scope) (g : Env) (regions : Scoped) (frame : RegionId) (outer : ℕ) → Knows s g
+    → Suits c names g → AllAround g.block g.locals → regions ≡ with_begun Block s.regions → region_of frame ≡ Level (length s.regions.begun)
+    → outer ≡ length s.locals → StandsIn (record c { frame = frame }) names outer (record s { regions = regions }) (block_entered g)
+block_stands c names s g regions frame outer h suits around e f o =
+    subst (λ r. StandsIn (record c { frame = frame }) names outer (record s { regions = r }) (block_entered g)) (sym e) record {
       known = entered_known s g h;
       suits = record {
         names = suits.names;
@@ -122,6 +126,12 @@ block_stands c s g regions frame outer h suits around e f o =
       };
       block = subst (λ n. IsBlock n (entered s) (block_entered g)) (sym o) (block_is_entered s g around);
     }
+
+-- all regions that were in scope before are so in it
+pub begun_longer : (s regions : Scoped) → regions ≡ with_begun Block s → length s.begun ≤ length regions.begun
+begun_longer s regions e =
+    let more : length s.begun ≤ length (s.begun ++ Block ∷ []) = omega (arith, length-append s.begun (Block ∷ [])) in
+    subst (λ r. length s.begun ≤ length r.begun) (sym e) more
 
 -- leaving it at once, and after all of its items
 pub block_left : (s t : Scope) (regions : Scoped) → regions ≡ with_begun Block s.regions
@@ -141,9 +151,9 @@ left_is t locals regions n m e f =
 pub loop_known : (s : Scope) (g : Env) → Knows s g → Knows s (in_a_loop g)
 loop_known s g h = known_there s g h (in_a_loop g) refl refl refl refl refl
 
-pub loop_suits : (c d : Context) (g : Env) → Suits c g → d ≡ record c { in_loop = true } → Suits d (in_a_loop g)
-loop_suits c d g h e =
-    subst (λ x. Suits x (in_a_loop g)) (sym e) record {
+pub loop_suits : (c d : Context) (names : List RegionNamed) (g : Env) → Suits c names g → d ≡ record c { in_loop = true } → Suits d names (in_a_loop g)
+loop_suits c d names g h e =
+    subst (λ x. Suits x names (in_a_loop g)) (sym e) record {
       names = h.names;
       result = h.result;
       frame = h.frame;
@@ -169,3 +179,35 @@ no_fewer s t e =
     let same : dropped_to n t.locals ≡ s.locals = ap (λ (x : Scope). x.locals) (e ∙ left_at_once s) in
     let shorter : length (dropped_to n t.locals) ≤ length t.locals = dropped_shorter n t.locals in
     subst (λ ls. length ls ≤ length t.locals) same shorter
+
+-- and no fewer regions
+pub no_fewer_regions : (s t : Scope) → left (length s.locals) (mark_of s.regions) t ≡ left (length s.locals) (mark_of s.regions) s
+    → length s.regions.begun ≤ length t.regions.begun
+no_fewer_regions s t e =
+    let n : ℕ = length s.regions.begun in
+    let same : take n t.regions.begun ≡ s.regions.begun = ap (λ (x : Scope). x.regions.begun) (e ∙ left_at_once s) in
+    let shorter : length (take n t.regions.begun) ≤ length t.regions.begun = omega (arith, length-take n t.regions.begun) in
+    subst (λ bs. length bs ≤ length t.regions.begun) same shorter
+
+-- ---- the region names that are left
+
+module _ (count : ℕ) where
+  -- one that was added is gone
+  kept_more : (n : RegionNamed) (ns : List RegionNamed) → count ≤ length ns → kept_to count (n ∷ ns) ≡ kept_to count ns
+  kept_more n ns h =
+      let e : length (n ∷ ns) - count ≡ suc (length ns - count) = omega (arith, h) in ap (λ k. drop k (n ∷ ns)) e
+
+  pub kept_added : (there : Bool) (x : tree.Name) (r : Region) (ns : List RegionNamed) → count ≤ length ns
+      → kept_to count (name_added there x r ns) ≡ kept_to count ns
+  kept_added true x r ns h = refl
+  kept_added false x r ns h = kept_more _ ns h
+
+-- leaving a block at once leaves them all
+pub all_kept : (ns : List RegionNamed) → kept_to (length ns) ns ≡ ns
+all_kept ns = let e : length ns - length ns ≡ 0 = omega arith in ap (λ k. drop k ns) e
+
+-- where leaving the block gives back the names that were in scope, there are no fewer
+pub no_fewer_names : (ns ms : List RegionNamed) → kept_to (length ns) ms ≡ kept_to (length ns) ns → length ns ≤ length ms
+no_fewer_names ns ms e =
+    let shorter : length (kept_to (length ns) ms) ≤ length ms = omega (arith, length-drop (length ms - length ns) ms) in
+    subst (λ xs. length xs ≤ length ms) (e ∙ all_kept ns) shorter

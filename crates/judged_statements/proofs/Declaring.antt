@@ -2,16 +2,18 @@
 use Rattle.std.proofs.Common.{◌≡◌, ℕ, Bool, true, false, List, [], ◌∷◌, Option, Some, None, refl, sym, ap, subst, ◌∙◌}
 use Rattle.std.specs.Prelude.{◌&&◌, ◌++◌, if◌then◌else◌, not, unwrap_or}
 use Rattle.cyc_tree.specs.Tree as tree
-use Rattle.source_typing.specs.Declarations.{converted_to, declare, declared, local_type, set_faults, taken_from, what_after, what_of}
-use Rattle.source_typing.specs.Faults.{Fault, earliest, fault, name_rule, sooner_of}
-use Rattle.source_typing.specs.Regions.{Region}
-use Rattle.source_typing.specs.Scope.{Env, is_second, second, with_local}
+use Rattle.source_typing.specs.Declarations.{Declared, converted_to, declare, declared, local_type, region_declared, set_faults, taken_from}
+use Rattle.source_typing.specs.Declarations.{what_after, what_of, with_region}
+use Rattle.source_typing.specs.Faults.{Fault, earliest, fault, name_rule, sooner_of, type_rule}
+use Rattle.source_typing.specs.Regions.{Region, with_scope}
+use Rattle.source_typing.specs.Scope.{Env, block_entered, is_second, next_region, second, with_local}
 use Rattle.source_typing.specs.Scope as judged
-use Rattle.source_typing.specs.Tables.{Unknown, What}
+use Rattle.source_typing.specs.Tables.{Stored, Unknown, What}
 use Rattle.source_typing.specs.Taken.{Taken, declaration_taken, declared_if, initializer_taken, refused_type, takes_initializer, takes_type, type_taken}
-use Rattle.source_typing.specs.Types.{PartialType, StaticType}
+use Rattle.source_typing.specs.Types.{Handle, PartialType, StaticType}
 use Rattle.source_typing.specs.Verdicts.{Faulty, Of, Unjudged, Verdict, after}
 use Rattle.source_typing.specs.Verdicts as verdict
+use Rattle.source_typing.specs.Written.{RegionNamed}
 use Rattle.type_verdicts.specs.Faults.{faults_of, first_of, sooner_found}
 use Rattle.type_verdicts.specs.declared.fault.Fault as found
 use Rattle.type_verdicts.specs.Taken.{taken_of}
@@ -24,14 +26,15 @@ use Rattle.cyc_types.specs.Types.{static_type}
 use Rattle.written_types.specs.Written.{partial_type}
 use Rattle.written_types.specs.declared.settling.WrittenType.{WrittenType}
 use Rattle.type_verdicts.proofs.Earliest.{earliest_of_both, found_sooner}
-use Rattle.scoped_names.specs.Changes.{with_known}
+use Rattle.scoped_names.specs.Changes.{entered, with_known}
 use Rattle.scoped_names.specs.Means.{WhatIs}
 use Rattle.scoped_names.specs.declared.locals.What as local
 use Rattle.scoped_names.specs.declared.scope.Scope.{Scope}
-use Rattle.scoped_names.proofs.Keeping.{block_goes_on, declared_known, is_declared, not_declared}
+use Rattle.scoped_names.proofs.Keeping.{block_goes_on, declared_known, entered_known, is_declared, known_there, not_declared}
 use Rattle.judged_statements.specs.Contexts.{StandsIn, Suits}
-use Rattle.judged_statements.specs.Declaring.{own_faults, own_what}
+use Rattle.judged_statements.specs.Declaring.{Matches, own_faults, own_scope, own_what}
 use Rattle.judged_statements.specs.declared.context.Context.{Context}
+use Rattle.judged_statements.specs.declared.declaration.Judged.{Judged}
 
 -- ---- lists of faults
 
@@ -136,67 +139,138 @@ locals_declared g t x tree.Initializer.Unset = refl
 locals_declared g t x (tree.Initializer.Elements n) = refl
 locals_declared g t x (tree.Initializer.Value e) = refl
 
+abbrev pub declared_in : Env → tree.Name → tree.Declaration → Declared
+declared_in g x d = declared (own_faults g d ++ second g x) (with_local x (own_what g d) (own_scope g d))
+
 pub all_declared : (forms : code_taken.Taken) (g : Env) (d : tree.Declaration)
-    → declare g (declaration_taken (taken_of forms) d)
-    ≡ declared (own_faults g (declaration_taken (taken_of forms) d) ++ second g (tree.local_of d))
-    (with_local (tree.local_of d) (own_what g (declaration_taken (taken_of forms) d)) g)
+    → declare g (declaration_taken (taken_of forms) d) ≡ declared_in g (tree.local_of d) (declaration_taken (taken_of forms) d)
 all_declared forms g (tree.Local t x i) = by (takes_type (taken_of forms) t && takes_initializer (taken_of forms) i)
   where
-    by : (b : Bool) → let d = declared_if b t.at (tree.Local t x (initializer_taken (taken_of forms) i)) in
-        declare g d ≡ declared (own_faults g d ++ second g x) (with_local x (own_what g d) g)
+    by : (b : Bool) → let d = declared_if b t.at (tree.Local t x (initializer_taken (taken_of forms) i)) in declare g d ≡ declared_in g x d
     by true = locals_declared g t x (initializer_taken (taken_of forms) i)
     by false = refl
-all_declared forms g (tree.Region at r x) = refl
+all_declared forms g (tree.Region at r x) = by forms.regions
+  where
+    by : (b : Bool) → let d = declared_if b at (tree.Region at r x) in declare g d ≡ declared_in g x d
+    by true = refl
+    by false = refl
 all_declared forms g (tree.Open at r x y) = refl
 all_declared forms g (tree.Alias at r t x p) = refl
 all_declared forms g (tree.NewKey at r x) = refl
 
+-- a local that isn't of a region leaves what is in scope around it
+pub local_scope : (k : Taken) (g : Env) (t : tree.TypeName) (x : tree.Name) (i : tree.Initializer) → g ≡ own_scope g (declaration_taken k (tree.Local t x i))
+local_scope k g t x i = by (takes_type k t && takes_initializer k i)
+  where
+    by : (b : Bool) → g ≡ own_scope g (declared_if b t.at (tree.Local t x (initializer_taken k i)))
+    by true = refl
+    by false = refl
+
+-- ---- a lexical region begins
+
+-- the scope after it, field by field
+begun_is : (g : Env) (r : tree.RegionName)
+    → with_region r with_scope g ≡ record g { regions = with_scope g.regions; names = (with_region r with_scope g).names }
+begun_is g (tree.Named n) = refl
+begun_is g (tree.Heap at) = refl
+begun_is g (tree.Unique at) = refl
+
+-- no local is declared with it
+begun_second : (g : Env) (r : tree.RegionName) (x : tree.Name) → second (with_region r with_scope g) x ≡ second g x
+begun_second g (tree.Named n) x = refl
+begun_second g (tree.Heap at) x = refl
+begun_second g (tree.Unique at) x = refl
+
+pub own_second : (g : Env) (d : tree.Declaration) (x : tree.Name) → second (own_scope g d) x ≡ second g x
+own_second g (tree.Local t y i) x = refl
+own_second g (tree.Region at r y) x = begun_second g r x
+own_second g (tree.Open at r y z) x = refl
+own_second g (tree.Alias at r t y p) x = refl
+own_second g (tree.NewKey at r y) x = refl
+
+pub region_stands : (c : Context) (old new : List RegionNamed) (outer : ℕ) (s : Scope) (g : Env) (r : tree.RegionName) → StandsIn c old outer s g
+    → new ≡ (with_region r with_scope g).names → StandsIn c new outer (entered s) (with_region r with_scope g)
+region_stands c old new outer s g r h e =
+    let after : Env = record g { regions = with_scope g.regions; names = (with_region r with_scope g).names } in
+    subst (StandsIn c new outer (entered s)) (sym (begun_is g r)) record {
+      known = known_there (entered s) (block_entered g) (entered_known s g h.known) after refl refl refl refl refl;
+      suits = record {
+        names = e;
+        result = h.suits.result;
+        frame = h.suits.frame;
+        item = h.suits.item;
+        in_loop = h.suits.in_loop;
+        no_switch = h.suits.no_switch;
+      };
+      block = record { second = h.block.second; within = h.block.within; around = h.block.around };
+    }
+
+-- a declaration of a region, where it is taken and where it isn't
+abbrev region_as : Bool → ℕ → tree.RegionName → tree.Name → tree.Declaration
+region_as b at r x = declared_if b at (tree.Region at r x)
+
+module _ (b : Bool) (at : ℕ) (r : tree.RegionName) (x : tree.Name) (g : Env) where
+  pub region_matches : (d : Judged) → b ≡ true → Matches (region_declared g r) (Stored (Handle (next_region g)) g.frame) d
+      → Matches (own_faults g (region_as b at r x)) (own_what g (region_as b at r x)) d
+  region_matches d e h = subst (λ b. Matches (own_faults g (region_as b at r x)) (own_what g (region_as b at r x)) d) (sym e) h
+
+  pub refused_matches : (d : Judged) → b ≡ false → Matches (fault type_rule at ∷ []) Unknown d
+      → Matches (own_faults g (region_as b at r x)) (own_what g (region_as b at r x)) d
+  refused_matches d e h = subst (λ b. Matches (own_faults g (region_as b at r x)) (own_what g (region_as b at r x)) d) (sym e) h
+
+  pub region_begins : b ≡ true → with_region r with_scope g ≡ own_scope g (region_as b at r x)
+  region_begins e = sym (ap (λ b. own_scope g (region_as b at r x)) e)
+
+  pub region_refused : b ≡ false → g ≡ own_scope g (region_as b at r x)
+  region_refused e = sym (ap (λ b. own_scope g (region_as b at r x)) e)
+
 -- ---- a second one
 
 module _ (g : Env) (x : tree.Name) (fs : List Fault) where
-  pub alone : is_second g.locals g.block x.text ≡ false → earliest (fs ++ second g x) ≡ earliest fs
+  pub alone : is_second g.locals g.block x.text ≡ false → earliest fs ≡ earliest (fs ++ second g x)
   alone e =
-      earliest_of_both fs (second g x)
-      ∙ ap (λ b. first_of (earliest fs) (earliest (if not b then [] else fault name_rule x.at ∷ []))) e ∙ first_alone (earliest fs)
+      sym (earliest_of_both fs (second g x)
+      ∙ ap (λ b. first_of (earliest fs) (earliest (if not b then [] else fault name_rule x.at ∷ []))) e ∙ first_alone (earliest fs))
 
-  pub twice : is_second g.locals g.block x.text ≡ true → earliest (fs ++ second g x) ≡ first_of (earliest fs) (Some (fault name_rule x.at))
+  pub twice : is_second g.locals g.block x.text ≡ true → first_of (earliest fs) (Some (fault name_rule x.at)) ≡ earliest (fs ++ second g x)
   twice e =
-      earliest_of_both fs (second g x) ∙ ap (λ b. first_of (earliest fs) (earliest (if not b then [] else fault name_rule x.at ∷ []))) e
+      sym (earliest_of_both fs (second g x)
+      ∙ ap (λ b. first_of (earliest fs) (earliest (if not b then [] else fault name_rule x.at ∷ []))) e)
 
--- ---- what stands in scope after a declaration
+-- ---- what stands in scope after a local
+
+module _ (c : Context) (known : List RegionNamed) (outer : ℕ) (s : Scope) (g : Env) (h : StandsIn c known outer s g) (x : tree.Name) (w : What) where
+  pub second_stands : is_second g.locals g.block x.text ≡ true → StandsIn c known outer s (with_local x w g)
+  second_stands e = subst (StandsIn c known outer s) (sym (not_declared x w g e)) h
+
+  first_suits : is_second g.locals g.block x.text ≡ false → Suits c known (with_local x w g)
+  first_suits e = subst (Suits c known) (sym (is_declared x w g e)) record {
+    names = h.suits.names;
+    result = h.suits.result;
+    frame = h.suits.frame;
+    item = h.suits.item;
+    in_loop = h.suits.in_loop;
+    no_switch = h.suits.no_switch;
+  }
+
+  pub first_stands : (v : local.What) → WhatIs w v → is_second g.locals g.block x.text ≡ false
+      → StandsIn c known outer (with_known x.text v s) (with_local x w g)
+  first_stands v is e = record {
+    known = declared_known s g h.known x w v is e;
+    suits = first_suits e;
+    block = block_goes_on outer s g x w v h.block e;
+  }
+
+-- ---- the local and what is around it
 
 module _ (forms : code_taken.Taken) (g : Env) (d : tree.Declaration) (n : tree.Name) (named : n ≡ tree.local_of d) where
   abbrev of_it : tree.Declaration
   of_it = declaration_taken (taken_of forms) d
 
-  pub declared_as : declare g of_it ≡ declared (own_faults g of_it ++ second g n) (with_local n (own_what g of_it) g)
-  declared_as = all_declared forms g d ∙ ap (λ x. declared (own_faults g of_it ++ second g x) (with_local x (own_what g of_it) g)) (sym named)
+  pub both_faults : own_faults g of_it ++ second (own_scope g of_it) n ≡ (declare g of_it).faults
+  both_faults =
+      ap (λ fs. own_faults g of_it ++ fs) (own_second g of_it n) ∙ ap (λ x. own_faults g of_it ++ second g x) named
+      ∙ sym (ap (λ r. r.faults) (all_declared forms g d))
 
-  pub earliest_alone : is_second g.locals g.block n.text ≡ false → earliest (own_faults g of_it) ≡ earliest (declare g of_it).faults
-  earliest_alone e = sym (alone g n (own_faults g of_it) e) ∙ ap (λ r. earliest r.faults) (sym declared_as)
-
-  pub earliest_twice : is_second g.locals g.block n.text ≡ true
-      → first_of (earliest (own_faults g of_it)) (Some (fault name_rule n.at)) ≡ earliest (declare g of_it).faults
-  earliest_twice e = sym (twice g n (own_faults g of_it) e) ∙ ap (λ r. earliest r.faults) (sym declared_as)
-
-  module _ (c : Context) (outer : ℕ) (s : Scope) (h : StandsIn c outer s g) where
-    pub second_stands : is_second g.locals g.block n.text ≡ true → StandsIn c outer s (declare g of_it).scope
-    second_stands e = subst (StandsIn c outer s) (sym (ap (λ r. r.scope) declared_as ∙ not_declared n (own_what g of_it) g e)) h
-
-    first_suits : is_second g.locals g.block n.text ≡ false → Suits c (with_local n (own_what g of_it) g)
-    first_suits e = subst (Suits c) (sym (is_declared n (own_what g of_it) g e)) record {
-      names = h.suits.names;
-      result = h.suits.result;
-      frame = h.suits.frame;
-      item = h.suits.item;
-      in_loop = h.suits.in_loop;
-      no_switch = h.suits.no_switch;
-    }
-
-    pub first_stands : (v : local.What) → WhatIs (own_what g of_it) v → is_second g.locals g.block n.text ≡ false
-        → StandsIn c outer (with_known n.text v s) (declare g of_it).scope
-    first_stands v is e = subst (StandsIn c outer (with_known n.text v s)) (sym (ap (λ r. r.scope) declared_as)) record {
-      known = declared_known s g h.known n (own_what g of_it) v is e;
-      suits = first_suits e;
-      block = block_goes_on outer s g n (own_what g of_it) v h.block e;
-    }
+  pub both_scopes : with_local n (own_what g of_it) (own_scope g of_it) ≡ (declare g of_it).scope
+  both_scopes = ap (λ x. with_local x (own_what g of_it) (own_scope g of_it)) named ∙ sym (ap (λ r. r.scope) (all_declared forms g d))

@@ -1,17 +1,18 @@
 -- When the context in code is that of the rules.
-use Rattle.std.specs.Prelude.{false, option_map, ℕ, ◌≡◌}
+use Rattle.std.specs.Prelude.{List, drop, false, length, option_map, ℕ, ◌-◌, ◌≡◌}
 use Rattle.cyc_types.specs.Regions.{region_of}
 use Rattle.cyc_types.specs.Types.{static_type}
 use Rattle.scoped_names.specs.Changes.{IsBlock}
 use Rattle.scoped_names.specs.Knows.{Knows}
 use Rattle.scoped_names.specs.declared.scope.Scope.{Scope}
 use Rattle.source_typing.specs.Scope.{Env}
+use Rattle.source_typing.specs.Written.{RegionNamed}
 use Rattle.judged_statements.specs.declared.context.Context.{Context}
 
 -- The region names, the result's type, the innermost block's stack region and how many items stand before are the same; so is whether a loop is around. No
 -- `switch` is.
-pub record Suits (c : Context) (g : Env) : Type 0 where
-  pub names : c.names.now ≡ g.names
+pub record Suits (c : Context) (known : List RegionNamed) (g : Env) : Type 0 where
+  pub names : known ≡ g.names
   pub result : option_map (λ t. static_type t.now) c.result ≡ g.result
   pub frame : region_of c.frame ≡ g.frame
   pub item : c.item ≡ g.item
@@ -19,7 +20,11 @@ pub record Suits (c : Context) (g : Env) : Type 0 where
   pub no_switch : g.in_switch ≡ false
 
 -- All that is in scope is known, and the locals after the first so many are those of the innermost block.
-pub record StandsIn (c : Context) (outer : ℕ) (s : Scope) (g : Env) : Type 0 where
+pub record StandsIn (c : Context) (names : List RegionNamed) (outer : ℕ) (s : Scope) (g : Env) : Type 0 where
   pub known : Knows s g
-  pub suits : Suits c g
+  pub suits : Suits c names g
   pub block : IsBlock outer s g
+
+-- the region names that stay where a block is left: the first so many
+abbrev pub kept_to : ℕ → List RegionNamed → List RegionNamed
+kept_to count names = drop (length names - count) names

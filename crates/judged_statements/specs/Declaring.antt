@@ -4,12 +4,13 @@ use Rattle.cyc_tree.specs.Tree as tree
 use Rattle.scoped_names.specs.Means.{WhatIs}
 use Rattle.scoped_names.specs.declared.meaning.Meaning.{Meaning}
 use Rattle.scoped_names.specs.declared.meaning.Meaning.TheVariants as meaning
-use Rattle.source_typing.specs.Declarations.{if_sized, set_faults, set_type, tag_earlier, unset_type, what_after, what_of}
+use Rattle.source_typing.specs.Declarations.{if_sized, region_declared, set_faults, set_type, tag_earlier, unset_type, what_after, what_of, with_region}
 use Rattle.source_typing.specs.Expressions.{judge}
 use Rattle.source_typing.specs.Faults.{Fault, earliest}
-use Rattle.source_typing.specs.Scope.{Env}
-use Rattle.source_typing.specs.Tables.{Tables, Unknown, What, has_beginning, tag_in}
-use Rattle.source_typing.specs.Types.{StaticType, Struct, TypeIn, Union, is_void}
+use Rattle.source_typing.specs.Regions.{with_scope}
+use Rattle.source_typing.specs.Scope.{Env, next_region}
+use Rattle.source_typing.specs.Tables.{Stored, Tables, Unknown, What, has_beginning, tag_in}
+use Rattle.source_typing.specs.Types.{Handle, StaticType, Struct, TypeIn, Union, is_void}
 use Rattle.source_typing.specs.Verdicts as verdict
 use Rattle.type_verdicts.specs.Faults.{faults_of}
 use Rattle.type_verdicts.specs.Verdicts.{Is, NotJudged, Short, Wrong}
@@ -65,11 +66,12 @@ tag_of_meaning (Some m) = tag.Other
 
 -- ---- declarations
 
--- the faults of a local's type and initializer, and what it is
+-- the faults of a declaration, a second name apart, what its local is, and what is in scope around it after the declaration
 abbrev pub own_faults : Env → tree.Declaration → List Fault
 own_faults g (tree.Local t x tree.Initializer.Unset) = verdict.faults_of (unset_type g t None)
 own_faults g (tree.Local t x (tree.Initializer.Elements n)) = verdict.faults_of (unset_type g t (Some n))
 own_faults g (tree.Local t x (tree.Initializer.Value e)) = set_faults g (judge g e) (set_type g t (judge g e))
+own_faults g (tree.Region at r x) = region_declared g r
 own_faults g d = []
 
 abbrev pub own_what : Env → tree.Declaration → What
@@ -77,7 +79,12 @@ own_what g (tree.Local t x tree.Initializer.Unset) = what_of g.frame None (unset
 own_what g (tree.Local t x (tree.Initializer.Elements n)) = what_of g.frame (Some n) (unset_type g t (Some n))
 own_what g (tree.Local t x (tree.Initializer.Value e)) =
     what_after (set_faults g (judge g e) (set_type g t (judge g e))) (what_of g.frame None (set_type g t (judge g e)))
+own_what g (tree.Region at r x) = Stored (Handle (next_region g)) g.frame
 own_what g d = Unknown
+
+abbrev pub own_scope : Env → tree.Declaration → Env
+own_scope g (tree.Region at r x) = with_region r with_scope g
+own_scope g d = g
 
 -- a local in code is what it is by the rules
 pub record Matches (fs : List Fault) (w : What) (d : Judged) : Type 0 where

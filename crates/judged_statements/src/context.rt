@@ -1,16 +1,13 @@
-// What is in scope beside the names of values.
+// What is in scope beside the names of values and regions.
 
 ghost use Rattle.std.specs.Prelude.{◌≡◌, true};
 
 use cyc_types::{CType, RegionId};
-use scoped_types::RegionNames;
 
-/// What is in scope in a function's body beside the names of values: what stays as it is while the body is judged, and what changes
-/// with the blocks and loops around a statement.
+/// What is in scope in a function's body beside the names of values and regions: what stays as it is while the body is judged, and what
+/// changes with the blocks and loops around a statement.
 #[derive(Clone, Copy)]
 pub struct Context<'a, 'p> {
-    /// The region names of the function's head.
-    pub names: &'a RegionNames<'p>,
     /// The function's result type, where it is known.
     pub result: Option<&'a CType<'p>>,
     /// The stack region of the innermost block.

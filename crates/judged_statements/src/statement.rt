@@ -2,9 +2,7 @@
 
 ghost use Rattle.std.specs.Prelude.{◌≡◌, ◌≤◌, Bool, IfOk, OnOk, length, map, ℕ};
 ghost use Rattle.cyc_tree.specs.View.{item_tree, items_of, statement_tree};
-ghost use Rattle.cyc_types.specs.Regions.{region_of};
 ghost use Rattle.source_typing.specs.Faults.{earliest};
-ghost use Rattle.source_typing.specs.Regions.{Level};
 ghost use Rattle.source_typing.specs.Scope.{Env, block_entered};
 ghost use Rattle.source_typing.specs.Statements.{items_faults, statement_faults};
 ghost use Rattle.source_typing.specs.Taken.{items_taken, statement_taken};
@@ -13,58 +11,51 @@ ghost use Rattle.type_verdicts.specs.Taken.{taken_of};
 ghost use Rattle.scoped_names.specs.Changes.{AllAround, left};
 ghost use Rattle.scoped_names.specs.Knows.{Knows};
 ghost use Rattle.scoped_types.specs.declared.scope.RegionMark.{RegionMark};
-ghost use Rattle.judged_statements.specs.Contexts.{StandsIn, Suits};
+ghost use Rattle.judged_statements.specs.Contexts.{StandsIn, Suits, kept_to};
 
 use crate::context::Context;
 use crate::declaration::declare;
+use crate::regions::next_region;
 use crate::returning::{condition_fault, expression_fault, return_fault, unless};
 use cyc_tree::{BlockItem, Statement};
-use cyc_types::RegionId;
 use scoped_names::Scope;
+use scoped_types::RegionNames;
 use std::alloc::{AllocError, Global};
 use type_verdicts::{Fault, sooner};
-
-/// The stack region of a block that begins where so many region names are in scope. A number over a u32 is want of memory.
-fn next_frame(names: usize) -> Result<RegionId, AllocError>
-    ensures { IfOk result (λ r. region_of r ≡ Level names) }
-{
-    match u32::try_from(names) {
-        Ok(level) => Ok(RegionId::Level(level)),
-        Err(_) => Err(AllocError),
-    }
-}
 
 /// The earliest fault of a statement. What is in scope is the same before and after it. Fails only where no host memory is left.
 #[cycle(statement)]
 fn statement_fault<'p>(
     scope: &mut Scope<'_, 'p>,
+    names: &mut RegionNames<'p>,
     alloc: Global,
     context: Context<'_, 'p>,
     statement: &'p Statement,
 ) -> Result<Option<Fault>, AllocError>
-    ensures fault { (g : Env) (reached : Bool) → Knows scope.old g → Suits context.entry g → AllAround g.block g.locals
+    ensures fault { (g : Env) (reached : Bool) → Knows scope.old g → Suits context.entry names.old g → AllAround g.block g.locals
         → IfOk result (λ f. faults_of f
         ≡ earliest (statement_faults g reached (statement_taken (taken_of scope.old.taken) (statement_tree statement.entry.now)))) }
     ensures scope { OnOk result (scope.new ≡ scope.old) }
+    ensures kept { OnOk result (names.new ≡ names.old) }
 {
     match statement {
         Statement::Empty(_) => Ok(None),
-        Statement::Block(_, items) => block_fault(scope, alloc, context, items),
+        Statement::Block(_, items) => block_fault(scope, names, alloc, context, items),
         Statement::Run(value) => expression_fault(scope, alloc, value),
         Statement::If(_, condition, body) => {
             let first = condition_fault(scope, alloc, condition)?;
-            let second = statement_fault(scope, alloc, context, body)?;
+            let second = statement_fault(scope, names, alloc, context, body)?;
             Ok(sooner(first, second))
         }
         Statement::IfElse(_, condition, body, otherwise) => {
             let first = condition_fault(scope, alloc, condition)?;
-            let second = statement_fault(scope, alloc, context, body)?;
-            let third = statement_fault(scope, alloc, context, otherwise)?;
+            let second = statement_fault(scope, names, alloc, context, body)?;
+            let third = statement_fault(scope, names, alloc, context, otherwise)?;
             Ok(sooner(sooner(first, second), third))
         }
         Statement::While(_, condition, body) => {
             let first = condition_fault(scope, alloc, condition)?;
-            let second = statement_fault(scope, alloc, context.looping(), body)?;
+            let second = statement_fault(scope, names, alloc, context.looping(), body)?;
             Ok(sooner(first, second))
         }
         Statement::Break(at) | Statement::Continue(at) => Ok(unless(context.in_loop, *at)),
@@ -77,22 +68,26 @@ fn statement_fault<'p>(
 #[cycle(statement)]
 fn block_fault<'p>(
     scope: &mut Scope<'_, 'p>,
+    names: &mut RegionNames<'p>,
     alloc: Global,
     context: Context<'_, 'p>,
     items: &'p [BlockItem],
 ) -> Result<Option<Fault>, AllocError>
-    ensures fault { (g : Env) (reached : Bool) → Knows scope.old g → Suits context.entry g → AllAround g.block g.locals
+    ensures fault { (g : Env) (reached : Bool) → Knows scope.old g → Suits context.entry names.old g → AllAround g.block g.locals
         → IfOk result (λ f. faults_of f
         ≡ earliest (items_faults (block_entered g) reached (items_taken (taken_of scope.old.taken) (items_of (map item_tree items.entry.now))))) }
     ensures scope { OnOk result (scope.new ≡ scope.old) }
+    ensures kept { OnOk result (names.new ≡ names.old) }
 {
     let outer = scope.locals.len();
+    let known = names.len();
     let mark = scope.regions.mark();
-    let frame = next_frame(scope.regions.names())?;
+    let frame = next_region(scope.regions.names())?;
     scope.regions.begin_block()?;
-    let found = items_fault(scope, alloc, context.in_block(frame), outer, items)?;
+    let found = items_fault(scope, names, alloc, context.in_block(frame), outer, items)?;
     scope.regions.leave(mark);
     scope.locals.leave(outer);
+    names.leave(known);
     Ok(found)
 }
 
@@ -101,21 +96,28 @@ fn block_fault<'p>(
 #[cycle(statement)]
 pub fn items_fault<'p>(
     scope: &mut Scope<'_, 'p>,
+    names: &mut RegionNames<'p>,
     alloc: Global,
     context: Context<'_, 'p>,
     outer: usize,
     items: &'p [BlockItem],
 ) -> Result<Option<Fault>, AllocError>
-    ensures fault { (g : Env) (reached : Bool) → StandsIn context.entry outer scope.old g
+    ensures fault { (g : Env) (reached : Bool) → StandsIn context.entry names.old outer scope.old g
         → IfOk result (λ f. faults_of f
         ≡ earliest (items_faults g reached (items_taken (taken_of scope.old.taken) (items_of (map item_tree items.entry.now))))) }
-    ensures left { OnOk result ((count : ℕ) (mark : RegionMark) → count ≤ length scope.old.locals → left count mark scope.new ≡ left count mark scope.old) }
+    ensures left { OnOk result ((count : ℕ) (mark : RegionMark) → count ≤ length scope.old.locals → mark.names ≤ length scope.old.regions.begun
+        → left count mark scope.new ≡ left count mark scope.old) }
+    ensures kept { OnOk result ((count : ℕ) → count ≤ length names.old → kept_to count names.new ≡ kept_to count names.old) }
 {
     let mut found = None;
     'each: for item in items {
         let fault = match item {
-            BlockItem::Declare(declaration) => declare(scope, alloc, context, outer, declaration)?,
-            BlockItem::Execute(statement) => statement_fault(scope, alloc, context, statement)?,
+            BlockItem::Declare(declaration) => {
+                declare(scope, names, alloc, context, outer, declaration)?
+            }
+            BlockItem::Execute(statement) => {
+                statement_fault(scope, names, alloc, context, statement)?
+            }
         };
         found = sooner(found, fault);
     }

@@ -20,10 +20,12 @@ use Rattle.type_verdicts.specs.Taken.{taken_of}
 use Rattle.type_verdicts.specs.Verdicts.{Is, NotJudged, Short, Wrong, shortened}
 use Rattle.type_verdicts.specs.declared.taken.Taken as code_taken
 use Rattle.written_types.specs.Arguments.{written_arguments}
+use Rattle.written_types.specs.Handles.{handle_taken}
 use Rattle.written_types.specs.Tagged.{IsNamed, TagIs, named_as, regions_named, struct_taken, tag_name_of}
 use Rattle.written_types.specs.declared.tag_names.TagNames.{TagNames}
 use Rattle.written_types.specs.declared.tagged.TagName.{TagName}
 use Rattle.written_types.specs.declared.tagged.TagName.TheVariants as code
+use Rattle.written_types.proofs.HandleTypes.{handle_is_base, handle_type}
 use Rattle.written_types.proofs.Structs.{named_by, other_type, regions_by, struct_is_base, struct_type}
 use Rattle.judged_tags.specs.FirstKnown.{AreBare, any_count, count_by, is_judged}
 use Rattle.judged_tags.specs.Members.{scoped, type_alone}
@@ -113,6 +115,19 @@ other_as g i names t = by (takes_type thin_pointers t) refl
     by : (b : Bool) → takes_type thin_pointers t ≡ b → IsAs g g i names (if b then t else refused_type t.at)
     by true h = plain_as g i names t.at t.base t.pointers _ h
     by false h = of_right g g i names (refused_type t.at) refl 0 0 refl refl (λ fs. refl)
+
+-- ---- a handle's
+
+handle_as : (g : Tables) (i : ℕ) (names : List RegionNamed) (at : ℕ) (r : tree.RegionName) (ps : List tree.Pointer)
+    → IsAs g g i names (record { at = at; base = tree.Handle r; pointers = ps })
+handle_as g i names at r ps = of_right g g i names t refl 0 0 refl refl by
+  where
+    t : TypeName
+    t = record { at = at; base = tree.Handle r; pointers = ps }
+
+    by : (fs : List Found) → counted_type t fs 0 true ≡ type_built at (built (tree.Handle r) (argument_count g (tree.Handle r)) ps fs)
+    by [] = refl
+    by (f ∷ fs) = refl
 
 -- ---- a struct's
 
@@ -214,8 +229,15 @@ head_as k g i names tags t n bare tag = by (struct_taken (taken_of k) t) refl
     by None h = record {
       by = g;
       tag = λ x taken. absurd (none_some x (sym h ∙ taken));
-      is = subst (IsAs g g i names) (sym (other_type k t h)) (other_as g i names t);
+      is = no_struct (handle_taken (taken_of k) t) refl;
     }
+      where
+        no_struct : (o : Option tree.RegionName) → handle_taken (taken_of k) t ≡ o → IsAs g g i names (type_taken (taken_of k) t)
+        no_struct None e = subst (IsAs g g i names) (sym (other_type k t h e)) (other_as g i names t)
+        no_struct (Some r) e =
+            subst (IsAs g g i names) (sym (handle_type k t r e))
+            (subst (λ b. IsAs g g i names (record { at = t.at; base = b; pointers = t.pointers })) (sym (handle_is_base k t r e))
+            (handle_as g i names t.at r t.pointers))
     by (Some x) h =
         let named = (tag x h).is in
         let judged = ap is_judged (sym named ∙ (bare.0 x.text).is) ∙ bare.1 x.text in

@@ -1,7 +1,7 @@
 //! The structs and unions of a program, as they are judged.
 //!
 //! What is said of them are the definitions of `source_typing`, on which it stands, where integers and thin pointers are taken, and
-//! structs and their region parameters where they may be (`Taken`). Every other struct and each union stands as a refused one.
+//! structs, their region parameters and handles where they may be (`Taken`). Every other struct and each union stands as a refused one.
 #![tactic(auto)]
 
 mod heads;

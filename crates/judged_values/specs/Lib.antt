@@ -1,3 +1,4 @@
+pub mod Goals
 pub mod Operating
 pub mod Pointers
 pub mod StructMembers

@@ -3,7 +3,7 @@
 ghost use Rattle.std.specs.Prelude.{◌≡◌, IfOk, List};
 ghost use Rattle.cyc_types.specs.Types.{static_type};
 ghost use Rattle.judged_values.specs.Values.{seat_of, value_of};
-ghost use Rattle.scoped_names.specs.Knows.{Knows};
+ghost use Rattle.scoped_names.specs.Knows.{Sees};
 ghost use Rattle.source_typing.specs.Faults.{earliest};
 ghost use Rattle.source_typing.specs.Places.{assigned, assigned_type};
 ghost use Rattle.source_typing.specs.Scope.{Env, is_place};
@@ -59,7 +59,7 @@ pub fn assigned<'p>(
     to: Value<'p>,
     from: Value<'p>,
 ) -> Result<Verdict<Value<'p>>, AllocError>
-    ensures { (g : Env) → Knows scope.now g
+    ensures { (g : Env) → Sees scope.now g
         → IfOk result (λ v. short_of value_of v ≡ shortened (assigned g (value_of to.entry) (value_of from.entry))) }
 {
     if !is_place(to.seat) {

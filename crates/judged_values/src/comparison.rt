@@ -6,7 +6,7 @@ ghost use Rattle.cyc_types.specs.Types.{static_type};
 ghost use Rattle.judged_values.specs.Operating.{compared_by};
 ghost use Rattle.judged_values.specs.Pointers.{thin_regions};
 ghost use Rattle.judged_values.specs.Values.{value_of};
-ghost use Rattle.scoped_names.specs.Knows.{Knows};
+ghost use Rattle.scoped_names.specs.Knows.{Sees};
 ghost use Rattle.source_typing.specs.Operators.{compared, compared_thin};
 ghost use Rattle.source_typing.specs.Scope.{Env, outlives};
 ghost use Rattle.type_verdicts.specs.Verdicts.{short_of, shortened};
@@ -19,7 +19,7 @@ use type_verdicts::{FaultKind, Verdict};
 
 /// Whether one of two regions outlives the other. Fails only where no host memory is left.
 fn are_ordered(scope: &Scope, one: RegionId, other: RegionId) -> Result<bool, AllocError>
-    ensures { (g : Env) → Knows scope.now g
+    ensures { (g : Env) → Sees scope.now g
         → IfOk result (λ b. b ≡ (outlives g (region_of one) (region_of other) || outlives g (region_of other) (region_of one))) }
 {
     if scope.outlives(one, other)? {
@@ -52,7 +52,7 @@ fn compared_thin<'p>(
     one: RegionId,
     other: RegionId,
 ) -> Result<Verdict<Value<'p>>, AllocError>
-    ensures { (g : Env) → Knows scope.now g
+    ensures { (g : Env) → Sees scope.now g
         → IfOk result (λ v. short_of value_of v ≡ shortened (compared_thin g at are_same (region_of one) (region_of other))) }
 {
     if !are_same {
@@ -81,7 +81,7 @@ pub(crate) fn compared<'p>(
     one: Value<'p>,
     two: Value<'p>,
 ) -> Result<Verdict<Value<'p>>, AllocError>
-    ensures { (g : Env) → Knows scope.now g
+    ensures { (g : Env) → Sees scope.now g
         → IfOk result (λ v. short_of value_of v ≡ shortened (compared g one.entry.at (static_type one.entry.of) (static_type two.entry.of))) }
 {
     match thin_regions(one.of.outer(), two.of.outer()) {

@@ -5,7 +5,7 @@ ghost use Rattle.cyc_types.specs.Conversions.{outer_ordered, rule_of};
 ghost use Rattle.cyc_types.specs.Types.{static_type};
 ghost use Rattle.judged_values.specs.Pointers.{region_outside, regions_ordered};
 ghost use Rattle.judged_values.specs.Values.{value_of};
-ghost use Rattle.scoped_names.specs.Knows.{Knows};
+ghost use Rattle.scoped_names.specs.Knows.{Sees};
 ghost use Rattle.source_typing.specs.Conversions.{broken, converts};
 ghost use Rattle.source_typing.specs.Faults.{earliest};
 ghost use Rattle.source_typing.specs.Scope.{Env};
@@ -46,7 +46,7 @@ fn are_ordered(
     from: Option<RegionId>,
     to: Option<RegionId>,
 ) -> Result<bool, AllocError>
-    ensures { (g : Env) → Knows scope.now g → IfOk result (λ b. regions_ordered g.regions b from to ≡ b) }
+    ensures { (g : Env) → Sees scope.now g → IfOk result (λ b. regions_ordered g.regions b from to ≡ b) }
 {
     match (from, to) {
         (Some(one), Some(other)) => scope.outlives(one, other),
@@ -56,7 +56,7 @@ fn are_ordered(
 
 /// The fault of a value that is converted to a type, if any. Fails only where no host memory is left.
 pub fn converted(scope: &Scope, value: &Value, to: &CType) -> Result<Option<Fault>, AllocError>
-    ensures { (g : Env) → Knows scope.now g → IfOk result (λ f. faults_of f ≡ earliest (converts g (value_of value.now) (static_type to.now))) }
+    ensures { (g : Env) → Sees scope.now g → IfOk result (λ f. faults_of f ≡ earliest (converts g (value_of value.now) (static_type to.now))) }
 {
     let here = region_outside(value.of.outer());
     let there = region_outside(to.outer());

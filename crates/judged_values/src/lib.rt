@@ -8,6 +8,7 @@ mod comparison;
 mod conversion;
 mod kind;
 mod literal;
+mod making;
 mod members;
 mod name;
 mod operator;
@@ -17,7 +18,8 @@ mod value;
 
 pub use assignment::assigned;
 pub use conversion::converted;
-pub use literal::{character, null, number};
+pub use literal::{character, heap_region, null, number};
+pub use making::{Goal, handled, made};
 pub use members::{arrow, member};
 pub use name::variable;
 pub use operator::{applied, condition, tested_both};

@@ -3,12 +3,13 @@
 ghost use Rattle.std.specs.Prelude.{◌≡◌};
 ghost use Rattle.judged_values.specs.Values.{value_of};
 ghost use Rattle.source_typing.specs.Expressions.{number_typed};
+ghost use Rattle.source_typing.specs.Regions.{TheHeap};
 ghost use Rattle.source_typing.specs.Scope.{value};
-ghost use Rattle.source_typing.specs.Types.{Char, Null};
+ghost use Rattle.source_typing.specs.Types.{Char, Handle, Null};
 ghost use Rattle.type_verdicts.specs.Verdicts.{short_of, shortened};
 
 use crate::value::{Value, plain};
-use cyc_types::{BaseType, CType};
+use cyc_types::{BaseType, CType, RegionId};
 use std::alloc::Global;
 use type_verdicts::Verdict;
 
@@ -36,4 +37,11 @@ pub fn null<'p>(alloc: Global, at: u32) -> Verdict<Value<'p>>
     ensures { short_of value_of result ≡ shortened (value at Null) }
 {
     plain(at, CType::plain(alloc, BaseType::Null))
+}
+
+/// `heap_region`
+pub fn heap_region<'p>(alloc: Global, at: u32) -> Verdict<Value<'p>>
+    ensures { short_of value_of result ≡ shortened (value at (Handle TheHeap)) }
+{
+    plain(at, CType::plain(alloc, BaseType::Handle(RegionId::Heap)))
 }

@@ -9,7 +9,7 @@ ghost use Rattle.cyc_types.specs.Tags.{member_of, members_of};
 ghost use Rattle.cyc_types.specs.Types.{static_type};
 ghost use Rattle.judged_values.specs.StructMembers.{arrow_on, member_on};
 ghost use Rattle.judged_values.specs.Values.{seat_of, value_of};
-ghost use Rattle.scoped_names.specs.Knows.{Knows};
+ghost use Rattle.scoped_names.specs.Knows.{Sees};
 ghost use Rattle.source_typing.specs.Places.{arrow, member, part_found, part_of, part_typed};
 ghost use Rattle.source_typing.specs.Scope.{Env};
 ghost use Rattle.source_typing.specs.Tables.{part_in};
@@ -158,7 +158,7 @@ pub fn arrow<'p>(
     field: &Name,
     operand: Value<'p>,
 ) -> Result<Verdict<Value<'p>>, AllocError>
-    ensures { (g : Env) → Knows scope.now g → HasTags tables.now g.tables
+    ensures { (g : Env) → Sees scope.now g → HasTags tables.now g.tables
         → IfOk result (λ v. short_of value_of v ≡ shortened (arrow g (name_tree field.now) (value_of operand.entry))) }
 {
     let at = operand.at;

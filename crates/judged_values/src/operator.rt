@@ -4,7 +4,7 @@ ghost use Rattle.std.specs.Prelude.{◌≡◌, IfOk};
 ghost use Rattle.cyc_types.specs.Types.{static_type};
 ghost use Rattle.judged_values.specs.Operating.{are_integers, moves};
 ghost use Rattle.judged_values.specs.Values.{value_of};
-ghost use Rattle.scoped_names.specs.Knows.{Knows};
+ghost use Rattle.scoped_names.specs.Knows.{Sees};
 ghost use Rattle.source_typing.specs.Operators.{applied, is_equality, is_move, on_integers, tested_both};
 ghost use Rattle.source_typing.specs.Scope.{Env};
 ghost use Rattle.source_typing.specs.Statements.{condition};
@@ -98,7 +98,7 @@ pub fn applied<'p>(
     one: Value<'p>,
     two: Value<'p>,
 ) -> Result<Verdict<Value<'p>>, AllocError>
-    ensures { (g : Env) → Knows scope.now g
+    ensures { (g : Env) → Sees scope.now g
         → IfOk result (λ v. short_of value_of v ≡ shortened (applied g operator (value_of one.entry) (value_of two.entry))) }
 {
     if moves(operator, &one.of, &two.of) {

@@ -4,7 +4,7 @@ ghost use Rattle.std.specs.Prelude.{◌≡◌, IfOk};
 ghost use Rattle.cyc_types.specs.Types.{static_type};
 ghost use Rattle.judged_values.specs.Pointers.{followed, is_reached, seat_behind};
 ghost use Rattle.judged_values.specs.Values.{seat_of, value_of};
-ghost use Rattle.scoped_names.specs.Knows.{Knows};
+ghost use Rattle.scoped_names.specs.Knows.{Sees};
 ghost use Rattle.source_typing.specs.Operators.{prefixed, signed, tested};
 ghost use Rattle.source_typing.specs.Places.{address, contents};
 ghost use Rattle.source_typing.specs.Scope.{Env};
@@ -20,7 +20,7 @@ use type_verdicts::{FaultKind, Verdict};
 
 /// Whether the region of a pointer is live; a unique pointer's is judged by flow.
 pub(crate) fn is_reached(scope: &Scope, pointer: Layer) -> bool
-    ensures { (g : Env) → Knows scope.now g → result ≡ is_reached g pointer }
+    ensures { (g : Env) → Sees scope.now g → result ≡ is_reached g pointer }
 {
     match pointer {
         Layer::Thin(_, region) | Layer::Fat(region) => scope.is_live(region),
@@ -52,7 +52,7 @@ fn followed<'p>(at: u32, pointer: Layer, is_live: bool, to: CType<'p>) -> Verdic
 /// `*`: a pointer's region has to be live.
 #[tactic(auto, using(crate::proofs::Following::plain_led))]
 fn contents<'p>(scope: &Scope, at: u32, operand: Value<'p>) -> Verdict<Value<'p>>
-    ensures { (g : Env) → Knows scope.now g → short_of value_of result ≡ shortened (contents g at (value_of operand.entry)) }
+    ensures { (g : Env) → Sees scope.now g → short_of value_of result ≡ shortened (contents g at (value_of operand.entry)) }
 {
     match operand.of.outer() {
         Some(pointer) => {
@@ -101,7 +101,7 @@ pub fn prefixed<'p>(
     operator: Prefix,
     operand: Value<'p>,
 ) -> Result<Verdict<Value<'p>>, AllocError>
-    ensures { (g : Env) → Knows scope.now g → IfOk result (λ v. short_of value_of v ≡ shortened (prefixed g at operator (value_of operand.entry))) }
+    ensures { (g : Env) → Sees scope.now g → IfOk result (λ v. short_of value_of v ≡ shortened (prefixed g at operator (value_of operand.entry))) }
 {
     match operator {
         Prefix::Negate | Prefix::Complement => Ok(signed(alloc, at, operand)),

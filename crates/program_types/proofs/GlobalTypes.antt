@@ -30,12 +30,14 @@ use Rattle.type_verdicts.specs.Taken.{taken_of}
 use Rattle.type_verdicts.specs.Verdicts.{shortened}
 use Rattle.type_verdicts.specs.declared.taken.Taken as code_taken
 use Rattle.written_types.proofs.Pointers.{spots_taken}
-use Rattle.written_types.proofs.Structs.{spots_are_by, struct_is_base, takes_either}
+use Rattle.written_types.proofs.HandleTypes.{handle_is_base, spots_are_handle}
+use Rattle.written_types.proofs.Structs.{other_takes, spots_are_by, struct_is_base}
 use Rattle.written_types.specs.Arguments.{named_spots, spots_by, written_arguments}
+use Rattle.written_types.specs.Handles.{handle_taken}
 use Rattle.written_types.specs.Reading.{plain_of}
 use Rattle.written_types.specs.Tagged.{TagIs, regions_named, struct_taken}
 use Rattle.written_types.specs.declared.tagged.TagName.{TagName}
-use Rattle.program_types.specs.Globals.{foreign_in, is_unnamed, named_region, names_none, or_region, spots_in, type_spots}
+use Rattle.program_types.specs.Globals.{base_regions, foreign_in, is_unnamed, named_region, names_none, or_region, spots_in, type_spots}
 use Rattle.cyc_tree.specs.Tree as tree
 
 -- ---- region names
@@ -139,30 +141,38 @@ names_by : (n : ℕ) (rs : List tree.RegionName) (ss : List Spot) → foreign_na
 names_by n [] ss = missing_unnamed n ss
 names_by n (r ∷ rs) ss = refl
 
-plain_arguments : (b : tree.Base) (p : PartialType) → plain_of b ≡ Some p → written_arguments b ≡ []
-plain_arguments tree.Int p e = refl
-plain_arguments tree.Unsigned p e = refl
-plain_arguments tree.Char p e = refl
-plain_arguments tree.Void p e = refl
-plain_arguments (tree.Struct tag rs) p e = absurd cc
-plain_arguments (tree.Union tag rs) p e = refl
-plain_arguments (tree.Handle r) p e = refl
-plain_arguments (tree.Key r) p e = refl
+plain_regions : (b : tree.Base) (p : PartialType) → plain_of b ≡ Some p → base_regions b ≡ []
+plain_regions tree.Int p e = refl
+plain_regions tree.Unsigned p e = refl
+plain_regions tree.Char p e = refl
+plain_regions tree.Void p e = refl
+plain_regions (tree.Struct tag rs) p e = absurd cc
+plain_regions (tree.Union tag rs) p e = refl
+plain_regions (tree.Handle r) p e = absurd cc
+plain_regions (tree.Key r) p e = refl
+
+-- a struct's are its arguments
+struct_regions : (b : tree.Base) (x : tree.Name) → b ≡ tree.Struct x (written_arguments b) → written_arguments b ≡ base_regions b
+struct_regions b x e = sym (ap base_regions e)
 
 -- the names of its regions are those that are written
 pub names_are : (k : code_taken.Taken) (g : Tables) (t : TypeName) (n : TagName) → takes_type (taken_of k) t ≡ true → TagIs (taken_of k) g t n
     → foreign_names (spots_of g t) ≡ foreign_names (type_spots t)
-names_are k g t n e tag = by (struct_taken (taken_of k) t) refl
+names_are k g t n e tag = by (struct_taken (taken_of k) t) refl (handle_taken (taken_of k) t) refl
   where
-    by : (o : Option tree.Name) → struct_taken (taken_of k) t ≡ o → foreign_names (spots_of g t) ≡ foreign_names (type_spots t)
-    by (Some x) h =
+    by : (o : Option tree.Name) → struct_taken (taken_of k) t ≡ o → (p : Option tree.RegionName) → handle_taken (taken_of k) t ≡ p
+        → foreign_names (spots_of g t) ≡ foreign_names (type_spots t)
+    by (Some x) h p i =
         ap (λ ss. foreign_names ss) (spots_are_by g t x n (struct_is_base k t x h) (tag x h))
         ∙ names_by (regions_named n) (written_arguments t.base) (spots_in t.pointers)
-    by None h =
-        let thin : takes_type thin_pointers t ≡ true = sym (ap (λ o. is_some o || takes_type thin_pointers t) h) ∙ takes_either k t ∙ e in
-        let base = has_base t.base (takes_pointers thin_pointers t.pointers) thin in
+        ∙ ap (λ rs. foreign_names (named_spots rs ++ spots_in t.pointers)) (struct_regions t.base x (struct_is_base k t x h))
+    by None h (Some r) i =
+        ap (λ ss. foreign_names ss) (spots_are_handle g t r (handle_is_base k t r i))
+        ∙ sym (ap (λ b. foreign_names (named_spots (base_regions b) ++ spots_in t.pointers)) (handle_is_base k t r i))
+    by None h None i =
+        let base = has_base t.base (takes_pointers thin_pointers t.pointers) (sym (other_takes k t h i) ∙ e) in
         ap (λ ss. foreign_names ss) (spots_taken g t base.of base.is)
-        ∙ ap (λ rs. foreign_names (named_spots rs ++ spots_in t.pointers)) (sym (plain_arguments t.base base.of base.is))
+        ∙ ap (λ rs. foreign_names (named_spots rs ++ spots_in t.pointers)) (sym (plain_regions t.base base.of base.is))
 
 -- a type with its missing regions is a struct only where structs are taken
 pub alone_allowed : (structs : Bool) (at : ℕ) (w : Verdict PartialType) → allowed_short structs (shortened w) ≡ true

@@ -1,5 +1,5 @@
 -- Globals as far as they are taken.
-use Rattle.std.specs.Prelude.{Bool, List, None, Option, Some, false, map, true, ℕ, ◌≡◌, ◌&&◌, ◌++◌}
+use Rattle.std.specs.Prelude.{Bool, List, None, Option, Some, false, map, true, ℕ, ◌≡◌, ◌&&◌, ◌++◌, [], ◌∷◌}
 use Rattle.cyc_tree.specs.Tree.{Global, Initial, TypeName}
 use Rattle.source_typing.specs.Faults.{Fault}
 use Rattle.source_typing.specs.Globals.{count_of, foreign_names, has_none, initial_faults}
@@ -17,7 +17,7 @@ use Rattle.cyc_types.specs.declared.ctype.CType.{CType}
 use Rattle.cyc_types.specs.declared.region.RegionId.TheVariants.{Heap}
 use Rattle.scoped_names.specs.declared.meaning.Meaning.{Meaning}
 use Rattle.scoped_names.specs.declared.meaning.Meaning.TheVariants.{NotKnown, Variable}
-use Rattle.written_types.specs.Arguments.{named_spots, written_arguments}
+use Rattle.written_types.specs.Arguments.{named_spots}
 use Rattle.cyc_tree.specs.Tree as tree
 use Rattle.type_verdicts.specs.declared.fault.Fault as found
 
@@ -30,9 +30,15 @@ global_taken k x = global_if (takes_type k x.of && takes_initial k x.initial) x 
 abbrev pub spots_in : List tree.Pointer → List Spot
 spots_in ps = map (λ p. spot true p.region) ps
 
--- the places of regions that may be written in a type, its arguments before its pointers
+-- the regions that a base writes: the arguments of a struct, and the region of a handle
+abbrev pub base_regions : tree.Base → List tree.RegionName
+base_regions (tree.Struct tag rs) = rs
+base_regions (tree.Handle r) = r ∷ []
+base_regions b = []
+
+-- the places of regions that may be written in a type, those of its base before its pointers
 abbrev pub type_spots : TypeName → List Spot
-type_spots t = named_spots (written_arguments t.base) ++ spots_in t.pointers
+type_spots t = named_spots (base_regions t.base) ++ spots_in t.pointers
 
 -- whether none of the regions at some places is a name
 abbrev pub names_none : List Spot → Bool

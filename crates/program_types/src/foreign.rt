@@ -2,16 +2,15 @@
 
 ghost use Rattle.std.specs.Prelude.{◌≡◌, ◌++◌, ◌∷◌, Bool, IfOk, List, None, OnOk, Some, map, option_map, true, ℕ};
 ghost use Rattle.std.specs.List.{list_all};
-ghost use Rattle.cyc_tree.specs.View.{name_tree, pointer_tree, region_tree, type_tree};
+ghost use Rattle.cyc_tree.specs.View.{base_tree, name_tree, pointer_tree, region_tree, type_tree};
 ghost use Rattle.source_typing.specs.Written.{Spot, find_region, spot};
 ghost use Rattle.written_types.specs.Arguments.{named_spots};
-ghost use Rattle.program_types.specs.Globals.{foreign_in, is_unnamed, named_region, names_none, or_region, spots_in, type_spots};
+ghost use Rattle.program_types.specs.Globals.{base_regions, foreign_in, is_unnamed, named_region, names_none, or_region, spots_in, type_spots};
 
-use cyc_tree::{Name, Pointer, RegionName, TypeName};
+use cyc_tree::{Base, Name, Pointer, RegionName, TypeName};
 use cyc_types::RegionId;
 use scoped_types::RegionNames;
 use std::alloc::{AllocError, Global};
-use written_types::written_arguments;
 
 /// Whether a region has no name, as the heap and the unique one.
 fn is_unnamed(region: &RegionName) -> bool
@@ -57,11 +56,22 @@ fn each_into_unnamed(pointers: &[Pointer]) -> bool
     pointers.iter().all(is_into_unnamed)
 }
 
+/// The regions that a base writes: the arguments of a struct, and the region of a handle.
+fn base_regions(base: &Base) -> &[RegionName]
+    ensures { map region_tree result.now ≡ base_regions (base_tree base.now) }
+{
+    match base {
+        Base::Struct(_, arguments) => arguments.as_slice(),
+        Base::Handle(region) => std::slice::from_ref(region),
+        _ => &[],
+    }
+}
+
 /// Whether a type names no region but the heap and the unique one.
 pub(crate) fn names_none(of: &TypeName) -> bool
     ensures { result ≡ names_none (type_spots (type_tree of.now)) }
 {
-    are_unnamed(written_arguments(&of.base)) && are_into_unnamed(&of.pointers)
+    are_unnamed(base_regions(&of.base)) && are_into_unnamed(&of.pointers)
 }
 
 /// The name of a region, if it is neither the heap nor the unique one.
@@ -129,7 +139,7 @@ pub(crate) fn foreign_names<'a>(
     ensures { IfOk result (λ names. (x : List ℕ) → find_region names x ≡ foreign_in (type_spots (type_tree of.entry.now)) x) }
 {
     let mut names = RegionNames::new(alloc);
-    add_names(&mut names, written_arguments(&of.base))?;
+    add_names(&mut names, base_regions(&of.base))?;
     add_regions(&mut names, &of.pointers)?;
     Ok(names)
 }

@@ -1,4 +1,5 @@
-//! The earliest fault of a program, where functions, globals and locals of integers and thin pointers are taken.
+//! The earliest fault of a program, where functions, globals and locals of integers and thin pointers are taken, and structs, their region
+//! parameters, and regions with their handles, effects and bounds where they may be (`Taken`).
 //!
 //! What is said of it are the rules of `source_typing` on names, types, regions, effects and sizes: `program_fault` answers the earliest of
 //! the faults that these find, with or without those on live regions and effects.

@@ -3,7 +3,7 @@
 use Rattle.std.specs.Prelude.{◌≡◌, Option}
 use Rattle.cyc_tree.specs.Tree.{Program}
 use Rattle.source_typing.specs.Answers.{type_fault}
-use Rattle.source_typing.specs.Taken.{supported}
+use Rattle.accepted_sources.specs.Supported.{supported}
 use Rattle.type_verdicts.specs.Faults.{faults_of}
 use Rattle.type_verdicts.specs.declared.fault.Fault.{Fault}
 

@@ -6,9 +6,11 @@
 //! on `cyc_tree`.
 #![tactic(auto)]
 
+mod forms;
 mod looking;
 mod program;
 
+pub use forms::supported;
 pub use looking::typed;
 pub use program::Typed;
 pub use type_verdicts::{Fault, FaultKind};

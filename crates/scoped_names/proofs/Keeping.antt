@@ -17,7 +17,7 @@ use Rattle.scoped_types.specs.declared.scope.RegionMark.{RegionMark}
 use Rattle.scoped_names.proofs.Linking.{none_after, none_dropped}
 use Rattle.scoped_names.specs.Changes.{AllAround, IsBlock, entered, left, with_known}
 use Rattle.scoped_names.specs.Globals.{global_meaning}
-use Rattle.scoped_names.specs.Knows.{Knows, local_or, means_in, of_local}
+use Rattle.scoped_names.specs.Knows.{Knows, Sees, local_or, means_in, of_local}
 use Rattle.scoped_names.specs.Locals.{dropped_to, find_what, is_after, known}
 use Rattle.scoped_names.specs.Means.{Means, WhatIs}
 use Rattle.scoped_names.specs.Means as means
@@ -105,6 +105,19 @@ module _ (s : Scope) (g : Env) (h : Knows s g) where
     lenient = h.lenient ∙ sym n;
     enclosing = e ∙ h.enclosing;
   }
+
+-- what is known where no `rnew` is around
+pub sees : {s : Scope} {g : Env} → Knows s g → Sees s g
+sees k = record {
+  outside = record {
+    names = k.names;
+    tags = k.tags;
+    untaken = k.untaken;
+    regions = k.regions;
+    lenient = k.lenient;
+    enclosing = refl;
+  };
+}
 
 -- ---- which locals are of the innermost block
 

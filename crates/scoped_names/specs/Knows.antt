@@ -38,3 +38,7 @@ pub record Knows (s : Scope) (g : Env) : Type 0 where
   pub regions : AreThose s.regions g.regions
   pub lenient : s.lenient ≡ g.lenient
   pub enclosing : g.enclosing ≡ InRegion TheHeap
+
+-- The same but for that: it is what is known where no `rnew` is around.
+pub record Sees (s : Scope) (g : Env) : Type 0 where
+  pub outside : Knows s (record g { enclosing = InRegion TheHeap })

@@ -4,7 +4,7 @@ ghost use Rattle.std.specs.Prelude.{◌≡◌, IfOk, option_map};
 ghost use Rattle.cyc_types.specs.Regions.{region_of};
 ghost use Rattle.source_typing.specs.Scope.{Env, is_live, meant, outlives};
 ghost use Rattle.scoped_names.specs.Globals.{global_meaning};
-ghost use Rattle.scoped_names.specs.Knows.{Knows, means_in, of_local};
+ghost use Rattle.scoped_names.specs.Knows.{Sees, means_in, of_local};
 ghost use Rattle.scoped_names.specs.Means.{Means, meaning_of};
 
 use crate::globals::Globals;
@@ -81,7 +81,7 @@ impl<'g, 'p> Scope<'g, 'p> {
     #[tactic(auto, using(crate::proofs::Ruled::named_by_rules))]
     pub fn meaning(&self, name: &[u8]) -> Option<Named<'_, 'p>>
         ensures is { option_map meaning_of result ≡ means_in self.now name.now }
-        ensures by_the_rules { (g : Env) → Knows self.now g → Means (meant g name.now) (option_map meaning_of result) }
+        ensures by_the_rules { (g : Env) → Sees self.now g → Means (meant g name.now) (option_map meaning_of result) }
     {
         match self.locals.find(name) {
             Some(what) => Some(named_local(what)),
@@ -100,15 +100,17 @@ impl<'g, 'p> Scope<'g, 'p> {
     }
 
     /// Whether a region is live, or counts as live.
+    #[tactic(auto, using(crate::proofs::Ruled::seen_regions, crate::proofs::Ruled::seen_lenient))]
     pub fn is_live(&self, region: RegionId) -> bool
-        ensures { (g : Env) → Knows self.now g → result ≡ is_live g (region_of region) }
+        ensures { (g : Env) → Sees self.now g → result ≡ is_live g (region_of region) }
     {
         self.lenient || self.regions.is_live(region)
     }
 
     /// Whether a region outlives another one. Fails only where no host memory is left.
+    #[tactic(auto, using(crate::proofs::Ruled::seen_regions))]
     pub fn outlives(&self, one: RegionId, other: RegionId) -> Result<bool, AllocError>
-        ensures { (g : Env) → Knows self.now g → IfOk result (λ b. b ≡ outlives g (region_of one) (region_of other)) }
+        ensures { (g : Env) → Sees self.now g → IfOk result (λ b. b ≡ outlives g (region_of one) (region_of other)) }
     {
         self.regions.outlives(one, other)
     }

@@ -1,7 +1,7 @@
 // Which forms are taken.
 
 ghost use Rattle.std.specs.Prelude.{◌≡◌};
-ghost use Rattle.source_typing.specs.Taken.{supported, thin_pointers};
+ghost use Rattle.source_typing.specs.Taken.{thin_pointers};
 ghost use Rattle.type_verdicts.specs.Taken.{taken_of};
 
 /// Which forms of the language are taken beside integers and thin pointers.
@@ -11,6 +11,8 @@ pub struct Taken {
     pub structs: bool,
     /// Region parameters of structs, and region arguments of their types.
     pub parameters: bool,
+    /// The heap and lexical regions: handles, makings, effects and bounds.
+    pub regions: bool,
 }
 
 impl Taken {
@@ -21,16 +23,7 @@ impl Taken {
         Taken {
             structs: false,
             parameters: false,
-        }
-    }
-
-    /// What the compiler and the evaluator take today.
-    pub fn supported() -> Taken
-        ensures { taken_of result ≡ supported }
-    {
-        Taken {
-            structs: true,
-            parameters: true,
+            regions: false,
         }
     }
 }

@@ -2,7 +2,7 @@
 use Rattle.std.proofs.Common.{◌≡◌, []}
 use Rattle.cyc_tree.specs.Tree.{Program}
 use Rattle.source_typing.specs.Answers.{program_faults}
-use Rattle.source_typing.specs.Taken.{supported}
+use Rattle.accepted_sources.specs.Supported.{supported}
 use Rattle.source_typing.proofs.TakenItems.{none_is}
 use Rattle.unique_flow.specs.Accepted.{IsAccepted}
 

@@ -2,7 +2,7 @@
 use Rattle.std.specs.Prelude.{◌≡◌, None}
 use Rattle.cyc_tree.specs.Tree.{Program}
 use Rattle.source_typing.specs.Answers.{first_fault}
-use Rattle.source_typing.specs.Taken.{supported}
+use Rattle.accepted_sources.specs.Supported.{supported}
 
 -- No rule finds a fault, where functions, globals and locals of integers, of structs and of thin pointers to these are taken.
 abbrev pub IsAccepted : Program → Type 0

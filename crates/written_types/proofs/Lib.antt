@@ -5,3 +5,4 @@ pub mod Structs
 pub mod Naming
 pub mod Places
 pub mod Counting
+pub mod HandleTypes

@@ -6,9 +6,7 @@ use Rattle.source_typing.specs.Tables.{Tables}
 use Rattle.type_verdicts.specs.Taken.{taken_of}
 use Rattle.type_verdicts.specs.declared.taken.Taken as code_taken
 use Rattle.written_types.proofs.Structs.{takes_structs}
-use Rattle.written_types.specs.Naming.{AreTagNames, tag_named}
 use Rattle.written_types.specs.Tagged.{IsNamed, TagIs, struct_taken}
-use Rattle.written_types.specs.declared.tag_names.TagNames.{TagNames}
 use Rattle.written_types.specs.declared.tagged.TagName.{TagName}
 
 module _ (k : code_taken.Taken) (g : Tables) (t : TypeName) (n : TagName) where

@@ -85,7 +85,7 @@ pub taken_each : (vs : Variables) (ss : List Spot) → length (take_spots vs ss)
 taken_each vs [] = refl
 taken_each vs (s ∷ ss) = ap suc (taken_each (take_spot vs s.written s.of_pointer).after_it ss)
 
-unique_taken : (vs : Variables) (r : tree.RegionName) → (take_spot vs (Some r) false).faults ≡ unique_in r
+pub unique_taken : (vs : Variables) (r : tree.RegionName) → (take_spot vs (Some r) false).faults ≡ unique_in r
 unique_taken vs (tree.Heap at) = refl
 unique_taken vs (tree.Unique at) = refl
 unique_taken vs (tree.Named n) = no_fault_named vs n _

@@ -1,6 +1,6 @@
 -- Types of structs that are taken, and their tags.
 use Rattle.std.proofs.Common.{◌≡◌, ℕ, Bool, true, false, List, [], ◌∷◌, ◌++◌, map, refl, sym, ap, ◌∙◌}
-use Rattle.std.specs.Prelude.{None, Option, Some, if◌then◌else◌, is_none, is_some, replicate, ◌&&◌, ◌||◌}
+use Rattle.std.specs.Prelude.{None, Option, Some, if◌then◌else◌, is_none, replicate, ◌&&◌, ◌||◌}
 use Rattle.cyc_tree.specs.Tree.{Name, TypeName}
 use Rattle.source_typing.specs.Functions.{Variables, parameter_type, take_spots}
 use Rattle.source_typing.specs.Tables.{Entry, OfBuiltin, OfFunction, OfOther, OfTag, OfValue, Tables, as_tag, find}
@@ -30,6 +30,7 @@ use Rattle.type_verdicts.specs.Taken.{taken_of}
 use Rattle.type_verdicts.specs.Verdicts.{Is, shortened}
 use Rattle.type_verdicts.specs.declared.taken.Taken as code_taken
 use Rattle.written_types.specs.Arguments.{spots_by, written_arguments}
+use Rattle.written_types.specs.Handles.{handle_base, handle_taken}
 use Rattle.written_types.specs.Reading.{pointer_taken}
 use Rattle.written_types.specs.Tagged.{
   IsNamed,
@@ -57,27 +58,34 @@ same_pointers k [] = refl
 same_pointers k (p ∷ ps) = ap (λ b. pointer_taken p && b) (same_pointers k ps)
 
 other_base : (k : code_taken.Taken) (b : tree.Base) (m : Bool) → (if m then struct_base (taken_of k) b else None) ≡ None
-    → (takes_base (taken_of k) b && m) ≡ (takes_base thin_pointers b && m)
-other_base k (tree.Struct tag rs) m h = by (k.structs && takes_arguments (taken_of k) rs) m h
+    → (if m then handle_base (taken_of k) b else None) ≡ None → (takes_base (taken_of k) b && m) ≡ (takes_base thin_pointers b && m)
+other_base k (tree.Struct tag rs) m h e = by (k.structs && takes_arguments (taken_of k) rs) m h
   where
     by : (s m : Bool) → (if m then (if s then Some tag else None) else None) ≡ None → (s && m) ≡ false
     by true true h = absurd cc
     by true false h = refl
     by false m h = refl
-other_base k tree.Int m h = refl
-other_base k tree.Unsigned m h = refl
-other_base k tree.Char m h = refl
-other_base k tree.Void m h = refl
-other_base k (tree.Union tag rs) m h = refl
-other_base k (tree.Handle r) m h = refl
-other_base k (tree.Key r) m h = refl
+other_base k (tree.Handle r) m h e = by k.regions m e
+  where
+    by : (s m : Bool) → (if m then (if s then Some r else None) else None) ≡ None → (s && m) ≡ false
+    by true true h = absurd cc
+    by true false h = refl
+    by false m h = refl
+other_base k tree.Int m h e = refl
+other_base k tree.Unsigned m h e = refl
+other_base k tree.Char m h e = refl
+other_base k tree.Void m h e = refl
+other_base k (tree.Union tag rs) m h e = refl
+other_base k (tree.Key r) m h e = refl
 
-pub other_takes : (k : code_taken.Taken) (t : TypeName) → struct_taken (taken_of k) t ≡ None → takes_type (taken_of k) t ≡ takes_type thin_pointers t
-other_takes k t h = other_base k t.base (takes_pointers (taken_of k) t.pointers) h ∙ ap (λ m. takes_base thin_pointers t.base && m) (same_pointers k t.pointers)
+module _ (k : code_taken.Taken) (t : TypeName) (h : struct_taken (taken_of k) t ≡ None) (e : handle_taken (taken_of k) t ≡ None) where
+  pub other_takes : takes_type (taken_of k) t ≡ takes_type thin_pointers t
+  other_takes =
+      other_base k t.base (takes_pointers (taken_of k) t.pointers) h e ∙ ap (λ m. takes_base thin_pointers t.base && m) (same_pointers k t.pointers)
 
--- what is no struct is taken as it is without them
-pub other_type : (k : code_taken.Taken) (t : TypeName) → struct_taken (taken_of k) t ≡ None → type_taken (taken_of k) t ≡ type_taken thin_pointers t
-other_type k t h = ap (λ (c : Bool). if c then t else refused_type t.at) (other_takes k t h)
+  -- what is neither a struct nor a handle is taken as it is without them
+  pub other_type : type_taken (taken_of k) t ≡ type_taken thin_pointers t
+  other_type = ap (λ (c : Bool). if c then t else refused_type t.at) other_takes
 
 record OfStruct (k : Taken) (b : tree.Base) (m : Bool) (x : Name) : Type 0 where
   taken : takes_base k b ≡ true
@@ -208,13 +216,14 @@ struct_written k g names t x n h tag =
 
 -- ---- where structs may be taken
 
-pub other_spotted : (k : code_taken.Taken) (g : Tables) (vs : Variables) (t : TypeName) → struct_taken (taken_of k) t ≡ None
-    → take_spots vs (spots_of g (type_taken thin_pointers t)) ≡ spotted_by (taken_of k) g vs t
-other_spotted k g vs t h = sym (ap (λ u. take_spots vs (spots_of g u)) (other_type k t h))
+module _ (k : code_taken.Taken) (g : Tables) (vs : Variables) (t : TypeName) (h : struct_taken (taken_of k) t ≡ None)
+    (e : handle_taken (taken_of k) t ≡ None) where
+  pub other_spotted : take_spots vs (spots_of g (type_taken thin_pointers t)) ≡ spotted_by (taken_of k) g vs t
+  other_spotted = sym (ap (λ u. take_spots vs (spots_of g u)) (other_type k t h e))
 
-pub other_parameter : (k : code_taken.Taken) (g : Tables) (vs : Variables) (t : TypeName) → struct_taken (taken_of k) t ≡ None
-    → parameter_type g (type_taken thin_pointers t) (take_spots vs (spots_of g (type_taken thin_pointers t))) ≡ parameter_by (taken_of k) g vs t
-other_parameter k g vs t h = sym (ap (λ u. parameter_type g u (take_spots vs (spots_of g u))) (other_type k t h))
+  pub other_parameter : parameter_type g (type_taken thin_pointers t) (take_spots vs (spots_of g (type_taken thin_pointers t)))
+      ≡ parameter_by (taken_of k) g vs t
+  other_parameter = sym (ap (λ u. parameter_type g u (take_spots vs (spots_of g u))) (other_type k t h e))
 
 pub own_spotted : (k : code_taken.Taken) (g : Tables) (vs : Variables) (t : TypeName) (x : Name) → struct_taken (taken_of k) t ≡ Some x
     → take_spots vs (spots_of g t) ≡ spotted_by (taken_of k) g vs t
@@ -232,9 +241,9 @@ pub struct_misses : (k : code_taken.Taken) (g : Tables) (t : TypeName) (x : Name
 struct_misses k g t x n h tag =
     ap any_missing (sym (spots_are_by g t x n (struct_is_base k t x h) (tag x h))) ∙ sym (ap (λ u. any_missing (spots_of g u)) (struct_type k t x h))
 
-pub other_misses : (k : code_taken.Taken) (g : Tables) (t : TypeName) → struct_taken (taken_of k) t ≡ None
+pub other_misses : (k : code_taken.Taken) (g : Tables) (t : TypeName) → struct_taken (taken_of k) t ≡ None → handle_taken (taken_of k) t ≡ None
     → any_missing (spots_of g (type_taken thin_pointers t)) ≡ any_missing (spots_of g (type_taken (taken_of k) t))
-other_misses k g t h = sym (ap (λ u. any_missing (spots_of g u)) (other_type k t h))
+other_misses k g t h e = sym (ap (λ u. any_missing (spots_of g u)) (other_type k t h e))
 
 pub missing_both : (ss ts : List Spot) → (any_missing ss || any_missing ts) ≡ any_missing (ss ++ ts)
 missing_both [] ts = refl
@@ -243,14 +252,6 @@ missing_both (s ∷ ss) ts = by (is_none s.written) (missing_both ss ts)
     by : (b : Bool) → (any_missing ss || any_missing ts) ≡ any_missing (ss ++ ts) → ((b || any_missing ss) || any_missing ts) ≡ (b || any_missing (ss ++ ts))
     by true h = refl
     by false h = h
-
--- whether a type is taken
-pub takes_either : (k : code_taken.Taken) (t : TypeName) → (is_some (struct_taken (taken_of k) t) || takes_type thin_pointers t) ≡ takes_type (taken_of k) t
-takes_either k t = by (struct_taken (taken_of k) t) refl
-  where
-    by : (o : Option Name) → struct_taken (taken_of k) t ≡ o → (is_some o || takes_type thin_pointers t) ≡ takes_type (taken_of k) t
-    by (Some x) h = sym (struct_takes k t x h)
-    by None h = sym (other_takes k t h)
 
 pub place_stays : (k : Taken) (t : TypeName) → (type_taken k t).at ≡ t.at
 place_stays k t = by (takes_type k t)

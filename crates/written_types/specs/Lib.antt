@@ -5,3 +5,4 @@ pub mod Written
 pub mod Parameters
 pub mod Tagged
 pub mod Naming
+pub mod Handles

@@ -1,7 +1,7 @@
 -- Types as a text writes them in code, as the rules say them.
 use Rattle.std.specs.Prelude.{List, Option, map, option_map, [], ◌∷◌}
 use Rattle.source_typing.specs.Regions.{Region}
-use Rattle.source_typing.specs.Types.{Char, Fat, Int, PartialType, Struct, Thin, Unique, Unsigned, Void}
+use Rattle.source_typing.specs.Types.{Char, Fat, Handle, Int, PartialType, Struct, Thin, Unique, Unsigned, Void}
 use Rattle.cyc_types.specs.Regions.{region_of}
 use Rattle.cyc_types.specs.declared.region.RegionId.{RegionId}
 use Rattle.written_types.specs.declared.base.WrittenBase.{WrittenBase}
@@ -31,6 +31,7 @@ partial_base base.Int = Int
 partial_base base.Unsigned = Unsigned
 partial_base base.Char = Char
 partial_base base.Void = Void
+partial_base (base.Handle r) = Handle (option_map region_of r)
 partial_base (base.Struct tag rs) = Struct tag.now (partial_regions rs.items)
 
 abbrev pub partial_type : WrittenType → PartialType

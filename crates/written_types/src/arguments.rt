@@ -43,7 +43,7 @@ pub(crate) fn misses_argument(arguments: &[RegionName], count: u32) -> bool
 }
 
 /// The region of an argument. None: it is unknown, or the unique one.
-fn argument_in(names: &RegionNames<'_>, argument: &RegionName) -> Option<RegionId>
+pub(crate) fn argument_in(names: &RegionNames<'_>, argument: &RegionName) -> Option<RegionId>
     ensures { option_map region_of result ≡ as_region (found_by names.now (Some (region_tree argument.now)) false).0 }
 {
     match argument {
@@ -54,7 +54,7 @@ fn argument_in(names: &RegionNames<'_>, argument: &RegionName) -> Option<RegionI
 }
 
 /// The fault of an argument: its name is unknown, or it is the unique region.
-fn argument_fault(names: &RegionNames<'_>, argument: &RegionName) -> Option<Fault>
+pub(crate) fn argument_fault(names: &RegionNames<'_>, argument: &RegionName) -> Option<Fault>
     ensures { (found_by names.now (Some (region_tree argument.now)) false).1 ≡ listed result }
 {
     match argument {
@@ -85,7 +85,7 @@ pub(crate) fn arguments_fault(names: &RegionNames<'_>, arguments: &[RegionName])
 }
 
 /// The fault of a parameter's argument: it is the unique region.
-fn unique_fault(argument: &RegionName) -> Option<Fault>
+pub(crate) fn unique_fault(argument: &RegionName) -> Option<Fault>
     ensures { unique_in (region_tree argument.now) ≡ listed result }
 {
     match argument {

@@ -2,6 +2,7 @@
 
 ghost use Rattle.std.specs.Prelude.{◌≡◌, ◌+◌, IfOk, Some, false, option_map, slice_get};
 ghost use Rattle.source_typing.specs.Missing.{arguments_of, filled_arguments, filled_from};
+ghost use Rattle.source_typing.specs.Tables.{or_heap};
 ghost use Rattle.cyc_types.specs.Bases.{base_type};
 ghost use Rattle.cyc_types.specs.Regions.{region_of, regions_of};
 ghost use Rattle.cyc_types.specs.Types.{static_type};
@@ -23,6 +24,8 @@ pub enum WrittenBase<'p> {
     Unsigned,
     Char,
     Void,
+    /// A region's handle. None: its region is unknown, or the unique one.
+    Handle(Option<RegionId>),
     /// A struct by its tag.
     Struct(&'p [u8], WrittenArguments),
 }
@@ -94,6 +97,16 @@ fn filled_arguments(
     Ok(filled)
 }
 
+/// A region, the heap where there is none.
+fn or_heap(region: Option<RegionId>) -> RegionId
+    ensures { region_of result ≡ or_heap (option_map region_of region) }
+{
+    match region {
+        Some(region) => region,
+        None => RegionId::Heap,
+    }
+}
+
 impl<'p> WrittenBase<'p> {
     /// The base with its missing regions from what a type leads to through so many pointers. Fails only where no host memory is left.
     pub(crate) fn filled(
@@ -110,6 +123,7 @@ impl<'p> WrittenBase<'p> {
             WrittenBase::Unsigned => BaseType::Unsigned,
             WrittenBase::Char => BaseType::Char,
             WrittenBase::Void => BaseType::Void,
+            WrittenBase::Handle(region) => BaseType::Handle(or_heap(*region)),
             WrittenBase::Struct(tag, arguments) => {
                 let others = arguments_at(source, depth, tag);
                 let filled = filled_arguments(alloc, arguments.as_slice(), others)?;

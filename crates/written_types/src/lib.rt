@@ -1,12 +1,13 @@
 //! Types as a text writes them, and what they are once their missing regions are found.
 //!
 //! What is said of them are the definitions of `source_typing`, on which it stands, where integers and thin pointers are taken,
-//! and structs, with or without region parameters, where they may be (`Taken`): a function here answers the verdict that the rules
+//! structs, with or without region parameters, and handles where they may be (`Taken`): a function here answers the verdict that the rules
 //! have.
 #![tactic(auto)]
 
 mod arguments;
 mod base;
+mod handles;
 mod heading;
 mod layer;
 mod reading;

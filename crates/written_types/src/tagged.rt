@@ -1,4 +1,4 @@
-// Types of structs, where they are taken.
+// Types of structs and of handles, where they are taken.
 
 ghost use Rattle.std.specs.Prelude.{◌≡◌, ◌||◌, IfOk, List, is_some, option_map, true};
 ghost use Rattle.cyc_tree.specs.Tree.{Struct};
@@ -22,11 +22,9 @@ use crate::arguments::{
     arguments_fault, count_fits, found_arguments, misses_argument, written_arguments,
 };
 use crate::base::{WrittenArguments, WrittenBase};
+use crate::handles::{misses_other, takes_other, written_other};
 use crate::heading::{fitting, settled_alone};
-use crate::reading::{
-    any_misses, built, misses_region, named_layers, regions_fault, takes_pointers, takes_type,
-    written,
-};
+use crate::reading::{any_misses, built, named_layers, regions_fault, takes_pointers};
 use crate::settling::{WrittenLayers, WrittenType};
 use cyc_tree::{Base, Name, TypeName};
 use cyc_types::CType;
@@ -189,7 +187,7 @@ pub fn written_in<'p>(
             Ok(found)
         }
         None => {
-            let found = written(alloc, names, of)?;
+            let found = written_other(alloc, taken, names, of)?;
             Ok(found)
         }
     }
@@ -199,7 +197,7 @@ pub fn written_in<'p>(
 pub fn takes_type_in(taken: Taken, of: &TypeName) -> bool
     ensures { result ≡ takes_type (taken_of taken) (type_tree of.now) }
 {
-    struct_tag(taken, of).is_some() || takes_type(of)
+    struct_tag(taken, of).is_some() || takes_other(taken, of)
 }
 
 /// Whether a region of a type of structs is missing, by what its tag means.
@@ -216,7 +214,7 @@ pub fn misses_region_in(taken: Taken, tag: TagName, of: &TypeName) -> bool
 {
     match struct_tag(taken, of) {
         Some(_) => misses_in_struct(tag, of),
-        None => misses_region(of),
+        None => misses_other(taken, of),
     }
 }
 

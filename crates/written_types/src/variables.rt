@@ -1,7 +1,7 @@
 // The region variables of a function's head.
 
 ghost use Rattle.std.specs.Prelude.{◌≡◌, IfOk, None, OnErr, OnOk, Some, [], false, is_none, map, option_map, replicate, suc, true};
-ghost use Rattle.cyc_tree.specs.Tree.{Named, Struct};
+ghost use Rattle.cyc_tree.specs.Tree.{Handle, Named, Struct};
 ghost use Rattle.cyc_tree.specs.View.{name_tree, region_tree, type_tree};
 ghost use Rattle.cyc_types.specs.Regions.{region_of};
 ghost use Rattle.cyc_types.specs.Types.{static_type};
@@ -16,11 +16,12 @@ ghost use Rattle.type_verdicts.specs.Verdicts.{short_of, shortened};
 ghost use Rattle.written_types.specs.Arguments.{named_spots, spots_by, written_arguments};
 ghost use Rattle.written_types.specs.Parameters.{as_parameter, parameter_in, refused_at, spotted_in};
 ghost use Rattle.written_types.specs.Reading.{can_lead, led, pointer_spots, pointer_trees, taken_base};
-ghost use Rattle.written_types.specs.Tagged.{IsNamed, TagIs, parameter_by, spotted_by};
+ghost use Rattle.written_types.specs.Tagged.{IsNamed, TagIs, parameter_by, spotted_by, struct_taken};
 ghost use Rattle.written_types.specs.Written.{partial_base, partial_regions};
 
-use crate::arguments::{unique_faults, written_arguments};
+use crate::arguments::{unique_fault, unique_faults, written_arguments};
 use crate::base::{WrittenArguments, WrittenBase};
+use crate::handles::handle_region;
 use crate::heading::{fitting, settled_alone};
 use crate::reading::{built, layer_of, taken_base};
 use crate::settling::WrittenLayers;
@@ -78,6 +79,13 @@ impl<'p> RegionVariables<'p> {
         ensures { result.now ≡ self.now.names }
     {
         &self.names
+    }
+
+    /// Those with names, alone.
+    pub fn into_names(self) -> RegionNames<'p>
+        ensures { result ≡ self.entry.names }
+    {
+        self.names
     }
 
     /// How many there are.
@@ -296,6 +304,55 @@ impl<'p> RegionVariables<'p> {
         Ok(fitting(settled, of.at, false))
     }
 
+    /// The type of a parameter of pointers to handles of this region, which is taken.
+    fn on_handle(
+        &mut self,
+        alloc: Global,
+        of: &'p TypeName,
+        region: &'p RegionName,
+    ) -> Result<Verdict<CType<'p>>, AllocError>
+        ensures found { (g : Tables) → let t = type_tree of.entry.now in t.base ≡ Handle (region_tree region.entry.now)
+            → takes_pointers thin_pointers t.pointers ≡ true
+            → IfOk result (λ v. short_of static_type v ≡ shortened (parameter_type g t (take_spots self.old (spots_of g t)))) }
+        ensures after { (g : Tables) → let t = type_tree of.entry.now in t.base ≡ Handle (region_tree region.entry.now)
+            → takes_pointers thin_pointers t.pointers ≡ true
+            → OnOk result (self.new ≡ (take_spots self.old (spots_of g t)).after_all) }
+    {
+        let found = self.take_argument(region)?;
+        let layers = self.take_layers(alloc, &of.pointers)?;
+        match unique_fault(region) {
+            Some(fault) => Ok(Verdict::Wrong(fault)),
+            None => {
+                let parameter = parameter_of(of.at, WrittenBase::Handle(found), layers)?;
+                Ok(parameter)
+            }
+        }
+    }
+
+    /// The type of a parameter that is no struct that is taken. Fails only where no host memory is left.
+    fn other_parameter(
+        &mut self,
+        alloc: Global,
+        taken: Taken,
+        of: &'p TypeName,
+    ) -> Result<Verdict<CType<'p>>, AllocError>
+        ensures found { (g : Tables) → struct_taken (taken_of taken) (type_tree of.entry.now) ≡ None → IfOk result (λ v. short_of static_type v
+            ≡ shortened (parameter_by (taken_of taken) g self.old (type_tree of.entry.now))) }
+        ensures after { (g : Tables) → struct_taken (taken_of taken) (type_tree of.entry.now) ≡ None
+            → OnOk result (self.new ≡ (spotted_by (taken_of taken) g self.old (type_tree of.entry.now)).after_all) }
+    {
+        match handle_region(taken, of) {
+            Some(region) => {
+                let parameter = self.on_handle(alloc, of, region)?;
+                Ok(parameter)
+            }
+            None => {
+                let parameter = self.parameter(alloc, of)?;
+                Ok(parameter)
+            }
+        }
+    }
+
     /// The type of a parameter, where structs may be taken: the tag of a struct means this. Fails only where no host memory is left.
     pub fn parameter_in(
         &mut self,
@@ -315,7 +372,7 @@ impl<'p> RegionVariables<'p> {
                 Ok(parameter)
             }
             None => {
-                let parameter = self.parameter(alloc, of)?;
+                let parameter = self.other_parameter(alloc, taken, of)?;
                 Ok(parameter)
             }
         }

@@ -9,11 +9,11 @@ use Rattle.judged_calls.specs.Fitted.{parameter_types}
 use Rattle.judged_calls.proofs.call.function_called.Goals as goal
 
 pub returns : goal.returns
-returns c g h =
+returns c g h same =
     let s = c.args.signature.now in
     let vs = map value_of c.args.arguments.now in
     let given = c.as_slice-parameters.result.now in
     c.function_entered.ensures g h (arguments_fit g c.args.at s.regions (parameter_types s.parameters.items) vs)
     (IfOk-at_ok (λ v. short_of regions_in v ≡ shortened (arguments_fit g c.args.at s.regions (parameter_types given) vs)) c.in_ok-fit.was
-    (c.arguments_fit.ensures g h)
+    (c.arguments_fit.ensures g h same)
     ∙ ap (λ ps. shortened (arguments_fit g c.args.at s.regions (parameter_types ps) vs)) c.as_slice-parameters.ensures.value)

@@ -16,23 +16,24 @@ use Rattle.judged_heads.proofs.body.body_fault.Goals as goal
 
 pub returns : goal.returns
 returns c g h known is =
-    let head = c.args.head.now in
+    let head = c.args.head in
     let lenient = c.args.lenient in
     let i = c.args.item in
     let k = taken_of c.args.names.taken in
     let f = function_taken k (function_tree c.args.function.now) in
-    let d : Context = record { names = c.names.result; result = c.known_type.result; frame = Level c.count.result; item = i; in_loop = false } in
+    let d : Context = record { result = c.known_type.result; frame = Level c.count.result; item = i; in_loop = false } in
+    let ns = c.into_names-known.result in
     let s = c.in_ok-scope.scope in
     let t = c.declare_parameters.new.scope in
     let begun =
-    stands head f h is lenient g i s c.in_ok-scope.ensures.alone d (c.in_ok-scope.ensures.known g i f h known is)
-    c.names.ensures c.known_type.ensures (ap Level c.count.ensures) refl refl in
+    stands head f h is lenient g i s c.in_ok-scope.ensures.alone d ns (c.in_ok-scope.ensures.known g i f h known is)
+    c.into_names-known.ensures c.known_type.ensures (ap Level c.count.ensures) refl refl in
     let declared =
-    c.in_ok-declare_parameters.ensures.stands (function_scope lenient g i h) f.parameters
+    c.in_ok-declare_parameters.ensures.stands ns (function_scope lenient g i h) f.parameters
     (ap (λ ps. code_names ps) c.as_slice.ensures.value ∙ is.named) begun in
     let inside =
-    at_body head f h is lenient g i s c.in_ok-scope.ensures.alone d t
-    (subst (λ ps. StandsIn d 0 t (with_parameters f.parameters (types_of ps) (function_scope lenient g i h))) c.as_slice.ensures.value declared) in
+    at_body head f h is lenient g i s c.in_ok-scope.ensures.alone d ns t
+    (subst (λ ps. StandsIn d ns 0 t (with_parameters f.parameters (types_of ps) (function_scope lenient g i h))) c.as_slice.ensures.value declared) in
     let same_taken = c.in_ok-declare_parameters.ensures.taken ∙ c.in_ok-scope.ensures.taken in
     subst (λ b. IfOk c.items_fault.result
     (λ found. faults_of found ≡ earliest (items_faults (body_scope lenient g i f h) true (items_taken k (items_of (map item_tree b))))))

@@ -9,12 +9,12 @@ use Rattle.judged_heads.proofs.Parameters.{is_added}
 use Rattle.judged_heads.proofs.body.declare_parameter.Goals as goal
 
 pub returns-clause-stands : goal.returns-clause-stands
-returns-clause-stands c g x e h =
+returns-clause-stands c ns g x e h =
     let s = c.args.scope.now in
     let d = c.args.context in
     let k = known_static c.args.parameter.now.of in
     let what = c.in_ok-what.what in
-    subst (λ ls. StandsIn d 0 (record s { locals = ls }) (with_local x (what_of_known g.frame k) g))
+    subst (λ ls. StandsIn d ns 0 (record s { locals = ls }) (with_local x (what_of_known g.frame k) g))
     (sym (c.in_ok-declare.ensures.declared ∙ ap (λ y. known y what ∷ s.locals) (sym e)))
-    (is_added d s g h x (what_of_known g.frame k) what (subst (λ r. WhatIs (what_of_known r k) what) h.suits.frame c.in_ok-what.ensures)
+    (is_added d ns s g h x (what_of_known g.frame k) what (subst (λ r. WhatIs (what_of_known r k) what) h.suits.frame c.in_ok-what.ensures)
     (sym (h.block.second x.text) ∙ ap (is_after s.locals 0) e ∙ sym c.is_second.ensures ∙ c.if-is_second.false))

@@ -1,6 +1,5 @@
-use Rattle.std.proofs.Common.{ap, sym, ◌∙◌}
+use Rattle.std.proofs.Common.{ap, refl, sym, ◌∙◌}
 use Rattle.judged_heads.specs.Bodies.{types_of}
-use Rattle.judged_heads.specs.Heads.{effect_in}
 use Rattle.judged_heads.proofs.Signatures.{none_at_fault, sound_means, unsound_means}
 use Rattle.judged_heads.proofs.meaning.head_meaning.Goals as goal
 
@@ -12,4 +11,4 @@ returns c f h is =
     let none = none_at_fault c.args.head.fault (sym c.is_some.ensures ∙ c.if-is_some.false) in
     sound_means c.args.head f h is _ none c.count-regions.ensures
     (c.in_ok-parameters.ensures ∙ ap (λ ps. types_of ps) c.as_slice.ensures.value)
-    c.in_ok-result.ensures (c.in_ok-effect.ensures ∙ ap (effect_in c.args.head.is_whole) c.count-regions.ensures) c.new.ensures.items
+    c.in_ok-result.ensures refl refl

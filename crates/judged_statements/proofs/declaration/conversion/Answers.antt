@@ -7,6 +7,7 @@ use Rattle.source_typing.specs.Faults.{earliest}
 use Rattle.source_typing.specs.Verdicts.{Of}
 use Rattle.type_verdicts.specs.Faults.{faults_of}
 use Rattle.type_verdicts.specs.Verdicts.{short_of}
+use Rattle.scoped_names.proofs.Keeping.{sees}
 use Rattle.judged_statements.proofs.Declaring.{of_short}
 use Rattle.judged_statements.proofs.declaration.conversion.Goals as goal
 
@@ -16,4 +17,4 @@ returns-in-Of-Of c g v t k e h =
     let value = of_short v _ (ap (short_of value_of) (sym c.in-Of-Of.is-0) ∙ e) in
     let to = of_short t _ (ap (short_of static_type) (sym c.in-Of-Of.is-1) ∙ h) in
     subst (λ u. IfOk r (λ f. faults_of f ≡ earliest (converted_to g u t))) (sym value)
-    (subst (λ u. IfOk r (λ f. faults_of f ≡ earliest (converted_to g (Of (value_of c.in-Of-Of.value)) u))) (sym to) (c.converted.ensures g k))
+    (subst (λ u. IfOk r (λ f. faults_of f ≡ earliest (converted_to g (Of (value_of c.in-Of-Of.value)) u))) (sym to) (c.converted.ensures g (sees k)))

@@ -8,6 +8,7 @@ use Rattle.source_typing.specs.Types.{Char, Fat, Handle, Int, Key, Null, StaticT
 use Rattle.source_typing.specs.Conversions.{converts}
 use Rattle.source_typing.specs.Verdicts.{Of}
 use Rattle.type_verdicts.specs.Faults.{faults_of}
+use Rattle.scoped_names.proofs.Keeping.{sees}
 use Rattle.judged_statements.proofs.returning.value_returned.Goals as goal
 
 -- what is returned where the result isn't `void` is converted to it
@@ -29,4 +30,4 @@ pub returns-else-is_void : goal.returns-else-is_void
 returns-else-is_void c = λ g h.
     subst (λ fs. IfOk c.converted.result (λ f. faults_of f ≡ earliest fs))
     (sym (is_converted g c.args.at (static_type c.args.of.now) (value_of c.args.value.now) (sym c.is_void.ensures ∙ c.if-is_void.false)))
-    (c.converted.ensures g h)
+    (c.converted.ensures g (sees h))

@@ -16,9 +16,12 @@ use Rattle.scoped_names.specs.Locals.{dropped_to}
 use Rattle.scoped_names.specs.declared.scope.Scope.{Scope}
 use Rattle.scoped_types.specs.Marks.{mark_of}
 use Rattle.scoped_types.specs.Scopes.{first_of}
-use Rattle.judged_statements.specs.Contexts.{StandsIn}
+use Rattle.scoped_types.specs.declared.scope.RegionMark.{RegionMark}
+use Rattle.judged_statements.specs.Contexts.{StandsIn, Suits, kept_to}
 use Rattle.judged_statements.proofs.Blocks.{
   Going,
+  all_kept,
+  begun_longer,
   block_left,
   block_stands,
   goes_on,
@@ -27,6 +30,8 @@ use Rattle.judged_statements.proofs.Blocks.{
   loop_known,
   loop_suits,
   no_fewer,
+  no_fewer_names,
+  no_fewer_regions,
   return_faults,
   scope_behind,
   two_found,
@@ -37,19 +42,26 @@ use Rattle.judged_statements.proofs.statement.+statement.Goals.{items_fault-in-D
 pub block_fault-returns-clause-fault : goal.block_fault-returns-clause-fault
 block_fault-returns-clause-fault t c = λ g reached h suits around.
     c.in_ok-found.ensures.fault (block_entered g) reached
-    (subst (λ x. StandsIn x c.len-outer.result (record c.args.scope.now { regions = c.begin_block.new.self }) (block_entered g)) (sym c.in_block.ensures)
-    (block_stands c.args.context c.args.scope.now g c.begin_block.new.self c.in_ok-frame.frame c.len-outer.result h suits around
+    (subst (λ x. StandsIn x c.args.names.now c.len-outer.result (record c.args.scope.now { regions = c.begin_block.new.self }) (block_entered g))
+    (sym c.in_block.ensures)
+    (block_stands c.args.context c.args.names.now c.args.scope.now g c.begin_block.new.self c.in_ok-frame.frame c.len-outer.result h suits around
     c.in_ok-begin_block.ensures.begun (c.in_ok-frame.ensures ∙ ap Level c.names.ensures) c.len-outer.ensures))
 
 pub block_fault-returns-clause-scope : goal.block_fault-returns-clause-scope
 block_fault-returns-clause-scope t c =
     let s = c.args.scope.now in
     let after = c.items_fault.new.scope in
+    let begun = c.in_ok-begin_block.ensures.begun in
     left_is after c.leave-2.new.self c.leave.new.self (length s.locals) (mark_of s.regions)
     (c.leave-2.ensures ∙ ap (λ n. dropped_to n after.locals) c.len-outer.ensures)
     (c.leave.ensures ∙ ap (λ m. first_of m.names m.opened after.regions) c.mark-mark.ensures)
-    ∙ block_left s after c.begin_block.new.self c.in_ok-begin_block.ensures.begun
-    (c.in_ok-found.ensures.left (length s.locals) (mark_of s.regions) (grind arith))
+    ∙ block_left s after c.begin_block.new.self begun
+    (c.in_ok-found.ensures.left (length s.locals) (mark_of s.regions) (grind arith) (begun_longer s.regions c.begin_block.new.self begun))
+
+pub block_fault-returns-clause-kept : goal.block_fault-returns-clause-kept
+block_fault-returns-clause-kept t c =
+    let ns = c.args.names.now in
+    c.leave-3.ensures ∙ ap (λ n. kept_to n c.items_fault.new.names) c.len-known.ensures ∙ c.in_ok-found.ensures.kept (length ns) (grind arith) ∙ all_kept ns
 
 pub items_fault-each-preserved : goal.items_fault-each-preserved
 items_fault-each-preserved t c =
@@ -58,9 +70,12 @@ items_fault-each-preserved t c =
     let item = c.item-item.result in
     let context = c.args.context in
     let outer = c.args.outer in
-    let same_taken : c.each.scope.taken ≡ c.args.scope.now.taken =
-    ap (λ (s : Scope). s.taken) (c.each.invariant.left 0 (mark_of c.args.scope.now.regions) (grind arith)) in
-    let own : (g : _) (reached : _) → StandsIn context outer c.each.scope g
+    let names = c.each.names in
+    let later = c.match-item.names in
+    let all = c.args.scope.now in
+    let same_taken : c.each.scope.taken ≡ all.taken =
+    ap (λ (s : Scope). s.taken) (c.each.invariant.left 0 (mark_of all.regions) (grind arith) (grind arith)) in
+    let own : (g : _) (reached : _) → StandsIn context names outer c.each.scope g
     → faults_of c.match-item.fault ≡ earliest (item_faults here g reached (item_tree item)) =
     elim c.match-item.branch [
       | items_fault-in-Declare+in_ok-fault-in-Declare w ↦ λ g reached h. ap (λ o. faults_of o) w.fault-is ∙ w.in_ok-fault-in-Declare.ensures.fault g h
@@ -69,37 +84,53 @@ items_fault-each-preserved t c =
           ∙ w.in_ok-fault-in-Execute.ensures.fault g reached h.known h.suits h.block.around
           ∙ ap (λ i. earliest (item_faults here g reached i)) (sym (execute_tree w.in-Execute.statement) ∙ ap item_tree (sym w.in-Execute.is))
     ] in
-    let stands : (g : _) → StandsIn context outer c.each.scope g → StandsIn context outer c.match-item.scope (scope_behind here g (item_tree item)) =
+    let stands : (g : _) → StandsIn context names outer c.each.scope g
+    → StandsIn context later outer c.match-item.scope (scope_behind here g (item_tree item)) =
     elim c.match-item.branch [
-      | items_fault-in-Declare+in_ok-fault-in-Declare w ↦ λ g h. subst (λ s. StandsIn context outer s (scope_behind here g (item_tree item))) (sym w.scope-is)
-          (subst (λ i. StandsIn context outer w.declare.new.scope (scope_behind here g i))
+      | items_fault-in-Declare+in_ok-fault-in-Declare w ↦ λ g h. subst (λ s. StandsIn context later outer s (scope_behind here g (item_tree item)))
+          (sym w.scope-is)
+          (subst (λ ns. StandsIn context ns outer w.declare.new.scope (scope_behind here g (item_tree item))) (sym w.names-is)
+          (subst (λ i. StandsIn context w.declare.new.names outer w.declare.new.scope (scope_behind here g i))
           (sym (declare_tree w.in-Declare.declaration) ∙ ap item_tree (sym w.in-Declare.is))
-          (w.in_ok-fault-in-Declare.ensures.known g h))
-      | items_fault-in-Execute+in_ok-fault-in-Execute w ↦ λ g h. subst (λ s. StandsIn context outer s (scope_behind here g (item_tree item)))
+          (w.in_ok-fault-in-Declare.ensures.known g h)))
+      | items_fault-in-Execute+in_ok-fault-in-Execute w ↦ λ g h. subst (λ s. StandsIn context later outer s (scope_behind here g (item_tree item)))
           (sym (w.scope-is ∙ w.in_ok-fault-in-Execute.ensures.scope))
-          (subst (λ i. StandsIn context outer c.each.scope (scope_behind here g i))
-          (sym (execute_tree w.in-Execute.statement) ∙ ap item_tree (sym w.in-Execute.is)) h)
+          (subst (λ ns. StandsIn context ns outer c.each.scope (scope_behind here g (item_tree item)))
+          (sym (w.names-is ∙ w.in_ok-fault-in-Execute.ensures.kept))
+          (subst (λ i. StandsIn context names outer c.each.scope (scope_behind here g i))
+          (sym (execute_tree w.in-Execute.statement) ∙ ap item_tree (sym w.in-Execute.is)) h))
     ] in
-    let longer : length c.args.scope.now.locals ≤ length c.each.scope.locals =
-    no_fewer c.args.scope.now c.each.scope (c.each.invariant.left (length c.args.scope.now.locals) (mark_of c.args.scope.now.regions) (grind arith)) in
-    let same : (count : ℕ) (mark : _) → count ≤ length c.each.scope.locals → left count mark c.match-item.scope ≡ left count mark c.each.scope =
+    let leaves = c.each.invariant.left (length all.locals) (mark_of all.regions) (grind arith) (grind arith) in
+    let longer : length all.locals ≤ length c.each.scope.locals = no_fewer all c.each.scope leaves in
+    let more : length all.regions.begun ≤ length c.each.scope.regions.begun = no_fewer_regions all c.each.scope leaves in
+    let larger : length c.args.names.now ≤ length names =
+    no_fewer_names c.args.names.now names (c.each.invariant.kept (length c.args.names.now) (grind arith)) in
+    let same : (count : ℕ) (mark : RegionMark) → count ≤ length c.each.scope.locals → mark.names ≤ length c.each.scope.regions.begun
+    → left count mark c.match-item.scope ≡ left count mark c.each.scope =
     elim c.match-item.branch [
-      | items_fault-in-Declare+in_ok-fault-in-Declare w ↦ λ count mark l. ap (left count mark) w.scope-is ∙ w.in_ok-fault-in-Declare.ensures.left count mark l
-      | items_fault-in-Execute+in_ok-fault-in-Execute w ↦ λ count mark l. ap (left count mark) (w.scope-is ∙ w.in_ok-fault-in-Execute.ensures.scope)
+      | items_fault-in-Declare+in_ok-fault-in-Declare w ↦ λ count mark l m. ap (left count mark) w.scope-is
+          ∙ w.in_ok-fault-in-Declare.ensures.left count mark l m
+      | items_fault-in-Execute+in_ok-fault-in-Execute w ↦ λ count mark l m. ap (left count mark) (w.scope-is ∙ w.in_ok-fault-in-Execute.ensures.scope)
+    ] in
+    let kept : (count : ℕ) → count ≤ length names → kept_to count later ≡ kept_to count names =
+    elim c.match-item.branch [
+      | items_fault-in-Declare+in_ok-fault-in-Declare w ↦ λ count l. ap (kept_to count) w.names-is ∙ w.in_ok-fault-in-Declare.ensures.kept count l
+      | items_fault-in-Execute+in_ok-fault-in-Execute w ↦ λ count l. ap (kept_to count) (w.names-is ∙ w.in_ok-fault-in-Execute.ensures.kept)
     ] in
     record {
       each = λ g reached h.
           let going = c.each.invariant.each g reached h in
-          subst (λ o. Going k context outer c.match-item.scope o (map item_tree (drop (c.each.item-index + 1) c.args.items.now))
+          subst (λ o. Going k context later outer c.match-item.scope o (map item_tree (drop (c.each.item-index + 1) c.args.items.now))
           (earliest (items_faults g reached (items_taken k (items_of (map item_tree c.args.items.now)))))) (sym c.sooner-found.ensures)
-          (goes_on k context outer c.each.scope c.match-item.scope c.each.found c.match-item.fault c.args.items.now c.each.item-index item
+          (goes_on k context names later outer c.each.scope c.match-item.scope c.each.found c.match-item.fault c.args.items.now c.each.item-index item
           (earliest (items_faults g reached (items_taken k (items_of (map item_tree c.args.items.now))))) c.each-test.true
           c.item-item.is going
           (subst (λ n. faults_of c.match-item.fault ≡ earliest (item_faults (taken_of n) going.env going.reached (item_tree item))) same_taken
           (own going.env going.reached going.stands))
-          (subst (λ n. StandsIn context outer c.match-item.scope (scope_behind (taken_of n) going.env (item_tree item))) same_taken
+          (subst (λ n. StandsIn context later outer c.match-item.scope (scope_behind (taken_of n) going.env (item_tree item))) same_taken
           (stands going.env going.stands)));
-      left = λ count mark l. same count mark (grind (arith, l, longer)) ∙ c.each.invariant.left count mark l;
+      left = λ count mark l m. same count mark (grind (arith, l, longer)) (grind (arith, m, more)) ∙ c.each.invariant.left count mark l m;
+      kept = λ count l. kept count (grind (arith, l, larger)) ∙ c.each.invariant.kept count l;
     }
 
 pub statement_fault-returns-in-Block-clause-fault : goal.statement_fault-returns-in-Block-clause-fault
@@ -131,7 +162,8 @@ statement_fault-returns-in_ok-third-in-IfElse-clause-fault t c g reached h suits
     ∙ ap (λ b. earliest (statement_faults g reached (statement_taken k (statement_tree b)))) c.deref-in-IfElse.ensures in
     let known = subst (λ s. Knows s g) (sym c.in_ok-second-in-IfElse.ensures.scope) h in
     let second_taken = ap (λ (s : Scope). s.taken) c.in_ok-second-in-IfElse.ensures.scope in
-    let third = c.in_ok-third-in-IfElse.ensures.fault g reached known suits around
+    let same = subst (λ ns. Suits c.args.context ns g) (sym c.in_ok-second-in-IfElse.ensures.kept) suits in
+    let third = c.in_ok-third-in-IfElse.ensures.fault g reached known same around
     ∙ ap (λ n. earliest (statement_faults g reached (statement_taken (taken_of n) (statement_tree c.deref-in-IfElse-2.result.now)))) second_taken
     ∙ ap (λ b. earliest (statement_faults g reached (statement_taken k (statement_tree b)))) c.deref-in-IfElse-2.ensures in
     two_found c.sooner-in-IfElse.result c.in_ok-third-in-IfElse.third c.sooner-in-IfElse-2.result (test ++ body) otherwise c.sooner-in-IfElse-2.ensures
@@ -148,7 +180,7 @@ statement_fault-returns-in_ok-second-in-While-clause-fault t c g reached h suits
     (statement_faults (in_a_loop g) reached (statement_taken k (statement_tree c.in-While.body.value))) c.sooner-in-While.ensures
     (c.in_ok-first-in-While.ensures g h)
     (c.in_ok-second-in-While.ensures.fault (in_a_loop g) reached (loop_known c.args.scope.now g h)
-    (loop_suits c.args.context c.looping.result g suits c.looping.ensures) around
+    (loop_suits c.args.context c.looping.result c.args.names.now g suits c.looping.ensures) around
     ∙ ap (λ b. earliest (statement_faults (in_a_loop g) reached (statement_taken k (statement_tree b)))) c.deref-in-While.ensures)
     ∙ ap (λ s. earliest (statement_faults g reached (statement_taken k s)))
     (sym (ap statement_tree c.in-While.is ∙ while_tree c.in-While.field-0 c.in-While.condition c.in-While.body))

@@ -8,9 +8,9 @@ use Rattle.program_types.proofs.foreign.foreign_names.Goals as goal
 pub returns : goal.returns
 returns c x =
     let others = spots_in (type_tree c.args.of.now).pointers in
-    let arguments = named_spots (map region_tree c.written_arguments.result.now) in
+    let arguments = named_spots (map region_tree c.base_regions.result.now) in
     c.in_ok-add_regions.ensures x
     ∙ ap (λ ps. or_region (find_region c.add_names.new.names x) (foreign_in (spots_in (map pointer_tree ps)) x)) c.deref.ensures.value
     ∙ c.in_ok-add_names.ensures others x
     ∙ ap (λ l. or_region (find_region l x) (foreign_in (arguments ++ others) x)) c.new-names.ensures
-    ∙ ap (λ rs. foreign_in (named_spots rs ++ others) x) c.written_arguments.ensures
+    ∙ ap (λ rs. foreign_in (named_spots rs ++ others) x) c.base_regions.ensures

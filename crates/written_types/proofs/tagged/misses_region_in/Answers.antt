@@ -1,6 +1,6 @@
 use Rattle.std.proofs.Common.{sym, ◌∙◌}
 use Rattle.cyc_tree.specs.View.{name_tree, type_tree}
-use Rattle.written_types.proofs.Structs.{other_misses, struct_misses}
+use Rattle.written_types.proofs.Structs.{struct_misses}
 use Rattle.written_types.proofs.tagged.misses_region_in.Goals as goal
 
 pub returns-in-Some : goal.returns-in-Some
@@ -9,4 +9,4 @@ returns-in-Some c g h =
     ∙ struct_misses c.args.taken g (type_tree c.args.of.now) (name_tree c.in-Some.field-0.now) c.args.tag (sym c.in-Some.ensures) h
 
 pub returns-in-None : goal.returns-in-None
-returns-in-None c g h = c.misses_region.ensures g ∙ other_misses c.args.taken g (type_tree c.args.of.now) (sym c.in-None.ensures)
+returns-in-None c g h = c.misses_other.ensures g (sym c.in-None.ensures)

@@ -1,8 +1,7 @@
 use Rattle.std.proofs.Common.{ap, sym, ◌∙◌}
 use Rattle.cyc_tree.specs.View.{name_tree, type_tree}
-use Rattle.source_typing.specs.Written.{written}
 use Rattle.type_verdicts.specs.Verdicts.{shortened}
-use Rattle.written_types.proofs.Structs.{other_type, struct_is_base, struct_pointers, struct_written}
+use Rattle.written_types.proofs.Structs.{struct_is_base, struct_pointers, struct_written}
 use Rattle.written_types.proofs.tagged.written_in.Goals as goal
 
 pub returns-in_ok-found-in-Some : goal.returns-in_ok-found-in-Some
@@ -15,6 +14,4 @@ returns-in_ok-found-in-Some c g h =
     ∙ ap (λ v. shortened v) (struct_written k g c.args.names.now t x c.args.tag e h)
 
 pub returns-in_ok-found-in-None : goal.returns-in_ok-found-in-None
-returns-in_ok-found-in-None c g h =
-    c.in_ok-found-in-None.ensures g
-    ∙ ap (λ u. shortened (written g c.args.names.now u)) (sym (other_type c.args.taken (type_tree c.args.of.now) (sym c.in-None.ensures)))
+returns-in_ok-found-in-None c g h = c.in_ok-found-in-None.ensures g (sym c.in-None.ensures)

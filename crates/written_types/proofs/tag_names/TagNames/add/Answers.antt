@@ -1,7 +1,7 @@
 use Rattle.std.proofs.Common.{◌≡◌, Bool, ap, false, refl, true, ◌∙◌}
 use Rattle.std.specs.Prelude.{Option, Some, bytes_eq, if◌then◌else◌, is_some, unwrap_or, ◌||◌}
 use Rattle.std.proofs.lemmas.Map.Text.{hash_map_updates_str}
-use Rattle.written_types.specs.Naming.{tag_entry, tag_named}
+use Rattle.written_types.specs.Naming.{tag_entry}
 use Rattle.written_types.specs.declared.tagged.TagName.{TagName}
 use Rattle.written_types.specs.declared.tagged.TagName.TheVariants as code
 use Rattle.written_types.proofs.tag_names.TagNames.add.Goals as goal

@@ -2,7 +2,7 @@ use Rattle.std.proofs.Common.{ap, sym, ◌∙◌}
 use Rattle.cyc_tree.specs.View.{name_tree, type_tree}
 use Rattle.source_typing.specs.Functions.{AllSpotted}
 use Rattle.type_verdicts.specs.Verdicts.{shortened}
-use Rattle.written_types.proofs.Structs.{other_parameter, other_spotted, own_parameter, own_spotted, struct_is_base, struct_pointers}
+use Rattle.written_types.proofs.Structs.{own_parameter, own_spotted, struct_is_base, struct_pointers}
 use Rattle.written_types.proofs.variables.RegionVariables.parameter_in.Goals as goal
 
 pub returns-in_ok-parameter-in-Some-clause-found : goal.returns-in_ok-parameter-in-Some-clause-found
@@ -25,10 +25,8 @@ returns-in_ok-parameter-in-Some-clause-after c g h =
 
 pub returns-in_ok-parameter-in-None-clause-found : goal.returns-in_ok-parameter-in-None-clause-found
 returns-in_ok-parameter-in-None-clause-found c g h =
-    c.in_ok-parameter-in-None.ensures.found g
-    ∙ ap (λ v. shortened v) (other_parameter c.args.taken g c.args.self.now (type_tree c.args.of.now) (sym c.in-None.ensures))
+    c.in_ok-parameter-in-None.ensures.found g (sym c.in-None.ensures)
 
 pub returns-in_ok-parameter-in-None-clause-after : goal.returns-in_ok-parameter-in-None-clause-after
 returns-in_ok-parameter-in-None-clause-after c g h =
-    c.in_ok-parameter-in-None.ensures.after g
-    ∙ ap (λ (s : AllSpotted). s.after_all) (other_spotted c.args.taken g c.args.self.now (type_tree c.args.of.now) (sym c.in-None.ensures))
+    c.in_ok-parameter-in-None.ensures.after g (sym c.in-None.ensures)

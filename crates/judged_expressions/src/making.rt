@@ -1,0 +1,121 @@
+// Handles of regions, and what is made in them.
+
+ghost use Rattle.std.specs.Prelude.{◌≡◌, IfOk};
+ghost use Rattle.cyc_tree.specs.Tree.{HeapRegion};
+ghost use Rattle.cyc_tree.specs.View.{expression_tree};
+ghost use Rattle.source_meaning.specs.Expressions.{is_unique_region};
+ghost use Rattle.source_typing.specs.Expressions.{judge};
+ghost use Rattle.source_typing.specs.Making.{handled, made};
+ghost use Rattle.source_typing.specs.Scope.{Env};
+ghost use Rattle.source_typing.specs.Taken.{takes_handle};
+ghost use Rattle.type_verdicts.specs.Taken.{taken_of};
+ghost use Rattle.type_verdicts.specs.Verdicts.{short_after, short_both, short_of, shortened};
+ghost use Rattle.scoped_names.specs.Knows.{Sees};
+ghost use Rattle.judged_values.specs.Goals.{goal_in};
+ghost use Rattle.judged_values.specs.Values.{value_of};
+ghost use Rattle.judged_calls.specs.Enclosings.{enclosing_of};
+ghost use Rattle.source_typing.specs.Taken as rules;
+ghost use Rattle.judged_expressions.specs.Goals.{enclosed_short, is_refused_alone, with_short_goal};
+
+use crate::parts::refused;
+use cyc_tree::Expression;
+use judged_calls::Enclosing;
+use judged_values::{Goal, Value, handled, heap_region, made};
+use scoped_names::Scope;
+use std::alloc::{AllocError, Global};
+use type_verdicts::{Taken, Verdict};
+
+/// `heap_region`, where regions are taken.
+pub(crate) fn heap_region_taken<'p>(taken: Taken, alloc: Global, at: u32) -> Verdict<Value<'p>>
+    ensures { (g : Env) → short_of value_of result ≡ shortened (judge g (rules.taken (taken_of taken) (HeapRegion at))) }
+{
+    if taken.regions {
+        heap_region(alloc, at)
+    } else {
+        refused(at)
+    }
+}
+
+/// Whether an expression is `unique_region`, also in parentheses.
+fn is_unique_region(expression: &Expression) -> bool
+    ensures { result ≡ is_unique_region (expression_tree expression.now) }
+{
+    match expression {
+        Expression::UniqueRegion(_) => true,
+        Expression::Grouped(_, inner) => is_unique_region(inner),
+        _ => false,
+    }
+}
+
+/// Whether an `rnew` with this handle is taken.
+pub(crate) fn takes_handle(taken: Taken, handle: &Expression) -> bool
+    ensures { result ≡ takes_handle (taken_of taken) (is_unique_region (expression_tree handle.now)) }
+{
+    taken.regions && !is_unique_region(handle)
+}
+
+/// Where a handle makes, by what it is.
+pub(crate) fn goal_part(scope: &Scope, handle: Verdict<Value>) -> Verdict<Goal>
+    ensures { (g : Env) → Sees scope.now g
+        → short_of goal_in result ≡ short_after (short_of value_of handle.entry) (λ h. shortened (handled g h)) }
+{
+    match handle {
+        Verdict::Of(value) => handled(scope, &value),
+        Verdict::Wrong(fault) => Verdict::Wrong(fault),
+        Verdict::NotJudged => Verdict::NotJudged,
+    }
+}
+
+/// The `rnew` around what is made, by where it makes.
+pub(crate) fn enclosing_by(goal: &Verdict<Goal>) -> Enclosing
+    ensures { enclosing_of result ≡ enclosed_short (short_of goal_in goal.now) }
+{
+    match goal {
+        Verdict::Of(Goal::To(region)) => Enclosing::In(*region),
+        _ => Enclosing::NotKnown,
+    }
+}
+
+/// Whether what should be a handle is none, and the value isn't judged.
+fn is_refused_alone(goal: &Verdict<Goal>, value: &Verdict<Value>) -> bool
+    ensures { result ≡ is_refused_alone (short_of goal_in goal.now) (short_of value_of value.now) }
+{
+    matches!(
+        (goal, value),
+        (Verdict::Of(Goal::NoHandle), Verdict::NotJudged)
+    )
+}
+
+/// Where a value is made, and what it is.
+#[tactic(auto, using(crate::proofs::Joining::both_wrong, crate::proofs::Joining::both_not_judged))]
+fn made_both<'p>(
+    at: u32,
+    goal: Verdict<Goal>,
+    value: Verdict<Value<'p>>,
+) -> Result<Verdict<Value<'p>>, AllocError>
+    ensures { IfOk result (λ v. short_of value_of v
+        ≡ short_both (short_of goal_in goal) (short_of value_of value.entry) (λ a b. shortened (made at a b))) }
+{
+    match goal.paired(value) {
+        Verdict::Of((goal, value)) => made(at, goal, value),
+        Verdict::Wrong(fault) => Ok(Verdict::Wrong(fault)),
+        Verdict::NotJudged => Ok(Verdict::NotJudged),
+    }
+}
+
+/// What is made of a value, by where it is made and what it is. What should be a handle and is none is at fault here, whether or not
+/// the value is judged.
+pub(crate) fn made_parts<'p>(
+    at: u32,
+    goal: Verdict<Goal>,
+    value: Verdict<Value<'p>>,
+) -> Result<Verdict<Value<'p>>, AllocError>
+    ensures { IfOk result (λ v. short_of value_of v
+        ≡ with_short_goal at (short_of goal_in goal) (short_of value_of value.entry) (λ a b. shortened (made at a b))) }
+{
+    if is_refused_alone(&goal, &value) {
+        Ok(refused(at))
+    } else {
+        made_both(at, goal, value)
+    }
+}

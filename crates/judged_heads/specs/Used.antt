@@ -1,0 +1,27 @@
+-- The region names of effects and bounds, one by one.
+use Rattle.std.specs.Prelude.{List, map, ◌≡◌, [], ◌∷◌}
+use Rattle.source_typing.specs.Faults.{earliest}
+use Rattle.source_typing.specs.Functions.{all_faults, all_of, pair_of, used_region}
+use Rattle.source_typing.specs.Regions.{Region}
+use Rattle.source_typing.specs.Verdicts.{Verdict, both}
+use Rattle.source_typing.specs.Written.{RegionNamed}
+use Rattle.type_verdicts.specs.Faults.{faults_of}
+use Rattle.type_verdicts.specs.declared.verdict.Verdict as verdict
+use Rattle.type_verdicts.specs.declared.verdict.Verdict.TheVariants as variant
+use Rattle.judged_heads.specs.declared.effect.Used.{Used}
+use Rattle.cyc_tree.specs.Tree as tree
+
+-- what is known of a phrase, where it is in order
+abbrev pub in_order : {T : Type 0} → verdict.Verdict T → List T
+in_order (variant.Of t) = t ∷ []
+in_order (variant.Wrong f) = []
+in_order variant.NotJudged = []
+
+-- of such phrases this is known, by what a phrase in code is, with this earliest fault
+pub record IsUsed {T A : Type 0} (as_is : T → A) (vs : List (Verdict A)) (u : Used T) : Type 0 where
+  pub known : map as_is u.known.items ≡ all_of vs
+  pub fault : faults_of u.fault ≡ earliest (all_faults vs)
+
+-- a bound, where these region names are known
+abbrev pub bound_by : List RegionNamed → tree.Bound → Verdict (Region × Region)
+bound_by names b = both (used_region names b.longer) (used_region names b.shorter) pair_of

@@ -1,5 +1,29 @@
 -- One more item of a block: what its code, its locals, its unnamed values and their shapes are, and what is left.
-use Rattle.std.proofs.Common.{◌≡◌, ◌∙◌, ◌+◌, ◌<◌, ℕ, suc, sym, ap, List, [], ◌∷◌, ◌++◌, length, map, drop, get_or, append_assoc}
+use Rattle.std.proofs.Common.{
+  ◌≡◌,
+  ◌∙◌,
+  ◌+◌,
+  ◌-◌,
+  ◌<◌,
+  ◌≤◌,
+  ℕ,
+  suc,
+  refl,
+  sym,
+  ap,
+  subst,
+  arith,
+  List,
+  [],
+  ◌∷◌,
+  ◌++◌,
+  length,
+  map,
+  drop,
+  get_or,
+  append_assoc,
+  append-nil,
+}
 use Rattle.std.proofs.lemmas.List.{drop_more}
 use Rattle.cyc_tree.specs.Tree as tree
 use Rattle.cyc_tree.specs.Tree.{BlockItems, Declaration, Declare, Execute}
@@ -10,13 +34,18 @@ use Rattle.source_meaning.specs.Steps.{World}
 use Rattle.core_meaning.specs.Core as core
 use Rattle.source_lowering.specs.Lowered.{Named}
 use Rattle.source_lowering.specs.Programs.{
+  RegionsAround,
   block_shapes,
   declaration_code,
   declaration_values,
+  ending_code,
   item_values,
   items_code,
+  leaving_code,
   local_shape,
   named_here,
+  regions_behind,
+  regions_with,
   statement_code,
   statement_values,
 }
@@ -35,43 +64,98 @@ same_name a b s t i j names name_is shape_is index_is =
     ∙ ap (λ (x : ℕ). named_here b t x ∷ names) index_is
 
 -- what is left goes behind what is appended
-behind : {A : Type 0} → (before here rest after rest_after all : List A) → after ≡ before ++ here → rest_after ≡ rest → before ++ (here ++ rest) ≡ all
+pub behind : {A : Type 0} → (before here rest after rest_after all : List A) → after ≡ before ++ here → rest_after ≡ rest → before ++ (here ++ rest) ≡ all
     → after ++ rest_after ≡ all
 behind before here rest after rest_after all after_is rest_is is =
     ap (λ x. x ++ rest_after) after_is ∙ ap (λ x. (before ++ here) ++ x) rest_is ∙ append_assoc before here rest ∙ is
 
-module _ (w : World) (result : Shape) (names more : List Named) (index next : ℕ) where
-  moved_code : (own number : ℕ) (others : BlockItems) → more ≡ names → next ≡ index → number ≡ own
-      → items_code w result more next number others ≡ items_code w result names index own others
-  moved_code own number others names_is next_is number_is =
-      ap (λ (x : List Named). items_code w result x next number others) names_is ∙ ap (λ (x : ℕ). items_code w result names x number others) next_is
-      ∙ ap (λ (x : ℕ). items_code w result names index x others) number_is
+-- ---- the regions that the items opened so far
+
+-- the innermost region is freed first
+pub freed_one : (all count less fewer : ℕ) → all ≡ suc less → count ≡ suc fewer
+    → leaving_code all count ≡ core.Do (core.RegionFree less) ∷ leaving_code less fewer
+freed_one all count less fewer all_is count_is = ap (λ (n : ℕ). leaving_code n count) all_is ∙ ap (leaving_code (suc less)) count_is
+
+ended : (d : Declaration) (all first : ℕ) → first ≤ all
+    → leaving_code (regions_behind d all) (regions_behind d all - first) ≡ ending_code d all ++ leaving_code all (all - first)
+ended (tree.Local of name initializer) all first within = refl
+ended (tree.Region at region handle) all first within =
+    let more : suc all - first ≡ suc (all - first) = omega (arith, within) in
+    ap (leaving_code (suc all)) more
+ended (tree.Open at region handle key) all first within = refl
+ended (tree.Alias at region of alias pointer) all first within = refl
+ended (tree.NewKey at region key) all first within = refl
+
+behind_within : (d : Declaration) (all first : ℕ) → first ≤ all → first ≤ regions_behind d all
+behind_within (tree.Local of name initializer) all first within = within
+behind_within (tree.Region at region handle) all first within = omega (arith, within)
+behind_within (tree.Open at region handle key) all first within = within
+behind_within (tree.Alias at region of alias pointer) all first within = within
+behind_within (tree.NewKey at region key) all first within = within
+
+pub declared_within : (d : Declaration) (h inside : RegionsAround) (first : ℕ) → inside ≡ regions_with d h → first ≤ h.all → first ≤ inside.all
+declared_within d h inside first is within = subst (λ (r : RegionsAround). first ≤ r.all) (sym is) (behind_within d h.all first within)
+
+-- the code of items, and what frees the regions in scope down to so many
+abbrev pub ending_items : World → Shape → List Named → RegionsAround → (first index own : ℕ) → BlockItems → List core.Statement
+ending_items w result names h first index own items = items_code w result names h index own items ++ leaving_code h.all (h.all - first)
+
+-- before the first of them none was opened
+pub none_opened : (w : World) (result : Shape) (names : List Named) (h : RegionsAround) (index own : ℕ) (items : BlockItems)
+    → ending_items w result names h h.all index own items ≡ items_code w result names h index own items
+none_opened w result names h index own items =
+    let none : h.all - h.all ≡ 0 = omega arith in
+    ap (λ (n : ℕ). items_code w result names h index own items ++ leaving_code h.all n) none ∙ append-nil (items_code w result names h index own items)
+
+module _ (w : World) (result : Shape) (names more : List Named) (h inside : RegionsAround) (first index next : ℕ) where
+  moved_code : (own number : ℕ) (others : BlockItems) → more ≡ names → inside ≡ h → next ≡ index → number ≡ own
+      → ending_items w result more inside first next number others ≡ ending_items w result names h first index own others
+  moved_code own number others names_is regions_are next_is number_is =
+      ap (λ (x : List Named). ending_items w result x inside first next number others) names_is
+      ∙ ap (λ (x : RegionsAround). ending_items w result names x first next number others) regions_are
+      ∙ ap (λ (x : ℕ). ending_items w result names h first x number others) next_is
+      ∙ ap (λ (x : ℕ). ending_items w result names h first index x others) number_is
 
   moved_values : (others : BlockItems) → more ≡ names → next ≡ index → item_values w more next others ≡ item_values w names index others
   moved_values others names_is next_is =
       ap (λ (x : List Named). item_values w x next others) names_is ∙ ap (λ (x : ℕ). item_values w names x others) next_is
 
--- an item after which others are left, among more names, from another number on
-module _ (w : World) (result : Shape) (names more : List Named) (index next own number : ℕ) (others left : BlockItems) where
+-- a declaration, and all behind it
+declared_items : (w : World) (result : Shape) (names : List Named) (h : RegionsAround) (first index own : ℕ) (d : Declaration) (others : BlockItems)
+    → first ≤ h.all → ending_items w result names h first index own (Declare d others)
+    ≡ declaration_code w names d h.all index own ++
+    ending_items w result (named_here (tree.local_of d).text (local_shape d) index ∷ names) (regions_with d h) first (suc index)
+    (own + length (declaration_values w names d)) others
+declared_items w result names h first index own d others within =
+    let inside = items_code w result (named_here (tree.local_of d).text (local_shape d) index ∷ names) (regions_with d h) (suc index)
+    (own + length (declaration_values w names d)) others in
+    append_assoc (declaration_code w names d h.all index own) (inside ++ ending_code d h.all) (leaving_code h.all (h.all - first))
+    ∙ ap (λ (x : List core.Statement). declaration_code w names d h.all index own ++ x)
+    (append_assoc inside (ending_code d h.all) (leaving_code h.all (h.all - first))
+    ∙ ap (λ (x : List core.Statement). inside ++ x) (sym (ended d h.all first within)))
+
+-- an item after which others are left, among more names and regions, from another number on
+module _ (w : World) (result : Shape) (names more : List Named) (h inside : RegionsAround) (first index next own number : ℕ) (others left : BlockItems) where
   module _ (d : Declaration) (names_are : more ≡ named_here (tree.local_of d).text (local_shape d) index ∷ names) (next_is : next ≡ suc index)
       (left_is : left ≡ Declare d others) where
-    pub code_declared : (before after all : List core.Statement) → number ≡ own + length (declaration_values w names d)
-        → after ≡ before ++ declaration_code w names d index own → before ++ items_code w result names index own left ≡ all
-        → after ++ items_code w result more next number others ≡ all
-    code_declared before after all number_is after_is is =
+    pub code_declared : (before after all : List core.Statement) → inside ≡ regions_with d h → first ≤ h.all
+        → number ≡ own + length (declaration_values w names d) → after ≡ before ++ declaration_code w names d h.all index own
+        → before ++ ending_items w result names h first index own left ≡ all → after ++ ending_items w result more inside first next number others ≡ all
+    code_declared before after all regions_are within number_is after_is is =
         let inner = named_here (tree.local_of d).text (local_shape d) index ∷ names in
         let further = own + length (declaration_values w names d) in
-        behind before (declaration_code w names d index own) (items_code w result inner (suc index) further others) after
-        (items_code w result more next number others) all after_is
-        (moved_code w result inner more (suc index) next further number others names_are next_is number_is)
-        (ap (λ (x : BlockItems). before ++ items_code w result names index own x) (sym left_is) ∙ is)
+        behind before (declaration_code w names d h.all index own) (ending_items w result inner (regions_with d h) first (suc index) further others) after
+        (ending_items w result more inside first next number others) all after_is
+        (moved_code w result inner more (regions_with d h) inside first (suc index) next further number others names_are regions_are next_is number_is)
+        (ap (λ (x : List core.Statement). before ++ x) (sym (declared_items w result names h first index own d others within))
+        ∙ ap (λ (x : BlockItems). before ++ ending_items w result names h first index own x) (sym left_is) ∙ is)
 
     pub values_declared : (before after all : List Shape) → after ≡ before ++ declaration_values w names d
         → before ++ item_values w names index left ≡ all → after ++ item_values w more next others ≡ all
     values_declared before after all after_is is =
         let inner = named_here (tree.local_of d).text (local_shape d) index ∷ names in
         behind before (declaration_values w names d) (item_values w inner (suc index) others) after (item_values w more next others) all after_is
-        (moved_values w result inner more (suc index) next others names_are next_is)
+        (moved_values w result inner more h inside first (suc index) next others names_are next_is)
         (ap (λ (x : BlockItems). before ++ item_values w names index x) (sym left_is) ∙ is)
 
     pub shapes_declared : (before after all : List Shape) (s : Shape) → after ≡ before ++ s ∷ [] → s ≡ local_shape d
@@ -81,18 +165,21 @@ module _ (w : World) (result : Shape) (names more : List Named) (index next own 
         ∙ append_assoc before (local_shape d ∷ []) (block_shapes others) ∙ ap (λ (x : BlockItems). before ++ block_shapes x) (sym left_is) ∙ is
 
   module _ (s : tree.Statement) (names_are : more ≡ names) (next_is : next ≡ index) (left_is : left ≡ Execute s others) where
-    pub code_executed : (before after all : List core.Statement) → number ≡ own + length (statement_values w names s)
-        → after ≡ before ++ statement_code w result names own s → before ++ items_code w result names index own left ≡ all
-        → after ++ items_code w result more next number others ≡ all
-    code_executed before after all number_is after_is is =
+    pub code_executed : (before after all : List core.Statement) → inside ≡ h → number ≡ own + length (statement_values w names s)
+        → after ≡ before ++ statement_code w result names h own s → before ++ ending_items w result names h first index own left ≡ all
+        → after ++ ending_items w result more inside first next number others ≡ all
+    code_executed before after all regions_are number_is after_is is =
         let further = own + length (statement_values w names s) in
-        behind before (statement_code w result names own s) (items_code w result names index further others) after
-        (items_code w result more next number others) all after_is (moved_code w result names more index next further number others names_are next_is number_is)
-        (ap (λ (x : BlockItems). before ++ items_code w result names index own x) (sym left_is) ∙ is)
+        let rest = items_code w result names h index further others in
+        behind before (statement_code w result names h own s) (ending_items w result names h first index further others) after
+        (ending_items w result more inside first next number others) all after_is
+        (moved_code w result names more h inside first index next further number others names_are regions_are next_is number_is)
+        (ap (λ (x : List core.Statement). before ++ x) (sym (append_assoc (statement_code w result names h own s) rest (leaving_code h.all (h.all - first))))
+        ∙ ap (λ (x : BlockItems). before ++ ending_items w result names h first index own x) (sym left_is) ∙ is)
 
     pub values_executed : (before after all : List Shape) → after ≡ before ++ statement_values w names s
         → before ++ item_values w names index left ≡ all → after ++ item_values w more next others ≡ all
     values_executed before after all after_is is =
         behind before (statement_values w names s) (item_values w names index others) after (item_values w more next others) all after_is
-        (moved_values w result names more index next others names_are next_is)
+        (moved_values w result names more h inside first index next others names_are next_is)
         (ap (λ (x : BlockItems). before ++ item_values w names index x) (sym left_is) ∙ is)

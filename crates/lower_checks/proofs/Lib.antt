@@ -1,6 +1,5 @@
 mod Arguments
 mod Bodies
-mod Dropped
 mod Items
 mod Linking
 mod Lists
@@ -9,6 +8,7 @@ mod Parts
 mod Pointers
 mod Promised
 mod Reaching
+mod Remaining
 mod StructLayouts
 mod Structs
 mod Tables

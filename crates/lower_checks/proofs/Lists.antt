@@ -34,16 +34,27 @@ pub block_of :
     after ≡ before ++ Block locals (statements_of body) ∷ [] → after ≡ before ++ Block locals (all_of body) ∷ []
 block_of after before locals body is = is ∙ ap (λ (x : Statements). before ++ Block locals x ∷ []) (all_is body)
 
--- a choice after its condition
+-- a choice after its condition, whose value is in a temporary
 pub choice_of :
-    (before tested after condition these those body otherwise code : List Statement) → tested ≡ before ++ condition → these ≡ body →
-    those ≡ otherwise → code ≡ condition ++ (If 0 (all_of body) (all_of otherwise) ∷ []) →
-    after ≡ tested ++ If 0 (all_of these) (all_of those) ∷ [] → after ≡ before ++ code
-choice_of before tested after condition these those body otherwise code tested_is these_is those_is code_is is =
-    is ∙ ap (λ (ss : List Statement). ss ++ If 0 (all_of these) (all_of those) ∷ []) tested_is
-    ∙ append_assoc before condition (If 0 (all_of these) (all_of those) ∷ [])
-    ∙ ap (λ (ss : List Statement). before ++ (condition ++ (If 0 (all_of ss) (all_of those) ∷ []))) these_is
-    ∙ ap (λ (ss : List Statement). before ++ (condition ++ (If 0 (all_of body) (all_of ss) ∷ []))) those_is
+    (before tested after condition these those body otherwise code : List Statement) (to d : ℕ) → to ≡ d → tested ≡ before ++ condition → these ≡ body →
+    those ≡ otherwise → code ≡ condition ++ (If d (all_of body) (all_of otherwise) ∷ []) →
+    after ≡ tested ++ If to (all_of these) (all_of those) ∷ [] → after ≡ before ++ code
+choice_of before tested after condition these those body otherwise code to d to_is tested_is these_is those_is code_is is =
+    is ∙ ap (λ (ss : List Statement). ss ++ If to (all_of these) (all_of those) ∷ []) tested_is
+    ∙ append_assoc before condition (If to (all_of these) (all_of those) ∷ [])
+    ∙ ap (λ (n : ℕ). before ++ (condition ++ (If n (all_of these) (all_of those) ∷ []))) to_is
+    ∙ ap (λ (ss : List Statement). before ++ (condition ++ (If d (all_of ss) (all_of those) ∷ []))) these_is
+    ∙ ap (λ (ss : List Statement). before ++ (condition ++ (If d (all_of body) (all_of ss) ∷ []))) those_is
+    ∙ ap (λ (ss : List Statement). before ++ ss) (sym code_is)
+
+-- a loop, from its condition and its turn
+pub loop_of :
+    (before after test turn condition body code : List Statement) (to d : ℕ) → to ≡ d → test ≡ condition → turn ≡ body →
+    code ≡ While (all_of condition) d (all_of body) ∷ [] → after ≡ before ++ While (all_of test) to (all_of turn) ∷ [] → after ≡ before ++ code
+loop_of before after test turn condition body code to d to_is test_is turn_is code_is is =
+    is ∙ ap (λ (n : ℕ). before ++ While (all_of test) n (all_of turn) ∷ []) to_is
+    ∙ ap (λ (ss : List Statement). before ++ While (all_of ss) d (all_of turn) ∷ []) test_is
+    ∙ ap (λ (ss : List Statement). before ++ While (all_of condition) d (all_of ss) ∷ []) turn_is
     ∙ ap (λ (ss : List Statement). before ++ ss) (sym code_is)
 
 -- code after code

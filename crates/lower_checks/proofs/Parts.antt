@@ -1,53 +1,82 @@
--- The code of an expression from that of its parts, by the names that a function has for these.
-use Rattle.std.proofs.Common.{◌≡◌, ◌∙◌, ℕ, ◌+◌, sym, ap, List, [], ◌∷◌, ◌++◌}
-use Rattle.cyc_tree.specs.Tree.{Expression, Expressions, Links}
-use Rattle.source_meaning.specs.Shapes.{Shape, pointee}
+-- The code of an expression from that of its parts, by the names that a function has for these, and by the number of the next unnamed value.
+use Rattle.std.proofs.Common.{◌≡◌, ◌∙◌, ℕ, ◌+◌, sym, ap, List, ◌∷◌, ◌++◌, length, append_assoc}
+use Rattle.cyc_tree.specs.Tree.{Expression, Expressions, Links, Made}
+use Rattle.source_meaning.specs.Shapes.{Shape}
 use Rattle.source_meaning.specs.Steps.{World}
-use Rattle.source_lowering.specs.Lowered.{Named, all_code, any_code, check_code, conversion_code, distance, expression_code, links_code, put_code, static_shape, store_code, truth_code, width_of, word_code}
-use Rattle.core_meaning.specs.Core.{Distance, Do, Store}
+use Rattle.source_lowering.specs.Lowered.{
+  Named,
+  all_code,
+  any_code,
+  conversion_code,
+  expression_code,
+  expression_values,
+  links_code,
+  new_code,
+  put_code,
+  static_shape,
+  truth_code,
+  word_code,
+}
 
-module _ (w : World) (names : List Named) (d : ℕ) (e : Expression) where
-  pub chain_code : (first a : Expression) (others b : Links) (s : Shape) → e ≡ Expression.Chain first others → a ≡ first → b ≡ others
-      → s ≡ static_shape w names a → expression_code w names e d ≡ expression_code w names a d ++ links_code w names b s d
-  chain_code first a others b s e_is a_is b_is s_is =
-      ap (λ x. expression_code w names x d) e_is
-      ∙ ap (λ x. expression_code w names x d ++ links_code w names others (static_shape w names x) d) (sym a_is)
-      ∙ ap (λ x. expression_code w names a d ++ links_code w names x (static_shape w names a) d) (sym b_is)
-      ∙ ap (λ x. expression_code w names a d ++ links_code w names b x d) (sym s_is)
+module _ (w : World) (names : List Named) (d own : ℕ) (e : Expression) where
+  pub chain_code : (first a : Expression) (others b : Links) (s : Shape) (n : ℕ) → e ≡ Expression.Chain first others → a ≡ first → b ≡ others
+      → s ≡ static_shape w names a → n ≡ own + length (expression_values w names a)
+      → expression_code w names e d own ≡ expression_code w names a d own ++ links_code w names b s d n
+  chain_code first a others b s n e_is a_is b_is s_is n_is =
+      ap (λ x. expression_code w names x d own) e_is
+      ∙ ap (λ x. expression_code w names x d own ++ links_code w names others (static_shape w names x) d (own + length (expression_values w names x)))
+      (sym a_is)
+      ∙ ap (λ x. expression_code w names a d own ++ links_code w names x (static_shape w names a) d (own + length (expression_values w names a))) (sym b_is)
+      ∙ ap (λ x. expression_code w names a d own ++ links_code w names b x d (own + length (expression_values w names a))) (sym s_is)
+      ∙ ap (λ x. expression_code w names a d own ++ links_code w names b s d x) (sym n_is)
 
-  pub all_of_code : (first a : Expression) (others b : Expressions) (s : Shape) → e ≡ Expression.AllOf first others → a ≡ first → b ≡ others
-      → s ≡ static_shape w names a
-      → expression_code w names e d ≡ (expression_code w names a d ++ word_code s d) ++ (all_code w names b d ++ truth_code d)
-  all_of_code first a others b s e_is a_is b_is s_is =
-      ap (λ x. expression_code w names x d) e_is
-      ∙ ap (λ x. (expression_code w names x d ++ word_code (static_shape w names x) d) ++ (all_code w names others d ++ truth_code d)) (sym a_is)
-      ∙ ap (λ x. (expression_code w names a d ++ word_code (static_shape w names a) d) ++ (all_code w names x d ++ truth_code d)) (sym b_is)
-      ∙ ap (λ x. (expression_code w names a d ++ word_code x d) ++ (all_code w names b d ++ truth_code d)) (sym s_is)
+  pub all_of_code : (first a : Expression) (others b : Expressions) (s : Shape) (n : ℕ) → e ≡ Expression.AllOf first others → a ≡ first
+      → b ≡ others → s ≡ static_shape w names a → n ≡ own + length (expression_values w names a)
+      → expression_code w names e d own ≡ expression_code w names a d own ++ (word_code s d ++ (all_code w names b d n ++ truth_code d))
+  all_of_code first a others b s n e_is a_is b_is s_is n_is =
+      ap (λ x. expression_code w names x d own) e_is
+      ∙ append_assoc (expression_code w names first d own) (word_code (static_shape w names first) d)
+      (all_code w names others d (own + length (expression_values w names first)) ++ truth_code d)
+      ∙ ap (λ x. expression_code w names x d own ++
+      (word_code (static_shape w names x) d ++ (all_code w names others d (own + length (expression_values w names x)) ++ truth_code d))) (sym a_is)
+      ∙ ap (λ x. expression_code w names a d own ++
+      (word_code (static_shape w names a) d ++ (all_code w names x d (own + length (expression_values w names a)) ++ truth_code d))) (sym b_is)
+      ∙ ap (λ x. expression_code w names a d own ++ (word_code x d ++ (all_code w names b d (own + length (expression_values w names a)) ++ truth_code d)))
+      (sym s_is)
+      ∙ ap (λ x. expression_code w names a d own ++ (word_code s d ++ (all_code w names b d x ++ truth_code d))) (sym n_is)
 
-  pub any_of_code : (first a : Expression) (others b : Expressions) (s : Shape) → e ≡ Expression.AnyOf first others → a ≡ first → b ≡ others
-      → s ≡ static_shape w names a
-      → expression_code w names e d ≡ (expression_code w names a d ++ word_code s d) ++ (any_code w names b d ++ truth_code d)
-  any_of_code first a others b s e_is a_is b_is s_is =
-      ap (λ x. expression_code w names x d) e_is
-      ∙ ap (λ x. (expression_code w names x d ++ word_code (static_shape w names x) d) ++ (any_code w names others d ++ truth_code d)) (sym a_is)
-      ∙ ap (λ x. (expression_code w names a d ++ word_code (static_shape w names a) d) ++ (any_code w names x d ++ truth_code d)) (sym b_is)
-      ∙ ap (λ x. (expression_code w names a d ++ word_code x d) ++ (any_code w names b d ++ truth_code d)) (sym s_is)
+  pub any_of_code : (first a : Expression) (others b : Expressions) (s : Shape) (n : ℕ) → e ≡ Expression.AnyOf first others → a ≡ first
+      → b ≡ others → s ≡ static_shape w names a → n ≡ own + length (expression_values w names a)
+      → expression_code w names e d own ≡ expression_code w names a d own ++ (word_code s d ++ (any_code w names b d n ++ truth_code d))
+  any_of_code first a others b s n e_is a_is b_is s_is n_is =
+      ap (λ x. expression_code w names x d own) e_is
+      ∙ append_assoc (expression_code w names first d own) (word_code (static_shape w names first) d)
+      (any_code w names others d (own + length (expression_values w names first)) ++ truth_code d)
+      ∙ ap (λ x. expression_code w names x d own ++
+      (word_code (static_shape w names x) d ++ (any_code w names others d (own + length (expression_values w names x)) ++ truth_code d))) (sym a_is)
+      ∙ ap (λ x. expression_code w names a d own ++
+      (word_code (static_shape w names a) d ++ (any_code w names x d (own + length (expression_values w names a)) ++ truth_code d))) (sym b_is)
+      ∙ ap (λ x. expression_code w names a d own ++ (word_code x d ++ (any_code w names b d (own + length (expression_values w names a)) ++ truth_code d)))
+      (sym s_is)
+      ∙ ap (λ x. expression_code w names a d own ++ (word_code s d ++ (any_code w names b d x ++ truth_code d))) (sym n_is)
 
-  pub assign_code : (place a value b : Expression) (s from : Shape) → e ≡ Expression.Assign place value → a ≡ place → b ≡ value
-      → s ≡ static_shape w names a → from ≡ static_shape w names b
-      → expression_code w names e d ≡ expression_code w names b d ++ (conversion_code s from d ++ put_code w names a d)
-  assign_code place a value b s from e_is a_is b_is s_is from_is =
-      ap (λ x. expression_code w names x d) e_is
-      ∙ ap (λ x. expression_code w names value d ++ (conversion_code (static_shape w names x) (static_shape w names value) d ++ put_code w names x d)) (sym a_is)
-      ∙ ap (λ x. expression_code w names x d ++ (conversion_code (static_shape w names a) (static_shape w names x) d ++ put_code w names a d)) (sym b_is)
-      ∙ ap (λ x. expression_code w names b d ++ (conversion_code x (static_shape w names b) d ++ put_code w names a d)) (sym s_is)
-      ∙ ap (λ x. expression_code w names b d ++ (conversion_code s x d ++ put_code w names a d)) (sym from_is)
+  pub assign_code : (place a value b : Expression) (from : Shape) (n : ℕ) → e ≡ Expression.Assign place value → a ≡ place → b ≡ value
+      → from ≡ static_shape w names b → n ≡ own + length (expression_values w names b)
+      → expression_code w names e d own
+      ≡ expression_code w names b d own ++ (conversion_code (static_shape w names a) from d ++ put_code w names a d n)
+  assign_code place a value b from n e_is a_is b_is from_is n_is =
+      ap (λ x. expression_code w names x d own) e_is
+      ∙ ap (λ x. expression_code w names value d own ++ (conversion_code (static_shape w names x) (static_shape w names value) d ++
+      put_code w names x d (own + length (expression_values w names value)))) (sym a_is)
+      ∙ ap (λ x. expression_code w names x d own ++ (conversion_code (static_shape w names a) (static_shape w names x) d ++
+      put_code w names a d (own + length (expression_values w names x)))) (sym b_is)
+      ∙ ap (λ x. expression_code w names b d own ++ (conversion_code (static_shape w names a) x d ++
+      put_code w names a d (own + length (expression_values w names b)))) (sym from_is)
+      ∙ ap (λ x. expression_code w names b d own ++ (conversion_code (static_shape w names a) from d ++ put_code w names a d x)) (sym n_is)
 
-  -- a value is stored where a pointer leads
-  pub through_code : (n : ℕ) (to : Distance) → n ≡ d + 1 → to ≡ distance 0 0 (width_of (pointee (static_shape w names e)))
-      → (expression_code w names e (d + 1) ++ check_code (static_shape w names e) (d + 1)) ++ store_code (pointee (static_shape w names e)) d
-      ≡ (expression_code w names e n ++ check_code (static_shape w names e) n) ++ Do (Store n to d) ∷ []
-  through_code n to n_is to_is =
-      ap (λ m. (expression_code w names e m ++ check_code (static_shape w names e) m) ++
-      Do (Store m (distance 0 0 (width_of (pointee (static_shape w names e)))) d) ∷ []) (sym n_is)
-      ∙ ap (λ x. (expression_code w names e n ++ check_code (static_shape w names e) n) ++ Do (Store n x d) ∷ []) (sym to_is)
+  pub new_in_code : (at : ℕ) (handle a : Expression) (new : Made) (n : ℕ) → e ≡ Expression.NewIn at handle new → a ≡ handle
+      → n ≡ own + length (expression_values w names a) → expression_code w names e d own ≡ expression_code w names a d own ++ new_code w names new d n
+  new_in_code at handle a new n e_is a_is n_is =
+      ap (λ x. expression_code w names x d own) e_is
+      ∙ ap (λ x. expression_code w names x d own ++ new_code w names new d (own + length (expression_values w names x))) (sym a_is)
+      ∙ ap (λ x. expression_code w names a d own ++ new_code w names new d x) (sym n_is)

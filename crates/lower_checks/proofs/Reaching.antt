@@ -1,7 +1,7 @@
 -- A member that the code reaches is the one by the definition.
 use Rattle.std.proofs.Common.{◌≡◌, ◌∙◌, ℕ, ◌+◌, refl, ap, subst, Bool, true, false, List, [], ◌∷◌, ◌++◌, if◌then◌else◌}
 use Rattle.std.specs.Prelude.{bytes_eq}
-use Rattle.source_meaning.specs.Shapes.{Shape, Part, Layout, has_tag, parts_of, part_shape}
+use Rattle.source_meaning.specs.Shapes.{Shape, VoidShape, Part, Layout, has_tag, parts_of, part_shape}
 use Rattle.source_lowering.specs.Lowerable.{IsObject}
 use Rattle.source_meaning.specs.Sizes.{cells_before}
 use Rattle.source_meaning.specs.Steps.{World}
@@ -11,7 +11,7 @@ use Rattle.source_lowering.specs.Layouts.{bytes_before, extent_of}
 use Rattle.source_lowering.specs.Lowered.{Left, distance, width_of, member_at, member_shape}
 use Rattle.core_meaning.specs.Core.{Statement, Do, Load}
 use Rattle.lower_checks.specs.Reaching.{reached_left}
-use Rattle.lower_checks.specs.Views.{target_shape}
+use Rattle.lower_checks.specs.Views.{shape_tree}
 use Rattle.lower_checks.specs.declared.member.Reached.{Reached}
 
 -- what lies so far on
@@ -25,7 +25,7 @@ left_at s pointer cells bytes d = record {
 }
 
 pub reached_is : (w : World) (s : Shape) (pointer : List Statement) (cells bytes : ℕ) (f : List ℕ) (d : ℕ) (r : Reached)
-    → target_shape r.of ≡ member_shape w s f → r.cells ≡ cells + cells_before (cells_of w) (struct_parts w s) f
+    → shape_tree r.shape ≡ member_shape w s f → r.cells ≡ cells + cells_before (cells_of w) (struct_parts w s) f
     → r.bytes ≡ bytes + bytes_before (extent_of w) 0 (struct_parts w s) f → reached_left pointer r d ≡ member_at w s pointer cells bytes f d
 reached_is w s pointer cells bytes f d r shape_is cells_is bytes_is =
     let more_cells = cells + cells_before (cells_of w) (struct_parts w s) f in
@@ -42,6 +42,9 @@ no_parts_if own other has false more none = more none
 no_parts : (structs : List Layout) (tag : List ℕ) → has_tag structs tag ≡ false → parts_of structs tag ≡ []
 no_parts [] tag none = refl
 no_parts (l ∷ ls) tag none = no_parts_if l.parts (parts_of ls tag) (has_tag ls tag) (bytes_eq l.tag tag) (no_parts ls tag) none
+
+pub no_member : (structs : List Layout) (tag f : List ℕ) → has_tag structs tag ≡ false → part_shape (parts_of structs tag) f ≡ VoidShape
+no_member structs tag f none = ap (λ (ps : List Part). part_shape ps f) (no_parts structs tag none)
 
 pub no_members : (structs : List Layout) (tag f : List ℕ) → has_tag structs tag ≡ false → IsObject structs (part_shape (parts_of structs tag) f) → ⊥
 no_members structs tag f none h = subst (λ (ps : List Part). IsObject structs (part_shape ps f)) (no_parts structs tag none) h

@@ -49,7 +49,7 @@ shape_same w at next CharShape c is = let c_is : c ≡ cell.Byte = cc is in ap (
 shape_same w at next VoidShape c is = absurd cc is
 shape_same w at next (ThinShape n o t) c is = let c_is : c ≡ cell.Pointer = cc is in ap (made_parts at next) c_is ∙ parts_same at 4 next Null
 shape_same w at next (FatShape t) c is = absurd cc is
-shape_same w at next HandleShape c is = absurd cc is
+shape_same w at next HandleShape c is = let c_is : c ≡ cell.Handle = cc is in ap (made_parts at next) c_is ∙ parts_same at 4 next Blank
 shape_same w at next KeyShape c is = absurd cc is
 shape_same w at next (StructShape tag) c is = absurd cc is
 shape_same w at next (UnionShape tag) c is = absurd cc is

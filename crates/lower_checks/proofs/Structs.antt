@@ -103,7 +103,7 @@ module _ (table : Structs) (structs : List Layout) (knows : Knows table structs)
   room_same unions VoidShape laid = absurd cc laid
   room_same unions (ThinShape n o t) laid = refl
   room_same unions (FatShape t) laid = absurd cc laid
-  room_same unions HandleShape laid = absurd cc laid
+  room_same unions HandleShape laid = refl
   room_same unions KeyShape laid = absurd cc laid
   room_same unions (StructShape tag) laid = found_room structs unions tag (struct_in table tag) (knows.knows tag) laid
   room_same unions (UnionShape tag) laid = absurd cc laid
@@ -116,7 +116,7 @@ module _ (table : Structs) (structs : List Layout) (knows : Knows table structs)
   cells_same unions VoidShape laid = absurd cc laid
   cells_same unions (ThinShape n o t) laid = refl
   cells_same unions (FatShape t) laid = absurd cc laid
-  cells_same unions HandleShape laid = absurd cc laid
+  cells_same unions HandleShape laid = refl
   cells_same unions KeyShape laid = absurd cc laid
   cells_same unions (StructShape tag) laid = found_cells structs unions tag (struct_in table tag) (knows.knows tag) laid
   cells_same unions (UnionShape tag) laid = absurd cc laid
@@ -129,7 +129,7 @@ module _ (table : Structs) (structs : List Layout) (knows : Knows table structs)
   count_same VoidShape laid = absurd cc laid
   count_same (ThinShape n o t) laid = refl
   count_same (FatShape t) laid = absurd cc laid
-  count_same HandleShape laid = absurd cc laid
+  count_same HandleShape laid = refl
   count_same KeyShape laid = absurd cc laid
   count_same (StructShape tag) laid = found_count structs tag (struct_in table tag) (knows.knows tag) laid
   count_same (UnionShape tag) laid = absurd cc laid
@@ -160,7 +160,7 @@ module _ (table : Structs) (structs : List Layout) (knows : Knows table structs)
   object_laid VoidShape h = absurd h
   object_laid (ThinShape n o t) h = refl
   object_laid (FatShape t) h = absurd h
-  object_laid HandleShape h = absurd h
+  object_laid HandleShape h = refl
   object_laid KeyShape h = absurd h
   object_laid (StructShape tag) h = tag_found structs tag (struct_in table tag) (knows.knows tag) h
   object_laid (UnionShape tag) h = absurd h

@@ -9,7 +9,7 @@ use Rattle.source_meaning.specs.Programs.{source, world_of}
 use Rattle.core_meaning.specs.Core as core
 use Rattle.core_meaning.specs.Meaning as meaning
 use Rattle.source_lowering.specs.Agreeing.{SameOutcome, AreBytes}
-use Rattle.source_lowering.specs.Bounds.{core_bound, core_code, frame_bound}
+use Rattle.source_lowering.specs.Bounds.{core_bound, core_code, frame_bound, regions_left}
 
 -- no run of the source on an input is stuck
 abbrev pub IsNeverStuckOn : Program → List ℕ → Type 0
@@ -22,5 +22,5 @@ pub record IsLoweringOf (p : Program) (c : core.Program) : Type 0 where
   -- the frame of each of its functions is within the bound on that of the source's function of the same number
   pub frames : (number : ℕ) (f : Routine) (g : core.Function) → slice_get (world_of p).functions number ≡ Some f → slice_get c.functions number ≡ Some g
       → core_bound g ≤ frame_bound (world_of p) f
-  -- its code is within 4,096 bytes and 512 for each token, whatever tokens spell the program
-  pub code : (tokens : Tokens) → IsProgram p tokens → core_code c ≤ 4096 + 512 * length tokens
+  -- its code is within 4,096 bytes and 512 for each token, whatever tokens spell the program, and for each region that `return`, `break` or `continue` leaves
+  pub code : (tokens : Tokens) → IsProgram p tokens → core_code c ≤ 4096 + 512 * (length tokens + regions_left (world_of p).functions)

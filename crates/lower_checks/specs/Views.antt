@@ -1,5 +1,5 @@
 -- What contracts see of the shapes and names that the code has.
-use Rattle.std.specs.Prelude.{map}
+use Rattle.std.specs.Prelude.{ℕ, zero, suc, false, map}
 use Rattle.cyc_tree.specs.View.{base_tree, pointer_tree}
 use Rattle.source_meaning.specs.Shapes.{
   Shape,
@@ -23,12 +23,16 @@ use Rattle.source_meaning.specs.Shapes.{
 use Rattle.source_meaning.specs.Steps.{Entity, Variable}
 use Rattle.source_meaning.specs.Programs.{heap_spot}
 use Rattle.source_lowering.specs.Lowered as lowered
+use Rattle.source_lowering.specs.Programs as programs
 use Rattle.lower_checks.specs.declared.shape.Shape as code_shape
 use Rattle.lower_checks.specs.declared.shape.Shape.TheVariants as shape
 use Rattle.lower_checks.specs.declared.shape.Owner as code_owner
 use Rattle.lower_checks.specs.declared.shape.Owner.TheVariants as owner_is
-use Rattle.lower_checks.specs.declared.shape.Target as code_target
-use Rattle.lower_checks.specs.declared.shape.Target.TheVariants as target
+use Rattle.lower_checks.specs.declared.shape.Written as code_written
+use Rattle.lower_checks.specs.declared.shape.Written.TheVariants as written
+use Rattle.lower_checks.specs.declared.shape.Plain as code_plain
+use Rattle.lower_checks.specs.declared.shape.Plain.TheVariants as plain
+use Rattle.lower_checks.specs.declared.leaving.RegionsAround as code_regions
 use Rattle.lower_checks.specs.declared.names.Named as code_named
 use Rattle.lower_checks.specs.declared.table.Found as code_found
 
@@ -37,29 +41,50 @@ owner_tree owner_is.Shared = Shared
 owner_tree owner_is.Alone = Alone
 
 -- what a pointer leads to, as it is written
-abbrev pub target_tree : code_target.Target → Shape
-target_tree target.Nothing = VoidShape
-target_tree (target.Written pointers base) = pointed (map pointer_tree pointers.now) (base_shape (base_tree base.now))
+abbrev pub written_tree : code_written.Written → Shape
+written_tree written.Nothing = VoidShape
+written_tree (written.Pointed pointers base) = pointed (map pointer_tree pointers.now) (base_shape (base_tree base.now))
 
 -- the shape of what a pointer leads to
-abbrev pub target_shape : code_target.Target → Shape
-target_shape t = settled (target_tree t)
+abbrev pub written_shape : code_written.Written → Shape
+written_shape w = settled (written_tree w)
+
+abbrev pub plain_tree : code_plain.Plain → Shape
+plain_tree plain.Int = IntShape
+plain_tree plain.Unsigned = UnsignedShape
+plain_tree plain.Char = CharShape
+plain_tree plain.Void = VoidShape
+plain_tree (plain.Thin may_be_null owner to) = ThinShape may_be_null (owner_tree owner) (written_shape to)
+plain_tree (plain.Fat to) = FatShape (written_shape to)
+plain_tree plain.Handle = HandleShape
+plain_tree plain.Key = KeyShape
+plain_tree (plain.Struct tag) = StructShape tag.now
+plain_tree (plain.Union tag) = UnionShape tag.now
+
+-- so many pointers around a shape, each shared and never NULL
+abbrev pub addresses : ℕ → Shape → Shape
+addresses zero s = s
+addresses (suc n) s = ThinShape false Shared (addresses n s)
 
 abbrev pub shape_tree : code_shape.Shape → Shape
 shape_tree shape.Int = IntShape
 shape_tree shape.Unsigned = UnsignedShape
 shape_tree shape.Char = CharShape
 shape_tree shape.Void = VoidShape
-shape_tree (shape.Thin may_be_null owner to) = ThinShape may_be_null (owner_tree owner) (target_shape to)
-shape_tree (shape.Fat to) = FatShape (target_shape to)
+shape_tree (shape.Thin may_be_null owner to) = ThinShape may_be_null (owner_tree owner) (written_shape to)
+shape_tree (shape.Address pointers to) = ThinShape false Shared (addresses pointers (plain_tree to))
+shape_tree (shape.Fat to) = FatShape (written_shape to)
 shape_tree shape.Handle = HandleShape
 shape_tree shape.Key = KeyShape
 shape_tree (shape.Struct tag) = StructShape tag.now
 shape_tree (shape.Union tag) = UnionShape tag.now
 
 abbrev pub named_tree : code_named.Named → lowered.Named
-named_tree n = record { name = n.name.now; shape = target_shape n.of; out = n.out; index = n.index }
+named_tree n = record { name = n.name.now; shape = shape_tree n.shape; out = n.out; index = n.index }
 
--- a global by its type and its number
+-- a global by its shape and its number
 abbrev pub found_entity : code_found.Found → Entity
-found_entity g = Variable (target_shape g.of) (heap_spot g.object)
+found_entity g = Variable (shape_tree g.shape) (heap_spot g.object)
+
+abbrev pub regions_tree : code_regions.RegionsAround → programs.RegionsAround
+regions_tree r = record { all = r.all; inner = r.inner }

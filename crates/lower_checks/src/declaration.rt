@@ -1,6 +1,6 @@
 // Declarations of locals.
 
-ghost use Rattle.std.specs.Prelude.{◌≡◌, ◌∷◌, ◌++◌, [], List, IfOk, OnOk, length, map, if◌then◌else◌};
+ghost use Rattle.std.specs.Prelude.{◌≡◌, ◌+◌, ◌∷◌, ◌++◌, [], List, IfOk, OnOk, length, map, if◌then◌else◌};
 ghost use Rattle.core_meaning.specs.Core as core;
 ghost use Rattle.cyc_tree.specs.View.{type_tree, expression_tree, declaration_tree};
 ghost use Rattle.cyc_core.specs.Trees.{statement_tree};
@@ -10,34 +10,36 @@ ghost use Rattle.source_meaning.specs.Steps.{World};
 ghost use Rattle.source_lowering.specs.Lowered.{Named};
 ghost use Rattle.source_lowering.specs.Layouts.{layout_of};
 ghost use Rattle.source_lowering.specs.Programs.{declaration_code, declaration_values, initial_values, local_shape, source_code, unset_code, value_code};
-ghost use Rattle.source_lowering.specs.Whole.{is_made, whole_values};
+ghost use Rattle.source_lowering.specs.Whole.{expression_values, is_made, whole_values};
 ghost use Rattle.source_lowering.specs.Lowerable.{IsObject, IsObjectType, IsStructShape, TakesDeclaration, TakesValue, TakesWhole};
-ghost use Rattle.lower_checks.specs.Views.{shape_tree, target_shape};
+ghost use Rattle.lower_checks.specs.Views.{shape_tree};
 ghost use Rattle.lower_checks.specs.Visible.{names_of};
 ghost use Rattle.lower_checks.specs.Refusals.{NeverRefused};
 
 use crate::emit::{emit_clear, emit_copy, emit_operation};
-use crate::expression::{lower_expression, lower_place};
+use crate::expression::lower_expression;
 use crate::fault::LowerFault;
 use crate::locals::Locals;
-use crate::shape::{Shape, Target};
+use crate::names::after;
+use crate::objects::struct_layout;
+use crate::place::lower_place;
+use crate::shape::Shape;
+use crate::shaped::makes;
 use crate::table::Table;
 use crate::values::{first_value, lower_conversion};
-use crate::whole::{lower_whole, makes, struct_layout};
-use cyc_core::{Operation, Statement, Temporary, Variable};
+use crate::whole::lower_whole;
+use cyc_core::{Operation, Statement, Temporary, Variable, Width};
 use cyc_tree::{Declaration, Expression, Initializer, TypeName};
 use std::alloc::Global;
 
-/// The first temporary, which has what a local begins as, or a pointer to it.
-const VALUE: Temporary = Temporary(0);
-
-/// The type of a local as it is declared. Refuses a region, a key and an alias.
-pub fn declared_type<'p>(declaration: &'p Declaration) -> Result<Target<'p>, LowerFault>
-    ensures shape { IfOk result (λ of. target_shape of ≡ local_shape (declaration_tree declaration.entry.now)) }
+/// The shape of a local as it is declared. Refuses an opened region, a key and an alias.
+pub fn declared_shape<'p>(declaration: &'p Declaration) -> Result<Shape<'p>, LowerFault>
+    ensures shape { IfOk result (λ shape. shape_tree shape ≡ local_shape (declaration_tree declaration.entry.now)) }
     ensures taken { (w : World) (names : List Named) → TakesDeclaration w names (declaration_tree declaration.entry.now) → NeverRefused result }
 {
     match declaration {
-        Declaration::Local(of, _, _) => Ok(Target::of(of)),
+        Declaration::Local(of, _, _) => Ok(Shape::of(of)),
+        Declaration::Region(_, _, _) => Ok(Shape::Handle),
         _ => Err(LowerFault::NotTaken),
     }
 }
@@ -59,28 +61,29 @@ fn lower_unset(
     program: &Table<'_>,
     shape: Shape<'_>,
     body: &mut Vec<Statement>,
+    to: Temporary,
     index: u32,
 ) -> Result<(), LowerFault>
     ensures code { OnOk result
         (map statement_tree body.new.items ≡
-        map statement_tree body.old.items ++ unset_code (world_of program.now) (shape_tree shape.entry) index) }
+        map statement_tree body.old.items ++ unset_code (world_of program.now) (shape_tree shape.entry) to.0 index) }
     ensures taken { IsObject (world_of program.now).structs (shape_tree shape.entry) → NeverRefused result }
 {
     let local = Variable { out: 0, index };
     match shape {
         Shape::Struct(_) => {
             let layout = struct_layout(program, shape)?;
-            emit_operation(body, Operation::LocalAddress(VALUE, local))?;
-            emit_clear(body, VALUE, layout)
+            emit_operation(body, Operation::LocalAddress(to, local))?;
+            emit_clear(body, to, layout)
         }
         _ => {
-            emit_operation(body, first_value(shape))?;
-            emit_operation(body, Operation::Put(local, shape.width(), VALUE))
+            emit_operation(body, first_value(shape, to))?;
+            emit_operation(body, Operation::Put(local, shape.width(), to))
         }
     }
 }
 
-/// Appends what leaves a pointer to the struct that an initializer makes or names in the first temporary; appends the shapes of the
+/// Appends what leaves a pointer to the struct that an initializer makes or names in a temporary; appends the shapes of the
 /// unnamed values.
 fn lower_source<'p>(
     alloc: Global,
@@ -89,23 +92,25 @@ fn lower_source<'p>(
     value: &'p Expression,
     body: &mut Vec<Statement>,
     own: &mut Vec<Shape<'p>>,
+    to: Temporary,
 ) -> Result<(), LowerFault>
     ensures code { let w = world_of program.now in
         let e = expression_tree value.entry.now in
         OnOk result
         (map statement_tree body.new.items ≡
-        map statement_tree body.old.items ++ source_code w (names_of locals.now) (is_made w e) e (length own.old.items)) }
+        map statement_tree body.old.items ++ source_code w (names_of locals.now) (is_made w e) e to.0 (length own.old.items)) }
     ensures values { let w = world_of program.now in
         let e = expression_tree value.entry.now in
         OnOk result
         (map shape_tree own.new.items ≡
-        map shape_tree own.old.items ++ (if is_made w e then whole_values w (names_of locals.now) e else [])) }
+        map shape_tree own.old.items ++
+        (if is_made w e then whole_values w (names_of locals.now) e else expression_values w (names_of locals.now) e)) }
     ensures taken { TakesWhole (world_of program.now) (names_of locals.now) (expression_tree value.entry.now) → NeverRefused result }
 {
     if is_made(program, value) {
-        return lower_whole(alloc, program, locals, value, body, own, VALUE);
+        return lower_whole(alloc, program, locals, value, body, own, to);
     }
-    lower_place(alloc, program, locals, value, body, VALUE)?;
+    lower_place(alloc, program, locals, value, body, own, to)?;
     Ok(())
 }
 
@@ -119,6 +124,7 @@ fn lower_struct<'p>(
     value: &'p Expression,
     body: &mut Vec<Statement>,
     own: &mut Vec<Shape<'p>>,
+    to: Temporary,
     index: u32,
 ) -> Result<(), LowerFault>
     ensures code { let w = world_of program.now in
@@ -126,24 +132,25 @@ fn lower_struct<'p>(
         OnOk result
         (map statement_tree body.new.items ≡
         map statement_tree body.old.items ++
-        (source_code w (names_of locals.now) (is_made w e) e (length own.old.items) ++
-        (core.Do (core.LocalAddress 1 0 index) ∷ core.Do (core.Copy 1 0 (layout_of w (shape_tree shape.entry))) ∷ []))) }
+        (source_code w (names_of locals.now) (is_made w e) e to.0 (length own.old.items) ++
+        (core.Do (core.LocalAddress (to.0 + 1) 0 index) ∷ core.Do (core.Copy (to.0 + 1) to.0 (layout_of w (shape_tree shape.entry))) ∷ []))) }
     ensures values { let w = world_of program.now in
         let e = expression_tree value.entry.now in
         OnOk result
         (map shape_tree own.new.items ≡
-        map shape_tree own.old.items ++ (if is_made w e then whole_values w (names_of locals.now) e else [])) }
+        map shape_tree own.old.items ++
+        (if is_made w e then whole_values w (names_of locals.now) e else expression_values w (names_of locals.now) e)) }
     ensures taken { let w = world_of program.now in
         IsStructShape w.structs (shape_tree shape.entry) →
         TakesWhole w (names_of locals.now) (expression_tree value.entry.now) →
         NeverRefused result }
 {
-    lower_source(alloc, program, locals, value, body, own)?;
-    let to = Temporary(1);
+    lower_source(alloc, program, locals, value, body, own, to)?;
+    let at = Temporary(after(to.0)?);
     let layout = struct_layout(program, shape)?;
     let local = Variable { out: 0, index };
-    emit_operation(body, Operation::LocalAddress(to, local))?;
-    emit_copy(body, to, VALUE, layout)
+    emit_operation(body, Operation::LocalAddress(at, local))?;
+    emit_copy(body, at, to, layout)
 }
 
 /// Appends what gives the local of a number the value of its initializer, in its shape; appends the shapes of the unnamed values. Refuses a
@@ -156,13 +163,14 @@ fn lower_set<'p>(
     value: &'p Expression,
     body: &mut Vec<Statement>,
     own: &mut Vec<Shape<'p>>,
+    to: Temporary,
     index: u32,
 ) -> Result<(), LowerFault>
     ensures code { let e = expression_tree value.entry.now in
         OnOk result
         (map statement_tree body.new.items ≡
         map statement_tree body.old.items ++
-        value_code (world_of program.now) (names_of locals.now) (shape_tree shape.entry) e index (length own.old.items)) }
+        value_code (world_of program.now) (names_of locals.now) (shape_tree shape.entry) e to.0 index (length own.old.items)) }
     ensures values { let e = expression_tree value.entry.now in
         OnOk result
         (map shape_tree own.new.items ≡
@@ -173,12 +181,14 @@ fn lower_set<'p>(
         NeverRefused result }
 {
     match shape {
-        Shape::Struct(_) => { lower_struct(alloc, program, locals, shape, value, body, own, index) }
+        Shape::Struct(_) => {
+            lower_struct(alloc, program, locals, shape, value, body, own, to, index)
+        }
         _ => {
-            let from = lower_expression(alloc, program, locals, value, body, VALUE)?;
-            lower_conversion(alloc, body, shape, from, VALUE)?;
+            let from = lower_expression(alloc, program, locals, value, body, own, to)?;
+            lower_conversion(alloc, body, shape, from, to)?;
             let local = Variable { out: 0, index };
-            emit_operation(body, Operation::Put(local, shape.width(), VALUE))
+            emit_operation(body, Operation::Put(local, shape.width(), to))
         }
     }
 }
@@ -192,13 +202,14 @@ fn lower_initializer<'p>(
     value: &'p Expression,
     body: &mut Vec<Statement>,
     own: &mut Vec<Shape<'p>>,
+    to: Temporary,
     index: u32,
 ) -> Result<(), LowerFault>
     ensures code { let e = expression_tree value.entry.now in
         OnOk result
         (map statement_tree body.new.items ≡
         map statement_tree body.old.items ++
-        value_code (world_of program.now) (names_of locals.now) (settled (written (type_tree of.now))) e index (length own.old.items)) }
+        value_code (world_of program.now) (names_of locals.now) (settled (written (type_tree of.now))) e to.0 index (length own.old.items)) }
     ensures values { let e = expression_tree value.entry.now in
         OnOk result
         (map shape_tree own.new.items ≡
@@ -216,12 +227,25 @@ fn lower_initializer<'p>(
         value,
         body,
         own,
+        to,
         index,
     )
 }
 
-/// Appends what gives the local of a number its first value: that of its shape, or its initializer's value; appends the shapes of the
-/// unnamed values.
+/// Appends what makes a region, whose handle stays in a temporary and goes to the local of a number.
+fn lower_region(body: &mut Vec<Statement>, to: Temporary, index: u32) -> Result<(), LowerFault>
+    ensures code { OnOk result
+        (map statement_tree body.new.items ≡
+        map statement_tree body.old.items ++ (core.Do (core.RegionNew to.0) ∷ core.Do (core.Put 0 index 4 to.0) ∷ [])) }
+    ensures taken { NeverRefused result }
+{
+    let local = Variable { out: 0, index };
+    emit_operation(body, Operation::RegionNew(to))?;
+    emit_operation(body, Operation::Put(local, Width::Word, to))
+}
+
+/// Appends what gives the local of a number its first value: that of its shape, its initializer's value, or a new region's handle, which
+/// comes into a temporary; appends the shapes of the unnamed values.
 pub fn lower_declaration<'p>(
     alloc: Global,
     program: &Table<'p>,
@@ -229,26 +253,27 @@ pub fn lower_declaration<'p>(
     declaration: &'p Declaration,
     body: &mut Vec<Statement>,
     own: &mut Vec<Shape<'p>>,
+    to: Temporary,
     index: u32,
 ) -> Result<(), LowerFault>
     ensures code { OnOk result
         (map statement_tree body.new.items ≡
         map statement_tree body.old.items ++
-        declaration_code (world_of program.now) (names_of locals.now) (declaration_tree declaration.entry.now) index (length own.old.items)) }
+        declaration_code (world_of program.now) (names_of locals.now) (declaration_tree declaration.entry.now) to.0 index (length own.old.items)) }
     ensures values { OnOk result
         (map shape_tree own.new.items ≡
         map shape_tree own.old.items ++
         declaration_values (world_of program.now) (names_of locals.now) (declaration_tree declaration.entry.now)) }
     ensures taken { TakesDeclaration (world_of program.now) (names_of locals.now) (declaration_tree declaration.entry.now) → NeverRefused result }
 {
-    let Declaration::Local(of, _, initializer) = declaration else {
-        return Err(LowerFault::NotTaken);
-    };
-    match initializer {
-        Initializer::None => lower_unset(program, Shape::of(of), body, index),
-        Initializer::Array(_) => Err(LowerFault::NotTaken),
-        Initializer::Value(value) => lower_initializer(
-            alloc, program, locals, of, value, body, own, index,
+    match declaration {
+        Declaration::Local(of, _, Initializer::None) => {
+            lower_unset(program, Shape::of(of), body, to, index)
+        }
+        Declaration::Local(of, _, Initializer::Value(value)) => lower_initializer(
+            alloc, program, locals, of, value, body, own, to, index,
         ),
+        Declaration::Region(_, _, _) => lower_region(body, to, index),
+        _ => Err(LowerFault::NotTaken),
     }
 }

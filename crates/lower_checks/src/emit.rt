@@ -68,6 +68,23 @@ pub fn emit_clear(
     emit(body, Statement::Clear(pointer, layout))
 }
 
+/// Appends what asks for a block of as many objects of a layout as the third temporary says, in the region of the handle in the second,
+/// and leaves a pointer to it in the first.
+pub fn emit_alloc(
+    body: &mut Vec<Statement>,
+    to: Temporary,
+    handle: Temporary,
+    count: Temporary,
+    layout: Rc<Layout>,
+) -> Result<(), LowerFault>
+    ensures code { OnOk result
+        (map statement_tree body.new.items ≡
+        map statement_tree body.old.items ++ core.Do (core.RegionAlloc to.0 handle.0 count.0 (layout_tree layout.value)) ∷ []) }
+    ensures taken { NeverRefused result }
+{
+    emit(body, Statement::RegionAlloc(to, handle, count, layout))
+}
+
 // a choice, as the tree of its parts
 fn push_if(
     body: &mut Vec<Statement>,

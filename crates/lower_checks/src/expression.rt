@@ -1,51 +1,70 @@
 // Expressions.
 
-ghost use Rattle.std.specs.Prelude.{◌≡◌, ◌+◌, ◌++◌, IfOk, OnOk, map};
-ghost use Rattle.cyc_tree.specs.View.{expression_tree, suffix_tree, suffixes_of};
+ghost use Rattle.std.specs.Prelude.{◌≡◌, ◌+◌, ◌++◌, IfOk, OnOk, length, map};
+ghost use Rattle.cyc_tree.specs.View.{expression_tree, expressions_of};
 ghost use Rattle.cyc_core.specs.Trees.{statement_tree};
-ghost use Rattle.source_meaning.specs.Shapes.{pointee};
+ghost use Rattle.source_meaning.specs.Shapes.{IntShape};
 ghost use Rattle.source_meaning.specs.Programs.{world_of};
-ghost use Rattle.source_lowering.specs.Lowered.{static_shape, prefix_shape, put_code, place_code, check_code, prefix_code, left_of, suffixed_code, suffixed_shape, store_code, expression_code};
-ghost use Rattle.lower_checks.specs.Views.{shape_tree, target_shape};
-ghost use Rattle.lower_checks.specs.Reaching.{way_left};
-ghost use Rattle.lower_checks.specs.Visible.{names_of};
-ghost use Rattle.source_lowering.specs.Lowerable.{TakesPrefix, TakesPlace, TakesSuffixes, Takes};
+ghost use Rattle.source_lowering.specs.Lowered.{
+  all_code,
+  all_values,
+  any_code,
+  conversion_code,
+  expression_code,
+  expression_values,
+  place_code,
+  prefix_code,
+  prefix_shape,
+  put_code,
+  static_shape,
+  truth_code,
+  word_code,
+};
+ghost use Rattle.source_lowering.specs.Lowerable.{Takes, TakesAll, TakesPlace, TakesPrefix};
 ghost use Rattle.lower_checks.specs.Refusals.{NeverRefused};
+ghost use Rattle.lower_checks.specs.Views.{shape_tree};
+ghost use Rattle.lower_checks.specs.Visible.{names_of};
 
-use crate::emit::{append, emit_operation};
+use crate::emit::emit_operation;
 use crate::fault::LowerFault;
 use crate::locals::Locals;
-use crate::member::{Reached, Way, dot, follow, lower_pointed, lower_stored, lower_value};
+use crate::made::lower_new;
+use crate::member::lower_value;
 use crate::names::after;
 use crate::operands::{lower_all, lower_any, lower_called, lower_links};
 use crate::operator::operator_shape;
-use crate::shape::{Shape, Target};
-use crate::shaped::number_shape;
+use crate::place::{lower_place, lower_pointer, lower_put, lower_suffixed};
+use crate::shape::Shape;
+use crate::shaped::{number_shape, shape_of};
 use crate::table::Table;
-use crate::values::{
-    lower_check, lower_conversion, lower_not, lower_operator, lower_truth, lower_word,
-};
-use crate::variable::{lower_address, lower_get, lower_named};
+use crate::values::{lower_conversion, lower_not, lower_operator, lower_truth, lower_word};
+use crate::variable::lower_get;
 use cyc_core::{Distance, Operation, Statement, Temporary};
-use cyc_tree::{Expression, Operator, Prefix, Suffix};
+use cyc_tree::{Expression, Operator, Prefix};
 use std::alloc::Global;
 
-/// Appends what leaves an expression's value in a temporary, and gives the shape of its type. Refuses all other forms than numbers,
-/// `NULL`, variables, members, operators, assignments and calls.
+/// Appends what leaves an expression's value in a temporary, and gives the shape of its type; appends the shapes of its unnamed values.
+/// The next unnamed value's number is how many there are. Refuses strings, unions, arrays, unique pointers and structs.
 #[cycle(expression)]
 pub fn lower_expression<'p>(
     alloc: Global,
     program: &Table<'p>,
     locals: &Locals<'p>,
-    expression: &Expression,
+    expression: &'p Expression,
     body: &mut Vec<Statement>,
+    own: &mut Vec<Shape<'p>>,
     to: Temporary,
 ) -> Result<Shape<'p>, LowerFault>
     ensures code { OnOk result
         (map statement_tree body.new.items ≡
-        map statement_tree body.old.items ++ expression_code (world_of program.now) (names_of locals.now) (expression_tree expression.now) to.0) }
-    ensures shape { IfOk result (λ shape. shape_tree shape ≡ static_shape (world_of program.now) (names_of locals.now) (expression_tree expression.now)) }
-    ensures taken { Takes (world_of program.now) (names_of locals.now) (expression_tree expression.now) → NeverRefused result }
+        map statement_tree body.old.items ++
+        expression_code (world_of program.now) (names_of locals.now) (expression_tree expression.entry.now) to.0 (length own.old.items)) }
+    ensures values { OnOk result
+        (map shape_tree own.new.items ≡
+        map shape_tree own.old.items ++ expression_values (world_of program.now) (names_of locals.now) (expression_tree expression.entry.now)) }
+    ensures shape { IfOk result
+        (λ shape. shape_tree shape ≡ static_shape (world_of program.now) (names_of locals.now) (expression_tree expression.entry.now)) }
+    ensures taken { Takes (world_of program.now) (names_of locals.now) (expression_tree expression.entry.now) → NeverRefused result }
 {
     match expression {
         Expression::Number(_, value, suffix) => {
@@ -60,222 +79,146 @@ pub fn lower_expression<'p>(
             emit_operation(body, Operation::NullPointer(to))?;
             Ok(Shape::null())
         }
+        Expression::HeapRegion(_) => {
+            emit_operation(body, Operation::HeapHandle(to))?;
+            Ok(Shape::Handle)
+        }
         Expression::Variable(name) => lower_get(program, locals, body, &name.text, to),
         Expression::Grouped(_, inner) => {
-            lower_expression(alloc, program, locals, inner, body, to)
+            lower_expression(alloc, program, locals, inner, body, own, to)
         }
         Expression::Suffixed(primary, suffixes) => {
-            let way = lower_suffixed(alloc, program, locals, primary, suffixes, to)?;
+            let way = lower_suffixed(alloc, program, locals, primary, suffixes, own, to)?;
             lower_value(body, way, to)
         }
-        Expression::Prefixed(_, operator, operand) => {
-            lower_prefixed(alloc, program, locals, operand, body, *operator, to)
+        Expression::Prefixed(_, operator, operand) => lower_prefixed(
+            alloc, program, locals, operand, body, own, *operator, to,
+        ),
+        Expression::New(_, made) => {
+            emit_operation(body, Operation::HeapHandle(to))?;
+            lower_new(alloc, program, locals, made, body, own, to)
+        }
+        Expression::NewIn(_, handle, made) => {
+            lower_expression(alloc, program, locals, handle, body, own, to)?;
+            lower_new(alloc, program, locals, made, body, own, to)
         }
         Expression::Chain(first, links) => {
-            let left = lower_expression(alloc, program, locals, first, body, to)?;
-            lower_links(alloc, program, locals, links, body, left, to)
+            let left = lower_expression(alloc, program, locals, first, body, own, to)?;
+            lower_links(alloc, program, locals, links, body, own, left, to)
         }
         Expression::AllOf(first, others) => {
-            let shape = lower_expression(alloc, program, locals, first, body, to)?;
-            lower_word(body, shape, to)?;
-            lower_all(alloc, program, locals, others, body, to)?;
-            lower_truth(body, to)?;
-            Ok(Shape::Int)
+            let shape = lower_expression(alloc, program, locals, first, body, own, to)?;
+            lower_all_of(alloc, program, locals, others, body, own, shape, to)
         }
         Expression::AnyOf(first, others) => {
-            let shape = lower_expression(alloc, program, locals, first, body, to)?;
-            lower_word(body, shape, to)?;
-            lower_any(alloc, program, locals, others, body, to)?;
-            lower_truth(body, to)?;
-            Ok(Shape::Int)
+            let shape = lower_expression(alloc, program, locals, first, body, own, to)?;
+            lower_any_of(alloc, program, locals, others, body, own, shape, to)
         }
         Expression::Assign(place, value) => {
-            let from = lower_expression(alloc, program, locals, value, body, to)?;
-            let mut store = Vec::new(alloc);
-            let shape = lower_put(alloc, program, locals, place, &mut store, to)?;
-            lower_conversion(alloc, body, shape, from, to)?;
-            append(body, store)?;
-            Ok(shape)
+            let from = lower_expression(alloc, program, locals, value, body, own, to)?;
+            lower_assign(alloc, program, locals, place, body, own, from, to)
         }
-        Expression::Call(name, arguments) => {
-            lower_called(alloc, program, locals, arguments, body, &name.text, to)
-        }
+        Expression::Call(name, arguments) => lower_called(
+            alloc, program, locals, arguments, body, own, &name.text, to,
+        ),
         _ => Err(LowerFault::NotTaken),
     }
 }
 
-/// Appends what writes the value of a temporary to a place: a variable, a member, or what a pointer leads to, in parentheses too; gives
-/// the place's shape. Refuses all other places.
+/// Appends what evaluates the operands of `&&` after the first, whose value has this shape, each where those before it were not 0, and
+/// leaves 1 or 0.
 #[cycle(expression)]
-fn lower_put<'p>(
+fn lower_all_of<'p>(
     alloc: Global,
     program: &Table<'p>,
     locals: &Locals<'p>,
-    place: &Expression,
+    others: &'p [Expression],
     body: &mut Vec<Statement>,
-    from: Temporary,
-) -> Result<Shape<'p>, LowerFault>
-    ensures code { OnOk result
-        (map statement_tree body.new.items ≡
-        map statement_tree body.old.items ++ put_code (world_of program.now) (names_of locals.now) (expression_tree place.now) from.0) }
-    ensures shape { IfOk result (λ shape. shape_tree shape ≡ static_shape (world_of program.now) (names_of locals.now) (expression_tree place.now)) }
-    ensures taken { TakesPlace (world_of program.now) (names_of locals.now) (expression_tree place.now) → NeverRefused result }
-{
-    match place {
-        Expression::Variable(name) => lower_named(program, locals, body, &name.text, from),
-        Expression::Grouped(_, inner) => { lower_put(alloc, program, locals, inner, body, from) }
-        Expression::Suffixed(primary, suffixes) => {
-            let at = Temporary(after(from.0)?);
-            let way = lower_suffixed(alloc, program, locals, primary, suffixes, at)?;
-            lower_stored(body, way, at, from)
-        }
-        Expression::Prefixed(_, Prefix::Dereference, operand) => {
-            lower_through(alloc, program, locals, operand, body, from)
-        }
-        _ => Err(LowerFault::NotTaken),
-    }
-}
-
-/// Appends what writes the value of a temporary to what a pointer leads to, and raises where that is NULL; gives the shape of what it leads to.
-#[cycle(expression)]
-fn lower_through<'p>(
-    alloc: Global,
-    program: &Table<'p>,
-    locals: &Locals<'p>,
-    pointer: &Expression,
-    body: &mut Vec<Statement>,
-    from: Temporary,
+    own: &mut Vec<Shape<'p>>,
+    first: Shape<'_>,
+    to: Temporary,
 ) -> Result<Shape<'p>, LowerFault>
     ensures code { let w = world_of program.now in
         let names = names_of locals.now in
-        let e = expression_tree pointer.now in
-        let s = static_shape w names e in
+        let rest = expressions_of (map expression_tree others.entry.now) in
         OnOk result
         (map statement_tree body.new.items ≡
         map statement_tree body.old.items ++
-        ((expression_code w names e (from.0 + 1) ++ check_code s (from.0 + 1)) ++ store_code (pointee s) from.0)) }
-    ensures shape { let e = expression_tree pointer.now in
-        IfOk result (λ shape. shape_tree shape ≡ pointee (static_shape (world_of program.now) (names_of locals.now) e)) }
-    ensures taken { Takes (world_of program.now) (names_of locals.now) (expression_tree pointer.now) → NeverRefused result }
+        (word_code (shape_tree first.entry) to.0 ++ (all_code w names rest to.0 (length own.old.items) ++ truth_code to.0))) }
+    ensures values { OnOk result
+        (map shape_tree own.new.items ≡
+        map shape_tree own.old.items ++ all_values (world_of program.now) (names_of locals.now) (expressions_of (map expression_tree others.entry.now))) }
+    ensures shape { IfOk result (λ shape. shape_tree shape ≡ IntShape) }
+    ensures taken { TakesAll (world_of program.now) (names_of locals.now) (expressions_of (map expression_tree others.entry.now)) → NeverRefused result }
 {
-    let at = Temporary(after(from.0)?);
-    let of = lower_pointer(alloc, program, locals, pointer, body, at)?;
-    let shape = of.shape();
-    emit_operation(
-        body,
-        Operation::Store(at, Distance::at_once(shape.width()), from),
-    )?;
-    Ok(shape)
+    lower_word(body, first, to)?;
+    lower_all(alloc, program, locals, others, body, own, to)?;
+    lower_truth(body, to)?;
+    Ok(Shape::Int)
 }
 
-/// Appends what leaves a pointer in a temporary, and raises where it is NULL; gives the type of what it leads to.
+/// Appends what evaluates the operands of `||` after the first, whose value has this shape, each where those before it were 0, and
+/// leaves 1 or 0.
 #[cycle(expression)]
-fn lower_pointer<'p>(
+fn lower_any_of<'p>(
     alloc: Global,
     program: &Table<'p>,
     locals: &Locals<'p>,
-    pointer: &Expression,
+    others: &'p [Expression],
     body: &mut Vec<Statement>,
+    own: &mut Vec<Shape<'p>>,
+    first: Shape<'_>,
     to: Temporary,
-) -> Result<Target<'p>, LowerFault>
+) -> Result<Shape<'p>, LowerFault>
     ensures code { let w = world_of program.now in
         let names = names_of locals.now in
-        let e = expression_tree pointer.now in
+        let rest = expressions_of (map expression_tree others.entry.now) in
         OnOk result
         (map statement_tree body.new.items ≡
-        map statement_tree body.old.items ++ (expression_code w names e to.0 ++ check_code (static_shape w names e) to.0)) }
-    ensures shape { let e = expression_tree pointer.now in
-        IfOk result (λ of. target_shape of ≡ pointee (static_shape (world_of program.now) (names_of locals.now) e)) }
-    ensures taken { Takes (world_of program.now) (names_of locals.now) (expression_tree pointer.now) → NeverRefused result }
+        map statement_tree body.old.items ++
+        (word_code (shape_tree first.entry) to.0 ++ (any_code w names rest to.0 (length own.old.items) ++ truth_code to.0))) }
+    ensures values { OnOk result
+        (map shape_tree own.new.items ≡
+        map shape_tree own.old.items ++ all_values (world_of program.now) (names_of locals.now) (expressions_of (map expression_tree others.entry.now))) }
+    ensures shape { IfOk result (λ shape. shape_tree shape ≡ IntShape) }
+    ensures taken { TakesAll (world_of program.now) (names_of locals.now) (expressions_of (map expression_tree others.entry.now)) → NeverRefused result }
 {
-    let shape = lower_expression(alloc, program, locals, pointer, body, to)?;
-    lower_check(alloc, body, shape, to)?;
-    Ok(shape.pointee())
+    lower_word(body, first, to)?;
+    lower_any(alloc, program, locals, others, body, own, to)?;
+    lower_truth(body, to)?;
+    Ok(Shape::Int)
 }
 
-/// Appends what leaves a pointer to a place in a temporary: to a variable, a member, or what a pointer leads to, in parentheses too; gives
-/// the place's type. Refuses all other places.
+/// Appends what converts the value in a temporary to a place's shape, and stores it there; gives the place's shape.
 #[cycle(expression)]
-pub fn lower_place<'p>(
+fn lower_assign<'p>(
     alloc: Global,
     program: &Table<'p>,
     locals: &Locals<'p>,
-    place: &Expression,
+    place: &'p Expression,
     body: &mut Vec<Statement>,
+    own: &mut Vec<Shape<'p>>,
+    from: Shape<'_>,
     to: Temporary,
-) -> Result<Target<'p>, LowerFault>
-    ensures code { OnOk result
-        (map statement_tree body.new.items ≡
-        map statement_tree body.old.items ++ place_code (world_of program.now) (names_of locals.now) (expression_tree place.now) to.0) }
-    ensures shape { IfOk result (λ of. target_shape of ≡ static_shape (world_of program.now) (names_of locals.now) (expression_tree place.now)) }
-    ensures taken { TakesPlace (world_of program.now) (names_of locals.now) (expression_tree place.now) → NeverRefused result }
-{
-    match place {
-        Expression::Variable(name) => lower_address(program, locals, body, &name.text, to),
-        Expression::Grouped(_, inner) => lower_place(alloc, program, locals, inner, body, to),
-        Expression::Suffixed(primary, suffixes) => {
-            let way = lower_suffixed(alloc, program, locals, primary, suffixes, to)?;
-            lower_pointed(body, way, to)
-        }
-        Expression::Prefixed(_, Prefix::Dereference, operand) => {
-            lower_pointer(alloc, program, locals, operand, body, to)
-        }
-        _ => Err(LowerFault::NotTaken),
-    }
-}
-
-/// The way along suffixes from what a primary expression names or leads to. Refuses an index.
-#[cycle(expression)]
-fn lower_suffixed<'p>(
-    alloc: Global,
-    program: &Table<'p>,
-    locals: &Locals<'p>,
-    primary: &Expression,
-    suffixes: &[Suffix],
-    to: Temporary,
-) -> Result<Way<'p>, LowerFault>
+) -> Result<Shape<'p>, LowerFault>
     ensures code { let w = world_of program.now in
         let names = names_of locals.now in
-        let e = expression_tree primary.now in
-        IfOk result
-        (λ way.
-        way_left way to.0 ≡
-        suffixed_code w (suffixes_of (map suffix_tree suffixes.now)) to.0
-        (left_of (static_shape w names e) (expression_code w names e to.0) (place_code w names e to.0))) }
-    ensures shape { let w = world_of program.now in
-        let e = expression_tree primary.now in
-        IfOk result
-        (λ way.
-        target_shape way.reached.of ≡ suffixed_shape w (suffixes_of (map suffix_tree suffixes.now)) (static_shape w (names_of locals.now) e)) }
-    ensures taken { let w = world_of program.now in
-        let names = names_of locals.now in
-        let e = expression_tree primary.now in
-        TakesSuffixes w (suffixes_of (map suffix_tree suffixes.now)) (static_shape w names e) (Takes w names e) (TakesPlace w names e) → NeverRefused result }
+        let p = expression_tree place.entry.now in
+        OnOk result
+        (map statement_tree body.new.items ≡
+        map statement_tree body.old.items ++
+        (conversion_code (static_shape w names p) (shape_tree from.entry) to.0 ++ put_code w names p to.0 (length own.old.items))) }
+    ensures values { OnOk result
+        (map shape_tree own.new.items ≡
+        map shape_tree own.old.items ++ expression_values (world_of program.now) (names_of locals.now) (expression_tree place.entry.now)) }
+    ensures shape { IfOk result
+        (λ shape. shape_tree shape ≡ static_shape (world_of program.now) (names_of locals.now) (expression_tree place.entry.now)) }
+    ensures taken { TakesPlace (world_of program.now) (names_of locals.now) (expression_tree place.entry.now) → NeverRefused result }
 {
-    let Some((first, others)) = suffixes.split_first() else {
-        return Err(LowerFault::NotTaken);
-    };
-    let mut code = Vec::new(alloc);
-    let (of, name) = match first {
-        Suffix::Dot(name) => {
-            let of = lower_place(alloc, program, locals, primary, &mut code, to)?;
-            (of, name)
-        }
-        Suffix::Arrow(name) => {
-            let of = lower_pointer(alloc, program, locals, primary, &mut code, to)?;
-            (of, name)
-        }
-        Suffix::Index(_) => return Err(LowerFault::NotTaken),
-    };
-    let start = Reached {
-        of,
-        cells: 0,
-        bytes: 0,
-    };
-    let reached = dot(program, start, &name.text)?;
-    let mut way = Way { code, reached };
-    follow(alloc, program, &mut way, others, to)?;
-    Ok(way)
+    let shape = shape_of(program, locals, place)?;
+    lower_conversion(alloc, body, shape, from, to)?;
+    lower_put(alloc, program, locals, place, body, own, to)?;
+    Ok(shape)
 }
 
 /// Appends what applies a prefix operator to its operand, and leaves the result in a temporary; gives the result's shape.
@@ -284,47 +227,52 @@ fn lower_prefixed<'p>(
     alloc: Global,
     program: &Table<'p>,
     locals: &Locals<'p>,
-    operand: &Expression,
+    operand: &'p Expression,
     body: &mut Vec<Statement>,
+    own: &mut Vec<Shape<'p>>,
     operator: Prefix,
     to: Temporary,
 ) -> Result<Shape<'p>, LowerFault>
     ensures code { let w = world_of program.now in
         let names = names_of locals.now in
-        let e = expression_tree operand.now in
+        let e = expression_tree operand.entry.now in
+        let number = length own.old.items in
         OnOk result
         (map statement_tree body.new.items ≡
         map statement_tree body.old.items ++
-        prefix_code operator (static_shape w names e) to.0 (expression_code w names e (to.0 + 1)) (expression_code w names e to.0) (place_code w names e to.0)) }
-    ensures shape { let e = expression_tree operand.now in
+        prefix_code operator (static_shape w names e) to.0 (expression_code w names e (to.0 + 1) number) (expression_code w names e to.0 number)
+        (place_code w names e to.0 number)) }
+    ensures values { OnOk result
+        (map shape_tree own.new.items ≡
+        map shape_tree own.old.items ++ expression_values (world_of program.now) (names_of locals.now) (expression_tree operand.entry.now)) }
+    ensures shape { let e = expression_tree operand.entry.now in
         IfOk result (λ shape. shape_tree shape ≡ prefix_shape operator (static_shape (world_of program.now) (names_of locals.now) e)) }
     ensures taken { let w = world_of program.now in
         let names = names_of locals.now in
-        let e = expression_tree operand.now in
+        let e = expression_tree operand.entry.now in
         TakesPrefix operator (static_shape w names e) (Takes w names e) (TakesPlace w names e) → NeverRefused result }
 {
     let right = Temporary(after(to.0)?);
     match operator {
         Prefix::Negate => {
             emit_operation(body, Operation::Constant(to, 0))?;
-            let shape = lower_expression(alloc, program, locals, operand, body, right)?;
+            let shape = lower_expression(alloc, program, locals, operand, body, own, right)?;
             lower_operator(body, Operator::Subtract, Shape::Int, shape, to)?;
             Ok(operator_shape(Operator::Subtract, Shape::Int, shape))
         }
         Prefix::Complement => {
             emit_operation(body, Operation::Constant(to, u32::MAX))?;
-            let shape = lower_expression(alloc, program, locals, operand, body, right)?;
+            let shape = lower_expression(alloc, program, locals, operand, body, own, right)?;
             lower_operator(body, Operator::BitXor, Shape::Int, shape, to)?;
             Ok(operator_shape(Operator::BitXor, Shape::Int, shape))
         }
         Prefix::Not => {
-            let shape = lower_expression(alloc, program, locals, operand, body, right)?;
+            let shape = lower_expression(alloc, program, locals, operand, body, own, right)?;
             lower_not(body, shape, to)?;
             Ok(Shape::Int)
         }
         Prefix::Dereference => {
-            let of = lower_pointer(alloc, program, locals, operand, body, to)?;
-            let shape = of.shape();
+            let shape = lower_pointer(alloc, program, locals, operand, body, own, to)?;
             emit_operation(
                 body,
                 Operation::Load(to, to, Distance::at_once(shape.width())),
@@ -332,8 +280,7 @@ fn lower_prefixed<'p>(
             Ok(shape)
         }
         Prefix::AddressOf => {
-            let of = lower_place(alloc, program, locals, operand, body, to)?;
-            Ok(of.address())
+            lower_place(alloc, program, locals, operand, body, own, to)?.address()
         }
     }
 }

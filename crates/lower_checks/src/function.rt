@@ -14,10 +14,11 @@ ghost use Rattle.lower_checks.specs.Refusals.{NeverRefused};
 use crate::call::part_shapes;
 use crate::emit::{emit, emit_block, emit_operation};
 use crate::fault::LowerFault;
+use crate::leaving::RegionsAround;
 use crate::locals::Locals;
 use crate::names::{after, number};
 use crate::objects::locals_of;
-use crate::shape::{Shape, Target};
+use crate::shape::Shape;
 use crate::statement::lower_items;
 use crate::table::Table;
 use crate::usage::{passed, temporaries};
@@ -41,11 +42,10 @@ fn lower_parameters<'p>(
 {
     let mut index = 0;
     'each: for parameter in parameters {
-        let of = Target::of(&parameter.of);
+        let shape = Shape::of(&parameter.of);
         let local = Variable { out: 0, index };
-        let width = of.shape().width();
-        emit_operation(body, Operation::Put(local, width, Temporary(index)))?;
-        locals.declare(&parameter.name, of, index)?;
+        emit_operation(body, Operation::Put(local, shape.width(), Temporary(index)))?;
+        locals.declare(&parameter.name, shape, index)?;
         index = after(index)?;
     }
     Ok(())
@@ -99,6 +99,7 @@ fn lower_body<'p>(
         &mut shapes,
         &mut inside,
         &mut own,
+        RegionsAround::none(),
     )?;
     let mut body = Vec::new(alloc);
     emit_block(&mut body, locals_of(alloc, program, &shapes)?, inside)?;

@@ -64,7 +64,7 @@ struct Laying {
     room: Room,
 }
 
-/// What a cell of a shape is made for. Refuses what is no integer and no thin pointer.
+/// What a cell of a shape is made for. Refuses what is no integer, no thin pointer and no handle.
 fn cell_of(shape: Shape<'_>) -> Result<Cell, LowerFault>
     ensures cell { IfOk result (λ cell. cell_for (shape_tree shape.entry) ≡ Some cell) }
     ensures taken { is_some (cell_for (shape_tree shape.entry)) ≡ true → NeverRefused result }
@@ -72,7 +72,8 @@ fn cell_of(shape: Shape<'_>) -> Result<Cell, LowerFault>
     match shape {
         Shape::Char => Ok(Cell::Byte),
         Shape::Int | Shape::Unsigned => Ok(Cell::Word),
-        Shape::Thin(_, _, _) => Ok(Cell::Pointer),
+        Shape::Thin(_, _, _) | Shape::Address(_, _) => Ok(Cell::Pointer),
+        Shape::Handle => Ok(Cell::Handle),
         _ => Err(LowerFault::NotTaken),
     }
 }
@@ -217,7 +218,7 @@ impl<'p> Structs<'p> {
         self.by_tag.get(tag)
     }
 
-    /// The bytes of a shape. Refuses what is no integer, no thin pointer and no struct that is known.
+    /// The bytes of a shape. Refuses what is no integer, no thin pointer, no handle and no struct that is known.
     fn room(&self, shape: Shape<'_>) -> Result<Room, LowerFault>
         ensures room { IfOk result (λ room. room_tree room ≡ room_in self.now (shape_tree shape.entry)) }
         ensures laid { OnOk result (IsLaid self.now (shape_tree shape.entry)) }
@@ -244,7 +245,7 @@ impl<'p> Structs<'p> {
         }
     }
 
-    /// Appends the cells of a shape, so many bytes on. Refuses what is no integer, no thin pointer and no struct that is known.
+    /// Appends the cells of a shape, so many bytes on. Refuses what is no integer, no thin pointer, no handle and no struct that is known.
     fn push_shape(
         &self,
         cells: &mut Vec<CellLayout>,
@@ -272,7 +273,7 @@ impl<'p> Structs<'p> {
         )
     }
 
-    /// Lays one more member. Refuses what is no integer, no thin pointer and no struct that is known.
+    /// Lays one more member. Refuses what is no integer, no thin pointer, no handle and no struct that is known.
     fn lay(&self, laying: &mut Laying, shape: Shape<'_>) -> Result<(), LowerFault>
         ensures size { let room = room_in self.now (shape_tree shape.entry) in
             OnOk result (laying.new.room.size ≡ rounded_up laying.old.room.size room.align + room.size) }
@@ -297,7 +298,7 @@ impl<'p> Structs<'p> {
         Ok(())
     }
 
-    /// Lays members. Refuses what is no integer, no thin pointer and no struct that is known.
+    /// Lays members. Refuses what is no integer, no thin pointer, no handle and no struct that is known.
     fn lay_all(&self, alloc: Global, members: &[Member]) -> Result<Laying, LowerFault>
         ensures room { let parts = map part_of (map member_tree members.now) in
             IfOk result (λ laying.
@@ -322,7 +323,7 @@ impl<'p> Structs<'p> {
     }
 
     /// Adds a struct behind the others. Refuses one whose tag another one has, and one with a member that is no integer, no thin
-    /// pointer and no earlier struct.
+    /// pointer, no handle and no earlier struct.
     #[tactic(auto, using(crate::proofs::Structs::new_tag, crate::proofs::Structs::members_laid))]
     pub fn add(&mut self, alloc: Global, structure: &'p Structure) -> Result<(), LowerFault>
         ensures added { OnOk result ((structs : List Rules) → Knows self.old structs → Knows self.new (layout_of (structure_tree structure.entry.now) ∷ structs)) }

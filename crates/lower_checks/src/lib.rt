@@ -3,8 +3,8 @@
 //! `lower` appends operation after operation: an expression leaves its value in a temporary, and its
 //! parts use the temporaries above it; a block's locals have numbers in it. The result is the Core
 //! program of `program_code` in `source_lowering`. Programs of functions, globals and locals of
-//! integers, of structs and of thin pointers to these are taken. Functions, globals and structs are
-//! found by tables of their names.
+//! integers, of structs, of handles and of thin pointers to these are taken, with the heap and lexical
+//! regions. Functions, globals and structs are found by tables of their names.
 //! Stands on `unique_flow`, `cyc_core`, `judged_sources`, `source_lowering`, `cyc_tree` and `indexmap`.
 #![tactic(auto)]
 
@@ -18,13 +18,16 @@ mod first;
 mod function;
 mod last;
 mod layouts;
+mod leaving;
 mod locals;
+mod made;
 mod mark;
 mod member;
 mod names;
 mod objects;
 mod operands;
 mod operator;
+mod place;
 mod program;
 mod shape;
 mod shaped;

@@ -11,7 +11,7 @@ use crate::fault::LowerFault;
 use crate::last::LastLocals;
 use crate::mark::{Local, Mark};
 use crate::names::{Named, after};
-use crate::shape::Target;
+use crate::shape::Shape;
 use cyc_tree::Name;
 use std::alloc::Global;
 use std::marker::Model;
@@ -55,7 +55,7 @@ impl<'p> Locals<'p> {
         match self.last.of(name) {
             Some(local) => Some(Named {
                 name: local.name,
-                of: local.of,
+                shape: local.shape,
                 out: self.depth.saturating_sub(local.depth),
                 index: local.index,
             }),
@@ -64,13 +64,18 @@ impl<'p> Locals<'p> {
     }
 
     /// Declares a local of the innermost block, which has this number in it.
-    pub fn declare(&mut self, name: &'p Name, of: Target<'p>, index: u32) -> Result<(), LowerFault>
-        ensures declared { OnOk result (self.new ≡ Some (declared (name_tree name.entry.now).text of.entry index) ∷ self.old) }
+    pub fn declare(
+        &mut self,
+        name: &'p Name,
+        shape: Shape<'p>,
+        index: u32,
+    ) -> Result<(), LowerFault>
+        ensures declared { OnOk result (self.new ≡ Some (declared (name_tree name.entry.now).text shape.entry index) ∷ self.old) }
         ensures taken { NeverRefused result }
     {
         let local = Local {
             name: &name.text,
-            of,
+            shape,
             index,
             depth: self.depth,
         };

@@ -1,12 +1,12 @@
 // Locals, and the beginnings of blocks.
 
-use crate::shape::Target;
+use crate::shape::Shape;
 
-/// A local: its name and type, its number in its block, and how many blocks are open where it is declared.
+/// A local: its name and shape, its number in its block, and how many blocks are open where it is declared.
 #[derive(Clone, Copy)]
 pub struct Local<'p> {
     pub name: &'p [u8],
-    pub of: Target<'p>,
+    pub shape: Shape<'p>,
     pub index: u32,
     pub depth: u32,
 }

@@ -15,28 +15,28 @@ ghost use Rattle.source_lowering.specs.Lowerable.{IsObject, TakesMembers};
 ghost use Rattle.lower_checks.specs.Refusals.{NeverRefused};
 ghost use Rattle.lower_checks.specs.Structs.{HasRoom, HaveRoom, room_tree};
 ghost use Rattle.lower_checks.specs.Reaching.{reached_left, way_left};
-ghost use Rattle.lower_checks.specs.Views.{shape_tree, target_shape};
+ghost use Rattle.lower_checks.specs.Views.{shape_tree};
 
 use crate::emit::{append, emit_operation};
 use crate::fault::LowerFault;
 use crate::layouts::{Room, rounded, sum};
 use crate::names::number;
-use crate::shape::{Shape, Target};
+use crate::shape::Shape;
 use crate::table::Table;
 use crate::values::lower_check;
 use cyc_core::{Distance, Operation, Statement, Temporary, Width};
 use cyc_tree::{Member, Suffix};
 use std::alloc::Global;
 
-/// What lies in a struct, so many cells and bytes from where a pointer leads, and its type.
+/// What lies in a struct, so many cells and bytes from where a pointer leads, and its shape.
 #[derive(Clone, Copy)]
 pub struct Reached<'p> {
-    pub of: Target<'p>,
+    pub shape: Shape<'p>,
     pub cells: u32,
     pub bytes: u32,
 }
 
-/// The bytes of a shape. Refuses what is no integer, no thin pointer and no struct.
+/// The bytes of a shape. Refuses what is no integer, no thin pointer, no handle and no struct.
 pub fn extent(program: &Table<'_>, shape: Shape<'_>) -> Result<Room, LowerFault>
     ensures room { IfOk result (λ room. room_tree room ≡ extent_of (world_of program.now) (shape_tree shape.entry)) }
     ensures taken { HasRoom (world_of program.now).structs (shape_tree shape.entry) → NeverRefused result }
@@ -46,7 +46,11 @@ pub fn extent(program: &Table<'_>, shape: Shape<'_>) -> Result<Room, LowerFault>
             size: 1,
             align: Width::Byte,
         }),
-        Shape::Int | Shape::Unsigned | Shape::Thin(_, _, _) => Ok(Room {
+        Shape::Int
+        | Shape::Unsigned
+        | Shape::Thin(_, _, _)
+        | Shape::Address(_, _)
+        | Shape::Handle => Ok(Room {
             size: 4,
             align: Width::Word,
         }),
@@ -61,13 +65,18 @@ pub fn extent(program: &Table<'_>, shape: Shape<'_>) -> Result<Room, LowerFault>
     }
 }
 
-/// How many cells a shape has. Refuses what is no integer, no thin pointer and no struct.
+/// How many cells a shape has. Refuses what is no integer, no thin pointer, no handle and no struct.
 pub fn count(program: &Table<'_>, shape: Shape<'_>) -> Result<u32, LowerFault>
     ensures count { IfOk result (λ count. count ≡ length (cells_of (world_of program.now) (shape_tree shape.entry))) }
     ensures taken { HasRoom (world_of program.now).structs (shape_tree shape.entry) → NeverRefused result }
 {
     match shape {
-        Shape::Char | Shape::Int | Shape::Unsigned | Shape::Thin(_, _, _) => Ok(1),
+        Shape::Char
+        | Shape::Int
+        | Shape::Unsigned
+        | Shape::Thin(_, _, _)
+        | Shape::Address(_, _)
+        | Shape::Handle => Ok(1),
         Shape::Struct(tag) => match program.struct_of(tag) {
             Some(known) => number(known.layout.cells.len()),
             None => Err(LowerFault::NotTaken),
@@ -76,13 +85,13 @@ pub fn count(program: &Table<'_>, shape: Shape<'_>) -> Result<u32, LowerFault>
     }
 }
 
-/// Where the first member of a name lies among members, with nothing for its type where there is none.
+/// Where the first member of a name lies among members, with `void` for its shape where there is none.
 fn among<'p>(
     program: &Table<'p>,
     members: &'p [Member],
     name: &[u8],
 ) -> Result<Reached<'p>, LowerFault>
-    ensures shape { IfOk result (λ reached. target_shape reached.of ≡ part_shape (map part_of (map member_tree members.entry.now)) name.now) }
+    ensures shape { IfOk result (λ reached. shape_tree reached.shape ≡ part_shape (map part_of (map member_tree members.entry.now)) name.now) }
     ensures cells { IfOk result
         (λ reached. reached.cells ≡ cells_before (cells_of (world_of program.now)) (map part_of (map member_tree members.entry.now)) name.now) }
     ensures bytes { IfOk result
@@ -92,21 +101,21 @@ fn among<'p>(
     let mut cells = 0;
     let mut bytes = 0;
     'each: for member in members {
-        let of = Target::of(&member.of);
-        let room = extent(program, of.shape())?;
+        let shape = Shape::of(&member.of);
+        let room = extent(program, shape)?;
         let at = rounded(bytes, room.align)?;
         if member.name.text.as_slice() == name {
             return Ok(Reached {
-                of,
+                shape,
                 cells,
                 bytes: at,
             });
         }
-        cells = sum(cells, count(program, of.shape())?)?;
+        cells = sum(cells, count(program, shape)?)?;
         bytes = sum(at, room.size)?;
     }
     Ok(Reached {
-        of: Target::Nothing,
+        shape: Shape::Void,
         cells,
         bytes,
     })
@@ -115,7 +124,7 @@ fn among<'p>(
 /// Where a member of a struct of a shape lies from the struct's beginning on. Refuses what is no struct.
 #[tactic(auto, using(crate::proofs::Reaching::no_members))]
 fn member<'p>(program: &Table<'p>, shape: Shape<'_>, name: &[u8]) -> Result<Reached<'p>, LowerFault>
-    ensures shape { IfOk result (λ reached. target_shape reached.of ≡ member_shape (world_of program.now) (shape_tree shape.entry) name.now) }
+    ensures shape { IfOk result (λ reached. shape_tree reached.shape ≡ member_shape (world_of program.now) (shape_tree shape.entry) name.now) }
     ensures cells { let w = world_of program.now in
         IfOk result (λ reached. reached.cells ≡ cells_before (cells_of w) (struct_parts w (shape_tree shape.entry)) name.now) }
     ensures bytes { let w = world_of program.now in
@@ -138,17 +147,17 @@ pub fn dot<'p>(
     reached: Reached<'p>,
     name: &[u8],
 ) -> Result<Reached<'p>, LowerFault>
-    ensures shape { IfOk result (λ further. target_shape further.of ≡ member_shape (world_of program.now) (target_shape reached.entry.of) name.now) }
+    ensures shape { IfOk result (λ further. shape_tree further.shape ≡ member_shape (world_of program.now) (shape_tree reached.entry.shape) name.now) }
     ensures left { let w = world_of program.now in
         (pointer : List core.Statement) (d : ℕ) →
         IfOk result
         (λ further.
-        reached_left pointer further d ≡ member_at w (target_shape reached.entry.of) pointer reached.entry.cells reached.entry.bytes name.now d) }
-    ensures taken { let w = world_of program.now in IsObject w.structs (member_shape w (target_shape reached.entry.of) name.now) → NeverRefused result }
+        reached_left pointer further d ≡ member_at w (shape_tree reached.entry.shape) pointer reached.entry.cells reached.entry.bytes name.now d) }
+    ensures taken { let w = world_of program.now in IsObject w.structs (member_shape w (shape_tree reached.entry.shape) name.now) → NeverRefused result }
 {
-    let further = member(program, reached.of.shape(), name)?;
+    let further = member(program, reached.shape, name)?;
     Ok(Reached {
-        of: further.of,
+        shape: further.shape,
         cells: sum(reached.cells, further.cells)?,
         bytes: sum(reached.bytes, further.bytes)?,
     })
@@ -174,12 +183,12 @@ fn arrow<'p>(
         let left = way_left way.old to.0 in
         OnOk result (way_left way.new to.0 ≡ member_at w (pointee left.shape) (left.value ++ check_code left.shape to.0) 0 0 name.now to.0) }
     ensures shape { let w = world_of program.now in
-        OnOk result (target_shape way.new.reached.of ≡ member_shape w (pointee (target_shape way.old.reached.of)) name.now) }
+        OnOk result (shape_tree way.new.reached.shape ≡ member_shape w (pointee (shape_tree way.old.reached.shape)) name.now) }
     ensures taken { let w = world_of program.now in
-        IsObject w.structs (member_shape w (pointee (target_shape way.old.reached.of)) name.now) → NeverRefused result }
+        IsObject w.structs (member_shape w (pointee (shape_tree way.old.reached.shape)) name.now) → NeverRefused result }
 {
     let reached = way.reached;
-    let shape = reached.of.shape();
+    let shape = reached.shape;
     let distance = Distance {
         cells: reached.cells,
         bytes: reached.bytes,
@@ -188,7 +197,7 @@ fn arrow<'p>(
     emit_operation(&mut way.code, Operation::Load(to, to, distance))?;
     lower_check(alloc, &mut way.code, shape, to)?;
     let first = Reached {
-        of: shape.pointee(),
+        shape: shape.pointee(),
         cells: 0,
         bytes: 0,
     };
@@ -207,9 +216,9 @@ pub fn follow<'p>(
     ensures code { let w = world_of program.now in
         OnOk result (way_left way.new to.0 ≡ suffixed_code w (suffixes_of (map suffix_tree suffixes.now)) to.0 (way_left way.old to.0)) }
     ensures shape { let w = world_of program.now in
-        OnOk result (target_shape way.new.reached.of ≡ suffixed_shape w (suffixes_of (map suffix_tree suffixes.now)) (target_shape way.old.reached.of)) }
+        OnOk result (shape_tree way.new.reached.shape ≡ suffixed_shape w (suffixes_of (map suffix_tree suffixes.now)) (shape_tree way.old.reached.shape)) }
     ensures taken { let w = world_of program.now in
-        TakesMembers w (suffixes_of (map suffix_tree suffixes.now)) (target_shape way.old.reached.of) → NeverRefused result }
+        TakesMembers w (suffixes_of (map suffix_tree suffixes.now)) (shape_tree way.old.reached.shape) → NeverRefused result }
 {
     'each: for suffix in suffixes {
         match suffix {
@@ -225,12 +234,12 @@ pub fn follow<'p>(
 
 /// How far the end of a way is from where its pointer leads, and how wide a value of it is.
 fn distance_of(reached: Reached<'_>) -> Distance
-    ensures { distance_tree result ≡ distance reached.entry.cells reached.entry.bytes (width_of (target_shape reached.entry.of)) }
+    ensures { distance_tree result ≡ distance reached.entry.cells reached.entry.bytes (width_of (shape_tree reached.entry.shape)) }
 {
     Distance {
         cells: reached.cells,
         bytes: reached.bytes,
-        width: reached.of.shape().width(),
+        width: reached.shape.width(),
     }
 }
 
@@ -247,7 +256,7 @@ pub fn lower_value<'p>(
     let reached = way.reached;
     append(body, way.code)?;
     emit_operation(body, Operation::Load(to, to, distance_of(reached)))?;
-    Ok(reached.of.shape())
+    Ok(reached.shape)
 }
 
 /// Appends what stores a value at the end of a way, from the temporary before the pointer's; gives its shape.
@@ -265,17 +274,17 @@ pub fn lower_stored<'p>(
     let reached = way.reached;
     append(body, way.code)?;
     emit_operation(body, Operation::Store(at, distance_of(reached), from))?;
-    Ok(reached.of.shape())
+    Ok(reached.shape)
 }
 
-/// Appends what leaves a pointer to the end of a way in the pointer's temporary; gives its type.
+/// Appends what leaves a pointer to the end of a way in the pointer's temporary; gives its shape.
 pub fn lower_pointed<'p>(
     body: &mut Vec<Statement>,
     way: Way<'p>,
     to: Temporary,
-) -> Result<Target<'p>, LowerFault>
+) -> Result<Shape<'p>, LowerFault>
     ensures code { OnOk result (map statement_tree body.new.items ≡ map statement_tree body.old.items ++ pointer_to (way_left way.entry to.0) to.0) }
-    ensures shape { IfOk result (λ of. target_shape of ≡ (way_left way.entry to.0).shape) }
+    ensures shape { IfOk result (λ shape. shape_tree shape ≡ (way_left way.entry to.0).shape) }
     ensures taken { NeverRefused result }
 {
     let reached = way.reached;
@@ -286,5 +295,5 @@ pub fn lower_pointed<'p>(
             Operation::Offset(to, to, reached.cells, reached.bytes),
         )?;
     }
-    Ok(reached.of)
+    Ok(reached.shape)
 }

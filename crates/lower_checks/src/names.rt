@@ -4,13 +4,13 @@ ghost use Rattle.std.specs.Prelude.{◌≡◌, ◌+◌, IfOk};
 ghost use Rattle.lower_checks.specs.Refusals.{NeverRefused};
 
 use crate::fault::LowerFault;
-use crate::shape::Target;
+use crate::shape::Shape;
 
-/// A local: its name and type, how many blocks out it is, and its number in that block.
+/// A local: its name and shape, how many blocks out it is, and its number in that block.
 #[derive(Clone, Copy)]
 pub struct Named<'p> {
     pub name: &'p [u8],
-    pub of: Target<'p>,
+    pub shape: Shape<'p>,
     pub out: u32,
     pub index: u32,
 }

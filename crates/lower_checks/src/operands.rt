@@ -1,10 +1,22 @@
 // Operands and arguments, one after the other.
 
-ghost use Rattle.std.specs.Prelude.{◌≡◌, ◌++◌, IfOk, OnOk, map};
+ghost use Rattle.std.specs.Prelude.{◌≡◌, ◌++◌, IfOk, OnOk, length, map};
 ghost use Rattle.cyc_tree.specs.View.{expression_tree, expressions_of, link_tree, links_of};
 ghost use Rattle.cyc_core.specs.Trees.{statement_tree};
 ghost use Rattle.source_meaning.specs.Programs.{world_of};
-ghost use Rattle.source_lowering.specs.Lowered.{linked_shape, call_shape, call_parameters, count_of, call_code, links_code, all_code, any_code, arguments_code};
+ghost use Rattle.source_lowering.specs.Lowered.{
+  all_code,
+  all_values,
+  any_code,
+  arguments_code,
+  call_code,
+  call_parameters,
+  call_shape,
+  count_of,
+  link_values,
+  linked_shape,
+  links_code,
+};
 ghost use Rattle.source_lowering.specs.Lowerable.{TakesAll, TakesLinks};
 ghost use Rattle.lower_checks.specs.Views.{shape_tree};
 ghost use Rattle.lower_checks.specs.Visible.{names_of};
@@ -31,24 +43,28 @@ pub fn lower_links<'p>(
     alloc: Global,
     program: &Table<'p>,
     locals: &Locals<'p>,
-    links: &[Link],
+    links: &'p [Link],
     body: &mut Vec<Statement>,
+    own: &mut Vec<Shape<'p>>,
     first: Shape<'p>,
     to: Temporary,
 ) -> Result<Shape<'p>, LowerFault>
     ensures code { OnOk result
         (map statement_tree body.new.items ≡
         map statement_tree body.old.items ++
-        links_code (world_of program.now) (names_of locals.now) (links_of (map link_tree links.now)) (shape_tree first.entry) to.0) }
+        links_code (world_of program.now) (names_of locals.now) (links_of (map link_tree links.entry.now)) (shape_tree first.entry) to.0 (length own.old.items)) }
+    ensures values { OnOk result
+        (map shape_tree own.new.items ≡
+        map shape_tree own.old.items ++ link_values (world_of program.now) (names_of locals.now) (links_of (map link_tree links.entry.now))) }
     ensures shape { IfOk result
         (λ shape.
-        shape_tree shape ≡ linked_shape (world_of program.now) (names_of locals.now) (links_of (map link_tree links.now)) (shape_tree first.entry)) }
-    ensures taken { TakesLinks (world_of program.now) (names_of locals.now) (links_of (map link_tree links.now)) → NeverRefused result }
+        shape_tree shape ≡ linked_shape (world_of program.now) (names_of locals.now) (links_of (map link_tree links.entry.now)) (shape_tree first.entry)) }
+    ensures taken { TakesLinks (world_of program.now) (names_of locals.now) (links_of (map link_tree links.entry.now)) → NeverRefused result }
 {
     let right = Temporary(after(to.0)?);
     let mut left = first;
     'each: for link in links {
-        let shape = lower_expression(alloc, program, locals, &link.operand, body, right)?;
+        let shape = lower_expression(alloc, program, locals, &link.operand, body, own, right)?;
         lower_operator(body, link.operator, left, shape, to)?;
         left = operator_shape(link.operator, left, shape);
     }
@@ -61,19 +77,23 @@ pub fn lower_all<'p>(
     alloc: Global,
     program: &Table<'p>,
     locals: &Locals<'p>,
-    operands: &[Expression],
+    operands: &'p [Expression],
     body: &mut Vec<Statement>,
+    own: &mut Vec<Shape<'p>>,
     to: Temporary,
 ) -> Result<(), LowerFault>
     ensures code { OnOk result
         (map statement_tree body.new.items ≡
         map statement_tree body.old.items ++
-        all_code (world_of program.now) (names_of locals.now) (expressions_of (map expression_tree operands.now)) to.0) }
-    ensures taken { TakesAll (world_of program.now) (names_of locals.now) (expressions_of (map expression_tree operands.now)) → NeverRefused result }
+        all_code (world_of program.now) (names_of locals.now) (expressions_of (map expression_tree operands.entry.now)) to.0 (length own.old.items)) }
+    ensures values { OnOk result
+        (map shape_tree own.new.items ≡
+        map shape_tree own.old.items ++ all_values (world_of program.now) (names_of locals.now) (expressions_of (map expression_tree operands.entry.now))) }
+    ensures taken { TakesAll (world_of program.now) (names_of locals.now) (expressions_of (map expression_tree operands.entry.now)) → NeverRefused result }
 {
     'each: for operand in operands {
         let mut these = Vec::new(alloc);
-        let shape = lower_expression(alloc, program, locals, operand, &mut these, to)?;
+        let shape = lower_expression(alloc, program, locals, operand, &mut these, own, to)?;
         lower_word(&mut these, shape, to)?;
         emit_if(body, to, these, Vec::new(alloc))?;
     }
@@ -86,19 +106,23 @@ pub fn lower_any<'p>(
     alloc: Global,
     program: &Table<'p>,
     locals: &Locals<'p>,
-    operands: &[Expression],
+    operands: &'p [Expression],
     body: &mut Vec<Statement>,
+    own: &mut Vec<Shape<'p>>,
     to: Temporary,
 ) -> Result<(), LowerFault>
     ensures code { OnOk result
         (map statement_tree body.new.items ≡
         map statement_tree body.old.items ++
-        any_code (world_of program.now) (names_of locals.now) (expressions_of (map expression_tree operands.now)) to.0) }
-    ensures taken { TakesAll (world_of program.now) (names_of locals.now) (expressions_of (map expression_tree operands.now)) → NeverRefused result }
+        any_code (world_of program.now) (names_of locals.now) (expressions_of (map expression_tree operands.entry.now)) to.0 (length own.old.items)) }
+    ensures values { OnOk result
+        (map shape_tree own.new.items ≡
+        map shape_tree own.old.items ++ all_values (world_of program.now) (names_of locals.now) (expressions_of (map expression_tree operands.entry.now))) }
+    ensures taken { TakesAll (world_of program.now) (names_of locals.now) (expressions_of (map expression_tree operands.entry.now)) → NeverRefused result }
 {
     'each: for operand in operands {
         let mut those = Vec::new(alloc);
-        let shape = lower_expression(alloc, program, locals, operand, &mut those, to)?;
+        let shape = lower_expression(alloc, program, locals, operand, &mut those, own, to)?;
         lower_word(&mut those, shape, to)?;
         emit_if(body, to, Vec::new(alloc), those)?;
     }
@@ -112,8 +136,9 @@ fn lower_arguments<'p>(
     alloc: Global,
     program: &Table<'p>,
     locals: &Locals<'p>,
-    arguments: &[Expression],
+    arguments: &'p [Expression],
     body: &mut Vec<Statement>,
+    own: &mut Vec<Shape<'p>>,
     shapes: &[Shape<'p>],
     first: Temporary,
 ) -> Result<(), LowerFault>
@@ -121,16 +146,22 @@ fn lower_arguments<'p>(
         (map statement_tree body.new.items ≡
         map statement_tree body.old.items ++
         arguments_code (world_of program.now) (names_of locals.now) (map shape_tree shapes.now)
-        (expressions_of (map expression_tree arguments.now)) first.0) }
-    ensures taken { TakesAll (world_of program.now) (names_of locals.now) (expressions_of (map expression_tree arguments.now)) → NeverRefused result }
+        (expressions_of (map expression_tree arguments.entry.now)) first.0 (length own.old.items)) }
+    ensures values { OnOk result
+        (map shape_tree own.new.items ≡
+        map shape_tree own.old.items ++ all_values (world_of program.now) (names_of locals.now) (expressions_of (map expression_tree arguments.entry.now))) }
+    ensures taken { TakesAll (world_of program.now) (names_of locals.now) (expressions_of (map expression_tree arguments.entry.now)) → NeverRefused result }
 {
     let mut left = shapes;
     let mut to = first;
     'each: for argument in arguments {
         let [shape, others @ ..] = left else {
-            return Ok(());
+            // without a parameter it has no code
+            let mut apart = Vec::new(alloc);
+            lower_expression(alloc, program, locals, argument, &mut apart, own, to)?;
+            continue;
         };
-        let from = lower_expression(alloc, program, locals, argument, body, to)?;
+        let from = lower_expression(alloc, program, locals, argument, body, own, to)?;
         lower_conversion(alloc, body, *shape, from, to)?;
         left = others;
         to = Temporary(after(to.0)?);
@@ -144,22 +175,27 @@ pub fn lower_called<'p>(
     alloc: Global,
     program: &Table<'p>,
     locals: &Locals<'p>,
-    arguments: &[Expression],
+    arguments: &'p [Expression],
     body: &mut Vec<Statement>,
-    name: &[u8],
+    own: &mut Vec<Shape<'p>>,
+    name: &'p [u8],
     to: Temporary,
 ) -> Result<Shape<'p>, LowerFault>
     ensures code { let w = world_of program.now in
         OnOk result
         (map statement_tree body.new.items ≡
         map statement_tree body.old.items ++
-        (arguments_code w (names_of locals.now) (call_parameters w name.now) (expressions_of (map expression_tree arguments.now)) to.0 ++
-        call_code w name.now (count_of (expressions_of (map expression_tree arguments.now))) to.0)) }
-    ensures shape { IfOk result (λ shape. shape_tree shape ≡ call_shape (world_of program.now) name.now) }
-    ensures taken { TakesAll (world_of program.now) (names_of locals.now) (expressions_of (map expression_tree arguments.now)) → NeverRefused result }
+        (arguments_code w (names_of locals.now) (call_parameters w name.entry.now) (expressions_of (map expression_tree arguments.entry.now)) to.0
+        (length own.old.items) ++
+        call_code w name.entry.now (count_of (expressions_of (map expression_tree arguments.entry.now))) to.0)) }
+    ensures values { OnOk result
+        (map shape_tree own.new.items ≡
+        map shape_tree own.old.items ++ all_values (world_of program.now) (names_of locals.now) (expressions_of (map expression_tree arguments.entry.now))) }
+    ensures shape { IfOk result (λ shape. shape_tree shape ≡ call_shape (world_of program.now) name.entry.now) }
+    ensures taken { TakesAll (world_of program.now) (names_of locals.now) (expressions_of (map expression_tree arguments.entry.now)) → NeverRefused result }
 {
     let shapes = call_parameters(alloc, program, name)?;
-    lower_arguments(alloc, program, locals, arguments, body, &shapes, to)?;
+    lower_arguments(alloc, program, locals, arguments, body, own, &shapes, to)?;
     lower_call(alloc, program, body, name, arguments, to)?;
     Ok(call_shape(program, name))
 }

@@ -15,9 +15,9 @@ ghost use Rattle.lower_checks.specs.Refusals.{NeverRefused};
 
 use crate::fault::LowerFault;
 use crate::function::lower_function;
+use crate::objects::struct_layout;
 use crate::shape::Shape;
 use crate::table::{Table, function_number};
-use crate::whole::struct_layout;
 use cyc_core::{Datum, Function, Program};
 use cyc_tree::{Constant, Global as Declared, Initial, Item, Program as Source};
 use cyc_words::sub32;
@@ -69,7 +69,7 @@ fn first_datum(
         TakesGlobal (shape_tree shape.entry) (initial_tree initial.now) → NeverRefused result }
 {
     match shape {
-        Shape::Thin(_, _, _) => match initial {
+        Shape::Thin(_, _, _) | Shape::Address(_, _) => match initial {
             Initial::None | Initial::Constant(Constant::Null(_)) => Ok(Datum::Null),
             _ => Err(LowerFault::NotTaken),
         },
@@ -130,8 +130,8 @@ fn lower_functions(alloc: Global, program: &Table<'_>) -> Result<Vec<Function>, 
     Ok(functions)
 }
 
-/// The Core of a program's tree. Refuses a tree that has something else than functions, globals and locals of integers, of structs and of
-/// thin pointers to these.
+/// The Core of a program's tree. Refuses a tree that has something else than functions, globals and locals of integers, of structs, of
+/// handles and of thin pointers to these, and the heap and lexical regions.
 fn lower_tree(alloc: Global, program: &Source) -> Result<Program, LowerFault>
     ensures code { IfOk result (λ core. program_tree core ≡ program_code program.now) }
     ensures taken { IsLowerable program.now → NeverRefused result }

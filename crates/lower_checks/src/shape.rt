@@ -1,15 +1,16 @@
 // Shapes, and what depends on them alone.
 
-ghost use Rattle.std.specs.Prelude.{◌≡◌, ◌∷◌, ◌++◌, [], suc, true, false, length, OnOk, map, option_map};
+ghost use Rattle.std.specs.Prelude.{◌≡◌, ◌∷◌, ◌++◌, [], suc, true, false, length, IfOk, OnOk, map, option_map};
 ghost use Rattle.cyc_tree.specs.View.{base_tree, pointer_tree, region_tree, type_tree};
 ghost use Rattle.source_meaning.specs.Shapes.{ThinShape, VoidShape, Shared, base_shape, owner_of, pointee, settled, shared_owner, signed_shape, written};
 ghost use Rattle.source_lowering.specs.Lowered.{width_of, results_in};
 ghost use Rattle.cyc_core.specs.Trees.{bytes_of, optional_tree};
-ghost use Rattle.lower_checks.specs.declared.shape.Target.TheVariants.{Written};
-ghost use Rattle.lower_checks.specs.Views.{owner_tree, shape_tree, target_shape, target_tree};
+ghost use Rattle.lower_checks.specs.declared.shape.Written.TheVariants.{Pointed};
+ghost use Rattle.lower_checks.specs.Views.{owner_tree, plain_tree, shape_tree, written_shape, written_tree};
 ghost use Rattle.lower_checks.specs.Refusals.{NeverRefused};
 
 use crate::fault::LowerFault;
+use crate::names::after;
 use cyc_core::{Temporary, Width};
 use cyc_tree::{Base, Pointer, RegionName, Sign, TypeName};
 
@@ -22,13 +23,28 @@ pub enum Owner {
     Alone,
 }
 
-/// What a pointer leads to.
+/// What a pointer of a type as it is written leads to.
 #[derive(Clone, Copy)]
-pub enum Target<'p> {
+pub enum Written<'p> {
     /// Nothing: so `NULL` has it.
     Nothing,
     /// A type as it is written: the pointers, from the base outwards, and the base.
-    Written(&'p [Pointer], &'p Base),
+    Pointed(&'p [Pointer], &'p Base),
+}
+
+/// A shape that neither `&` nor `new` gives: that of a type as it is written, or of a value that has no type in the text.
+#[derive(Clone, Copy)]
+pub enum Plain<'p> {
+    Int,
+    Unsigned,
+    Char,
+    Void,
+    Thin(bool, Owner, Written<'p>),
+    Fat(Written<'p>),
+    Handle,
+    Key,
+    Struct(&'p [u8]),
+    Union(&'p [u8]),
 }
 
 /// What a type means at run time. A struct and a union go by their tags.
@@ -43,9 +59,12 @@ pub enum Shape<'p> {
     /// `void`
     Void,
     /// A pointer to one object: whether it may be NULL, whether it is unique, and what it leads to.
-    Thin(bool, Owner, Target<'p>),
+    Thin(bool, Owner, Written<'p>),
+    /// A pointer to one object as `&` and `new` give it, shared and never NULL: how many further such pointers it leads to, one after the
+    /// other, and what the last one leads to.
+    Address(u32, Plain<'p>),
     /// A pointer that carries bounds, by what it leads to.
-    Fat(Target<'p>),
+    Fat(Written<'p>),
     /// A region's handle.
     Handle,
     /// A dynamic region's key.
@@ -82,9 +101,9 @@ fn base_shape<'p>(base: &'p Base) -> Shape<'p>
     }
 }
 
-/// The shape of a pointer to a target.
-fn pointer_shape<'p>(pointer: &Pointer, to: Target<'p>) -> Shape<'p>
-    ensures { let p = pointer_tree pointer.now in shape_tree result ≡ settled (signed_shape p.sign (owner_of p.region) (target_tree to.entry)) }
+/// The shape of a pointer to what is written.
+fn pointer_shape<'p>(pointer: &Pointer, to: Written<'p>) -> Shape<'p>
+    ensures { let p = pointer_tree pointer.now in shape_tree result ≡ settled (signed_shape p.sign (owner_of p.region) (written_tree to.entry)) }
 {
     let owner = owner_in(&pointer.region);
     match pointer.sign {
@@ -95,38 +114,44 @@ fn pointer_shape<'p>(pointer: &Pointer, to: Target<'p>) -> Shape<'p>
 }
 
 /// The shape of a base with pointers to it.
-fn written_shape<'p>(pointers: &'p [Pointer], base: &'p Base) -> Shape<'p>
-    ensures { shape_tree result ≡ target_shape (Written pointers.entry base.entry) }
+fn type_shape<'p>(pointers: &'p [Pointer], base: &'p Base) -> Shape<'p>
+    ensures { shape_tree result ≡ written_shape (Pointed pointers.entry base.entry) }
 {
     if let [others @ .., outer] = pointers {
-        return pointer_shape(outer, Target::Written(others, base));
+        return pointer_shape(outer, Written::Pointed(others, base));
     }
     base_shape(base)
 }
 
-impl<'p> Target<'p> {
-    /// A type as it is written.
-    pub fn of(of: &'p TypeName) -> Target<'p>
-        ensures { target_tree result ≡ written (type_tree of.entry.now) }
-    {
-        Target::Written(&of.pointers, &of.base)
-    }
-
-    /// The shape of what a pointer leads to.
+impl<'p> Written<'p> {
+    /// The shape of what is written.
     pub fn shape(self) -> Shape<'p>
-        ensures { shape_tree result ≡ target_shape self.entry }
+        ensures { shape_tree result ≡ written_shape self.entry }
     {
         match self {
-            Target::Nothing => Shape::Void,
-            Target::Written(pointers, base) => written_shape(pointers, base),
+            Written::Nothing => Shape::Void,
+            Written::Pointed(pointers, base) => type_shape(pointers, base),
         }
     }
+}
 
-    /// The shape of a pointer to an object of the type, as `&` gives it: shared, and never NULL.
-    pub fn address(self) -> Shape<'p>
-        ensures { shape_tree result ≡ ThinShape false Shared (target_shape self.entry) }
+impl<'p> Plain<'p> {
+    /// It as a shape.
+    pub fn shape(self) -> Shape<'p>
+        ensures { shape_tree result ≡ plain_tree self.entry }
     {
-        Shape::Thin(false, Owner::Shared, self)
+        match self {
+            Plain::Int => Shape::Int,
+            Plain::Unsigned => Shape::Unsigned,
+            Plain::Char => Shape::Char,
+            Plain::Void => Shape::Void,
+            Plain::Thin(may_be_null, owner, to) => Shape::Thin(may_be_null, owner, to),
+            Plain::Fat(to) => Shape::Fat(to),
+            Plain::Handle => Shape::Handle,
+            Plain::Key => Shape::Key,
+            Plain::Struct(tag) => Shape::Struct(tag),
+            Plain::Union(tag) => Shape::Union(tag),
+        }
     }
 }
 
@@ -135,24 +160,47 @@ impl<'p> Shape<'p> {
     pub fn of(of: &'p TypeName) -> Shape<'p>
         ensures { shape_tree result ≡ settled (written (type_tree of.entry.now)) }
     {
-        Target::of(of).shape()
+        type_shape(&of.pointers, &of.base)
     }
 
     /// The shape of `NULL`.
     pub fn null() -> Shape<'p>
         ensures { shape_tree result ≡ ThinShape true Shared VoidShape }
     {
-        Shape::Thin(true, Owner::Shared, Target::Nothing)
+        Shape::Thin(true, Owner::Shared, Written::Nothing)
     }
 
-    /// What a pointer of the shape leads to; nothing where it isn't a pointer.
-    pub fn pointee(self) -> Target<'p>
-        ensures { target_shape result ≡ pointee (shape_tree self.entry) }
+    /// The shape of what a pointer of the shape leads to; `void` where it isn't a pointer.
+    pub fn pointee(self) -> Shape<'p>
+        ensures { shape_tree result ≡ pointee (shape_tree self.entry) }
     {
         match self {
-            Shape::Thin(_, _, to) | Shape::Fat(to) => to,
-            _ => Target::Nothing,
+            Shape::Thin(_, _, to) | Shape::Fat(to) => to.shape(),
+            Shape::Address(0, to) => to.shape(),
+            Shape::Address(pointers, to) => Shape::Address(pointers - 1, to),
+            _ => Shape::Void,
         }
+    }
+
+    /// The shape of a pointer to an object of the shape, as `&` and `new` give it: shared, and never NULL.
+    pub fn address(self) -> Result<Shape<'p>, LowerFault>
+        ensures address { IfOk result (λ shape. shape_tree shape ≡ ThinShape false Shared (shape_tree self.entry)) }
+        ensures taken { NeverRefused result }
+    {
+        let to = match self {
+            Shape::Address(pointers, to) => return Ok(Shape::Address(after(pointers)?, to)),
+            Shape::Int => Plain::Int,
+            Shape::Unsigned => Plain::Unsigned,
+            Shape::Char => Plain::Char,
+            Shape::Void => Plain::Void,
+            Shape::Thin(may_be_null, owner, to) => Plain::Thin(may_be_null, owner, to),
+            Shape::Fat(to) => Plain::Fat(to),
+            Shape::Handle => Plain::Handle,
+            Shape::Key => Plain::Key,
+            Shape::Struct(tag) => Plain::Struct(tag),
+            Shape::Union(tag) => Plain::Union(tag),
+        };
+        Ok(Shape::Address(0, to))
     }
 
     /// How wide a value of the shape is.

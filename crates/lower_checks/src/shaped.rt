@@ -1,13 +1,21 @@
-// The shapes of numbers and calls, which are known without a run.
+// The shapes of expressions, which are known without a run.
 
-ghost use Rattle.std.specs.Prelude.{◌≡◌};
+ghost use Rattle.std.specs.Prelude.{◌≡◌, IfOk, map};
+ghost use Rattle.cyc_tree.specs.View.{expression_tree, link_tree, links_of, made_tree, member_tree, suffix_tree, suffixes_of};
+ghost use Rattle.source_meaning.specs.Shapes.{part_of, part_shape};
 ghost use Rattle.source_meaning.specs.Calls.{number_type};
 ghost use Rattle.source_meaning.specs.Programs.{world_of, integer_shape};
-ghost use Rattle.source_lowering.specs.Lowered.{call_shape};
+ghost use Rattle.source_lowering.specs.Lowered.{call_shape, linked_shape, makes_struct, member_shape, named_shape, new_shape, prefix_shape, static_shape, suffixed_shape};
+ghost use Rattle.lower_checks.specs.Refusals.{NeverRefused};
 ghost use Rattle.lower_checks.specs.Views.{shape_tree};
+ghost use Rattle.lower_checks.specs.Visible.{names_of};
 
+use crate::fault::LowerFault;
+use crate::locals::Locals;
+use crate::operator::operator_shape;
 use crate::shape::Shape;
 use crate::table::Table;
+use cyc_tree::{Expression, Link, Made, Member, Operator, Prefix, Suffix};
 
 /// The shape of a number: one without a suffix up to 2,147,483,647 is an int.
 pub fn number_shape<'p>(value: u32, suffix: bool) -> Shape<'p>
@@ -20,15 +28,174 @@ pub fn number_shape<'p>(value: u32, suffix: bool) -> Shape<'p>
     }
 }
 
-/// The shape of a call; `void` where there is no function of that name.
-pub fn call_shape<'p>(program: &Table<'p>, name: &[u8]) -> Shape<'p>
-    ensures { shape_tree result ≡ call_shape (world_of program.now) name.now }
+/// Whether a call of a name makes a struct.
+pub fn makes(program: &Table<'_>, name: &[u8]) -> bool
+    ensures { result ≡ makes_struct (world_of program.now) name.now }
+{
+    if name == b"getchar".as_slice() || name == b"putchar".as_slice() {
+        return false;
+    }
+    program.struct_of(name).is_some()
+}
+
+/// The shape of a call, or of a struct that is made; `void` where there is nothing of that name.
+pub fn call_shape<'p>(program: &Table<'p>, name: &'p [u8]) -> Shape<'p>
+    ensures { shape_tree result ≡ call_shape (world_of program.now) name.entry.now }
 {
     if name == b"getchar".as_slice() || name == b"putchar".as_slice() {
         return Shape::Int;
     }
+    if program.struct_of(name).is_some() {
+        return Shape::Struct(name);
+    }
     match program.function_named(name) {
         Some(callee) => Shape::of(&callee.function.result),
         None => Shape::Void,
+    }
+}
+
+/// The shape of the variable of a name: a local, or else a global; `void` where there is none.
+fn named_shape<'p>(program: &Table<'p>, locals: &Locals<'p>, name: &[u8]) -> Shape<'p>
+    ensures { shape_tree result ≡ named_shape (world_of program.now) (names_of locals.now) name.now }
+{
+    if let Some(local) = locals.named(name) {
+        return local.shape;
+    }
+    match program.global_named(name) {
+        Some(global) => global.shape,
+        None => Shape::Void,
+    }
+}
+
+/// The shape of the first member of a name; `void` where there is none.
+fn part_shape<'p>(members: &'p [Member], name: &[u8]) -> Shape<'p>
+    ensures { shape_tree result ≡ part_shape (map part_of (map member_tree members.entry.now)) name.now }
+{
+    'each: for member in members {
+        if member.name.text.as_slice() == name {
+            return Shape::of(&member.of);
+        }
+    }
+    Shape::Void
+}
+
+/// The shape of a member of a struct; `void` where there is none of that name.
+#[tactic(auto, using(crate::proofs::Reaching::no_member))]
+fn member_shape<'p>(program: &Table<'p>, shape: Shape<'_>, name: &[u8]) -> Shape<'p>
+    ensures { shape_tree result ≡ member_shape (world_of program.now) (shape_tree shape.entry) name.now }
+{
+    match shape {
+        Shape::Struct(tag) => match program.struct_of(tag) {
+            Some(known) => part_shape(known.members, name),
+            None => Shape::Void,
+        },
+        _ => Shape::Void,
+    }
+}
+
+/// The shape of what suffixes lead to, from that of what is on their left; `void` where there is an index.
+fn suffixed_shape<'p>(program: &Table<'p>, suffixes: &[Suffix], first: Shape<'p>) -> Shape<'p>
+    ensures { shape_tree result ≡ suffixed_shape (world_of program.now) (suffixes_of (map suffix_tree suffixes.now)) (shape_tree first.entry) }
+{
+    let mut left = first;
+    'each: for suffix in suffixes {
+        left = match suffix {
+            Suffix::Dot(name) => member_shape(program, left, &name.text),
+            Suffix::Arrow(name) => member_shape(program, left.pointee(), &name.text),
+            Suffix::Index(_) => return Shape::Void,
+        };
+    }
+    left
+}
+
+/// The shape of what a prefix operator gives, by that of its operand.
+fn prefix_shape<'p>(operator: Prefix, operand: Shape<'p>) -> Result<Shape<'p>, LowerFault>
+    ensures shape { IfOk result (λ shape. shape_tree shape ≡ prefix_shape operator (shape_tree operand.entry)) }
+    ensures taken { NeverRefused result }
+{
+    match operator {
+        Prefix::Negate => Ok(operator_shape(Operator::Subtract, Shape::Int, operand)),
+        Prefix::Complement => Ok(operator_shape(Operator::BitXor, Shape::Int, operand)),
+        Prefix::Not => Ok(Shape::Int),
+        Prefix::Dereference => Ok(operand.pointee()),
+        Prefix::AddressOf => operand.address(),
+    }
+}
+
+/// The shape of a chain, from that of what is on its left.
+#[cycle(shape)]
+fn linked_shape<'p>(
+    program: &Table<'p>,
+    locals: &Locals<'p>,
+    links: &'p [Link],
+    first: Shape<'p>,
+) -> Result<Shape<'p>, LowerFault>
+    ensures shape { IfOk result
+        (λ shape.
+        shape_tree shape ≡ linked_shape (world_of program.now) (names_of locals.now) (links_of (map link_tree links.entry.now)) (shape_tree first.entry)) }
+    ensures taken { NeverRefused result }
+{
+    let mut left = first;
+    'each: for link in links {
+        let right = shape_of(program, locals, &link.operand)?;
+        left = operator_shape(link.operator, left, right);
+    }
+    Ok(left)
+}
+
+/// The shape of a pointer to what `new` makes; `void` where that is an array.
+#[cycle(shape)]
+fn new_shape<'p>(
+    program: &Table<'p>,
+    locals: &Locals<'p>,
+    made: &'p Made,
+) -> Result<Shape<'p>, LowerFault>
+    ensures shape { IfOk result (λ shape. shape_tree shape ≡ new_shape (world_of program.now) (names_of locals.now) (made_tree made.entry.now)) }
+    ensures taken { NeverRefused result }
+{
+    match made {
+        Made::One(value) => shape_of(program, locals, value)?.address(),
+        Made::Array(_, _, _) => Ok(Shape::Void),
+    }
+}
+
+/// The shape of an expression's type. Fails only where more pointers than the greatest u32 are around each other.
+#[cycle(shape)]
+pub fn shape_of<'p>(
+    program: &Table<'p>,
+    locals: &Locals<'p>,
+    expression: &'p Expression,
+) -> Result<Shape<'p>, LowerFault>
+    ensures shape { IfOk result
+        (λ shape. shape_tree shape ≡ static_shape (world_of program.now) (names_of locals.now) (expression_tree expression.entry.now)) }
+    ensures taken { NeverRefused result }
+{
+    match expression {
+        Expression::Number(_, value, suffix) => Ok(number_shape(*value, *suffix)),
+        Expression::Character(_, _) => Ok(Shape::Char),
+        Expression::Null(_) => Ok(Shape::null()),
+        Expression::HeapRegion(_) => Ok(Shape::Handle),
+        Expression::Variable(name) => Ok(named_shape(program, locals, &name.text)),
+        Expression::Call(name, _) => Ok(call_shape(program, &name.text)),
+        Expression::Grouped(_, inner) => shape_of(program, locals, inner),
+        Expression::Suffixed(primary, suffixes) => {
+            let left = shape_of(program, locals, primary)?;
+            Ok(suffixed_shape(program, suffixes, left))
+        }
+        Expression::Prefixed(_, operator, operand) => {
+            prefix_shape(*operator, shape_of(program, locals, operand)?)
+        }
+        Expression::New(_, made) => new_shape(program, locals, made),
+        Expression::NewIn(_, _, made) => new_shape(program, locals, made),
+        Expression::Chain(first, links) => {
+            let left = shape_of(program, locals, first)?;
+            linked_shape(program, locals, links, left)
+        }
+        Expression::AllOf(_, _) | Expression::AnyOf(_, _) => Ok(Shape::Int),
+        Expression::Assign(place, _) => shape_of(program, locals, place),
+        Expression::Text(_, _)
+        | Expression::UniqueRegion(_)
+        | Expression::MakeUnion(_, _, _)
+        | Expression::NumElts(_, _) => Ok(Shape::Void),
     }
 }

@@ -1,61 +1,34 @@
 // Statements and blocks.
 
 ghost use Rattle.std.specs.Prelude.{◌≡◌, ◌∷◌, ◌++◌, [], OnOk, IfOk, length, map};
-ghost use Rattle.cyc_tree.specs.View.{expression_tree, statement_tree as source_tree, item_tree, items_of};
+ghost use Rattle.cyc_tree.specs.View.{statement_tree as source_tree, item_tree, items_of};
 ghost use Rattle.cyc_core.specs.Trees.{statement_tree};
 ghost use Rattle.source_meaning.specs.Programs.{world_of};
 ghost use Rattle.core_meaning.specs.Core as core;
-ghost use Rattle.source_lowering.specs.Lowered.{static_shape, conversion_code, results_in, expression_code};
-ghost use Rattle.source_lowering.specs.Programs.{block_shapes, statement_values, item_values, statement_code, items_code};
-ghost use Rattle.source_lowering.specs.Lowerable.{Takes, TakesStatement, TakesItems};
-ghost use Rattle.lower_checks.specs.Views.{shape_tree};
+ghost use Rattle.source_lowering.specs.Lowered.{all_of};
+ghost use Rattle.source_lowering.specs.Programs.{block_shapes, item_values, items_code, locals_of, outward, statement_code, statement_values};
+ghost use Rattle.source_lowering.specs.Lowerable.{TakesItems, TakesStatement};
+ghost use Rattle.lower_checks.specs.Views.{regions_tree, shape_tree};
 ghost use Rattle.lower_checks.specs.Visible.{left, names_of};
 ghost use Rattle.lower_checks.specs.Refusals.{NeverRefused};
 
 use crate::assigned::lower_run;
-use crate::declaration::{declared_type, lower_declaration};
-use crate::emit::{emit, emit_block, emit_if, emit_while};
+use crate::declaration::{declared_shape, lower_declaration};
+use crate::emit::{emit_block, emit_if, emit_while};
 use crate::expression::lower_expression;
 use crate::fault::LowerFault;
+use crate::leaving::{RegionsAround, lower_leaving, lower_left, lower_return};
 use crate::locals::Locals;
 use crate::names::number;
 use crate::objects::locals_of;
 use crate::shape::{Shape, add_shape};
 use crate::table::Table;
-use crate::values::lower_conversion;
-use cyc_core::{Statement, Temporary};
-use cyc_tree::{BlockItem, Expression, Statement as Source};
+use cyc_core::Statement;
+use cyc_tree::{BlockItem, Statement as Source};
 use std::alloc::Global;
 
-/// The first temporary, which has the value of a statement's expression.
-const VALUE: Temporary = Temporary(0);
-
-/// Appends a return, with the value of an expression in the shape of the function's result.
-fn lower_return<'p>(
-    alloc: Global,
-    program: &Table<'p>,
-    shape: Shape<'_>,
-    locals: &Locals<'p>,
-    value: &Expression,
-    body: &mut Vec<Statement>,
-) -> Result<(), LowerFault>
-    ensures code { let w = world_of program.now in
-        let names = names_of locals.now in
-        let e = expression_tree value.now in
-        OnOk result
-        (map statement_tree body.new.items ≡
-        map statement_tree body.old.items ++
-        (expression_code w names e 0 ++
-        (conversion_code (shape_tree shape.entry) (static_shape w names e) 0 ++ core.Return (results_in (shape_tree shape.entry) 0) ∷ []))) }
-    ensures taken { Takes (world_of program.now) (names_of locals.now) (expression_tree value.now) → NeverRefused result }
-{
-    let from = lower_expression(alloc, program, locals, value, body, VALUE)?;
-    lower_conversion(alloc, body, shape, from, VALUE)?;
-    emit(body, Statement::Return(shape.result_in(VALUE)))
-}
-
-/// Appends what a statement does, in a function with a result of this shape; appends the shapes of the unnamed values. The next unnamed
-/// value's number is how many there are.
+/// Appends what a statement does, in a function with a result of this shape, among regions; appends the shapes of the unnamed values. The
+/// next unnamed value's number is how many there are.
 #[cycle(statement)]
 fn lower_statement<'p>(
     alloc: Global,
@@ -65,13 +38,14 @@ fn lower_statement<'p>(
     statement: &'p Source,
     body: &mut Vec<Statement>,
     own: &mut Vec<Shape<'p>>,
+    around: RegionsAround,
 ) -> Result<(), LowerFault>
     ensures code { let w = world_of program.now in
         let names = names_of locals.old in
         OnOk result
         (map statement_tree body.new.items ≡
         map statement_tree body.old.items ++
-        statement_code w (shape_tree shape.entry) names (length own.old.items) (source_tree statement.entry.now)) }
+        statement_code w (shape_tree shape.entry) names (regions_tree around) (length own.old.items) (source_tree statement.entry.now)) }
     ensures values { OnOk result
         (map shape_tree own.new.items ≡
         map shape_tree own.old.items ++
@@ -80,48 +54,35 @@ fn lower_statement<'p>(
     ensures taken { let w = world_of program.now in
         TakesStatement w (shape_tree shape.entry) (names_of locals.old) (source_tree statement.entry.now) → NeverRefused result }
 {
+    let to = around.value();
     match statement {
         Source::Empty(_) => Ok(()),
         Source::Block(_, items) => {
-            let mut shapes = Vec::new(alloc);
-            let mut inside = Vec::new(alloc);
-            locals.enter()?;
-            lower_items(
-                alloc,
-                program,
-                shape,
-                locals,
-                items,
-                &mut shapes,
-                &mut inside,
-                own,
-            )?;
-            locals.leave();
-            emit_block(body, locals_of(alloc, program, &shapes)?, inside)
+            lower_block(alloc, program, shape, locals, items, body, own, around)
         }
-        Source::Run(value) => lower_run(alloc, program, locals, value, body, own),
+        Source::Run(value) => lower_run(alloc, program, locals, value, body, own, to),
         Source::If(_, condition, these) => {
-            lower_expression(alloc, program, locals, condition, body, VALUE)?;
-            let these = lower_part(alloc, program, shape, locals, these, own)?;
-            emit_if(body, VALUE, these, Vec::new(alloc))
+            lower_expression(alloc, program, locals, condition, body, own, to)?;
+            let these = lower_part(alloc, program, shape, locals, these, own, around)?;
+            emit_if(body, to, these, Vec::new(alloc))
         }
         Source::IfElse(_, condition, these, those) => {
-            lower_expression(alloc, program, locals, condition, body, VALUE)?;
-            let these = lower_part(alloc, program, shape, locals, these, own)?;
-            let those = lower_part(alloc, program, shape, locals, those, own)?;
-            emit_if(body, VALUE, these, those)
+            lower_expression(alloc, program, locals, condition, body, own, to)?;
+            let these = lower_part(alloc, program, shape, locals, these, own, around)?;
+            let those = lower_part(alloc, program, shape, locals, those, own, around)?;
+            emit_if(body, to, these, those)
         }
         Source::While(_, condition, turn) => {
             let mut test = Vec::new(alloc);
-            lower_expression(alloc, program, locals, condition, &mut test, VALUE)?;
-            let turn = lower_part(alloc, program, shape, locals, turn, own)?;
-            emit_while(body, test, VALUE, turn)
+            lower_expression(alloc, program, locals, condition, &mut test, own, to)?;
+            let turn = lower_part(alloc, program, shape, locals, turn, own, around.in_loop())?;
+            emit_while(body, test, to, turn)
         }
-        Source::Break(_) => emit(body, Statement::Break),
-        Source::Continue(_) => emit(body, Statement::Continue),
-        Source::Return(_, None) => emit(body, Statement::Return(None)),
+        Source::Break(_) => lower_left(body, around, around.inner, Statement::Break),
+        Source::Continue(_) => lower_left(body, around, around.inner, Statement::Continue),
+        Source::Return(_, None) => lower_left(body, around, around.all, Statement::Return(None)),
         Source::Return(_, Some(value)) => {
-            lower_return(alloc, program, shape, locals, value, body)
+            lower_return(alloc, program, shape, locals, value, body, own, around)
         }
         _ => Err(LowerFault::NotTaken),
     }
@@ -136,13 +97,14 @@ fn lower_part<'p>(
     locals: &mut Locals<'p>,
     statement: &'p Source,
     own: &mut Vec<Shape<'p>>,
+    around: RegionsAround,
 ) -> Result<Vec<Statement>, LowerFault>
     ensures code { let w = world_of program.now in
         let names = names_of locals.old in
         IfOk result
         (λ body.
         map statement_tree body.items ≡
-        statement_code w (shape_tree shape.entry) names (length own.old.items) (source_tree statement.entry.now)) }
+        statement_code w (shape_tree shape.entry) names (regions_tree around) (length own.old.items) (source_tree statement.entry.now)) }
     ensures values { OnOk result
         (map shape_tree own.new.items ≡
         map shape_tree own.old.items ++
@@ -152,12 +114,58 @@ fn lower_part<'p>(
         TakesStatement w (shape_tree shape.entry) (names_of locals.old) (source_tree statement.entry.now) → NeverRefused result }
 {
     let mut body = Vec::new(alloc);
-    lower_statement(alloc, program, shape, locals, statement, &mut body, own)?;
+    lower_statement(
+        alloc, program, shape, locals, statement, &mut body, own, around,
+    )?;
     Ok(body)
 }
 
+/// Appends a block with what its items do; appends the shapes of the unnamed values.
+#[cycle(statement)]
+fn lower_block<'p>(
+    alloc: Global,
+    program: &Table<'p>,
+    shape: Shape<'_>,
+    locals: &mut Locals<'p>,
+    items: &'p [BlockItem],
+    body: &mut Vec<Statement>,
+    own: &mut Vec<Shape<'p>>,
+    around: RegionsAround,
+) -> Result<(), LowerFault>
+    ensures code { let w = world_of program.now in
+        let inside = items_of (map item_tree items.entry.now) in
+        let code = items_code w (shape_tree shape.entry) (outward (names_of locals.old)) (regions_tree around) 0 (length own.old.items) inside in
+        OnOk result
+        (map statement_tree body.new.items ≡ map statement_tree body.old.items ++ core.Block (locals_of w (block_shapes inside)) (all_of code) ∷ []) }
+    ensures values { let inside = items_of (map item_tree items.entry.now) in
+        OnOk result
+        (map shape_tree own.new.items ≡
+        map shape_tree own.old.items ++ item_values (world_of program.now) (outward (names_of locals.old)) 0 inside) }
+    ensures kept { OnOk result (locals.new ≡ locals.old) }
+    ensures taken { let w = world_of program.now in
+        let inside = items_of (map item_tree items.entry.now) in
+        TakesItems w (shape_tree shape.entry) (outward (names_of locals.old)) 0 inside → NeverRefused result }
+{
+    let mut shapes = Vec::new(alloc);
+    let mut inside = Vec::new(alloc);
+    locals.enter()?;
+    lower_items(
+        alloc,
+        program,
+        shape,
+        locals,
+        items,
+        &mut shapes,
+        &mut inside,
+        own,
+        around,
+    )?;
+    locals.leave();
+    emit_block(body, locals_of(alloc, program, &shapes)?, inside)
+}
+
 /// Appends what the items of a block do, the shapes of the locals that they declare, and the shapes of the unnamed values. The next local's
-/// number is how many there are, and so is the next unnamed value's.
+/// number is how many there are, and so is the next unnamed value's. The regions that the items declare are freed at the end.
 #[cycle(statement)]
 pub fn lower_items<'p>(
     alloc: Global,
@@ -168,6 +176,7 @@ pub fn lower_items<'p>(
     shapes: &mut Vec<Shape<'p>>,
     body: &mut Vec<Statement>,
     own: &mut Vec<Shape<'p>>,
+    around: RegionsAround,
 ) -> Result<(), LowerFault>
     ensures code { let w = world_of program.now in
         let index = length shapes.old.items in
@@ -175,7 +184,7 @@ pub fn lower_items<'p>(
         OnOk result
         (map statement_tree body.new.items ≡
         map statement_tree body.old.items ++
-        items_code w (shape_tree shape.entry) (names_of locals.old) index (length own.old.items) inside) }
+        items_code w (shape_tree shape.entry) (names_of locals.old) (regions_tree around) index (length own.old.items) inside) }
     ensures values { let index = length shapes.old.items in
         let inside = items_of (map item_tree items.entry.now) in
         OnOk result
@@ -190,19 +199,22 @@ pub fn lower_items<'p>(
         let inside = items_of (map item_tree items.entry.now) in
         TakesItems w (shape_tree shape.entry) (names_of locals.old) index inside → NeverRefused result }
 {
+    let mut regions = around;
     'each: for item in items {
         match item {
             BlockItem::Declare(declaration) => {
                 let index = number(shapes.len())?;
-                lower_declaration(alloc, program, locals, declaration, body, own, index)?;
-                let of = declared_type(declaration)?;
-                add_shape(shapes, of.shape())?;
-                locals.declare(declaration.local(), of, index)?;
+                let to = regions.value();
+                lower_declaration(alloc, program, locals, declaration, body, own, to, index)?;
+                let declared = declared_shape(declaration)?;
+                add_shape(shapes, declared)?;
+                locals.declare(declaration.local(), declared, index)?;
+                regions = regions.with(declaration)?;
             }
             BlockItem::Execute(statement) => {
-                lower_statement(alloc, program, shape, locals, statement, body, own)?;
+                lower_statement(alloc, program, shape, locals, statement, body, own, regions)?;
             }
         }
     }
-    Ok(())
+    lower_leaving(body, regions.all, regions.all.saturating_sub(around.all))
 }

@@ -21,15 +21,15 @@ use crate::fault::LowerFault;
 use crate::first::Firsts;
 use crate::layouts::{Known, Structs};
 use crate::names::after;
-use crate::shape::Target;
+use crate::shape::Shape;
 use cyc_tree::{Function, Global as Declared, Initial, Item};
 use std::alloc::Global;
 use std::marker::Model;
 
-/// A global: its type, and its number among the globals.
+/// A global: its shape, and its number among the globals.
 #[derive(Clone, Copy)]
 pub struct Found<'p> {
-    pub of: Target<'p>,
+    pub shape: Shape<'p>,
     pub object: u32,
 }
 
@@ -94,7 +94,7 @@ fn global_entry<'p>(global: &'p Declared, object: u32) -> Result<Found<'p>, Lowe
         return Err(LowerFault::NotTaken);
     }
     Ok(Found {
-        of: Target::of(&global.of),
+        shape: Shape::of(&global.of),
         object,
     })
 }
@@ -132,7 +132,7 @@ fn first_globals<'p>(alloc: Global, items: &'p [Item]) -> Result<Firsts<'p, Foun
 }
 
 /// The structs, each behind those that its members are. Refuses two of one tag, and structs with other members than integers, thin
-/// pointers and earlier structs.
+/// pointers, handles and earlier structs.
 fn all_structs<'p>(alloc: Global, items: &'p [Item]) -> Result<Structs<'p>, LowerFault>
     ensures structs { IfOk result (λ structs. Knows structs (structs_from (program_tree items.entry.now) [])) }
     ensures taken { let p = program_tree items.entry.now in AreStructs (world_of p).unions (world_of p).structs → NeverRefused result }
@@ -149,7 +149,7 @@ fn all_structs<'p>(alloc: Global, items: &'p [Item]) -> Result<Structs<'p>, Lowe
 
 impl<'p> Table<'p> {
     /// The tables of a program. Refuses a global array, two structs of one tag, and a struct with a member that is no integer, no thin
-    /// pointer and no earlier struct.
+    /// pointer, no handle and no earlier struct.
     pub fn new(alloc: Global, items: &'p [Item]) -> Result<Self, LowerFault>
         ensures program { IfOk result (λ table. table ≡ program_tree items.entry.now) }
         ensures taken { let p = program_tree items.entry.now in

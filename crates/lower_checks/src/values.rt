@@ -48,7 +48,7 @@ pub fn lower_word(
     ensures taken { NeverRefused result }
 {
     match shape {
-        Shape::Thin(_, _, _) => {
+        Shape::Thin(_, _, _) | Shape::Address(_, _) => {
             emit_operation(body, Operation::IsNull(to, to))?;
             lower_turned(body, to)
         }
@@ -68,7 +68,10 @@ pub fn lower_not(
 {
     let right = Temporary(after(to.0)?);
     match shape {
-        Shape::Thin(_, _, _) => emit_operation(body, Operation::IsNull(to, right)),
+        Shape::Thin(_, _, _) | Shape::Address(_, _) => emit_operation(
+            body,
+            Operation::IsNull(to, right),
+        ),
         _ => {
             emit_operation(body, Operation::Constant(to, 0))?;
             emit_operation(body, Operation::Apply(Binary::Equal, to, right, to))
@@ -111,7 +114,7 @@ pub fn lower_operator<'p>(
 {
     let operand = Temporary(after(to.0)?);
     match left {
-        Shape::Thin(_, _, _) => lower_pointers(body, operator, to),
+        Shape::Thin(_, _, _) | Shape::Address(_, _) => lower_pointers(body, operator, to),
         _ => emit_operation(body, applied(operator, left, right, to, to, operand)),
     }
 }
@@ -164,17 +167,19 @@ pub fn lower_conversion(
     match (to, from) {
         (Shape::Char, Shape::Char) => Ok(()),
         (Shape::Char, _) => emit_operation(body, Operation::Narrow(value, value)),
-        (Shape::Thin(false, _, _), from) => lower_check(alloc, body, from, value),
+        (Shape::Thin(false, _, _) | Shape::Address(_, _), from) => lower_check(
+            alloc, body, from, value,
+        ),
         _ => Ok(()),
     }
 }
 
-/// What a local of a shape begins with, in the first temporary.
-pub fn first_value(shape: Shape<'_>) -> Operation
-    ensures { operation_tree result ≡ first_code (shape_tree shape.entry) }
+/// What a local of a shape begins with, in a temporary.
+pub fn first_value(shape: Shape<'_>, to: Temporary) -> Operation
+    ensures { operation_tree result ≡ first_code (shape_tree shape.entry) to.0 }
 {
     match shape {
-        Shape::Thin(_, _, _) => Operation::NullPointer(Temporary(0)),
-        _ => Operation::Constant(Temporary(0), 0),
+        Shape::Thin(_, _, _) | Shape::Address(_, _) => Operation::NullPointer(to),
+        _ => Operation::Constant(to, 0),
     }
 }

@@ -5,7 +5,7 @@ ghost use Rattle.cyc_core.specs.Trees.{statement_tree};
 ghost use Rattle.source_meaning.specs.Programs.{world_of};
 ghost use Rattle.source_lowering.specs.Lowered.{get_code, put_by, address_by, local_named, named_shape};
 ghost use Rattle.source_meaning.specs.Places.{bound_to};
-ghost use Rattle.lower_checks.specs.Views.{shape_tree, target_shape};
+ghost use Rattle.lower_checks.specs.Views.{shape_tree};
 ghost use Rattle.lower_checks.specs.Visible.{names_of};
 ghost use Rattle.lower_checks.specs.Refusals.{NeverRefused};
 
@@ -13,7 +13,7 @@ use crate::emit::emit_operation;
 use crate::fault::LowerFault;
 use crate::locals::Locals;
 use crate::names::{Named, after};
-use crate::shape::{Shape, Target};
+use crate::shape::Shape;
 use crate::table::Table;
 use cyc_core::{Distance, Operation, Statement, Temporary, Variable};
 
@@ -43,14 +43,14 @@ pub fn lower_get<'p>(
     ensures taken { NeverRefused result }
 {
     if let Some(local) = locals.named(name) {
-        let shape = local.of.shape();
+        let shape = local.shape;
         emit_operation(body, Operation::Get(to, place_of(local), shape.width()))?;
         return Ok(shape);
     }
     let Some(global) = program.global_named(name) else {
         return Ok(Shape::Void);
     };
-    let shape = global.of.shape();
+    let shape = global.shape;
     emit_operation(body, Operation::DataAddress(to, global.object))?;
     emit_operation(
         body,
@@ -75,14 +75,14 @@ pub fn lower_named<'p>(
     ensures taken { NeverRefused result }
 {
     if let Some(local) = locals.named(name) {
-        let shape = local.of.shape();
+        let shape = local.shape;
         emit_operation(body, Operation::Put(place_of(local), shape.width(), from))?;
         return Ok(shape);
     }
     let Some(global) = program.global_named(name) else {
         return Ok(Shape::Void);
     };
-    let shape = global.of.shape();
+    let shape = global.shape;
     let address = Temporary(after(from.0)?);
     emit_operation(body, Operation::DataAddress(address, global.object))?;
     emit_operation(
@@ -100,21 +100,21 @@ pub fn lower_address<'p>(
     body: &mut Vec<Statement>,
     name: &[u8],
     to: Temporary,
-) -> Result<Target<'p>, LowerFault>
+) -> Result<Shape<'p>, LowerFault>
     ensures code { OnOk result
         (map statement_tree body.new.items ≡
         map statement_tree body.old.items ++
         address_by (local_named (names_of locals.now) name.now) (bound_to (world_of program.now).globals name.now) to.0) }
-    ensures shape { IfOk result (λ of. target_shape of ≡ named_shape (world_of program.now) (names_of locals.now) name.now) }
+    ensures shape { IfOk result (λ of. shape_tree of ≡ named_shape (world_of program.now) (names_of locals.now) name.now) }
     ensures taken { NeverRefused result }
 {
     if let Some(local) = locals.named(name) {
         emit_operation(body, Operation::LocalAddress(to, place_of(local)))?;
-        return Ok(local.of);
+        return Ok(local.shape);
     }
     let Some(global) = program.global_named(name) else {
-        return Ok(Target::Nothing);
+        return Ok(Shape::Void);
     };
     emit_operation(body, Operation::DataAddress(to, global.object))?;
-    Ok(global.of)
+    Ok(global.shape)
 }

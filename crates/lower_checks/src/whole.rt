@@ -6,16 +6,18 @@ ghost use Rattle.cyc_tree.specs.View.{member_tree, expression_tree, expressions_
 ghost use Rattle.cyc_core.specs.Trees.{layout_tree, statement_tree};
 ghost use Rattle.source_meaning.specs.Shapes.{StructShape, part_of, parts_of};
 ghost use Rattle.source_meaning.specs.Programs.{world_of};
-ghost use Rattle.source_lowering.specs.Layouts.{layout_of};
-ghost use Rattle.source_lowering.specs.Lowered.{expression_code, place_code, static_shape};
-ghost use Rattle.source_lowering.specs.Whole.{
+ghost use Rattle.source_lowering.specs.Lowered.{
   copied_code,
+  expression_code,
+  expression_values,
   made_values,
   makes_struct,
   member_code,
-  member_values,
   members_code,
+  place_code,
+  static_shape,
   struct_member_code,
+  values_by,
   whole_code,
   whole_values,
   word_member_code,
@@ -34,19 +36,21 @@ ghost use Rattle.lower_checks.specs.Visible.{names_of};
 ghost use Rattle.lower_checks.specs.Refusals.{NeverRefused};
 
 use crate::emit::{emit_copy, emit_operation};
-use crate::expression::{lower_expression, lower_place};
+use crate::expression::lower_expression;
 use crate::fault::LowerFault;
 use crate::layouts::{rounded, sum};
 use crate::locals::Locals;
 use crate::member::{count, extent};
 use crate::names::{after, number};
+use crate::objects::struct_layout;
+use crate::place::lower_place;
 use crate::shape::{Shape, add_shape};
+use crate::shaped::shape_of;
 use crate::table::Table;
 use crate::values::lower_conversion;
-use cyc_core::{Distance, Layout, Operation, Statement, Temporary};
-use cyc_tree::{Expression, Member};
+use cyc_core::{Distance, Operation, Statement, Temporary};
+use cyc_tree::{Expression, Member, Prefix};
 use std::alloc::Global;
-use std::rc::Rc;
 
 /// Where a member goes: so many cells and bytes from where the pointer in a temporary leads.
 #[derive(Clone, Copy)]
@@ -56,52 +60,25 @@ struct Slot {
     bytes: u32,
 }
 
-/// Whether a call of a name makes a struct.
-pub fn makes(program: &Table<'_>, name: &[u8]) -> bool
-    ensures { result ≡ makes_struct (world_of program.now) name.now }
-{
-    if name == b"getchar".as_slice() || name == b"putchar".as_slice() {
-        return false;
-    }
-    program.struct_of(name).is_some()
-}
-
-/// The layout of a struct. Refuses all other shapes, and a tag that no struct has.
-pub fn struct_layout(program: &Table<'_>, shape: Shape<'_>) -> Result<Rc<Layout>, LowerFault>
-    ensures layout { IfOk result (λ layout. layout_tree layout.value ≡ layout_of (world_of program.now) (shape_tree shape.entry)) }
-    ensures taken { IsStructShape (world_of program.now).structs (shape_tree shape.entry) → NeverRefused result }
-{
-    let Shape::Struct(tag) = shape else {
-        return Err(LowerFault::NotTaken);
-    };
-    match program.struct_of(tag) {
-        Some(known) => Ok(known.layout.clone()?),
-        None => Err(LowerFault::NotTaken),
-    }
-}
-
-/// Appends what copies a struct of a shape from where the pointer in a temporary leads to a further unnamed value, and leaves a pointer
-/// to that value in the temporary. Refuses what is no struct.
-fn lower_copied<'p>(
+/// Appends what copies a struct of a shape from where the pointer in a temporary leads to the unnamed value of a number, and leaves a
+/// pointer to that value in the temporary. Refuses what is no struct.
+fn lower_copied(
     program: &Table<'_>,
-    shape: Shape<'p>,
+    shape: Shape<'_>,
     body: &mut Vec<Statement>,
-    own: &mut Vec<Shape<'p>>,
+    value: u32,
     to: Temporary,
 ) -> Result<(), LowerFault>
     ensures code { OnOk result
         (map statement_tree body.new.items ≡
-        map statement_tree body.old.items ++ copied_code (world_of program.now) (shape_tree shape.entry) to.0 (length own.old.items)) }
-    ensures values { OnOk result (map shape_tree own.new.items ≡ map shape_tree own.old.items ++ shape_tree shape.entry ∷ []) }
+        map statement_tree body.old.items ++ copied_code (world_of program.now) (shape_tree shape.entry) to.0 value) }
     ensures taken { IsStructShape (world_of program.now).structs (shape_tree shape.entry) → NeverRefused result }
 {
-    let value = number(own.len())?;
     let next = Temporary(after(to.0)?);
     let layout = struct_layout(program, shape)?;
     emit_operation(body, Operation::OwnAddress(next, value))?;
     emit_copy(body, next, to, layout)?;
-    emit_operation(body, Operation::OwnAddress(to, value))?;
-    add_shape(own, shape)
+    emit_operation(body, Operation::OwnAddress(to, value))
 }
 
 /// Appends what copies a struct to where a member goes, from where the pointer in the next temporary leads. Refuses what is no struct.
@@ -149,38 +126,44 @@ fn lower_word_member(
 }
 
 /// Appends what copies the struct that an expression names to a further unnamed value, and leaves a pointer to that value in a
-/// temporary. Refuses what names no struct.
+/// temporary; appends the shapes of the unnamed values. Refuses what names no struct.
+#[cycle(expression)]
 fn lower_read<'p>(
     alloc: Global,
     program: &Table<'p>,
     locals: &Locals<'p>,
-    place: &Expression,
+    place: &'p Expression,
     body: &mut Vec<Statement>,
     own: &mut Vec<Shape<'p>>,
     to: Temporary,
 ) -> Result<(), LowerFault>
     ensures code { let w = world_of program.now in
         let names = names_of locals.now in
-        let e = expression_tree place.now in
+        let e = expression_tree place.entry.now in
+        let number = length own.old.items in
         OnOk result
         (map statement_tree body.new.items ≡
-        map statement_tree body.old.items ++
-        (place_code w names e to.0 ++ copied_code w (static_shape w names e) to.0 (length own.old.items))) }
-    ensures values { let e = expression_tree place.now in
+        map statement_tree body.old.items ++ (place_code w names e to.0 (suc number) ++ copied_code w (static_shape w names e) to.0 number)) }
+    ensures values { let w = world_of program.now in
+        let names = names_of locals.now in
+        let e = expression_tree place.entry.now in
         OnOk result
-        (map shape_tree own.new.items ≡ map shape_tree own.old.items ++ static_shape (world_of program.now) (names_of locals.now) e ∷ []) }
+        (map shape_tree own.new.items ≡ map shape_tree own.old.items ++ (static_shape w names e ∷ expression_values w names e)) }
     ensures taken { let w = world_of program.now in
         let names = names_of locals.now in
-        let e = expression_tree place.now in
+        let e = expression_tree place.entry.now in
         TakesPlace w names e → IsStructShape w.structs (static_shape w names e) → NeverRefused result }
 {
-    let of = lower_place(alloc, program, locals, place, body, to)?;
-    lower_copied(program, of.shape(), body, own, to)
+    let shape = shape_of(program, locals, place)?;
+    let value = number(own.len())?;
+    add_shape(own, shape)?;
+    lower_place(alloc, program, locals, place, body, own, to)?;
+    lower_copied(program, shape, body, value, to)
 }
 
 /// Appends what makes an unnamed value of an expression that is a struct, and leaves a pointer to it in a temporary; appends the shapes
 /// of the unnamed values. The next unnamed value's number is how many there are. Refuses what is no struct.
-#[cycle(whole)]
+#[cycle(expression)]
 pub fn lower_whole<'p>(
     alloc: Global,
     program: &Table<'p>,
@@ -207,13 +190,18 @@ pub fn lower_whole<'p>(
         Expression::Grouped(_, inner) => {
             lower_whole(alloc, program, locals, inner, body, own, to)
         }
-        _ => lower_read(alloc, program, locals, expression, body, own, to),
+        Expression::Variable(_)
+        | Expression::Suffixed(_, _)
+        | Expression::Prefixed(_, Prefix::Dereference, _) => {
+            lower_read(alloc, program, locals, expression, body, own, to)
+        }
+        _ => Err(LowerFault::NotTaken),
     }
 }
 
 /// Appends what makes an unnamed value of a struct of a tag, and leaves a pointer to it in a temporary; appends the shapes of the unnamed
 /// values. Refuses a tag that no struct has.
-#[cycle(whole)]
+#[cycle(expression)]
 fn lower_made<'p>(
     alloc: Global,
     program: &Table<'p>,
@@ -263,7 +251,7 @@ fn lower_made<'p>(
 
 /// Appends what gives the members of a struct, to which the pointer in a temporary leads, the values of arguments, each where its member
 /// lies; appends the shapes of the unnamed values.
-#[cycle(whole)]
+#[cycle(expression)]
 fn lower_members<'p>(
     alloc: Global,
     program: &Table<'p>,
@@ -312,7 +300,7 @@ fn lower_members<'p>(
 }
 
 /// Appends what gives a member of a shape the value of an argument; appends the shapes of the unnamed values.
-#[cycle(whole)]
+#[cycle(expression)]
 fn lower_member<'p>(
     alloc: Global,
     program: &Table<'p>,
@@ -330,11 +318,13 @@ fn lower_member<'p>(
         (map statement_tree body.new.items ≡
         map statement_tree body.old.items ++
         member_code w (shape_tree shape.entry) (static_shape w names e) slot.to.0 slot.cells slot.bytes
-        (whole_code w names e (slot.to.0 + 1) (length own.old.items)) (expression_code w names e (slot.to.0 + 1))) }
-    ensures values { let e = expression_tree argument.entry.now in
+        (whole_code w names e (slot.to.0 + 1) (length own.old.items)) (expression_code w names e (slot.to.0 + 1) (length own.old.items))) }
+    ensures values { let w = world_of program.now in
+        let names = names_of locals.now in
+        let e = expression_tree argument.entry.now in
         OnOk result
         (map shape_tree own.new.items ≡
-        map shape_tree own.old.items ++ member_values (shape_tree shape.entry) (whole_values (world_of program.now) (names_of locals.now) e)) }
+        map shape_tree own.old.items ++ values_by (shape_tree shape.entry) (whole_values w names e) (expression_values w names e)) }
     ensures taken { let w = world_of program.now in
         let names = names_of locals.now in
         let e = expression_tree argument.entry.now in
@@ -349,7 +339,7 @@ fn lower_member<'p>(
             lower_struct_member(program, shape, body, slot)
         }
         _ => {
-            let from = lower_expression(alloc, program, locals, argument, body, next)?;
+            let from = lower_expression(alloc, program, locals, argument, body, own, next)?;
             lower_word_member(alloc, shape, from, body, slot)
         }
     }

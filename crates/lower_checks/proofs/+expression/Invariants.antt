@@ -1,20 +1,35 @@
-use Rattle.std.proofs.Common.{◌≡◌, ◌++◌, map, drop}
-use Rattle.cyc_tree.specs.View.{expression_tree, expressions_of, link_tree, links_of}
+use Rattle.std.proofs.Common.{◌≡◌, ◌++◌, length, map, drop}
+use Rattle.cyc_tree.specs.View.{expression_tree, expressions_of, link_tree, links_of, member_tree}
 use Rattle.cyc_core.specs.Trees.{statement_tree}
+use Rattle.source_meaning.specs.Shapes.{part_of}
 use Rattle.source_meaning.specs.Programs.{world_of}
-use Rattle.source_lowering.specs.Lowered.{linked_shape, links_code, all_code, any_code, arguments_code}
+use Rattle.source_lowering.specs.Lowered.{
+  all_code,
+  all_values,
+  any_code,
+  arguments_code,
+  link_values,
+  linked_shape,
+  links_code,
+  made_values,
+  members_code,
+}
+use Rattle.source_lowering.specs.Lowerable.{TakesAll, TakesLinks, TakesMade}
+use Rattle.lower_checks.specs.Structs.{HaveRoom}
 use Rattle.lower_checks.specs.Views.{shape_tree}
 use Rattle.lower_checks.specs.Visible.{names_of}
-use Rattle.source_lowering.specs.Lowerable.{TakesAll, TakesLinks}
 use Rattle.lower_checks.proofs.+expression.Given as goal
 
--- what is appended, and the code of the links that are left, is the code of all
+-- what is appended, and the code of the links that are left, is the code of all; and so for the unnamed values
 abbrev pub invariant-operands::lower_links-each : goal.invariant-operands::lower_links-each
 invariant-operands::lower_links-each l = record {
   code : map statement_tree l.body.items ++
-      links_code (world_of l.program) (names_of l.locals) (links_of (map link_tree (drop l.link-index l.links))) (shape_tree l.left) l.to.0 ≡
+      links_code (world_of l.program) (names_of l.locals) (links_of (map link_tree (drop l.link-index l.links))) (shape_tree l.left) l.to.0
+      (length l.own.items) ≡
       map statement_tree l.initial.body.items ++
-      links_code (world_of l.program) (names_of l.locals) (links_of (map link_tree l.links)) (shape_tree l.fn.first) l.to.0;
+      links_code (world_of l.program) (names_of l.locals) (links_of (map link_tree l.links)) (shape_tree l.fn.first) l.to.0 (length l.initial.own.items);
+  values : map shape_tree l.own.items ++ link_values (world_of l.program) (names_of l.locals) (links_of (map link_tree (drop l.link-index l.links))) ≡
+      map shape_tree l.initial.own.items ++ link_values (world_of l.program) (names_of l.locals) (links_of (map link_tree l.links));
   shape : linked_shape (world_of l.program) (names_of l.locals) (links_of (map link_tree (drop l.link-index l.links))) (shape_tree l.left) ≡
       linked_shape (world_of l.program) (names_of l.locals) (links_of (map link_tree l.links)) (shape_tree l.fn.first);
   taken : TakesLinks (world_of l.program) (names_of l.locals) (links_of (map link_tree l.links)) →
@@ -25,8 +40,12 @@ invariant-operands::lower_links-each l = record {
 abbrev pub invariant-operands::lower_all-each : goal.invariant-operands::lower_all-each
 invariant-operands::lower_all-each l = record {
   code : map statement_tree l.body.items ++
-      all_code (world_of l.program) (names_of l.locals) (expressions_of (map expression_tree (drop l.operand-index l.operands))) l.to.0 ≡
-      map statement_tree l.initial.body.items ++ all_code (world_of l.program) (names_of l.locals) (expressions_of (map expression_tree l.operands)) l.to.0;
+      all_code (world_of l.program) (names_of l.locals) (expressions_of (map expression_tree (drop l.operand-index l.operands))) l.to.0 (length l.own.items) ≡
+      map statement_tree l.initial.body.items ++
+      all_code (world_of l.program) (names_of l.locals) (expressions_of (map expression_tree l.operands)) l.to.0 (length l.initial.own.items);
+  values : map shape_tree l.own.items ++
+      all_values (world_of l.program) (names_of l.locals) (expressions_of (map expression_tree (drop l.operand-index l.operands))) ≡
+      map shape_tree l.initial.own.items ++ all_values (world_of l.program) (names_of l.locals) (expressions_of (map expression_tree l.operands));
   taken : TakesAll (world_of l.program) (names_of l.locals) (expressions_of (map expression_tree l.operands)) →
       TakesAll (world_of l.program) (names_of l.locals) (expressions_of (map expression_tree (drop l.operand-index l.operands)));
 }
@@ -34,8 +53,12 @@ invariant-operands::lower_all-each l = record {
 abbrev pub invariant-operands::lower_any-each : goal.invariant-operands::lower_any-each
 invariant-operands::lower_any-each l = record {
   code : map statement_tree l.body.items ++
-      any_code (world_of l.program) (names_of l.locals) (expressions_of (map expression_tree (drop l.operand-index l.operands))) l.to.0 ≡
-      map statement_tree l.initial.body.items ++ any_code (world_of l.program) (names_of l.locals) (expressions_of (map expression_tree l.operands)) l.to.0;
+      any_code (world_of l.program) (names_of l.locals) (expressions_of (map expression_tree (drop l.operand-index l.operands))) l.to.0 (length l.own.items) ≡
+      map statement_tree l.initial.body.items ++
+      any_code (world_of l.program) (names_of l.locals) (expressions_of (map expression_tree l.operands)) l.to.0 (length l.initial.own.items);
+  values : map shape_tree l.own.items ++
+      all_values (world_of l.program) (names_of l.locals) (expressions_of (map expression_tree (drop l.operand-index l.operands))) ≡
+      map shape_tree l.initial.own.items ++ all_values (world_of l.program) (names_of l.locals) (expressions_of (map expression_tree l.operands));
   taken : TakesAll (world_of l.program) (names_of l.locals) (expressions_of (map expression_tree l.operands)) →
       TakesAll (world_of l.program) (names_of l.locals) (expressions_of (map expression_tree (drop l.operand-index l.operands)));
 }
@@ -45,9 +68,37 @@ abbrev pub invariant-operands::lower_arguments-each : goal.invariant-operands::l
 invariant-operands::lower_arguments-each l = record {
   code : map statement_tree l.body.items ++
       arguments_code (world_of l.program) (names_of l.locals) (map shape_tree l.left)
-      (expressions_of (map expression_tree (drop l.argument-index l.arguments))) l.to.0 ≡
+      (expressions_of (map expression_tree (drop l.argument-index l.arguments))) l.to.0 (length l.own.items) ≡
       map statement_tree l.initial.body.items ++
-      arguments_code (world_of l.program) (names_of l.locals) (map shape_tree l.shapes) (expressions_of (map expression_tree l.arguments)) l.fn.first.0;
+      arguments_code (world_of l.program) (names_of l.locals) (map shape_tree l.shapes) (expressions_of (map expression_tree l.arguments)) l.fn.first.0
+      (length l.initial.own.items);
+  values : map shape_tree l.own.items ++
+      all_values (world_of l.program) (names_of l.locals) (expressions_of (map expression_tree (drop l.argument-index l.arguments))) ≡
+      map shape_tree l.initial.own.items ++ all_values (world_of l.program) (names_of l.locals) (expressions_of (map expression_tree l.arguments));
   taken : TakesAll (world_of l.program) (names_of l.locals) (expressions_of (map expression_tree l.arguments)) →
       TakesAll (world_of l.program) (names_of l.locals) (expressions_of (map expression_tree (drop l.argument-index l.arguments)));
+}
+
+-- what is appended, and the code of the members that are left, is the code of all
+abbrev pub invariant-whole::lower_members-each : goal.invariant-whole::lower_members-each
+invariant-whole::lower_members-each l = record {
+  to : l.slot.to.0 ≡ l.fn.to.0;
+  code : map statement_tree l.body.items ++
+      members_code (world_of l.program) (names_of l.locals) (map part_of (map member_tree l.left))
+      (expressions_of (map expression_tree (drop l.argument-index l.arguments))) l.fn.to.0 l.slot.cells l.slot.bytes (length l.own.items) ≡
+      map statement_tree l.initial.body.items ++
+      members_code (world_of l.program) (names_of l.locals) (map part_of (map member_tree l.members))
+      (expressions_of (map expression_tree l.arguments)) l.fn.to.0 0 0 (length l.initial.own.items);
+  values : map shape_tree l.own.items ++
+      made_values (world_of l.program) (names_of l.locals) (map part_of (map member_tree l.left))
+      (expressions_of (map expression_tree (drop l.argument-index l.arguments))) ≡
+      map shape_tree l.initial.own.items ++
+      made_values (world_of l.program) (names_of l.locals) (map part_of (map member_tree l.members))
+      (expressions_of (map expression_tree l.arguments));
+  room : HaveRoom (world_of l.program).structs (map part_of (map member_tree l.members)) →
+      HaveRoom (world_of l.program).structs (map part_of (map member_tree l.left));
+  taken : TakesMade (world_of l.program) (names_of l.locals) (map part_of (map member_tree l.members))
+      (expressions_of (map expression_tree l.arguments)) →
+      TakesMade (world_of l.program) (names_of l.locals) (map part_of (map member_tree l.left))
+      (expressions_of (map expression_tree (drop l.argument-index l.arguments)));
 }

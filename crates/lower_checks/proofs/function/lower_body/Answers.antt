@@ -6,9 +6,9 @@ use Rattle.source_meaning.specs.Shapes.{Shape, part_of, part_shapes}
 use Rattle.source_meaning.specs.Programs.{world_of, routine_of}
 use Rattle.core_meaning.specs.Core.{Block}
 use Rattle.source_lowering.specs.Lowered.{Named, all_of}
-use Rattle.source_lowering.specs.Programs.{block_shapes, locals_of, parameter_names, parameters_code, item_values, items_code, end_code}
+use Rattle.source_lowering.specs.Programs.{RegionsAround, no_regions, block_shapes, locals_of, parameter_names, parameters_code, item_values, items_code, end_code}
 use Rattle.source_lowering.specs.Lowerable.{AreObjects, TakesItems}
-use Rattle.lower_checks.specs.Views.{shape_tree}
+use Rattle.lower_checks.specs.Views.{regions_tree, shape_tree}
 use Rattle.lower_checks.specs.Visible.{names_of}
 use Rattle.lower_checks.proofs.Taken.{block_objects, parameter_objects}
 use Rattle.lower_checks.proofs.Bodies.{as_many_shapes, inside_of, body_of}
@@ -40,12 +40,14 @@ returns-clause-code c =
     c.in_ok-lower_parameters.ensures.code
     ∙ ap (λ ms. map statement_tree c.new-inside.result.items ++ parameters_code (map part_of (map member_tree ms)) 0) c.deref-2.ensures.value
     ∙ ap (λ ss. map statement_tree ss ++ parameters_code f.parameters 0) c.new-inside.ensures.items in
-    let inside_is : inside ≡ first ++ items_code w f.result names (length taken) 0 f.body =
+    let regions = regions_tree c.none.result in
+    let inside_is : inside ≡ first ++ items_code w f.result names no_regions (length taken) 0 f.body =
     c.in_ok-lower_items.ensures.code
-    ∙ ap (λ bs. first ++ items_code w result names count (length c.new-own.result.items) (items_of (map item_tree bs))) c.deref-3.ensures.value
-    ∙ ap (λ (n : ℕ). first ++ items_code w result names count n f.body) (ap length c.new-own.ensures.items)
-    ∙ ap (λ (s : Shape). first ++ items_code w s names count 0 f.body) result_is
-    ∙ ap (λ (n : ℕ). first ++ items_code w f.result names n 0 f.body) (sym (length-map c.in_ok-shapes.shapes.items shape_tree)) in
+    ∙ ap (λ bs. first ++ items_code w result names regions count (length c.new-own.result.items) (items_of (map item_tree bs))) c.deref-3.ensures.value
+    ∙ ap (λ (n : ℕ). first ++ items_code w result names regions count n f.body) (ap length c.new-own.ensures.items)
+    ∙ ap (λ (s : Shape). first ++ items_code w s names regions count 0 f.body) result_is
+    ∙ ap (λ (h : RegionsAround). first ++ items_code w f.result names h count 0 f.body) c.none.ensures
+    ∙ ap (λ (n : ℕ). first ++ items_code w f.result names no_regions n 0 f.body) (sym (length-map c.in_ok-shapes.shapes.items shape_tree)) in
     let shapes_are : shapes ≡ taken ++ block_shapes f.body =
     c.in_ok-lower_items.ensures.shapes ∙ ap (λ bs. taken ++ block_shapes (items_of (map item_tree bs))) c.deref-3.ensures.value in
     let locals_are : locals ≡ locals_of w shapes = c.in_ok-locals_of.ensures.locals ∙ ap (λ ss. locals_of w (map shape_tree ss)) c.deref-4.ensures.value in

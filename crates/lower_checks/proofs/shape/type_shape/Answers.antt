@@ -2,7 +2,7 @@ use Rattle.std.proofs.Common.{◌∙◌, ◌<◌, arith, sym, ap, length}
 use Rattle.cyc_tree.specs.View.{base_tree}
 use Rattle.source_meaning.specs.Shapes.{base_shape, settled}
 use Rattle.lower_checks.proofs.Pointers.{last_pointer}
-use Rattle.lower_checks.proofs.shape.written_shape.Goals as goal
+use Rattle.lower_checks.proofs.shape.type_shape.Goals as goal
 
 pub returns-in-len1-up : goal.returns-in-len1-up
 returns-in-len1-up c =

@@ -3,7 +3,7 @@ use Rattle.std.proofs.Common.{◌≡◌, ℕ, List, Some, refl, sym, subst}
 use Rattle.cyc_tree.specs.Tree.{Program}
 use Rattle.type_verdicts.specs.Faults.{fault_of}
 use Rattle.source_typing.specs.Answers.{first_fault}
-use Rattle.source_typing.specs.Taken.{supported}
+use Rattle.accepted_sources.specs.Supported.{supported}
 use Rattle.type_verdicts.specs.declared.fault.Fault.{Fault}
 use Rattle.type_verdicts.specs.declared.fault.FaultKind.{FaultKind}
 use Rattle.type_verdicts.specs.declared.fault.FaultKind.TheVariants as kind

@@ -10,7 +10,7 @@ use Rattle.cyc_parser.specs.Grammar.{IsProgram}
 use Rattle.cyc_parser.specs.Refusals.{IsUnexpectedFirst, IsTooDeepAt, GoNoFurther}
 use Rattle.cyc_parser.proofs.WholePrograms.{one_program}
 use Rattle.source_typing.specs.Answers.{first_fault}
-use Rattle.source_typing.specs.Taken.{supported}
+use Rattle.accepted_sources.specs.Supported.{supported}
 use Rattle.type_verdicts.specs.declared.fault.FaultKind.{FaultKind}
 use Rattle.cycc_driver.specs.declared.fault.Place.{Place}
 use Rattle.cycc_driver.specs.declared.fault.CompileFault.{CompileFault}
@@ -70,7 +70,7 @@ accepted_or_refused text p fault.Memory accepted why = refl
 
 -- of an image: that, or its code's bound is over the limit
 pub accepted_or_imageless : (text : List ℕ) (p : Program) (f : CompileFault) (accepted : IsAcceptedAs text p) → HasNoImageFor f text
-    → (f ≡ fault.Memory) ⊎ (code_limit < code_bound accepted.spelled.tokens)
+    → (f ≡ fault.Memory) ⊎ (code_limit < code_bound p accepted.spelled.tokens)
 accepted_or_imageless text p (fault.Lex place) accepted why = inl (accepted_or_refused text p (fault.Lex place) accepted why)
 accepted_or_imageless text p (fault.Parse place) accepted why = inl (accepted_or_refused text p (fault.Parse place) accepted why)
 accepted_or_imageless text p (fault.TooDeep place) accepted why = inl (accepted_or_refused text p (fault.TooDeep place) accepted why)
@@ -85,5 +85,7 @@ accepted_or_imageless text p (fault.Copy place) accepted why = inl (accepted_or_
 accepted_or_imageless text p (fault.Size place) accepted why = inl (accepted_or_refused text p (fault.Size place) accepted why)
 accepted_or_imageless text p (fault.TooLarge place) accepted why =
     let same = same_tokens text why.accepted.spelled.tokens accepted.spelled.tokens why.accepted.spelled.lexed accepted.spelled.lexed in
-    inr (subst (λ (ts : List Token). code_limit < code_bound ts) same why.large)
+    let one = same_program text why.program p why.accepted.spelled accepted.spelled in
+    inr (subst (λ (q : Program). code_limit < code_bound q accepted.spelled.tokens) one
+    (subst (λ (ts : List Token). code_limit < code_bound why.program ts) same why.large))
 accepted_or_imageless text p fault.Memory accepted why = inl refl

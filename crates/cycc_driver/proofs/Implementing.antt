@@ -18,7 +18,7 @@ use Rattle.rv32_machine.specs.Arrays.{Arrays, IsStart, areas_of, byte_at, state_
 use Rattle.judged_sources.proofs.Joined.{have_main, never_stuck}
 use Rattle.source_lowering.specs.Programs.{program_code}
 use Rattle.source_typing.specs.Answers.{program_faults}
-use Rattle.source_typing.specs.Taken.{supported}
+use Rattle.accepted_sources.specs.Supported.{supported}
 use Rattle.unique_flow.specs.Accepted.{IsAccepted}
 use Rattle.unique_flow.proofs.Accepted.{no_faults}
 use Rattle.cycc_driver.proofs.Small.{code_small, code_words, data_small, each_small, memory_small}

@@ -9,7 +9,7 @@ use Rattle.cyc_parser.proofs.OnePlace.{one_place, one_depth}
 use Rattle.cyc_parser.proofs.OneFault.{one_fault as not_both}
 use Rattle.type_verdicts.proofs.Telling.{same_rule, same_at}
 use Rattle.source_typing.specs.Answers.{first_fault}
-use Rattle.source_typing.specs.Taken.{supported}
+use Rattle.accepted_sources.specs.Supported.{supported}
 use Rattle.type_verdicts.specs.declared.fault.FaultKind.{FaultKind}
 use Rattle.type_verdicts.specs.declared.fault.FaultKind.TheVariants as kind
 use Rattle.cycc_driver.specs.declared.fault.Place.{Place}

@@ -9,9 +9,11 @@ use Rattle.cyc_tree.specs.Tree.{Program}
 use Rattle.type_verdicts.specs.Faults.{number_of}
 use Rattle.type_verdicts.specs.declared.fault.FaultKind.{FaultKind}
 use Rattle.type_verdicts.specs.declared.fault.FaultKind.TheVariants as kind
+use Rattle.source_meaning.specs.Programs.{world_of}
+use Rattle.source_lowering.specs.Bounds.{regions_left}
 use Rattle.source_typing.specs.Answers.{first_fault}
 use Rattle.source_typing.specs.Faults as rules
-use Rattle.source_typing.specs.Taken.{supported}
+use Rattle.accepted_sources.specs.Supported.{supported}
 use Rattle.cycc_driver.specs.declared.fault.Place.{Place}
 use Rattle.cycc_driver.specs.declared.fault.CompileFault.{CompileFault}
 use Rattle.cycc_driver.specs.declared.fault.CompileFault.TheVariants as fault
@@ -62,15 +64,15 @@ IsRefusedFor (fault.Size place) text = IsBroken text kind.Size place
 IsRefusedFor (fault.TooLarge place) text = ⊥
 IsRefusedFor fault.Memory text = Unit {0}
 
--- a bound on the length of the code of a text with these tokens, in bytes
-abbrev pub code_bound : List Token → ℕ
-code_bound tokens = 4096 + 512 * length tokens
+-- a bound on the length of the code of a program that is spelled by these tokens, in bytes: each token counts, and each region that is left, wherever it is
+abbrev pub code_bound : Program → List Token → ℕ
+code_bound program tokens = 4096 + 512 * (length tokens + regions_left (world_of program).functions)
 
 -- The text is accepted, and the bound on its code is over the limit. The place is its first byte's.
 pub record IsTooLarge (text : List ℕ) (place : Place) : Type 0 where
   pub program : Program
   pub accepted : IsAcceptedAs text program
-  pub large : code_limit < code_bound accepted.spelled.tokens
+  pub large : code_limit < code_bound program accepted.spelled.tokens
   pub line : place.line ≡ 1
   pub column : place.column ≡ 1
 

@@ -96,7 +96,7 @@ pub fn accepted_or_refused()
     ensures checked { (text : List ℕ) (program : Tree) (fault : CompileFault) → IsAcceptedAs text program → IsRefusedFor fault text
         → fault ≡ CompileFault.Memory }
     ensures compiled { (text : List ℕ) (program : Tree) (fault : CompileFault) (accepted : IsAcceptedAs text program) → HasNoImageFor fault text
-        → (fault ≡ CompileFault.Memory) ⊎ (code_limit < code_bound accepted.spelled.tokens) }
+        → (fault ≡ CompileFault.Memory) ⊎ (code_limit < code_bound program accepted.spelled.tokens) }
 {}
 
 /// A text is refused for one fault, want of memory apart: of `check` as of `compile`.

@@ -4,7 +4,7 @@ use Rattle.std.specs.Prelude.{Err}
 use Rattle.cyc_tree.specs.Tree.{Program}
 use Rattle.type_verdicts.specs.Faults.{fault_of}
 use Rattle.source_typing.specs.Answers.{first_fault}
-use Rattle.source_typing.specs.Taken.{supported}
+use Rattle.accepted_sources.specs.Supported.{supported}
 use Rattle.effect_check.specs.declared.fault.CheckFault.{CheckFault}
 use Rattle.cycc_driver.proofs.Breaking.{broken_text}
 use Rattle.cycc_driver.proofs.compiling.checked.Goals as goal

@@ -203,4 +203,4 @@ pub const REFUSED_FUNCTIONS: &str = "\
 2:5: Name <- int f() { return 1; }$int f() { return 2; }$int main() { }
 2:6: Name <- int f() { return 1; }$void f() { }$int main() { }
 1:23: Type <- int main() { int f; { f(); } } int f() { return 1; }
-1:10: Type <- int f(; {`r}) { }$int main() { }";
+1:10: Region <- int f(; {`r}) { }$int main() { }";

@@ -6,6 +6,7 @@ use crate::command_cases::{
 use crate::function_cases::{CALLS, CHARS, CONVERSION_EDGES, GLOBALS, OPERATOR_EDGES, UNSIGNED};
 use crate::parameter_cases::{PARAMETERS, REFUSED_PARAMETERS};
 use crate::pointer_cases::{POINTERS, REFUSED_POINTERS};
+use crate::region_cases::{REFUSED_REGIONS, REGION_PAGES, REGIONS};
 use crate::struct_cases::{REFUSED_STRUCTS, STRUCT_SIZES, STRUCTS};
 use command_line::command_of;
 use cycc_answer::answer;
@@ -135,6 +136,11 @@ fn structs_with_regions_run_as_by_their_meaning(rt: HostRuntime) -> Result<(), F
 }
 
 #[test]
+fn regions_run_as_by_their_meaning(rt: HostRuntime) -> Result<(), Fail> {
+    expect_runs(&rt, REGIONS)
+}
+
+#[test]
 fn structs_have_so_many_bytes_at_most(rt: HostRuntime) -> Result<(), Fail> {
     for line in STRUCT_SIZES.lines() {
         let (wanted, source) = line.split_once(" <- ").ok_or("no source")?;
@@ -185,6 +191,7 @@ fn refusals_have_their_places(rt: HostRuntime) -> Result<(), Fail> {
         REFUSED_POINTERS,
         REFUSED_STRUCTS,
         REFUSED_PARAMETERS,
+        REFUSED_REGIONS,
     ] {
         expect_refusals(&rt, table)?;
     }
@@ -223,9 +230,9 @@ const COMMANDS: &str = "\
 0 | ended 0$ | #ff <- eval IN --ending --steps 1000 <- #ff <- int main() { int c = getchar(); while (c >= 0) { putchar(c); c = getchar(); } }
 0 | ended 0$ | a#00#ff$z <- eval IN --ending --steps 1000 <- a#00#ff$z <- int main() { int c = getchar(); while (c >= 0) { putchar(c); c = getchar(); } }";
 
-#[test]
-fn commands_have_their_answers(rt: HostRuntime) -> Result<(), Fail> {
-    for line in COMMANDS.lines() {
+/// Asserts what the commands of a table answer.
+fn expect_answers(rt: &(impl Abort + AllocGlobal), table: &str) -> Result<(), Fail> {
+    for line in table.lines() {
         let (wanted, line) = line.split_once(" <- ").ok_or("no words")?;
         let (words, line) = line.split_once(" <- ").ok_or("no input")?;
         let (input, source) = line.split_once(" <- ").ok_or("no source")?;
@@ -235,4 +242,14 @@ fn commands_have_their_answers(rt: HostRuntime) -> Result<(), Fail> {
         assert_eq!(rt; found.as_str(), wanted, "{words}: {source}");
     }
     Ok(())
+}
+
+#[test]
+fn commands_have_their_answers(rt: HostRuntime) -> Result<(), Fail> {
+    expect_answers(&rt, COMMANDS)
+}
+
+#[test]
+fn regions_give_their_pages_back(rt: HostRuntime) -> Result<(), Fail> {
+    expect_answers(&rt, REGION_PAGES)
 }

@@ -1,7 +1,8 @@
-// Programs at the limits of parameters and of globals.
+// Programs at the limits of parameters, of globals, of the stack and of pages.
 
 use crate::commands::shown;
 use std::alloc::{AllocError, Global};
+use std::process::Abort;
 use std::test::Fail;
 
 /// So many pieces, each with its number in the place of `#`, parted by commas.
@@ -100,5 +101,48 @@ fn a_frame_may_take_just_what_is_left_of_the_stack(rt: HostRuntime) -> Result<()
         b"int f(int n) { if (n) return f(n - 1); return 7; } int main() { int a; int b; int c; int d; int e; int g; return f(32766); }";
     let found = shown(alloc, "cycc run IN --ending", b"", over)?;
     assert_eq!(rt; found.as_str(), "3 | exhausted$ | -");
+    Ok(())
+}
+
+/// So many pages, and how many blocks of eight bytes they have.
+const PAGES: [(u32, usize); 8] = [
+    (1, 512),
+    (2, 1024),
+    (3, 1536),
+    (4, 2048),
+    (5, 2560),
+    (6, 3072),
+    (7, 3584),
+    (8, 4096),
+];
+
+/// Asserts that a program that writes a point for each block ends exhausted after so many.
+fn expect_points(
+    rt: &(impl Abort + AllocGlobal),
+    source: &[u8],
+    pages: u32,
+    blocks: usize,
+) -> Result<(), Fail> {
+    let words = format!(in rt.alloc(); "cycc run IN --ending --pages {pages}")?;
+    let found = shown(rt.alloc(), words.as_str(), b"", source)?;
+    let points = found
+        .as_str()
+        .strip_prefix("3 | exhausted$ | ")
+        .ok_or("another ending")?;
+    assert_eq!(rt; points.len(), blocks);
+    assert!(rt; points.bytes().all(|byte| byte == b'.'));
+    Ok(())
+}
+
+// A number takes a block of eight bytes. The region has its first page from its beginning on, and the heap from its first block on.
+#[test]
+fn each_page_holds_so_many_blocks(rt: HostRuntime) -> Result<(), Fail> {
+    let in_region =
+        b"int main() { region<`r> h; while (1) { int *`r p = rnew(h) 1; putchar(46); } }";
+    let in_heap = b"int main() { while (1) { int *p = new 1; putchar(46); } }";
+    for (pages, blocks) in PAGES {
+        expect_points(&rt, in_region, pages, blocks)?;
+        expect_points(&rt, in_heap, pages, blocks)?;
+    }
     Ok(())
 }

@@ -48,6 +48,4 @@ pub const REFUSED_POINTERS: &str = "\
 3:27: Outlives <- void f(int *`r a, int *`r b) { }$int g;$int main() { int x; f(&g, &x); }
 1:14: Type <- int main() { int *`U p = NULL; }
 1:14: Type <- int main() { int ?p = NULL; }
-1:14: Type <- int main() { region<`r> h; }
-1:23: Type <- int main() { int *p = new 3; }
 1:29: Type <- int main() { int *p = NULL; p->x = 1; }";

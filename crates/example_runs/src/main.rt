@@ -1,4 +1,4 @@
-//! Runs each example, compiled and by its meaning, and prints whether it writes and ends as it must.
+//! Runs each example, compiled with an arena of one page and by its meaning, and prints whether it writes and ends as it must.
 //!
 //! The folder `data` has copies of the sources in `examples` and of its folder `expected`, with the input, the output and
 //! the ending of each: `tools/example_data` makes them.
@@ -15,8 +15,14 @@ use std::process::ExitCode;
 /// The most bytes that are read of a file.
 const MOST: u64 = 65536;
 
+/// What runs an example with one page, and what evaluates it.
+const RUN: [&str; 6] = ["cycc", "run", "IN", "--ending", "--pages", "1"];
+
+const EVAL: [&str; 4] = ["cycc", "eval", "IN", "--ending"];
+
 /// The examples' names.
-const EXAMPLES: [&str; 29] = [
+const EXAMPLES: [&str; 32] = [
+    "arena",
     "arithmetic",
     "bases",
     "bits",
@@ -44,8 +50,10 @@ const EXAMPLES: [&str; 29] = [
     "stack_list",
     "sums",
     "swap",
+    "tree",
     "triangle",
     "upper",
+    "word_counts",
 ];
 
 /// The bytes of a file.
@@ -64,12 +72,11 @@ fn expected(rt: &HostRuntime, name: &str, what: &str) -> io::Result<Vec<u8>> {
 /// What a command writes on a source and an input, and what it says.
 fn answered(
     rt: &HostRuntime,
-    command: &str,
+    words: &[&str],
     source: &[u8],
     input: &[u8],
 ) -> io::Result<(Vec<u8>, Vec<u8>)> {
-    let words = ["cycc", command, "IN", "--ending"];
-    let Ok(command) = command_of(rt.alloc(), &words) else {
+    let Ok(command) = command_of(rt.alloc(), words) else {
         return Err(ErrorKind::InvalidInput.into());
     };
     let mut reader = Counted::new(input);
@@ -86,12 +93,12 @@ fn answered(
     Ok((writer.into_inner(), said))
 }
 
-/// Runs an example by a command, and prints whether it does what is expected.
-fn compare(rt: &HostRuntime, name: &str, command: &str) -> io::Result<()> {
+/// Runs an example by a command's words, and prints whether it does what is expected.
+fn compare(rt: &HostRuntime, name: &str, command: &str, words: &[&str]) -> io::Result<()> {
     let path = format!(in rt.alloc(); "{name}.cyc")?;
     let source = bytes_of(rt, path.as_str())?;
     let input = expected(rt, name, "in")?;
-    let (output, said) = answered(rt, command, &source, &input)?;
+    let (output, said) = answered(rt, words, &source, &input)?;
     if output == expected(rt, name, "out")? && said == expected(rt, name, "ending")? {
         println!(rt; "{command} {name}: as expected")
     } else {
@@ -101,8 +108,8 @@ fn compare(rt: &HostRuntime, name: &str, command: &str) -> io::Result<()> {
 
 fn compare_all(rt: &HostRuntime) -> io::Result<()> {
     for name in &EXAMPLES {
-        compare(rt, name, "run")?;
-        compare(rt, name, "eval")?;
+        compare(rt, name, "run", &RUN)?;
+        compare(rt, name, "eval", &EVAL)?;
     }
     Ok(())
 }

@@ -1,0 +1,18 @@
+//! Tests of words, images, instructions and placed lines: what no clause of theirs says.
+//!
+//! A crate with tests is proved twice, so those of the crates that take long stand here, where nothing
+//! else is proved.
+#![tactic(auto)]
+
+#[cfg(test)]
+mod counted_calls;
+#[cfg(test)]
+mod image_bytes;
+#[cfg(test)]
+mod instructions;
+#[cfg(test)]
+mod placed_lines;
+#[cfg(test)]
+mod printed_names;
+#[cfg(test)]
+mod word_arithmetic;

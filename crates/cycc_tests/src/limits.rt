@@ -1,4 +1,4 @@
-// Programs at the limits of parameters, of globals, of the stack and of pages.
+// Programs at the limits of parameters, of globals, of the stack, of code and of pages.
 
 use crate::commands::shown;
 use std::alloc::{AllocError, Global};
@@ -101,6 +101,33 @@ fn a_frame_may_take_just_what_is_left_of_the_stack(rt: HostRuntime) -> Result<()
         b"int f(int n) { if (n) return f(n - 1); return 7; } int main() { int a; int b; int c; int d; int e; int g; return f(32766); }";
     let found = shown(alloc, "cycc run IN --ending", b"", over)?;
     assert_eq!(rt; found.as_str(), "3 | exhausted$ | -");
+    Ok(())
+}
+
+/// A program that opens a hundred regions, and leaves them in so many ways.
+fn leaving(alloc: Global, ways: u32) -> Result<String, AllocError> {
+    let mut text = String::from_str(alloc, "int main() {")?;
+    for number in 0..100 {
+        let region = format!(in alloc; " region<`r{number}> h{number};")?;
+        text.push_str(region.as_str())?;
+    }
+    for _ in 0..ways {
+        text.push_str(" if (1) return 0;")?;
+    }
+    text.push_str(" }")?;
+    Ok(text)
+}
+
+// Each way out frees a hundred regions, three instructions each, and takes thirteen more: 313 of the 262,144 that there may be.
+#[test]
+fn ways_out_of_regions_are_code_too(rt: HostRuntime) -> Result<(), Fail> {
+    let alloc = rt.alloc();
+    let fitting = leaving(alloc, 800)?;
+    let found = shown(alloc, "cycc compile IN OUT", b"", fitting.as_bytes())?;
+    assert_eq!(rt; found.as_str(), "0 | - | - | 1024 pages");
+    let over = leaving(alloc, 840)?;
+    let found = shown(alloc, "cycc compile IN OUT", b"", over.as_bytes())?;
+    assert_eq!(rt; found.as_str(), "8 | IN:1:1: TooLarge$ | -");
     Ok(())
 }
 

@@ -4,6 +4,7 @@ use crate::command_cases::{
     AND_OR, NESTED_LOOPS, OPERATORS, REFUSED, REFUSED_FUNCTIONS, STATEMENTS, VALUES,
 };
 use crate::function_cases::{CALLS, CHARS, CONVERSION_EDGES, GLOBALS, OPERATOR_EDGES, UNSIGNED};
+use crate::manual_cases::MANUAL;
 use crate::parameter_cases::{PARAMETERS, REFUSED_PARAMETERS};
 use crate::pointer_cases::{POINTERS, REFUSED_POINTERS};
 use crate::region_cases::{REFUSED_REGIONS, REGION_PAGES, REGIONS};
@@ -140,14 +141,24 @@ fn regions_run_as_by_their_meaning(rt: HostRuntime) -> Result<(), Fail> {
     expect_runs(&rt, REGIONS)
 }
 
-#[test]
-fn structs_have_so_many_bytes_at_most(rt: HostRuntime) -> Result<(), Fail> {
-    for line in STRUCT_SIZES.lines() {
+/// Asserts what `check` answers on the texts of a table.
+fn expect_checks(rt: &(impl Abort + AllocGlobal), table: &str) -> Result<(), Fail> {
+    for line in table.lines() {
         let (wanted, source) = line.split_once(" <- ").ok_or("no source")?;
         let found = shown(rt.alloc(), "cycc check IN", b"", source.as_bytes())?;
         assert_eq!(rt; found.as_str(), wanted, "{source}");
     }
     Ok(())
+}
+
+#[test]
+fn structs_have_so_many_bytes_at_most(rt: HostRuntime) -> Result<(), Fail> {
+    expect_checks(&rt, STRUCT_SIZES)
+}
+
+#[test]
+fn the_manual_has_the_faults_of_its_sources(rt: HostRuntime) -> Result<(), Fail> {
+    expect_checks(&rt, MANUAL)
 }
 
 /// Two functions without end: a call each time a byte is written.

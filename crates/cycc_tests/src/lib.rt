@@ -23,6 +23,8 @@ mod large_texts;
 #[cfg(test)]
 mod limits;
 #[cfg(test)]
+mod manual_cases;
+#[cfg(test)]
 mod parameter_cases;
 #[cfg(test)]
 mod pointer_cases;

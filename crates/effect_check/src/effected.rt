@@ -2,6 +2,7 @@
 
 ghost use Rattle.std.specs.Prelude.{◌≡◌, Some, None, Err, IfOk};
 ghost use Rattle.type_verdicts.specs.Faults.{fault_of, faults_of};
+ghost use Rattle.type_verdicts.specs.Taken.{taken_of};
 ghost use Rattle.type_verdicts.specs.declared.fault.Fault.{Fault as Broken_fault};
 ghost use Rattle.source_typing.specs.Answers.{effect_fault};
 ghost use Rattle.accepted_sources.specs.Supported.{supported};
@@ -12,7 +13,7 @@ use program_types::program_fault;
 use region_types::{Typed, supported};
 use std::alloc::{AllocError, Global};
 use std::marker::Model;
-use type_verdicts::Fault;
+use type_verdicts::{Fault, Taken};
 
 /// A program without a fault of names, types, regions, effects and sizes. A contract sees it as the program.
 #[derive(Drop)]
@@ -54,11 +55,23 @@ impl Effected {
     }
 }
 
-/// The earliest fault of a program's names, types, regions, effects and sizes. Fails only where no host memory is left.
+/// A program's earliest fault of names, types, regions, effects and sizes, where these forms are taken. Fails only where no host memory
+/// is left.
+pub fn effect_fault(
+    alloc: Global,
+    taken: Taken,
+    program: &Program,
+) -> Result<Option<Fault>, AllocError>
+    ensures { IfOk result (λ f. faults_of f ≡ effect_fault (taken_of taken) program.now) }
+{
+    program_fault(alloc, taken, program, false)
+}
+
+/// The same where the forms are taken that `supported` names.
 fn earliest_fault(alloc: Global, program: &Program) -> Result<Option<Fault>, AllocError>
     ensures { IfOk result (λ f. faults_of f ≡ effect_fault supported program.now) }
 {
-    program_fault(alloc, supported(), program, false)
+    effect_fault(alloc, supported(), program)
 }
 
 /// Looks at a program's regions and effects. A program with a fault is refused with its earliest one, or for want of memory; one

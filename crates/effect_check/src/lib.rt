@@ -1,11 +1,12 @@
 //! Live regions and effects.
 //!
-//! `effects` answers the earliest fault of names, types, regions, effects and sizes, or the program without one. The rules are those of
-//! `source_typing`; `program_types` finds the fault. Stands on these and on `region_types`.
+//! `effects` answers the earliest fault of names, types, regions, effects and sizes, or the program without one; `effect_fault` answers
+//! the fault with any forms of the language taken. The rules are those of `source_typing`; `program_types` finds the fault. Stands on
+//! these and on `region_types`.
 #![tactic(auto)]
 
 mod effected;
 mod fault;
 
-pub use effected::{Effected, effects};
+pub use effected::{Effected, effect_fault, effects};
 pub use fault::CheckFault;

@@ -7,4 +7,4 @@ pub mod Holding
 pub mod Paired
 pub mod Places
 pub mod Settling
-pub mod StructsMade
+pub mod TagsNamed

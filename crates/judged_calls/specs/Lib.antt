@@ -4,3 +4,4 @@ pub mod Fixings
 pub mod Fitted
 pub mod Held
 pub mod Targets
+pub mod Unions

@@ -10,7 +10,9 @@ mod fixing;
 mod known;
 mod making;
 mod target;
+mod unions;
 
 pub use call::called;
 pub use enclosing::Enclosing;
 pub use target::{Target, called_target};
+pub use unions::{UnionMember, union_made, union_tag};

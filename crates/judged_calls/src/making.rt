@@ -28,7 +28,7 @@ use std::alloc::{AllocError, Global};
 use type_verdicts::Verdict;
 
 /// The type of a member, where it is known. Fails only where no host memory is left.
-fn member_type<'p>(member: &Member<'p>) -> Result<Option<CType<'p>>, AllocError>
+pub(crate) fn member_type<'p>(member: &Member<'p>) -> Result<Option<CType<'p>>, AllocError>
     ensures { IfOk result (λ of. option_map static_type of ≡ option_map static_type member.now.of) }
 {
     match &member.of {

@@ -1,18 +1,18 @@
 // What is called.
 
 ghost use Rattle.std.specs.Prelude.{◌≡◌, Option, Some, false, option_map, ℕ};
+ghost use Rattle.cyc_types.specs.Sameness.{HasTags};
 ghost use Rattle.cyc_types.specs.Tables.{tables_of};
 ghost use Rattle.source_typing.specs.Calls.{target};
 ghost use Rattle.source_typing.specs.Scope.{Env, meant};
 ghost use Rattle.source_typing.specs.Tables.{Entry, tag_in};
 ghost use Rattle.type_verdicts.specs.Verdicts.{short_of, shortened};
-ghost use Rattle.scoped_names.specs.Knows.{Sees};
 ghost use Rattle.scoped_names.specs.Means.{Means, meaning_of};
 ghost use Rattle.scoped_names.specs.declared.meaning.Meaning.TheVariants as code;
 ghost use Rattle.judged_calls.specs.Targets.{struct_in, target_of};
 
 use cyc_types::{Tables, Tag};
-use scoped_names::{Named, Scope, Signature};
+use scoped_names::{Named, Signature};
 use type_verdicts::{Fault, FaultKind, Verdict};
 
 /// What is called.
@@ -51,7 +51,13 @@ fn target_by<'a, 'p>(
             kind: FaultKind::Name,
             at,
         }),
-        Some(Named::Variable(_, _) | Named::Tag { is_union: true, .. }) => Verdict::Wrong(Fault {
+        Some(Named::Variable(_, _) | Named::Array(_, _) | Named::Counter) => Verdict::Wrong(
+            Fault {
+                kind: FaultKind::Typing,
+                at,
+            },
+        ),
+        Some(Named::Tag { is_union: true, .. }) => Verdict::Wrong(Fault {
             kind: FaultKind::Typing,
             at,
         }),
@@ -67,16 +73,17 @@ fn target_by<'a, 'p>(
     }
 }
 
-/// What a name at a place calls. An unknown name is at fault, and one that can't be called; one whose declaration is at fault isn't
-/// judged.
+/// What a name at a place calls, by what it means. An unknown name is at fault, and one that can't be called; one whose declaration is
+/// at fault isn't judged.
 pub fn called_target<'a, 'p>(
-    scope: &'a Scope<'_, 'p>,
+    tables: &'a Tables<'p>,
     at: u32,
     name: &[u8],
+    named: Option<Named<'a, 'p>>,
 ) -> Verdict<Target<'a, 'p>>
-    ensures { (g : Env) → Sees scope.now g → short_of target_of result ≡ shortened (target at (meant g name.now)) }
+    ensures { (g : Env) → HasTags tables.now g.tables → Means (meant g name.now) (option_map meaning_of named.entry)
+        → short_of target_of result ≡ shortened (target at (meant g name.now)) }
 {
-    let made = struct_named(scope.tables, name);
-    let named = scope.meaning(name);
+    let made = struct_named(tables, name);
     target_by(at, named, made)
 }

@@ -8,11 +8,11 @@ use Rattle.cyc_tree.specs.declared.expression.Expression as code
 use Rattle.cyc_tree.specs.declared.expression.Link as code_link
 use Rattle.cyc_tree.specs.View.{expression_tree, expressions_of, link_tree, links_of}
 use Rattle.cyc_tree.proofs.Forms.{link_parts}
-use Rattle.source_typing.specs.Calls.{Target, called, target}
+use Rattle.source_typing.specs.Calls.{Target, called, target, union_made, union_tag}
 use Rattle.source_typing.specs.Expressions.{judge, judge_all}
 use Rattle.cyc_tree.specs.declared.expression.Prefix.{Prefix}
 use Rattle.cyc_tree.specs.declared.expression.Prefix.TheVariants as prefix
-use Rattle.source_typing.specs.Operators.{applied, prefixed, tested_both}
+use Rattle.source_typing.specs.Operators.{applied, counted, prefixed, tested_both}
 use Rattle.source_typing.specs.Places.{assigned}
 use Rattle.source_typing.specs.Scope.{Env, Value, meant}
 use Rattle.source_typing.specs.Taken.{all_taken, are_linked, are_some, if_taken, links_taken, refused, taken, takes_prefix}
@@ -167,3 +167,28 @@ module _ (takes : code_taken.Taken) (g : Env) where
       ap (λ u. short_both u t (λ u vs. shortened (called g name.at u vs))) k
       ∙ ap (λ u. short_both (shortened (target name.at (meant g name.text))) u (λ u vs. shortened (called g name.at u vs))) (l ∙ sym (all_are g os))
       ∙ sym (shortened_both (target name.at (meant g name.text)) (judge_all g os) (called g name.at))
+
+  -- ---- values of unions, and counts of elements
+
+  pub union_is : (tag f : Name) (e : code.Expression) (s : Short Value) → takes.unions ≡ true → s ≡ judged e
+      → short_both (shortened (union_tag tag f (meant g tag.text))) s (λ m a. shortened (union_made g tag.at m a))
+      ≡ shortened (judge g (taken (taken_of takes) (Expression.MakeUnion tag f (expression_tree e))))
+  union_is tag f e s h k =
+      ap (λ u. short_both (shortened (union_tag tag f (meant g tag.text))) u (λ m a. shortened (union_made g tag.at m a))) k
+      ∙ sym (shortened_both (union_tag tag f (meant g tag.text)) (judge g (taken (taken_of takes) (expression_tree e))) (union_made g tag.at))
+      ∙ ap (λ b. shortened (judge g (if_taken b tag.at (Expression.MakeUnion tag f (taken (taken_of takes) (expression_tree e)))))) (sym h)
+
+  pub union_refused : (tag f : Name) (e : Expression) → takes.unions ≡ false
+      → Wrong (fault type_rule tag.at) ≡ shortened (judge g (taken (taken_of takes) (Expression.MakeUnion tag f e)))
+  union_refused tag f e h = ap (λ b. shortened (judge g (if_taken b tag.at (Expression.MakeUnion tag f (taken (taken_of takes) e))))) (sym h)
+
+  pub counted_is : (at : ℕ) (e : code.Expression) (s : Short Value) → takes.arrays ≡ true → s ≡ judged e
+      → short_after s (λ a. shortened (counted at a)) ≡ shortened (judge g (taken (taken_of takes) (Expression.NumElts at (expression_tree e))))
+  counted_is at e s h k =
+      ap (λ u. short_after u (λ a. shortened (counted at a))) k
+      ∙ sym (shortened_after (judge g (taken (taken_of takes) (expression_tree e))) (counted at))
+      ∙ ap (λ b. shortened (judge g (if_taken b at (Expression.NumElts at (taken (taken_of takes) (expression_tree e)))))) (sym h)
+
+  pub counted_refused : (at : ℕ) (e : Expression) → takes.arrays ≡ false
+      → Wrong (fault type_rule at) ≡ shortened (judge g (taken (taken_of takes) (Expression.NumElts at e)))
+  counted_refused at e h = ap (λ b. shortened (judge g (if_taken b at (Expression.NumElts at (taken (taken_of takes) e))))) (sym h)

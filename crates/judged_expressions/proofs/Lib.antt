@@ -1,5 +1,6 @@
 pub mod Joining
 pub mod Operands
 pub mod Forms
-pub mod MemberForms
+pub mod SuffixForms
 pub mod Makings
+pub mod Within

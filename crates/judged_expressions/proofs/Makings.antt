@@ -1,27 +1,25 @@
 -- What is answered of `new` and `rnew` is what the rules say of them.
-use Rattle.std.specs.Prelude.{◌&&◌}
+use Rattle.std.specs.Prelude.{if◌then◌else◌, ◌&&◌}
 use Rattle.std.proofs.Common.{◌≡◌, ℕ, Bool, true, false, refl, sym, ◌∙◌, ap}
-use Rattle.cyc_tree.specs.Tree.{Array, Expression, Made, One}
+use Rattle.cyc_tree.specs.Tree.{Array, Expression, Made, Name, One}
 use Rattle.cyc_tree.specs.declared.expression.Expression as code
 use Rattle.cyc_tree.specs.View.{expression_tree}
 use Rattle.source_meaning.specs.Expressions.{is_unique_region}
 use Rattle.source_typing.proofs.TakenExpressions.{unique_kept}
 use Rattle.source_typing.specs.Expressions.{judge}
 use Rattle.source_typing.specs.Faults.{fault, type_rule}
-use Rattle.source_typing.specs.Making.{Goal, NoHandle, To, ToUnique, enclosed, goal_of, handled, inside, made, with_goal}
+use Rattle.source_typing.specs.Making.{Goal, NoHandle, To, ToUnique, array_made, elements, enclosed, goal_of, handled, inside, made, with_counter, with_goal}
 use Rattle.source_typing.specs.Regions.{TheHeap}
 use Rattle.source_typing.specs.Scope.{Env, Value}
 use Rattle.source_typing.specs.Taken.{if_taken, made_taken, taken, takes_handle}
 use Rattle.source_typing.specs.Taken as rules
-use Rattle.source_typing.specs.Verdicts.{Faulty, Of, Unjudged, Verdict}
-use Rattle.scoped_names.specs.Knows.{Sees}
-use Rattle.scoped_names.specs.declared.scope.Scope.{Scope}
+use Rattle.source_typing.specs.Verdicts.{Faulty, Of, Unjudged, Verdict, both}
 use Rattle.type_verdicts.proofs.Shortened.{shortened_after, shortened_both}
 use Rattle.type_verdicts.specs.Taken.{taken_of}
-use Rattle.type_verdicts.specs.Verdicts.{Is, Short, Wrong, short_after, shortened}
+use Rattle.type_verdicts.specs.Verdicts.{Is, Short, Wrong, short_both, shortened}
 use Rattle.type_verdicts.specs.declared.taken.Taken as code_taken
 use Rattle.judged_expressions.proofs.Forms.{judged}
-use Rattle.judged_expressions.specs.Goals.{enclosed_short, short_made, with_short_goal}
+use Rattle.judged_expressions.specs.Goals.{enclosed_short, short_goal, short_made, with_short_goal}
 
 -- ---- where it is made
 
@@ -44,53 +42,118 @@ module _ (at : ℕ) (rule : Goal → Value → Verdict Value) where
   shortened_with (Faulty f fs) v = sym (shortened_both (Faulty f fs) v rule)
   shortened_with Unjudged v = sym (shortened_both Unjudged v rule)
 
--- a handle that isn't `unique_region` stands for none
-not_unique : (k : rules.Taken) (h : Expression) (a b : Bool) → is_unique_region h ≡ a → is_unique_region (taken k h) ≡ b → a ≡ false → b ≡ false
-not_unique k h a false p q e = refl
-not_unique k h a true p q e = sym q ∙ ap is_unique_region (unique_kept k h q) ∙ p ∙ e
+-- a handle is `unique_region` where what stands for it is
+kept : (h : Expression) (k : rules.Taken) → is_unique_region h ≡ true → is_unique_region (taken k h) ≡ true
+kept (Expression.UniqueRegion at) k e = refl
+kept (Expression.Grouped at h) k e = kept h k e
+kept (Expression.Number at n suffix) k e = absurd cc
+kept (Expression.Character at byte) k e = absurd cc
+kept (Expression.Text at bytes) k e = absurd cc
+kept (Expression.Null at) k e = absurd cc
+kept (Expression.HeapRegion at) k e = absurd cc
+kept (Expression.Variable x) k e = absurd cc
+kept (Expression.Call x es) k e = absurd cc
+kept (Expression.MakeUnion tag f x) k e = absurd cc
+kept (Expression.NumElts at x) k e = absurd cc
+kept (Expression.Suffixed x es) k e = absurd cc
+kept (Expression.Prefixed at o x) k e = absurd cc
+kept (Expression.New at new) k e = absurd cc
+kept (Expression.NewIn at h new) k e = absurd cc
+kept (Expression.Chain x es) k e = absurd cc
+kept (Expression.AllOf x es) k e = absurd cc
+kept (Expression.AnyOf x es) k e = absurd cc
+kept (Expression.Assign x y) k e = absurd cc
 
--- the same is in scope for what is made
-pub sees_inside : {s : Scope} {g : Env} (v : Verdict Goal) → Sees s g → Sees s (inside v g)
-sees_inside v h = record { outside = h.outside }
+unique_is : (k : rules.Taken) (h : Expression) (a b : Bool) → is_unique_region h ≡ a → is_unique_region (taken k h) ≡ b → b ≡ a
+unique_is k h true b p q = sym q ∙ kept h k p
+unique_is k h false false p q = refl
+unique_is k h false true p q = sym q ∙ ap is_unique_region (unique_kept k h q) ∙ p
 
 module _ (takes : code_taken.Taken) (g : Env) where
   abbrev k : rules.Taken
   k = taken_of takes
 
+  -- ---- what is made
+
+  -- an array's elements
+  elements_are : (f : Env) (at : ℕ) (x : Name) (n e : Expression)
+      → short_both (shortened (judge f (taken k n))) (shortened (judge (with_counter x f) (taken k e))) (λ a b. shortened (elements at a b))
+      ≡ shortened (both (judge f (taken k n)) (judge (with_counter x f) (taken k e)) (elements at))
+  elements_are f at x n e = sym (shortened_both (judge f (taken k n)) (judge (with_counter x f) (taken k e)) (elements at))
+
+  array_is : (f : Env) (at : ℕ) (goal : Verdict Goal) (x : Name) (n e : Expression) → takes.arrays ≡ true
+      → short_made f at (shortened goal) k (Array x n e)
+      ≡ shortened (with_goal at goal (both (judge f (taken k n)) (judge (with_counter x f) (taken k e)) (elements at)) (array_made at))
+  array_is f at goal x n e h =
+      ap (λ b. if b then
+      with_short_goal at (shortened goal) (short_both (shortened (judge f (taken k n))) (shortened (judge (with_counter x f) (taken k e)))
+      (λ a b. shortened (elements at a b))) (λ a b. shortened (array_made at a b)) else Wrong (fault type_rule at)) h
+      ∙ ap (λ s. with_short_goal at (shortened goal) s (λ a b. shortened (array_made at a b))) (elements_are f at x n e)
+      ∙ shortened_with at (array_made at) goal (both (judge f (taken k n)) (judge (with_counter x f) (taken k e)) (elements at))
+
+  no_array : (f : Env) (at : ℕ) (s : Short Goal) (x : Name) (n e : Expression) → takes.arrays ≡ false
+      → short_made f at s k (Array x n e) ≡ Wrong (fault type_rule at)
+  no_array f at s x n e h =
+      ap (λ b. if b then
+      with_short_goal at s (short_both (shortened (judge f (taken k n))) (shortened (judge (with_counter x f) (taken k e)))
+      (λ a b. shortened (elements at a b))) (λ a b. shortened (array_made at a b)) else Wrong (fault type_rule at)) h
+
+  pub made_array : (at : ℕ) (s : Short Goal) (x : Name) (n e : Expression) (u v w : Short Value) → takes.arrays ≡ true
+      → u ≡ shortened (judge g (taken k n)) → v ≡ shortened (judge (with_counter x g) (taken k e))
+      → w ≡ short_both u v (λ a b. shortened (elements at a b))
+      → with_short_goal at s w (λ a b. shortened (array_made at a b)) ≡ short_made g at s k (Array x n e)
+  made_array at s x n e u v w h i j l =
+      ap (λ z. with_short_goal at s z (λ a b. shortened (array_made at a b)))
+      (l ∙ ap (λ t. short_both t v (λ a b. shortened (elements at a b))) i
+      ∙ ap (λ t. short_both (shortened (judge g (taken k n))) t (λ a b. shortened (elements at a b))) j)
+      ∙ ap (λ b. if b then
+      with_short_goal at s (short_both (shortened (judge g (taken k n))) (shortened (judge (with_counter x g) (taken k e)))
+      (λ a b. shortened (elements at a b))) (λ a b. shortened (array_made at a b)) else Wrong (fault type_rule at)) (sym h)
+
   -- ---- in the heap
 
-  -- an array isn't taken
-  refused_by : (b : Bool) (at : ℕ) (e : Expression) → Wrong (fault type_rule at) ≡ shortened (judge g (if_taken (b && false) at e))
-  refused_by true at e = refl
-  refused_by false at e = refl
+  abbrev new_taken : Bool → ℕ → Made → Short Value
+  new_taken b at new = shortened (judge g (if_taken b at (Expression.New at (made_taken k new))))
 
   pub new_is : (at : ℕ) (new : Made) → takes.regions ≡ true → short_made g at (Is (To TheHeap)) k new ≡ shortened (judge g (taken k (Expression.New at new)))
   new_is at (One e) is =
-      shortened_with at (made at) (Of (To TheHeap)) (judge g (taken k e))
-      ∙ ap (λ b. shortened (judge g (if_taken (b && true) at (Expression.New at (One (taken k e)))))) (sym is)
-  new_is at (Array x n e) is = refused_by takes.regions at (Expression.New at (made_taken k (Array x n e)))
+      shortened_with at (made at) (Of (To TheHeap)) (judge g (taken k e)) ∙ ap (λ b. new_taken (b && true) at (One e)) (sym is)
+  new_is at (Array x n e) is = by takes.arrays refl ∙ ap (λ b. new_taken (b && takes.arrays) at (Array x n e)) (sym is)
+    where
+      by : (b : Bool) → takes.arrays ≡ b → short_made g at (Is (To TheHeap)) k (Array x n e) ≡ new_taken takes.arrays at (Array x n e)
+      by true h = array_is g at (Of (To TheHeap)) x n e h ∙ ap (λ b. new_taken b at (Array x n e)) (sym h)
+      by false h = no_array g at (Is (To TheHeap)) x n e h ∙ ap (λ b. new_taken b at (Array x n e)) (sym h)
 
   -- ---- in the region of a handle
 
   abbrev pub handle_goal : Expression → Verdict Goal
   handle_goal h = goal_of (is_unique_region (taken k h)) g (judge g (taken k h))
 
-  unique_is : (h : Expression) (b : Bool) → is_unique_region h ≡ b → takes_handle k b ≡ true → is_unique_region (taken k h) ≡ false
-  unique_is h true e is = absurd cc
-  unique_is h false e is = not_unique k h (is_unique_region h) (is_unique_region (taken k h)) refl refl e
+  goal_by : (b : Bool) (v : Verdict Value) → short_goal b g (shortened v) ≡ shortened (goal_of b g v)
+  goal_by true v = refl
+  goal_by false v = sym (shortened_after v (handled g))
 
-  pub goal_is : (h : code.Expression) (s : Short Value) → takes_handle k (is_unique_region (expression_tree h)) ≡ true → s ≡ judged takes g h
-      → short_after s (λ v. shortened (handled g v)) ≡ shortened (handle_goal (expression_tree h))
-  goal_is h s is e =
-      ap (λ u. short_after u (λ v. shortened (handled g v))) e
-      ∙ sym (shortened_after (judge g (taken k (expression_tree h))) (handled g))
-      ∙ ap (λ b. shortened (goal_of b g (judge g (taken k (expression_tree h))))) (sym (unique_is (expression_tree h) _ refl is))
+  pub goal_is : (h : code.Expression) (b : Bool) (s : Short Value) → b ≡ is_unique_region (expression_tree h) → s ≡ judged takes g h
+      → short_goal b g s ≡ shortened (handle_goal (expression_tree h))
+  goal_is h b s u e =
+      ap (λ t. short_goal b g t) e ∙ goal_by b (judge g (taken k (expression_tree h)))
+      ∙ ap (λ c. shortened (goal_of c g (judge g (taken k (expression_tree h)))))
+      (u ∙ sym (unique_is k (expression_tree h) (is_unique_region (expression_tree h)) (is_unique_region (taken k (expression_tree h))) refl refl))
+
+  abbrev new_in_taken : Bool → ℕ → Expression → Made → Short Value
+  new_in_taken b at h new = shortened (judge g (if_taken b at (Expression.NewIn at (taken k h) (made_taken k new))))
 
   pub new_in_is : (at : ℕ) (h : Expression) (new : Made) (s : Short Goal) → takes_handle k (is_unique_region h) ≡ true → s ≡ shortened (handle_goal h)
       → short_made (inside (handle_goal h) g) at s k new ≡ shortened (judge g (taken k (Expression.NewIn at h new)))
   new_in_is at h (One e) s is p =
       ap (λ u. short_made (inside (handle_goal h) g) at u k (One e)) p
       ∙ shortened_with at (made at) (handle_goal h) (judge (inside (handle_goal h) g) (taken k e))
-      ∙ ap (λ b. shortened (judge g (if_taken (b && true) at (Expression.NewIn at (taken k h) (One (taken k e)))))) (sym is)
+      ∙ ap (λ b. new_in_taken (b && true) at h (One e)) (sym is)
   new_in_is at h (Array x n e) s is p =
-      refused_by (takes_handle k (is_unique_region h)) at (Expression.NewIn at (taken k h) (made_taken k (Array x n e)))
+      ap (λ u. short_made (inside (handle_goal h) g) at u k (Array x n e)) p
+      ∙ by takes.arrays refl ∙ ap (λ b. new_in_taken (b && takes.arrays) at h (Array x n e)) (sym is)
+    where
+      by : (b : Bool) → takes.arrays ≡ b
+          → short_made (inside (handle_goal h) g) at (shortened (handle_goal h)) k (Array x n e) ≡ new_in_taken takes.arrays at h (Array x n e)
+      by true h2 = array_is (inside (handle_goal h) g) at (handle_goal h) x n e h2 ∙ ap (λ b. new_in_taken b at h (Array x n e)) (sym h2)
+      by false h2 = no_array (inside (handle_goal h) g) at (shortened (handle_goal h)) x n e h2 ∙ ap (λ b. new_in_taken b at h (Array x n e)) (sym h2)

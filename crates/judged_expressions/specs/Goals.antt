@@ -3,10 +3,10 @@ use Rattle.std.specs.Prelude.{Bool, false, true, ℕ, if◌then◌else◌}
 use Rattle.cyc_tree.specs.Tree.{Array, Made, One}
 use Rattle.source_typing.specs.Expressions.{judge}
 use Rattle.source_typing.specs.Faults.{fault, type_rule}
-use Rattle.source_typing.specs.Making.{Goal, NoHandle, To, ToUnique, made}
+use Rattle.source_typing.specs.Making.{Goal, NoHandle, To, ToUnique, array_made, elements, handled, made, with_counter}
 use Rattle.source_typing.specs.Scope.{Enclosing, Env, InRegion, InUnique, NotKnown, Value}
 use Rattle.source_typing.specs.Taken.{Taken, taken}
-use Rattle.type_verdicts.specs.Verdicts.{Is, NotJudged, Short, Wrong, short_both, shortened}
+use Rattle.type_verdicts.specs.Verdicts.{Is, NotJudged, Short, Wrong, short_after, short_both, shortened}
 
 -- the `rnew` around what is made
 abbrev pub enclosed_short : Short Goal → Enclosing
@@ -29,7 +29,14 @@ is_refused_alone NotJudged v = false
 abbrev pub with_short_goal : ℕ → Short Goal → Short Value → (Goal → Value → Short Value) → Short Value
 with_short_goal at s v rule = (if is_refused_alone s v then Wrong (fault type_rule at) else short_both s v rule)
 
--- what is answered of what is made, by what is answered of where; an array isn't taken here
+-- where a handle makes, by whether it is `unique_region` and by what is answered of it
+abbrev pub short_goal : Bool → Env → Short Value → Short Goal
+short_goal true g s = Is ToUnique
+short_goal false g s = short_after s (λ h. shortened (handled g h))
+
+-- what is answered of what is made, by what is answered of where
 abbrev pub short_made : Env → ℕ → Short Goal → Taken → Made → Short Value
 short_made g at s k (One e) = with_short_goal at s (shortened (judge g (taken k e))) (λ a b. shortened (made at a b))
-short_made g at s k (Array x n e) = Wrong (fault type_rule at)
+short_made g at s k (Array x n e) = (if k.arrays then
+    with_short_goal at s (short_both (shortened (judge g (taken k n))) (shortened (judge (with_counter x g) (taken k e))) (λ a b. shortened (elements at a b)))
+    (λ a b. shortened (array_made at a b)) else Wrong (fault type_rule at))

@@ -1,3 +1,4 @@
+pub mod Within
 pub mod Forms
 pub mod Goals
 pub mod Joined

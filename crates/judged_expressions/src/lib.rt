@@ -1,10 +1,12 @@
-//! What the expressions of a program of integers, thin pointers, structs and regions are, by which of them are taken.
+//! What the expressions of a program are, by which forms are taken.
 #![tactic(auto)]
 
+mod around;
 mod expression;
 mod making;
-mod members;
 mod parts;
+mod suffixes;
 
-pub use expression::judge;
-pub use members::suffixed;
+pub use expression::{are_linked, are_some, judge};
+pub use making::takes_handle;
+pub use suffixes::takes_suffixes;

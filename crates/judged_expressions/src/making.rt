@@ -5,22 +5,22 @@ ghost use Rattle.cyc_tree.specs.Tree.{HeapRegion};
 ghost use Rattle.cyc_tree.specs.View.{expression_tree};
 ghost use Rattle.source_meaning.specs.Expressions.{is_unique_region};
 ghost use Rattle.source_typing.specs.Expressions.{judge};
-ghost use Rattle.source_typing.specs.Making.{handled, made};
+ghost use Rattle.source_typing.specs.Making.{array_made, elements, handled, made};
 ghost use Rattle.source_typing.specs.Scope.{Env};
 ghost use Rattle.source_typing.specs.Taken.{takes_handle};
 ghost use Rattle.type_verdicts.specs.Taken.{taken_of};
-ghost use Rattle.type_verdicts.specs.Verdicts.{short_after, short_both, short_of, shortened};
+ghost use Rattle.type_verdicts.specs.Verdicts.{short_both, short_of, shortened};
 ghost use Rattle.scoped_names.specs.Knows.{Sees};
 ghost use Rattle.judged_values.specs.Goals.{goal_in};
 ghost use Rattle.judged_values.specs.Values.{value_of};
 ghost use Rattle.judged_calls.specs.Enclosings.{enclosing_of};
 ghost use Rattle.source_typing.specs.Taken as rules;
-ghost use Rattle.judged_expressions.specs.Goals.{enclosed_short, is_refused_alone, with_short_goal};
+ghost use Rattle.judged_expressions.specs.Goals.{enclosed_short, is_refused_alone, short_goal, with_short_goal};
 
 use crate::parts::refused;
 use cyc_tree::Expression;
 use judged_calls::Enclosing;
-use judged_values::{Goal, Value, handled, heap_region, made};
+use judged_values::{Goal, Value, array_made, elements, handled, heap_region, made};
 use scoped_names::Scope;
 use std::alloc::{AllocError, Global};
 use type_verdicts::{Taken, Verdict};
@@ -37,7 +37,7 @@ pub(crate) fn heap_region_taken<'p>(taken: Taken, alloc: Global, at: u32) -> Ver
 }
 
 /// Whether an expression is `unique_region`, also in parentheses.
-fn is_unique_region(expression: &Expression) -> bool
+pub(crate) fn is_unique_region(expression: &Expression) -> bool
     ensures { result ≡ is_unique_region (expression_tree expression.now) }
 {
     match expression {
@@ -48,17 +48,23 @@ fn is_unique_region(expression: &Expression) -> bool
 }
 
 /// Whether an `rnew` with this handle is taken.
-pub(crate) fn takes_handle(taken: Taken, handle: &Expression) -> bool
+pub fn takes_handle(taken: Taken, handle: &Expression) -> bool
     ensures { result ≡ takes_handle (taken_of taken) (is_unique_region (expression_tree handle.now)) }
 {
-    taken.regions && !is_unique_region(handle)
+    if is_unique_region(handle) {
+        taken.unique
+    } else {
+        taken.regions
+    }
 }
 
-/// Where a handle makes, by what it is.
-pub(crate) fn goal_part(scope: &Scope, handle: Verdict<Value>) -> Verdict<Goal>
-    ensures { (g : Env) → Sees scope.now g
-        → short_of goal_in result ≡ short_after (short_of value_of handle.entry) (λ h. shortened (handled g h)) }
+/// Where a handle makes, by whether it is `unique_region` and by what it is.
+pub(crate) fn goal_part(scope: &Scope, is_unique: bool, handle: Verdict<Value>) -> Verdict<Goal>
+    ensures { (g : Env) → Sees scope.now g → short_of goal_in result ≡ short_goal is_unique g (short_of value_of handle.entry) }
 {
+    if is_unique {
+        return Verdict::Of(Goal::ToUnique);
+    }
     match handle {
         Verdict::Of(value) => handled(scope, &value),
         Verdict::Wrong(fault) => Verdict::Wrong(fault),
@@ -72,6 +78,7 @@ pub(crate) fn enclosing_by(goal: &Verdict<Goal>) -> Enclosing
 {
     match goal {
         Verdict::Of(Goal::To(region)) => Enclosing::In(*region),
+        Verdict::Of(Goal::ToUnique) => Enclosing::Unique,
         _ => Enclosing::NotKnown,
     }
 }
@@ -117,5 +124,56 @@ pub(crate) fn made_parts<'p>(
         Ok(refused(at))
     } else {
         made_both(at, goal, value)
+    }
+}
+
+/// An element of an array that is made, by what their count and the element are.
+#[tactic(auto, using(crate::proofs::Joining::both_known, crate::proofs::Joining::both_wrong, crate::proofs::Joining::both_not_judged))]
+pub(crate) fn elements_part<'p>(
+    at: u32,
+    count: Verdict<Value<'p>>,
+    element: Verdict<Value<'p>>,
+) -> Verdict<Value<'p>>
+    ensures { short_of value_of result
+        ≡ short_both (short_of value_of count.entry) (short_of value_of element.entry) (λ a b. shortened (elements at a b)) }
+{
+    match count.paired(element) {
+        Verdict::Of((count, element)) => elements(at, &count, element),
+        Verdict::Wrong(fault) => Verdict::Wrong(fault),
+        Verdict::NotJudged => Verdict::NotJudged,
+    }
+}
+
+/// Where an array is made, and what its elements are.
+#[tactic(auto, using(crate::proofs::Joining::both_wrong, crate::proofs::Joining::both_not_judged))]
+fn array_both<'p>(
+    at: u32,
+    goal: Verdict<Goal>,
+    element: Verdict<Value<'p>>,
+) -> Result<Verdict<Value<'p>>, AllocError>
+    ensures { IfOk result (λ v. short_of value_of v
+        ≡ short_both (short_of goal_in goal) (short_of value_of element.entry) (λ a b. shortened (array_made at a b))) }
+{
+    match goal.paired(element) {
+        Verdict::Of((goal, element)) => array_made(at, goal, element),
+        Verdict::Wrong(fault) => Ok(Verdict::Wrong(fault)),
+        Verdict::NotJudged => Ok(Verdict::NotJudged),
+    }
+}
+
+/// An array that is made, by where it is made and what its elements are. What should be a handle and is none is at fault here, whether
+/// or not the elements are judged.
+pub(crate) fn array_parts<'p>(
+    at: u32,
+    goal: Verdict<Goal>,
+    element: Verdict<Value<'p>>,
+) -> Result<Verdict<Value<'p>>, AllocError>
+    ensures { IfOk result (λ v. short_of value_of v
+        ≡ with_short_goal at (short_of goal_in goal) (short_of value_of element.entry) (λ a b. shortened (array_made at a b))) }
+{
+    if is_refused_alone(&goal, &element) {
+        Ok(refused(at))
+    } else {
+        array_both(at, goal, element)
     }
 }

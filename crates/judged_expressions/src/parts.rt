@@ -1,24 +1,32 @@
 // What expressions are, by what their parts are.
 
 ghost use Rattle.std.specs.Prelude.{◌≡◌, IfOk, if◌then◌else◌};
-ghost use Rattle.source_typing.specs.Operators.{applied, prefixed, tested_both};
+ghost use Rattle.cyc_tree.specs.Tree.{Expression};
+ghost use Rattle.cyc_tree.specs.View.{name_tree};
+ghost use Rattle.source_typing.specs.Expressions.{judge};
+ghost use Rattle.source_typing.specs.Operators.{applied, counted, prefixed, tested_both};
 ghost use Rattle.source_typing.specs.Places.{assigned, grouped};
-ghost use Rattle.source_typing.specs.Calls.{called};
-ghost use Rattle.source_typing.specs.Scope.{Env};
+ghost use Rattle.source_typing.specs.Calls.{called, union_made, union_tag};
+ghost use Rattle.source_typing.specs.Scope.{Env, meant};
+ghost use Rattle.source_typing.specs.Taken as rules;
 ghost use Rattle.source_typing.specs.Faults.{fault, type_rule};
+ghost use Rattle.type_verdicts.specs.Taken.{taken_of};
 ghost use Rattle.type_verdicts.specs.Verdicts.{Wrong, short_after, short_both, short_of, shortened};
 ghost use Rattle.scoped_names.specs.Knows.{Sees};
 ghost use Rattle.judged_values.specs.Values.{value_of};
 ghost use Rattle.judged_calls.specs.Enclosings.{enclosing_of};
 ghost use Rattle.judged_calls.specs.Targets.{target_of};
+ghost use Rattle.judged_calls.specs.Unions.{made_of};
+ghost use Rattle.judged_expressions.specs.Within.{IsIn};
 ghost use Rattle.judged_expressions.specs.Joined.{one_more, values_of};
 
-use cyc_tree::{Operator, Prefix};
-use judged_calls::{Enclosing, Target, called};
-use judged_values::{Value, applied, assigned, grouped, prefixed, tested_both};
+use crate::around::{Around, meaning};
+use cyc_tree::{Name, Operator, Prefix};
+use judged_calls::{Enclosing, Target, UnionMember, called, union_made, union_tag};
+use judged_values::{Value, applied, assigned, counted, grouped, prefixed, string, tested_both};
 use scoped_names::Scope;
 use std::alloc::{AllocError, Global};
-use type_verdicts::{Fault, FaultKind, Verdict};
+use type_verdicts::{Fault, FaultKind, Taken, Verdict};
 
 /// A form that isn't taken.
 pub(crate) fn refused<'p>(at: u32) -> Verdict<Value<'p>>
@@ -163,4 +171,74 @@ pub(crate) fn given_after<'p>(
         Verdict::Wrong(fault) => Ok(Verdict::Wrong(fault)),
         Verdict::NotJudged => Ok(Verdict::NotJudged),
     }
+}
+
+/// A string of these bytes, where arrays are taken.
+pub(crate) fn string_taken<'p>(
+    taken: Taken,
+    alloc: Global,
+    at: u32,
+    bytes: &[u8],
+) -> Result<Verdict<Value<'p>>, AllocError>
+    ensures { (g : Env) → IfOk result (λ v. short_of value_of v ≡ shortened (judge g (rules.taken (taken_of taken) (Expression.Text at bytes.now)))) }
+{
+    if taken.arrays {
+        string(alloc, at, bytes)
+    } else {
+        Ok(refused(at))
+    }
+}
+
+/// The count of elements of an operand.
+pub(crate) fn counted_part<'p>(
+    alloc: Global,
+    at: u32,
+    operand: Verdict<Value<'p>>,
+) -> Verdict<Value<'p>>
+    ensures { short_of value_of result ≡ short_after (short_of value_of operand.entry) (λ a. shortened (counted at a)) }
+{
+    match operand {
+        Verdict::Of(value) => counted(alloc, at, &value),
+        Verdict::Wrong(fault) => Verdict::Wrong(fault),
+        Verdict::NotJudged => Verdict::NotJudged,
+    }
+}
+
+/// The member of a union that a value is made of, and its value.
+#[tactic(auto, using(crate::proofs::Joining::both_wrong, crate::proofs::Joining::both_not_judged))]
+fn made_union<'p>(
+    scope: &Scope<'_, 'p>,
+    alloc: Global,
+    enclosing: Enclosing,
+    at: u32,
+    member: Verdict<UnionMember<'_, 'p>>,
+    value: Verdict<Value<'p>>,
+) -> Result<Verdict<Value<'p>>, AllocError>
+    ensures { (g : Env) → Sees scope.now g → g.enclosing ≡ enclosing_of enclosing → IfOk result
+        (λ v. short_of value_of v
+        ≡ short_both (short_of made_of member.entry) (short_of value_of value.entry) (λ m a. shortened (union_made g at m a))) }
+{
+    match member.paired(value) {
+        Verdict::Of((member, value)) => union_made(scope, alloc, enclosing, at, member, value),
+        Verdict::Wrong(fault) => Ok(Verdict::Wrong(fault)),
+        Verdict::NotJudged => Ok(Verdict::NotJudged),
+    }
+}
+
+/// A value of a union that is made of a member's value.
+pub(crate) fn union_parts<'p>(
+    scope: &Scope<'_, 'p>,
+    alloc: Global,
+    around: Around<'_>,
+    tag: &Name,
+    field: &Name,
+    value: Verdict<Value<'p>>,
+) -> Result<Verdict<Value<'p>>, AllocError>
+    ensures { (g : Env) → IsIn scope.now around.entry g → IfOk result (λ v. short_of value_of v
+        ≡ short_both (shortened (union_tag (name_tree tag.now) (name_tree field.now) (meant g tag.now.text.items))) (short_of value_of value.entry)
+        (λ m a. shortened (union_made g tag.now.at m a))) }
+{
+    let named = meaning(scope, around, &tag.text);
+    let member = union_tag(scope.tables, tag, field, named);
+    made_union(scope, alloc, around.enclosing, tag.at, member, value)
 }

@@ -1,6 +1,7 @@
 -- Effects and bounds speak of the head's region variables.
 use Rattle.std.proofs.Common.{◌≡◌, ℕ, zero, suc, ◌+◌, ◌<◌, ◌≤◌, Bool, true, false, Option, Some, None, List, [], ◌∷◌, sym, subst, arith}
-use Rattle.std.specs.Prelude.{bytes_eq, if◌then◌else◌, map}
+use Rattle.std.specs.Prelude.{bytes_eq, if◌then◌else◌, map, not, ◌||◌}
+use Rattle.cyc_tree.specs.Places.{region_place}
 use Rattle.source_safety.specs.Named.{AllBelow, Below, BoundsBelow}
 use Rattle.source_typing.specs.Functions.{
   Variables,
@@ -8,6 +9,8 @@ use Rattle.source_typing.specs.Functions.{
   and_known,
   bounds_of,
   effect_of,
+  effect_region,
+  if_no_key,
   levels_but,
   pair_of,
   read_parameters,
@@ -17,36 +20,29 @@ use Rattle.source_typing.specs.Functions.{
   used_named,
   used_region,
 }
-use Rattle.source_typing.specs.Regions.{Level, Region, TheHeap}
+use Rattle.source_typing.specs.Regions.{Level, Region, TheHeap, is_among}
 use Rattle.source_typing.specs.Tables.{Tables}
-use Rattle.source_typing.specs.Verdicts.{Faulty, Of, Unjudged, Verdict, both}
+use Rattle.source_typing.specs.Verdicts.{Faulty, Of, Unjudged, Verdict, after, both}
 use Rattle.source_typing.specs.Written.{RegionNamed, Spot, find_region, spots_of}
-use Rattle.judged_heads.proofs.Effects.{effect_named, levels_known}
+use Rattle.judged_heads.proofs.Effects.{levels_known}
+use Rattle.judged_statements.proofs.RegionScopes.{names_up}
+use Rattle.judged_statements.specs.Contexts.{NamesBelow}
 use Rattle.cyc_tree.specs.Tree as tree
 
 -- ---- the names of region variables
 
-abbrev NamesBelow : ℕ → List RegionNamed → Type 0
-NamesBelow n [] = Unit {0}
-NamesBelow n (r ∷ rs) = Below n r.id × NamesBelow n rs
-
 abbrev pub AreBelow : Variables → Type 0
 AreBelow vs = NamesBelow vs.count vs.names
 
-below_up : (n : ℕ) (r : Region) → Below n r → Below (suc n) r
-below_up n TheHeap h = tt
-below_up n (Level k) h = omega (arith, h)
-
-names_up : (n : ℕ) (rs : List RegionNamed) → NamesBelow n rs → NamesBelow (suc n) rs
-names_up n [] h = tt
-names_up n (r ∷ rs) h = (below_up n r.id h.0, names_up n rs h.1)
+one_more : (n : ℕ) (rs : List RegionNamed) → NamesBelow n rs → NamesBelow (suc n) rs
+one_more n rs h = let one : n + 1 ≡ suc n = omega arith in subst (λ m. NamesBelow m rs) one (names_up n rs h)
 
 named_below : (vs : Variables) (n : tree.Name) (o : Option Region) → AreBelow vs → AreBelow (take_named vs n o).after_it
 named_below vs n (Some r) h = h
-named_below vs n None h = (omega arith, names_up vs.count vs.names h)
+named_below vs n None h = (omega arith, one_more vs.count vs.names h)
 
 spot_below : (vs : Variables) (r : Option tree.RegionName) (p : Bool) → AreBelow vs → AreBelow (take_spot vs r p).after_it
-spot_below vs None p h = names_up vs.count vs.names h
+spot_below vs None p h = one_more vs.count vs.names h
 spot_below vs (Some (tree.Heap at)) p h = h
 spot_below vs (Some (tree.Unique at)) true h = h
 spot_below vs (Some (tree.Unique at)) false h = h
@@ -72,9 +68,13 @@ UsedBelow n (Of r) = Below n r
 UsedBelow n (Faulty f fs) = Unit {0}
 UsedBelow n Unjudged = Unit {0}
 
-levels_below : (count n : ℕ) → n ≤ count → AllBelow count (levels_but [] n)
-levels_below count zero h = tt
-levels_below count (suc n) h = (omega (arith, h), levels_below count n (omega (arith, h)))
+levels_below : (keys : List Region) (count n : ℕ) → n ≤ count → AllBelow count (levels_but keys n)
+levels_below keys count zero h = tt
+levels_below keys count (suc n) h = by (is_among keys (Level n)) (levels_below keys count n (omega (arith, h)))
+  where
+    by : (b : Bool) → AllBelow count (levels_but keys n) → AllBelow count (if b then levels_but keys n else Level n ∷ levels_but keys n)
+    by true rest = rest
+    by false rest = (omega (arith, h), rest)
 
 known_below : (n : ℕ) (v : Verdict Region) (rs : List Region) → UsedBelow n v → AllBelow n rs → AllBelow n (and_known v rs)
 known_below n (Of r) rs h k = (h, k)
@@ -92,6 +92,15 @@ pairs_below n (Faulty f fs) Unjudged bs h k l = l
 pairs_below n Unjudged (Of b) bs h k l = l
 pairs_below n Unjudged (Faulty g gs) bs h k l = l
 pairs_below n Unjudged Unjudged bs h k l = l
+
+no_key_below : (n : ℕ) (v : Verdict Region) (fits : Region → Bool) (at : ℕ) → UsedBelow n v → UsedBelow n (after v (λ a. if_no_key (fits a) at a))
+no_key_below n (Faulty f fs) fits at h = tt
+no_key_below n Unjudged fits at h = tt
+no_key_below n (Of a) fits at h = by (fits a)
+  where
+    by : (b : Bool) → UsedBelow n (if_no_key b at a)
+    by true = h
+    by false = tt
 
 module _ (n : ℕ) (names : List RegionNamed) (below : NamesBelow n names) where
   found_below : (x : List ℕ) → FoundBelow n (find_region names x)
@@ -114,9 +123,11 @@ module _ (n : ℕ) (names : List RegionNamed) (below : NamesBelow n names) where
       by None h = tt
       by (Some r) h = h
 
-  all_below : (rs : List tree.RegionName) → AllBelow n (all_of (map (used_region names) rs))
-  all_below [] = tt
-  all_below (r ∷ rs) = known_below n (used_region names r) (all_of (map (used_region names) rs)) (one_below r) (all_below rs)
+  pub all_below : (lenient : Bool) (keys : List Region) (rs : List tree.RegionName) → AllBelow n (all_of (map (effect_region lenient names keys) rs))
+  all_below lenient keys [] = tt
+  all_below lenient keys (r ∷ rs) =
+      known_below n (effect_region lenient names keys r) (all_of (map (effect_region lenient names keys) rs))
+      (no_key_below n (used_region names r) (λ a. lenient || not (is_among keys a)) (region_place r) (one_below r)) (all_below lenient keys rs)
 
   pub bounds_below : (bs : List tree.Bound) → BoundsBelow n (all_of (bounds_of names bs))
   bounds_below [] = tt
@@ -124,9 +135,8 @@ module _ (n : ℕ) (names : List RegionNamed) (below : NamesBelow n names) where
       pairs_below n (used_region names b.longer) (used_region names b.shorter) (all_of (bounds_of names bs)) (one_below b.longer) (one_below b.shorter)
       (bounds_below bs)
 
-pub effect_below : (lenient : Bool) (vs : Variables) (e : Option (List tree.RegionName)) → AreBelow vs
-    → AllBelow vs.count (all_of (effect_of lenient vs [] e))
-effect_below lenient vs None h =
-    subst (AllBelow vs.count) (sym (levels_known vs.count)) (levels_below vs.count vs.count (omega arith))
-effect_below lenient vs (Some rs) h =
-    subst (λ us. AllBelow vs.count (all_of us)) (effect_named lenient vs.names rs) (all_below vs.count vs.names h rs)
+pub effect_below : (lenient : Bool) (vs : Variables) (keys : List Region) (e : Option (List tree.RegionName)) → AreBelow vs
+    → AllBelow vs.count (all_of (effect_of lenient vs keys e))
+effect_below lenient vs keys None h =
+    subst (AllBelow vs.count) (sym (levels_known keys vs.count)) (levels_below keys vs.count vs.count (omega arith))
+effect_below lenient vs keys (Some rs) h = all_below vs.count vs.names h lenient keys rs

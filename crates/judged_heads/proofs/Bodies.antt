@@ -15,7 +15,6 @@ use Rattle.scoped_names.specs.Globals.{global_meaning}
 use Rattle.scoped_names.specs.Knows.{Knows, local_or}
 use Rattle.scoped_names.specs.Locals.{find_what, is_after}
 use Rattle.scoped_names.specs.Means.{Means}
-use Rattle.scoped_names.specs.declared.meaning.Meaning.TheVariants as meaning
 use Rattle.scoped_names.specs.declared.scope.Scope.{Scope}
 use Rattle.scoped_types.specs.Fields.{pair_of}
 use Rattle.scoped_types.specs.Scopes.{AreThose, Scoped}
@@ -24,6 +23,7 @@ use Rattle.source_typing.specs.Written.{RegionNamed}
 use Rattle.type_verdicts.proofs.Earliest.{earliest_of_both, found_sooner}
 use Rattle.type_verdicts.specs.Faults.{faults_of, first_of, sooner_found}
 use Rattle.type_verdicts.specs.declared.fault.Fault as found
+use Rattle.judged_statements.proofs.RegionScopes.{names_up}
 use Rattle.judged_statements.specs.Contexts.{StandsIn}
 use Rattle.judged_statements.specs.declared.context.Context.{Context}
 use Rattle.judged_heads.specs.Bodies.{KnowsGlobals, own_found, types_of}
@@ -51,15 +51,13 @@ module _ (c : code.Head) (f : tree.Function) (h : rules.Head) (is : IsHead c f h
         (subst (λ k. BoundsBelow k bs) (sym a) (subst (BoundsBelow h.signature.regions) (sym b) is.bounds_below)))
 
   module _ (lenient : Bool) (g : Tables) (i : ℕ) (s : Scope) (alone : s.locals ≡ []) where
-    pub begins : KnowsGlobals s.globals.now g → (s.taken.structs ≡ true → HasTags s.tables.now g)
-        → (s.taken.structs ≡ false → (x : List ℕ) (u : Bool) (n : ℕ) → global_meaning s.globals.now x ≡ Some (meaning.Tag u n) → ⊥) → s.lenient ≡ lenient
+    pub begins : KnowsGlobals s.globals.now g → HasTags s.tables.now g → s.lenient ≡ lenient
         → AreThose s.regions (with_scope (entry_regions h.signature.regions h.signature.effect h.signature.bounds))
         → Knows s (function_scope lenient g i h)
-    begins globals tags untaken same regions = record {
+    begins globals tags same regions = record {
       names = λ x. subst (λ m. Means (find g x) (local_or m (global_meaning s.globals.now x)))
           (sym (ap (λ ls. find_what ls x) alone)) (globals x);
       tags = tags;
-      untaken = λ e x u n m. untaken e x u n (ap (λ ls. local_or (find_what ls x) (global_meaning s.globals.now x)) (sym alone) ∙ m);
       regions = regions;
       lenient = same;
       enclosing = refl;
@@ -74,16 +72,18 @@ module _ (c : code.Head) (f : tree.Function) (h : rules.Head) (is : IsHead c f h
 
     pub stands : (d : Context) (ns : List RegionNamed) → Knows s (function_scope lenient g i h) → ns ≡ c.variables.names
         → option_map (λ t. static_type t.now) d.result ≡ known_static c.result → d.frame ≡ code_region.Level c.variables.count → d.item ≡ i → d.in_loop ≡ false
+        → d.in_switch ≡ false
         → StandsIn d ns 0 s (function_scope lenient g i h)
-    stands d ns known names result frame item in_loop = record {
+    stands d ns known names result frame item in_loop in_switch = record {
       known = known;
       suits = record {
         names = names ∙ is.names;
+        below = names_up h.signature.regions h.names is.names_below;
         result = result ∙ is.result;
         frame = ap region_of frame ∙ ap (λ n. Level n) is.count;
         item = item;
         in_loop = in_loop;
-        no_switch = refl;
+        in_switch = in_switch;
       };
       block = no_locals;
     }

@@ -1,33 +1,36 @@
 -- The effects and bounds of heads, one region name after another.
 use Rattle.std.proofs.Common.{◌≡◌, ℕ, suc, ◌+◌, ◌<◌, ◌≤◌, Bool, true, false, None, List, [], ◌∷◌, refl, sym, ◌∙◌, ap, subst}
 use Rattle.std.proofs.Common.{append-nil, append_assoc, get_or, length, map, take}
-use Rattle.std.specs.Prelude.{not, ◌++◌, ◌||◌}
+use Rattle.std.specs.Prelude.{if◌then◌else◌, ◌++◌}
 use Rattle.std.proofs.lemmas.List.{map-append, take_all, take_more}
 use Rattle.cyc_types.specs.Regions.{region_of, regions_of}
 use Rattle.cyc_types.specs.declared.region.RegionId.{RegionId}
-use Rattle.cyc_types.specs.declared.region.RegionId.TheVariants as code_region
 use Rattle.source_typing.specs.Faults.{earliest}
-use Rattle.source_typing.specs.Functions.{all_faults, all_of, and_known, effect_region, if_no_key, levels_but, used_region}
+use Rattle.source_typing.specs.Functions.{all_faults, all_of, and_known, levels_but}
 use Rattle.source_typing.specs.Regions.{Level, Region, is_among}
-use Rattle.source_typing.specs.Verdicts.{Faulty, Of, Unjudged, Verdict, after}
-use Rattle.source_typing.specs.Written.{RegionNamed}
+use Rattle.source_typing.specs.Verdicts.{Faulty, Of, Unjudged, Verdict}
 use Rattle.type_verdicts.proofs.Earliest.{earliest_of_both, found_sooner}
 use Rattle.type_verdicts.specs.Faults.{faults_of, first_of, sooner_found}
 use Rattle.type_verdicts.specs.Verdicts.{fault_found, short_of, shortened}
 use Rattle.judged_statements.proofs.Answered.{fault_is}
-use Rattle.judged_heads.specs.Used.{IsUsed, in_order}
+use Rattle.judged_heads.specs.Used.{IsUsed, in_order, level_unless}
 use Rattle.judged_heads.specs.declared.effect.Used.{Used}
-use Rattle.cyc_tree.specs.Tree as tree
 use Rattle.source_typing.specs.Verdicts as rules_of
 use Rattle.type_verdicts.specs.declared.verdict.Verdict as code
 use Rattle.type_verdicts.specs.declared.verdict.Verdict.TheVariants as variant
 
--- one more level
-pub one_level : (rs : List RegionId) (n m : ℕ) → m ≡ suc n → regions_of (rs ++ code_region.Level n ∷ []) ++ levels_but [] n ≡ regions_of rs ++ levels_but [] m
-one_level rs n m e =
-    ap (λ qs. qs ++ levels_but [] n) (map-append region_of rs (code_region.Level n ∷ []))
-    ∙ append_assoc (regions_of rs) (Level n ∷ []) (levels_but [] n)
-    ∙ ap (λ k. regions_of rs ++ levels_but [] k) (sym e)
+-- one more level, unless it is a key's
+pub one_level : (keys : List Region) (rs new : List RegionId) (n m : ℕ) → m ≡ suc n → regions_of new ≡ regions_of rs ++ level_unless keys n
+    → regions_of new ++ levels_but keys n ≡ regions_of rs ++ levels_but keys m
+one_level keys rs new n m e is =
+    ap (λ qs. qs ++ levels_but keys n) is
+    ∙ append_assoc (regions_of rs) (level_unless keys n) (levels_but keys n)
+    ∙ ap (λ qs. regions_of rs ++ qs) (by (is_among keys (Level n)))
+    ∙ ap (λ k. regions_of rs ++ levels_but keys k) (sym e)
+  where
+    by : (b : Bool) → (if b then [] else Level n ∷ []) ++ levels_but keys n ≡ (if b then levels_but keys n else Level n ∷ levels_but keys n)
+    by true = refl
+    by false = refl
 
 -- ---- one phrase more
 
@@ -98,27 +101,13 @@ none_wrong : (rs : List Region) → all_faults (map (λ r. Of r) rs) ≡ []
 none_wrong [] = refl
 none_wrong (r ∷ rs) = none_wrong rs
 
--- all region variables are known
-pub levels_used : (n : ℕ) (u : Used RegionId) → regions_of u.known.items ≡ levels_but [] n → u.fault ≡ None
-    → IsUsed region_of (map (λ r. Of r) (levels_but [] n)) u
-levels_used n u e f = record {
-  known = e ∙ sym (all_known (levels_but [] n));
-  fault = ap faults_of f ∙ ap earliest (sym (none_wrong (levels_but [] n)));
+-- all region variables but those of keys are known
+pub levels_used : (keys : List Region) (n : ℕ) (u : Used RegionId) → regions_of u.known.items ≡ levels_but keys n → u.fault ≡ None
+    → IsUsed region_of (map (λ r. Of r) (levels_but keys n)) u
+levels_used keys n u e f = record {
+  known = e ∙ sym (all_known (levels_but keys n));
+  fault = ap faults_of f ∙ ap earliest (sym (none_wrong (levels_but keys n)));
 }
 
-no_key : (lenient : Bool) (at : ℕ) (v : Verdict Region) → v ≡ after v (λ a. if_no_key (lenient || not (is_among [] a)) at a)
-no_key lenient at (Faulty f fs) = refl
-no_key lenient at Unjudged = refl
-no_key true at (Of a) = refl
-no_key false at (Of a) = refl
-
--- no key is a parameter
-pub effect_named : (lenient : Bool) (names : List RegionNamed) (rs : List tree.RegionName)
-    → map (used_region names) rs ≡ map (effect_region lenient names []) rs
-effect_named lenient names [] = refl
-effect_named lenient names (r ∷ rs) =
-    ap (λ v. v ∷ map (used_region names) rs) (no_key lenient _ (used_region names r))
-    ∙ ap (λ vs. effect_region lenient names [] r ∷ vs) (effect_named lenient names rs)
-
-pub levels_known : (n : ℕ) → all_of (map (λ r. Of r) (levels_but [] n)) ≡ levels_but [] n
-levels_known n = all_known (levels_but [] n)
+pub levels_known : (keys : List Region) (n : ℕ) → all_of (map (λ r. Of r) (levels_but keys n)) ≡ levels_but keys n
+levels_known keys n = all_known (levels_but keys n)

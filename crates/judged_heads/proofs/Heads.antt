@@ -4,9 +4,9 @@ use Rattle.cyc_types.specs.Regions.{region_of}
 use Rattle.cyc_types.specs.Types.{static_type}
 use Rattle.cyc_types.specs.declared.region.RegionId.{RegionId}
 use Rattle.scoped_types.specs.Fields.{pair_of}
-use Rattle.source_safety.specs.Named.{AllBelow}
 use Rattle.source_typing.specs.Faults.{earliest, own_after}
-use Rattle.source_typing.specs.Functions.{Variables, all_faults, all_of, bounds_of, effect_of, head_of, key_regions, read_parameters, result_type, variables}
+use Rattle.source_typing.specs.Functions.{Variables, all_faults, bounds_of, effect_of, head_of, key_regions, read_parameters, result_type, variables}
+use Rattle.source_typing.specs.Regions.{Region}
 use Rattle.source_typing.specs.Tables.{Tables}
 use Rattle.source_typing.specs.Taken.{bounds_form, effect_form, function_taken}
 use Rattle.source_typing.specs.Tags.{repeated}
@@ -19,10 +19,11 @@ use Rattle.type_verdicts.specs.declared.fault.Fault.{Fault}
 use Rattle.type_verdicts.specs.declared.taken.Taken as code_taken
 use Rattle.judged_heads.proofs.Below.{AreBelow, bounds_below, effect_below, parameters_below}
 use Rattle.judged_heads.proofs.HeadFaults.{sound_found, two_are}
-use Rattle.judged_heads.proofs.ReadParameters.{known_same, names_same, no_keys, types_same}
+use Rattle.judged_heads.proofs.ReadParameters.{keys_known, known_same, names_same, types_same}
+use Rattle.judged_heads.specs.Bodies.{types_of}
 use Rattle.judged_heads.specs.Heads.{IsHead}
 use Rattle.judged_heads.specs.Reading.{AreParameters, AreRead, bound_place, effect_place, form_at, main_faults_of, place_unless}
-use Rattle.judged_heads.specs.Used.{IsUsed}
+use Rattle.judged_heads.specs.Used.{IsUsed, keys_of}
 use Rattle.judged_heads.specs.declared.effect.Used.{Used}
 use Rattle.judged_heads.specs.declared.head.Head as code
 use Rattle.cyc_tree.specs.Tree as tree
@@ -55,42 +56,43 @@ module _ (k : code_taken.Taken) (lenient : Bool) (g : Tables) (f : tree.Function
       → faults_of c.fault ≡ earliest (own_after (main_faults_of f.name v ms) (all_faults vs ++ repeated [] ms ++ rules_of.faults_of v ++ us))
 
   module _ (effect : Used RegionId) (bounds : Used (RegionId × RegionId)) where
-    pub head_is : AreRead k.structs g c.variables c.parameters.items head.parameters
+    pub head_is : (ks : List Region) → ks ≡ keys_of (types_of c.parameters.items) → AreRead g c.variables c.parameters.items head.parameters
         → short_of static_type c.result ≡ shortened (result_type g c.variables.names head.result)
-        → IsUsed region_of (effect_of lenient c.variables [] head.effect) effect → c.effect ≡ effect.known
+        → IsUsed region_of (effect_of lenient c.variables ks head.effect) effect → c.effect ≡ effect.known
         → IsUsed pair_of (bounds_of c.variables.names head.bounds) bounds → c.bounds ≡ bounds.known
         → FaultFound (sooner_found effect.fault bounds.fault) → IsHead c head (head_of lenient g head)
-    head_is read is of_effect effect_is of_bounds bounds_is found =
+    head_is ks key_is read is of_effect effect_is of_bounds bounds_is found =
         let ps = read_parameters g (variables [] 0) head.parameters in
         let vs = ps.variables_after in
         let ms = head.parameters in
         let v : Verdict StaticType = result_type g vs.names head.result in
         let is_result : short_of static_type c.result ≡ shortened v =
         is ∙ ap (λ (us : Variables). shortened (result_type g us.names head.result)) read.variables_after in
-        let keys : key_regions ps.types ≡ [] = no_keys k.structs ps.types read.plain in
-        let es = effect_of lenient vs [] head.effect in
+        let types = types_same c.parameters.items ms ps.types read.parameters in
+        let keys : ks ≡ key_regions ps.types = key_is ∙ ap keys_of types ∙ keys_known ps.types in
+        let es = effect_of lenient vs (key_regions ps.types) head.effect in
         let bs = bounds_of vs.names head.bounds in
         let effects : IsUsed region_of es effect =
-        subst (λ (us : Variables). IsUsed region_of (effect_of lenient us [] head.effect) effect) read.variables_after of_effect in
+        subst (λ qs. IsUsed region_of (effect_of lenient vs qs head.effect) effect) keys
+        (subst (λ (us : Variables). IsUsed region_of (effect_of lenient us ks head.effect) effect) read.variables_after of_effect) in
         let bound : IsUsed pair_of bs bounds =
         subst (λ (us : Variables). IsUsed pair_of (bounds_of us.names head.bounds) bounds) read.variables_after of_bounds in
         let fault : faults_of c.fault ≡ earliest (head_of lenient g head).faults =
         found v ms ps.types (all_faults es ++ all_faults bs) is_result read.parameters
         (two_are effect.fault bounds.fault (all_faults es) (all_faults bs) effects.fault bound.fault)
         ∙ ap (λ fs. earliest (own_after (main_faults_of f.name v ms) fs))
-        (sym (append_assoc (all_faults ps.types ++ repeated [] ms ++ rules_of.faults_of v) (all_faults es) (all_faults bs)))
-        ∙ sym (ap (λ ks. earliest (own_after (main_faults_of f.name v ms) (all_faults ps.types ++ repeated [] ms ++ rules_of.faults_of v
-        ++ all_faults (effect_of lenient vs ks head.effect) ++ all_faults bs))) keys) in
+        (sym (append_assoc (all_faults ps.types ++ repeated [] ms ++ rules_of.faults_of v) (all_faults es) (all_faults bs))) in
         let below : AreBelow vs = parameters_below g (variables [] 0) ms tt in
         record {
           names = ap (λ (us : Variables). us.names) read.variables_after;
           count = ap (λ (us : Variables). us.count) read.variables_after;
           named = names_same c.parameters.items ms ps.types read.parameters;
-          types = types_same c.parameters.items ms ps.types read.parameters;
+          types = types;
           result = known_same c.result v is_result;
-          effect = ap (λ u. map region_of u.items) effect_is ∙ effects.known ∙ sym (ap (λ ks. all_of (effect_of lenient vs ks head.effect)) keys);
+          effect = ap (λ u. map region_of u.items) effect_is ∙ effects.known;
           bounds = ap (λ u. map pair_of u.items) bounds_is ∙ bound.known;
-          effect_below = subst (λ ks. AllBelow vs.count (all_of (effect_of lenient vs ks head.effect))) (sym keys) (effect_below lenient vs head.effect below);
+          names_below = below;
+          effect_below = effect_below lenient vs (key_regions ps.types) head.effect below;
           bounds_below = bounds_below vs.count vs.names below head.bounds;
           fault = fault;
           sound = sound_found c.fault (head_of lenient g head).faults fault;

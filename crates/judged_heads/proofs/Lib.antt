@@ -1,4 +1,3 @@
-pub mod Plain
 pub mod ReadParameters
 pub mod HeadFaults
 pub mod Heads
@@ -7,3 +6,4 @@ pub mod Effects
 pub mod Below
 pub mod Parameters
 pub mod Signatures
+pub mod KeyTypes

@@ -45,11 +45,12 @@ module _ (c : Context) (ns : List RegionNamed) (s : Scope) (g : Env) (h : Stands
       by true = h.suits
       by false = record {
         names = h.suits.names;
+        below = h.suits.below;
         result = h.suits.result;
         frame = h.suits.frame;
         item = h.suits.item;
         in_loop = h.suits.in_loop;
-        no_switch = h.suits.no_switch;
+        in_switch = h.suits.in_switch;
       }
 
   pub stays_first : is_second g.locals g.block x.text ≡ true → StandsIn c ns 0 s (with_local x w g)

@@ -15,7 +15,8 @@ use Rattle.type_verdicts.proofs.Shortened.{fault_same}
 use Rattle.type_verdicts.specs.Faults.{faults_of}
 use Rattle.type_verdicts.specs.Verdicts.{Is, NotJudged, Short, Wrong, fault_found, fault_in, short_of, shortened}
 use Rattle.judged_heads.specs.Heads.{known_static}
-use Rattle.judged_heads.specs.Reading.{AllPlain, AreParameters, AreRead, IsParameter, IsPlain}
+use Rattle.judged_heads.specs.Reading.{AreParameters, AreRead, IsParameter}
+use Rattle.judged_heads.specs.Used.{keys_of}
 use Rattle.judged_heads.specs.declared.head.Parameter.{Parameter}
 use Rattle.cyc_tree.specs.Tree as tree
 use Rattle.cyc_tree.specs.declared.item.Member as code_member
@@ -73,15 +74,16 @@ types_same (p ∷ ps) (m ∷ ms) (v ∷ vs) h =
     ap (λ x. x ∷ map (λ (p : Parameter). known_static p.of) ps) (known_same p.of v h.0.typed) ∙ ap (λ xs. known v ∷ xs) (types_same ps ms vs h.1)
 types_same ps ms vs h = absurd h
 
-no_key : (structs : Bool) (v : Verdict StaticType) (vs : List (Verdict StaticType)) → IsPlain structs v → key_regions (v ∷ vs) ≡ key_regions vs
-no_key structs (Faulty f fs) vs h = refl
-no_key structs Unjudged vs h = refl
-no_key structs (Of (Key r)) vs h = absurd h
-no_key structs (Of t) vs h = refl
-
-pub no_keys : (structs : Bool) (vs : List (Verdict StaticType)) → AllPlain structs vs → key_regions vs ≡ []
-no_keys structs [] h = refl
-no_keys structs (v ∷ vs) h = no_key structs v vs h.0 ∙ no_keys structs vs h.1
+-- the regions of the keys among them
+pub keys_known : (vs : List (Verdict StaticType)) → keys_of (map known vs) ≡ key_regions vs
+keys_known [] = refl
+keys_known (Faulty f fs ∷ vs) = keys_known vs
+keys_known (Unjudged ∷ vs) = keys_known vs
+keys_known (Of t ∷ vs) = by t (keys_known vs)
+  where
+    by : (t : StaticType) → keys_of (map known vs) ≡ key_regions vs → keys_of (Some t ∷ map known vs) ≡ key_regions (Of t ∷ vs)
+    by (Key r) e = ap (λ rs. r ∷ rs) e
+    by t e = e
 
 -- ---- one more
 
@@ -92,12 +94,7 @@ parameter_more p m v k [] [] [] h = (k, tt)
 parameter_more p m v k (q ∷ ps) (n ∷ ms) (w ∷ vs) h = (h.0, parameter_more p m v k ps ms vs h.1)
 parameter_more p m v k ps ms vs h = absurd h
 
-plain_more : (structs : Bool) (v : Verdict StaticType) → IsPlain structs v → (vs : List (Verdict StaticType)) → AllPlain structs vs
-    → AllPlain structs (vs ++ v ∷ [])
-plain_more structs v k [] h = (k, tt)
-plain_more structs v k (w ∷ vs) h = (h.0, plain_more structs v k vs h.1)
-
-module _ (structs : Bool) (g : Tables) (m : tree.Member) where
+module _ (g : Tables) (m : tree.Member) where
   abbrev type_at : Variables → Verdict StaticType
   type_at vs = parameter_type g m.of (take_spots vs (spots_of g m.of))
 
@@ -115,16 +112,14 @@ module _ (structs : Bool) (g : Tables) (m : tree.Member) where
   variables_more vs [] = refl
   variables_more vs (n ∷ ms) = variables_more (take_spots vs (spots_of g n.of)).after_all ms
 
-  pub read_more : (vs new : Variables) (ps : List Parameter) (p : Parameter) (ms : List tree.Member) → AreRead structs g vs ps ms
-      → IsParameter p m (type_at vs) → IsPlain structs (type_at vs) → new ≡ after_at vs → AreRead structs g new (ps ++ p ∷ []) (ms ++ m ∷ [])
-  read_more vs new ps p ms h k q e =
+  pub read_more : (vs new : Variables) (ps : List Parameter) (p : Parameter) (ms : List tree.Member) → AreRead g vs ps ms
+      → IsParameter p m (type_at vs) → new ≡ after_at vs → AreRead g new (ps ++ p ∷ []) (ms ++ m ∷ [])
+  read_more vs new ps p ms h k e =
       let r = read_parameters g (variables [] 0) ms in
       record {
         variables_after = e ∙ ap after_at h.variables_after ∙ sym (variables_more (variables [] 0) ms);
         parameters = subst (λ ts. AreParameters (ps ++ p ∷ []) (ms ++ m ∷ []) ts) (sym (types_more (variables [] 0) ms))
             (parameter_more p m (type_at r.variables_after) (subst (λ us. IsParameter p m (type_at us)) h.variables_after k) ps ms r.types h.parameters);
-        plain = subst (AllPlain structs) (sym (types_more (variables [] 0) ms))
-            (plain_more structs (type_at r.variables_after) (subst (λ us. IsPlain structs (type_at us)) h.variables_after q) r.types h.plain);
       }
 
 -- of the rest of the members one comes next

@@ -18,13 +18,11 @@ use Rattle.source_typing.specs.Faults as rules
 abbrev pub KnowsGlobals : Globals → Tables → Type 0
 KnowsGlobals s g = (x : List ℕ) → Means (find g x) (global_meaning s x)
 
--- Each name of a program means what it means by the rules, also where a tag is wanted, and so do structs and unions where they are taken.
+-- Each name of a program means what it means by the rules, also where a tag is wanted, and so do structs and unions.
 pub record KnowsNames (s : Names) (g : Tables) : Type 0 where
   pub globals : KnowsGlobals s.globals.now g
-  pub tag_names : AreTagNames s.taken s.tags.now g
-  pub tags : s.taken.structs ≡ true → HasTags s.tables.now g
-  -- where structs aren't taken, no name means a sound one
-  pub untaken : s.taken.structs ≡ false → (x : List ℕ) (u : Bool) (n : ℕ) → global_meaning s.globals.now x ≡ Some (code.Tag u n) → ⊥
+  pub tag_names : AreTagNames s.tags.now g
+  pub tags : HasTags s.tables.now g
 
 -- parameters by their names, and by their types where these are known
 abbrev pub code_names : List Parameter → List (List ℕ)

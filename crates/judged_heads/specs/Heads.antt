@@ -10,6 +10,7 @@ use Rattle.source_typing.specs.Types.{StaticType}
 use Rattle.type_verdicts.specs.Faults.{faults_of}
 use Rattle.type_verdicts.specs.declared.verdict.Verdict as verdict
 use Rattle.type_verdicts.specs.declared.verdict.Verdict.TheVariants as variant
+use Rattle.judged_statements.specs.Contexts.{NamesBelow}
 use Rattle.judged_heads.specs.declared.head.Head as code
 use Rattle.judged_heads.specs.declared.head.Parameter.{Parameter}
 use Rattle.cyc_tree.specs.Tree as tree
@@ -30,7 +31,8 @@ pub record IsHead (c : code.Head) (f : tree.Function) (h : rules.Head) : Type 0 
   pub result : known_static c.result ≡ h.signature.result
   pub effect : regions_of c.effect.items ≡ h.signature.effect
   pub bounds : map pair_of c.bounds.items ≡ h.signature.bounds
-  -- they speak of the head's region variables
+  -- the names are of the head's region variables, and so are those that effect and bounds speak of
+  pub names_below : NamesBelow h.signature.regions h.names
   pub effect_below : AllBelow h.signature.regions h.signature.effect
   pub bounds_below : BoundsBelow h.signature.regions h.signature.bounds
   pub fault : faults_of c.fault ≡ earliest h.faults

@@ -8,8 +8,8 @@ use Rattle.source_typing.specs.Faults.{fault, name_rule, test, type_rule}
 use Rattle.source_typing.specs.Functions.{Variables, main_form, read_parameters, variables}
 use Rattle.source_typing.specs.Tables.{Tables}
 use Rattle.source_typing.specs.Taken.{refused_member}
-use Rattle.source_typing.specs.Types.{Int, Key, StaticType, TypeIn}
-use Rattle.source_typing.specs.Verdicts.{Faulty, Of, Unjudged, Verdict}
+use Rattle.source_typing.specs.Types.{Int, StaticType}
+use Rattle.source_typing.specs.Verdicts.{Verdict}
 use Rattle.type_verdicts.specs.Faults.{faults_of, first_of}
 use Rattle.type_verdicts.specs.Verdicts.{fault_found, short_of, shortened}
 use Rattle.judged_heads.specs.declared.head.Parameter.{Parameter}
@@ -17,27 +17,6 @@ use Rattle.cyc_tree.specs.Tree as tree
 use Rattle.source_typing.specs.Faults as rules
 use Rattle.type_verdicts.specs.declared.verdict.Verdict as verdict
 use Rattle.type_verdicts.specs.declared.verdict.Verdict.TheVariants as variant
-
--- ---- types that are taken
-
--- it isn't a key
-abbrev pub NoKey : {R : Type 0} → TypeIn R → Type 0
-NoKey (Key r) = ⊥
-NoKey t = Unit {0}
-
-abbrev pub NoKeyIn : {R : Type 0} → Option (TypeIn R) → Type 0
-NoKeyIn None = Unit {0}
-NoKeyIn (Some t) = NoKey t
-
--- it is at fault or in order, and isn't a key; where structs are taken it may be one that isn't judged
-abbrev pub IsPlain : {R : Type 0} → Bool → Verdict (TypeIn R) → Type 0
-IsPlain structs (Faulty f fs) = Unit {0}
-IsPlain structs Unjudged = (structs ≡ true)
-IsPlain structs (Of t) = NoKey t
-
-abbrev pub AllPlain : Bool → List (Verdict StaticType) → Type 0
-AllPlain structs [] = Unit {0}
-AllPlain structs (v ∷ vs) = IsPlain structs v × AllPlain structs vs
 
 -- ---- parameters
 
@@ -52,11 +31,10 @@ AreParameters [] [] [] = Unit {0}
 AreParameters (p ∷ ps) (m ∷ ms) (v ∷ vs) = IsParameter p m v × AreParameters ps ms vs
 AreParameters ps ms vs = ⊥
 
--- they are read, with structs or without, and these are the region variables after them
-pub record AreRead (structs : Bool) (g : Tables) (vs : Variables) (ps : List Parameter) (ms : List tree.Member) : Type 0 where
+-- they are read, and these are the region variables after them
+pub record AreRead (g : Tables) (vs : Variables) (ps : List Parameter) (ms : List tree.Member) : Type 0 where
   pub variables_after : vs ≡ (read_parameters g (variables [] 0) ms).variables_after
   pub parameters : AreParameters ps ms (read_parameters g (variables [] 0) ms).types
-  pub plain : AllPlain structs (read_parameters g (variables [] 0) ms).types
 
 -- ---- forms that aren't taken
 

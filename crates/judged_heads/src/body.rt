@@ -13,7 +13,6 @@ ghost use Rattle.source_typing.specs.Tables as known;
 ghost use Rattle.source_typing.specs.Taken.{function_taken};
 ghost use Rattle.source_typing.specs.Written.{RegionNamed};
 ghost use Rattle.type_verdicts.specs.Taken.{taken_of};
-ghost use Rattle.type_verdicts.specs.declared.taken.Taken as code_taken;
 ghost use Rattle.type_verdicts.specs.Faults.{faults_of};
 ghost use Rattle.scoped_names.specs.Knows.{Knows};
 ghost use Rattle.scoped_names.specs.Means.{WhatIs};
@@ -23,10 +22,9 @@ ghost use Rattle.judged_heads.specs.Heads.{IsHead, known_static};
 
 use crate::head::{Head, Parameter, is_main, read_head};
 use crate::meaning::known_type;
-use crate::ways::items_fall;
 use cyc_tree::Function;
 use cyc_types::{CType, RegionId, Tables};
-use judged_statements::{Context, items_fault};
+use judged_statements::{Context, items_fall, items_fault};
 use scoped_names::{Globals, Locals, Scope, What};
 use scoped_types::RegionScope;
 use std::alloc::{AllocError, Global};
@@ -38,7 +36,7 @@ use written_types::TagNames;
 pub struct Names<'g, 'p> {
     pub globals: &'g Globals<'p>,
     pub tags: &'g TagNames<'p>,
-    /// The structs and unions, where structs are taken.
+    /// The structs and unions.
     pub tables: &'g Tables<'p>,
     pub taken: Taken,
 }
@@ -137,9 +135,18 @@ fn body_fault<'p>(
         frame,
         item,
         in_loop: false,
+        in_switch: false,
     };
     declare_parameters(&mut scope, context, head.parameters.as_slice())?;
-    items_fault(&mut scope, &mut known, alloc, context, 0, &function.body)
+    items_fault(
+        &mut scope,
+        &mut known,
+        alloc,
+        context,
+        0,
+        true,
+        &function.body,
+    )
 }
 
 /// Whether a function with a result of this type has to return one.
@@ -153,12 +160,12 @@ fn needs_return(of: &Verdict<CType>) -> bool
 }
 
 /// The fault of a function whose end is reached without a result.
-fn end_fault(head: &Head, function: &Function) -> Option<Fault>
-    ensures { (k : code_taken.Taken) (h : rules.Head) → let f = function_taken (taken_of k) (function_tree function.now) in IsHead head.now f h
+fn end_fault(taken: Taken, head: &Head, function: &Function) -> Option<Fault>
+    ensures { (h : rules.Head) → let f = function_taken (taken_of taken) (function_tree function.now) in IsHead head.now f h
         → faults_of result ≡ earliest (test (not (end_reached f h)) type_rule f.end) }
 {
     let is_reached = head.fault.is_none()
-        && items_fall(&function.body)
+        && items_fall(taken, &function.body)
         && needs_return(&head.result);
     if is_reached && !is_main(&function.name.text) {
         Some(Fault {
@@ -193,8 +200,8 @@ pub fn function_fault<'p>(
         → IfOk result (λ f. faults_of f
         ≡ earliest (function_faults lenient g item (function_taken (taken_of names.entry.taken) (function_tree function.entry.now)))) }
 {
-    let head = read_head(alloc, names.taken, names.tags, function)?;
-    let end = end_fault(&head, function);
+    let head = read_head(alloc, names.taken, names.tags, lenient, function)?;
+    let end = end_fault(names.taken, &head, function);
     let own = head.fault;
     let body = body_fault(alloc, names, lenient, item, head, function)?;
     Ok(sooner(own, first_or(body, end)))

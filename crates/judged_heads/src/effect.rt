@@ -1,14 +1,16 @@
 // The effects and bounds of heads.
 
-ghost use Rattle.std.specs.Prelude.{◌≡◌, ◌++◌, Bool, IfOk, OnOk, [], map, option_map};
+ghost use Rattle.std.specs.Prelude.{◌≡◌, ◌++◌, IfOk, OnOk, map, not, option_map, ◌||◌};
+ghost use Rattle.std.specs.List.{list_any};
 ghost use Rattle.cyc_tree.specs.View.{bound_tree, effect_tree, region_tree};
 ghost use Rattle.cyc_types.specs.Regions.{region_of, regions_of};
 ghost use Rattle.scoped_types.specs.Fields.{pair_of};
-ghost use Rattle.source_typing.specs.Functions.{bounds_of, effect_of, levels_but, used_named, used_region};
+ghost use Rattle.source_typing.specs.Functions.{bounds_of, effect_of, effect_region, if_no_key, levels_but, used_named, used_region};
+ghost use Rattle.source_typing.specs.Regions.{is_among, same_id};
 ghost use Rattle.source_typing.specs.Taken.{bounds_if, effect_if};
 ghost use Rattle.type_verdicts.specs.Faults.{sooner_found};
 ghost use Rattle.type_verdicts.specs.Verdicts.{fault_found, short_of, shortened};
-ghost use Rattle.judged_heads.specs.Used.{IsUsed, bound_by, in_order};
+ghost use Rattle.judged_heads.specs.Used.{IsUsed, bound_by, in_order, level_unless};
 
 use cyc_tree::{Bound, RegionName, RegionNames as WrittenNames};
 use cyc_types::RegionId;
@@ -62,33 +64,102 @@ fn used_region(names: &RegionNames<'_>, region: &RegionName) -> Verdict<RegionId
     }
 }
 
-/// The regions of an effect that is written, where the region variables have these names. Fails only where no host memory is left.
-fn used_regions(
-    alloc: Global,
+/// Whether a region is one of these.
+fn is_one_of(regions: &[RegionId], region: RegionId) -> bool
+    ensures { result ≡ list_any (λ r. same_id (region_of r) (region_of region)) regions.now }
+{
+    regions.iter().any(|one| one.is_same(region))
+}
+
+/// Whether a region is one of these.
+fn is_among(regions: &[RegionId], region: RegionId) -> bool
+    ensures { result ≡ is_among (regions_of regions.now) (region_of region) }
+{
+    is_one_of(regions, region)
+}
+
+/// Whether an effect may name a region, where keys are of these regions.
+fn may_name(lenient: bool, keys: &[RegionId], region: RegionId) -> bool
+    ensures { result ≡ (lenient || not (is_among (regions_of keys.now) (region_of region))) }
+{
+    lenient || !is_among(keys, region)
+}
+
+/// The region that an effect names, at fault at the name unless it fits: keys' regions don't.
+fn unless_key(fits: bool, region: RegionId, at: u32) -> Verdict<RegionId>
+    ensures { short_of region_of result ≡ shortened (if_no_key fits at (region_of region)) }
+{
+    if fits {
+        Verdict::Of(region)
+    } else {
+        Verdict::Wrong(Fault {
+            kind: FaultKind::Effect,
+            at,
+        })
+    }
+}
+
+/// A region name of an effect, where the region variables have these names, and keys among the parameters are of these regions.
+fn effect_region(
+    lenient: bool,
     names: &RegionNames<'_>,
+    keys: &[RegionId],
+    region: &RegionName,
+) -> Verdict<RegionId>
+    ensures { short_of region_of result ≡ shortened (effect_region lenient names.now (regions_of keys.now) (region_tree region.now)) }
+{
+    match used_region(names, region) {
+        Verdict::Of(found) => {
+            let fits = may_name(lenient, keys, found);
+            unless_key(fits, found, region.place())
+        }
+        Verdict::Wrong(fault) => Verdict::Wrong(fault),
+        Verdict::NotJudged => Verdict::NotJudged,
+    }
+}
+
+/// The regions of an effect that is written, where the region variables have these names, and keys among the parameters are of these
+/// regions. Fails only where no host memory is left.
+fn effect_regions(
+    alloc: Global,
+    lenient: bool,
+    names: &RegionNames<'_>,
+    keys: &[RegionId],
     regions: &[RegionName],
 ) -> Result<Used<RegionId>, AllocError>
-    ensures { IfOk result (IsUsed region_of (map (used_region names.now) (map region_tree regions.now))) }
+    ensures { IfOk result (IsUsed region_of (map (effect_region lenient names.now (regions_of keys.now)) (map region_tree regions.now))) }
 {
     let mut used = Used {
         known: Vec::new(alloc),
         fault: None,
     };
     'each: for region in regions {
-        used.add(used_region(names, region))?;
+        used.add(effect_region(lenient, names, keys, region))?;
     }
     Ok(used)
 }
 
-/// So many region variables, the latest first. Fails only where no host memory is left.
-fn all_levels(alloc: Global, count: u32) -> Result<Vec<RegionId>, AllocError>
-    ensures { IfOk result (λ rs. regions_of rs.items ≡ levels_but [] count) }
+/// Adds a region variable, unless it is one of these. Fails only where no host memory is left.
+fn add_level(regions: &mut Vec<RegionId>, keys: &[RegionId], level: u32) -> Result<(), AllocError>
+    ensures { OnOk result (regions_of regions.new.items ≡ regions_of regions.old.items ++ level_unless (regions_of keys.now) level) }
+{
+    let region = RegionId::Level(level);
+    if is_among(keys, region) {
+        return Ok(());
+    }
+    regions.push(region)?;
+    Ok(())
+}
+
+/// So many region variables but those of keys, the latest first. Fails only where no host memory is left.
+fn levels_but(alloc: Global, keys: &[RegionId], count: u32) -> Result<Vec<RegionId>, AllocError>
+    ensures { IfOk result (λ rs. regions_of rs.items ≡ levels_but (regions_of keys.now) count) }
 {
     let mut regions = Vec::new(alloc);
     let mut rest = count;
     'each: while rest > 0 {
         rest -= 1;
-        regions.push(RegionId::Level(rest))?;
+        add_level(&mut regions, keys, rest)?;
     }
     Ok(regions)
 }
@@ -109,23 +180,26 @@ fn taken_effect(taken: Taken, effect: &Option<WrittenNames>) -> Option<&[RegionN
     }
 }
 
-/// The regions that have to be live where a function with these region variables is called: those that its effect names, or else all
-/// its region variables. Fails only where no host memory is left.
+/// The regions that have to be live where a function with these region variables and keys of these regions is called: those that its
+/// effect names, or else all its region variables but those of the keys. Fails only where no host memory is left.
 pub(crate) fn effect_of(
     alloc: Global,
     taken: Taken,
+    lenient: bool,
     variables: &RegionVariables<'_>,
+    keys: &[RegionId],
     effect: &Option<WrittenNames>,
 ) -> Result<Used<RegionId>, AllocError>
-    ensures { (lenient : Bool) → IfOk result (IsUsed region_of (effect_of lenient variables.now [] (effect_if taken.regions (effect_tree effect.now)))) }
+    ensures { IfOk result (IsUsed region_of
+        (effect_of lenient variables.now (regions_of keys.now) (effect_if taken.regions (effect_tree effect.now)))) }
 {
     match taken_effect(taken, effect) {
         Some(regions) => {
-            let used = used_regions(alloc, variables.names(), regions)?;
+            let used = effect_regions(alloc, lenient, variables.names(), keys, regions)?;
             Ok(used)
         }
         None => {
-            let known = all_levels(alloc, variables.count())?;
+            let known = levels_but(alloc, keys, variables.count())?;
             Ok(Used { known, fault: None })
         }
     }

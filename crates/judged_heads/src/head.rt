@@ -1,6 +1,6 @@
 // The heads of functions.
 
-ghost use Rattle.std.specs.Prelude.{◌≡◌, Bool, IfOk, bytes_eq, codes};
+ghost use Rattle.std.specs.Prelude.{◌≡◌, IfOk, bytes_eq, codes};
 ghost use Rattle.cyc_tree.specs.View.{function_tree};
 ghost use Rattle.source_typing.specs.Functions.{head_of};
 ghost use Rattle.source_typing.specs.Tables.{Tables};
@@ -11,6 +11,7 @@ ghost use Rattle.judged_heads.specs.Heads.{IsHead};
 
 use crate::effect::{bounds_of, effect_of};
 use crate::found::head_fault;
+use crate::keys::key_regions;
 use crate::reading::Parameters;
 use cyc_tree::Function;
 use cyc_types::{CType, RegionId};
@@ -50,22 +51,31 @@ pub fn is_main(name: &[u8]) -> bool
     name == b"main".as_slice()
 }
 
-/// What a function's head says, with its earliest fault, where names mean this in place of tags. Fails only where no host memory is
-/// left.
+/// What a function's head says, with its earliest fault, where names mean this in place of tags; with or without the rules on live
+/// regions and effects. Fails only where no host memory is left.
 pub fn read_head<'p>(
     alloc: Global,
     taken: Taken,
     tags: &TagNames<'_>,
+    lenient: bool,
     function: &'p Function,
 ) -> Result<Head<'p>, AllocError>
-    ensures { (lenient : Bool) (g : Tables) → AreTagNames taken tags.now g
+    ensures { (g : Tables) → AreTagNames tags.now g
         → IfOk result (λ h. let f = function_taken (taken_of taken) (function_tree function.entry.now) in IsHead h f (head_of lenient g f)) }
 {
     let parameters = Parameters::of(alloc, taken, tags, function)?;
     let tag = tag_of_type(taken, tags, &function.result);
     let names = parameters.variables.names();
     let result = result_type_in(alloc, taken, tag, names, &function.result)?;
-    let effect = effect_of(alloc, taken, &parameters.variables, &function.effect)?;
+    let keys = key_regions(alloc, parameters.items.as_slice())?;
+    let effect = effect_of(
+        alloc,
+        taken,
+        lenient,
+        &parameters.variables,
+        keys.as_slice(),
+        &function.effect,
+    )?;
     let bounds = bounds_of(alloc, taken, names, &function.bounds)?;
     let used = sooner(effect.fault, bounds.fault);
     let fault = head_fault(alloc, &function.name, &parameters.items, &result, used)?;

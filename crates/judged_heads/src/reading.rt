@@ -55,7 +55,7 @@ fn place_unless(taken: Taken, place: Option<u32>) -> Option<u32>
 impl<'p> Parameters<'p> {
     /// None.
     fn new(alloc: Global) -> Self
-        ensures { (structs : Bool) (g : Tables) → AreRead structs g result.variables result.items.items [] }
+        ensures { (g : Tables) → AreRead g result.variables result.items.items [] }
     {
         Parameters {
             variables: RegionVariables::new(alloc),
@@ -71,8 +71,8 @@ impl<'p> Parameters<'p> {
         tags: &TagNames<'_>,
         member: &'p Member,
     ) -> Result<(), AllocError>
-        ensures { (g : Tables) (ms : List tree.Member) → AreTagNames taken tags.now g → AreRead taken.structs g self.old.variables self.old.items.items ms
-            → OnOk result (AreRead taken.structs g self.new.variables self.new.items.items
+        ensures { (g : Tables) (ms : List tree.Member) → AreTagNames tags.now g → AreRead g self.old.variables self.old.items.items ms
+            → OnOk result (AreRead g self.new.variables self.new.items.items
             (ms ++ member_taken (taken_of taken) (member_tree member.entry.now) ∷ [])) }
     {
         let tag = tag_of_type(taken, tags, &member.of);
@@ -93,8 +93,8 @@ impl<'p> Parameters<'p> {
         tags: &TagNames<'_>,
         members: &'p [Member],
     ) -> Result<(), AllocError>
-        ensures { (g : Tables) (ms : List tree.Member) → AreTagNames taken tags.now g → AreRead taken.structs g self.old.variables self.old.items.items ms
-            → OnOk result (AreRead taken.structs g self.new.variables self.new.items.items
+        ensures { (g : Tables) (ms : List tree.Member) → AreTagNames tags.now g → AreRead g self.old.variables self.old.items.items ms
+            → OnOk result (AreRead g self.new.variables self.new.items.items
             (ms ++ members_taken (taken_of taken) (map member_tree members.entry.now))) }
     {
         'each: for member in members {
@@ -105,8 +105,8 @@ impl<'p> Parameters<'p> {
 
     /// Adds what stands for a form that isn't taken, under this name. Fails only where no host memory is left.
     fn add_refused(&mut self, at: u32, name: &'p [u8]) -> Result<(), AllocError>
-        ensures { (structs : Bool) (g : Tables) (ms : List tree.Member) → AreRead structs g self.old.variables self.old.items.items ms
-            → OnOk result (AreRead structs g self.new.variables self.new.items.items (ms ++ refused_member at name.entry.now ∷ [])) }
+        ensures { (g : Tables) (ms : List tree.Member) → AreRead g self.old.variables self.old.items.items ms
+            → OnOk result (AreRead g self.new.variables self.new.items.items (ms ++ refused_member at name.entry.now ∷ [])) }
     {
         let of = self.variables.refused_parameter(at)?;
         self.items.push(Parameter { name, at, of })?;
@@ -115,8 +115,8 @@ impl<'p> Parameters<'p> {
 
     /// Adds what stands for a form that isn't taken, where there is one. Fails only where no host memory is left.
     fn add_form(&mut self, place: Option<u32>, name: &'p [u8]) -> Result<(), AllocError>
-        ensures { (structs : Bool) (g : Tables) (ms : List tree.Member) → AreRead structs g self.old.variables self.old.items.items ms
-            → OnOk result (AreRead structs g self.new.variables self.new.items.items (ms ++ form_at place name.entry.now)) }
+        ensures { (g : Tables) (ms : List tree.Member) → AreRead g self.old.variables self.old.items.items ms
+            → OnOk result (AreRead g self.new.variables self.new.items.items (ms ++ form_at place name.entry.now)) }
     {
         match place {
             Some(at) => self.add_refused(at, name),
@@ -132,7 +132,7 @@ impl<'p> Parameters<'p> {
         tags: &TagNames<'_>,
         function: &'p Function,
     ) -> Result<Parameters<'p>, AllocError>
-        ensures { (g : Tables) → AreTagNames taken tags.now g → IfOk result (λ ps. AreRead taken.structs g ps.variables ps.items.items
+        ensures { (g : Tables) → AreTagNames tags.now g → IfOk result (λ ps. AreRead g ps.variables ps.items.items
             (function_taken (taken_of taken) (function_tree function.entry.now)).parameters) }
     {
         let mut parameters = Parameters::new(alloc);

@@ -8,13 +8,14 @@ use Rattle.cyc_tree.specs.declared.statement.BlockItem as code_item
 use Rattle.cyc_tree.specs.declared.expression.Expression as code_expression
 use Rattle.cyc_tree.specs.View.{OneItem, expression_tree, item_tree, items_of}
 use Rattle.cyc_tree.specs.Tree.{BlockItems, Statement}
-use Rattle.source_typing.specs.Declarations.{declare, name_added}
+use Rattle.source_typing.specs.Declarations.{declare, name_added, operand}
 use Rattle.source_typing.specs.Expressions.{judge}
-use Rattle.source_typing.specs.Faults.{Fault, earliest}
+use Rattle.source_typing.specs.Faults.{Fault, earliest, fault, type_rule}
 use Rattle.source_typing.specs.Scope.{Env, block_entered}
-use Rattle.source_typing.specs.Statements.{in_a_loop, items_faults, returned, statement_faults}
-use Rattle.source_typing.specs.Taken.{Taken, declaration_taken, items_taken, statement_taken, taken}
-use Rattle.source_typing.specs.Ways.{ways_of}
+use Rattle.source_typing.specs.Statements.{in_a_loop, in_a_switch, items_faults, returned, statement_faults}
+use Rattle.source_typing.specs.Taken.{Taken, declaration_taken, items_taken, statement_if, statement_taken, taken}
+use Rattle.source_typing.specs.Types.{is_key, is_unique}
+use Rattle.source_typing.specs.Verdicts as verdict
 use Rattle.type_verdicts.specs.Faults.{faults_of, first_of, sooner_found}
 use Rattle.type_verdicts.specs.declared.fault.Fault as found
 use Rattle.type_verdicts.proofs.Earliest.{earliest_of_both, found_sooner, sooner_first}
@@ -34,13 +35,15 @@ use Rattle.cyc_types.specs.declared.region.RegionId.{RegionId}
 use Rattle.source_typing.specs.Regions.{Level, Region}
 use Rattle.source_typing.specs.Written.{RegionNamed}
 use Rattle.judged_statements.specs.Contexts.{StandsIn, Suits, kept_to}
+use Rattle.judged_statements.specs.Leaving.{item_falls}
+use Rattle.judged_statements.proofs.RegionScopes.{names_up}
 use Rattle.judged_statements.specs.declared.context.Context.{Context}
 
 -- the items of a block as far as they are taken
 abbrev pub taken_items : Taken → List OneItem → BlockItems
 taken_items k items = items_taken k (items_of items)
 
--- the faults of one item, what is in scope after it, and whether its end is reached
+-- the faults of one item, and what is in scope after it
 abbrev pub item_faults : Taken → Env → Bool → OneItem → List Fault
 item_faults k g reached (OneItem.Declare d) = (declare g (declaration_taken k d)).faults
 item_faults k g reached (OneItem.Execute s) = statement_faults g reached (statement_taken k s)
@@ -49,48 +52,47 @@ abbrev pub scope_behind : Taken → Env → OneItem → Env
 scope_behind k g (OneItem.Declare d) = (declare g (declaration_taken k d)).scope
 scope_behind k g (OneItem.Execute s) = g
 
-abbrev pub reached_behind : Taken → Bool → OneItem → Bool
-reached_behind k reached (OneItem.Declare d) = reached
-reached_behind k reached (OneItem.Execute s) = reached && (ways_of (statement_taken k s)).falls
+and_true : (b : Bool) → (b && true) ≡ b
+and_true true = refl
+and_true false = refl
 
 item_more : (k : Taken) (g : Env) (reached : Bool) (i : OneItem) (rest : List OneItem) → items_faults g reached (taken_items k (i ∷ rest))
-    ≡ item_faults k g reached i ++ items_faults (scope_behind k g i) (reached_behind k reached i) (taken_items k rest)
-item_more k g reached (OneItem.Declare d) rest = refl
+    ≡ item_faults k g reached i ++ items_faults (scope_behind k g i) (reached && item_falls k i) (taken_items k rest)
+item_more k g reached (OneItem.Declare d) rest =
+    ap (λ b. item_faults k g reached (OneItem.Declare d) ++ items_faults (scope_behind k g (OneItem.Declare d)) b (taken_items k rest)) (sym (and_true reached))
 item_more k g reached (OneItem.Execute s) rest = refl
 
-first_joined : (a b c : Option Fault) → first_of (first_of a b) c ≡ first_of a (first_of b c)
+pub first_joined : (a b c : Option Fault) → first_of (first_of a b) c ≡ first_of a (first_of b c)
 first_joined None b c = refl
 first_joined (Some f) b c = sym (sooner_first f b c)
 
 -- where some items were judged: what stands in scope by the rules, and what was found, with the faults of the rest, is what is found of all
-pub record Going (k : Taken) (c : Context) (names : List RegionNamed) (outer : ℕ) (s : Scope) (o : Option found.Fault) (rest : List OneItem)
+pub record Going (k : Taken) (c : Context) (names : List RegionNamed) (outer : ℕ) (s : Scope) (reached : Bool) (o : Option found.Fault) (rest : List OneItem)
     (all : Option Fault) : Type 0 where
   pub env : Env
-  pub reached : Bool
   pub stands : StandsIn c names outer s env
   pub same : first_of (faults_of o) (earliest (items_faults env reached (taken_items k rest))) ≡ all
 
-pub goes_on : (k : Taken) (c : Context) (names later : List RegionNamed) (outer : ℕ) (s after : Scope) (o fault : Option found.Fault)
+pub goes_on : (k : Taken) (c : Context) (names later : List RegionNamed) (outer : ℕ) (s after : Scope) (reached : Bool) (o fault : Option found.Fault)
     (items : List code_item.BlockItem) (index : ℕ) (item : code_item.BlockItem) (all : Option Fault) → index < length items
-    → item ≡ get_or items index item → (h : Going k c names outer s o (map item_tree (drop index items)) all)
-    → faults_of fault ≡ earliest (item_faults k h.env h.reached (item_tree item)) → StandsIn c later outer after (scope_behind k h.env (item_tree item))
-    → Going k c later outer after (sooner_found o fault) (map item_tree (drop (index + 1) items)) all
-goes_on k c names later outer s after o fault items index item all l is_item h own stands =
+    → item ≡ get_or items index item → (h : Going k c names outer s reached o (map item_tree (drop index items)) all)
+    → faults_of fault ≡ earliest (item_faults k h.env reached (item_tree item)) → StandsIn c later outer after (scope_behind k h.env (item_tree item))
+    → Going k c later outer after (reached && item_falls k (item_tree item)) (sooner_found o fault) (map item_tree (drop (index + 1) items)) all
+goes_on k c names later outer s after reached o fault items index item all l is_item h own stands =
     let i : OneItem = item_tree item in
     let rest : List OneItem = map item_tree (drop (index + 1) items) in
-    let others : Option Fault = earliest (items_faults (scope_behind k h.env i) (reached_behind k h.reached i) (taken_items k rest)) in
+    let others : Option Fault = earliest (items_faults (scope_behind k h.env i) (reached && item_falls k i) (taken_items k rest)) in
     let next : drop index items ≡ item ∷ drop (index + 1) items = drop_more items index item l ∙ ap (λ y. y ∷ drop (index + 1) items) (sym is_item) in
     record {
       env = scope_behind k h.env i;
-      reached = reached_behind k h.reached i;
       stands = stands;
       same =
           ap (λ f. first_of f others) (found_sooner o fault) ∙ first_joined (faults_of o) (faults_of fault) others
           ∙ ap (λ f. first_of (faults_of o) (first_of f others)) own
           ∙ ap (λ f. first_of (faults_of o) f)
-          (sym (ap earliest (item_more k h.env h.reached i rest)
-          ∙ earliest_of_both (item_faults k h.env h.reached i) (items_faults (scope_behind k h.env i) (reached_behind k h.reached i) (taken_items k rest))))
-          ∙ ap (λ xs. first_of (faults_of o) (earliest (items_faults h.env h.reached (taken_items k (map item_tree xs))))) (sym next)
+          (sym (ap earliest (item_more k h.env reached i rest)
+          ∙ earliest_of_both (item_faults k h.env reached i) (items_faults (scope_behind k h.env i) (reached && item_falls k i) (taken_items k rest))))
+          ∙ ap (λ xs. first_of (faults_of o) (earliest (items_faults h.env reached (taken_items k (map item_tree xs))))) (sym next)
           ∙ h.same;
     }
 
@@ -100,12 +102,41 @@ pub two_found : (a b r : Option found.Fault) (fs gs : List Fault) → r ≡ soon
 two_found a b r fs gs e p q =
     ap (λ o. faults_of o) e ∙ found_sooner a b ∙ ap (λ o. first_of o (faults_of b)) p ∙ ap (λ o. first_of (earliest fs) o) q ∙ sym (earliest_of_both fs gs)
 
+-- one more was found
+pub one_more : (o a r : Option found.Fault) (fs gs : List Fault) (all : Option Fault) → r ≡ sooner_found o a → faults_of a ≡ earliest fs
+    → first_of (faults_of o) (earliest (fs ++ gs)) ≡ all → first_of (faults_of r) (earliest gs) ≡ all
+one_more o a r fs gs all e own h =
+    ap (λ f. first_of (faults_of f) (earliest gs)) e ∙ ap (λ f. first_of f (earliest gs)) (found_sooner o a)
+    ∙ first_joined (faults_of o) (faults_of a) (earliest gs) ∙ ap (λ f. first_of (faults_of o) (first_of f (earliest gs))) own
+    ∙ ap (λ f. first_of (faults_of o) f) (sym (earliest_of_both fs gs)) ∙ h
+
 -- a `return`, with a result or without
 pub return_faults : (k : Taken) (g : Env) (reached : Bool) (at : ℕ) (v : Option code_expression.Expression)
     → statement_faults g reached (statement_taken k (Statement.Return at (option_map expression_tree v)))
     ≡ returned g at g.result (option_map (λ e. judge g (taken k (expression_tree e))) v)
 return_faults k g reached at None = refl
 return_faults k g reached at (Some e) = refl
+
+-- what is freed, where that is taken and where it isn't
+pub free_unique_faults : (k : Taken) (g : Env) (reached : Bool) (at : ℕ) (x : tree.Name)
+    → (if k.unique then verdict.faults_of (operand g x is_unique) else fault type_rule at ∷ [])
+    ≡ statement_faults g reached (statement_taken k (Statement.FreeUnique at x))
+free_unique_faults k g reached at x = by k.unique
+  where
+    by : (b : Bool) → (if b then verdict.faults_of (operand g x is_unique) else fault type_rule at ∷ [])
+        ≡ statement_faults g reached (statement_if b at (Statement.FreeUnique at x))
+    by true = refl
+    by false = refl
+
+pub free_key_faults : (k : Taken) (g : Env) (reached : Bool) (at : ℕ) (x : tree.Name)
+    → (if k.keys then verdict.faults_of (operand g x is_key) else fault type_rule at ∷ [])
+    ≡ statement_faults g reached (statement_taken k (Statement.FreeKey at x))
+free_key_faults k g reached at x = by k.keys
+  where
+    by : (b : Bool) → (if b then verdict.faults_of (operand g x is_key) else fault type_rule at ∷ [])
+        ≡ statement_faults g reached (statement_if b at (Statement.FreeKey at x))
+    by true = refl
+    by false = refl
 
 -- ---- blocks
 
@@ -118,11 +149,12 @@ block_stands c names s g regions frame outer h suits around e f o =
       known = entered_known s g h;
       suits = record {
         names = suits.names;
+        below = names_up g.regions.count g.names suits.below;
         result = suits.result;
         frame = f ∙ ap Level h.regions.count;
         item = suits.item;
         in_loop = suits.in_loop;
-        no_switch = suits.no_switch;
+        in_switch = suits.in_switch;
       };
       block = subst (λ n. IsBlock n (entered s) (block_entered g)) (sym o) (block_is_entered s g around);
     }
@@ -132,6 +164,9 @@ pub begun_longer : (s regions : Scoped) → regions ≡ with_begun Block s → l
 begun_longer s regions e =
     let more : length s.begun ≤ length (s.begun ++ Block ∷ []) = omega (arith, length-append s.begun (Block ∷ [])) in
     subst (λ r. length s.begun ≤ length r.begun) (sym e) more
+
+pub opened_same : (s regions : Scoped) → regions ≡ with_begun Block s → length s.opened ≤ length regions.opened
+opened_same s regions e = let same : length s.opened ≤ length s.opened = omega arith in subst (λ r. length s.opened ≤ length r.opened) (sym e) same
 
 -- leaving it at once, and after all of its items
 pub block_left : (s t : Scope) (regions : Scoped) → regions ≡ with_begun Block s.regions
@@ -155,11 +190,27 @@ pub loop_suits : (c d : Context) (names : List RegionNamed) (g : Env) → Suits 
 loop_suits c d names g h e =
     subst (λ x. Suits x names (in_a_loop g)) (sym e) record {
       names = h.names;
+      below = h.below;
       result = h.result;
       frame = h.frame;
       item = h.item;
       in_loop = refl;
-      no_switch = h.no_switch;
+      in_switch = h.in_switch;
+    }
+
+pub switch_known : (s : Scope) (g : Env) → Knows s g → Knows s (in_a_switch g)
+switch_known s g h = known_there s g h (in_a_switch g) refl refl refl refl refl
+
+pub switch_suits : (c d : Context) (names : List RegionNamed) (g : Env) → Suits c names g → d ≡ record c { in_switch = true } → Suits d names (in_a_switch g)
+switch_suits c d names g h e =
+    subst (λ x. Suits x names (in_a_switch g)) (sym e) record {
+      names = h.names;
+      below = h.below;
+      result = h.result;
+      frame = h.frame;
+      item = h.item;
+      in_loop = h.in_loop;
+      in_switch = refl;
     }
 
 -- ---- what is left
@@ -188,6 +239,15 @@ no_fewer_regions s t e =
     let same : take n t.regions.begun ≡ s.regions.begun = ap (λ (x : Scope). x.regions.begun) (e ∙ left_at_once s) in
     let shorter : length (take n t.regions.begun) ≤ length t.regions.begun = omega (arith, length-take n t.regions.begun) in
     subst (λ bs. length bs ≤ length t.regions.begun) same shorter
+
+-- and no fewer opened ones
+pub no_fewer_opened : (s t : Scope) → left (length s.locals) (mark_of s.regions) t ≡ left (length s.locals) (mark_of s.regions) s
+    → length s.regions.opened ≤ length t.regions.opened
+no_fewer_opened s t e =
+    let n : ℕ = length s.regions.opened in
+    let same : take n t.regions.opened ≡ s.regions.opened = ap (λ (x : Scope). x.regions.opened) (e ∙ left_at_once s) in
+    let shorter : length (take n t.regions.opened) ≤ length t.regions.opened = omega (arith, length-take n t.regions.opened) in
+    subst (λ rs. length rs ≤ length t.regions.opened) same shorter
 
 -- ---- the region names that are left
 

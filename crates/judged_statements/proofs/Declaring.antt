@@ -1,52 +1,37 @@
 -- Declarations of locals by the faults that are answered of their types and initializers.
 use Rattle.std.proofs.Common.{◌≡◌, ℕ, Bool, true, false, List, [], ◌∷◌, Option, Some, None, refl, sym, ap, subst, ◌∙◌}
-use Rattle.std.specs.Prelude.{◌&&◌, ◌++◌, if◌then◌else◌, not, unwrap_or}
+use Rattle.std.specs.Prelude.{◌&&◌, ◌++◌, if◌then◌else◌, not}
 use Rattle.cyc_tree.specs.Tree as tree
-use Rattle.source_typing.specs.Declarations.{Declared, converted_to, declare, declared, local_type, region_declared, set_faults, taken_from}
-use Rattle.source_typing.specs.Declarations.{what_after, what_of, with_region}
-use Rattle.source_typing.specs.Faults.{Fault, earliest, fault, name_rule, sooner_of, type_rule}
-use Rattle.source_typing.specs.Regions.{Region, with_scope}
-use Rattle.source_typing.specs.Scope.{Env, block_entered, is_second, next_region, second, with_local}
+use Rattle.source_typing.specs.Declarations.{Declared, converted_to, declare, declared, open_declared, opened_region, region_declared, set_faults}
+use Rattle.source_typing.specs.Declarations.{unset_type, what_after, what_of, with_region}
+use Rattle.source_typing.specs.Faults.{Fault, earliest, fault, name_rule}
+use Rattle.source_typing.specs.Regions.{Region, Regions, with_name, with_scope}
+use Rattle.source_typing.specs.Scope.{Env, is_second, next_region, second, with_local}
 use Rattle.source_typing.specs.Scope as judged
 use Rattle.source_typing.specs.Tables.{Stored, Unknown, What}
 use Rattle.source_typing.specs.Taken.{Taken, declaration_taken, declared_if, initializer_taken, refused_type, takes_initializer, takes_type, type_taken}
-use Rattle.source_typing.specs.Types.{Handle, PartialType, StaticType}
-use Rattle.source_typing.specs.Verdicts.{Faulty, Of, Unjudged, Verdict, after}
+use Rattle.source_typing.specs.Types.{Handle, Key, StaticType}
+use Rattle.source_typing.specs.Verdicts.{Faulty, Of, Unjudged, Verdict}
 use Rattle.source_typing.specs.Verdicts as verdict
 use Rattle.source_typing.specs.Written.{RegionNamed}
 use Rattle.type_verdicts.specs.Faults.{faults_of, first_of, sooner_found}
 use Rattle.type_verdicts.specs.declared.fault.Fault as found
 use Rattle.type_verdicts.specs.Taken.{taken_of}
 use Rattle.type_verdicts.specs.declared.taken.Taken as code_taken
-use Rattle.type_verdicts.specs.Verdicts.{Is, NotJudged, Short, Wrong, fault_found, fault_in, short_of, shortened, wrong_if}
-use Rattle.type_verdicts.specs.declared.verdict.Verdict as code
-use Rattle.type_verdicts.specs.declared.verdict.Verdict.TheVariants as variant
-use Rattle.type_verdicts.proofs.Shortened.{after_of, after_unjudged, after_wrong}
-use Rattle.cyc_types.specs.Types.{static_type}
-use Rattle.written_types.specs.Written.{partial_type}
-use Rattle.written_types.specs.declared.settling.WrittenType.{WrittenType}
+use Rattle.type_verdicts.specs.Verdicts.{NotJudged, Wrong, fault_in, shortened}
 use Rattle.type_verdicts.proofs.Earliest.{earliest_of_both, found_sooner}
-use Rattle.scoped_names.specs.Changes.{entered, with_known}
+use Rattle.scoped_names.specs.Changes.{with_known}
 use Rattle.scoped_names.specs.Means.{WhatIs}
 use Rattle.scoped_names.specs.declared.locals.What as local
 use Rattle.scoped_names.specs.declared.scope.Scope.{Scope}
-use Rattle.scoped_names.proofs.Keeping.{block_goes_on, declared_known, entered_known, is_declared, known_there, not_declared}
+use Rattle.scoped_names.proofs.Keeping.{block_goes_on, declared_known, is_declared, not_declared}
+use Rattle.judged_statements.proofs.Answered.{earliest_in}
 use Rattle.judged_statements.specs.Contexts.{StandsIn, Suits}
-use Rattle.judged_statements.specs.Declaring.{Matches, own_faults, own_scope, own_what}
+use Rattle.judged_statements.specs.Declaring.{Matches, alias_scope, opened_scope, opened_what, own_faults, own_scope, own_what}
 use Rattle.judged_statements.specs.declared.context.Context.{Context}
-use Rattle.judged_statements.specs.declared.declaration.Judged.{Judged}
+use Rattle.judged_statements.specs.declared.local.Judged.{Judged}
 
 -- ---- lists of faults
-
-none_later : (f : Fault) (o : Option Fault) → Some (unwrap_or (sooner_of f o) f) ≡ sooner_of f o
-none_later f None = refl
-none_later f (Some g) = refl
-
--- the fault of a phrase
-pub earliest_in : {A : Type 0} (v : Verdict A) → fault_in (shortened v) ≡ earliest (verdict.faults_of v)
-earliest_in (Faulty f fs) = none_later f (earliest fs)
-earliest_in Unjudged = refl
-earliest_in (Of a) = refl
 
 first_alone : (o : Option Fault) → first_of o None ≡ o
 first_alone None = refl
@@ -69,52 +54,35 @@ set_earliest g v t a b c of value conversion =
     ∙ ap (λ o. first_of o (earliest (converted_to g v t))) (sym (earliest_of_both (verdict.faults_of t) (verdict.faults_of v)))
     ∙ sym (earliest_of_both (verdict.faults_of t ++ verdict.faults_of v) (converted_to g v t))
 
--- ---- verdicts by what is answered
-
-pub of_short : {A : Type 0} (v : Verdict A) (a : A) → Is a ≡ shortened v → v ≡ Of a
-of_short (Of b) a e = ap (λ s. of_is b s) (sym e)
-  where
-    of_is : {A : Type 0} → A → Short A → Verdict A
-    of_is other (Is b) = Of b
-    of_is other (Wrong f) = Of other
-    of_is other NotJudged = Of other
-of_short Unjudged a e = absurd cc
-of_short (Faulty f fs) a e = absurd cc
-
--- ---- types with the initializer's regions
-
-pub unsettled_is : (v : code.Verdict WrittenType) (w : Verdict PartialType) → short_of partial_type v ≡ shortened w
-    → short_of static_type (wrong_if (fault_found v)) ≡ shortened (after w (λ p. Unjudged))
-unsettled_is (variant.Wrong f) w e = sym (after_wrong partial_type (variant.Wrong f) w (λ p. Unjudged) e f refl)
-unsettled_is variant.NotJudged w e = sym (after_unjudged partial_type variant.NotJudged w (λ p. Unjudged) e refl)
-unsettled_is (variant.Of t) w e = sym (after_of partial_type (variant.Of t) w (λ p. Unjudged) e t refl)
-
-module _ (g : Env) (at : ℕ) (w : Verdict PartialType) where
-  pub from_value : (v : Verdict judged.Value) (a : judged.Value) → Is a ≡ shortened v
-      → after w (taken_from g at true v) ≡ after w (local_type g at None true (Some a.type))
-  from_value v a e = ap (λ u. after w (taken_from g at true u)) (of_short v a e)
-
-  pub from_faulty : (v : Verdict judged.Value) (f : Fault) → Wrong f ≡ shortened v → after w (taken_from g at true v) ≡ after w (λ p. Unjudged)
-  from_faulty (Faulty x xs) f e = refl
-  from_faulty Unjudged f e = absurd cc
-  from_faulty (Of a) f e = absurd cc
-
 -- ---- what a local is
 
-pub what_unset : (r : Region) (t : Verdict StaticType) → what_after (verdict.faults_of t) (what_of r None t) ≡ what_of r None t
-what_unset r (Faulty f fs) = refl
-what_unset r Unjudged = refl
-what_unset r (Of t) = refl
+module _ (r : Region) (count : Option ℕ) where
+  pub what_unset : (t : Verdict StaticType) → what_after (verdict.faults_of t) (what_of r count t) ≡ what_of r count t
+  what_unset (Faulty f fs) = by count
+    where
+      by : (n : Option ℕ) → Unknown ≡ what_of r n (Faulty f fs)
+      by None = refl
+      by (Some n) = refl
+  what_unset Unjudged = refl
+  what_unset (Of t) = refl
 
-pub wrong_what : (r : Region) (t : Verdict StaticType) (f : Fault) → Wrong f ≡ shortened t → what_of r None t ≡ Unknown
-wrong_what r (Faulty x xs) f e = refl
-wrong_what r Unjudged f e = absurd cc
-wrong_what r (Of t) f e = absurd cc
+  pub wrong_what : (t : Verdict StaticType) (f : Fault) → Wrong f ≡ shortened t → what_of r count t ≡ Unknown
+  wrong_what (Faulty x xs) f e = by count
+    where
+      by : (n : Option ℕ) → what_of r n (Faulty x xs) ≡ Unknown
+      by None = refl
+      by (Some n) = refl
+  wrong_what Unjudged f e = absurd cc
+  wrong_what (Of t) f e = absurd cc
 
-pub unjudged_what : (r : Region) (t : Verdict StaticType) → NotJudged ≡ shortened t → what_of r None t ≡ Unknown
-unjudged_what r (Faulty x xs) e = absurd cc
-unjudged_what r Unjudged e = refl
-unjudged_what r (Of t) e = absurd cc
+  pub unjudged_what : (t : Verdict StaticType) → NotJudged ≡ shortened t → what_of r count t ≡ Unknown
+  unjudged_what (Faulty x xs) e = absurd cc
+  unjudged_what Unjudged e = by count
+    where
+      by : (n : Option ℕ) → what_of r n Unjudged ≡ Unknown
+      by None = refl
+      by (Some n) = refl
+  unjudged_what (Of t) e = absurd cc
 
 -- ---- what is taken of a declaration
 
@@ -132,6 +100,19 @@ module _ (k : Taken) (t : tree.TypeName) (x : tree.Name) where
       by true = refl
       by false = refl
 
+  -- an array, where arrays are taken
+  pub array_matches : (g : Env) (n : ℕ) (d : Judged) → k.arrays ≡ true
+      → Matches (verdict.faults_of (unset_type g (type_taken k t) (Some n))) (what_of g.frame (Some n) (unset_type g (type_taken k t) (Some n))) d
+      → let e = declaration_taken k (tree.Local t x (tree.Initializer.Elements n)) in Matches (own_faults g e) (own_what g e) d
+  array_matches g n d arrays h = by (takes_type k t) k.arrays arrays h
+    where
+      by : (b c : Bool) → c ≡ true → let u = unset_type g (if b then t else refused_type t.at) (Some n) in
+          Matches (verdict.faults_of u) (what_of g.frame (Some n) u) d
+          → let e = declared_if (b && c) t.at (tree.Local t x (tree.Initializer.Elements n)) in Matches (own_faults g e) (own_what g e) d
+      by true true e h = h
+      by false true e h = h
+      by b false e h = absurd cc
+
 -- each is a declaration of a local
 pub locals_declared : (g : Env) (t : tree.TypeName) (x : tree.Name) (i : tree.Initializer)
     → declare g (tree.Local t x i) ≡ declared (own_faults g (tree.Local t x i) ++ second g x) (with_local x (own_what g (tree.Local t x i)) g)
@@ -141,6 +122,12 @@ locals_declared g t x (tree.Initializer.Value e) = refl
 
 abbrev pub declared_in : Env → tree.Name → tree.Declaration → Declared
 declared_in g x d = declared (own_faults g d ++ second g x) (with_local x (own_what g d) (own_scope g d))
+
+opened_declared : (g : Env) (x : tree.Name) (v : Verdict Region) → open_declared g x v
+    ≡ declared (verdict.faults_of v ++ second g x) (with_local x (opened_what g.frame v) (opened_scope g v))
+opened_declared g x (Of r) = refl
+opened_declared g x (Faulty f fs) = refl
+opened_declared g x Unjudged = refl
 
 pub all_declared : (forms : code_taken.Taken) (g : Env) (d : tree.Declaration)
     → declare g (declaration_taken (taken_of forms) d) ≡ declared_in g (tree.local_of d) (declaration_taken (taken_of forms) d)
@@ -154,9 +141,21 @@ all_declared forms g (tree.Region at r x) = by forms.regions
     by : (b : Bool) → let d = declared_if b at (tree.Region at r x) in declare g d ≡ declared_in g x d
     by true = refl
     by false = refl
-all_declared forms g (tree.Open at r x y) = refl
-all_declared forms g (tree.Alias at r t x p) = refl
-all_declared forms g (tree.NewKey at r x) = refl
+all_declared forms g (tree.Open at r x y) = by forms.keys
+  where
+    by : (b : Bool) → let d = declared_if b at (tree.Open at r x y) in declare g d ≡ declared_in g x d
+    by true = opened_declared g x (opened_region g r y)
+    by false = refl
+all_declared forms g (tree.Alias at r t x p) = by forms.unique
+  where
+    by : (b : Bool) → let d = declared_if b at (tree.Alias at r t x p) in declare g d ≡ declared_in g x d
+    by true = refl
+    by false = refl
+all_declared forms g (tree.NewKey at r x) = by forms.keys
+  where
+    by : (b : Bool) → let d = declared_if b at (tree.NewKey at r x) in declare g d ≡ declared_in g x d
+    by true = refl
+    by false = refl
 
 -- a local that isn't of a region leaves what is in scope around it
 pub local_scope : (k : Taken) (g : Env) (t : tree.TypeName) (x : tree.Name) (i : tree.Initializer) → g ≡ own_scope g (declaration_taken k (tree.Local t x i))
@@ -166,63 +165,77 @@ local_scope k g t x i = by (takes_type k t && takes_initializer k i)
     by true = refl
     by false = refl
 
--- ---- a lexical region begins
+-- ---- regions that begin, and that are opened
 
--- the scope after it, field by field
-begun_is : (g : Env) (r : tree.RegionName)
-    → with_region r with_scope g ≡ record g { regions = with_scope g.regions; names = (with_region r with_scope g).names }
-begun_is g (tree.Named n) = refl
-begun_is g (tree.Heap at) = refl
-begun_is g (tree.Unique at) = refl
+-- no local is declared with them
+begun_second : (g : Env) (r : tree.RegionName) (next : Regions → Regions) (x : tree.Name) → second (with_region r next g) x ≡ second g x
+begun_second g (tree.Named n) next x = refl
+begun_second g (tree.Heap at) next x = refl
+begun_second g (tree.Unique at) next x = refl
 
--- no local is declared with it
-begun_second : (g : Env) (r : tree.RegionName) (x : tree.Name) → second (with_region r with_scope g) x ≡ second g x
-begun_second g (tree.Named n) x = refl
-begun_second g (tree.Heap at) x = refl
-begun_second g (tree.Unique at) x = refl
+opened_second : (g : Env) (v : Verdict Region) (x : tree.Name) → second (opened_scope g v) x ≡ second g x
+opened_second g (Of r) x = refl
+opened_second g (Faulty f fs) x = refl
+opened_second g Unjudged x = refl
 
 pub own_second : (g : Env) (d : tree.Declaration) (x : tree.Name) → second (own_scope g d) x ≡ second g x
 own_second g (tree.Local t y i) x = refl
-own_second g (tree.Region at r y) x = begun_second g r x
-own_second g (tree.Open at r y z) x = refl
-own_second g (tree.Alias at r t y p) x = refl
-own_second g (tree.NewKey at r y) x = refl
+own_second g (tree.Region at r y) x = begun_second g r with_scope x
+own_second g (tree.Open at r y k) x = opened_second g (opened_region g r k) x
+own_second g (tree.Alias at r t y p) x = begun_second g r (with_name true) x
+own_second g (tree.NewKey at r y) x = begun_second g r (with_name false) x
 
-pub region_stands : (c : Context) (old new : List RegionNamed) (outer : ℕ) (s : Scope) (g : Env) (r : tree.RegionName) → StandsIn c old outer s g
-    → new ≡ (with_region r with_scope g).names → StandsIn c new outer (entered s) (with_region r with_scope g)
-region_stands c old new outer s g r h e =
-    let after : Env = record g { regions = with_scope g.regions; names = (with_region r with_scope g).names } in
-    subst (StandsIn c new outer (entered s)) (sym (begun_is g r)) record {
-      known = known_there (entered s) (block_entered g) (entered_known s g h.known) after refl refl refl refl refl;
-      suits = record {
-        names = e;
-        result = h.suits.result;
-        frame = h.suits.frame;
-        item = h.suits.item;
-        in_loop = h.suits.in_loop;
-        no_switch = h.suits.no_switch;
-      };
-      block = record { second = h.block.second; within = h.block.within; around = h.block.around };
-    }
+-- where no region is opened
+pub wrong_opened : (frame : Region) (v : Verdict Region) (f : Fault) → Wrong f ≡ shortened v → opened_what frame v ≡ Unknown
+wrong_opened frame (Faulty x xs) f e = refl
+wrong_opened frame Unjudged f e = refl
+wrong_opened frame (Of r) f e = absurd cc
 
--- a declaration of a region, where it is taken and where it isn't
-abbrev region_as : Bool → ℕ → tree.RegionName → tree.Name → tree.Declaration
-region_as b at r x = declared_if b at (tree.Region at r x)
+pub wrong_scope : (g : Env) (v : Verdict Region) (f : Fault) → Wrong f ≡ shortened v → g ≡ opened_scope g v
+wrong_scope g (Faulty x xs) f e = refl
+wrong_scope g Unjudged f e = refl
+wrong_scope g (Of r) f e = absurd cc
 
-module _ (b : Bool) (at : ℕ) (r : tree.RegionName) (x : tree.Name) (g : Env) where
-  pub region_matches : (d : Judged) → b ≡ true → Matches (region_declared g r) (Stored (Handle (next_region g)) g.frame) d
-      → Matches (own_faults g (region_as b at r x)) (own_what g (region_as b at r x)) d
-  region_matches d e h = subst (λ b. Matches (own_faults g (region_as b at r x)) (own_what g (region_as b at r x)) d) (sym e) h
+pub unjudged_opened : (frame : Region) (v : Verdict Region) → NotJudged ≡ shortened v → opened_what frame v ≡ Unknown
+unjudged_opened frame (Faulty x xs) e = refl
+unjudged_opened frame Unjudged e = refl
+unjudged_opened frame (Of r) e = absurd cc
 
-  pub refused_matches : (d : Judged) → b ≡ false → Matches (fault type_rule at ∷ []) Unknown d
-      → Matches (own_faults g (region_as b at r x)) (own_what g (region_as b at r x)) d
-  refused_matches d e h = subst (λ b. Matches (own_faults g (region_as b at r x)) (own_what g (region_as b at r x)) d) (sym e) h
+pub unjudged_scope : (g : Env) (v : Verdict Region) → NotJudged ≡ shortened v → g ≡ opened_scope g v
+unjudged_scope g (Faulty x xs) e = refl
+unjudged_scope g Unjudged e = refl
+unjudged_scope g (Of r) e = absurd cc
 
-  pub region_begins : b ≡ true → with_region r with_scope g ≡ own_scope g (region_as b at r x)
-  region_begins e = sym (ap (λ b. own_scope g (region_as b at r x)) e)
+-- a declaration of a region, where it is taken
+module _ (b : Bool) (at : ℕ) (r : tree.RegionName) (x : tree.Name) (g : Env) (taken : b ≡ true) where
+  pub region_matches : (d : Judged) → Matches (region_declared g r) (Stored (Handle (next_region g)) g.frame) d
+      → let e = declared_if b at (tree.Region at r x) in Matches (own_faults g e) (own_what g e) d
+  region_matches d h = subst (λ b. let e = declared_if b at (tree.Region at r x) in Matches (own_faults g e) (own_what g e) d) (sym taken) h
 
-  pub region_refused : b ≡ false → g ≡ own_scope g (region_as b at r x)
-  region_refused e = sym (ap (λ b. own_scope g (region_as b at r x)) e)
+  pub key_matches : (d : Judged) → Matches (region_declared g r) (Stored (Key (next_region g)) g.frame) d
+      → let e = declared_if b at (tree.NewKey at r x) in Matches (own_faults g e) (own_what g e) d
+  key_matches d h = subst (λ b. let e = declared_if b at (tree.NewKey at r x) in Matches (own_faults g e) (own_what g e) d) (sym taken) h
+
+  pub opened_matches : (k : tree.Name) (d : Judged) → Matches (verdict.faults_of (opened_region g r k)) (opened_what g.frame (opened_region g r k)) d
+      → let e = declared_if b at (tree.Open at r x k) in Matches (own_faults g e) (own_what g e) d
+  opened_matches k d h = subst (λ b. let e = declared_if b at (tree.Open at r x k) in Matches (own_faults g e) (own_what g e) d) (sym taken) h
+
+  pub alias_matches : (t : tree.TypeName) (p : tree.Name) (d : Judged) → let y = tree.Alias at r t x p in Matches (own_faults g y) (own_what g y) d
+      → let e = declared_if b at (tree.Alias at r t x p) in Matches (own_faults g e) (own_what g e) d
+  alias_matches t p d h = subst (λ b. let e = declared_if b at (tree.Alias at r t x p) in Matches (own_faults g e) (own_what g e) d) (sym taken) h
+
+  -- and what is in scope after it
+  pub region_scope : with_region r with_scope g ≡ own_scope g (declared_if b at (tree.Region at r x))
+  region_scope = sym (ap (λ b. own_scope g (declared_if b at (tree.Region at r x))) taken)
+
+  pub key_scope : with_region r (with_name false) g ≡ own_scope g (declared_if b at (tree.NewKey at r x))
+  key_scope = sym (ap (λ b. own_scope g (declared_if b at (tree.NewKey at r x))) taken)
+
+  pub open_scope : (k : tree.Name) → opened_scope g (opened_region g r k) ≡ own_scope g (declared_if b at (tree.Open at r x k))
+  open_scope k = sym (ap (λ b. own_scope g (declared_if b at (tree.Open at r x k))) taken)
+
+  pub named_scope : (t : tree.TypeName) (p : tree.Name) → alias_scope g r ≡ own_scope g (declared_if b at (tree.Alias at r t x p))
+  named_scope t p = sym (ap (λ b. own_scope g (declared_if b at (tree.Alias at r t x p))) taken)
 
 -- ---- a second one
 
@@ -246,11 +259,12 @@ module _ (c : Context) (known : List RegionNamed) (outer : ℕ) (s : Scope) (g :
   first_suits : is_second g.locals g.block x.text ≡ false → Suits c known (with_local x w g)
   first_suits e = subst (Suits c known) (sym (is_declared x w g e)) record {
     names = h.suits.names;
+    below = h.suits.below;
     result = h.suits.result;
     frame = h.suits.frame;
     item = h.suits.item;
     in_loop = h.suits.in_loop;
-    no_switch = h.suits.no_switch;
+    in_switch = h.suits.in_switch;
   }
 
   pub first_stands : (v : local.What) → WhatIs w v → is_second g.locals g.block x.text ≡ false

@@ -1,5 +1,10 @@
-pub mod Beginning
-pub mod Declaring
+pub mod Aliases
 pub mod Answered
 pub mod Blocks
+pub mod Clauses
+pub mod Declaring
+pub mod Exchanging
 pub mod LocalTypes
+pub mod Operands
+pub mod RegionScopes
+pub mod Sizes

@@ -1,13 +1,12 @@
 -- What types locals have by the structs and unions that are known in code, and by the rules.
-use Rattle.std.proofs.Common.{◌≡◌, ℕ, Bool, true, false, List, Option, Some, None, refl, sym, ap, ◌∙◌, true≢false}
-use Rattle.std.specs.Prelude.{if◌then◌else◌, is_some, not, ◌&&◌, ◌||◌}
+use Rattle.std.proofs.Common.{◌≡◌, ℕ, ◌*◌, Bool, true, false, List, Option, Some, None, refl, sym, ap, ◌∙◌}
+use Rattle.std.specs.Prelude.{nat_lt, not, if◌then◌else◌, ◌&&◌, ◌||◌}
 use Rattle.cyc_types.proofs.Converting.{by_none, by_outer}
 use Rattle.cyc_types.proofs.Sameness.{beginning_same, size_same}
 use Rattle.cyc_types.specs.Layers.{outermost, pointed, pointer_to}
-use Rattle.cyc_types.specs.Measures.{extent_in, limited, measured}
 use Rattle.cyc_types.specs.Sameness.{HasTags}
 use Rattle.cyc_types.specs.Tables.{tables_of}
-use Rattle.cyc_types.specs.declared.extent.Extent as code_extent
+use Rattle.cyc_types.specs.Types.{static_type}
 use Rattle.cyc_types.specs.declared.layer.Layer.{Layer}
 use Rattle.cyc_types.specs.declared.layer.Layer.TheVariants as code
 use Rattle.cyc_types.specs.declared.tables.Tables as code_tables
@@ -16,14 +15,24 @@ use Rattle.scoped_names.specs.Means.{Means}
 use Rattle.scoped_names.specs.Means as means
 use Rattle.scoped_names.specs.declared.meaning.Meaning.{Meaning}
 use Rattle.scoped_names.specs.declared.scope.Scope.{Scope}
-use Rattle.source_typing.specs.Declarations.{fitting_local, stands_earlier, tag_earlier}
-use Rattle.source_typing.specs.Extents.{fits_bytes, size_of}
+use Rattle.source_typing.specs.Declarations.{can_be, fitting_local, local_type, stands_earlier, tag_earlier, taken_from}
+use Rattle.source_typing.specs.Extents.{fits_bytes, size_of, variable_size}
+use Rattle.source_typing.specs.Faults.{Fault}
 use Rattle.source_typing.specs.Scope.{Env}
+use Rattle.source_typing.specs.Scope as judged
 use Rattle.source_typing.specs.Tables.{Entry, Tables, has_beginning, tag_in}
-use Rattle.source_typing.specs.Types.{Char, Fat, Handle, Int, Key, Null, StaticType, Struct, Thin, Union, Unique, Unsigned, Void, is_void}
+use Rattle.source_typing.specs.Types.{Char, Fat, Handle, Int, Key, Null, PartialType, StaticType, Struct, Thin, Union, Unique, Unsigned, Void, is_element, is_void}
+use Rattle.source_typing.specs.Verdicts as verdict
+use Rattle.type_verdicts.proofs.Shortened.{after_of, after_unjudged, after_wrong}
+use Rattle.type_verdicts.specs.Verdicts.{Is, Wrong, fault_found, short_of, shortened, wrong_if}
+use Rattle.type_verdicts.specs.declared.verdict.Verdict as code_verdict
+use Rattle.type_verdicts.specs.declared.verdict.Verdict.TheVariants as variant
 use Rattle.written_types.specs.Tagged.{tag_name_of}
+use Rattle.written_types.specs.Written.{partial_type}
+use Rattle.written_types.specs.declared.settling.WrittenType.{WrittenType}
 use Rattle.written_types.specs.declared.tagged.TagName.TheVariants as tag
-use Rattle.judged_statements.specs.Declaring.{allowed, could_be, fitting_by, is_tagless, stands_before, tag_of_meaning}
+use Rattle.judged_statements.specs.Declaring.{could_be, elements_fit, fitting_by, stands_before, tag_of_meaning}
+use Rattle.judged_statements.proofs.Answered.{of_short}
 
 -- ---- tags
 
@@ -31,23 +40,14 @@ use Rattle.judged_statements.specs.Declaring.{allowed, could_be, fitting_by, is_
 pub tag_meant : (e : Option Entry) (m : Option Meaning) → Means e m → tag_name_of e ≡ tag_of_meaning m
 tag_meant e m means.NoName = refl
 tag_meant e m (means.Variable t r) = refl
+tag_meant e m (means.Array t r) = refl
+tag_meant e m means.CounterValue = refl
 tag_meant e m (means.Function s) = refl
 tag_meant e m (means.Builtin n) = refl
 tag_meant e m means.UnknownValue = refl
 tag_meant e m (means.UnsoundFunction s u) = refl
 tag_meant e m (means.SoundTag t u) = ap (λ (b : Bool). if b then tag.Tag t.is_union t.regions else tag.NotJudged t.regions) u
 tag_meant e m (means.UnsoundTag t u) = ap (λ (b : Bool). if b then tag.Tag t.is_union t.regions else tag.NotJudged t.regions) u
-
--- ---- bytes
-
-pub extent_found : (g : Tables) (t : StaticType) (o : Option code_extent.Extent) → measured o ≡ limited (extent_in g t) → is_some o ≡ fits_bytes (size_of g t)
-extent_found g t o h = by o (fits_bytes (size_of g t)) h
-  where
-    by : (o : Option code_extent.Extent) (b : Bool) → measured o ≡ (if b then Some (extent_in g t) else None) → is_some o ≡ b
-    by None true h = absurd cc
-    by None false h = refl
-    by (Some x) true h = refl
-    by (Some x) false h = absurd cc
 
 -- ---- what is no pointer
 
@@ -70,20 +70,6 @@ pub record Alike (g h : Tables) (item : ℕ) (t : StaticType) : Type 0 where
   pub stands : stands_before g item t ≡ stands_before h item t
   pub size : size_of g t ≡ size_of h t
 
-tagless_alike : (g h : Tables) (item : ℕ) (t : StaticType) → is_tagless t ≡ true → Alike g h item t
-tagless_alike g h item Int e = record { begins = refl; stands = refl; size = refl }
-tagless_alike g h item Unsigned e = record { begins = refl; stands = refl; size = refl }
-tagless_alike g h item Char e = record { begins = refl; stands = refl; size = refl }
-tagless_alike g h item Void e = record { begins = refl; stands = refl; size = refl }
-tagless_alike g h item Null e = record { begins = refl; stands = refl; size = refl }
-tagless_alike g h item (Thin n r t) e = record { begins = refl; stands = refl; size = refl }
-tagless_alike g h item (Fat r t) e = record { begins = refl; stands = refl; size = refl }
-tagless_alike g h item (Unique n t) e = record { begins = refl; stands = refl; size = refl }
-tagless_alike g h item (Handle r) e = record { begins = refl; stands = refl; size = refl }
-tagless_alike g h item (Key r) e = record { begins = refl; stands = refl; size = refl }
-tagless_alike g h item (Struct x rs) e = absurd (true≢false (sym e))
-tagless_alike g h item (Union x rs) e = absurd (true≢false (sym e))
-
 stands_same : (g h : Tables) (item : ℕ) (t : StaticType) → ((x : List ℕ) → tag_in g x ≡ tag_in h x) → stands_before g item t ≡ stands_before h item t
 stands_same g h item Int e = refl
 stands_same g h item Unsigned e = refl
@@ -98,14 +84,12 @@ stands_same g h item (Key r) e = refl
 stands_same g h item (Struct x rs) e = ap (tag_earlier item) (e x)
 stands_same g h item (Union x rs) e = ap (tag_earlier item) (e x)
 
-pub alike : (structs : Bool) (tables : code_tables.Tables) (g : Tables) (item : ℕ) (t : StaticType) → (structs ≡ true → HasTags tables g)
-    → allowed structs t ≡ true → Alike g (tables_of tables) item t
-alike true tables g item t has ok = record {
-  begins = beginning_same tables g (has refl) t;
-  stands = stands_same g (tables_of tables) item t (has refl).tags;
-  size = size_same tables g (has refl) t;
+pub alike : (tables : code_tables.Tables) (g : Tables) (item : ℕ) (t : StaticType) → HasTags tables g → Alike g (tables_of tables) item t
+alike tables g item t has = record {
+  begins = beginning_same tables g has t;
+  stands = stands_same g (tables_of tables) item t has.tags;
+  size = size_same tables g has t;
 }
-alike false tables g item t has ok = tagless_alike g (tables_of tables) item t ok
 
 -- ---- the type of a local
 
@@ -123,18 +107,58 @@ stands_is g (Key r) = refl
 stands_is g (Struct x rs) = refl
 stands_is g (Union x rs) = refl
 
-module _ (s : Scope) (g : Env) (known : Knows s g) (item : ℕ) (same_item : item ≡ g.item) (at : ℕ) (set : Bool) (t : StaticType)
-    (ok : allowed s.taken.structs t ≡ true) where
+true_after : (b : Bool) → (b && true) ≡ b
+true_after true = refl
+true_after false = refl
+
+joined : (a b c d : Bool) → (a && (b && (c && d))) ≡ (((a && b) && c) && d)
+joined true true c d = refl
+joined true false c d = refl
+joined false b c d = refl
+
+-- what an array may be of, and a variable
+pub can_be_is : (g : Env) (count : Option ℕ) (t : StaticType) → (not (is_void t) && (stands_earlier g t && elements_fit count t)) ≡ can_be g count t
+can_be_is g None t = ap (λ b. not (is_void t) && b) (true_after (stands_earlier g t))
+can_be_is g (Some n) t = joined (not (is_void t)) (stands_earlier g t) (nat_lt 0 n) (is_element t)
+
+pub size_alike : (g h : Tables) (count : Option ℕ) (t : StaticType) → size_of g t ≡ size_of h t → variable_size g count t ≡ variable_size h count t
+size_alike g h None t e = e
+size_alike g h (Some n) t e = ap (λ (z : ℕ). n * z) e
+
+module _ (s : Scope) (g : Env) (known : Knows s g) (item : ℕ) (same_item : item ≡ g.item) (at : ℕ) (count : Option ℕ) (set : Bool) (t : StaticType) where
   abbrev tables : Tables
   tables = tables_of s.tables.now
 
   same : Alike g.tables tables g.item t
-  same = alike s.taken.structs s.tables.now g.tables g.item t known.tags ok
+  same = alike s.tables.now g.tables g.item t known.tags
 
-  pub fitting_is : fitting_by (could_be tables item set t) (fits_bytes (size_of tables t)) at t ≡ fitting_local g at None set t
+  abbrev by_parts : Bool → Bool → ℕ → verdict.Verdict StaticType
+  by_parts begins could bytes = fitting_by ((set || begins) && could) (fits_bytes bytes) at t
+
+  pub fitting_is : fitting_by (could_be tables item count set t) (fits_bytes (variable_size tables count t)) at t ≡ fitting_local g at count set t
   fitting_is =
-      ap (λ i. fitting_by (could_be tables i set t) (fits_bytes (size_of tables t)) at t) same_item
-      ∙ ap (λ b. fitting_by ((set || b) && (not (is_void t) && stands_before tables g.item t)) (fits_bytes (size_of tables t)) at t) (sym same.begins)
-      ∙ ap (λ b. fitting_by ((set || has_beginning g.tables t) && (not (is_void t) && b)) (fits_bytes (size_of tables t)) at t)
+      ap (λ i. fitting_by (could_be tables i count set t) (fits_bytes (variable_size tables count t)) at t) same_item
+      ∙ ap (λ b. by_parts b (not (is_void t) && (stands_before tables g.item t && elements_fit count t)) (variable_size tables count t)) (sym same.begins)
+      ∙ ap (λ b. by_parts (has_beginning g.tables t) (not (is_void t) && (b && elements_fit count t)) (variable_size tables count t))
       (sym (stands_is g t ∙ same.stands))
-      ∙ ap (λ n. fitting_by ((set || has_beginning g.tables t) && (not (is_void t) && stands_earlier g t)) (fits_bytes n) at t) (sym same.size)
+      ∙ ap (λ b. by_parts (has_beginning g.tables t) b (variable_size tables count t)) (can_be_is g count t)
+      ∙ ap (λ n. by_parts (has_beginning g.tables t) (can_be g count t) n) (sym (size_alike g.tables tables count t same.size))
+
+-- ---- types with the initializer's regions
+
+pub unsettled_is : (v : code_verdict.Verdict WrittenType) (w : verdict.Verdict PartialType) → short_of partial_type v ≡ shortened w
+    → short_of static_type (wrong_if (fault_found v)) ≡ shortened (verdict.after w (λ p. verdict.Unjudged))
+unsettled_is (variant.Wrong f) w e = sym (after_wrong partial_type (variant.Wrong f) w (λ p. verdict.Unjudged) e f refl)
+unsettled_is variant.NotJudged w e = sym (after_unjudged partial_type variant.NotJudged w (λ p. verdict.Unjudged) e refl)
+unsettled_is (variant.Of t) w e = sym (after_of partial_type (variant.Of t) w (λ p. verdict.Unjudged) e t refl)
+
+module _ (g : Env) (at : ℕ) (w : verdict.Verdict PartialType) where
+  pub from_value : (v : verdict.Verdict judged.Value) (a : judged.Value) → Is a ≡ shortened v
+      → verdict.after w (taken_from g at true v) ≡ verdict.after w (local_type g at None true (Some a.type))
+  from_value v a e = ap (λ u. verdict.after w (taken_from g at true u)) (of_short v a e)
+
+  pub from_faulty : (v : verdict.Verdict judged.Value) (f : Fault) → Wrong f ≡ shortened v
+      → verdict.after w (taken_from g at true v) ≡ verdict.after w (λ p. verdict.Unjudged)
+  from_faulty (verdict.Faulty x xs) f e = refl
+  from_faulty verdict.Unjudged f e = absurd cc
+  from_faulty (verdict.Of a) f e = absurd cc

@@ -1,6 +1,6 @@
 // What is in scope beside the names of values and regions.
 
-ghost use Rattle.std.specs.Prelude.{◌≡◌, true};
+ghost use Rattle.std.specs.Prelude.{◌≡◌, ◌||◌, true};
 
 use cyc_types::{CType, RegionId};
 
@@ -16,11 +16,20 @@ pub struct Context<'a, 'p> {
     pub item: u32,
     /// Whether a loop is around.
     pub in_loop: bool,
+    /// Whether a `switch` is around.
+    pub in_switch: bool,
 }
 
 impl<'a, 'p> Context<'a, 'p> {
+    /// Whether a `break` may stand here.
+    pub(crate) fn can_break(self) -> bool
+        ensures { result ≡ (self.entry.in_loop || self.entry.in_switch) }
+    {
+        self.in_loop || self.in_switch
+    }
+
     /// Within a loop.
-    pub(crate) fn looping(self) -> Self
+    pub fn looping(self) -> Self
         ensures { result ≡ record self.entry { in_loop = true } }
     {
         Context {
@@ -29,8 +38,18 @@ impl<'a, 'p> Context<'a, 'p> {
         }
     }
 
+    /// Within a `switch`.
+    pub fn switching(self) -> Self
+        ensures { result ≡ record self.entry { in_switch = true } }
+    {
+        Context {
+            in_switch: true,
+            ..self
+        }
+    }
+
     /// Within a block whose stack region this is.
-    pub(crate) fn in_block(self, frame: RegionId) -> Self
+    pub fn in_block(self, frame: RegionId) -> Self
         ensures { result ≡ record self.entry { frame = frame } }
     {
         Context { frame, ..self }

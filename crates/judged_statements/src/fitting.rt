@@ -6,7 +6,7 @@ ghost use Rattle.cyc_types.specs.Bases.{base_type};
 ghost use Rattle.cyc_types.specs.Tables.{tables_of};
 ghost use Rattle.cyc_types.specs.Types.{static_type};
 ghost use Rattle.source_typing.specs.Declarations.{tag_earlier};
-ghost use Rattle.source_typing.specs.Extents.{fits_bytes, size_of};
+ghost use Rattle.source_typing.specs.Extents.{fits_bytes, variable_size};
 ghost use Rattle.source_typing.specs.Scope.{Env, in_scope};
 ghost use Rattle.source_typing.specs.Tables.{tag_in};
 ghost use Rattle.type_verdicts.specs.Taken.{taken_of};
@@ -14,13 +14,16 @@ ghost use Rattle.type_verdicts.specs.Verdicts.{short_of, shortened};
 ghost use Rattle.scoped_names.specs.Knows.{Knows};
 ghost use Rattle.scoped_names.specs.Means.{meaning_of};
 ghost use Rattle.written_types.specs.Tagged.{TagIs};
-ghost use Rattle.judged_statements.specs.Declaring.{could_be, fitting_by, stands_before, tag_of_meaning};
+ghost use Rattle.judged_statements.specs.Declaring.{could_be, elements_fit, fitting_by, stands_before, tag_of_meaning};
 
 use cyc_tree::TypeName;
 use cyc_types::{BaseType, CType, Tables};
 use scoped_names::{Named, Scope};
-use type_verdicts::{Fault, FaultKind, Verdict};
-use written_types::{TagName, struct_tag};
+use type_verdicts::{Fault, FaultKind, Taken, Verdict};
+use written_types::{TagName, type_tag};
+
+/// The most bytes that a variable may have.
+const MOST_BYTES: u64 = 4096;
 
 /// What a name means where a tag is wanted, by what it means in scope.
 fn tag_name(named: Option<Named<'_, '_>>) -> TagName
@@ -30,17 +33,22 @@ fn tag_name(named: Option<Named<'_, '_>>) -> TagName
         None => TagName::NoName,
         Some(Named::Tag { is_union, regions }) => TagName::Tag { is_union, regions },
         Some(Named::FaultyTag(regions)) => TagName::NotJudged(regions),
-        Some(Named::Variable(_, _) | Named::Function(_) | Named::Builtin(_) | Named::NotKnown) => {
-            TagName::Other
-        }
+        Some(
+            Named::Variable(_, _)
+            | Named::Array(_, _)
+            | Named::Counter
+            | Named::Function(_)
+            | Named::Builtin(_)
+            | Named::NotKnown,
+        ) => TagName::Other,
     }
 }
 
-/// What the tag means in scope that a type of structs has, where it is taken.
-pub(crate) fn local_tag(scope: &Scope<'_, '_>, of: &TypeName) -> TagName
-    ensures { (g : Env) → Knows scope.now g → TagIs (taken_of scope.now.taken) (in_scope g) (type_tree of.now) result }
+/// What the tag means in scope that a type of structs or unions has, where it is taken.
+pub(crate) fn local_tag(taken: Taken, scope: &Scope<'_, '_>, of: &TypeName) -> TagName
+    ensures { (g : Env) → Knows scope.now g → TagIs (taken_of taken) (in_scope g) (type_tree of.now) result }
 {
-    match struct_tag(scope.taken, of) {
+    match type_tag(taken, of) {
         Some(name) => tag_name(scope.meaning(&name.text)),
         None => TagName::NoName,
     }
@@ -77,39 +85,59 @@ fn stands_before(tables: &Tables, item: u32, of: &CType) -> bool
     }
 }
 
-/// Whether a type has at most 4,096 bytes.
-#[tactic(auto, using(crate::proofs::LocalTypes::extent_found))]
-fn is_sized(tables: &Tables, of: &CType) -> bool
-    ensures { result ≡ fits_bytes (size_of (tables_of tables.now) (static_type of.now)) }
+/// Whether a variable of a type, or an array of so many elements of it, has at most 4,096 bytes.
+fn is_sized(tables: &Tables, of: &CType, count: Option<u32>) -> bool
+    ensures { result ≡ fits_bytes (variable_size (tables_of tables.now) count (static_type of.now)) }
 {
-    tables.extent(of).is_some()
+    match (tables.extent(of), count) {
+        (Some(_), None) => true,
+        (Some(extent), Some(count)) => u64::from(count) * u64::from(extent.size()) <= MOST_BYTES,
+        (None, None) => false,
+        (None, Some(count)) => count == 0,
+    }
 }
 
-/// Whether a local may be of a type, by whether it has an initializer.
-fn could_be(tables: &Tables, item: u32, of: &CType, set: bool) -> bool
-    ensures { result ≡ could_be (tables_of tables.now) item set (static_type of.now) }
+/// Whether there are elements, and they may be of a type; what is no array has none.
+fn elements_fit(count: Option<u32>, of: &CType) -> bool
+    ensures { result ≡ elements_fit count (static_type of.now) }
 {
-    (set || tables.has_beginning(of)) && !of.is_void() && stands_before(tables, item, of)
+    match count {
+        Some(count) => count > 0 && of.is_element(),
+        None => true,
+    }
 }
 
-/// The type of a variable that is no array, at fault at this place where one after so many items can't be of it: with no value set it
-/// needs a beginning, it isn't `void`, a struct or union stands earlier, and it has at most 4,096 bytes.
+/// Whether a local, or an array of so many elements, may be of a type, by whether it has an initializer.
+fn could_be(tables: &Tables, item: u32, of: &CType, count: Option<u32>, set: bool) -> bool
+    ensures { result ≡ could_be (tables_of tables.now) item count set (static_type of.now) }
+{
+    (set || tables.has_beginning(of))
+        && !of.is_void()
+        && stands_before(tables, item, of)
+        && elements_fit(count, of)
+}
+
+/// The type of a variable, or of the elements of an array of so many, at fault at this place where one after so many items can't be of
+/// it: with no value set it needs a beginning, it isn't `void`, a struct or union stands earlier, an array has elements that may be in
+/// one, and it has at most 4,096 bytes.
 pub fn fitted<'p>(
     tables: &Tables,
     item: u32,
     of: CType<'p>,
     at: u32,
+    count: Option<u32>,
     set: bool,
 ) -> Verdict<CType<'p>>
     ensures { let t = static_type of.entry in
-        short_of static_type result ≡ shortened (fitting_by (could_be (tables_of tables.now) item set t) (fits_bytes (size_of (tables_of tables.now) t)) at t) }
+        short_of static_type result
+        ≡ shortened (fitting_by (could_be (tables_of tables.now) item count set t) (fits_bytes (variable_size (tables_of tables.now) count t)) at t) }
 {
-    if !could_be(tables, item, &of, set) {
+    if !could_be(tables, item, &of, count, set) {
         Verdict::Wrong(Fault {
             kind: FaultKind::Typing,
             at,
         })
-    } else if is_sized(tables, &of) {
+    } else if is_sized(tables, &of, count) {
         Verdict::Of(of)
     } else {
         Verdict::Wrong(Fault {

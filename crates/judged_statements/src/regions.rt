@@ -5,14 +5,12 @@ ghost use Rattle.cyc_tree.specs.View.{region_tree};
 ghost use Rattle.cyc_types.specs.Regions.{region_of};
 ghost use Rattle.source_typing.specs.Declarations.{is_visible, region_declared, with_region};
 ghost use Rattle.source_typing.specs.Faults.{earliest};
-ghost use Rattle.source_typing.specs.Regions.{Level, Regions, with_scope};
+ghost use Rattle.source_typing.specs.Regions.{Level, Regions};
 ghost use Rattle.source_typing.specs.Scope.{Env, next_region};
-ghost use Rattle.source_typing.specs.Tables.{Stored};
 ghost use Rattle.source_typing.specs.Taken.{declaration_taken};
-ghost use Rattle.source_typing.specs.Types.{Handle};
 ghost use Rattle.type_verdicts.specs.Faults.{faults_of};
 ghost use Rattle.type_verdicts.specs.Taken.{taken_of};
-ghost use Rattle.scoped_names.specs.Changes.{entered, left};
+ghost use Rattle.scoped_names.specs.Changes.{left};
 ghost use Rattle.scoped_names.specs.Knows.{Knows};
 ghost use Rattle.scoped_types.specs.declared.scope.RegionMark.{RegionMark};
 ghost use Rattle.judged_statements.specs.Contexts.{StandsIn, Suits, kept_to};
@@ -20,16 +18,23 @@ ghost use Rattle.judged_statements.specs.Declaring.{Matches, own_faults, own_sco
 ghost use Rattle.cyc_tree.specs.Tree as tree;
 
 use crate::context::Context;
-use crate::declaration::{Judged, refused};
+use crate::local::{Judged, plain_local, refused};
 use cyc_tree::RegionName;
-use cyc_types::{BaseType, CType, RegionId};
-use scoped_names::{Scope, What};
+use cyc_types::{BaseType, RegionId};
+use scoped_names::Scope;
 use scoped_types::RegionNames;
 use std::alloc::{AllocError, Global};
 use type_verdicts::{Fault, FaultKind};
 
+/// A region that begins: its number, and the fault of its name.
+#[derive(Clone, Copy)]
+pub(crate) struct NextRegion {
+    pub(crate) id: RegionId,
+    pub(crate) fault: Option<Fault>,
+}
+
 /// The region that begins where so many region names are in scope. A number over a u32 is want of memory.
-pub(crate) fn next_region(names: usize) -> Result<RegionId, AllocError>
+pub fn next_region(names: usize) -> Result<RegionId, AllocError>
     ensures { IfOk result (λ r. region_of r ≡ Level names) }
 {
     match u32::try_from(names) {
@@ -81,34 +86,27 @@ fn add_region<'p>(
     }
 }
 
-/// A lexical region begins, with its name: its handle, and its fault. Fails only where no host memory is left.
-fn begun_region<'p>(
-    scope: &mut Scope<'_, 'p>,
+/// The region of a name that is declared: its number, and the fault of the name, which is in scope from here on. Fails only where no
+/// host memory is left.
+pub(crate) fn next_named<'p>(
+    scope: &Scope<'_, 'p>,
     names: &mut RegionNames<'p>,
-    alloc: Global,
-    context: Context<'_, 'p>,
     region: &'p RegionName,
-) -> Result<Judged<'p>, AllocError>
-    ensures judged { (g : Env) → Knows scope.old g → Suits context.entry names.old g
-        → IfOk result (Matches (region_declared g (region_tree region.entry.now)) (Stored (Handle (next_region g)) g.frame)) }
-    ensures begins { OnOk result (scope.new ≡ entered scope.old) }
-    ensures named { (g : Env) → Knows scope.old g → Suits context.entry names.old g
-        → OnOk result (names.new ≡ (with_region (region_tree region.entry.now) with_scope g).names) }
+) -> Result<NextRegion, AllocError>
+    ensures next { (g : Env) → Knows scope.now g → IfOk result (λ r. region_of r.id ≡ next_region g) }
+    ensures fault { (g : Env) → names.old ≡ g.names → IfOk result (λ r. faults_of r.fault ≡ earliest (region_declared g (region_tree region.entry.now))) }
+    ensures named { (g : Env) (next : Regions → Regions) → Knows scope.now g → names.old ≡ g.names
+        → OnOk result (names.new ≡ (with_region (region_tree region.entry.now) next g).names) }
     ensures kept { OnOk result ((count : ℕ) → count ≤ length names.old → kept_to count names.new ≡ kept_to count names.old) }
 {
-    let next = next_region(scope.regions.names())?;
+    let id = next_region(scope.regions.names())?;
     let fault = visible_fault(names, region);
-    scope.regions.begin_block()?;
-    add_region(names, region, next)?;
-    let handle = CType::plain(alloc, BaseType::Handle(next));
-    Ok(Judged {
-        fault,
-        what: What::Variable(handle, context.frame),
-    })
+    add_region(names, region, id)?;
+    Ok(NextRegion { id, fault })
 }
 
-/// The declaration of a lexical region, apart from its local: its earliest fault, and what the local is. Fails only where no host memory
-/// is left.
+/// The declaration of a lexical region, apart from its local: its earliest fault, and what the local is. The region begins. Fails only
+/// where no host memory is left.
 pub(crate) fn own_region<'p>(
     scope: &mut Scope<'_, 'p>,
     names: &mut RegionNames<'p>,
@@ -128,10 +126,41 @@ pub(crate) fn own_region<'p>(
         → left count mark scope.new ≡ left count mark scope.old) }
     ensures kept { OnOk result ((count : ℕ) → count ≤ length names.old → kept_to count names.new ≡ kept_to count names.old) }
 {
-    if scope.taken.regions {
-        let begun = begun_region(scope, names, alloc, context, region)?;
-        Ok(begun)
-    } else {
-        Ok(refused(at))
+    if !scope.taken.regions {
+        return Ok(refused(at));
     }
+    let next = next_named(scope, names, region)?;
+    scope.regions.begin_block()?;
+    let handle = BaseType::Handle(next.id);
+    Ok(plain_local(alloc, context, next.fault, handle))
+}
+
+/// The declaration of a dynamic region, apart from its key. The region begins, and isn't live yet. Fails only where no host memory is
+/// left.
+pub(crate) fn own_key<'p>(
+    scope: &mut Scope<'_, 'p>,
+    names: &mut RegionNames<'p>,
+    alloc: Global,
+    context: Context<'_, 'p>,
+    at: u32,
+    region: &'p RegionName,
+) -> Result<Judged<'p>, AllocError>
+    ensures judged { (g : Env) (x : tree.Name) → Knows scope.old g → Suits context.entry names.old g
+        → let d = declaration_taken (taken_of scope.old.taken) (tree.NewKey at (region_tree region.entry.now) x) in
+        IfOk result (Matches (own_faults g d) (own_what g d)) }
+    ensures stands { (g : Env) (x : tree.Name) (outer : ℕ) → StandsIn context.entry names.old outer scope.old g
+        → OnOk result (StandsIn context.entry names.new outer scope.new
+        (own_scope g (declaration_taken (taken_of scope.old.taken) (tree.NewKey at (region_tree region.entry.now) x)))) }
+    ensures locals { OnOk result (scope.new.locals ≡ scope.old.locals) }
+    ensures left { OnOk result ((count : ℕ) (mark : RegionMark) → mark.names ≤ length scope.old.regions.begun
+        → left count mark scope.new ≡ left count mark scope.old) }
+    ensures kept { OnOk result ((count : ℕ) → count ≤ length names.old → kept_to count names.new ≡ kept_to count names.old) }
+{
+    if !scope.taken.keys {
+        return Ok(refused(at));
+    }
+    let next = next_named(scope, names, region)?;
+    scope.regions.begin_name(false)?;
+    let key = BaseType::Key(next.id);
+    Ok(plain_local(alloc, context, next.fault, key))
 }

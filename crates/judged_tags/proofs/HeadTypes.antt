@@ -6,27 +6,26 @@ use Rattle.std.proofs.lemmas.Slice.Eq.{bytes_eq-Decides}
 use Rattle.std.specs.Prelude.{None, Option, Some, if◌then◌else◌, is_none, is_some, length, nat_eq, not, ◌&&◌}
 use Rattle.cyc_tree.specs.Tree.{TypeName}
 use Rattle.source_typing.proofs.RegionNames.{all_alike}
-use Rattle.source_typing.specs.Faults.{Fault, earliest, is_clean}
+use Rattle.source_typing.specs.Faults.{Fault, earliest, is_clean, type_rule}
 use Rattle.source_typing.specs.Tables.{OfOther, OfTag, Tables, as_tag, find}
 use Rattle.source_typing.specs.Tags.{argument_count, fits_member, head_built, head_entry, head_faults, head_fitting, head_type, region_parameters}
 use Rattle.source_typing.specs.Tags.{repeated, settled_alone}
-use Rattle.source_typing.specs.Taken.{refused_type, takes_base, takes_type, thin_pointers, type_taken}
-use Rattle.source_typing.specs.Types.{PartialType, StaticType}
-use Rattle.source_typing.specs.Verdicts.{Faulty, Of, Unjudged, Verdict, after, both, faults_of, if_fits, unless_faulty}
-use Rattle.source_typing.specs.Written.{Found, RegionNamed, all_found, base_of, built, count_fits, counted_type}
-use Rattle.source_typing.specs.Written.{regions_of_tag, spot, spots_of, tag_of, type_built, written_on, written_with}
+use Rattle.source_typing.specs.Taken.{Taken, refused_type, type_taken}
+use Rattle.source_typing.specs.Types.{PartialType, StaticType, same_bool}
+use Rattle.source_typing.specs.Verdicts.{Faulty, Of, Unjudged, Verdict, after, both, faults_of, if_fits, refuse, unless_faulty}
+use Rattle.source_typing.specs.Written.{Found, RegionNamed, all_found, argument_spots, base_of, built, count_fits, counted_type}
+use Rattle.source_typing.specs.Written.{regions_of_tag, spot, spots_of, type_built, written_on, written_with}
 use Rattle.type_verdicts.proofs.Earliest.{sooner_none}
-use Rattle.type_verdicts.specs.Taken.{taken_of}
 use Rattle.type_verdicts.specs.Verdicts.{Is, NotJudged, Short, Wrong, shortened}
-use Rattle.type_verdicts.specs.declared.taken.Taken as code_taken
 use Rattle.written_types.specs.Arguments.{written_arguments}
-use Rattle.written_types.specs.Handles.{handle_taken}
-use Rattle.written_types.specs.Tagged.{IsNamed, TagIs, named_as, regions_named, struct_taken, tag_name_of}
+use Rattle.written_types.specs.Handles.{handle_taken, is_key_base, region_base}
+use Rattle.written_types.specs.Reading.{plain_of, taken_base}
+use Rattle.written_types.specs.Tagged.{IsNamed, TagIs, is_union_base, named_as, regions_named, tag_base, tag_name_of, tag_taken}
 use Rattle.written_types.specs.declared.tag_names.TagNames.{TagNames}
 use Rattle.written_types.specs.declared.tagged.TagName.{TagName}
 use Rattle.written_types.specs.declared.tagged.TagName.TheVariants as code
-use Rattle.written_types.proofs.HandleTypes.{handle_is_base, handle_type}
-use Rattle.written_types.proofs.Structs.{named_by, other_type, regions_by, struct_is_base, struct_type}
+use Rattle.written_types.proofs.TagTypes.{named_by, regions_by}
+use Rattle.written_types.proofs.TakenTypes.{handle_is_base, handle_stands, not_taken, plain_is_base, plain_stands, tag_is_base, tag_stands}
 use Rattle.judged_tags.specs.FirstKnown.{AreBare, any_count, count_by, is_judged}
 use Rattle.judged_tags.specs.Members.{scoped, type_alone}
 use Rattle.judged_tags.specs.Parameters.{SameNames}
@@ -36,37 +35,38 @@ use Rattle.type_verdicts.specs.declared.fault.Fault as code_fault
 
 -- ---- a member's type, where no tag is at fault
 
-abbrev pub clean_short : Short StaticType → Bool
-clean_short (Wrong f) = false
-clean_short NotJudged = true
-clean_short (Is t) = fits_member false t
+abbrev pub clean_short : Bool → Short StaticType → Bool
+clean_short union (Wrong f) = false
+clean_short union NotJudged = true
+clean_short union (Is t) = fits_member union t
 
-settled_as : (at : ℕ) (v : Verdict StaticType) → is_clean (faults_of (after v (head_fitting false at))) ≡ clean_short (shortened v)
-settled_as at (Faulty f fs) = refl
-settled_as at Unjudged = refl
-settled_as at (Of t) = by (fits_member false t)
+settled_as : (union : Bool) (at : ℕ) (v : Verdict StaticType)
+    → is_clean (faults_of (after v (head_fitting union at))) ≡ clean_short union (shortened v)
+settled_as union at (Faulty f fs) = refl
+settled_as union at Unjudged = refl
+settled_as union at (Of t) = by (fits_member union t)
   where
     by : (b : Bool) → is_clean (faults_of (if_fits b at t)) ≡ b
     by true = refl
     by false = refl
 
-built_as : (at n : ℕ) (v : Verdict PartialType)
-    → is_clean (faults_of (after (both (let w : Verdict ℕ = Of n in w) v (λ n p. settled_alone at p)) (head_fitting false at)))
-    ≡ clean_short (shortened (after v (settled_alone at)))
-built_as at n (Faulty f fs) = refl
-built_as at n Unjudged = refl
-built_as at n (Of p) = settled_as at (settled_alone at p)
+built_as : (union : Bool) (at n : ℕ) (v : Verdict PartialType)
+    → is_clean (faults_of (after (both (let w : Verdict ℕ = Of n in w) v (λ n p. settled_alone at p)) (head_fitting union at)))
+    ≡ clean_short union (shortened (after v (settled_alone at)))
+built_as union at n (Faulty f fs) = refl
+built_as union at n Unjudged = refl
+built_as union at n (Of p) = settled_as union at (settled_alone at p)
 
 -- what is known of the type of a member by tables, and by tables in which its tag asks for the region arguments that it has
-module _ (g h : Tables) (i : ℕ) (names : List RegionNamed) (t : TypeName) where
+module _ (union : Bool) (g h : Tables) (i : ℕ) (names : List RegionNamed) (t : TypeName) where
   abbrev pub IsAs : Type 0
-  IsAs = is_clean (faults_of (head_type (scoped g i names) false t)) ≡ clean_short (shortened (type_alone h names t))
+  IsAs = is_clean (faults_of (head_type (scoped g i names) union t)) ≡ clean_short union (shortened (type_alone h names t))
 
   abbrev left : Verdict ℕ → Verdict PartialType → Bool
-  left v w = is_clean (faults_of (after (both v w (λ n p. settled_alone t.at p)) (head_fitting false t.at)))
+  left v w = is_clean (faults_of (after (both v w (λ n p. settled_alone t.at p)) (head_fitting union t.at)))
 
   abbrev right : Verdict PartialType → Bool
-  right w = clean_short (shortened (after w (settled_alone t.at)))
+  right w = clean_short union (shortened (after w (settled_alone t.at)))
 
   with_spots : (spots_of g t ≡ spots_of h t)
       → ((x : List Found × List Fault) → left (base_of g t.base) (head_built g t x) ≡ right (written_with h t x)) → IsAs
@@ -79,7 +79,7 @@ module _ (g h : Tables) (i : ℕ) (names : List RegionNamed) (t : TypeName) wher
       by : (x : List Found × List Fault) → left (base_of g t.base) (head_built g t x) ≡ right (written_with h t x)
       by (fs, bad) =
           ap (λ v. left v (head_built g t (fs, bad))) e
-          ∙ built_as t.at n (unless_faulty bad (type_built t.at (built t.base (argument_count g t.base) t.pointers fs)))
+          ∙ built_as union t.at n (unless_faulty bad (type_built t.at (built t.base (argument_count g t.base) t.pointers fs)))
           ∙ ap (λ w. right (unless_faulty bad w)) (sym (counted fs))
           ∙ ap (λ v. right (written_on t fs bad v)) (sym f)
 
@@ -96,31 +96,27 @@ module _ (g h : Tables) (i : ℕ) (names : List RegionNamed) (t : TypeName) wher
       by (fs, bad) =
           ap (λ v. left v (head_built g t (fs, bad))) e ∙ either (head_built g t (fs, bad)) ∙ ap (λ v. right (written_on t fs bad v)) (sym f)
 
--- ---- a type of another base than a struct's
+-- ---- a type that is neither a struct nor a union
 
-plain_as : (g : Tables) (i : ℕ) (names : List RegionNamed) (at : ℕ) (b : tree.Base) (ps : List tree.Pointer) (m : Bool)
-    → (takes_base thin_pointers b && m) ≡ true → IsAs g g i names (record { at = at; base = b; pointers = ps })
-plain_as g i names at tree.Int ps m e = of_right g g i names (record { at = at; base = tree.Int; pointers = ps }) refl 0 0 refl refl (λ fs. refl)
-plain_as g i names at tree.Unsigned ps m e = of_right g g i names (record { at = at; base = tree.Unsigned; pointers = ps }) refl 0 0 refl refl (λ fs. refl)
-plain_as g i names at tree.Char ps m e = of_right g g i names (record { at = at; base = tree.Char; pointers = ps }) refl 0 0 refl refl (λ fs. refl)
-plain_as g i names at tree.Void ps m e = of_right g g i names (record { at = at; base = tree.Void; pointers = ps }) refl 0 0 refl refl (λ fs. refl)
-plain_as g i names at (tree.Struct tag rs) ps m e = absurd cc
-plain_as g i names at (tree.Union tag rs) ps m e = absurd cc
-plain_as g i names at (tree.Handle r) ps m e = absurd cc
-plain_as g i names at (tree.Key r) ps m e = absurd cc
+plain_as : (union : Bool) (g : Tables) (i : ℕ) (names : List RegionNamed) (at : ℕ) (b : tree.Base) (ps : List tree.Pointer) (p : PartialType)
+    → plain_of b ≡ Some p → IsAs union g g i names (record { at = at; base = b; pointers = ps })
+plain_as union g i names at tree.Int ps p e =
+    of_right union g g i names (record { at = at; base = tree.Int; pointers = ps }) refl 0 0 refl refl (λ fs. refl)
+plain_as union g i names at tree.Unsigned ps p e =
+    of_right union g g i names (record { at = at; base = tree.Unsigned; pointers = ps }) refl 0 0 refl refl (λ fs. refl)
+plain_as union g i names at tree.Char ps p e =
+    of_right union g g i names (record { at = at; base = tree.Char; pointers = ps }) refl 0 0 refl refl (λ fs. refl)
+plain_as union g i names at tree.Void ps p e =
+    of_right union g g i names (record { at = at; base = tree.Void; pointers = ps }) refl 0 0 refl refl (λ fs. refl)
+plain_as union g i names at (tree.Struct tag rs) ps p e = absurd cc
+plain_as union g i names at (tree.Union tag rs) ps p e = absurd cc
+plain_as union g i names at (tree.Handle r) ps p e = absurd cc
+plain_as union g i names at (tree.Key r) ps p e = absurd cc
 
-other_as : (g : Tables) (i : ℕ) (names : List RegionNamed) (t : TypeName) → IsAs g g i names (type_taken thin_pointers t)
-other_as g i names t = by (takes_type thin_pointers t) refl
-  where
-    by : (b : Bool) → takes_type thin_pointers t ≡ b → IsAs g g i names (if b then t else refused_type t.at)
-    by true h = plain_as g i names t.at t.base t.pointers _ h
-    by false h = of_right g g i names (refused_type t.at) refl 0 0 refl refl (λ fs. refl)
-
--- ---- a handle's
-
-handle_as : (g : Tables) (i : ℕ) (names : List RegionNamed) (at : ℕ) (r : tree.RegionName) (ps : List tree.Pointer)
-    → IsAs g g i names (record { at = at; base = tree.Handle r; pointers = ps })
-handle_as g i names at r ps = of_right g g i names t refl 0 0 refl refl by
+-- a handle or a key
+handle_as : (union : Bool) (g : Tables) (i : ℕ) (names : List RegionNamed) (at : ℕ) (key : Bool) (r : tree.RegionName) (ps : List tree.Pointer)
+    → IsAs union g g i names (record { at = at; base = region_base key r; pointers = ps })
+handle_as union g i names at false r ps = of_right union g g i names t refl 0 0 refl refl by
   where
     t : TypeName
     t = record { at = at; base = tree.Handle r; pointers = ps }
@@ -128,8 +124,34 @@ handle_as g i names at r ps = of_right g g i names t refl 0 0 refl refl by
     by : (fs : List Found) → counted_type t fs 0 true ≡ type_built at (built (tree.Handle r) (argument_count g (tree.Handle r)) ps fs)
     by [] = refl
     by (f ∷ fs) = refl
+handle_as union g i names at true r ps = of_right union g g i names t refl 0 0 refl refl by
+  where
+    t : TypeName
+    t = record { at = at; base = tree.Key r; pointers = ps }
 
--- ---- a struct's
+    by : (fs : List Found) → counted_type t fs 0 true ≡ type_built at (built (tree.Key r) (argument_count g (tree.Key r)) ps fs)
+    by [] = refl
+    by (f ∷ fs) = refl
+
+other_as : (union : Bool) (k : Taken) (g : Tables) (i : ℕ) (names : List RegionNamed) (t : TypeName) → tag_taken k t ≡ None
+    → IsAs union g g i names (type_taken k t)
+other_as union k g i names t x = handle (handle_taken k t) refl
+  where
+    plain : (o : Option PartialType) → taken_base k t ≡ o → handle_taken k t ≡ None → IsAs union g g i names (type_taken k t)
+    plain (Some p) e r =
+        subst (IsAs union g g i names) (sym (plain_stands k t p e)) (plain_as union g i names t.at t.base t.pointers p (plain_is_base k t p e))
+    plain None e r =
+        subst (IsAs union g g i names) (sym (not_taken k t x r e))
+        (of_right union g g i names (refused_type t.at) refl 0 0 refl refl (λ fs. refl))
+
+    handle : (o : Option tree.RegionName) → handle_taken k t ≡ o → IsAs union g g i names (type_taken k t)
+    handle None e = plain (taken_base k t) refl e
+    handle (Some r) e =
+        subst (IsAs union g g i names) (sym (handle_stands k t r e))
+        (subst (λ b. IsAs union g g i names (record { at = t.at; base = b; pointers = t.pointers })) (sym (handle_is_base k t r e))
+        (handle_as union g i names t.at (is_key_base t.base) r t.pointers))
+
+-- ---- a struct's or union's
 
 -- a name that means this alone
 abbrev entry_of : List ℕ → TagName → Tables
@@ -150,7 +172,7 @@ entry_named x (code.NotJudged n) =
     ((bytes_eq-Decides x x).1 refl)
 entry_named x code.Other = ap (λ (b : Bool). tag_name_of (if b then Some OfOther else None)) ((bytes_eq-Decides x x).1 refl)
 
--- the tables by which a struct's type is read: where region arguments are written, its tag asks for so many
+-- the tables by which its type is read: where region arguments are written, its tag asks for so many
 abbrev asked : Tables → List ℕ → TagName → List tree.RegionName → Tables
 asked g x n [] = g
 asked g x n (r ∷ rs) = entry_of x (any_count n (r ∷ rs))
@@ -166,51 +188,71 @@ asked_named : (g : Tables) (x : List ℕ) (n : TagName) (rs : List tree.RegionNa
 asked_named g x n [] h = h ∙ sym (no_arguments n)
 asked_named g x n (r ∷ rs) h = entry_named x (any_count n (r ∷ rs))
 
-same_spots : (g : Tables) (at : ℕ) (x : tree.Name) (n : TagName) (rs : List tree.RegionName) (ps : List tree.Pointer)
-    → let t : TypeName = record { at = at; base = tree.Struct x rs; pointers = ps } in spots_of g t ≡ spots_of (asked g x.text n rs) t
-same_spots g at x n [] ps = refl
-same_spots g at x n (r ∷ rs) ps = refl
+same_spots : (g : Tables) (at : ℕ) (wanted : Bool) (x : tree.Name) (n : TagName) (rs : List tree.RegionName) (ps : List tree.Pointer)
+    → let t : TypeName = record { at = at; base = tag_base wanted x rs; pointers = ps } in spots_of g t ≡ spots_of (asked g x.text n rs) t
+same_spots g at true x n [] ps = refl
+same_spots g at true x n (r ∷ rs) ps = refl
+same_spots g at false x n [] ps = refl
+same_spots g at false x n (r ∷ rs) ps = refl
 
 same_count : (n : ℕ) → nat_eq n n ≡ true
 same_count n = grind (arith, nat_tests)
 
 -- the tag asks for the arguments that are there
-asks_fit : (x : tree.Name) (m : ℕ) (rs : List tree.RegionName) → count_fits (tree.Struct x rs) (count_by m rs) ≡ true
-asks_fit x m [] = refl
-asks_fit x m (r ∷ rs) = same_count (length (r ∷ rs))
+asks_fit : (wanted : Bool) (x : tree.Name) (m : ℕ) (rs : List tree.RegionName) → count_fits (tag_base wanted x rs) (count_by m rs) ≡ true
+asks_fit true x m [] = refl
+asks_fit true x m (r ∷ rs) = same_count (length (r ∷ rs))
+asks_fit false x m [] = refl
+asks_fit false x m (r ∷ rs) = same_count (length (r ∷ rs))
 
-asks_all : (g : Tables) (x : tree.Name) (u : Bool) (m : ℕ) (rs : List tree.RegionName) → tag_name_of (find g x.text) ≡ code.Tag u m
-    → count_by m rs ≡ argument_count g (tree.Struct x rs)
-asks_all g x u m [] h =
+asks_for : (g : Tables) (x : tree.Name) (u : Bool) (m : ℕ) (rs : List tree.RegionName) → tag_name_of (find g x.text) ≡ code.Tag u m
+    → count_by m rs ≡ length (argument_spots g x rs)
+asks_for g x u m [] h =
     sym (length-replicate (regions_of_tag (as_tag (find g x.text))) (spot false None) ∙ regions_by (find g x.text) ∙ ap regions_named h)
-asks_all g x u m (r ∷ rs) h = sym (length-map (r ∷ rs) (λ r. spot false (Some r)))
+asks_for g x u m (r ∷ rs) h = sym (length-map (r ∷ rs) (λ r. spot false (Some r)))
 
-struct_as : (g : Tables) (i : ℕ) (names : List RegionNamed) (at : ℕ) (x : tree.Name) (rs : List tree.RegionName) (ps : List tree.Pointer) (n : TagName)
-    → tag_name_of (find g x.text) ≡ n → is_judged n ≡ true
-    → IsAs g (asked g x.text n rs) i names (record { at = at; base = tree.Struct x rs; pointers = ps })
-struct_as g i names at x rs ps n named judged =
-    by n named (named_by (find g x.text) x.at ∙ ap (λ n. named_as n x.at) named) judged
-    (named_by (find (asked g x.text n rs) x.text) x.at ∙ ap (λ n. named_as n x.at) (asked_named g x.text n rs named))
+asks_all : (g : Tables) (wanted : Bool) (x : tree.Name) (u : Bool) (m : ℕ) (rs : List tree.RegionName) → tag_name_of (find g x.text) ≡ code.Tag u m
+    → count_by m rs ≡ argument_count g (tag_base wanted x rs)
+asks_all g true x u m rs h = asks_for g x u m rs h
+asks_all g false x u m rs h = asks_for g x u m rs h
+
+based : (g : Tables) (wanted : Bool) (x : tree.Name) (rs : List tree.RegionName) (n : TagName) → tag_name_of (find g x.text) ≡ n
+    → base_of g (tag_base wanted x rs) ≡ named_as wanted n x.at
+based g true x rs n named = named_by (find g x.text) true x.at ∙ ap (λ n. named_as true n x.at) named
+based g false x rs n named = named_by (find g x.text) false x.at ∙ ap (λ n. named_as false n x.at) named
+
+tagged_as : (union : Bool) (g : Tables) (i : ℕ) (names : List RegionNamed) (at : ℕ) (wanted : Bool) (x : tree.Name) (rs : List tree.RegionName)
+    (ps : List tree.Pointer) (n : TagName) → tag_name_of (find g x.text) ≡ n → is_judged n ≡ true
+    → IsAs union g (asked g x.text n rs) i names (record { at = at; base = tag_base wanted x rs; pointers = ps })
+tagged_as union g i names at wanted x rs ps n named judged =
+    by n named (based g wanted x rs n named) judged (based (asked g x.text n rs) wanted x rs (any_count n rs) (asked_named g x.text n rs named))
   where
     t : TypeName
-    t = record { at = at; base = tree.Struct x rs; pointers = ps }
+    t = record { at = at; base = tag_base wanted x rs; pointers = ps }
 
-    by : (n : TagName) → tag_name_of (find g x.text) ≡ n → tag_of (find g x.text) false x.at ≡ named_as n x.at → is_judged n ≡ true
-        → tag_of (find (asked g x.text n rs) x.text) false x.at ≡ named_as (any_count n rs) x.at → IsAs g (asked g x.text n rs) i names t
+    kind : (u c : Bool) (m : ℕ) → same_bool u wanted ≡ c → tag_name_of (find g x.text) ≡ code.Tag u m
+        → base_of g t.base ≡ (if c then Of m else refuse type_rule x.at)
+        → base_of (asked g x.text (code.Tag u m) rs) t.base ≡ (if c then Of (count_by m rs) else refuse type_rule x.at)
+        → IsAs union g (asked g x.text (code.Tag u m) rs) i names t
+    kind u true m same named e f =
+        of_right union g (asked g x.text (code.Tag u m) rs) i names t (same_spots g at wanted x (code.Tag u m) rs ps) m (count_by m rs) e f
+        (λ fs. ap (counted_type t fs (count_by m rs)) (asks_fit wanted x m rs)
+        ∙ ap (λ (n : ℕ). type_built at (built (tag_base wanted x rs) n ps fs)) (asks_all g wanted x u m rs named))
+    kind u false m same named e f =
+        of_wrong union g (asked g x.text (code.Tag u m) rs) i names t (same_spots g at wanted x (code.Tag u m) rs ps) _ [] e f
+
+    by : (n : TagName) → tag_name_of (find g x.text) ≡ n → base_of g t.base ≡ named_as wanted n x.at → is_judged n ≡ true
+        → base_of (asked g x.text n rs) t.base ≡ named_as wanted (any_count n rs) x.at → IsAs union g (asked g x.text n rs) i names t
     by (code.NotJudged m) named e h f = absurd cc
-    by code.NoName named e h f = of_wrong g (asked g x.text code.NoName rs) i names t (same_spots g at x code.NoName rs ps) _ [] e f
-    by code.Other named e h f = of_wrong g (asked g x.text code.Other rs) i names t (same_spots g at x code.Other rs ps) _ [] e f
-    by (code.Tag true m) named e h f = of_wrong g (asked g x.text (code.Tag true m) rs) i names t (same_spots g at x (code.Tag true m) rs ps) _ [] e f
-    by (code.Tag false m) named e h f =
-        of_right g (asked g x.text (code.Tag false m) rs) i names t (same_spots g at x (code.Tag false m) rs ps) m (count_by m rs) e f
-        (λ fs. ap (counted_type t fs (count_by m rs)) (asks_fit x m rs)
-        ∙ ap (λ (n : ℕ). type_built at (built (tree.Struct x rs) n ps fs)) (asks_all g x false m rs named))
+    by code.NoName named e h f = of_wrong union g (asked g x.text code.NoName rs) i names t (same_spots g at wanted x code.NoName rs ps) _ [] e f
+    by code.Other named e h f = of_wrong union g (asked g x.text code.Other rs) i names t (same_spots g at wanted x code.Other rs ps) _ [] e f
+    by (code.Tag u m) named e h f = kind u (same_bool u wanted) m refl named e f
 
 -- by which tables the type of a member is read, where its tag means this
-pub record HeadAs (k : code_taken.Taken) (g : Tables) (i : ℕ) (names : List RegionNamed) (t : TypeName) (n : TagName) : Type 0 where
+pub record HeadAs (union : Bool) (k : Taken) (g : Tables) (i : ℕ) (names : List RegionNamed) (t : TypeName) (n : TagName) : Type 0 where
   pub by : Tables
-  pub tag : TagIs (taken_of k) by t n
-  pub is : IsAs g by i names (type_taken (taken_of k) t)
+  pub tag : TagIs k by t n
+  pub is : IsAs union g by i names (type_taken k t)
 
 none_some : (x : tree.Name) → None ≡ Some x → ⊥
 none_some x e = absurd cc
@@ -218,26 +260,19 @@ none_some x e = absurd cc
 same_some : (x y : tree.Name) → Some x ≡ Some y → x ≡ y
 same_some x y e = cc
 
-pub head_as : (k : code_taken.Taken) (g : Tables) (i : ℕ) (names : List RegionNamed) (tags : TagNames) (t : TypeName) (n : TagName) → AreBare tags g
-    → TagIs (taken_of k) g t n → HeadAs k g i names t (any_count n (written_arguments t.base))
-head_as k g i names tags t n bare tag = by (struct_taken (taken_of k) t) refl
+pub head_as : (union : Bool) (k : Taken) (g : Tables) (i : ℕ) (names : List RegionNamed) (tags : TagNames) (t : TypeName) (n : TagName) → AreBare tags g
+    → TagIs k g t n → HeadAs union k g i names t (any_count n (written_arguments t.base))
+head_as union k g i names tags t n bare tag = by (tag_taken k t) refl
   where
     rs : List tree.RegionName
     rs = written_arguments t.base
 
-    by : (o : Option tree.Name) → struct_taken (taken_of k) t ≡ o → HeadAs k g i names t (any_count n rs)
+    by : (o : Option tree.Name) → tag_taken k t ≡ o → HeadAs union k g i names t (any_count n rs)
     by None h = record {
       by = g;
       tag = λ x taken. absurd (none_some x (sym h ∙ taken));
-      is = no_struct (handle_taken (taken_of k) t) refl;
+      is = other_as union k g i names t h;
     }
-      where
-        no_struct : (o : Option tree.RegionName) → handle_taken (taken_of k) t ≡ o → IsAs g g i names (type_taken (taken_of k) t)
-        no_struct None e = subst (IsAs g g i names) (sym (other_type k t h e)) (other_as g i names t)
-        no_struct (Some r) e =
-            subst (IsAs g g i names) (sym (handle_type k t r e))
-            (subst (λ b. IsAs g g i names (record { at = t.at; base = b; pointers = t.pointers })) (sym (handle_is_base k t r e))
-            (handle_as g i names t.at r t.pointers))
     by (Some x) h =
         let named = (tag x h).is in
         let judged = ap is_judged (sym named ∙ (bare.0 x.text).is) ∙ bare.1 x.text in
@@ -246,9 +281,9 @@ head_as k g i names tags t n bare tag = by (struct_taken (taken_of k) t) refl
           tag = λ y taken. subst (λ (z : tree.Name). IsNamed (asked g x.text n rs) z.text (any_count n rs)) (same_some x y (sym h ∙ taken))
               (record { is = asked_named g x.text n rs named });
           is =
-              subst (IsAs g (asked g x.text n rs) i names) (sym (struct_type k t x h))
-              (subst (λ b. IsAs g (asked g x.text n rs) i names (record { at = t.at; base = b; pointers = t.pointers })) (sym (struct_is_base k t x h))
-              (struct_as g i names t.at x rs t.pointers n named judged));
+              subst (IsAs union g (asked g x.text n rs) i names) (sym (tag_stands k t x h))
+              (subst (λ b. IsAs union g (asked g x.text n rs) i names (record { at = t.at; base = b; pointers = t.pointers })) (sym (tag_is_base k t x h))
+              (tagged_as union g i names t.at (is_union_base t.base) x rs t.pointers n named judged));
         }
 
 -- ---- members
@@ -280,31 +315,31 @@ clean_none (Some x) [] e = absurd cc
 clean_none (Some x) (f ∷ fs) e = refl
 
 -- by region names that mean the same
-module _ (g : Tables) (i : ℕ) (a b : List RegionNamed) (same : SameNames a b) where
-  type_alike : (t : TypeName) → head_type (scoped g i a) false t ≡ head_type (scoped g i b) false t
+module _ (union : Bool) (g : Tables) (i : ℕ) (a b : List RegionNamed) (same : SameNames a b) where
+  type_alike : (t : TypeName) → head_type (scoped g i a) union t ≡ head_type (scoped g i b) union t
   type_alike t =
-      ap (λ x. after (both (base_of g t.base) (head_built g t x) (λ n p. settled_alone t.at p)) (head_fitting false t.at)) (all_alike a b same (spots_of g t))
+      ap (λ x. after (both (base_of g t.base) (head_built g t x) (λ n p. settled_alone t.at p)) (head_fitting union t.at)) (all_alike a b same (spots_of g t))
 
-  pub heads_alike : (ms : List tree.Member) → head_faults (scoped g i a) false ms ≡ head_faults (scoped g i b) false ms
+  pub heads_alike : (ms : List tree.Member) → head_faults (scoped g i a) union ms ≡ head_faults (scoped g i b) union ms
   heads_alike [] = refl
   heads_alike (m ∷ ms) =
-      ap (λ v. faults_of v ++ head_faults (scoped g i a) false ms) (type_alike m.of)
-      ∙ ap (λ fs. faults_of (head_type (scoped g i b) false m.of) ++ fs) (heads_alike ms)
+      ap (λ v. faults_of v ++ head_faults (scoped g i a) union ms) (type_alike m.of)
+      ∙ ap (λ fs. faults_of (head_type (scoped g i b) union m.of) ++ fs) (heads_alike ms)
 
--- ---- a struct
+-- ---- a struct or union
 
--- the name of a struct that is taken, by what was read of its region parameters and members
-pub struct_head : (g : Tables) (i : ℕ) (s : tree.Structure) (ms : List tree.Member) (names : List RegionNamed) (regions : Option code_fault.Fault)
+-- the name of a union, or else a struct, that is taken, by what was read of its region parameters and members
+pub tag_head : (union : Bool) (g : Tables) (i : ℕ) (s : tree.Structure) (ms : List tree.Member) (names : List RegionNamed) (regions : Option code_fault.Fault)
     (sound own : Bool) (count : ℕ) → SameNames names (region_parameters s).0 → code_faults.faults_of regions ≡ earliest (region_parameters s).1
-    → count ≡ length s.regions → own ≡ is_clean (head_faults (scoped g i names) false ms ++ repeated [] ms) → sound ≡ (is_none regions && own)
-    → (if sound then code.Tag false count else code.NotJudged count) ≡ tag_name_of (Some (head_entry g i false (record s { members = ms })))
-struct_head g i s ms names regions sound own count same of_regions counted is all =
-    ap (λ (b : Bool). if b then code.Tag false count else code.NotJudged count)
+    → count ≡ length s.regions → own ≡ is_clean (head_faults (scoped g i names) union ms ++ repeated [] ms) → sound ≡ (is_none regions && own)
+    → (if sound then code.Tag union count else code.NotJudged count) ≡ tag_name_of (Some (head_entry g i union (record s { members = ms })))
+tag_head union g i s ms names regions sound own count same of_regions counted is all =
+    ap (λ (b : Bool). if b then code.Tag union count else code.NotJudged count)
     (all
     ∙ ap (λ b. b && own) (clean_none regions (region_parameters s).1 of_regions)
     ∙ ap (λ b. is_clean (region_parameters s).1 && b)
-    (is ∙ ap (λ fs. is_clean (fs ++ repeated [] ms)) (heads_alike g i names (region_parameters s).0 same ms))
-    ∙ sym (clean_of_both (region_parameters s).1 (head_faults (scoped g i (region_parameters s).0) false ms ++ repeated [] ms))
-    ∙ ap is_clean (sym (append_assoc (region_parameters s).1 (head_faults (scoped g i (region_parameters s).0) false ms) (repeated [] ms))))
-    ∙ ap (λ (n : ℕ). if is_clean ((region_parameters s).1 ++ head_faults (scoped g i (region_parameters s).0) false ms ++ repeated [] ms)
-    then code.Tag false n else code.NotJudged n) counted
+    (is ∙ ap (λ fs. is_clean (fs ++ repeated [] ms)) (heads_alike union g i names (region_parameters s).0 same ms))
+    ∙ sym (clean_of_both (region_parameters s).1 (head_faults (scoped g i (region_parameters s).0) union ms ++ repeated [] ms))
+    ∙ ap is_clean (sym (append_assoc (region_parameters s).1 (head_faults (scoped g i (region_parameters s).0) union ms) (repeated [] ms))))
+    ∙ ap (λ (n : ℕ). if is_clean ((region_parameters s).1 ++ head_faults (scoped g i (region_parameters s).0) union ms ++ repeated [] ms)
+    then code.Tag union n else code.NotJudged n) counted

@@ -1,14 +1,22 @@
--- Second members of a name, one by one.
-use Rattle.std.proofs.Common.{◌≡◌, ℕ, Bool, List, [], ◌∷◌, ◌++◌, refl, sym, ap, ◌∙◌}
-use Rattle.std.specs.Prelude.{Option, bytes_eq, not, ◌||◌}
+-- Second members of a name, one by one, and members that are unique pointers.
+use Rattle.std.proofs.Common.{◌≡◌, ℕ, Bool, false, List, [], ◌∷◌, ◌++◌, refl, sym, ap, ◌∙◌}
+use Rattle.std.specs.Prelude.{Option, Some, bytes_eq, not, ◌||◌}
 use Rattle.cyc_tree.specs.Tree.{Member}
+use Rattle.cyc_types.proofs.Converting.{by_outer}
+use Rattle.cyc_types.specs.Bases.{base_type}
+use Rattle.cyc_types.specs.Layers.{last_or, outermost, pointed, pointer_to}
+use Rattle.cyc_types.specs.declared.base.BaseType.{BaseType}
+use Rattle.cyc_types.specs.declared.base.BaseType.TheVariants as base
+use Rattle.cyc_types.specs.declared.layer.Layer.{Layer}
+use Rattle.cyc_types.specs.declared.layer.Layer.TheVariants as pointer
 use Rattle.source_typing.specs.Faults.{Fault, earliest, name_rule, test}
 use Rattle.source_typing.specs.Tags.{is_named, repeated}
 use Rattle.source_typing.specs.Taken.{Taken, members_taken}
+use Rattle.source_typing.specs.Types.{StaticType, is_unique}
 use Rattle.type_verdicts.proofs.Earliest.{earliest_of_both, first_joined, found_sooner}
 use Rattle.type_verdicts.specs.Faults.{faults_of, first_of, sooner_found}
 use Rattle.type_verdicts.specs.declared.fault.Fault as code
-use Rattle.judged_tags.specs.Members.{RepeatedLeft}
+use Rattle.judged_tags.specs.Members.{RepeatedLeft, is_unique_layer}
 use Rattle.written_types.specs.Naming.{has_tag_name}
 use Rattle.written_types.specs.declared.tag_names.TagNames.{TagNames}
 
@@ -51,3 +59,25 @@ repeated_on k before (m ∷ ms) =
 
 pub repeated_taken : (k : Taken) (ms : List Member) → repeated [] (members_taken k ms) ≡ repeated [] ms
 repeated_taken k ms = repeated_on k [] ms
+
+-- ---- unique pointers
+
+pub unique_outer : (b : BaseType) (ls : List Layer) → is_unique_layer (outermost ls) ≡ is_unique (pointed (base_type b) ls)
+unique_outer b [] = no_pointer b
+  where
+    no_pointer : (b : BaseType) → false ≡ is_unique (base_type b)
+    no_pointer base.Int = refl
+    no_pointer base.Unsigned = refl
+    no_pointer base.Char = refl
+    no_pointer base.Void = refl
+    no_pointer base.Null = refl
+    no_pointer (base.Handle r) = refl
+    no_pointer (base.Key r) = refl
+    no_pointer (base.Struct tag rs) = refl
+    no_pointer (base.Union tag rs) = refl
+unique_outer b (l ∷ ls) = by (last_or l ls) _ ∙ ap is_unique (sym (by_outer (l ∷ ls) (base_type b) (last_or l ls) refl))
+  where
+    by : (k : Layer) (t : StaticType) → is_unique_layer (Some k) ≡ is_unique (pointer_to k t)
+    by (pointer.Thin n r) t = refl
+    by (pointer.Fat r) t = refl
+    by (pointer.Unique n) t = refl

@@ -1,7 +1,7 @@
 -- Region parameters, one by one.
 use Rattle.std.proofs.Common.{◌≡◌, ℕ, Bool, true, false, List, [], ◌∷◌, ◌++◌, refl, sym, ap, ◌∙◌, arith, ◌+◌, suc}
 use Rattle.std.proofs.lemmas.Slice.Eq.{bytes_eq-Decides}
-use Rattle.std.specs.Prelude.{None, Option, Some, bytes_eq, if◌then◌else◌, is_none, is_some, length}
+use Rattle.std.specs.Prelude.{None, Option, Some, bytes_eq, if◌then◌else◌, is_none, is_some}
 use Rattle.cyc_tree.specs.Places.{region_place}
 use Rattle.scoped_types.proofs.Naming.{found_before, or_this}
 use Rattle.source_typing.specs.Declarations.{name_added}

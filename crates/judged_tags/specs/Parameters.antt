@@ -1,4 +1,4 @@
--- The region parameters of a struct, one by one.
+-- The region parameters of a struct or union, one by one.
 use Rattle.std.specs.Prelude.{Bool, List, false, is_none, is_some, length, ℕ, ◌+◌, ◌≡◌, []}
 use Rattle.source_typing.specs.Declarations.{name_added}
 use Rattle.source_typing.specs.Faults.{earliest}
@@ -24,7 +24,7 @@ is_new_parameter (tree.Named n) names = is_none (find_region names n.text)
 is_new_parameter (tree.Heap at) names = false
 is_new_parameter (tree.Unique at) names = false
 
--- these are the region parameters of a struct
+-- these are the region parameters of a struct or union
 pub record AreParameters (all : List tree.RegionName) (found : RegionParameters) : Type 0 where
   pub names : SameNames found.names (parameters_from 0 [] all).0
   pub count : found.count ≡ length all

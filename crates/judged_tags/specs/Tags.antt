@@ -1,4 +1,4 @@
--- How a struct is judged, by what is known of the names of a program and of the structs before it.
+-- How a struct or union is judged, by what is known of the names of a program and of the structs and unions before it.
 use Rattle.std.specs.Prelude.{Bool, List, None, Option, Some, false, is_some, nat_lt, true, ℕ, ◌≡◌, ◌&&◌, [], ◌∷◌}
 use Rattle.cyc_tree.specs.Tree.{Program, Structure, TypeName}
 use Rattle.cyc_types.specs.FirstTags.{if_tag, tags_first}
@@ -41,19 +41,19 @@ AreKnown judged first g = (x : List ℕ) → IsNamed g x (known_name judged firs
 
 -- ---- members
 
--- a struct may have a member of a type: it is neither `void` nor a key, and declared where it is a struct
-abbrev pub fits_as : (StaticType → Bool) → ℕ → StaticType → Verdict StaticType
-fits_as declared at t = if_fits (fits_member false t && declared t) at t
+-- a union, or else a struct, may have a member of a type, and it is declared where it is a struct or union
+abbrev pub fits_as : Bool → (StaticType → Bool) → ℕ → StaticType → Verdict StaticType
+fits_as union declared at t = if_fits (fits_member union t && declared t) at t
 
-abbrev pub member_by : (StaticType → Bool) → Tables → List RegionNamed → TypeName → Verdict StaticType
-member_by declared g names t = after (type_alone g names t) (fits_as declared t.at)
+abbrev pub member_by : Bool → (StaticType → Bool) → Tables → List RegionNamed → TypeName → Verdict StaticType
+member_by union declared g names t = after (type_alone g names t) (fits_as union declared t.at)
 
 abbrev pub known_short : Short StaticType → Option StaticType
 known_short (Is t) = Some t
 known_short (Wrong f) = None
 known_short NotJudged = None
 
--- what is known where an item is judged: what names mean, which structs stand earlier, and how many bytes these have
+-- what is known where an item is judged: what names mean, which structs and unions stand earlier, and how many bytes structs have
 pub record StandsAt (judged first : TagNames) (known : Tables) (i : ℕ) (g : Tables) : Type 0 where
   pub names : AreKnown judged first g
   pub earlier : (x : List ℕ) → is_some (tag_in g x) ≡ true → tag_earlier i (tag_in g x) ≡ is_some (tag_in known x)

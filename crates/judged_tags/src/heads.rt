@@ -1,13 +1,11 @@
 // What is known of the names of a program before its tags are judged.
 
 ghost use Rattle.std.specs.Prelude.{◌≡◌, ◌&&◌, ◌++◌, IfOk, List, Some, [], false, if◌then◌else◌, length, map, true, ℕ};
-ghost use Rattle.cyc_tree.specs.Tree as tree;
-ghost use Rattle.cyc_tree.specs.Tree.{StructItem};
 ghost use Rattle.cyc_tree.specs.View.{base_tree, member_tree, name_tree, program_item_tree, program_tree, region_tree, structure_tree, type_tree};
 ghost use Rattle.source_typing.specs.Faults.{is_clean};
 ghost use Rattle.source_typing.specs.Programs.{bare_entry, builtins, first_entry, name_of};
 ghost use Rattle.source_typing.specs.Tables.{Tables};
-ghost use Rattle.source_typing.specs.Tags.{head_entry, head_faults, head_type, repeated};
+ghost use Rattle.source_typing.specs.Tags.{bare_tag, head_entry, head_faults, head_type, repeated};
 ghost use Rattle.source_typing.specs.Taken.{item_taken, members_taken, only_taken, structure_if, takes_structure, type_taken};
 ghost use Rattle.source_typing.specs.Verdicts as rules;
 ghost use Rattle.source_typing.specs.Taken as rules_taken;
@@ -16,7 +14,7 @@ ghost use Rattle.written_types.specs.Arguments.{written_arguments};
 ghost use Rattle.written_types.specs.Tagged.{tag_name_of};
 ghost use Rattle.written_types.specs.declared.tagged.TagName.TheVariants.{NotJudged, Tag};
 ghost use Rattle.judged_tags.specs.FirstKnown.{AreBare, AreNames, AreSince, any_count, bare_tags, count_by, first_tags};
-ghost use Rattle.judged_tags.specs.Members.{scoped};
+ghost use Rattle.judged_tags.specs.Members.{scoped, structure_taken, takes_kind};
 
 use crate::member::{fits_member, repeated_fault, type_alone};
 use crate::parameters::region_parameters;
@@ -47,11 +45,22 @@ pub(crate) fn item_name(item: &Item) -> &Name
     }
 }
 
-/// Whether a struct is taken.
-pub(crate) fn takes_struct(taken: Taken, structure: &Structure) -> bool
-    ensures { result ≡ takes_structure (taken_of taken) (taken_of taken).structs (structure_tree structure.now) }
+/// Whether unions are taken, or else structs.
+fn takes_kind(taken: Taken, is_union: bool) -> bool
+    ensures { result ≡ takes_kind (taken_of taken) is_union }
 {
-    taken.structs
+    if is_union {
+        taken.unions
+    } else {
+        taken.structs
+    }
+}
+
+/// Whether a union, or else a struct, is taken.
+pub(crate) fn takes_structure(taken: Taken, is_union: bool, structure: &Structure) -> bool
+    ensures { result ≡ takes_structure (taken_of taken) (takes_kind (taken_of taken) is_union) (structure_tree structure.now) }
+{
+    takes_kind(taken, is_union)
         && (taken.parameters || structure.regions.is_empty())
         && !structure.members.is_empty()
 }
@@ -66,12 +75,11 @@ fn count_of(regions: &[RegionName]) -> Result<u32, AllocError>
     }
 }
 
-/// How many region parameters a struct has: one that isn't taken has none.
-fn parameter_count(taken: Taken, structure: &Structure) -> Result<u32, AllocError>
-    ensures { (ms : List tree.Member) → IfOk result (λ n. n ≡ length (structure_if
-        (takes_structure (taken_of taken) (taken_of taken).structs (structure_tree structure.now)) (structure_tree structure.now) ms).regions) }
+/// How many region parameters a union, or else a struct, has: one that isn't taken has none.
+fn parameter_count(taken: Taken, is_union: bool, structure: &Structure) -> Result<u32, AllocError>
+    ensures { IfOk result (λ n. n ≡ length (structure_taken (taken_of taken) is_union (structure_tree structure.now)).regions) }
 {
-    if takes_struct(taken, structure) {
+    if takes_structure(taken, is_union, structure) {
         let count = count_of(&structure.regions)?;
         Ok(count)
     } else {
@@ -79,34 +87,32 @@ fn parameter_count(taken: Taken, structure: &Structure) -> Result<u32, AllocErro
     }
 }
 
-/// What the tag of a struct means by its own.
-fn bare_struct(taken: Taken, structure: &Structure) -> Result<TagName, AllocError>
+/// What the tag of a union, or else a struct, means by its own.
+fn bare_structure(
+    taken: Taken,
+    is_union: bool,
+    structure: &Structure,
+) -> Result<TagName, AllocError>
     ensures { (i : ℕ) → IfOk result (λ n. n
-        ≡ tag_name_of (Some (bare_entry i (item_taken (taken_of taken) (StructItem (structure_tree structure.now)))))) }
+        ≡ tag_name_of (Some (bare_tag i is_union (structure_taken (taken_of taken) is_union (structure_tree structure.now)) true))) }
 {
-    let regions = parameter_count(taken, structure)?;
-    Ok(TagName::Tag {
-        is_union: false,
-        regions,
-    })
+    let regions = parameter_count(taken, is_union, structure)?;
+    Ok(TagName::Tag { is_union, regions })
 }
 
-/// What an item's name means by its own. Fails only where a struct has 2^32 region parameters.
+/// What an item's name means by its own. Fails only where a struct or union has 2^32 region parameters.
 fn bare_name(taken: Taken, item: &Item) -> Result<TagName, AllocError>
     ensures { (i : ℕ) → IfOk result (λ n. n ≡ tag_name_of (Some (bare_entry i (item_taken (taken_of taken) (program_item_tree item.now))))) }
 {
     match item {
-        Item::Struct(structure) => bare_struct(taken, structure),
-        Item::Union(_) => Ok(TagName::Tag {
-            is_union: true,
-            regions: 0,
-        }),
+        Item::Struct(structure) => bare_structure(taken, false, structure),
+        Item::Union(structure) => bare_structure(taken, true, structure),
         Item::Global(_) | Item::Function(_) => Ok(TagName::Other),
     }
 }
 
-/// What the names of a program mean, where no tag is judged. Fails only where no host memory is left, or a struct has 2^32 region
-/// parameters.
+/// What the names of a program mean, where no tag is judged. Fails only where no host memory is left, or a struct or union has
+/// 2^32 region parameters.
 pub(crate) fn bare_names<'p>(
     alloc: Global,
     taken: Taken,
@@ -133,13 +139,13 @@ fn count_by(regions: u32, arguments: &[RegionName]) -> Result<u32, AllocError>
     Ok(count)
 }
 
-/// How many region parameters a tag has that asks for the region arguments of a struct's type, if there are any. Fails only where there
-/// are 2^32.
+/// How many region parameters a tag has that asks for the region arguments of a struct's or union's type, if there are any. Fails only
+/// where there are 2^32.
 fn count_in(regions: u32, base: &Base) -> Result<u32, AllocError>
     ensures { IfOk result (λ n. n ≡ count_by regions (written_arguments (base_tree base.now))) }
 {
     match base {
-        Base::Struct(_, arguments) => {
+        Base::Struct(_, arguments) | Base::Union(_, arguments) => {
             let count = count_by(regions, arguments)?;
             Ok(count)
         }
@@ -160,22 +166,23 @@ fn any_count(tag: TagName, of: &TypeName) -> Result<TagName, AllocError>
     }
 }
 
-/// Whether a member has none of the faults that hang on no other tag, where these region names are in scope. Fails only where no host
-/// memory is left.
+/// Whether a member of a union, or else of a struct, has none of the faults that hang on no other tag, where these region names are in
+/// scope. Fails only where no host memory is left.
 fn is_head_clean(
     alloc: Global,
     taken: Taken,
+    is_union: bool,
     tags: &TagNames<'_>,
     names: &RegionNames<'_>,
     of: &TypeName,
 ) -> Result<bool, AllocError>
     ensures { (g : Tables) (i : ℕ) → AreBare tags.now g → IfOk result (λ b. b
-        ≡ is_clean (rules.faults_of (head_type (scoped g i names.now) false (type_taken (taken_of taken) (type_tree of.now))))) }
+        ≡ is_clean (rules.faults_of (head_type (scoped g i names.now) is_union (type_taken (taken_of taken) (type_tree of.now))))) }
 {
     let tag = tag_of_type(taken, tags, of);
     let asked = any_count(tag, of)?;
     match type_alone(alloc, taken, asked, names, of)? {
-        Verdict::Of(of) => Ok(fits_member(&of)),
+        Verdict::Of(of) => Ok(fits_member(is_union, &of)),
         Verdict::Wrong(_) => Ok(false),
         Verdict::NotJudged => Ok(true),
     }
@@ -188,96 +195,102 @@ fn are_both(one: bool, other: bool) -> bool
     one && other
 }
 
-/// Whether members have none of the faults that hang on no other tag, where these region names are in scope. Fails only where no host
-/// memory is left.
+/// Whether members of a union, or else of a struct, have none of the faults that hang on no other tag, where these region names are in
+/// scope. Fails only where no host memory is left.
 fn are_heads_clean(
     alloc: Global,
     taken: Taken,
+    is_union: bool,
     tags: &TagNames<'_>,
     names: &RegionNames<'_>,
     members: &[Member],
 ) -> Result<bool, AllocError>
     ensures { (g : Tables) (i : ℕ) → AreBare tags.now g → IfOk result (λ b. b
-        ≡ is_clean (head_faults (scoped g i names.now) false (members_taken (taken_of taken) (map member_tree members.now)))) }
+        ≡ is_clean (head_faults (scoped g i names.now) is_union (members_taken (taken_of taken) (map member_tree members.now)))) }
 {
     let mut clean = true;
     'each: for member in members {
-        let own = is_head_clean(alloc, taken, tags, names, &member.of)?;
+        let own = is_head_clean(alloc, taken, is_union, tags, names, &member.of)?;
         clean = are_both(clean, own);
     }
     Ok(clean)
 }
 
-/// Whether members have none of the faults that hang on no other tag, and each name once, where these region names are in scope. Fails
-/// only where no host memory is left.
+/// Whether members of a union, or else of a struct, have none of the faults that hang on no other tag, and each name once, where these
+/// region names are in scope. Fails only where no host memory is left.
 fn are_members_clean(
     alloc: Global,
     taken: Taken,
+    is_union: bool,
     tags: &TagNames<'_>,
     names: &RegionNames<'_>,
     members: &[Member],
 ) -> Result<bool, AllocError>
     ensures { (g : Tables) (i : ℕ) → AreBare tags.now g → IfOk result (λ b. b
-        ≡ is_clean (head_faults (scoped g i names.now) false (members_taken (taken_of taken) (map member_tree members.now))
+        ≡ is_clean (head_faults (scoped g i names.now) is_union (members_taken (taken_of taken) (map member_tree members.now))
         ++ repeated [] (members_taken (taken_of taken) (map member_tree members.now)))) }
 {
-    let clean = are_heads_clean(alloc, taken, tags, names, members)?;
+    let clean = are_heads_clean(alloc, taken, is_union, tags, names, members)?;
     let second = repeated_fault(alloc, members)?;
     Ok(are_both(clean, second.is_none()))
 }
 
-/// What the tag of a struct means that is taken and has so many region parameters, by whether its declaration has no fault.
-pub(crate) fn struct_name(clean: bool, regions: u32) -> TagName
-    ensures { result ≡ (if clean then Tag false regions else NotJudged regions) }
+/// What the tag of a union, or else a struct, means that is taken and has so many region parameters, by whether its declaration has no
+/// fault.
+fn tag_name(is_union: bool, clean: bool, regions: u32) -> TagName
+    ensures { result ≡ (if clean then Tag is_union regions else NotJudged regions) }
 {
     if clean {
-        TagName::Tag {
-            is_union: false,
-            regions,
-        }
+        TagName::Tag { is_union, regions }
     } else {
         TagName::NotJudged(regions)
     }
 }
 
-/// What the tag of a struct that is taken is first known to mean. Fails only where no host memory is left, or it has 2^32 region
-/// parameters.
+/// What the tag of a union, or else a struct, that is taken is first known to mean. Fails only where no host memory is left, or it has
+/// 2^32 region parameters.
 fn taken_head(
     alloc: Global,
     taken: Taken,
+    is_union: bool,
     tags: &TagNames<'_>,
     structure: &Structure,
 ) -> Result<TagName, AllocError>
     ensures { (g : Tables) (i : ℕ) → AreBare tags.now g → let s = structure_tree structure.now in
-        IfOk result (λ n. n ≡ tag_name_of (Some (head_entry g i false (structure_if true s (members_taken (taken_of taken) s.members))))) }
+        IfOk result (λ n. n ≡ tag_name_of (Some (head_entry g i is_union (structure_if true s (members_taken (taken_of taken) s.members))))) }
 {
     let parameters = region_parameters(alloc, &structure.regions)?;
-    let clean = are_members_clean(alloc, taken, tags, &parameters.names, &structure.members)?;
-    Ok(struct_name(
+    let members = &structure.members;
+    let clean = are_members_clean(alloc, taken, is_union, tags, &parameters.names, members)?;
+    Ok(tag_name(
+        is_union,
         are_both(parameters.fault.is_none(), clean),
         parameters.count,
     ))
 }
 
-/// What the tag of a struct is first known to mean. Fails only where no host memory is left, or it has 2^32 region parameters.
-fn head_of_struct(
+/// What the tag of a union, or else a struct, is first known to mean. Fails only where no host memory is left, or it has 2^32 region
+/// parameters.
+fn head_of_structure(
     alloc: Global,
     taken: Taken,
+    is_union: bool,
     tags: &TagNames<'_>,
     structure: &Structure,
 ) -> Result<TagName, AllocError>
     ensures { (g : Tables) (i : ℕ) → AreBare tags.now g → IfOk result (λ n. n
-        ≡ tag_name_of (Some (first_entry g i (item_taken (taken_of taken) (StructItem (structure_tree structure.now)))))) }
+        ≡ tag_name_of (Some (head_entry g i is_union (structure_taken (taken_of taken) is_union (structure_tree structure.now))))) }
 {
-    if takes_struct(taken, structure) {
-        let name = taken_head(alloc, taken, tags, structure)?;
+    if takes_structure(taken, is_union, structure) {
+        let name = taken_head(alloc, taken, is_union, tags, structure)?;
         Ok(name)
     } else {
         Ok(TagName::NotJudged(0))
     }
 }
 
-/// What an item's name is first known to mean. Fails only where no host memory is left, or a struct has 2^32 region parameters.
+/// What an item's name is first known to mean. Fails only where no host memory is left, or a struct or union has 2^32 region
+/// parameters.
 fn head_name(
     alloc: Global,
     taken: Taken,
@@ -288,14 +301,14 @@ fn head_name(
         ≡ tag_name_of (Some (first_entry g i (item_taken (taken_of taken) (program_item_tree item.now))))) }
 {
     match item {
-        Item::Struct(structure) => head_of_struct(alloc, taken, tags, structure),
-        Item::Union(_) => Ok(TagName::NotJudged(0)),
+        Item::Struct(structure) => head_of_structure(alloc, taken, false, tags, structure),
+        Item::Union(structure) => head_of_structure(alloc, taken, true, tags, structure),
         Item::Global(_) | Item::Function(_) => Ok(TagName::Other),
     }
 }
 
 /// What the names of a program are first known to mean, by what they mean where no tag is judged: a tag is at fault here where its
-/// fault hangs on no other tag. Fails only where no host memory is left, or a struct has 2^32 region parameters.
+/// fault hangs on no other tag. Fails only where no host memory is left, or a struct or union has 2^32 region parameters.
 pub(crate) fn head_names<'p>(
     alloc: Global,
     taken: Taken,

@@ -1,7 +1,7 @@
 //! The structs and unions of a program, as they are judged.
 //!
-//! What is said of them are the definitions of `source_typing`, on which it stands, where integers and thin pointers are taken, and
-//! structs, their region parameters and handles where they may be (`Taken`). Every other struct and each union stands as a refused one.
+//! What is said of them are the definitions of `source_typing`, on which it stands, for each value of `Taken`. A struct or union that isn't
+//! taken stands as a refused one.
 #![tactic(auto)]
 
 mod heads;

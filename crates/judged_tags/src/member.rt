@@ -1,4 +1,4 @@
-// The members of structs.
+// The members of structs and unions.
 
 ghost use Rattle.std.specs.Prelude.{◌≡◌, IfOk, [], false, map};
 ghost use Rattle.cyc_tree.specs.View.{member_tree, type_tree};
@@ -7,6 +7,7 @@ ghost use Rattle.source_typing.specs.Faults.{earliest};
 ghost use Rattle.source_typing.specs.Tables.{Tables};
 ghost use Rattle.source_typing.specs.Tags.{fits_member, repeated};
 ghost use Rattle.source_typing.specs.Taken.{type_taken};
+ghost use Rattle.source_typing.specs.Types.{is_unique};
 ghost use Rattle.type_verdicts.specs.Faults.{faults_of};
 ghost use Rattle.type_verdicts.specs.Taken.{taken_of};
 ghost use Rattle.type_verdicts.specs.Verdicts.{short_of, shortened};
@@ -15,7 +16,7 @@ ghost use Rattle.judged_tags.specs.Members.{type_alone};
 
 use crate::parameters::unless_new;
 use cyc_tree::{Member, TypeName};
-use cyc_types::CType;
+use cyc_types::{CType, Layer};
 use scoped_types::RegionNames;
 use std::alloc::{AllocError, Global};
 use type_verdicts::{Fault, FaultKind, Taken, Verdict, sooner};
@@ -37,11 +38,24 @@ pub(crate) fn type_alone<'p>(
     Ok(settled)
 }
 
-/// Whether a struct may have a member of a type: it is neither `void` nor a key.
-pub(crate) fn fits_member(of: &CType<'_>) -> bool
-    ensures { result ≡ fits_member false (static_type of.now) }
+/// Whether a type is a unique pointer's.
+#[tactic(auto, using(crate::proofs::Members::unique_outer))]
+fn is_unique(of: &CType<'_>) -> bool
+    ensures { result ≡ is_unique (static_type of.now) }
 {
-    !of.is_void() && !of.is_key()
+    matches!(of.outer(), Some(Layer::Unique(_)))
+}
+
+/// Whether a union, or else a struct, may have a member of a type: a struct's is neither `void` nor a key, and a union's is a scalar that
+/// can be copied and is no union.
+pub(crate) fn fits_member(is_union: bool, of: &CType<'_>) -> bool
+    ensures { result ≡ fits_member is_union (static_type of.now) }
+{
+    if is_union {
+        of.is_scalar() && !of.is_union() && !is_unique(of) && !of.is_key()
+    } else {
+        !of.is_void() && !of.is_key()
+    }
 }
 
 /// The earliest fault of second members of a name. Fails only where no host memory is left.

@@ -1,4 +1,4 @@
-// The region parameters of structs.
+// The region parameters of structs and unions.
 
 ghost use Rattle.std.specs.Prelude.{◌≡◌, ◌+◌, ◌∷◌, IfOk, List, OnOk, [], length, map};
 ghost use Rattle.cyc_tree.specs.Tree as tree;
@@ -34,7 +34,7 @@ pub(crate) fn unless_new(is_new: bool, kind: FaultKind, at: u32) -> Option<Fault
     }
 }
 
-/// The region parameters of a struct.
+/// The region parameters of a struct or union.
 #[derive(Drop)]
 pub(crate) struct RegionParameters<'p> {
     /// Those that are in scope in its members.
@@ -79,7 +79,7 @@ impl<'p> RegionParameters<'p> {
     }
 }
 
-/// The region parameters of a struct, in the order of the text: a second one of a name, and a name that is the heap's or the unique
+/// The region parameters of a struct or union, in the order of the text: a second one of a name, and a name that is the heap's or the unique
 /// region's, is at fault at it. Fails only where no host memory is left, or there are 2^32.
 pub(crate) fn region_parameters<'p>(
     alloc: Global,

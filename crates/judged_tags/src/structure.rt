@@ -1,4 +1,4 @@
-// A struct, as it is judged.
+// A struct or union, as it is judged.
 
 ghost use Rattle.std.specs.Prelude.{◌≡◌, ◌++◌, ◌∷◌, ◌&&◌, IfOk, OnOk, [], false, is_some, map, option_map, true, ℕ};
 ghost use Rattle.std.specs.List.{list_all};
@@ -11,15 +11,15 @@ ghost use Rattle.cyc_types.specs.Types.{static_type};
 ghost use Rattle.source_typing.specs.Faults.{earliest};
 ghost use Rattle.source_typing.specs.Tables.{Tables as TheTables};
 ghost use Rattle.source_typing.specs.Tags.{all_typed, member_faults, member_type, parts_by, struct_sized};
-ghost use Rattle.source_typing.specs.Taken.{members_taken, refused_structure, structure_if, takes_structure, type_taken};
+ghost use Rattle.source_typing.specs.Taken.{members_taken, refused_structure, structure_if, type_taken};
 ghost use Rattle.type_verdicts.specs.Faults.{faults_of, first_of};
 ghost use Rattle.type_verdicts.specs.Taken.{taken_of};
 ghost use Rattle.type_verdicts.specs.Verdicts.{fault_in, short_of, shortened};
 ghost use Rattle.written_types.specs.Tagged.{TagIs};
-ghost use Rattle.judged_tags.specs.Members.{scoped};
+ghost use Rattle.judged_tags.specs.Members.{scoped, structure_taken};
 ghost use Rattle.judged_tags.specs.Tags.{AreKnown, IsTag, StandsAt, fits_as, known_name, known_short, member_by, or_own};
 
-use crate::heads::takes_struct;
+use crate::heads::takes_structure;
 use crate::member::{fits_member, repeated_fault, type_alone};
 use crate::parameters::region_parameters;
 use cyc_tree::{Member, Name, Structure, TypeName};
@@ -27,7 +27,7 @@ use cyc_types::{CType, Member as TagMember, Tables, Tag};
 use scoped_types::RegionNames;
 use std::alloc::{AllocError, Global};
 use type_verdicts::{Fault, FaultKind, Taken, Verdict, sooner};
-use written_types::{TagName, TagNames, struct_tag};
+use written_types::{TagName, TagNames, type_tag};
 
 /// What a name means: what is judged of it, or else what is first known of it.
 fn known_name(judged: &TagNames<'_>, first: &TagNames<'_>, name: &[u8]) -> TagName
@@ -39,21 +39,27 @@ fn known_name(judged: &TagNames<'_>, first: &TagNames<'_>, name: &[u8]) -> TagNa
     }
 }
 
-/// What the tag means that a type of structs has, where it is taken.
+/// What the tag means that a type of structs or unions has, where it is taken.
 fn known_tag(taken: Taken, judged: &TagNames<'_>, first: &TagNames<'_>, of: &TypeName) -> TagName
     ensures { (g : TheTables) → AreKnown judged.now first.now g → TagIs (taken_of taken) g (type_tree of.now) result }
 {
-    match struct_tag(taken, of) {
+    match type_tag(taken, of) {
         Some(name) => known_name(judged, first, &name.text),
         None => TagName::NoName,
     }
 }
 
-/// A member's type: at fault at this place where no struct has such a member, or where it is a struct that isn't declared.
-fn fitting_member<'p>(of: CType<'p>, at: u32, tables: &Tables<'p>) -> Verdict<CType<'p>>
-    ensures { short_of static_type result ≡ shortened (fits_as (has_declared (tables_of tables.now)) at (static_type of.entry)) }
+/// A member's type: at fault at this place where no union, or else no struct, has such a member, or where it is a struct or union that
+/// isn't declared.
+fn fitting_member<'p>(
+    of: CType<'p>,
+    at: u32,
+    is_union: bool,
+    tables: &Tables<'p>,
+) -> Verdict<CType<'p>>
+    ensures { short_of static_type result ≡ shortened (fits_as is_union (has_declared (tables_of tables.now)) at (static_type of.entry)) }
 {
-    if fits_member(&of) && tables.declares(&of) {
+    if fits_member(is_union, &of) && tables.declares(&of) {
         Verdict::Of(of)
     } else {
         Verdict::Wrong(Fault {
@@ -63,50 +69,53 @@ fn fitting_member<'p>(of: CType<'p>, at: u32, tables: &Tables<'p>) -> Verdict<CT
     }
 }
 
-/// A member's type, by what its tag means and by the structs that are declared, where these region names are in scope. Fails only where no host memory is left.
+/// A member's type, by what its tag means and by the structs and unions that are declared, where these region names are in scope. Fails
+/// only where no host memory is left.
 fn type_by_tag<'p>(
     alloc: Global,
     taken: Taken,
+    is_union: bool,
     tag: TagName,
     names: &RegionNames<'_>,
     tables: &Tables<'p>,
     of: &'p TypeName,
 ) -> Result<Verdict<CType<'p>>, AllocError>
     ensures { (g : TheTables) → TagIs (taken_of taken) g (type_tree of.entry.now) tag → IfOk result (λ v. short_of static_type v
-        ≡ shortened (member_by (has_declared (tables_of tables.now)) g names.now (type_taken (taken_of taken) (type_tree of.entry.now)))) }
+        ≡ shortened (member_by is_union (has_declared (tables_of tables.now)) g names.now (type_taken (taken_of taken) (type_tree of.entry.now)))) }
 {
     let found = type_alone(alloc, taken, tag, names, of)?;
     match found {
-        Verdict::Of(member) => Ok(fitting_member(member, of.at, tables)),
+        Verdict::Of(member) => Ok(fitting_member(member, of.at, is_union, tables)),
         Verdict::Wrong(fault) => Ok(Verdict::Wrong(fault)),
         Verdict::NotJudged => Ok(Verdict::NotJudged),
     }
 }
 
-/// A member's type, where these region names are in scope. Fails only where no host memory is left.
+/// The type of a member of a union, or else of a struct, where these region names are in scope. Fails only where no host memory is left.
 fn member_type<'p>(
     alloc: Global,
     taken: Taken,
+    is_union: bool,
     known: Known<'_, 'p>,
     names: &RegionNames<'_>,
     of: &'p TypeName,
 ) -> Result<Verdict<CType<'p>>, AllocError>
-    ensures { (g : TheTables) (i : ℕ) → StandsAt known.entry.judged.now known.entry.first.now (tables_of known.entry.tables.now) i g → IfOk result (λ v. short_of static_type v
-        ≡ shortened (member_type (scoped g i names.now) false (type_taken (taken_of taken) (type_tree of.entry.now)))) }
+    ensures { (g : TheTables) (i : ℕ) → StandsAt known.entry.judged.now known.entry.first.now (tables_of known.entry.tables.now) i g
+        → IfOk result (λ v. short_of static_type v ≡ shortened (member_type (scoped g i names.now) is_union (type_taken (taken_of taken) (type_tree of.entry.now)))) }
 {
     let tag = known_tag(taken, known.judged, known.first, of);
-    let found = type_by_tag(alloc, taken, tag, names, known.tables, of)?;
+    let found = type_by_tag(alloc, taken, is_union, tag, names, known.tables, of)?;
     Ok(found)
 }
 
-/// What is known where a struct is judged.
+/// What is known where a struct or union is judged.
 #[derive(Clone, Copy)]
 pub(crate) struct Known<'a, 'p> {
     /// What the names mean of the items that stand before it.
     pub(crate) judged: &'a TagNames<'p>,
     /// What is first known of all names.
     pub(crate) first: &'a TagNames<'p>,
-    /// The structs that stand before it.
+    /// The structs and unions that stand before it.
     pub(crate) tables: &'a Tables<'p>,
 }
 
@@ -143,25 +152,26 @@ impl<'p> JudgedMembers<'p> {
     }
 }
 
-/// The members of a struct, where these region names are in scope. Fails only where no host memory is left.
+/// The members of a union, or else of a struct, where these region names are in scope. Fails only where no host memory is left.
 fn judged_members<'p>(
     alloc: Global,
     taken: Taken,
+    is_union: bool,
     known: Known<'_, 'p>,
     names: &RegionNames<'_>,
     members: &'p [Member],
 ) -> Result<JudgedMembers<'p>, AllocError>
     ensures parts { (g : TheTables) (i : ℕ) → StandsAt known.entry.judged.now known.entry.first.now (tables_of known.entry.tables.now) i g → IfOk result (λ r.
-        members_of r.members.items ≡ parts_by (scoped g i names.now) false (members_taken (taken_of taken) (map member_tree members.entry.now))) }
+        members_of r.members.items ≡ parts_by (scoped g i names.now) is_union (members_taken (taken_of taken) (map member_tree members.entry.now))) }
     ensures fault { (g : TheTables) (i : ℕ) → StandsAt known.entry.judged.now known.entry.first.now (tables_of known.entry.tables.now) i g → IfOk result (λ r.
-        faults_of r.fault ≡ earliest (member_faults (scoped g i names.now) false (members_taken (taken_of taken) (map member_tree members.entry.now)))) }
+        faults_of r.fault ≡ earliest (member_faults (scoped g i names.now) is_union (members_taken (taken_of taken) (map member_tree members.entry.now)))) }
 {
     let mut judged = JudgedMembers {
         members: Vec::new(alloc),
         fault: None,
     };
     'each: for member in members {
-        let of = member_type(alloc, taken, known, names, &member.of)?;
+        let of = member_type(alloc, taken, is_union, known, names, &member.of)?;
         judged.add(&member.name.text, of)?;
     }
     Ok(judged)
@@ -182,17 +192,18 @@ fn are_typed(members: &[TagMember<'_>]) -> bool
     all_typed(members)
 }
 
-/// The fault that was found, or else that of too many bytes.
+/// The fault that was found, or else that of too many bytes of a struct.
 fn or_size(
+    is_union: bool,
     tables: &Tables<'_>,
     members: &[TagMember<'_>],
     tag: &Name,
     found: Option<Fault>,
 ) -> Option<Fault>
     ensures { (s : TheStructure) → s.tag ≡ name_tree tag.now → faults_of result
-        ≡ or_own (faults_of found) (earliest (struct_sized (tables_of tables.now) false s (members_of members.now))) }
+        ≡ or_own (faults_of found) (earliest (struct_sized (tables_of tables.now) is_union s (members_of members.now))) }
 {
-    if found.is_some() || !are_typed(members) || tables.struct_fits(members) {
+    if is_union || found.is_some() || !are_typed(members) || tables.struct_fits(members) {
         found
     } else {
         Some(Fault {
@@ -210,27 +221,28 @@ pub(crate) struct JudgedTag<'p> {
     pub(crate) fault: Option<Fault>,
 }
 
-/// A struct that is taken. Fails only where no host memory is left, or it has 2^32 region parameters.
-fn taken_struct<'p>(
+/// A union, or else a struct, that is taken. Fails only where no host memory is left, or it has 2^32 region parameters.
+fn taken_tag<'p>(
     alloc: Global,
     taken: Taken,
+    is_union: bool,
     known: Known<'_, 'p>,
     order: u32,
     structure: &'p Structure,
 ) -> Result<JudgedTag<'p>, AllocError>
     ensures { (g : TheTables) → StandsAt known.entry.judged.now known.entry.first.now (tables_of known.entry.tables.now) order g
-        → takes_structure (taken_of taken) (taken_of taken).structs (structure_tree structure.entry.now) ≡ true
-        → IfOk result (λ r. IsTag g order false (structure_if true (structure_tree structure.entry.now)
+        → IfOk result (λ r. IsTag g order is_union (structure_if true (structure_tree structure.entry.now)
         (members_taken (taken_of taken) (structure_tree structure.entry.now).members)) r) }
 {
     let parameters = region_parameters(alloc, &structure.regions)?;
-    let judged = judged_members(alloc, taken, known, &parameters.names, &structure.members)?;
+    let names = &parameters.names;
+    let judged = judged_members(alloc, taken, is_union, known, names, &structure.members)?;
     let second = repeated_fault(alloc, &structure.members)?;
     let JudgedMembers { members, fault } = judged;
     let parts = sooner(parameters.fault, sooner(fault, second));
-    let fault = or_size(known.tables, &members, &structure.tag, parts);
+    let fault = or_size(is_union, known.tables, &members, &structure.tag, parts);
     let tag = Tag {
-        is_union: false,
+        is_union,
         order,
         regions: parameters.count,
         members,
@@ -240,7 +252,7 @@ fn taken_struct<'p>(
 }
 
 /// A struct or union that isn't taken. Fails only where no host memory is left.
-pub(crate) fn refused_tag<'p>(
+fn refused_tag<'p>(
     alloc: Global,
     is_union: bool,
     order: u32,
@@ -267,24 +279,23 @@ pub(crate) fn refused_tag<'p>(
     Ok(JudgedTag { tag, fault })
 }
 
-/// A struct. Fails only where no host memory is left, or it has 2^32 region parameters.
-pub(crate) fn judged_struct<'p>(
+/// A union, or else a struct. Fails only where no host memory is left, or it has 2^32 region parameters.
+pub(crate) fn judged_structure<'p>(
     alloc: Global,
     taken: Taken,
+    is_union: bool,
     known: Known<'_, 'p>,
     order: u32,
     structure: &'p Structure,
 ) -> Result<JudgedTag<'p>, AllocError>
     ensures { (g : TheTables) → StandsAt known.entry.judged.now known.entry.first.now (tables_of known.entry.tables.now) order g
-        → IfOk result (λ r. IsTag g order false (structure_if
-        (takes_structure (taken_of taken) (taken_of taken).structs (structure_tree structure.entry.now)) (structure_tree structure.entry.now)
-        (members_taken (taken_of taken) (structure_tree structure.entry.now).members)) r) }
+        → IfOk result (λ r. IsTag g order is_union (structure_taken (taken_of taken) is_union (structure_tree structure.entry.now)) r) }
 {
-    if takes_struct(taken, structure) {
-        let judged = taken_struct(alloc, taken, known, order, structure)?;
+    if takes_structure(taken, is_union, structure) {
+        let judged = taken_tag(alloc, taken, is_union, known, order, structure)?;
         Ok(judged)
     } else {
-        let refused = refused_tag(alloc, false, order, structure)?;
+        let refused = refused_tag(alloc, is_union, order, structure)?;
         Ok(refused)
     }
 }

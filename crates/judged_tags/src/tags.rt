@@ -1,4 +1,4 @@
-// The structs of a program, as they are judged.
+// The structs and unions of a program, as they are judged.
 
 ghost use Rattle.std.specs.Prelude.{◌≡◌, ◌++◌, ◌∷◌, IfOk, List, None, OnOk, Some, [], false, if◌then◌else◌, true};
 ghost use Rattle.cyc_tree.specs.View.{program_item_tree, program_tree};
@@ -19,7 +19,7 @@ ghost use Rattle.judged_tags.specs.Tags.{AreAllJudged, AreJudged, IsFound, Stand
 
 use crate::heads::{bare_names, builtin_names, head_names, item_name};
 use crate::parameters::next_number;
-use crate::structure::{JudgedTag, Known, judged_struct, refused_tag};
+use crate::structure::{JudgedTag, Known, judged_structure};
 use cyc_tree::Item;
 use cyc_types::{TableFault, Tables, Tag};
 use std::alloc::{AllocError, Global};
@@ -148,12 +148,12 @@ fn judged_item<'p>(
 {
     match item {
         Item::Struct(structure) => {
-            let judged = judged_struct(alloc, taken, known, order, structure)?;
+            let judged = judged_structure(alloc, taken, false, known, order, structure)?;
             Ok(Some(judged))
         }
         Item::Union(structure) => {
-            let refused = refused_tag(alloc, true, order, structure)?;
-            Ok(Some(refused))
+            let judged = judged_structure(alloc, taken, true, known, order, structure)?;
+            Ok(Some(judged))
         }
         Item::Global(_) | Item::Function(_) => Ok(None),
     }
@@ -198,7 +198,7 @@ fn judged_items<'p>(
 }
 
 /// The structs and unions of a program, as they are judged: what its names mean where a tag is wanted, the structs and unions by
-/// name where structs are taken, and the earliest fault of their declarations. Fails only where no host memory is left, or an
+/// name, and the earliest fault of their declarations. Fails only where no host memory is left, or an
 /// item's number is over the greatest u32.
 pub fn judged_tags<'p>(
     alloc: Global,
@@ -208,9 +208,9 @@ pub fn judged_tags<'p>(
     ensures fault { let all = only_taken (taken_of taken) (program_tree items.entry.now) in
         IfOk result (λ done. faults_of done.fault ≡ earliest (all_tag_faults (judged_tags all))) }
     ensures names { let all = only_taken (taken_of taken) (program_tree items.entry.now) in
-        IfOk result (λ done. AreTagNames taken done.names (builtins (entries (judged_tags all)))) }
+        IfOk result (λ done. AreTagNames done.names (builtins (entries (judged_tags all)))) }
     ensures tables { let all = only_taken (taken_of taken) (program_tree items.entry.now) in
-        IfOk result (λ done. taken.structs ≡ true → HasTags done.tables (builtins (entries (judged_tags all)))) }
+        IfOk result (λ done. HasTags done.tables (builtins (entries (judged_tags all)))) }
 {
     let bare = bare_names(alloc, taken, items)?;
     let first = head_names(alloc, taken, &bare, items)?;

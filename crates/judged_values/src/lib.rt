@@ -3,6 +3,7 @@
 //! What is said of them are the rules of `source_typing`, each as it stands there.
 #![tactic(auto)]
 
+mod array;
 mod assignment;
 mod comparison;
 mod conversion;
@@ -16,10 +17,11 @@ mod prefix;
 mod renaming;
 mod value;
 
+pub use array::{counted, indexed, string};
 pub use assignment::assigned;
 pub use conversion::converted;
 pub use literal::{character, heap_region, null, number};
-pub use making::{Goal, handled, made};
+pub use making::{Goal, array_made, elements, handled, made};
 pub use members::{arrow, member};
 pub use name::variable;
 pub use operator::{applied, condition, tested_both};

@@ -7,7 +7,7 @@ ghost use Rattle.cyc_types.specs.Types.{static_type};
 ghost use Rattle.judged_values.specs.Goals.{goal_in, region_handled};
 ghost use Rattle.judged_values.specs.Values.{value_of};
 ghost use Rattle.scoped_names.specs.Knows.{Sees};
-ghost use Rattle.source_typing.specs.Making.{handled, live_goal, made, made_to};
+ghost use Rattle.source_typing.specs.Making.{array_made, elements, handled, live_goal, made, made_to};
 ghost use Rattle.source_typing.specs.Scope.{Env};
 ghost use Rattle.type_verdicts.specs.Verdicts.{short_of, shortened};
 
@@ -22,6 +22,8 @@ use type_verdicts::{Fault, FaultKind, Verdict};
 pub enum Goal {
     /// In a region.
     To(RegionId),
+    /// In the unique region.
+    ToUnique,
     /// Nowhere: what should be a handle is none.
     NoHandle,
 }
@@ -78,6 +80,7 @@ fn made_to<'p>(at: u32, goal: Goal, of: CType<'p>) -> Result<Verdict<Value<'p>>,
 {
     match goal {
         Goal::To(region) => Ok(plain(at, of.under(Layer::Thin(false, region))?)),
+        Goal::ToUnique => Ok(plain(at, of.under(Layer::Unique(false))?)),
         Goal::NoHandle => Ok(refused(FaultKind::Typing, at)),
     }
 }
@@ -90,4 +93,29 @@ pub fn made<'p>(at: u32, goal: Goal, value: Value<'p>) -> Result<Verdict<Value<'
         return Ok(refused(FaultKind::Typing, at));
     }
     made_to(at, goal, value.of)
+}
+
+/// An element of an array that is made, where so many may be and such may be made.
+pub fn elements<'p>(at: u32, count: &Value, element: Value<'p>) -> Verdict<Value<'p>>
+    ensures { short_of value_of result ≡ shortened (elements at (value_of count.now) (value_of element.entry)) }
+{
+    if count.of.is_integer() && element.of.is_makeable() {
+        Verdict::Of(element)
+    } else {
+        refused(FaultKind::Typing, at)
+    }
+}
+
+/// A fat pointer to the elements of an array that is made, which isn't in the unique region. Fails only where no host memory is left.
+pub fn array_made<'p>(
+    at: u32,
+    goal: Goal,
+    element: Value<'p>,
+) -> Result<Verdict<Value<'p>>, AllocError>
+    ensures { IfOk result (λ v. short_of value_of v ≡ shortened (array_made at (goal_in goal) (value_of element.entry))) }
+{
+    match goal {
+        Goal::To(region) => Ok(plain(at, element.of.under(Layer::Fat(region))?)),
+        Goal::ToUnique | Goal::NoHandle => Ok(refused(FaultKind::Typing, at)),
+    }
 }

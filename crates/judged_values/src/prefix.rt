@@ -51,7 +51,7 @@ fn followed<'p>(at: u32, pointer: Layer, is_live: bool, to: CType<'p>) -> Verdic
 
 /// `*`: a pointer's region has to be live.
 #[tactic(auto, using(crate::proofs::Following::plain_led))]
-fn contents<'p>(scope: &Scope, at: u32, operand: Value<'p>) -> Verdict<Value<'p>>
+pub(crate) fn contents<'p>(scope: &Scope, at: u32, operand: Value<'p>) -> Verdict<Value<'p>>
     ensures { (g : Env) → Sees scope.now g → short_of value_of result ≡ shortened (contents g at (value_of operand.entry)) }
 {
     match operand.of.outer() {

@@ -1,6 +1,6 @@
 -- The names of a program, one item at a time.
 use Rattle.std.proofs.Common.{◌≡◌, ◌+◌, ℕ, suc, List, [], ◌∷◌, Bool, true, false, Option, Some, None, refl, sym, ap, subst, ◌∙◌, arith}
-use Rattle.std.specs.Prelude.{bytes_eq, is_some, not, unwrap_or, ◌&&◌, if◌then◌else◌}
+use Rattle.std.specs.Prelude.{bytes_eq, is_some, not, ◌&&◌, if◌then◌else◌}
 use Rattle.std.proofs.lemmas.Slice.Eq.{bytes_eq-Decides}
 use Rattle.cyc_tree.specs.Tree.{Item, Program}
 use Rattle.source_typing.specs.Programs.{Judged, builtins, entries, entries_with, entry_with, judged_tags, name_of, tables_of}
@@ -11,8 +11,7 @@ use Rattle.scoped_names.specs.Globals.{global_meaning}
 use Rattle.scoped_names.specs.Means.{Means, NoName}
 use Rattle.scoped_names.specs.declared.globals.Globals.{Globals}
 use Rattle.scoped_names.specs.declared.meaning.Meaning.{Meaning}
-use Rattle.scoped_names.specs.declared.meaning.Meaning.TheVariants.{Tag}
-use Rattle.program_types.specs.Names.{HasNoTag, IsNoTag, Since}
+use Rattle.program_types.specs.Names.{Since}
 use Rattle.program_types.specs.Structs.{KnowsStructs, MeansTag}
 use Rattle.program_types.specs.declared.structs.Structs.{Structs}
 use Rattle.program_types.proofs.Items.{name_stays}
@@ -48,14 +47,6 @@ since_added old new n text e m is_new all others x is_text is_first added means 
     (λ same. means (sym is_text ∙ (bytes_eq-Decides n x).0 same))
     (subst (λ y. Since all (global_meaning old x) (find (record { name = y; entry = e } ∷ others) x)) (sym is_text) since))
 
--- a name more that means no struct or union
-pub untagged_added : (old new : Globals) (n : List ℕ) (m : Meaning) (is_new : Bool) → IsAdded old new n m is_new → IsNoTag m → HasNoTag old → HasNoTag new
-untagged_added old new n m is_new added none untagged x u k tag = by (is_new && bytes_eq n x) (sym (added x) ∙ tag)
-  where
-    by : (b : Bool) → (if b then Some m else global_meaning old x) ≡ Some (Tag u k) → ⊥
-    by true e = none u k (ap (λ o. unwrap_or o m) e)
-    by false e = untagged x u k e
-
 -- ---- the names of items
 
 -- a program's items as far as they are taken
@@ -70,59 +61,57 @@ tags_taken s p = builtins (entries (judged_tags (all_taken s p)))
 abbrev pub entries_from : Structs → Bool → Program → ℕ → List Judged → List Item → Tables
 entries_from s l p k js items = entries_with l (tags_taken s p) k js (all_taken s items)
 
-abbrev pub AreSince : Structs → Program → ℕ → List Judged → List Item → Globals → Type 0
-AreSince s p k js items names = KnowsStructs s (tags_taken s p) → (l : Bool) (x : List ℕ)
+abbrev pub AreSince : Structs → Bool → Program → ℕ → List Judged → List Item → Globals → Type 0
+AreSince s l p k js items names = KnowsStructs s (tags_taken s p) → (x : List ℕ)
     → Since (find (tables_of l (all_taken s p)) x) (global_meaning names x) (find (entries_from s l p k js items) x)
 
--- The names are those of the items before these, and each of these is judged as a tag; where structs aren't taken none means one in order.
-pub record Reached (s : Structs) (p : Program) (k : ℕ) (items : List Item) (names : Globals) : Type 0 where
+-- The names are those of the items before these, and each of these is judged as a tag.
+pub record Reached (s : Structs) (l : Bool) (p : Program) (k : ℕ) (items : List Item) (names : Globals) : Type 0 where
   pub left : List Judged
   pub judged : AreJudged (only_taken (taken_of s.taken) items) left
-  pub untagged : s.taken.structs ≡ false → HasNoTag names
-  pub since : AreSince s p k left items names
+  pub since : AreSince s l p k left items names
 
-pub reached_first : (s : Structs) (p : Program) (names : Globals)
-    → ((others : Tables) (x : List ℕ) → Since (find (builtins others) x) (global_meaning names x) (find others x)) → HasNoTag names → Reached s p 0 p names
-reached_first s p names first untagged = record {
+pub reached_first : (s : Structs) (l : Bool) (p : Program) (names : Globals)
+    → ((others : Tables) (x : List ℕ) → Since (find (builtins others) x) (global_meaning names x) (find others x)) → Reached s l p 0 p names
+reached_first s l p names first = record {
   left = judged_tags (all_taken s p);
   judged = all_judged (all_taken s p);
-  untagged = λ e. untagged;
-  since = λ known l x. first (entries_from s l p 0 (judged_tags (all_taken s p)) p) x;
+  since = λ known x. first (entries_from s l p 0 (judged_tags (all_taken s p)) p) x;
 }
 
-pub reached_next : (s : Structs) (p : Program) (k next : ℕ) (i : Item) (items : List Item) (old new : Globals) (n : List ℕ) (m : Meaning) (is_new : Bool)
-    → next ≡ k + 1 → n ≡ (name_of i).text → is_new ≡ not (is_some (global_meaning old n)) → IsAdded old new n m is_new
-    → ((l : Bool) (g : Tables) (e : Entry) → KnowsStructs s g → MeansTag s i e → Means (Some (entry_with l g k e (item_taken (taken_of s.taken) i))) (Some m))
-    → (s.taken.structs ≡ false → IsNoTag m) → Reached s p k (i ∷ items) old → Reached s p next items new
-reached_next s p k next i items old new n m is_new is_next is_name is_first added means no_tag reached =
-    let after : suc k ≡ next = omega (arith, is_next) in subst (λ y. Reached s p y items new) after (by reached.left reached.judged reached.since)
+pub reached_next : (s : Structs) (l : Bool) (p : Program) (k next : ℕ) (i : Item) (items : List Item) (old new : Globals) (n : List ℕ) (m : Meaning)
+    (is_new : Bool) → next ≡ k + 1 → n ≡ (name_of i).text → is_new ≡ not (is_some (global_meaning old n)) → IsAdded old new n m is_new
+    → ((g : Tables) (e : Entry) → KnowsStructs s g → MeansTag s i e → Means (Some (entry_with l g k e (item_taken (taken_of s.taken) i))) (Some m))
+    → Reached s l p k (i ∷ items) old → Reached s l p next items new
+reached_next s l p k next i items old new n m is_new is_next is_name is_first added means reached =
+    let after : suc k ≡ next = omega (arith, is_next) in subst (λ y. Reached s l p y items new) after (by reached.left reached.judged reached.since)
   where
-    by : (js : List Judged) → AreJudged (item_taken (taken_of s.taken) i ∷ all_taken s items) js → AreSince s p k js (i ∷ items) old → Reached s p (suc k) items new
+    by : (js : List Judged) → AreJudged (item_taken (taken_of s.taken) i ∷ all_taken s items) js → AreSince s l p k js (i ∷ items) old
+        → Reached s l p (suc k) items new
     by [] judged since = absurd judged
     by (j ∷ js) judged since = record {
       left = js;
       judged = judged.1;
-      untagged = λ e. untagged_added old new n m is_new added (no_tag e) (reached.untagged e);
-      since = λ known l x.
+      since = λ known x.
           let t : Item = item_taken (taken_of s.taken) i in
           let g : Tables = tags_taken s p in
           let e : Entry = entry_with l g k j.entry.entry t in
           let all : Tables = tables_of l (all_taken s p) in
           let stays : (name_of i).text ≡ (name_of t).text = ap (λ y. y.text) (name_stays (taken_of s.taken) i) in
           since_added old new n (name_of t).text e m is_new (find all x) (entries_from s l p (suc k) js items) x (is_name ∙ stays) is_first added
-          (λ same first. means l g j.entry.entry known
+          (λ same first. means g j.entry.entry known
           (item_means s l all g k i j judged.0 (knows_all s l (all_taken s p) known) (ap (find all) (stays ∙ same) ∙ first)))
-          (since known l x);
+          (since known x);
     }
 
 means_since : (all : Option Entry) (m : Option Meaning) → Since all m None → Means all m
 means_since all None since = subst (λ o. Means o None) (sym since) NoName
 means_since all (Some w) since = since
 
-pub reached_last : (s : Structs) (p : Program) (k : ℕ) (names : Globals) → Reached s p k [] names → KnowsStructs s (tags_taken s p)
-    → (l : Bool) (x : List ℕ) → Means (find (tables_of l (all_taken s p)) x) (global_meaning names x)
-reached_last s p k names reached known l x = by reached.left reached.judged reached.since
+pub reached_last : (s : Structs) (l : Bool) (p : Program) (k : ℕ) (names : Globals) → Reached s l p k [] names → KnowsStructs s (tags_taken s p)
+    → (x : List ℕ) → Means (find (tables_of l (all_taken s p)) x) (global_meaning names x)
+reached_last s l p k names reached known x = by reached.left reached.judged reached.since
   where
-    by : (js : List Judged) → AreJudged [] js → AreSince s p k js [] names → Means (find (tables_of l (all_taken s p)) x) (global_meaning names x)
-    by [] judged since = means_since (find (tables_of l (all_taken s p)) x) (global_meaning names x) (since known l x)
+    by : (js : List Judged) → AreJudged [] js → AreSince s l p k js [] names → Means (find (tables_of l (all_taken s p)) x) (global_meaning names x)
+    by [] judged since = means_since (find (tables_of l (all_taken s p)) x) (global_meaning names x) (since known x)
     by (j ∷ js) judged since = absurd judged

@@ -1,5 +1,5 @@
 -- Items one by one.
-use Rattle.std.proofs.Common.{◌≡◌, ℕ, ◌+◌, ◌<◌, Bool, true, false, List, ◌∷◌, ◌++◌, refl, sym, ap, ◌∙◌, drop, get_or, length}
+use Rattle.std.proofs.Common.{◌≡◌, ℕ, ◌+◌, ◌<◌, Bool, true, false, List, [], ◌∷◌, ◌++◌, refl, sym, ap, ◌∙◌, drop, get_or, length}
 use Rattle.std.specs.Prelude.{Option, ◌&&◌}
 use Rattle.std.proofs.lemmas.List.{drop_more}
 use Rattle.cyc_tree.specs.Tree.{Initial, Item}
@@ -33,11 +33,15 @@ name_stays k (tree.FunctionItem f) = refl
 
 -- ---- forms
 
+none_formed : (b : Bool) → [] ≡ form_if b []
+none_formed true = refl
+none_formed false = refl
+
 -- an array has no constant
 form_by : (k : code_taken.Taken) (t : Bool) (i : Initial)
     → form_if t (initial_form (taken_of k) i) ≡ form_if (t && takes_initial (taken_of k) i) (initial_form (taken_of k) i)
 form_by k true Initial.Unset = refl
-form_by k true (Initial.Elements n) = refl
+form_by k true (Initial.Elements n) = none_formed k.arrays
 form_by k true (Initial.Given c) = refl
 form_by k false i = refl
 

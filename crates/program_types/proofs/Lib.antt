@@ -7,4 +7,3 @@ pub mod TagItems
 pub mod Scopes
 pub mod Seeing
 pub mod Statics
-pub mod Untagged

@@ -139,6 +139,6 @@ names_same l p x =
 -- what is known by the tags alone is known by all tables
 pub knows_all : (s : Structs) (l : Bool) (p : Program) → KnowsStructs s (builtins (entries (judged_tags p))) → KnowsStructs s (tables_of l p)
 knows_all s l p k = record {
-  names = λ h x. record { is = sym (names_same l p x) ∙ (k.names h x).is };
-  tables = λ h. has_alike s.tables.now (builtins (entries (judged_tags p))) (tables_of l p) (tables_alike l p) (k.tables h);
+  names = λ x. record { is = sym (names_same l p x) ∙ (k.names x).is };
+  tables = has_alike s.tables.now (builtins (entries (judged_tags p))) (tables_of l p) (tables_alike l p) k.tables;
 }

@@ -1,5 +1,5 @@
 -- Globals as far as they are taken.
-use Rattle.std.specs.Prelude.{Bool, List, None, Option, Some, false, map, true, ℕ, ◌≡◌, ◌&&◌, ◌++◌, [], ◌∷◌}
+use Rattle.std.specs.Prelude.{Bool, List, None, Option, Some, false, map, true, ℕ, ◌≡◌, ◌*◌, ◌&&◌, ◌++◌, [], ◌∷◌}
 use Rattle.cyc_tree.specs.Tree.{Global, Initial, TypeName}
 use Rattle.source_typing.specs.Faults.{Fault}
 use Rattle.source_typing.specs.Globals.{count_of, foreign_names, has_none, initial_faults}
@@ -7,7 +7,7 @@ use Rattle.source_typing.specs.Declarations.{what_after, what_of}
 use Rattle.source_typing.specs.Regions.{Region, TheHeap}
 use Rattle.source_typing.specs.Scope.{Env}
 use Rattle.source_meaning.specs.Sizes.{rounded_up}
-use Rattle.source_typing.specs.Extents.{fits_bytes, size_of}
+use Rattle.source_typing.specs.Extents.{fits_bytes, variable_size}
 use Rattle.source_typing.specs.Tables.{Entry, OfValue, Tables}
 use Rattle.source_typing.specs.Taken.{global_if, initial_taken, takes_initial, takes_type, Taken}
 use Rattle.source_typing.specs.Types.{StaticType}
@@ -16,7 +16,7 @@ use Rattle.source_typing.specs.Written.{Spot, find_region, spot}
 use Rattle.cyc_types.specs.declared.ctype.CType.{CType}
 use Rattle.cyc_types.specs.declared.region.RegionId.TheVariants.{Heap}
 use Rattle.scoped_names.specs.declared.meaning.Meaning.{Meaning}
-use Rattle.scoped_names.specs.declared.meaning.Meaning.TheVariants.{NotKnown, Variable}
+use Rattle.scoped_names.specs.declared.meaning.Meaning.TheVariants.{Array, NotKnown, Variable}
 use Rattle.written_types.specs.Arguments.{named_spots}
 use Rattle.cyc_tree.specs.Tree as tree
 use Rattle.type_verdicts.specs.declared.fault.Fault as found
@@ -30,10 +30,12 @@ global_taken k x = global_if (takes_type k x.of && takes_initial k x.initial) x 
 abbrev pub spots_in : List tree.Pointer → List Spot
 spots_in ps = map (λ p. spot true p.region) ps
 
--- the regions that a base writes: the arguments of a struct, and the region of a handle
+-- the regions that a base writes: the arguments of a struct or union, and the region of a handle or key
 abbrev pub base_regions : tree.Base → List tree.RegionName
 base_regions (tree.Struct tag rs) = rs
+base_regions (tree.Union tag rs) = rs
 base_regions (tree.Handle r) = r ∷ []
+base_regions (tree.Key r) = r ∷ []
 base_regions b = []
 
 -- the places of regions that may be written in a type, those of its base before its pointers
@@ -68,10 +70,11 @@ foreign_in ss x = find_region (foreign_names ss) x
 
 -- ---- by what the type is
 
--- what a global's name means, by the fault of what it begins with
-abbrev pub meaning_by : Option found.Fault → CType → Meaning
-meaning_by None t = Variable t Heap
-meaning_by (Some f) t = NotKnown
+-- what a global's name means, by its fault: a variable, or an array of so many elements
+abbrev pub meaning_by : Option found.Fault → Option ℕ → CType → Meaning
+meaning_by None None t = Variable t Heap
+meaning_by None (Some n) t = Array t Heap
+meaning_by (Some f) count t = NotKnown
 
 abbrev pub faults_by : Env → Initial → Verdict StaticType → List Fault
 faults_by g i v = faults_of v ++ initial_faults g i v
@@ -79,11 +82,16 @@ faults_by g i v = faults_of v ++ initial_faults g i v
 abbrev pub entry_by : Env → Initial → Verdict StaticType → Entry
 entry_by g i v = OfValue (what_after (faults_by g i v) (what_of TheHeap (count_of i) v))
 
--- how many bytes a global of a type has that is no array, rounded up to 8
-abbrev pub bytes_by : Tables → Verdict StaticType → ℕ
-bytes_by g (Of t) = rounded_up (size_of g t) 8
-bytes_by g v = 0
+-- how many bytes one element has, or so many
+abbrev pub bytes_of : Option ℕ → ℕ → ℕ
+bytes_of None n = n
+bytes_of (Some k) n = k * n
 
--- a type has at most 4,096 bytes
-abbrev pub IsSized : Tables → Verdict StaticType → Type 0
-IsSized g v = (t : StaticType) → v ≡ Of t → fits_bytes (size_of g t) ≡ true
+-- how many bytes a global of a type, or an array of so many elements of it, has in the data
+abbrev pub bytes_by : Tables → Option ℕ → Verdict StaticType → ℕ
+bytes_by g count (Of t) = rounded_up (variable_size g count t) 8
+bytes_by g count v = 0
+
+-- it has at most 4,096 bytes
+abbrev pub IsSized : Tables → Option ℕ → Verdict StaticType → Type 0
+IsSized g count v = (t : StaticType) → v ≡ Of t → fits_bytes (variable_size g count t) ≡ true

@@ -1,16 +1,16 @@
 -- The parts of a program's faults, where each form that isn't taken stands as one that is at fault.
-use Rattle.std.specs.Prelude.{Bool, List, Option, is_some, nat_le, ℕ, ◌+◌, ◌≡◌, ◌≤◌, ◌++◌}
+use Rattle.std.specs.Prelude.{Bool, List, Option, is_some, ℕ, ◌≡◌}
 use Rattle.cyc_tree.specs.Tree.{Item}
-use Rattle.source_typing.specs.Extents.{most_static_bytes}
 use Rattle.source_typing.specs.Faults.{earliest}
-use Rattle.source_typing.specs.Globals.{Static, if_passed, total_faults}
 use Rattle.source_typing.specs.Programs.{is_seen, second_names, size_faults, statics_from}
 use Rattle.source_typing.specs.Tables.{Tables}
 use Rattle.source_typing.specs.Taken.{Taken, only_taken}
 use Rattle.type_verdicts.specs.Faults.{faults_of, first_of}
 use Rattle.type_verdicts.specs.Taken.{taken_of}
 use Rattle.program_types.specs.Structs.{KnowsStructs}
+use Rattle.program_types.specs.Totals.{counted}
 use Rattle.program_types.specs.declared.structs.Structs.{Structs}
+use Rattle.program_types.specs.declared.total.Total.{Total}
 use Rattle.scoped_names.specs.Globals.{global_meaning}
 use Rattle.scoped_names.specs.declared.globals.Globals.{Globals}
 use Rattle.type_verdicts.specs.declared.fault.Fault as code
@@ -19,11 +19,6 @@ use Rattle.type_verdicts.specs.declared.fault.Fault as code
 abbrev pub AreSeen : List (List ℕ) → Globals → Type 0
 AreSeen names s = (x : List ℕ) → is_seen names x ≡ is_some (global_meaning s x)
 
--- These objects of the data have so many bytes together, all at this place.
-abbrev pub Adds : ℕ → ℕ → List Static → Type 0
-Adds n at ss = (total : ℕ) (more : List Static) → total ≤ most_static_bytes
-    → total_faults total (ss ++ more) ≡ if_passed (nat_le (total + n) most_static_bytes) at (total_faults (total + n) more)
-
 -- what was found of second items of a name, with what is left: the rest of the items, after names that are seen
 pub record SecondsLeft (k : Taken) (first : List (List ℕ)) (items : List Item) (found : Option code.Fault) (rest : List Item) (seen : Globals) : Type 0 where
   pub names : List (List ℕ)
@@ -31,10 +26,10 @@ pub record SecondsLeft (k : Taken) (first : List (List ℕ)) (items : List Item)
   pub is : first_of (faults_of found) (earliest (second_names names (only_taken k rest)))
       ≡ earliest (second_names first (only_taken k items))
 
--- what is left of the sizes after so many bytes: the rest of the items, of which the first has this index, after names that are seen
-pub record SizesLeft (s : Structs) (items : List Item) (total index : ℕ) (rest : List Item) (seen : Globals) : Type 0 where
+-- what is left of the sizes after what was counted: the rest of the items, of which the first has this index, after names that are seen
+pub record SizesLeft (s : Structs) (items : List Item) (total : Total) (index : ℕ) (rest : List Item) (seen : Globals) : Type 0 where
   pub names : List (List ℕ)
   pub are : AreSeen names seen
   pub is : (lenient : Bool) (g : Tables) → KnowsStructs s g
-      → total_faults total (statics_from lenient g index names (only_taken (taken_of s.taken) rest))
-      ≡ size_faults lenient g (only_taken (taken_of s.taken) items)
+      → counted total (statics_from lenient g index names (only_taken (taken_of s.taken) rest))
+      ≡ earliest (size_faults lenient g (only_taken (taken_of s.taken) items))

@@ -12,22 +12,21 @@ use Rattle.written_types.specs.declared.tagged.TagName.{TagName}
 use Rattle.written_types.specs.declared.tagged.TagName.TheVariants as named
 use Rattle.program_types.specs.declared.structs.Structs.{Structs}
 
--- where structs are taken, each name means what it means by the rules where a tag is wanted, and so do structs and unions
+-- each name means what it means by the rules where a tag is wanted, and so do structs and unions
 pub record KnowsStructs (s : Structs) (g : Tables) : Type 0 where
-  pub names : AreTagNames s.taken s.tags.now g
-  pub tables : s.taken.structs ≡ true → HasTags s.tables.now g
+  pub names : AreTagNames s.tags.now g
+  pub tables : HasTags s.tables.now g
 
--- what a struct's or union's name means, by whether structs are taken, and by what it means where a tag is wanted
-abbrev pub tag_meaning : Bool → TagName → Meaning
-tag_meaning true (named.Tag u n) = Tag u n
-tag_meaning true (named.NotJudged n) = FaultyTag n
-tag_meaning true named.NoName = FaultyTag 0
-tag_meaning true named.Other = FaultyTag 0
-tag_meaning false n = FaultyTag 0
+-- what a struct's or union's name means, by what it means where a tag is wanted
+abbrev pub tag_meaning : TagName → Meaning
+tag_meaning (named.Tag u n) = Tag u n
+tag_meaning (named.NotJudged n) = FaultyTag n
+tag_meaning named.NoName = FaultyTag 0
+tag_meaning named.Other = FaultyTag 0
 
 -- so it does of an item with this entry, where the item is a struct or union
 abbrev pub MeansTag : Structs → Item → Entry → Type 0
-MeansTag s (tree.StructItem t) e = Means (Some e) (Some (tag_meaning s.taken.structs (tag_named s.tags.now t.tag.text)))
-MeansTag s (tree.UnionItem t) e = Means (Some e) (Some (tag_meaning s.taken.structs (tag_named s.tags.now t.tag.text)))
+MeansTag s (tree.StructItem t) e = Means (Some e) (Some (tag_meaning (tag_named s.tags.now t.tag.text)))
+MeansTag s (tree.UnionItem t) e = Means (Some e) (Some (tag_meaning (tag_named s.tags.now t.tag.text)))
 MeansTag s (tree.GlobalItem x) e = Unit {0}
 MeansTag s (tree.FunctionItem f) e = Unit {0}

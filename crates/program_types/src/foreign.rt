@@ -56,13 +56,13 @@ fn each_into_unnamed(pointers: &[Pointer]) -> bool
     pointers.iter().all(is_into_unnamed)
 }
 
-/// The regions that a base writes: the arguments of a struct, and the region of a handle.
+/// The regions that a base writes: the arguments of a struct or union, and the region of a handle or key.
 fn base_regions(base: &Base) -> &[RegionName]
     ensures { map region_tree result.now ≡ base_regions (base_tree base.now) }
 {
     match base {
-        Base::Struct(_, arguments) => arguments.as_slice(),
-        Base::Handle(region) => std::slice::from_ref(region),
+        Base::Struct(_, arguments) | Base::Union(_, arguments) => arguments.as_slice(),
+        Base::Handle(region) | Base::Key(region) => std::slice::from_ref(region),
         _ => &[],
     }
 }

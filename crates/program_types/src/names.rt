@@ -1,6 +1,6 @@
 // What the names of a program mean.
 
-ghost use Rattle.std.specs.Prelude.{◌≡◌, ◌+◌, ◌∷◌, Bool, IfOk, List, OnOk, Some, false, not, ℕ};
+ghost use Rattle.std.specs.Prelude.{◌≡◌, ◌+◌, ◌∷◌, IfOk, List, OnOk, Some, not, ℕ};
 ghost use Rattle.cyc_tree.specs.View.{function_tree, name_tree, program_item_tree, program_tree};
 ghost use Rattle.source_typing.specs.Functions.{head_of};
 ghost use Rattle.source_typing.specs.Programs.{builtins, entries, entry_with, is_seen, judged_tags, name_of, tables_of};
@@ -11,7 +11,7 @@ ghost use Rattle.type_verdicts.specs.Taken.{taken_of};
 ghost use Rattle.written_types.specs.Naming.{tag_named};
 ghost use Rattle.scoped_names.specs.Globals.{global_meaning};
 ghost use Rattle.scoped_names.specs.Means.{Means};
-ghost use Rattle.program_types.specs.Names.{HasNoTag, IsNoTag, Since};
+ghost use Rattle.program_types.specs.Names.{Since};
 ghost use Rattle.program_types.specs.Programs.{AreSeen};
 ghost use Rattle.program_types.specs.Structs.{KnowsStructs, MeansTag, tag_meaning};
 
@@ -25,8 +25,7 @@ use written_types::TagName;
 
 /// The names of the functions that every program has, and what they mean. Fails only where no host memory is left.
 fn builtin_names<'p>(alloc: Global) -> Result<Globals<'p>, AllocError>
-    ensures names { (others : Tables) (x : List ℕ) → IfOk result (λ names. Since (find (builtins others) x) (global_meaning names x) (find others x)) }
-    ensures untagged { IfOk result HasNoTag }
+    ensures { (others : Tables) (x : List ℕ) → IfOk result (λ names. Since (find (builtins others) x) (global_meaning names x) (find others x)) }
 {
     let mut names = Globals::new(alloc);
     names.add(b"getchar".as_slice(), Meaning::Builtin(0))?;
@@ -51,23 +50,21 @@ pub(crate) fn item_name(item: &Item) -> &Name
 fn function_meaning<'p>(
     alloc: Global,
     structs: Structs<'_, 'p>,
+    lenient: bool,
     function: &'p Function,
 ) -> Result<Meaning<'p>, AllocError>
-    ensures { (lenient : Bool) (g : Tables) → KnowsStructs structs.entry g
+    ensures { (g : Tables) → KnowsStructs structs.entry g
         → let f = function_taken (taken_of structs.entry.taken) (function_tree function.entry.now) in
         IfOk result (λ m. Means (Some (OfFunction (head_of lenient g f).signature)) (Some m)) }
 {
-    let head = read_head(alloc, structs.taken, structs.tags, function)?;
+    let head = read_head(alloc, structs.taken, structs.tags, lenient, function)?;
     head_meaning(alloc, head)
 }
 
 /// What the name of a struct or union means: one that isn't taken is one of a declaration at fault.
 fn tag_meaning<'p>(structs: Structs<'_, '_>, name: &Name) -> Meaning<'p>
-    ensures { result ≡ tag_meaning structs.entry.taken.structs (tag_named structs.entry.tags.now (name_tree name.now).text) }
+    ensures { result ≡ tag_meaning (tag_named structs.entry.tags.now (name_tree name.now).text) }
 {
-    if !structs.taken.structs {
-        return Meaning::FaultyTag(0);
-    }
     match structs.tags.of(&name.text) {
         TagName::Tag { is_union, regions } => Meaning::Tag { is_union, regions },
         TagName::NotJudged(regions) => Meaning::FaultyTag(regions),
@@ -79,12 +76,12 @@ fn tag_meaning<'p>(structs: Structs<'_, '_>, name: &Name) -> Meaning<'p>
 fn item_meaning<'p>(
     alloc: Global,
     structs: Structs<'_, 'p>,
+    lenient: bool,
     index: u32,
     item: &'p Item,
 ) -> Result<Meaning<'p>, AllocError>
-    ensures means { (lenient : Bool) (g : Tables) (e : Entry) → KnowsStructs structs.entry g → MeansTag structs.entry (program_item_tree item.entry.now) e
+    ensures { (g : Tables) (e : Entry) → KnowsStructs structs.entry g → MeansTag structs.entry (program_item_tree item.entry.now) e
         → IfOk result (λ m. Means (Some (entry_with lenient g index e (item_taken (taken_of structs.entry.taken) (program_item_tree item.entry.now)))) (Some m)) }
-    ensures untagged { structs.entry.taken.structs ≡ false → IfOk result IsNoTag }
 {
     match item {
         Item::Struct(structure) | Item::Union(structure) => {
@@ -99,25 +96,26 @@ fn item_meaning<'p>(
             } = judged;
             Ok(meaning)
         }
-        Item::Function(function) => function_meaning(alloc, structs, function),
+        Item::Function(function) => function_meaning(alloc, structs, lenient, function),
     }
 }
 
-/// What the names of a program's items mean, and those of the functions that every program has. Fails only where no host memory is left.
+/// What the names of a program's items mean, and those of the functions that every program has; with or without the rules on live
+/// regions and effects. Fails only where no host memory is left.
 pub(crate) fn program_names<'p>(
     alloc: Global,
     structs: Structs<'_, 'p>,
+    lenient: bool,
     items: &'p [Item],
 ) -> Result<Globals<'p>, AllocError>
-    ensures names { (lenient : Bool) → let all = only_taken (taken_of structs.entry.taken) (program_tree items.entry.now) in
+    ensures { let all = only_taken (taken_of structs.entry.taken) (program_tree items.entry.now) in
         KnowsStructs structs.entry (builtins (entries (judged_tags all)))
         → IfOk result (λ names. (x : List ℕ) → Means (find (tables_of lenient all) x) (global_meaning names x)) }
-    ensures untagged { structs.entry.taken.structs ≡ false → IfOk result HasNoTag }
 {
     let mut names = builtin_names(alloc)?;
     let mut index = 0;
     'each: for item in items {
-        let meaning = item_meaning(alloc, structs, index, item)?;
+        let meaning = item_meaning(alloc, structs, lenient, index, item)?;
         names.add(item_name(item).text.as_slice(), meaning)?;
         index = next_index(index)?;
     }

@@ -11,7 +11,6 @@ ghost use Rattle.source_typing.specs.Taken as rules_taken;
 ghost use Rattle.judged_heads.specs.Bodies.{KnowsNames};
 ghost use Rattle.type_verdicts.specs.Faults.{fault_of, faults_of};
 ghost use Rattle.type_verdicts.specs.Taken.{taken_of};
-ghost use Rattle.type_verdicts.specs.declared.taken.Taken as code_taken;
 ghost use Rattle.program_types.specs.Programs.{AreSeen};
 ghost use Rattle.program_types.specs.Structs.{KnowsStructs};
 
@@ -47,26 +46,37 @@ fn named(at: u32) -> Fault
     }
 }
 
-/// The fault of a constant that isn't taken, a text.
-fn constant_form(constant: &Constant) -> Option<Fault>
-    ensures { (k : code_taken.Taken) → faults_of result ≡ earliest (constant_form (taken_of k) (constant_tree constant.now)) }
+/// The fault of a string, unless strings are taken.
+fn text_form(taken: Taken, at: u32) -> Option<Fault>
+    ensures { faults_of result ≡ earliest (test taken.arrays type_rule at) }
+{
+    if taken.arrays {
+        None
+    } else {
+        Some(mistyped(at))
+    }
+}
+
+/// The fault of a constant that isn't taken.
+fn constant_form(taken: Taken, constant: &Constant) -> Option<Fault>
+    ensures { faults_of result ≡ earliest (constant_form (taken_of taken) (constant_tree constant.now)) }
 {
     match constant {
         Constant::Number(_, _, _)
         | Constant::Negative(_, _, _)
         | Constant::Character(_, _)
         | Constant::Null(_) => None,
-        Constant::Text(at, _) => Some(mistyped(*at)),
+        Constant::Text(at, _) => text_form(taken, *at),
     }
 }
 
 /// The fault of what a global begins with, if it is a constant that isn't taken.
-fn initial_form(initial: &Initial) -> Option<Fault>
-    ensures { (k : code_taken.Taken) → faults_of result ≡ earliest (initial_form (taken_of k) (initial_tree initial.now)) }
+fn initial_form(taken: Taken, initial: &Initial) -> Option<Fault>
+    ensures { faults_of result ≡ earliest (initial_form (taken_of taken) (initial_tree initial.now)) }
 {
     match initial {
         Initial::None | Initial::Array(_) => None,
-        Initial::Constant(constant) => constant_form(constant),
+        Initial::Constant(constant) => constant_form(taken, constant),
     }
 }
 
@@ -79,7 +89,7 @@ fn item_form(taken: Taken, item: &Item) -> Option<Fault>
         Item::Struct(_) | Item::Union(_) | Item::Function(_) => None,
         Item::Global(global) => {
             if takes_type_in(taken, &global.of) {
-                initial_form(&global.initial)
+                initial_form(taken, &global.initial)
             } else {
                 None
             }
@@ -143,7 +153,7 @@ fn items_fault<'p>(
     Ok(found)
 }
 
-/// The earliest fault of a program's globals and functions, by its structs. Fails only where no host memory is left.
+/// The earliest fault of a program's globals and functions, by its structs and unions. Fails only where no host memory is left.
 fn bodies_fault<'p>(
     alloc: Global,
     structs: Structs<'_, 'p>,
@@ -154,7 +164,7 @@ fn bodies_fault<'p>(
         KnowsStructs structs.entry (builtins (entries (judged_tags all)))
         → IfOk result (λ f. faults_of f ≡ earliest (items_from lenient (tables_of lenient all) 0 all)) }
 {
-    let globals = program_names(alloc, structs, items)?;
+    let globals = program_names(alloc, structs, lenient, items)?;
     let names = Names {
         globals: &globals,
         tags: structs.tags,

@@ -1,83 +1,118 @@
-// The sizes of a program's globals.
+// The sizes of a program's globals and strings.
 
-ghost use Rattle.std.specs.Prelude.{◌≡◌, ◌≤◌, Bool, IfOk};
-ghost use Rattle.cyc_tree.specs.View.{program_item_tree, program_tree};
-ghost use Rattle.cyc_tree.specs.Places.{item_place};
-ghost use Rattle.source_typing.specs.Faults.{earliest, fault, size_rule};
+ghost use Rattle.std.specs.Prelude.{◌≡◌, Bool, IfOk};
+ghost use Rattle.cyc_tree.specs.View.{constant_tree, global_tree, initial_tree, program_item_tree, program_tree};
+ghost use Rattle.source_meaning.specs.Strings.{constant_strings, initial_strings};
+ghost use Rattle.source_typing.specs.Faults.{earliest};
 ghost use Rattle.source_typing.specs.Globals.{item_statics};
 ghost use Rattle.source_typing.specs.Programs.{if_first, size_faults};
 ghost use Rattle.source_typing.specs.Scope.{at_item};
 ghost use Rattle.source_typing.specs.Tables as rules_tables;
-ghost use Rattle.source_typing.specs.Taken.{item_taken, only_taken};
-ghost use Rattle.type_verdicts.specs.Faults.{fault_of, faults_of};
+ghost use Rattle.source_typing.specs.Taken.{constant_taken, initial_taken, item_taken, only_taken};
+ghost use Rattle.type_verdicts.specs.Faults.{faults_of};
 ghost use Rattle.type_verdicts.specs.Taken.{taken_of};
-ghost use Rattle.program_types.specs.Programs.{Adds};
+ghost use Rattle.program_types.specs.Globals.{global_taken};
 ghost use Rattle.program_types.specs.Structs.{KnowsStructs};
+ghost use Rattle.program_types.specs.Totals.{Adds, Counts};
+ghost use Rattle.cyc_tree.specs.Tree as tree;
 
-use crate::global::judged_global;
+use crate::bodies::with_items;
+use crate::global::{is_taken, judged_global};
 use crate::names::{item_name, next_index, see};
 use crate::structs::Structs;
-use cyc_tree::Item;
+use crate::total::{Total, string_bytes};
+use cyc_tree::{Constant, Global as GlobalItem, Initial, Item};
 use scoped_names::Globals;
 use std::alloc::{AllocError, Global};
-use type_verdicts::{Fault, FaultKind};
+use type_verdicts::{Fault, Taken};
 
-/// Too many bytes.
-fn too_large(at: u32) -> Fault
-    ensures { fault_of result ≡ fault size_rule at }
+/// With the string of a constant of a global, where strings are taken.
+fn with_constant(total: Total, taken: Taken, constant: &Constant) -> Total
+    ensures { (of : tree.TypeName) → Counts total result (constant_strings (constant_taken (taken_of taken) of (constant_tree constant.now))) }
 {
-    Fault {
-        kind: FaultKind::Size,
-        at,
+    match constant {
+        Constant::Number(_, _, _)
+        | Constant::Negative(_, _, _)
+        | Constant::Character(_, _)
+        | Constant::Null(_) => total,
+        Constant::Text(at, text) => with_text(total, taken, *at, text),
     }
 }
 
-/// The most bytes that globals may have together.
-const MOST_BYTES: u64 = 1048576;
+/// With a string of a global, where strings are taken.
+fn with_text(total: Total, taken: Taken, at: u32, text: &[u8]) -> Total
+    ensures { (of : tree.TypeName) → Counts total result (constant_strings (constant_taken (taken_of taken) of (tree.Constant.Text at text.now))) }
+{
+    if taken.arrays {
+        total.with(at, string_bytes(text))
+    } else {
+        total
+    }
+}
 
-/// How many bytes an item has in the data. Fails only where no host memory is left.
-fn item_bytes<'p>(
+/// With the string that a global begins with, where it is taken.
+fn with_initial(total: Total, taken: Taken, initial: &Initial) -> Total
+    ensures { (of : tree.TypeName) → Counts total result (initial_strings (initial_taken (taken_of taken) of (initial_tree initial.now))) }
+{
+    match initial {
+        Initial::None | Initial::Array(_) => total,
+        Initial::Constant(constant) => with_constant(total, taken, constant),
+    }
+}
+
+/// With the string of a global.
+fn with_global(total: Total, taken: Taken, global: &GlobalItem) -> Total
+    ensures { Counts total result (initial_strings (global_taken (taken_of taken) (global_tree global.now)).initial) }
+{
+    if is_taken(taken, global) {
+        with_initial(total, taken, &global.initial)
+    } else {
+        total
+    }
+}
+
+/// With an item and its strings. Fails only where no host memory is left.
+fn with_item<'p>(
+    total: Total,
     alloc: Global,
     structs: Structs<'_, 'p>,
     index: u32,
     item: &'p Item,
-) -> Result<u64, AllocError>
-    ensures within { IfOk result (λ n. n ≤ 4096) }
-    ensures bytes { (lenient : Bool) (g : rules_tables.Tables) → KnowsStructs structs.entry g → let t = program_item_tree item.entry.now in
-        IfOk result (λ n. Adds n (item_place t) (item_statics (at_item lenient g index) (item_taken (taken_of structs.entry.taken) t))) }
+) -> Result<Total, AllocError>
+    ensures { (lenient : Bool) (g : rules_tables.Tables) → KnowsStructs structs.entry g
+        → IfOk result (λ t. Adds total t (item_statics (at_item lenient g index) (item_taken (taken_of structs.entry.taken) (program_item_tree item.entry.now)))) }
 {
     match item {
         Item::Global(global) => {
             let judged = judged_global(alloc, structs, index, global)?;
-            Ok(judged.bytes)
+            let object = total.with(global.of.at, judged.bytes);
+            Ok(with_global(object, structs.taken, global))
         }
-        Item::Struct(_) => Ok(0),
-        Item::Union(_) => Ok(0),
-        Item::Function(_) => Ok(0),
+        Item::Function(function) => Ok(with_items(total, structs.taken, &function.body)),
+        Item::Struct(_) | Item::Union(_) => Ok(total),
     }
 }
 
-/// How many bytes an item adds to the data, a second one of a name none. Fails only where no host memory is left.
-#[tactic(auto, using(crate::proofs::Statics::nothing_added))]
-fn added_bytes<'p>(
+/// With an item and its strings, a second one of a name left out. Fails only where no host memory is left.
+fn with_first<'p>(
+    total: Total,
     alloc: Global,
     structs: Structs<'_, 'p>,
     index: u32,
     is_new: bool,
     item: &'p Item,
-) -> Result<u64, AllocError>
-    ensures within { IfOk result (λ n. n ≤ 4096) }
-    ensures bytes { (lenient : Bool) (g : rules_tables.Tables) → KnowsStructs structs.entry g → let t = program_item_tree item.entry.now in
-        IfOk result (λ n. Adds n (item_place t) (if_first is_new (item_statics (at_item lenient g index) (item_taken (taken_of structs.entry.taken) t)))) }
+) -> Result<Total, AllocError>
+    ensures { (lenient : Bool) (g : rules_tables.Tables) → KnowsStructs structs.entry g → IfOk result (λ t. Adds total t
+        (if_first is_new (item_statics (at_item lenient g index) (item_taken (taken_of structs.entry.taken) (program_item_tree item.entry.now))))) }
 {
     if is_new {
-        item_bytes(alloc, structs, index, item)
+        with_item(total, alloc, structs, index, item)
     } else {
-        Ok(0)
+        Ok(total)
     }
 }
 
-/// The fault of the globals' sizes. Fails only where no host memory is left.
+/// The fault of the sizes of globals and strings. Fails only where no host memory is left.
 pub(crate) fn sizes_fault<'p>(
     alloc: Global,
     structs: Structs<'_, 'p>,
@@ -87,16 +122,12 @@ pub(crate) fn sizes_fault<'p>(
         ≡ earliest (size_faults lenient g (only_taken (taken_of structs.entry.taken) (program_tree items.entry.now)))) }
 {
     let mut seen = Globals::new(alloc);
-    let mut total: u64 = 0;
+    let mut total = Total::Bytes(0);
     let mut index = 0;
     'each: for item in items {
         let is_new = see(&mut seen, item_name(item).text.as_slice())?;
-        let bytes = added_bytes(alloc, structs, index, is_new, item)?;
-        total += bytes;
-        if total > MOST_BYTES {
-            return Ok(Some(too_large(item.place())));
-        }
+        total = with_first(total, alloc, structs, index, is_new, item)?;
         index = next_index(index)?;
     }
-    Ok(None)
+    Ok(total.fault())
 }

@@ -9,7 +9,7 @@ use written_types::TagNames;
 pub(crate) struct Structs<'g, 'p> {
     /// What names mean where a tag is wanted.
     pub tags: &'g TagNames<'p>,
-    /// Members and bytes, where structs are taken.
+    /// Members and bytes.
     pub tables: &'g Tables<'p>,
     pub taken: Taken,
 }

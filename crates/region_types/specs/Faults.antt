@@ -1,5 +1,4 @@
--- The first fault of a program's names, types, regions and sizes, by the rules of `source_typing`, where functions, globals and locals of
--- integers, of structs and of thin pointers to these are taken.
+-- The first fault of a program's names, types, regions and sizes, by the rules of `source_typing`, where the forms are taken that `supported` names.
 use Rattle.std.specs.Prelude.{◌≡◌, Option}
 use Rattle.cyc_tree.specs.Tree.{Program}
 use Rattle.source_typing.specs.Answers.{type_fault}

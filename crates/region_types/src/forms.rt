@@ -14,5 +14,9 @@ pub fn supported() -> Taken
         structs: true,
         parameters: true,
         regions: true,
+        arrays: false,
+        unions: false,
+        unique: false,
+        keys: false,
     }
 }

@@ -1,9 +1,8 @@
 //! Names, types and regions.
 //!
 //! `typed` finds what breaks a rule of names, types, regions and sizes in a program, and `Typed::fault` answers the earliest such
-//! fault, without the rules on live regions and effects. The rules are those of `source_typing`, where functions, globals and locals of
-//! integers, of structs and of thin pointers to these are taken; of such programs `program_types` finds the fault. Stands on both and
-//! on `cyc_tree`.
+//! fault, without the rules on live regions and effects. The rules are those of `source_typing`, with the forms of the language that
+//! `supported` names; `type_fault` answers the same with any of them. `program_types` finds the fault. Stands on both and on `cyc_tree`.
 #![tactic(auto)]
 
 mod forms;
@@ -11,6 +10,6 @@ mod looking;
 mod program;
 
 pub use forms::supported;
-pub use looking::typed;
+pub use looking::{type_fault, typed};
 pub use program::Typed;
 pub use type_verdicts::{Fault, FaultKind};

@@ -1,17 +1,34 @@
 // Looking at a program.
 
 ghost use Rattle.std.specs.Prelude.{◌≡◌, IfOk};
+ghost use Rattle.source_typing.specs.Answers.{type_fault};
+ghost use Rattle.type_verdicts.specs.Faults.{faults_of};
+ghost use Rattle.type_verdicts.specs.Taken.{taken_of};
 
 use crate::forms::supported;
 use crate::program::Typed;
 use cyc_tree::Program;
 use program_types::program_fault;
 use std::alloc::{AllocError, Global};
+use type_verdicts::{Fault, Taken};
 
-/// Looks at a program's names, types, regions and sizes. Fails only where no host memory is left.
+/// A program's earliest fault of names, types, regions and sizes, without the rules on live regions and effects, where these forms are
+/// taken. Fails only where no host memory is left.
+pub fn type_fault(
+    alloc: Global,
+    taken: Taken,
+    program: &Program,
+) -> Result<Option<Fault>, AllocError>
+    ensures { IfOk result (λ f. faults_of f ≡ type_fault (taken_of taken) program.now) }
+{
+    program_fault(alloc, taken, program, true)
+}
+
+/// Looks at a program's names, types, regions and sizes, where the forms are taken that `supported` names. Fails only where no host
+/// memory is left.
 pub fn typed(alloc: Global, program: &Program) -> Result<Typed, AllocError>
     ensures { IfOk result (λ t. t ≡ program.now) }
 {
-    let fault = program_fault(alloc, supported(), program, true)?;
+    let fault = type_fault(alloc, supported(), program)?;
     Ok(Typed::new(program.clone()?, fault))
 }

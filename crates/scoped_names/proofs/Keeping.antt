@@ -32,6 +32,8 @@ use Rattle.scoped_names.specs.declared.scope.Scope.{Scope}
 -- what a local means
 pub local_means : (w : rules_tables.What) (v : What) → WhatIs w v → Means (Some (OfValue w)) (Some (of_local v))
 local_means w v (means.WhatIs.Variable t r) = means.Means.Variable t r
+local_means w v (means.WhatIs.Array t r) = means.Means.Array t r
+local_means w v means.WhatIs.Counted = means.Means.CounterValue
 local_means w v means.WhatIs.NotKnown = means.Means.UnknownValue
 
 -- the rules' scope with one more local
@@ -46,22 +48,11 @@ is_declared x w g e = ap (λ b. if b then g else and_local x.text w g) e
 pub not_declared : (x : tree.Name) (w : rules_tables.What) (g : Env) → is_second g.locals g.block x.text ≡ true → with_local x w g ≡ g
 not_declared x w g e = ap (λ b. if b then g else and_local x.text w g) e
 
--- a local is no tag, and hides one of its name
-local_no_tag : (v : What) (u : Bool) (n : ℕ) → Some (of_local v) ≡ Some (code.Tag u n) → ⊥
-local_no_tag (local.Variable t r) u n e = absurd cc
-local_no_tag local.NotKnown u n e = absurd cc
-
-no_tag : (b : Bool) (o : Option What) (m : Option Meaning) (u : Bool) (n : ℕ) (v : What) → (local_or o m ≡ Some (code.Tag u n) → ⊥)
-    → local_or (if b then Some v else o) m ≡ Some (code.Tag u n) → ⊥
-no_tag true o m u n v none e = local_no_tag v u n e
-no_tag false o m u n v none e = none e
-
 module _ (s : Scope) (g : Env) (h : Knows s g) where
   with_local_known : (x : List ℕ) (w : rules_tables.What) (v : What) → WhatIs w v → Knows (with_known x v s) (and_local x w g)
   with_local_known x w v is = record {
     names = λ y. by (bytes_eq x y) y;
     tags = h.tags;
-    untaken = λ e y u n. no_tag (bytes_eq x y) (find_what s.locals y) (global_meaning s.globals.now y) u n v (h.untaken e y u n);
     regions = h.regions;
     lenient = h.lenient;
     enclosing = h.enclosing;
@@ -87,7 +78,6 @@ module _ (s : Scope) (g : Env) (h : Knows s g) where
   entered_known = record {
     names = h.names;
     tags = h.tags;
-    untaken = h.untaken;
     regions = block_begins s.regions g.regions h.regions;
     lenient = h.lenient;
     enclosing = h.enclosing;
@@ -99,25 +89,15 @@ module _ (s : Scope) (g : Env) (h : Knows s g) where
   known_there f t l r n e = record {
     names = λ x. subst (λ d. Means d (means_in s x))
         (sym (ap (λ ls. find (with_locals ls f.tables) x) l ∙ ap (λ ts. find (with_locals g.locals ts) x) t)) (h.names x);
-    tags = λ e. subst (HasTags s.tables.now) (sym t) (h.tags e);
-    untaken = h.untaken;
+    tags = subst (HasTags s.tables.now) (sym t) h.tags;
     regions = subst (AreThose s.regions) (sym r) h.regions;
     lenient = h.lenient ∙ sym n;
     enclosing = e ∙ h.enclosing;
   }
 
--- what is known where no `rnew` is around
+-- what is known of structs, unions and regions
 pub sees : {s : Scope} {g : Env} → Knows s g → Sees s g
-sees k = record {
-  outside = record {
-    names = k.names;
-    tags = k.tags;
-    untaken = k.untaken;
-    regions = k.regions;
-    lenient = k.lenient;
-    enclosing = refl;
-  };
-}
+sees k = record { tags = k.tags; regions = k.regions; lenient = k.lenient }
 
 -- ---- which locals are of the innermost block
 

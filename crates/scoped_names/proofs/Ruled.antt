@@ -3,18 +3,18 @@ use Rattle.std.specs.Prelude.{List, Option, ℕ, ◌≡◌}
 use Rattle.std.proofs.Common.{subst, sym}
 use Rattle.source_typing.specs.Scope.{Env, meant}
 use Rattle.scoped_types.specs.Scopes.{AreThose}
-use Rattle.scoped_names.specs.Knows.{Sees, means_in}
+use Rattle.scoped_names.specs.Knows.{Names, Sees, means_in}
 use Rattle.scoped_names.specs.Means.{Means}
 use Rattle.scoped_names.specs.declared.meaning.Meaning.{Meaning}
 use Rattle.scoped_names.specs.declared.scope.Scope.{Scope}
 
 -- what a name means is what it means by the rules
-pub named_by_rules : (s : Scope) (x : List ℕ) (m : Option Meaning) → m ≡ means_in s x → (g : Env) → Sees s g → Means (meant g x) m
-named_by_rules s x m e g k = subst (λ o. Means (meant g x) o) (sym e) (k.outside.names x)
+pub named_by_rules : (s : Scope) (x : List ℕ) (m : Option Meaning) → m ≡ means_in s x → (g : Env) → Names s g → Means (meant g x) m
+named_by_rules s x m e g names = subst (λ o. Means (meant g x) o) (sym e) (names x)
 
 -- regions are the same whatever `rnew` is around
 pub seen_regions : (s : Scope) (g : Env) → Sees s g → AreThose s.regions g.regions
-seen_regions s g k = k.outside.regions
+seen_regions s g k = k.regions
 
 pub seen_lenient : (s : Scope) (g : Env) → Sees s g → s.lenient ≡ g.lenient
-seen_lenient s g k = k.outside.lenient
+seen_lenient s g k = k.lenient

@@ -17,6 +17,8 @@ use Rattle.scoped_names.specs.declared.scope.Scope.{Scope}
 
 abbrev pub of_local : What → Meaning
 of_local (local.Variable t r) = code.Variable t r
+of_local (local.Array t r) = code.Array t r
+of_local local.Counter = code.Counter
 of_local local.NotKnown = code.NotKnown
 
 -- a local hides a function and a global of its name
@@ -27,18 +29,22 @@ local_or (Some w) m = Some (of_local w)
 abbrev pub means_in : Scope → List ℕ → Option Meaning
 means_in s x = local_or (find_what s.locals x) (global_meaning s.globals.now x)
 
+-- Each name means in code what it means by the rules.
+abbrev pub Names : Scope → Env → Type 0
+Names s g = (x : List ℕ) → Means (meant g x) (means_in s x)
+
 -- ---- all of it
 
--- Each name means what it means by the rules, so do structs and unions where they are taken, the regions are the same, and no `rnew` is around.
+-- Structs and unions mean what they mean by the rules, and the regions are the same, whatever names are in scope and whatever `rnew` is around.
+pub record Sees (s : Scope) (g : Env) : Type 0 where
+  pub tags : HasTags s.tables.now g.tables
+  pub regions : AreThose s.regions g.regions
+  pub lenient : s.lenient ≡ g.lenient
+
+-- The same, and so does each name, and no `rnew` is around.
 pub record Knows (s : Scope) (g : Env) : Type 0 where
-  pub names : (x : List ℕ) → Means (meant g x) (means_in s x)
-  pub tags : s.taken.structs ≡ true → HasTags s.tables.now g.tables
-  -- where structs aren't taken, no name means a sound one
-  pub untaken : s.taken.structs ≡ false → (x : List ℕ) (u : Bool) (n : ℕ) → means_in s x ≡ Some (code.Tag u n) → ⊥
+  pub names : Names s g
+  pub tags : HasTags s.tables.now g.tables
   pub regions : AreThose s.regions g.regions
   pub lenient : s.lenient ≡ g.lenient
   pub enclosing : g.enclosing ≡ InRegion TheHeap
-
--- The same but for that: it is what is known where no `rnew` is around.
-pub record Sees (s : Scope) (g : Env) : Type 0 where
-  pub outside : Knows s (record g { enclosing = InRegion TheHeap })

@@ -2,7 +2,7 @@
 use Rattle.std.specs.Prelude.{None, Option, Some, false, map, option_map, true, ℕ, ◌≡◌}
 use Rattle.cyc_types.specs.Regions.{region_of, regions_of}
 use Rattle.cyc_types.specs.Types.{static_type}
-use Rattle.source_typing.specs.Tables.{Entry, OfBuiltin, OfFunction, OfTag, OfValue, Signature, Stored, Tag, Unknown}
+use Rattle.source_typing.specs.Tables.{Arrayed, Counter, Entry, OfBuiltin, OfFunction, OfTag, OfValue, Signature, Stored, Tag, Unknown}
 use Rattle.source_typing.specs.Tables as rules
 use Rattle.scoped_types.specs.Fields.{pair_of}
 use Rattle.scoped_names.specs.declared.locals.What.{What}
@@ -29,6 +29,8 @@ signature_of s = record {
 -- what is borrowed of a meaning, by itself
 abbrev pub meaning_of : Named → Meaning
 meaning_of (named.Variable t r) = code.Variable t.now r
+meaning_of (named.Array t r) = code.Array t.now r
+meaning_of named.Counter = code.Counter
 meaning_of (named.Function s) = code.Function s.now
 meaning_of (named.Builtin n) = code.Builtin n
 meaning_of (named.Tag u n) = code.Tag u n
@@ -39,6 +41,8 @@ meaning_of named.NotKnown = code.NotKnown
 pub data Means : Option Entry → Option Meaning → Type 0 where
   NoName : Means None None
   Variable : (t : CType) (r : RegionId) → Means (Some (OfValue (Stored (static_type t) (region_of r)))) (Some (code.Variable t r))
+  Array : (t : CType) (r : RegionId) → Means (Some (OfValue (Arrayed (static_type t) (region_of r)))) (Some (code.Array t r))
+  CounterValue : Means (Some (OfValue Counter)) (Some code.Counter)
   Function : (s : head.Signature) → Means (Some (OfFunction (signature_of s))) (Some (code.Function s))
   Builtin : (n : ℕ) → Means (Some (OfBuiltin n)) (Some (code.Builtin n))
   UnknownValue : Means (Some (OfValue Unknown)) (Some code.NotKnown)
@@ -49,4 +53,6 @@ pub data Means : Option Entry → Option Meaning → Type 0 where
 -- what the rules know of a local, and what is known of it in code
 pub data WhatIs : rules.What → What → Type 0 where
   Variable : (t : CType) (r : RegionId) → WhatIs (Stored (static_type t) (region_of r)) (local.Variable t r)
+  Array : (t : CType) (r : RegionId) → WhatIs (Arrayed (static_type t) (region_of r)) (local.Array t r)
+  Counted : WhatIs Counter local.Counter
   NotKnown : WhatIs Unknown local.NotKnown

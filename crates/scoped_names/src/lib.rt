@@ -1,4 +1,4 @@
-//! What the names mean that are visible at a point of a program of integers and pointers.
+//! What the names mean that are visible at a point of a program.
 //!
 //! A scope here says of each name what the one of the rules in `source_typing` says.
 #![tactic(auto)]

@@ -13,6 +13,10 @@ use std::marker::Model;
 pub enum What<'p> {
     /// A variable of a type, in a region.
     Variable(CType<'p>, RegionId),
+    /// An array of elements of a type, in a region.
+    Array(CType<'p>, RegionId),
+    /// The index of an array that is made.
+    Counter,
     /// One whose declaration is at fault.
     NotKnown,
 }

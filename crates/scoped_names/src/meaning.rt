@@ -22,6 +22,10 @@ pub struct Signature<'p> {
 pub enum Meaning<'p> {
     /// A variable of a type, in a region.
     Variable(CType<'p>, RegionId),
+    /// An array of elements of a type, in a region.
+    Array(CType<'p>, RegionId),
+    /// The index of an array that is made.
+    Counter,
     /// A function of the program.
     Function(Signature<'p>),
     /// A function that every program has, with so many parameters.

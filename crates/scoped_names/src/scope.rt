@@ -4,7 +4,7 @@ ghost use Rattle.std.specs.Prelude.{◌≡◌, IfOk, option_map};
 ghost use Rattle.cyc_types.specs.Regions.{region_of};
 ghost use Rattle.source_typing.specs.Scope.{Env, is_live, meant, outlives};
 ghost use Rattle.scoped_names.specs.Globals.{global_meaning};
-ghost use Rattle.scoped_names.specs.Knows.{Sees, means_in, of_local};
+ghost use Rattle.scoped_names.specs.Knows.{Names, Sees, means_in, of_local};
 ghost use Rattle.scoped_names.specs.Means.{Means, meaning_of};
 
 use crate::globals::Globals;
@@ -20,6 +20,10 @@ use type_verdicts::Taken;
 pub enum Named<'a, 'p> {
     /// A variable of a type, in a region.
     Variable(&'a CType<'p>, RegionId),
+    /// An array of elements of a type, in a region.
+    Array(&'a CType<'p>, RegionId),
+    /// The index of an array that is made.
+    Counter,
     /// A function of the program.
     Function(&'a Signature<'p>),
     /// A function that every program has, with so many parameters.
@@ -41,7 +45,7 @@ pub enum Named<'a, 'p> {
 #[derive(Drop)]
 pub struct Scope<'g, 'p> {
     pub globals: &'g Globals<'p>,
-    /// The structs and unions of the program, where structs are taken.
+    /// The structs and unions of the program.
     pub tables: &'g Tables<'p>,
     pub taken: Taken,
     pub locals: Locals<'p>,
@@ -55,6 +59,8 @@ fn named_local<'a, 'p>(what: &'a What<'p>) -> Named<'a, 'p>
 {
     match what {
         What::Variable(stored, region) => Named::Variable(stored, *region),
+        What::Array(element, region) => Named::Array(element, *region),
+        What::Counter => Named::Counter,
         What::NotKnown => Named::NotKnown,
     }
 }
@@ -65,6 +71,8 @@ fn named_global<'a, 'p>(meaning: &'a Meaning<'p>) -> Named<'a, 'p>
 {
     match meaning {
         Meaning::Variable(stored, region) => Named::Variable(stored, *region),
+        Meaning::Array(element, region) => Named::Array(element, *region),
+        Meaning::Counter => Named::Counter,
         Meaning::Function(signature) => Named::Function(signature),
         Meaning::Builtin(count) => Named::Builtin(*count),
         Meaning::Tag { is_union, regions } => Named::Tag {
@@ -81,7 +89,7 @@ impl<'g, 'p> Scope<'g, 'p> {
     #[tactic(auto, using(crate::proofs::Ruled::named_by_rules))]
     pub fn meaning(&self, name: &[u8]) -> Option<Named<'_, 'p>>
         ensures is { option_map meaning_of result ≡ means_in self.now name.now }
-        ensures by_the_rules { (g : Env) → Sees self.now g → Means (meant g name.now) (option_map meaning_of result) }
+        ensures by_the_rules { (g : Env) → Names self.now g → Means (meant g name.now) (option_map meaning_of result) }
     {
         match self.locals.find(name) {
             Some(what) => Some(named_local(what)),

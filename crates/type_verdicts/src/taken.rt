@@ -1,7 +1,7 @@
 // Which forms are taken.
 
 ghost use Rattle.std.specs.Prelude.{◌≡◌};
-ghost use Rattle.source_typing.specs.Taken.{thin_pointers};
+ghost use Rattle.source_typing.specs.Taken.{thin_pointers, whole};
 ghost use Rattle.type_verdicts.specs.Taken.{taken_of};
 
 /// Which forms of the language are taken beside integers and thin pointers.
@@ -13,6 +13,14 @@ pub struct Taken {
     pub parameters: bool,
     /// The heap and lexical regions: handles, makings, effects and bounds.
     pub regions: bool,
+    /// Fat pointers, arrays, strings, subscripts.
+    pub arrays: bool,
+    /// Tagged unions.
+    pub unions: bool,
+    /// Unique pointers: `unique_region`, `:=:`, `ufree`, `alias`.
+    pub unique: bool,
+    /// Dynamic regions: keys, `open`, `free_ukey`.
+    pub keys: bool,
 }
 
 impl Taken {
@@ -24,6 +32,25 @@ impl Taken {
             structs: false,
             parameters: false,
             regions: false,
+            arrays: false,
+            unions: false,
+            unique: false,
+            keys: false,
+        }
+    }
+
+    /// The whole language.
+    pub fn whole() -> Taken
+        ensures { taken_of result ≡ whole }
+    {
+        Taken {
+            structs: true,
+            parameters: true,
+            regions: true,
+            arrays: true,
+            unions: true,
+            unique: true,
+            keys: true,
         }
     }
 }

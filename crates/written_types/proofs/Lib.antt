@@ -1,7 +1,8 @@
 pub mod MissingRegions
 pub mod Pointers
+pub mod TakenTypes
 pub mod Parameters
-pub mod Structs
+pub mod TagTypes
 pub mod Naming
 pub mod Places
 pub mod Counting

@@ -1,5 +1,5 @@
 -- A type with its missing regions from another one, pointer by pointer.
-use Rattle.std.proofs.Common.{◌≡◌, ◌<◌, ◌-◌, ◌+◌, ℕ, false, zero, suc, List, [], ◌∷◌, ◌++◌, drop, get_or, length, take, refl, sym, ap, ◌∙◌, arith}
+use Rattle.std.proofs.Common.{◌≡◌, ◌<◌, ◌-◌, ◌+◌, ℕ, Bool, true, false, zero, suc, List, [], ◌∷◌, ◌++◌, drop, get_or, length, take, refl, sym, ap, ◌∙◌, arith}
 use Rattle.std.specs.Prelude.{None, Option, Some, option_map, slice_get}
 use Rattle.std.proofs.lemmas.List.{drop_more, length-take, take-take}
 use Rattle.std.proofs.lemmas.Option.{slice_get-map}
@@ -94,20 +94,27 @@ base_reached (suc n) [] t e = absurd (omega (arith, e))
 base_reached (suc n) (k ∷ ks) t e =
     ap (reached n) (inner_leads k ks t) ∙ base_reached n (take (length ks) (k ∷ ks)) t (omega (arith, e, length-take (length ks) (k ∷ ks)))
 
-no_arguments : (tag : List ℕ) (l : Layer) (t : StaticType) → arguments_of false tag (Some (pointer_to l t)) ≡ []
-no_arguments tag (pointer.Thin n r) t = refl
-no_arguments tag (pointer.Fat r) t = refl
-no_arguments tag (pointer.Unique n) t = refl
+no_arguments : (u : Bool) (tag : List ℕ) (l : Layer) (t : StaticType) → arguments_of u tag (Some (pointer_to l t)) ≡ []
+no_arguments true tag (pointer.Thin n r) t = refl
+no_arguments true tag (pointer.Fat r) t = refl
+no_arguments true tag (pointer.Unique n) t = refl
+no_arguments false tag (pointer.Thin n r) t = refl
+no_arguments false tag (pointer.Fat r) t = refl
+no_arguments false tag (pointer.Unique n) t = refl
 
-pub none_at : (n : ℕ) (ks : List Layer) (b : BaseType) (tag : List ℕ) → (length ks ≡ n → ⊥)
-    → arguments_of false tag (reached n (Some (pointed (base_type b) ks))) ≡ []
-none_at zero [] b tag h = absurd (h refl)
-none_at zero (k ∷ ks) b tag h =
-    ap (λ u. arguments_of false tag (Some u)) (by_outer (k ∷ ks) (base_type b) (last_or k ks) refl) ∙ no_arguments tag (last_or k ks) _
-none_at (suc n) [] b tag h = ap (λ s. arguments_of false tag s) (ap (reached n) (base_leads b) ∙ none_reached n)
-none_at (suc n) (k ∷ ks) b tag h =
-    ap (λ s. arguments_of false tag (reached n s)) (inner_leads k ks (base_type b))
-    ∙ none_at n (take (length ks) (k ∷ ks)) b tag (λ e. h (omega (arith, e, length-take (length ks) (k ∷ ks))))
+pub none_of_none : (u : Bool) (tag : List ℕ) → arguments_of u tag None ≡ []
+none_of_none true tag = refl
+none_of_none false tag = refl
+
+pub none_at : (u : Bool) (n : ℕ) (ks : List Layer) (b : BaseType) (tag : List ℕ) → (length ks ≡ n → ⊥)
+    → arguments_of u tag (reached n (Some (pointed (base_type b) ks))) ≡ []
+none_at u zero [] b tag h = absurd (h refl)
+none_at u zero (k ∷ ks) b tag h =
+    ap (λ t. arguments_of u tag (Some t)) (by_outer (k ∷ ks) (base_type b) (last_or k ks) refl) ∙ no_arguments u tag (last_or k ks) _
+none_at u (suc n) [] b tag h = ap (λ s. arguments_of u tag s) (ap (reached n) (base_leads b) ∙ none_reached n) ∙ none_of_none u tag
+none_at u (suc n) (k ∷ ks) b tag h =
+    ap (λ s. arguments_of u tag (reached n s)) (inner_leads k ks (base_type b))
+    ∙ none_at u n (take (length ks) (k ∷ ks)) b tag (λ e. h (omega (arith, e, length-take (length ks) (k ∷ ks))))
 
 whole_taken : (ls : List Layer) → take (length ls) ls ≡ ls
 whole_taken [] = refl

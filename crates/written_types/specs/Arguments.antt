@@ -1,12 +1,13 @@
--- The region arguments of structs, where they are written or missing.
+-- The region arguments of structs and unions, where they are written or missing.
 use Rattle.std.specs.Prelude.{Bool, List, None, Some, false, length, map, nat_eq, replicate, true, ℕ, [], ◌∷◌, ◌++◌}
 use Rattle.source_typing.specs.Faults.{Fault, fault, region_rule}
 use Rattle.source_typing.specs.Written.{Spot, spot}
 use Rattle.cyc_tree.specs.Tree as tree
 
--- those of a struct's type that are written
+-- those of a struct's or union's type that are written
 abbrev pub written_arguments : tree.Base → List tree.RegionName
 written_arguments (tree.Struct tag rs) = rs
+written_arguments (tree.Union tag rs) = rs
 written_arguments b = []
 
 -- the places of written arguments

@@ -1,8 +1,7 @@
 -- What names mean in code where the tag of a struct or union is wanted.
-use Rattle.std.specs.Prelude.{Bool, List, Option, bytes_eq, is_some, true, unwrap_or, ℕ, ◌≡◌}
+use Rattle.std.specs.Prelude.{Bool, List, Option, bytes_eq, is_some, unwrap_or, ℕ}
 use Rattle.indexmap.specs.IndexMap.{get_by}
 use Rattle.source_typing.specs.Tables.{Tables}
-use Rattle.type_verdicts.specs.declared.taken.Taken as code_taken
 use Rattle.written_types.specs.Tagged.{IsNamed}
 use Rattle.written_types.specs.declared.tag_names.TagNames.{TagNames}
 use Rattle.written_types.specs.declared.tagged.TagName.{TagName}
@@ -19,6 +18,6 @@ has_tag_name s x = is_some (tag_entry s x)
 abbrev pub tag_named : TagNames → List ℕ → TagName
 tag_named s x = unwrap_or (tag_entry s x) code.NoName
 
--- where structs are taken, each name means what it means by the rules where a tag is wanted
-abbrev pub AreTagNames : code_taken.Taken → TagNames → Tables → Type 0
-AreTagNames k names g = k.structs ≡ true → (x : List ℕ) → IsNamed g x (tag_named names x)
+-- each name means what it means by the rules where a tag is wanted
+abbrev pub AreTagNames : TagNames → Tables → Type 0
+AreTagNames names g = (x : List ℕ) → IsNamed g x (tag_named names x)

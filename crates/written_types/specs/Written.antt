@@ -1,7 +1,7 @@
 -- Types as a text writes them in code, as the rules say them.
 use Rattle.std.specs.Prelude.{List, Option, map, option_map, [], ◌∷◌}
 use Rattle.source_typing.specs.Regions.{Region}
-use Rattle.source_typing.specs.Types.{Char, Fat, Handle, Int, PartialType, Struct, Thin, Unique, Unsigned, Void}
+use Rattle.source_typing.specs.Types.{Char, Fat, Handle, Int, Key, PartialType, Struct, Thin, Union, Unique, Unsigned, Void}
 use Rattle.cyc_types.specs.Regions.{region_of}
 use Rattle.cyc_types.specs.declared.region.RegionId.{RegionId}
 use Rattle.written_types.specs.declared.base.WrittenBase.{WrittenBase}
@@ -32,7 +32,9 @@ partial_base base.Unsigned = Unsigned
 partial_base base.Char = Char
 partial_base base.Void = Void
 partial_base (base.Handle r) = Handle (option_map region_of r)
+partial_base (base.Key r) = Key (option_map region_of r)
 partial_base (base.Struct tag rs) = Struct tag.now (partial_regions rs.items)
+partial_base (base.Union tag rs) = Union tag.now (partial_regions rs.items)
 
 abbrev pub partial_type : WrittenType → PartialType
 partial_type w = partial_under (partial_base w.base) w.layers.items

@@ -1,4 +1,4 @@
-// The region arguments of structs as they are read.
+// The region arguments of structs and unions as they are read.
 
 ghost use Rattle.std.specs.Prelude.{◌≡◌, IfOk, false, map, option_map, replicate};
 ghost use Rattle.cyc_tree.specs.View.{base_tree, region_tree};
@@ -18,12 +18,12 @@ use smallvec::SmallVec;
 use std::alloc::{AllocError, Global};
 use type_verdicts::{Fault, FaultKind, sooner};
 
-/// The region arguments of a struct's type that are written. Of another type there are none.
+/// The region arguments of a struct's or union's type that are written. Of another type there are none.
 pub fn written_arguments(base: &Base) -> &[RegionName]
     ensures { map region_tree result.now ≡ written_arguments (base_tree base.now) }
 {
     match base {
-        Base::Struct(_, arguments) => arguments.as_slice(),
+        Base::Struct(_, arguments) | Base::Union(_, arguments) => arguments.as_slice(),
         _ => &[],
     }
 }

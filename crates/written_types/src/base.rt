@@ -1,6 +1,6 @@
 // What types begin with as a text writes them.
 
-ghost use Rattle.std.specs.Prelude.{◌≡◌, ◌+◌, IfOk, Some, false, option_map, slice_get};
+ghost use Rattle.std.specs.Prelude.{◌≡◌, ◌+◌, IfOk, Some, [], bytes_eq, if◌then◌else◌, option_map, slice_get};
 ghost use Rattle.source_typing.specs.Missing.{arguments_of, filled_arguments, filled_from};
 ghost use Rattle.source_typing.specs.Tables.{or_heap};
 ghost use Rattle.cyc_types.specs.Bases.{base_type};
@@ -14,7 +14,7 @@ use cyc_types::{BaseType, CType, RegionArguments, RegionId};
 use smallvec::SmallVec;
 use std::alloc::{AllocError, Global};
 
-/// The region arguments of a struct as a text writes them. None: it is missing.
+/// The region arguments of a struct or union as a text writes them. None: it is missing.
 pub type WrittenArguments = SmallVec<Option<RegionId>, 2>;
 
 /// A type that is no pointer, as a text writes it.
@@ -26,41 +26,54 @@ pub enum WrittenBase<'p> {
     Void,
     /// A region's handle. None: its region is unknown, or the unique one.
     Handle(Option<RegionId>),
+    /// A dynamic region's key. None: as of a handle.
+    Key(Option<RegionId>),
     /// A struct by its tag.
     Struct(&'p [u8], WrittenArguments),
+    /// A union by its tag.
+    Union(&'p [u8], WrittenArguments),
 }
 
 /// Whether a pointer may lead to a base.
 pub(crate) fn can_lead(base: &WrittenBase<'_>) -> bool
     ensures { result ≡ can_lead (partial_base base.now) }
 {
-    !matches!(base, WrittenBase::Void)
+    !matches!(base, WrittenBase::Void | WrittenBase::Key(_))
 }
 
-/// The region arguments of a struct of this tag. Of another type there are none.
-fn arguments_of<'a>(base: &'a BaseType<'_>, tag: &[u8]) -> &'a [RegionId]
-    ensures { regions_of result.now ≡ arguments_of false tag.now (Some (base_type base.now)) }
+/// The region arguments of a struct or union, where it has this tag.
+fn arguments_if<'a>(tag: &[u8], other: &[u8], arguments: &'a [RegionId]) -> &'a [RegionId]
+    ensures { regions_of result.now ≡ (if bytes_eq tag.now other.now then regions_of arguments.now else []) }
 {
-    match base {
-        BaseType::Struct(other, arguments) => {
-            if tag == *other {
-                arguments.as_slice()
-            } else {
-                &[]
-            }
+    if tag == other { arguments } else { &[] }
+}
+
+/// The region arguments of a union, or else a struct, of this tag. Of another type there are none.
+fn arguments_of<'a>(base: &'a BaseType<'_>, union: bool, tag: &[u8]) -> &'a [RegionId]
+    ensures { regions_of result.now ≡ arguments_of union tag.now (Some (base_type base.now)) }
+{
+    match (base, union) {
+        (BaseType::Struct(other, arguments), false) | (BaseType::Union(other, arguments), true) => {
+            arguments_if(tag, *other, arguments.as_slice())
         }
-        _ => &[],
+        (_, _) => &[],
     }
 }
 
-/// The region arguments of the struct of this tag to which a type leads through so many pointers. Of another type there are none.
-fn arguments_at<'a>(source: Option<&'a CType<'_>>, depth: usize, tag: &[u8]) -> &'a [RegionId]
-    ensures { regions_of result.now ≡ arguments_of false tag.now (reached depth (option_map (λ s. static_type s.now) source.entry)) }
+/// The region arguments of the union, or else the struct, of this tag to which a type leads through so many pointers. Of another
+/// type there are none.
+fn arguments_at<'a>(
+    source: Option<&'a CType<'_>>,
+    depth: usize,
+    union: bool,
+    tag: &[u8],
+) -> &'a [RegionId]
+    ensures { regions_of result.now ≡ arguments_of union tag.now (reached depth (option_map (λ s. static_type s.now) source.entry)) }
 {
     match source {
         Some(of) => {
             if of.layers.len() == depth {
-                arguments_of(&of.base, tag)
+                arguments_of(&of.base, union, tag)
             } else {
                 &[]
             }
@@ -124,10 +137,16 @@ impl<'p> WrittenBase<'p> {
             WrittenBase::Char => BaseType::Char,
             WrittenBase::Void => BaseType::Void,
             WrittenBase::Handle(region) => BaseType::Handle(or_heap(*region)),
+            WrittenBase::Key(region) => BaseType::Key(or_heap(*region)),
             WrittenBase::Struct(tag, arguments) => {
-                let others = arguments_at(source, depth, tag);
+                let others = arguments_at(source, depth, false, tag);
                 let filled = filled_arguments(alloc, arguments.as_slice(), others)?;
                 BaseType::Struct(*tag, filled)
+            }
+            WrittenBase::Union(tag, arguments) => {
+                let others = arguments_at(source, depth, true, tag);
+                let filled = filled_arguments(alloc, arguments.as_slice(), others)?;
+                BaseType::Union(*tag, filled)
             }
         })
     }

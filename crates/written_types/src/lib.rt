@@ -1,8 +1,7 @@
 //! Types as a text writes them, and what they are once their missing regions are found.
 //!
-//! What is said of them are the definitions of `source_typing`, on which it stands, where integers and thin pointers are taken,
-//! structs, with or without region parameters, and handles where they may be (`Taken`): a function here answers the verdict that the rules
-//! have.
+//! What is said of them are the definitions of `source_typing`, on which it stands, for each value of `Taken`: a function here answers
+//! the verdict that the rules have of a type that is taken, and of one that isn't.
 #![tactic(auto)]
 
 mod arguments;
@@ -10,6 +9,8 @@ mod base;
 mod handles;
 mod heading;
 mod layer;
+mod layers;
+mod parameter;
 mod reading;
 mod settling;
 mod tag_names;
@@ -22,7 +23,5 @@ pub use heading::settled_alone;
 pub use layer::WrittenLayer;
 pub use settling::{WrittenLayers, WrittenType, settled};
 pub use tag_names::{TagNames, tag_of_type};
-pub use tagged::{
-    TagName, misses_region_in, result_type_in, struct_tag, takes_type_in, written_in,
-};
+pub use tagged::{TagName, misses_region_in, result_type_in, takes_type_in, type_tag, written_in};
 pub use variables::RegionVariables;

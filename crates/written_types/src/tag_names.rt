@@ -8,7 +8,7 @@ ghost use Rattle.written_types.specs.Naming.{AreTagNames, has_tag_name, tag_name
 ghost use Rattle.written_types.specs.Tagged.{TagIs};
 ghost use Rattle.written_types.specs.declared.tagged.TagName.TheVariants.{NoName};
 
-use crate::tagged::{TagName, struct_tag};
+use crate::tagged::{TagName, type_tag};
 use cyc_tree::TypeName;
 use indexmap::IndexMap;
 use std::alloc::{AllocError, Global};
@@ -59,11 +59,11 @@ impl<'p> TagNames<'p> {
     }
 }
 
-/// What the tag means that a type of structs has, where it is taken.
+/// What the tag means that a type of structs or unions has, where it is taken.
 pub fn tag_of_type(taken: Taken, names: &TagNames<'_>, of: &TypeName) -> TagName
-    ensures { (g : Tables) → AreTagNames taken names.now g → TagIs (taken_of taken) g (type_tree of.now) result }
+    ensures { (g : Tables) → AreTagNames names.now g → TagIs (taken_of taken) g (type_tree of.now) result }
 {
-    match struct_tag(taken, of) {
+    match type_tag(taken, of) {
         Some(name) => names.of(&name.text),
         None => TagName::NoName,
     }

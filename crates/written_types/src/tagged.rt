@@ -1,22 +1,20 @@
-// Types of structs and of handles, where they are taken.
+// Types of structs and unions, and all others, where they are taken.
 
-ghost use Rattle.std.specs.Prelude.{◌≡◌, ◌||◌, IfOk, List, is_some, option_map, true};
-ghost use Rattle.cyc_tree.specs.Tree.{Struct};
-ghost use Rattle.cyc_tree.specs.View.{name_tree, type_tree};
+ghost use Rattle.std.specs.Prelude.{◌≡◌, ◌||◌, IfOk, List, is_some, option_map};
+ghost use Rattle.cyc_tree.specs.View.{base_tree, name_tree, type_tree};
 ghost use Rattle.cyc_types.specs.Types.{static_type};
 ghost use Rattle.source_typing.specs.Functions.{result_type};
 ghost use Rattle.source_typing.specs.Tables.{Tables};
-ghost use Rattle.source_typing.specs.Taken.{takes_pointers, takes_type, thin_pointers, type_taken};
-ghost use Rattle.source_typing.specs.Types.{PartialType};
-ghost use Rattle.source_typing.specs.Types as type;
+ghost use Rattle.source_typing.specs.Taken.{takes_type, type_taken};
 ghost use Rattle.source_typing.specs.Written.{Found, any_missing, spots_of, type_built, written, written_on};
 ghost use Rattle.source_typing.specs.Faults as rules;
 ghost use Rattle.type_verdicts.specs.Taken.{taken_of};
 ghost use Rattle.type_verdicts.specs.Verdicts.{short_of, shortened};
 ghost use Rattle.written_types.specs.Arguments.{count_meets, written_arguments};
-ghost use Rattle.written_types.specs.Reading.{led};
-ghost use Rattle.written_types.specs.Tagged.{IsRead, TagIs, if_counted, named_as, regions_named, struct_in, struct_spots, struct_taken};
-ghost use Rattle.written_types.specs.Written.{partial_regions, partial_type};
+ghost use Rattle.written_types.specs.Reading.{led_by};
+ghost use Rattle.written_types.specs.Tagged.{IsRead, TagIs, if_counted, is_union_base, named_as, regions_named, tag_base, tag_taken, tag_type};
+ghost use Rattle.written_types.specs.Tagged.{tagged_in, tagged_spots};
+ghost use Rattle.written_types.specs.Written.{partial_base, partial_regions, partial_type};
 
 use crate::arguments::{
     arguments_fault, count_fits, found_arguments, misses_argument, written_arguments,
@@ -24,7 +22,8 @@ use crate::arguments::{
 use crate::base::{WrittenArguments, WrittenBase};
 use crate::handles::{misses_other, takes_other, written_other};
 use crate::heading::{fitting, settled_alone};
-use crate::reading::{any_misses, built, named_layers, regions_fault, takes_pointers};
+use crate::layers::{any_misses, named_layers, regions_fault, takes_pointers};
+use crate::reading::built;
 use crate::settling::{WrittenLayers, WrittenType};
 use cyc_tree::{Base, Name, TypeName};
 use cyc_types::CType;
@@ -61,11 +60,11 @@ impl TagName {
     }
 }
 
-/// The tag of a type of structs that is taken. None: it is another type, or isn't taken.
-pub fn struct_tag<'p>(taken: Taken, of: &'p TypeName) -> Option<&'p Name>
-    ensures { option_map (λ n. name_tree n.now) result ≡ struct_taken (taken_of taken) (type_tree of.entry.now) }
+/// The tag of a type of structs or unions that is taken. None: it is another type, or isn't taken.
+pub fn type_tag<'p>(taken: Taken, of: &'p TypeName) -> Option<&'p Name>
+    ensures { option_map (λ n. name_tree n.now) result ≡ tag_taken (taken_of taken) (type_tree of.entry.now) }
 {
-    if !takes_pointers(&of.pointers) {
+    if !takes_pointers(taken, &of.pointers) {
         return None;
     }
     match &of.base {
@@ -76,45 +75,67 @@ pub fn struct_tag<'p>(taken: Taken, of: &'p TypeName) -> Option<&'p Name>
                 None
             }
         }
+        Base::Union(tag, arguments) => {
+            if taken.unions && (taken.parameters || arguments.is_empty()) {
+                Some(tag)
+            } else {
+                None
+            }
+        }
         _ => None,
     }
 }
 
-/// The tag of a struct, with its count of region parameters, by what its name means.
-fn named_struct(tag: TagName, at: u32) -> Verdict<u32>
-    ensures { short_of (λ n. n) result ≡ shortened (named_as tag at) }
+/// Whether a base is a union.
+fn is_union(base: &Base) -> bool
+    ensures { result ≡ is_union_base (base_tree base.now) }
+{
+    matches!(base, Base::Union(_, _))
+}
+
+/// The tag of a union, or else a struct, with its count of region parameters, by what its name means.
+fn named_tag(union: bool, tag: TagName, at: u32) -> Verdict<u32>
+    ensures { short_of (λ n. n) result ≡ shortened (named_as union tag at) }
 {
     match tag {
         TagName::NoName => Verdict::Wrong(Fault {
             kind: FaultKind::Name,
             at,
         }),
-        TagName::Tag {
-            is_union: false,
-            regions,
-        } => Verdict::Of(regions),
+        TagName::Tag { is_union, regions } if is_union == union => Verdict::Of(regions),
         TagName::NotJudged(_) => Verdict::NotJudged,
-        TagName::Tag { is_union: true, .. } | TagName::Other => Verdict::Wrong(Fault {
+        TagName::Tag { .. } | TagName::Other => Verdict::Wrong(Fault {
             kind: FaultKind::Typing,
             at,
         }),
     }
 }
 
-/// A type of structs with so many region parameters, by its region arguments and pointers as they were read.
+/// A union, or else a struct, of this tag.
+fn tag_base<'p>(of: &Base, tag: &'p [u8], arguments: WrittenArguments) -> WrittenBase<'p>
+    ensures { partial_base result ≡ tag_type (is_union_base (base_tree of.now)) tag.now (partial_regions arguments.items) }
+{
+    match of {
+        Base::Union(_, _) => WrittenBase::Union(tag, arguments),
+        _ => WrittenBase::Struct(tag, arguments),
+    }
+}
+
+/// A type of structs or unions with so many region parameters, by its region arguments and pointers as they were read.
 fn counted<'p>(
     count: u32,
     of: &'p TypeName,
     name: &'p Name,
     arguments: WrittenArguments,
-    layers: WrittenLayers,
+    layers: Option<WrittenLayers>,
 ) -> Verdict<WrittenType<'p>>
-    ensures { (b : PartialType) → b ≡ type.Struct (name_tree name.entry.now).text (partial_regions arguments.items)
-        → let t = type_tree of.entry.now in short_of partial_type result
-        ≡ shortened (if_counted t.at (count_meets (written_arguments t.base) count) (type_built t.at (led true b layers.items))) }
+    ensures { let t = type_tree of.entry.now in
+        let b = tag_type (is_union_base t.base) (name_tree name.entry.now).text (partial_regions arguments.items) in short_of partial_type result
+        ≡ shortened (if_counted t.at (count_meets (written_arguments t.base) count) (type_built t.at (led_by (option_map (λ ls. ls.items) layers) b))) }
 {
     if count_fits(written_arguments(&of.base), count) {
-        built(of.at, WrittenBase::Struct(&name.text, arguments), layers)
+        let base = tag_base(&of.base, &name.text, arguments);
+        built(of.at, base, layers)
     } else {
         Verdict::Wrong(Fault {
             kind: FaultKind::Region,
@@ -123,20 +144,21 @@ fn counted<'p>(
     }
 }
 
-/// A type of structs, by what its tag means, and by its region arguments, pointers and their earliest fault as they were read.
-pub(crate) fn struct_of<'p>(
+/// A type of structs or unions, by what its tag means, and by its region arguments, pointers and their earliest fault as they were read.
+pub(crate) fn tagged_of<'p>(
     tag: TagName,
     of: &'p TypeName,
     name: &'p Name,
     arguments: WrittenArguments,
-    layers: WrittenLayers,
+    layers: Option<WrittenLayers>,
     fault: Option<Fault>,
 ) -> Verdict<WrittenType<'p>>
     ensures { (y : List Found × List rules.Fault) → let t = type_tree of.entry.now in let x = name_tree name.entry.now in
-        t.base ≡ Struct x (written_arguments t.base) → IsRead t (regions_named tag) y arguments.items layers.items fault
-        → short_of partial_type result ≡ shortened (written_on t y.0 y.1 (named_as tag x.at)) }
+        t.base ≡ tag_base (is_union_base t.base) x (written_arguments t.base)
+        → IsRead t (regions_named tag) y arguments.items (option_map (λ ls. ls.items) layers) fault
+        → short_of partial_type result ≡ shortened (written_on t y.0 y.1 (named_as (is_union_base t.base) tag x.at)) }
 {
-    match named_struct(tag, name.at) {
+    match named_tag(is_union(&of.base), tag, name.at) {
         Verdict::Of(count) => match fault {
             Some(fault) => Verdict::Wrong(fault),
             None => counted(count, of, name, arguments, layers),
@@ -146,8 +168,8 @@ pub(crate) fn struct_of<'p>(
     }
 }
 
-/// A type of structs, by what its tag means.
-fn written_struct<'p>(
+/// A type of structs or unions, by what its tag means.
+fn written_tagged<'p>(
     alloc: Global,
     tag: TagName,
     names: &RegionNames<'_>,
@@ -155,8 +177,8 @@ fn written_struct<'p>(
     name: &'p Name,
 ) -> Result<Verdict<WrittenType<'p>>, AllocError>
     ensures { let t = type_tree of.entry.now in let x = name_tree name.entry.now in
-        t.base ≡ Struct x (written_arguments t.base) → takes_pointers thin_pointers t.pointers ≡ true
-        → IfOk result (λ v. short_of partial_type v ≡ shortened (struct_in names.now t x tag)) }
+        t.base ≡ tag_base (is_union_base t.base) x (written_arguments t.base)
+        → IfOk result (λ v. short_of partial_type v ≡ shortened (tagged_in names.now t x tag)) }
 {
     let written = written_arguments(&of.base);
     let arguments = found_arguments(alloc, names, tag.regions(), written)?;
@@ -165,12 +187,12 @@ fn written_struct<'p>(
         arguments_fault(names, written),
         regions_fault(names, &of.pointers),
     );
-    Ok(struct_of(tag, of, name, arguments, layers, fault))
+    Ok(tagged_of(tag, of, name, arguments, layers, fault))
 }
 
-/// A type as a text writes it, where structs may be taken: the tag of a struct means this. A type that isn't taken is at fault at its
-/// first token; an unknown tag, a tag of another kind and an unknown region name are at fault at the name, of several the earliest;
-/// and a pointer to `void` is at fault at its type. Fails only where no host memory is left.
+/// A type as a text writes it, where the tag of a struct or union means this. A type that isn't taken is at fault at its first token;
+/// an unknown tag, a tag of another kind and an unknown region name are at fault at the name, of several the earliest; and a pointer to
+/// `void` or to a key, and a unique fat pointer, are at fault at its type. Fails only where no host memory is left.
 pub fn written_in<'p>(
     alloc: Global,
     taken: Taken,
@@ -181,9 +203,9 @@ pub fn written_in<'p>(
     ensures { (g : Tables) → TagIs (taken_of taken) g (type_tree of.entry.now) tag → IfOk result (λ v. short_of partial_type v
         ≡ shortened (written g names.now (type_taken (taken_of taken) (type_tree of.entry.now)))) }
 {
-    match struct_tag(taken, of) {
+    match type_tag(taken, of) {
         Some(name) => {
-            let found = written_struct(alloc, tag, names, of, name)?;
+            let found = written_tagged(alloc, tag, names, of, name)?;
             Ok(found)
         }
         None => {
@@ -193,33 +215,33 @@ pub fn written_in<'p>(
     }
 }
 
-/// Whether a type is taken, where structs may be.
+/// Whether a type is taken.
 pub fn takes_type_in(taken: Taken, of: &TypeName) -> bool
     ensures { result ≡ takes_type (taken_of taken) (type_tree of.now) }
 {
-    struct_tag(taken, of).is_some() || takes_other(taken, of)
+    type_tag(taken, of).is_some() || takes_other(taken, of)
 }
 
-/// Whether a region of a type of structs is missing, by what its tag means.
-fn misses_in_struct(tag: TagName, of: &TypeName) -> bool
-    ensures { let t = type_tree of.now in result ≡ any_missing (struct_spots (regions_named tag) t) }
+/// Whether a region of a type of structs or unions is missing, by what its tag means.
+fn misses_in_tagged(tag: TagName, of: &TypeName) -> bool
+    ensures { let t = type_tree of.now in result ≡ any_missing (tagged_spots (regions_named tag) t) }
 {
     misses_argument(written_arguments(&of.base), tag.regions()) || any_misses(&of.pointers)
 }
 
-/// Whether a region of a type is missing, where structs may be taken; that of one that isn't taken is.
+/// Whether a region of a type is missing, where the tag of a struct or union means this; that of one that isn't taken is.
 pub fn misses_region_in(taken: Taken, tag: TagName, of: &TypeName) -> bool
     ensures { (g : Tables) → TagIs (taken_of taken) g (type_tree of.now) tag
         → result ≡ any_missing (spots_of g (type_taken (taken_of taken) (type_tree of.now))) }
 {
-    match struct_tag(taken, of) {
-        Some(_) => misses_in_struct(tag, of),
+    match type_tag(taken, of) {
+        Some(_) => misses_in_tagged(tag, of),
         None => misses_other(taken, of),
     }
 }
 
-/// The type of a result, where structs may be taken: `void`, or a scalar other than a union. Its missing regions are the heap. Fails
-/// only where no host memory is left.
+/// The type of a result: `void`, or a scalar other than a union. Its missing regions are the heap. Fails only where no
+/// host memory is left.
 pub fn result_type_in<'p>(
     alloc: Global,
     taken: Taken,

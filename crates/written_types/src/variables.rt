@@ -1,38 +1,27 @@
 // The region variables of a function's head.
 
 ghost use Rattle.std.specs.Prelude.{◌≡◌, IfOk, None, OnErr, OnOk, Some, [], false, is_none, map, option_map, replicate, suc, true};
-ghost use Rattle.cyc_tree.specs.Tree.{Handle, Named, Struct};
-ghost use Rattle.cyc_tree.specs.View.{name_tree, region_tree, type_tree};
+ghost use Rattle.cyc_tree.specs.Tree.{Named};
+ghost use Rattle.cyc_tree.specs.View.{name_tree, region_tree};
 ghost use Rattle.cyc_types.specs.Regions.{region_of};
-ghost use Rattle.cyc_types.specs.Types.{static_type};
-ghost use Rattle.source_typing.specs.Functions.{parameter_type, take_named, take_spot, take_spots, variables};
+ghost use Rattle.source_typing.specs.Functions.{take_named, take_spot, take_spots, variables};
 ghost use Rattle.source_typing.specs.Regions.{Level};
-ghost use Rattle.source_typing.specs.Tables.{Tables};
-ghost use Rattle.source_typing.specs.Taken.{refused_type, takes_pointers, takes_region, thin_pointers};
 ghost use Rattle.source_typing.specs.Types.{PartialType};
-ghost use Rattle.source_typing.specs.Written.{Is, as_region, find_region, pointers_to, spot, spots_of, type_built};
-ghost use Rattle.type_verdicts.specs.Taken.{taken_of};
-ghost use Rattle.type_verdicts.specs.Verdicts.{short_of, shortened};
-ghost use Rattle.written_types.specs.Arguments.{named_spots, spots_by, written_arguments};
-ghost use Rattle.written_types.specs.Parameters.{as_parameter, parameter_in, refused_at, spotted_in};
-ghost use Rattle.written_types.specs.Reading.{can_lead, led, pointer_spots, pointer_trees, taken_base};
-ghost use Rattle.written_types.specs.Tagged.{IsNamed, TagIs, parameter_by, spotted_by, struct_taken};
-ghost use Rattle.written_types.specs.Written.{partial_base, partial_regions};
+ghost use Rattle.source_typing.specs.Written.{Is, as_region, find_region, pointers_to, spot};
+ghost use Rattle.written_types.specs.Arguments.{named_spots, spots_by};
+ghost use Rattle.written_types.specs.Reading.{is_unique_name, led_by, made, pointer_spots, pointer_trees};
+ghost use Rattle.written_types.specs.Written.{partial_regions, partial_to};
 
-use crate::arguments::{unique_fault, unique_faults, written_arguments};
-use crate::base::{WrittenArguments, WrittenBase};
-use crate::handles::handle_region;
-use crate::heading::{fitting, settled_alone};
-use crate::reading::{built, layer_of, taken_base};
+use crate::base::WrittenArguments;
+use crate::layer::WrittenLayer;
+use crate::layers::{and_layer, is_unique, layer_of, unique_layer};
 use crate::settling::WrittenLayers;
-use crate::tagged::{TagName, struct_of, struct_tag};
-use cyc_tree::{Name, Pointer, RegionName, TypeName};
-use cyc_types::{CType, RegionId};
+use cyc_tree::{Name, Pointer, RegionName};
+use cyc_types::RegionId;
 use scoped_types::RegionNames;
 use smallvec::SmallVec;
 use std::alloc::{AllocError, Global};
 use std::marker::Model;
-use type_verdicts::{Fault, FaultKind, Taken, Verdict};
 
 /// The region variables of a head while its parameters are read: those with names, and how many there are.
 #[derive(Drop)]
@@ -47,20 +36,6 @@ impl<'p> Model for RegionVariables<'p> {
     ghost Value = { Variables };
 
     ghost view = { λ s. variables s.names s.count };
-}
-
-/// The type of a parameter: of these pointers on a base.
-fn parameter_of<'p>(
-    at: u32,
-    base: WrittenBase<'p>,
-    layers: WrittenLayers,
-) -> Result<Verdict<CType<'p>>, AllocError>
-    ensures { let b = partial_base base.entry in IfOk result (λ v. short_of static_type v
-        ≡ shortened (as_parameter at (type_built at (led (can_lead b) b layers.items)))) }
-{
-    let written = built(at, base, layers);
-    let settled = settled_alone(written, at)?;
-    Ok(fitting(settled, at, false))
 }
 
 impl<'p> RegionVariables<'p> {
@@ -122,12 +97,11 @@ impl<'p> RegionVariables<'p> {
         }
     }
 
-    /// The region of a pointer that is taken, a fresh variable for a missing one. Fails only where no host memory is left.
+    /// The region of a pointer that isn't unique, a fresh variable for a missing one. Fails only where no host memory is left.
     fn take(&mut self, region: &'p Option<RegionName>) -> Result<RegionId, AllocError>
-        ensures found { takes_region thin_pointers (option_map region_tree region.entry.now) ≡ true
+        ensures found { is_unique_name (option_map region_tree region.entry.now) ≡ false
             → IfOk result (λ r. (take_spot self.old (option_map region_tree region.entry.now) true).found ≡ Is (region_of r)) }
-        ensures after { takes_region thin_pointers (option_map region_tree region.entry.now) ≡ true
-            → OnOk result (self.new ≡ (take_spot self.old (option_map region_tree region.entry.now) true).after_it) }
+        ensures after { OnOk result (self.new ≡ (take_spot self.old (option_map region_tree region.entry.now) true).after_it) }
     {
         match region {
             Some(RegionName::Named(name)) => self.take_named(name),
@@ -147,73 +121,44 @@ impl<'p> RegionVariables<'p> {
         Ok(region)
     }
 
-    /// The pointers of a type that is taken, with their regions. Fails only where no host memory is left.
-    fn take_layers(
+    /// A pointer with its region. None: it would be fat and unique. Fails only where no host memory is left.
+    fn take_layer(&mut self, pointer: &'p Pointer) -> Result<Option<WrittenLayer>, AllocError>
+        ensures found { (t : PartialType) → IfOk result (λ l. option_map (λ l. partial_to l t) l
+            ≡ made pointer.entry.now.sign (take_spot self.old (option_map region_tree pointer.entry.now.region) true).found t) }
+        ensures after { OnOk result (self.new ≡ (take_spot self.old (option_map region_tree pointer.entry.now.region) true).after_it) }
+    {
+        let region = self.take(&pointer.region)?;
+        if is_unique(&pointer.region) {
+            Ok(unique_layer(pointer.sign))
+        } else {
+            Ok(Some(layer_of(pointer.sign, Some(region))))
+        }
+    }
+
+    /// The pointers of a type with their regions. None: one of them would be fat and unique. Fails only where no host memory is left.
+    pub(crate) fn take_layers(
         &mut self,
         alloc: Global,
         pointers: &'p [Pointer],
-    ) -> Result<WrittenLayers, AllocError>
-        ensures found { (b : PartialType) → takes_pointers thin_pointers (pointer_trees pointers.entry.now) ≡ true
-            → IfOk result (λ ls. pointers_to (pointer_trees pointers.entry.now) (take_spots self.old (pointer_spots pointers.entry.now)).found (Some b)
-            ≡ led (can_lead b) b ls.items) }
-        ensures after { takes_pointers thin_pointers (pointer_trees pointers.entry.now) ≡ true
-            → OnOk result (self.new ≡ (take_spots self.old (pointer_spots pointers.entry.now)).after_all) }
+    ) -> Result<Option<WrittenLayers>, AllocError>
+        ensures found { (b : PartialType) → IfOk result (λ ls.
+            pointers_to (pointer_trees pointers.entry.now) (take_spots self.old (pointer_spots pointers.entry.now)).found (Some b)
+            ≡ led_by (option_map (λ ls. ls.items) ls) b) }
+        ensures after { OnOk result (self.new ≡ (take_spots self.old (pointer_spots pointers.entry.now)).after_all) }
     {
-        let mut layers = SmallVec::new(alloc);
+        let mut layers = Some(SmallVec::new(alloc));
         'each: for pointer in pointers {
-            let region = self.take(&pointer.region)?;
-            layers.push(layer_of(pointer.sign, Some(region)))?;
+            let layer = self.take_layer(pointer)?;
+            layers = and_layer(layers, layer)?;
         }
         Ok(layers)
     }
 
-    /// The type of a parameter that is refused. It is a pointer whose region is missing.
-    fn refused(&mut self, at: u32) -> Result<Verdict<CType<'p>>, AllocError>
-        ensures found { IfOk result (λ v. short_of static_type v ≡ shortened (refused_at at)) }
-        ensures after { OnOk result (self.new ≡ variables self.old.names (suc self.old.count)) }
-    {
-        let _region = self.fresh()?;
-        Ok(Verdict::Wrong(Fault {
-            kind: FaultKind::Typing,
-            at,
-        }))
-    }
-
-    /// The type of a parameter of this base, which is taken.
-    fn on_base(
-        &mut self,
-        alloc: Global,
-        of: &'p TypeName,
-        base: WrittenBase<'p>,
-    ) -> Result<Verdict<CType<'p>>, AllocError>
-        ensures found { (g : Tables) → taken_base (type_tree of.entry.now) ≡ Some (partial_base base.entry)
-            → IfOk result (λ v. short_of static_type v ≡ shortened (parameter_in g self.old (type_tree of.entry.now))) }
-        ensures after { (g : Tables) → taken_base (type_tree of.entry.now) ≡ Some (partial_base base.entry)
-            → OnOk result (self.new ≡ (spotted_in g self.old (type_tree of.entry.now)).after_all) }
-    {
-        let layers = self.take_layers(alloc, &of.pointers)?;
-        let parameter = parameter_of(of.at, base, layers)?;
-        Ok(parameter)
-    }
-
-    /// The type of a parameter: a scalar other than a union. Its missing regions, and the first of each name, are fresh variables. A
-    /// type that isn't taken is at fault at its first token, and has one missing region. Fails only where no host memory is left.
-    fn parameter(
-        &mut self,
-        alloc: Global,
-        of: &'p TypeName,
-    ) -> Result<Verdict<CType<'p>>, AllocError>
-        ensures found { (g : Tables) → IfOk result (λ v. short_of static_type v ≡ shortened (parameter_in g self.old (type_tree of.entry.now))) }
-        ensures after { (g : Tables) → OnOk result (self.new ≡ (spotted_in g self.old (type_tree of.entry.now)).after_all) }
-    {
-        match taken_base(of) {
-            Some(base) => self.on_base(alloc, of, base),
-            None => self.refused(of.at),
-        }
-    }
-
     /// The region of a parameter's argument. None: it is the unique one.
-    fn take_argument(&mut self, argument: &'p RegionName) -> Result<Option<RegionId>, AllocError>
+    pub(crate) fn take_argument(
+        &mut self,
+        argument: &'p RegionName,
+    ) -> Result<Option<RegionId>, AllocError>
         ensures found { IfOk result (λ r. option_map region_of r ≡ as_region (take_spot self.old (Some (region_tree argument.entry.now)) false).found) }
         ensures after { OnOk result (self.new ≡ (take_spot self.old (Some (region_tree argument.entry.now)) false).after_it) }
     {
@@ -227,7 +172,7 @@ impl<'p> RegionVariables<'p> {
         }
     }
 
-    /// The written arguments of a parameter's struct, with their regions. Fails only where no host memory is left.
+    /// The written arguments of a parameter's struct or union, with their regions. Fails only where no host memory is left.
     fn take_named_arguments(
         &mut self,
         alloc: Global,
@@ -260,9 +205,9 @@ impl<'p> RegionVariables<'p> {
         Ok(found)
     }
 
-    /// The arguments of a parameter's struct with their regions, fresh variables for so many where none is written. Fails only where no
-    /// host memory is left.
-    fn take_arguments(
+    /// The arguments of a parameter's struct or union with their regions, fresh variables for so many where none is written. Fails only
+    /// where no host memory is left.
+    pub(crate) fn take_arguments(
         &mut self,
         alloc: Global,
         count: u32,
@@ -279,111 +224,5 @@ impl<'p> RegionVariables<'p> {
             let found = self.take_named_arguments(alloc, arguments)?;
             Ok(found)
         }
-    }
-
-    /// The type of a parameter of pointers to a struct, which is taken, by what its tag means.
-    fn on_struct(
-        &mut self,
-        alloc: Global,
-        tag: TagName,
-        of: &'p TypeName,
-        name: &'p Name,
-    ) -> Result<Verdict<CType<'p>>, AllocError>
-        ensures found { (g : Tables) → let t = type_tree of.entry.now in let x = name_tree name.entry.now in
-            IsNamed g x.text tag → t.base ≡ Struct x (written_arguments t.base) → takes_pointers thin_pointers t.pointers ≡ true
-            → IfOk result (λ v. short_of static_type v ≡ shortened (parameter_type g t (take_spots self.old (spots_of g t)))) }
-        ensures after { (g : Tables) → let t = type_tree of.entry.now in let x = name_tree name.entry.now in
-            IsNamed g x.text tag → t.base ≡ Struct x (written_arguments t.base) → takes_pointers thin_pointers t.pointers ≡ true
-            → OnOk result (self.new ≡ (take_spots self.old (spots_of g t)).after_all) }
-    {
-        let written = written_arguments(&of.base);
-        let arguments = self.take_arguments(alloc, tag.regions(), written)?;
-        let layers = self.take_layers(alloc, &of.pointers)?;
-        let found = struct_of(tag, of, name, arguments, layers, unique_faults(written));
-        let settled = settled_alone(found, of.at)?;
-        Ok(fitting(settled, of.at, false))
-    }
-
-    /// The type of a parameter of pointers to handles of this region, which is taken.
-    fn on_handle(
-        &mut self,
-        alloc: Global,
-        of: &'p TypeName,
-        region: &'p RegionName,
-    ) -> Result<Verdict<CType<'p>>, AllocError>
-        ensures found { (g : Tables) → let t = type_tree of.entry.now in t.base ≡ Handle (region_tree region.entry.now)
-            → takes_pointers thin_pointers t.pointers ≡ true
-            → IfOk result (λ v. short_of static_type v ≡ shortened (parameter_type g t (take_spots self.old (spots_of g t)))) }
-        ensures after { (g : Tables) → let t = type_tree of.entry.now in t.base ≡ Handle (region_tree region.entry.now)
-            → takes_pointers thin_pointers t.pointers ≡ true
-            → OnOk result (self.new ≡ (take_spots self.old (spots_of g t)).after_all) }
-    {
-        let found = self.take_argument(region)?;
-        let layers = self.take_layers(alloc, &of.pointers)?;
-        match unique_fault(region) {
-            Some(fault) => Ok(Verdict::Wrong(fault)),
-            None => {
-                let parameter = parameter_of(of.at, WrittenBase::Handle(found), layers)?;
-                Ok(parameter)
-            }
-        }
-    }
-
-    /// The type of a parameter that is no struct that is taken. Fails only where no host memory is left.
-    fn other_parameter(
-        &mut self,
-        alloc: Global,
-        taken: Taken,
-        of: &'p TypeName,
-    ) -> Result<Verdict<CType<'p>>, AllocError>
-        ensures found { (g : Tables) → struct_taken (taken_of taken) (type_tree of.entry.now) ≡ None → IfOk result (λ v. short_of static_type v
-            ≡ shortened (parameter_by (taken_of taken) g self.old (type_tree of.entry.now))) }
-        ensures after { (g : Tables) → struct_taken (taken_of taken) (type_tree of.entry.now) ≡ None
-            → OnOk result (self.new ≡ (spotted_by (taken_of taken) g self.old (type_tree of.entry.now)).after_all) }
-    {
-        match handle_region(taken, of) {
-            Some(region) => {
-                let parameter = self.on_handle(alloc, of, region)?;
-                Ok(parameter)
-            }
-            None => {
-                let parameter = self.parameter(alloc, of)?;
-                Ok(parameter)
-            }
-        }
-    }
-
-    /// The type of a parameter, where structs may be taken: the tag of a struct means this. Fails only where no host memory is left.
-    pub fn parameter_in(
-        &mut self,
-        alloc: Global,
-        taken: Taken,
-        tag: TagName,
-        of: &'p TypeName,
-    ) -> Result<Verdict<CType<'p>>, AllocError>
-        ensures found { (g : Tables) → TagIs (taken_of taken) g (type_tree of.entry.now) tag → IfOk result (λ v. short_of static_type v
-            ≡ shortened (parameter_by (taken_of taken) g self.old (type_tree of.entry.now))) }
-        ensures after { (g : Tables) → TagIs (taken_of taken) g (type_tree of.entry.now) tag
-            → OnOk result (self.new ≡ (spotted_by (taken_of taken) g self.old (type_tree of.entry.now)).after_all) }
-    {
-        match struct_tag(taken, of) {
-            Some(name) => {
-                let parameter = self.on_struct(alloc, tag, of, name)?;
-                Ok(parameter)
-            }
-            None => {
-                let parameter = self.other_parameter(alloc, taken, of)?;
-                Ok(parameter)
-            }
-        }
-    }
-
-    /// The type of a parameter that stands for a form that isn't taken. Fails only where no host memory is left.
-    pub fn refused_parameter(&mut self, at: u32) -> Result<Verdict<CType<'p>>, AllocError>
-        ensures found { (g : Tables) → IfOk result (λ v. short_of static_type v
-            ≡ shortened (parameter_type g (refused_type at) (take_spots self.old (spots_of g (refused_type at))))) }
-        ensures after { (g : Tables) → OnOk result (self.new ≡ (take_spots self.old (spots_of g (refused_type at))).after_all) }
-    {
-        self.refused(at)
     }
 }

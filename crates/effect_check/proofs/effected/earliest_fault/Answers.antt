@@ -7,5 +7,5 @@ use Rattle.effect_check.proofs.effected.earliest_fault.Goals as goal
 
 pub returns : goal.returns
 returns c =
-    subst (λ (k : Taken). IfOk c.program_fault.result (λ f. faults_of f ≡ effect_fault k c.args.program.now)) c.supported.ensures
-    c.program_fault.ensures
+    subst (λ (k : Taken). IfOk c.effect_fault.result (λ f. faults_of f ≡ effect_fault k c.args.program.now)) c.supported.ensures
+    c.effect_fault.ensures

@@ -21,13 +21,13 @@ returns c g h known is =
     let i = c.args.item in
     let k = taken_of c.args.names.taken in
     let f = function_taken k (function_tree c.args.function.now) in
-    let d : Context = record { result = c.known_type.result; frame = Level c.count.result; item = i; in_loop = false } in
+    let d : Context = record { result = c.known_type.result; frame = Level c.count.result; item = i; in_loop = false; in_switch = false } in
     let ns = c.into_names-known.result in
     let s = c.in_ok-scope.scope in
     let t = c.declare_parameters.new.scope in
     let begun =
     stands head f h is lenient g i s c.in_ok-scope.ensures.alone d ns (c.in_ok-scope.ensures.known g i f h known is)
-    c.into_names-known.ensures c.known_type.ensures (ap Level c.count.ensures) refl refl in
+    c.into_names-known.ensures c.known_type.ensures (ap Level c.count.ensures) refl refl refl in
     let declared =
     c.in_ok-declare_parameters.ensures.stands ns (function_scope lenient g i h) f.parameters
     (ap (λ ps. code_names ps) c.as_slice.ensures.value ∙ is.named) begun in
@@ -40,4 +40,4 @@ returns c g h known is =
     c.deref.ensures.value
     (subst (λ n. IfOk c.items_fault.result (λ found. faults_of found
     ≡ earliest (items_faults (body_scope lenient g i f h) true (items_taken (taken_of n) (items_of (map item_tree c.deref.result.now))))))
-    same_taken (c.items_fault.ensures.fault (body_scope lenient g i f h) true inside))
+    same_taken (c.items_fault.ensures.fault (body_scope lenient g i f h) inside))

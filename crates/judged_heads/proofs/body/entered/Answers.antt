@@ -18,7 +18,7 @@ returns-clause-known c g i f h known is =
       regions = c.begin_block.new.self;
       lenient = c.args.lenient;
     } in
-    begins head f h is c.args.lenient g i s c.new.ensures known.globals known.tags known.untaken refl
+    begins head f h is c.args.lenient g i s c.new.ensures known.globals known.tags refl
     (c.in_ok-begin_block.ensures.by_the_rules (entry_regions h.signature.regions h.signature.effect h.signature.bounds)
     (same_regions head f h is c.count.result (regions_of c.as_slice.result.now) (map pair_of c.as_slice-2.result.now) c.in_ok-regions.regions c.count.ensures
     (ap regions_of c.as_slice.ensures.value) (ap (map pair_of) c.as_slice-2.ensures.value) c.in_ok-regions.ensures))

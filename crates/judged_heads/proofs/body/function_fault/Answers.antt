@@ -17,8 +17,8 @@ returns c g known =
     let k = c.args.names.taken in
     let f = function_taken (taken_of k) (function_tree c.args.function.now) in
     let h = head_of lenient g f in
-    let is = c.in_ok-head.ensures lenient g known.tag_names in
+    let is = c.in_ok-head.ensures g known.tag_names in
     ap faults_of c.sooner.ensures
     ∙ function_found c.in_ok-head.head.fault c.in_ok-body.body c.end_fault-end.result c.first_or.result h.faults
     (items_faults (body_scope lenient g i f h) true f.body) (test (not (end_reached f h)) type_rule f.end)
-    is.fault (c.in_ok-body.ensures g h known is) (c.end_fault-end.ensures k h is) c.first_or.ensures
+    is.fault (c.in_ok-body.ensures g h known is) (c.end_fault-end.ensures h is) c.first_or.ensures

@@ -3,7 +3,7 @@ use Rattle.std.specs.Prelude.{option_map}
 use Rattle.cyc_tree.specs.View.{name_tree, type_tree}
 use Rattle.scoped_names.specs.Means.{Means, meaning_of}
 use Rattle.source_typing.specs.Scope.{in_scope, meant}
-use Rattle.scoped_names.proofs.Keeping.{sees}
+use Rattle.type_verdicts.specs.Taken.{taken_of}
 use Rattle.written_types.proofs.Naming.{tag_means, tag_of_none}
 use Rattle.judged_statements.proofs.LocalTypes.{tag_meant}
 use Rattle.judged_statements.proofs.fitting.local_tag.Goals as goal
@@ -13,9 +13,9 @@ returns-in-Some c g known =
     let x = name_tree c.in-Some.name.now in
     let m = option_map meaning_of c.meaning.result in
     let means : Means (meant g x.text) m =
-    subst (λ (y : List ℕ). Means (meant g y) m) c.deref.ensures.value (c.meaning.ensures.by_the_rules g (sees known)) in
-    tag_means c.args.scope.now.taken (in_scope g) (type_tree c.args.of.now) c.tag_name.result x (sym c.in-Some.ensures)
-    (λ h. record { is = tag_meant (meant g x.text) m means ∙ sym c.tag_name.ensures })
+    subst (λ (y : List ℕ). Means (meant g y) m) c.deref.ensures.value (c.meaning.ensures.by_the_rules g known.names) in
+    tag_means (taken_of c.args.taken) (in_scope g) (type_tree c.args.of.now) c.tag_name.result x (sym c.in-Some.ensures)
+    record { is = tag_meant (meant g x.text) m means ∙ sym c.tag_name.ensures }
 
 pub returns-in-None : goal.returns-in-None
-returns-in-None c g known = tag_of_none c.args.scope.now.taken (in_scope g) (type_tree c.args.of.now) _ (sym c.in-None.ensures)
+returns-in-None c g known = tag_of_none (taken_of c.args.taken) (in_scope g) (type_tree c.args.of.now) _ (sym c.in-None.ensures)

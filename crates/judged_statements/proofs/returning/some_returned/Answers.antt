@@ -6,7 +6,7 @@ use Rattle.source_typing.specs.Faults.{earliest}
 use Rattle.source_typing.specs.Statements.{returned}
 use Rattle.type_verdicts.specs.Faults.{faults_of}
 use Rattle.type_verdicts.specs.Verdicts.{short_of}
-use Rattle.judged_statements.proofs.Declaring.{of_short}
+use Rattle.judged_statements.proofs.Answered.{of_short}
 use Rattle.judged_statements.proofs.returning.some_returned.Goals as goal
 
 pub returns-in-Of-Some : goal.returns-in-Of-Some

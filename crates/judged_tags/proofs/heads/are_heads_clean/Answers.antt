@@ -1,4 +1,4 @@
-use Rattle.std.proofs.Common.{◌+◌, ◌∷◌, ◌∙◌, ap, arith, drop, false, map, sym}
+use Rattle.std.proofs.Common.{◌+◌, ◌∷◌, ◌∙◌, ap, arith, drop, map, sym}
 use Rattle.std.specs.Prelude.{◌&&◌}
 use Rattle.std.proofs.lemmas.List.{drop_all, drop_more}
 use Rattle.cyc_tree.specs.View.{member_tree, type_tree}
@@ -18,10 +18,10 @@ each-preserved c g i bare =
     let all = c.args.members.now in
     let at = c.each.member-index in
     let m = c.member-item.result in
-    ap (λ b. b && is_clean (head_faults e false (members_taken k (map member_tree (drop (at + 1) all))))) c.are_both-clean.ensures
-    ∙ clean_next c.each.clean c.in_ok-own.own (faults_of (head_type e false (type_taken k (type_tree m.of))))
-    (head_faults e false (members_taken k (map member_tree (drop (at + 1) all)))) (c.in_ok-own.ensures g i bare)
-    ∙ sym (ap (λ ms. c.each.clean && is_clean (head_faults e false (members_taken k (map member_tree ms))))
+    ap (λ b. b && is_clean (head_faults e c.args.is_union (members_taken k (map member_tree (drop (at + 1) all))))) c.are_both-clean.ensures
+    ∙ clean_next c.each.clean c.in_ok-own.own (faults_of (head_type e c.args.is_union (type_taken k (type_tree m.of))))
+    (head_faults e c.args.is_union (members_taken k (map member_tree (drop (at + 1) all)))) (c.in_ok-own.ensures g i bare)
+    ∙ sym (ap (λ ms. c.each.clean && is_clean (head_faults e c.args.is_union (members_taken k (map member_tree ms))))
     (drop_more all at m c.each-test.true ∙ ap (λ y. y ∷ drop (at + 1) all) (sym c.member-item.is)))
     ∙ c.each.invariant g i bare
 
@@ -31,6 +31,6 @@ returns c g i bare =
     let e = scoped g i c.args.names.now in
     let all = c.args.members.now in
     sym (and_true c.each.clean)
-    ∙ sym (ap (λ ms. c.each.clean && is_clean (head_faults e false (members_taken k (map member_tree ms))))
+    ∙ sym (ap (λ ms. c.each.clean && is_clean (head_faults e c.args.is_union (members_taken k (map member_tree ms))))
     (drop_all c.each.member-index all (omega (arith, c.each-test.false))))
     ∙ c.each.invariant g i bare

@@ -1,4 +1,4 @@
-use Rattle.std.proofs.Common.{◌≡◌, ℕ, drop, false, map}
+use Rattle.std.proofs.Common.{◌≡◌, ℕ, drop, map}
 use Rattle.std.specs.Prelude.{◌&&◌}
 use Rattle.cyc_tree.specs.View.{member_tree}
 use Rattle.source_typing.specs.Faults.{is_clean}
@@ -13,5 +13,5 @@ use Rattle.judged_tags.proofs.heads.are_heads_clean.Given as goal
 -- those so far and the rest are all of them
 abbrev pub invariant-each : goal.invariant-each
 invariant-each l = (g : Tables) (i : ℕ) → AreBare l.tags g
-    → (l.clean && is_clean (head_faults (scoped g i l.names) false (members_taken (taken_of l.taken) (map member_tree (drop l.member-index l.members)))))
-    ≡ is_clean (head_faults (scoped g i l.names) false (members_taken (taken_of l.taken) (map member_tree l.members)))
+    → (l.clean && is_clean (head_faults (scoped g i l.names) l.is_union (members_taken (taken_of l.taken) (map member_tree (drop l.member-index l.members)))))
+    ≡ is_clean (head_faults (scoped g i l.names) l.is_union (members_taken (taken_of l.taken) (map member_tree l.members)))

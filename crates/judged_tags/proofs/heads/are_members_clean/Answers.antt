@@ -1,4 +1,4 @@
-use Rattle.std.proofs.Common.{[], ap, map, sym, ◌∙◌, false}
+use Rattle.std.proofs.Common.{[], ap, map, sym, ◌∙◌}
 use Rattle.std.specs.Prelude.{◌&&◌}
 use Rattle.cyc_tree.specs.View.{member_tree}
 use Rattle.source_typing.specs.Faults.{earliest, is_clean}
@@ -14,7 +14,7 @@ pub returns : goal.returns
 returns c g i bare =
     let k = taken_of c.args.taken in
     let ms = map member_tree c.args.members.now in
-    let heads = head_faults (scoped g i c.args.names.now) false (members_taken k ms) in
+    let heads = head_faults (scoped g i c.args.names.now) c.args.is_union (members_taken k ms) in
     c.are_both.ensures
     ∙ ap (λ b. b && c.is_none.result) (c.in_ok-clean.ensures g i bare)
     ∙ ap (λ b. is_clean heads && b)

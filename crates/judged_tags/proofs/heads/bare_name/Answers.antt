@@ -9,5 +9,10 @@ use Rattle.judged_tags.proofs.heads.bare_name.Goals as goal
 
 pub returns-in-Struct : goal.returns-in-Struct
 returns-in-Struct c i =
-    subst (λ x. IfOk c.bare_struct.result (λ n. n ≡ tag_name_of (Some (bare_entry i (item_taken (taken_of c.args.taken) (program_item_tree x))))))
-    (sym c.in-Struct.is) (c.bare_struct.ensures i)
+    subst (λ x. IfOk c.bare_structure.result (λ n. n ≡ tag_name_of (Some (bare_entry i (item_taken (taken_of c.args.taken) (program_item_tree x))))))
+    (sym c.in-Struct.is) (c.bare_structure.ensures i)
+
+pub returns-in-Union : goal.returns-in-Union
+returns-in-Union c i =
+    subst (λ x. IfOk c.bare_structure-in-Union.result (λ n. n ≡ tag_name_of (Some (bare_entry i (item_taken (taken_of c.args.taken) (program_item_tree x))))))
+    (sym c.in-Union.is) (c.bare_structure-in-Union.ensures i)

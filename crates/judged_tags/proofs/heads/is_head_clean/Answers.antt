@@ -1,40 +1,41 @@
 use Rattle.std.proofs.Common.{ap, subst, sym, ◌∙◌}
 use Rattle.cyc_tree.specs.View.{type_tree}
 use Rattle.cyc_types.specs.Types.{static_type}
+use Rattle.type_verdicts.specs.Taken.{taken_of}
 use Rattle.type_verdicts.specs.Verdicts.{short_of}
 use Rattle.judged_tags.proofs.HeadTypes.{HeadAs, clean_short, head_as}
 use Rattle.judged_tags.proofs.heads.is_head_clean.Goals as goal
 
 pub returns-in-Of : goal.returns-in-Of
 returns-in-Of c g i bare =
-    let k = c.args.taken in
+    let k = taken_of c.args.taken in
     let t = type_tree c.args.of.now in
-    let found = subst (λ n. HeadAs k g i c.args.names.now t n) (sym c.in_ok-asked.ensures)
-    (head_as k g i c.args.names.now c.args.tags.now t c.tag_of_type-tag.result bare (c.tag_of_type-tag.ensures g (λ h x. bare.0 x)))
+    let found = subst (λ n. HeadAs c.args.is_union k g i c.args.names.now t n) (sym c.in_ok-asked.ensures)
+    (head_as c.args.is_union k g i c.args.names.now c.args.tags.now t c.tag_of_type-tag.result bare (c.tag_of_type-tag.ensures g bare.0))
     in
     c.fits_member.ensures
-    ∙ sym (ap (λ v. clean_short (short_of static_type v)) c.in-Of.is)
-    ∙ ap (λ s. clean_short s) (c.in_ok-of.ensures found.by found.tag)
+    ∙ sym (ap (λ v. clean_short c.args.is_union (short_of static_type v)) c.in-Of.is)
+    ∙ ap (λ s. clean_short c.args.is_union s) (c.in_ok-of.ensures found.by found.tag)
     ∙ sym found.is
 
 pub returns-in-Wrong : goal.returns-in-Wrong
 returns-in-Wrong c g i bare =
-    let k = c.args.taken in
+    let k = taken_of c.args.taken in
     let t = type_tree c.args.of.now in
-    let found = subst (λ n. HeadAs k g i c.args.names.now t n) (sym c.in_ok-asked.ensures)
-    (head_as k g i c.args.names.now c.args.tags.now t c.tag_of_type-tag.result bare (c.tag_of_type-tag.ensures g (λ h x. bare.0 x)))
+    let found = subst (λ n. HeadAs c.args.is_union k g i c.args.names.now t n) (sym c.in_ok-asked.ensures)
+    (head_as c.args.is_union k g i c.args.names.now c.args.tags.now t c.tag_of_type-tag.result bare (c.tag_of_type-tag.ensures g bare.0))
     in
-    sym (ap (λ v. clean_short (short_of static_type v)) c.in-Wrong.is)
-    ∙ ap (λ s. clean_short s) (c.in_ok-of.ensures found.by found.tag)
+    sym (ap (λ v. clean_short c.args.is_union (short_of static_type v)) c.in-Wrong.is)
+    ∙ ap (λ s. clean_short c.args.is_union s) (c.in_ok-of.ensures found.by found.tag)
     ∙ sym found.is
 
 pub returns-in-NotJudged : goal.returns-in-NotJudged
 returns-in-NotJudged c g i bare =
-    let k = c.args.taken in
+    let k = taken_of c.args.taken in
     let t = type_tree c.args.of.now in
-    let found = subst (λ n. HeadAs k g i c.args.names.now t n) (sym c.in_ok-asked.ensures)
-    (head_as k g i c.args.names.now c.args.tags.now t c.tag_of_type-tag.result bare (c.tag_of_type-tag.ensures g (λ h x. bare.0 x)))
+    let found = subst (λ n. HeadAs c.args.is_union k g i c.args.names.now t n) (sym c.in_ok-asked.ensures)
+    (head_as c.args.is_union k g i c.args.names.now c.args.tags.now t c.tag_of_type-tag.result bare (c.tag_of_type-tag.ensures g bare.0))
     in
-    sym (ap (λ v. clean_short (short_of static_type v)) c.in-NotJudged.is)
-    ∙ ap (λ s. clean_short s) (c.in_ok-of.ensures found.by found.tag)
+    sym (ap (λ v. clean_short c.args.is_union (short_of static_type v)) c.in-NotJudged.is)
+    ∙ ap (λ s. clean_short c.args.is_union s) (c.in_ok-of.ensures found.by found.tag)
     ∙ sym found.is

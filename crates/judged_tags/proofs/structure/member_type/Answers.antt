@@ -1,4 +1,4 @@
-use Rattle.std.proofs.Common.{ap, false, sym, ◌∙◌}
+use Rattle.std.proofs.Common.{ap, sym, ◌∙◌}
 use Rattle.cyc_tree.specs.View.{type_tree}
 use Rattle.cyc_types.proofs.WrittenTags.{member_declared}
 use Rattle.cyc_types.specs.Tables.{tables_of}
@@ -11,5 +11,5 @@ use Rattle.judged_tags.proofs.structure.member_type.Goals as goal
 pub returns : goal.returns
 returns c g i stands =
     c.in_ok-found.ensures g (c.known_tag-tag.ensures g stands.names)
-    ∙ ap (λ v. shortened v) (sym (member_declared (scoped g i c.args.names.now) (tables_of c.args.known.tables.now) false
+    ∙ ap (λ v. shortened v) (sym (member_declared (scoped g i c.args.names.now) (tables_of c.args.known.tables.now) c.args.is_union
     (type_taken (taken_of c.args.taken) (type_tree c.args.of.now)) stands.earlier))

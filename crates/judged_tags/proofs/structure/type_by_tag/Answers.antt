@@ -12,15 +12,17 @@ use Rattle.judged_tags.proofs.structure.type_by_tag.Goals as goal
 pub returns-in-Of : goal.returns-in-Of
 returns-in-Of c g is =
     c.fitting_member.ensures
-    ∙ type_fits (taken_of c.args.taken) g c.args.names.now (type_tree c.args.of.now) (has_declared (tables_of c.args.tables.now)) (static_type c.in-Of.member)
+    ∙ type_fits c.args.is_union (taken_of c.args.taken) g c.args.names.now (type_tree c.args.of.now)
+    (has_declared (tables_of c.args.tables.now)) (static_type c.in-Of.member)
     (sym (ap (λ v. short_of static_type v) c.in-Of.is) ∙ c.in_ok-found.ensures g is)
 
 pub returns-in-Wrong : goal.returns-in-Wrong
 returns-in-Wrong c g is =
-    type_by (taken_of c.args.taken) g c.args.names.now (type_tree c.args.of.now) (has_declared (tables_of c.args.tables.now)) (Wrong (fault_of c.in-Wrong.fault))
+    type_by c.args.is_union (taken_of c.args.taken) g c.args.names.now (type_tree c.args.of.now)
+    (has_declared (tables_of c.args.tables.now)) (Wrong (fault_of c.in-Wrong.fault))
     (sym (ap (λ v. short_of static_type v) c.in-Wrong.is) ∙ c.in_ok-found.ensures g is)
 
 pub returns-in-NotJudged : goal.returns-in-NotJudged
 returns-in-NotJudged c g is =
-    type_by (taken_of c.args.taken) g c.args.names.now (type_tree c.args.of.now) (has_declared (tables_of c.args.tables.now)) NotJudged
+    type_by c.args.is_union (taken_of c.args.taken) g c.args.names.now (type_tree c.args.of.now) (has_declared (tables_of c.args.tables.now)) NotJudged
     (sym (ap (λ v. short_of static_type v) c.in-NotJudged.is) ∙ c.in_ok-found.ensures g is)

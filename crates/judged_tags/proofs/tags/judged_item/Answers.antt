@@ -7,8 +7,14 @@ use Rattle.type_verdicts.specs.Taken.{taken_of}
 use Rattle.judged_tags.specs.Tags.{IsFound}
 use Rattle.judged_tags.proofs.tags.judged_item.Goals as goal
 
-pub returns-in_ok-refused-in-Union : goal.returns-in_ok-refused-in-Union
-returns-in_ok-refused-in-Union c g stands =
-    let found = c.in_ok-refused-in-Union.ensures g in
-    subst (λ x. IsFound (judged_tag g c.args.order (item_taken (taken_of c.args.taken) (program_item_tree x))) (Some c.in_ok-refused-in-Union.refused))
+pub returns-in_ok-judged-in-Struct : goal.returns-in_ok-judged-in-Struct
+returns-in_ok-judged-in-Struct c g stands =
+    let found = c.in_ok-judged-in-Struct.ensures g stands in
+    subst (λ x. IsFound (judged_tag g c.args.order (item_taken (taken_of c.args.taken) (program_item_tree x))) (Some c.in_ok-judged-in-Struct.judged))
+    (sym c.in-Struct.is) (sym found.entry, found.fault)
+
+pub returns-in_ok-judged-in-Union : goal.returns-in_ok-judged-in-Union
+returns-in_ok-judged-in-Union c g stands =
+    let found = c.in_ok-judged-in-Union.ensures g stands in
+    subst (λ x. IsFound (judged_tag g c.args.order (item_taken (taken_of c.args.taken) (program_item_tree x))) (Some c.in_ok-judged-in-Union.judged))
     (sym c.in-Union.is) (sym found.entry, found.fault)

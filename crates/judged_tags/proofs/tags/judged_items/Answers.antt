@@ -46,7 +46,8 @@ each-preserved c =
     let rest = program_tree (drop (at + 1) items) in
     let same = c.each.invariant.1 in
     let one : suc at ≡ at + 1 = omega arith in
-    let to : JudgedTo all at (only_taken (taken_of k) (item ∷ rest)) c.each.done = subst (λ r. JudgedTo all at (only_taken (taken_of k) (program_tree r)) c.each.done)
+    let to : JudgedTo all at (only_taken (taken_of k) (item ∷ rest)) c.each.done =
+    subst (λ r. JudgedTo all at (only_taken (taken_of k) (program_tree r)) c.each.done)
     (drop_more items at c.item-item.result c.each-test.true ∙ ap (λ y. y ∷ drop (at + 1) items) (sym c.item-item.is)) c.each.invariant.0 in
     let g = builtins (entries to.js ++ first_from (bare_tags all) at (only_taken (taken_of k) (item ∷ rest))) in
     let stands = subst (λ i. StandsAt c.each.done.names c.args.first.now (tables_of c.each.done.tables) i g) (sym same)

@@ -8,5 +8,6 @@ use Rattle.judged_tags.proofs.tags.judged_items.Given as goal
 -- the items so far are judged
 abbrev pub invariant-each : goal.invariant-each
 invariant-each l =
-    JudgedTo (only_taken (taken_of l.taken) (program_tree l.items)) l.item-index (only_taken (taken_of l.taken) (program_tree (drop l.item-index l.items))) l.done
+    JudgedTo (only_taken (taken_of l.taken) (program_tree l.items)) l.item-index
+    (only_taken (taken_of l.taken) (program_tree (drop l.item-index l.items))) l.done
     × (l.order ≡ l.item-index)

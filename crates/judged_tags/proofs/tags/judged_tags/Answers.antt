@@ -9,6 +9,6 @@ pub judged_items-requires : goal.judged_items-requires
 judged_items-requires c = record { first = c.in_ok-first.ensures c.in_ok-bare.ensures }
 
 pub returns-clause-tables : goal.returns-clause-tables
-returns-clause-tables c structs =
+returns-clause-tables c =
     has_first c.in_ok-done.done.tables (builtins (entries (judged_tags (only_taken (taken_of c.args.taken) (program_tree c.args.items.now)))))
     c.in_ok-done.ensures.are.tables

@@ -1,17 +1,20 @@
 use Rattle.std.proofs.Common.{◌≡◌, Some, ap, refl, subst, sym, ◌∙◌}
-use Rattle.std.specs.Prelude.{IfOk}
-use Rattle.cyc_tree.specs.View.{global_tree}
+use Rattle.std.specs.Prelude.{Bool}
+use Rattle.cyc_tree.specs.View.{global_tree, initial_tree}
 use Rattle.scoped_names.specs.Means.{Means}
 use Rattle.source_meaning.specs.Sizes.{rounded_up}
+use Rattle.source_typing.specs.Declarations.{what_after, what_of}
 use Rattle.source_typing.specs.Faults.{earliest}
-use Rattle.source_typing.specs.Globals.{global_entry, global_faults, global_size, global_type}
+use Rattle.source_typing.specs.Globals.{count_of, global_entry, global_faults, global_size, global_type}
+use Rattle.source_typing.specs.Regions.{TheHeap}
 use Rattle.source_typing.specs.Scope.{at_item}
+use Rattle.source_typing.specs.Tables.{OfValue}
 use Rattle.source_typing.specs.Taken.{takes_initial, takes_type}
 use Rattle.type_verdicts.specs.Faults.{faults_of}
 use Rattle.type_verdicts.specs.Taken.{taken_of}
-use Rattle.program_types.proofs.GlobalTypes.{global_allowed, global_sized}
-use Rattle.program_types.proofs.Globals.{alone, both_taken, global_bytes, is_with_start, refused_bytes, refused_faults, refused_means, with_start}
-use Rattle.program_types.specs.Globals.{global_taken}
+use Rattle.program_types.proofs.GlobalTypes.{global_sized}
+use Rattle.program_types.proofs.Globals.{as_many, both_taken, global_bytes, is_with_start, refused_bytes, refused_faults, refused_means, with_start}
+use Rattle.program_types.specs.Globals.{IsSized, global_taken}
 use Rattle.program_types.proofs.global.judged_global.Goals as goal
 
 pub returns-then-not-is_taken-clause-fault : goal.returns-then-not-is_taken-clause-fault
@@ -39,9 +42,11 @@ returns-clause-fault c lenient g known =
     let e = sym c.is_taken.ensures ∙ c.if-not-is_taken.false in
     let both = both_taken (takes_type (taken_of k) x.of) (takes_initial (taken_of k) x.initial) e in
     let y = with_start k env x in
-    subst (λ z. IfOk c.by_type.result (λ j. faults_of j.fault ≡ earliest (global_faults env z))) (is_with_start k env x e)
-    (c.by_type.ensures.fault k lenient g c.args.item (global_type env y)
-    (c.in_ok-of.ensures lenient g y known refl both.0 (alone k x.of x.initial both.1)))
+    let many : count_of y.initial ≡ c.count_of-count.result = as_many (taken_of k) x.of x.initial ∙ sym c.count_of-count.ensures in
+    let typed = c.in_ok-of.ensures lenient g y known refl both.0 many in
+    ap faults_of c.by_type.ensures.fault
+    ∙ c.in_ok-fault.ensures lenient g c.args.item (global_type env y) typed
+    ∙ ap (λ z. earliest (global_faults env z)) (is_with_start k env x e)
 
 pub returns-clause-meaning : goal.returns-clause-meaning
 returns-clause-meaning c lenient g known =
@@ -51,9 +56,12 @@ returns-clause-meaning c lenient g known =
     let e = sym c.is_taken.ensures ∙ c.if-not-is_taken.false in
     let both = both_taken (takes_type (taken_of k) x.of) (takes_initial (taken_of k) x.initial) e in
     let y = with_start k env x in
-    let one = alone k x.of x.initial both.1 in
-    subst (λ z. IfOk c.by_type.result (λ j. Means (Some (global_entry env z)) (Some j.meaning))) (is_with_start k env x e)
-    (c.by_type.ensures.meaning k lenient g c.args.item (global_type env y) (c.in_ok-of.ensures lenient g y known refl both.0 one) one)
+    let many : count_of y.initial ≡ c.count_of-count.result = as_many (taken_of k) x.of x.initial ∙ sym c.count_of-count.ensures in
+    let typed = c.in_ok-of.ensures lenient g y known refl both.0 many in
+    let v = global_type env y in
+    subst (λ z. Means (Some (global_entry env z)) (Some c.by_type.result.meaning)) (is_with_start k env x e)
+    (subst (λ n. Means (Some (OfValue (what_after (global_faults env y) (what_of TheHeap n v)))) (Some c.by_type.result.meaning)) (sym many)
+    (c.by_type.ensures.meaning (global_faults env y) v typed (c.in_ok-fault.ensures lenient g c.args.item v typed)))
 
 pub returns-clause-bytes : goal.returns-clause-bytes
 returns-clause-bytes c lenient g known =
@@ -63,9 +71,12 @@ returns-clause-bytes c lenient g known =
     let e = sym c.is_taken.ensures ∙ c.if-not-is_taken.false in
     let both = both_taken (takes_type (taken_of k) x.of) (takes_initial (taken_of k) x.initial) e in
     let y = with_start k env x in
-    let one = alone k x.of x.initial both.1 in
-    let typed = c.in_ok-of.ensures lenient g y known refl both.0 one in
-    subst (λ z. IfOk c.by_type.result (λ j. j.bytes ≡ rounded_up (global_size env z) 8)) (is_with_start k env x e)
-    (subst (λ n. IfOk c.by_type.result (λ j. j.bytes ≡ n)) (global_bytes env y one)
-    (c.by_type.ensures.bytes k lenient g c.args.item (global_type env y) typed
-    (c.type_bytes-bytes.ensures.bytes g (global_type env y) known typed (global_allowed k env y both.0) (global_sized env y one))))
+    let count = c.count_of-count.result in
+    let many : count_of y.initial ≡ count = as_many (taken_of k) x.of x.initial ∙ sym c.count_of-count.ensures in
+    let typed = c.in_ok-of.ensures lenient g y known refl both.0 many in
+    let v = global_type env y in
+    let sized : IsSized g count v = subst (λ n. IsSized g n v) many (λ t is. global_sized env y t is) in
+    c.by_type.ensures.bytes (global_faults env y) g v typed (c.in_ok-fault.ensures lenient g c.args.item v typed)
+    (c.type_bytes-bytes.ensures g v known typed sized)
+    ∙ global_bytes env y count many
+    ∙ ap (λ z. rounded_up (global_size env z) 8) (is_with_start k env x e)

@@ -5,6 +5,6 @@ use Rattle.type_verdicts.specs.Taken.{taken_of}
 use Rattle.program_types.proofs.names.function_meaning.Goals as goal
 
 pub returns : goal.returns
-returns c lenient g known =
+returns c g known =
     let f = function_taken (taken_of c.args.structs.taken) (function_tree c.args.function.now) in
-    c.head_meaning.ensures f (head_of lenient g f) (c.in_ok-head.ensures lenient g known.names)
+    c.head_meaning.ensures f (head_of c.args.lenient g f) (c.in_ok-head.ensures g known.names)

@@ -5,4 +5,4 @@ use Rattle.program_types.proofs.names.program_names.Given as goal
 
 -- the names are those of the items so far
 abbrev pub invariant-each : goal.invariant-each
-invariant-each l = Reached l.structs (program_tree l.items) l.index (program_tree (drop l.item-index l.items)) l.names
+invariant-each l = Reached l.structs l.lenient (program_tree l.items) l.index (program_tree (drop l.item-index l.items)) l.names

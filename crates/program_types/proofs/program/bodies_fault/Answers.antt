@@ -11,8 +11,7 @@ returns c known =
     let all = only_taken (taken_of c.args.structs.taken) (program_tree c.args.items.now) in
     let knows = knows_all c.args.structs l all known in
     c.items_fault.ensures (tables_of l all) record {
-      globals = c.in_ok-globals.ensures.names l known;
+      globals = c.in_ok-globals.ensures known;
       tag_names = knows.names;
       tags = knows.tables;
-      untaken = c.in_ok-globals.ensures.untagged;
     }

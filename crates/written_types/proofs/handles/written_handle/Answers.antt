@@ -1,19 +1,20 @@
-use Rattle.std.proofs.Common.{◌≡◌, ◌++◌, ap, false, sym, true, ◌∙◌}
-use Rattle.std.specs.Prelude.{Some, option_map}
+use Rattle.std.proofs.Common.{◌≡◌, ◌++◌, List, ap, false, sym, ◌∙◌}
+use Rattle.std.specs.Prelude.{Option, Some, option_map}
 use Rattle.cyc_tree.specs.View.{region_tree, type_tree}
 use Rattle.cyc_types.specs.Regions.{region_of}
 use Rattle.source_typing.specs.Faults.{earliest}
-use Rattle.source_typing.specs.Taken.{takes_pointers, thin_pointers}
-use Rattle.source_typing.specs.Types.{Handle}
-use Rattle.source_typing.specs.Written.{all_found, found_by, pointers_to}
+use Rattle.source_typing.specs.Written.{all_found, found_by, pointers_to, type_built}
 use Rattle.type_verdicts.specs.Faults.{fault_of, faults_of}
+use Rattle.type_verdicts.specs.Verdicts.{shortened}
 use Rattle.written_types.proofs.HandleTypes.{handle_right, handle_wrong, sooner_listed}
-use Rattle.written_types.specs.Reading.{pointer_spots, pointer_trees}
+use Rattle.written_types.specs.Handles.{is_key_base, region_type}
+use Rattle.written_types.specs.Reading.{led_by, pointer_spots, pointer_trees}
 use Rattle.written_types.specs.Tagged.{pointers_found}
+use Rattle.written_types.specs.declared.layer.WrittenLayer.{WrittenLayer}
 use Rattle.written_types.proofs.handles.written_handle.Goals as goal
 
 pub returns-in-Some : goal.returns-in-Some
-returns-in-Some c g base taken =
+returns-in-Some c g base =
     let names = c.args.names.now in
     let t = type_tree c.args.of.now in
     let r = region_tree c.args.region.now in
@@ -25,7 +26,7 @@ returns-in-Some c g base taken =
     handle_wrong g names t r base (fault_of c.in-Some.fault) (sym bad ∙ ap faults_of c.in-Some.is)
 
 pub returns-in_ok-layers-in-None : goal.returns-in_ok-layers-in-None
-returns-in_ok-layers-in-None c g base taken =
+returns-in_ok-layers-in-None c g base =
     let names = c.args.names.now in
     let t = type_tree c.args.of.now in
     let r = region_tree c.args.region.now in
@@ -34,10 +35,11 @@ returns-in_ok-layers-in-None c g base taken =
     ap faults_of c.sooner.ensures
     ∙ sooner_listed c.argument_fault.result c.regions_fault.result own (pointers_found names t).1 c.argument_fault.ensures
     (c.regions_fault.ensures ∙ ap (λ ps. earliest (all_found names (pointer_spots ps)).1) c.deref.ensures.value) in
-    let all : takes_pointers thin_pointers (pointer_trees c.deref-in-None.result.now) ≡ true =
-    ap (λ ps. takes_pointers thin_pointers (pointer_trees ps)) c.deref-in-None.ensures.value ∙ taken in
     let q = option_map region_of c.argument_in.result in
+    let b = region_type (is_key_base t.base) q in
+    let o : Option (List WrittenLayer) = option_map (λ ls. ls.items) c.in_ok-layers-in-None.layers in
     c.built.ensures
-    ∙ handle_right g names t r base q c.in_ok-layers-in-None.layers.items (sym bad ∙ ap faults_of c.in-None.is) c.argument_in.ensures
-    (sym (ap (λ ps. pointers_to (pointer_trees ps) (all_found names (pointer_spots ps)).0 (Some (Handle q))) c.deref-in-None.ensures.value)
-    ∙ c.in_ok-layers-in-None.ensures (Handle q) all)
+    ∙ ap (λ p. shortened (type_built t.at (led_by o p))) c.region_base-base.ensures
+    ∙ handle_right g names t r base q o (sym bad ∙ ap faults_of c.in-None.is) c.argument_in.ensures
+    (sym (ap (λ ps. pointers_to (pointer_trees ps) (all_found names (pointer_spots ps)).0 (Some b)) c.deref-in-None.ensures.value)
+    ∙ c.in_ok-layers-in-None.ensures b)

@@ -1,8 +1,7 @@
-use Rattle.std.proofs.Common.{◌≡◌, ap, sym, true, ◌∙◌}
-use Rattle.std.specs.Prelude.{None, Option, Some}
+use Rattle.std.proofs.Common.{◌≡◌, ap, sym, ◌∙◌}
+use Rattle.std.specs.Prelude.{None, Option, Some, option_map}
 use Rattle.cyc_tree.specs.View.{type_tree}
 use Rattle.source_typing.specs.Faults.{earliest}
-use Rattle.source_typing.specs.Taken.{takes_pointers, thin_pointers}
 use Rattle.source_typing.specs.Written.{all_found, pointers_to}
 use Rattle.type_verdicts.specs.Faults.{faults_of}
 use Rattle.written_types.specs.Reading.{pointer_spots, pointer_trees}
@@ -12,16 +11,13 @@ use Rattle.source_typing.specs.Faults as rules
 use Rattle.written_types.proofs.reading.pointers_on.Goals as goal
 
 pub returns : goal.returns
-returns c h =
+returns c =
     let names = c.args.names.now in
-    let t = type_tree c.args.of.now in
     let b = partial_base c.args.base in
     let none : Option rules.Fault = None in
     let clean : earliest (all_found names (pointer_spots c.args.of.now.pointers.items)).1 ≡ none =
     sym (c.regions_fault.ensures ∙ ap (λ ps. earliest (all_found names (pointer_spots ps)).1) c.deref.ensures.value) ∙ ap faults_of c.in-None.is in
-    let taken : takes_pointers thin_pointers (pointer_trees c.deref-in-None.result.now) ≡ true =
-    ap (λ ps. takes_pointers thin_pointers (pointer_trees ps)) c.deref-in-None.ensures.value ∙ h in
     c.built.ensures
-    ∙ pointed_right names t b c.in_ok-layers-in-None.layers.items clean
+    ∙ pointed_right names (type_tree c.args.of.now) b (option_map (λ ls. ls.items) c.in_ok-layers-in-None.layers) clean
     (sym (ap (λ ps. pointers_to (pointer_trees ps) (all_found names (pointer_spots ps)).0 (Some b)) c.deref-in-None.ensures.value)
-    ∙ c.in_ok-layers-in-None.ensures b taken)
+    ∙ c.in_ok-layers-in-None.ensures b)

@@ -7,7 +7,7 @@ use Rattle.source_typing.specs.Verdicts.{after}
 use Rattle.source_typing.specs.Written.{written}
 use Rattle.type_verdicts.specs.Taken.{taken_of}
 use Rattle.type_verdicts.specs.Verdicts.{shortened}
-use Rattle.written_types.proofs.Structs.{place_stays}
+use Rattle.written_types.proofs.TakenTypes.{place_stays}
 use Rattle.written_types.proofs.tagged.result_type_in.Goals as goal
 
 pub returns : goal.returns

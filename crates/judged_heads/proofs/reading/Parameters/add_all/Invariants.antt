@@ -10,8 +10,8 @@ use Rattle.judged_heads.proofs.reading.Parameters.add_all.Given as goal
 
 -- those that are read, with the rest, are all of them
 abbrev pub invariant-each : goal.invariant-each
-invariant-each l = (g : Tables) (ms : List tree.Member) → AreTagNames l.fn.taken l.fn.tags g
-    → AreRead l.fn.taken.structs g l.fn.self.variables l.fn.self.items.items ms
-    → (ns : List tree.Member) × AreRead l.fn.taken.structs g l.self.variables l.self.items.items ns
+invariant-each l = (g : Tables) (ms : List tree.Member) → AreTagNames l.fn.tags g
+    → AreRead g l.fn.self.variables l.fn.self.items.items ms
+    → (ns : List tree.Member) × AreRead g l.self.variables l.self.items.items ns
     × (ns ++ members_taken (taken_of l.fn.taken) (map member_tree (drop l.member-index l.members))
     ≡ ms ++ members_taken (taken_of l.fn.taken) (map member_tree l.members))

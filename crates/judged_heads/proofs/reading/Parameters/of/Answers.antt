@@ -9,7 +9,6 @@ use Rattle.judged_heads.proofs.reading.Parameters.of.Goals as goal
 
 pub returns : goal.returns
 returns c g tags =
-    let structs = c.args.taken.structs in
     let k = taken_of c.args.taken in
     let f = c.args.function.now in
     let es = effect_tree f.effect in
@@ -25,10 +24,10 @@ returns c g tags =
     ap (λ o. form_at o c.as_slice-2.result.now) (c.place_unless-bounds.ensures
     ∙ ap (place_unless takes) (c.bound_place.ensures ∙ ap (λ ys. bound_place (map bound_tree ys)) c.deref-2.ensures))
     ∙ ap (λ x. form_at (place_unless takes (bound_place bs)) x) c.as_slice-2.ensures ∙ bounds_formed takes bs in
-    subst (λ ns. AreRead structs g c.add_form-2.new.self.variables c.add_form-2.new.self.items.items ns)
+    subst (λ ns. AreRead g c.add_form-2.new.self.variables c.add_form-2.new.self.items.items ns)
     (append_assoc ms effect bounds
     ∙ ap (λ xs. members_taken k (map member_tree xs) ++ (effect ++ bounds)) c.deref.ensures.value
     ∙ ap (λ xs. members_taken k (map member_tree f.parameters.items) ++ (xs ++ bounds)) effect_is
     ∙ ap (λ xs. members_taken k (map member_tree f.parameters.items) ++ (effect_form takes es ++ xs)) bounds_is)
-    (c.in_ok-add_form-2.ensures structs g (ms ++ effect)
-    (c.in_ok-add_form.ensures structs g ms (c.in_ok-add_all.ensures g [] tags (c.new-parameters.ensures structs g))))
+    (c.in_ok-add_form-2.ensures g (ms ++ effect)
+    (c.in_ok-add_form.ensures g ms (c.in_ok-add_all.ensures g [] tags (c.new-parameters.ensures g))))

@@ -57,6 +57,7 @@ pub const REFUSED_KEYS: &str = "\
 1:77: Name <- int main() { let NewDynamicRegion{<`r> k} = new_ukey(); { int h; region<`r> h = open(k); } return 0; }
 1:1: Type <- void x; int main() { return 0; }
 1:25: Type <- struct S { struct S *p; struct T t; }; struct T { int x; }; int main() { return 0; }
+1:35: Name <- struct S { struct S s; int x; int x; }; int main() { return 0; }
 1:8: Type <- struct main { int x; };
 1:15: Type <- @tagged union main { int x; };
 1:5: Type <- int main(int *`U p) { return 0; }

@@ -59,6 +59,9 @@ pub const REFUSED_UNIONS: &str = "\
 1:26: Type <- @tagged union U { int a; int *`U p; }; int main() { return 0; }
 1:47: Type <- @tagged union V { int a; }; @tagged union U { union V v; }; int main() { return 0; }
 1:40: Type <- struct S { int x; }; @tagged union U { struct S s; }; int main() { return 0; }
+1:18: Type <- struct S { union S *p; }; int main() { return 0; }
+1:26: Type <- @tagged union U { struct U *p; }; int main() { return 0; }
+1:26: Type <- @tagged union U { int a; union U u; }; int main() { return 0; }
 1:23: Type <- @tagged union U<`r> { uregion_key_t<`r> k; }; int main() { return 0; }
 1:12: Type <- struct S { union U u; }; @tagged union U { int a; }; int main() { return 0; }
 1:42: Type <- @tagged union U { int a; }; int main() { union U u; return 0; }

@@ -36,6 +36,7 @@ pub const REFUSED_UNIQUE: &str = "\
 1:19: Region <- int f(int *`r p : `U > `r) { return 0; } int main() { return 0; }
 1:24: Region <- int f(int *`r p : `r > `U) { return 0; } int main() { return 0; }
 1:10: Region <- struct S<`U> { int x; }; int main() { return 0; }
+1:12: Type <- struct S { struct S ?`U p; }; int main() { return 0; }
 1:21: Region <- int main() { region<`U> h; return 0; }
 1:32: Type <- int main() { int *`U p = NULL; p :=: NULL; return 0; }
 1:29: Type <- int main() { int x; char y; x :=: y; return 0; }

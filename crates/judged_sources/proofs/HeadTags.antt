@@ -1,6 +1,9 @@
--- What is first known of a struct: where it has no fault once it is judged, it has none of those that hang on no other tag.
-use Rattle.std.proofs.Common.{◌≡◌, ℕ, Bool, true, false, Option, Some, None, List, [], ◌∷◌, ◌++◌, refl, sym, subst, ap, ◌∙◌}
+-- What is first known of a struct: where it has no fault once it is judged, it has none of those that hang on no tag.
+use Rattle.std.proofs.Common.{◌≡◌, ◌⊎◌, ℕ, zero, suc, Bool, true, false, Option, Some, None, List, [], ◌∷◌, ◌++◌, refl, sym, subst, ap, ◌∙◌, arith, inl, inr}
+use Rattle.std.proofs.lemmas.Bool.Decides.{nat_tests}
+use Rattle.std.proofs.lemmas.List.{length-map}
 use Rattle.std.specs.Prelude.{◌&&◌, bytes_eq, if◌then◌else◌, length, map, replicate}
+use Rattle.std.proofs.lemmas.Bool.{and_parts}
 use Rattle.cyc_tree.specs.Tree as tree
 use Rattle.cyc_tree.specs.Tree.{Pointer, TypeName}
 use Rattle.source_lowering.specs.Taken.{AreThin}
@@ -9,14 +12,13 @@ use Rattle.source_safety.specs.Entries.{IsObjectType}
 use Rattle.source_typing.specs.Faults.{Fault}
 use Rattle.source_typing.specs.Missing.{as_type, filled_from}
 use Rattle.source_typing.specs.Scope.{Env}
-use Rattle.source_typing.specs.Tables.{Entry, OfBuiltin, OfOther, OfTag, Tables, as_tag, find}
-use Rattle.source_typing.specs.Tags.{fits_member, head_built, head_faults, head_fitting, head_type, member_faults, member_fitting, member_type, settled_alone}
+use Rattle.source_typing.specs.Tables.{Entry, Named, OfBuiltin, OfOther, OfTag, Tables, as_tag, find}
+use Rattle.source_typing.specs.Tags.{fits_member, head_faults, head_fitting, head_type, member_faults, member_fitting, member_type, settled_alone}
 use Rattle.source_typing.specs.Taken.{takes_base, takes_pointers, takes_type, with_regions}
-use Rattle.source_typing.specs.Types.{Char, Handle, Int, PartialType, StaticType, Struct, Unsigned, Void, same_bool}
-use Rattle.source_typing.specs.Verdicts.{Faulty, Of, Unjudged, Verdict, after, both, faults_of, if_fits, unless_faulty}
-use Rattle.source_typing.specs.Written.{Found, RegionNamed, Spot, all_found, argument_spots, built, if_sound, of_kind, pointers_to, spot, spots_of, tag_of}
-use Rattle.source_typing.specs.Written.{regions_of_tag, type_built, with_arguments, written_on}
-use Rattle.source_typing.proofs.Converting.{and_is}
+use Rattle.source_typing.specs.Types.{Char, Handle, Int, PartialType, StaticType, Struct, Unsigned, same_bool}
+use Rattle.source_typing.specs.Verdicts.{Faulty, Of, Unjudged, Verdict, after, faults_of, if_fits, unless_faulty}
+use Rattle.source_typing.specs.Written.{Found, RegionNamed, Spot, all_found, argument_spots, count_fits, counted_type, if_sound, of_kind, regions_of_tag}
+use Rattle.source_typing.specs.Written.{spot, spots_of, tag_of, type_built, with_arguments, written_on}
 use Rattle.source_typing.proofs.Inversion.{both_none, none_of_both}
 use Rattle.judged_sources.specs.Good.{NamesBelow}
 use Rattle.judged_sources.proofs.GoodLocals.{FilledIfSome, filled_object}
@@ -57,29 +59,50 @@ found_alike (n ∷ g) (m ∷ h) x k =
 found_alike [] (m ∷ h) x k = absurd k
 found_alike (n ∷ g) [] x k = absurd k
 
-counts_alike : (o d : Option Entry) → MeanAlike o d → regions_of_tag (as_tag o) ≡ regions_of_tag (as_tag d)
-counts_alike None None k = refl
-counts_alike (Some (OfTag t)) (Some (OfTag u)) k = k
-counts_alike (Some (OfBuiltin n)) (Some (OfBuiltin m)) k = refl
-counts_alike (Some OfOther) (Some OfOther) k = refl
-counts_alike None (Some d) k = absurd k
-counts_alike (Some e) None k = absurd k
-counts_alike (Some e) (Some d) k = absurd k
+-- what a name means before a struct is judged: that struct, which isn't judged; or what it means in the end, where each tag is a struct without fault
+abbrev pub IsUnjudged : Option Entry → Type 0
+IsUnjudged (Some (OfTag t)) = (t.sound ≡ false)
+IsUnjudged _ = ⊥
 
--- so the type of a struct has its regions at the same places
-arguments_alike : (g h : Tables) (x : tree.Name) (rs : List tree.RegionName) → TablesAlike g h → argument_spots g x rs ≡ argument_spots h x rs
-arguments_alike g h x [] k = ap (λ n. replicate n (spot false None)) (counts_alike (find g x.text) (find h x.text) (found_alike g h x.text k))
-arguments_alike g h x (r ∷ rs) k = refl
+abbrev pub MeansFirst : Option Entry → Option Entry → Type 0
+MeansFirst o d = IsUnjudged d ⊎ (MeanAlike o d × MeansKnown d)
+
+pub own_first : (g h : Tables) (own : Named) → IsUnjudged (Some own.entry) → TablesAlike g h → KnowsTags h → (x : List ℕ)
+    → MeansFirst (find g x) (find (own ∷ h) x)
+own_first g h own unjudged alike tags x = by (bytes_eq own.name x)
+  where
+    by : (b : Bool) → MeansFirst (find g x) (if b then Some own.entry else find h x)
+    by true = inl unjudged
+    by false = inr (found_alike g h x alike, tags x)
+
+-- ---- regions
+
+-- missing regions have no fault
+missing_fault : (names : List RegionNamed) (m : ℕ) (ss : List Spot) → (all_found names (replicate m (spot false None) ++ ss)).1 ≡ (all_found names ss).1
+missing_fault names zero ss = refl
+missing_fault names (suc m) ss = missing_fault names m ss
+
+-- so the faults of a struct's regions are the same by all tables
+same_fault : (g h : Tables) (names : List RegionNamed) (x : tree.Name) (rs : List tree.RegionName) (ss : List Spot)
+    → (all_found names (argument_spots g x rs ++ ss)).1 ≡ (all_found names (argument_spots h x rs ++ ss)).1
+same_fault g h names x [] ss =
+    missing_fault names (regions_of_tag (as_tag (find g x.text))) ss ∙ sym (missing_fault names (regions_of_tag (as_tag (find h x.text))) ss)
+same_fault g h names x (r ∷ rs) ss = refl
+
+-- a tag asks for the arguments that are there
+asks_fit : (g : Tables) (x : tree.Name) (rs : List tree.RegionName) → count_fits (tree.Struct x rs) (length (argument_spots g x rs)) ≡ true
+asks_fit g x [] = refl
+asks_fit g x (r ∷ rs) = let same : length (r ∷ rs) ≡ length (argument_spots g x (r ∷ rs)) = sym (length-map (r ∷ rs) (λ r. spot false (Some r))) in
+    grind (arith, nat_tests, same)
 
 -- ---- one member
 
 -- where a member's type is in order in the end, it is at the start
-after_head : (v : Verdict PartialType) (at : ℕ) (g : Env) → (v ≡ Unjudged → ⊥)
-    → faults_of (after (after v (settled_alone at)) (member_fitting g false at)) ≡ []
-    → faults_of (after (both {A = ℕ} (Of 0) v (λ n p. settled_alone at p)) (head_fitting false at)) ≡ []
-after_head (Faulty f fs) at g n p = absurd cc
-after_head Unjudged at g n p = absurd (n refl)
-after_head (Of q) at g n p = by (settled_alone at q) p
+after_head : (v : Verdict PartialType) (at : ℕ) (g : Env) → faults_of (after (after v (settled_alone at)) (member_fitting g false at)) ≡ []
+    → faults_of (after (after v (settled_alone at)) (head_fitting false at)) ≡ []
+after_head (Faulty f fs) at g p = absurd cc
+after_head Unjudged at g p = refl
+after_head (Of q) at g p = by (settled_alone at q) p
   where
     fits : (a b : Bool) (u : StaticType) → faults_of (if_fits (a && b) at u) ≡ [] → faults_of (if_fits a at u) ≡ []
     fits true b u e = refl
@@ -89,11 +112,6 @@ after_head (Of q) at g n p = by (settled_alone at q) p
     by (Faulty f fs) p = absurd cc
     by Unjudged p = refl
     by (Of u) p = fits (fits_member false u) _ u p
-
-built_judged : (bad : List Fault) (at : ℕ) (o : Option PartialType) → unless_faulty bad (type_built at o) ≡ Unjudged → ⊥
-built_judged [] at None e = cc
-built_judged [] at (Some p) e = cc
-built_judged (f ∷ fs) at o e = cc
 
 -- a struct, whose tag is one in both
 filled_fits : (at n : ℕ) (p : PartialType) (o : Option StaticType) → FilledIfSome n p o → faults_of (after (as_type at o) (head_fitting false at)) ≡ []
@@ -109,12 +127,11 @@ filled_fits at n p (Some u) h = by u h.object
     by (Struct tag rs) o = refl
     by _ o = absurd o
 
-pointed_fits : (at n c : ℕ) (s : shapes.Shape) (bad : List Fault) (o : Option PartialType) → bad ≡ [] → PointedIfSome n s o
-    → faults_of (after (both {A = ℕ} (Of c) (unless_faulty bad (type_built at o)) (λ n p. settled_alone at p)) (head_fitting false at)) ≡ []
-pointed_fits at n c s bad None e h = absurd h
-pointed_fits at n c s bad (Some p) e h =
-    subst (λ fs. faults_of (after (both {A = ℕ} (Of c) (unless_faulty fs (type_built at (Some p))) (λ n p. settled_alone at p)) (head_fitting false at)) ≡ [])
-    (sym e)
+pointed_fits : (at n : ℕ) (s : shapes.Shape) (bad : List Fault) (o : Option PartialType) → bad ≡ [] → PointedIfSome n s o
+    → faults_of (after (after (unless_faulty bad (type_built at o)) (settled_alone at)) (head_fitting false at)) ≡ []
+pointed_fits at n s bad None e h = absurd h
+pointed_fits at n s bad (Some p) e h =
+    subst (λ fs. faults_of (after (after (unless_faulty fs (type_built at (Some p))) (settled_alone at)) (head_fitting false at)) ≡ []) (sym e)
     (filled_fits at n p (filled_from p None) (filled_object n p None h.object tt))
 
 -- regions that are at fault are so in the end
@@ -125,90 +142,92 @@ no_bad g t fs (f ∷ bad) (Faulty c others) p = absurd cc
 no_bad g t fs (f ∷ bad) Unjudged p = absurd cc
 no_bad g t fs (f ∷ bad) (Of n) p = absurd cc
 
-module _ (n : ℕ) (g h : Env) (tags : KnowsTags h.tables) (names : g.names ≡ h.names) (below : NamesBelow n h.names) (alike : TablesAlike g.tables h.tables)
+module _ (n : ℕ) (g h : Env) (tags : (x : List ℕ) → MeansFirst (find g.tables x) (find h.tables x)) (names : g.names ≡ h.names)
+    (below : NamesBelow n h.names)
   where
     pub head_clean : (t : TypeName) → takes_type with_regions t ≡ true → faults_of (member_type g false t) ≡ [] → faults_of (head_type h false t) ≡ []
     head_clean t e p =
-        let a = and_is (takes_base with_regions t.base) (takes_pointers with_regions t.pointers) e in
+        let a = and_parts (takes_base with_regions t.base) (takes_pointers with_regions t.pointers) e in
         by t.base a.0 (thin_pointers_are with_regions refl refl t.pointers a.1) p
       where
         with_base : tree.Base → TypeName
         with_base b = record { at = t.at; base = b; pointers = t.pointers }
 
-        -- what is found for the pointers' regions
-        regions : List Found × List Fault
-        regions = all_found h.names (map (λ (p : Pointer). spot true p.region) t.pointers)
+        -- the rest of a member's judgement at the start, once its tag was looked up
+        head_after : tree.Base → List Found × List Fault → Verdict ℕ → Verdict StaticType
+        head_after b x v = after (after (written_on (with_base b) x.0 x.1 v) (settled_alone t.at)) (head_fitting false t.at)
 
-        word : (p : PartialType) → faults_of (after (after (unless_faulty (all_found g.names (map (λ (p : Pointer). spot true p.region) t.pointers)).1
-            (type_built t.at (pointers_to t.pointers (all_found g.names (map (λ (p : Pointer). spot true p.region) t.pointers)).0 (Some p))))
-            (settled_alone t.at)) (member_fitting g false t.at)) ≡ []
-            → faults_of (after (both {A = ℕ} (Of 0) (unless_faulty regions.1 (type_built t.at (pointers_to t.pointers regions.0 (Some p))))
-            (λ n p. settled_alone t.at p)) (head_fitting false t.at)) ≡ []
-        word p q =
-            after_head (unless_faulty regions.1 (type_built t.at (pointers_to t.pointers regions.0 (Some p)))) t.at g
-            (built_judged regions.1 t.at (pointers_to t.pointers regions.0 (Some p)))
-            (subst (λ ns. faults_of (after (after (unless_faulty (all_found ns (map (λ (p : Pointer). spot true p.region) t.pointers)).1
-            (type_built t.at (pointers_to t.pointers (all_found ns (map (λ (p : Pointer). spot true p.region) t.pointers)).0 (Some p)))) (settled_alone t.at))
-            (member_fitting g false t.at)) ≡ []) names q)
+        -- and in the end
+        member_after : tree.Base → List Found × List Fault → Verdict ℕ → Verdict StaticType
+        member_after b x v = after (after (written_on (with_base b) x.0 x.1 v) (settled_alone t.at)) (member_fitting g false t.at)
 
-        -- a handle, whose region is looked up before those of its pointers
-        handle : (r : tree.RegionName) → faults_of (member_type g false (with_base (tree.Handle r))) ≡ []
-            → faults_of (head_type h false (with_base (tree.Handle r))) ≡ []
-        handle r q =
-            let spots : List Spot = spot false (Some r) ∷ map (λ (p : Pointer). spot true p.region) t.pointers in
-            let all : List Found × List Fault = all_found h.names spots in
-            let b : Option PartialType = built (tree.Handle r) 0 t.pointers all.0 in
-            after_head (unless_faulty all.1 (type_built t.at b)) t.at g (built_judged all.1 t.at b)
-            (subst (λ ns. faults_of (after (after (unless_faulty (all_found ns spots).1
-            (type_built t.at (built (tree.Handle r) 0 t.pointers (all_found ns spots).0))) (settled_alone t.at)) (member_fitting g false t.at)) ≡ [])
-            names q)
+        -- what is found for all regions of a type
+        found : Tables → List RegionNamed → tree.Base → List Found × List Fault
+        found g names b = all_found names (spots_of g (with_base b))
 
-        -- what is found for all regions of a struct's type
-        found : Tables → List RegionNamed → tree.Name → List tree.RegionName → List Found × List Fault
-        found g names x rs = all_found names (spots_of g (with_base (tree.Struct x rs)))
+        -- a type that names no tag
+        plain : (b : tree.Base) → spots_of g.tables (with_base b) ≡ spots_of h.tables (with_base b)
+            → faults_of (member_after b (found g.tables g.names b) (Of 0)) ≡ [] → faults_of (head_after b (found h.tables h.names b) (Of 0)) ≡ []
+        plain b same p =
+            let x : List Found × List Fault = found h.tables h.names b in
+            after_head (written_on (with_base b) x.0 x.1 (Of 0)) t.at g
+            (subst (λ ss. faults_of (member_after b (all_found h.names ss) (Of 0)) ≡ []) same
+            (subst (λ ns. faults_of (member_after b (all_found ns (spots_of g.tables (with_base b))) (Of 0)) ≡ []) names p))
 
-        struct : (x : tree.Name) (rs : List tree.RegionName) (o d : Option Entry) → AreThin t.pointers → MeanAlike o d → MeansKnown d
-            → faults_of (after (after (written_on (with_base (tree.Struct x rs)) (found g.tables g.names x rs).0 (found g.tables g.names x rs).1
-            (tag_of o false x.at)) (settled_alone t.at)) (member_fitting g false t.at)) ≡ []
-            → faults_of (after (both (tag_of d false x.at) (head_built h.tables (with_base (tree.Struct x rs)) (found h.tables h.names x rs))
-            (λ n p. settled_alone t.at p)) (head_fitting false t.at)) ≡ []
-        struct x rs None None k al kn p = absurd cc
-        struct x rs (Some (OfBuiltin n)) (Some (OfBuiltin m)) k al kn p = absurd cc
-        struct x rs (Some OfOther) (Some OfOther) k al kn p = absurd cc
-        struct x rs (Some (OfTag u)) (Some (OfTag z)) k al kn p =
-            let spots : spots_of g.tables (with_base (tree.Struct x rs)) ≡ spots_of h.tables (with_base (tree.Struct x rs)) =
-            ap (λ (ss : List Spot). ss ++ map (λ (p : Pointer). spot true p.region) t.pointers) (arguments_alike g.tables h.tables x rs alike) in
-            let bad : (found h.tables h.names x rs).1 ≡ [] =
-            ap (λ (ss : List Spot). (all_found h.names ss).1) (sym spots)
-            ∙ (ap (λ (ns : List RegionNamed). (found g.tables ns x rs).1) (sym names)
-            ∙ no_bad g (with_base (tree.Struct x rs)) (found g.tables g.names x rs).0 (found g.tables g.names x rs).1 (tag_of (Some (OfTag u)) false x.at) p) in
+        -- a struct's, by what its tag means at the start
+        tagged : tree.Name → List tree.RegionName → Verdict ℕ → Verdict StaticType
+        tagged x rs v =
+            head_after (tree.Struct x rs) (found h.tables h.names (tree.Struct x rs)) (after v (λ n. Of (length (argument_spots h.tables x rs))))
+
+        pointed : (x : tree.Name) (rs : List tree.RegionName) (m : ℕ) → AreThin t.pointers → (found h.tables h.names (tree.Struct x rs)).1 ≡ []
+            → faults_of (tagged x rs (Of m)) ≡ []
+        pointed x rs m k bad =
             let c : ℕ = length (argument_spots h.tables x rs) in
-            let built : faults_of (after (both {A = ℕ} (Of z.regions) (head_built h.tables (with_base (tree.Struct x rs)) (found h.tables h.names x rs))
-            (λ n p. settled_alone t.at p)) (head_fitting false t.at)) ≡ [] =
-            pointed_fits t.at n z.regions (shapes.pointed t.pointers (shapes.StructShape x.text)) (found h.tables h.names x rs).1
-            (with_arguments c (Struct x.text) [] t.pointers (found h.tables h.names x rs).0) bad
-            (struct_pointed n c x.text [] t.pointers (found h.tables h.names x rs).0 k tt
-            (spots_found n h.names (argument_spots h.tables x rs) t.pointers below (base_arguments h.tables (tree.Struct x rs)) k)) in
-            subst (λ b. faults_of (after (both (if_sound b (of_kind (same_bool z.is_union false) z x.at))
-            (head_built h.tables (with_base (tree.Struct x rs)) (found h.tables h.names x rs)) (λ n p. settled_alone t.at p)) (head_fitting false t.at)) ≡ [])
-            (sym kn.0)
-            (subst (λ b. faults_of (after (both (of_kind (same_bool b false) z x.at)
-            (head_built h.tables (with_base (tree.Struct x rs)) (found h.tables h.names x rs)) (λ n p. settled_alone t.at p)) (head_fitting false t.at)) ≡ [])
-            (sym kn.1) built)
-        struct x rs None (Some d) k al kn p = absurd al
-        struct x rs (Some o) None k al kn p = absurd al
-        struct x rs (Some o) (Some d) k al kn p = absurd al
+            let f : List Found × List Fault = found h.tables h.names (tree.Struct x rs) in
+            subst (λ b. faults_of (after (after (unless_faulty f.1 (counted_type (with_base (tree.Struct x rs)) f.0 c b)) (settled_alone t.at))
+            (head_fitting false t.at)) ≡ []) (sym (asks_fit h.tables x rs))
+            (pointed_fits t.at n (shapes.pointed t.pointers (shapes.StructShape x.text)) f.1 (with_arguments c (Struct x.text) [] t.pointers f.0) bad
+            (struct_pointed n c x.text [] t.pointers f.0 k tt
+            (spots_found n h.names (argument_spots h.tables x rs) t.pointers below (base_arguments h.tables (tree.Struct x rs)) k)))
+
+        unjudged : (x : tree.Name) (rs : List tree.RegionName) (d : Option Entry) → (found h.tables h.names (tree.Struct x rs)).1 ≡ [] → IsUnjudged d
+            → faults_of (tagged x rs (tag_of d false x.at)) ≡ []
+        unjudged x rs (Some (OfTag z)) bad u =
+            subst (λ b. faults_of (tagged x rs (if_sound b (of_kind (same_bool z.is_union false) z x.at))) ≡ []) (sym u)
+            (subst (λ fs. faults_of (after (after (unless_faulty fs (let v : Verdict PartialType = Unjudged in v)) (settled_alone t.at))
+            (head_fitting false t.at)) ≡ []) (sym bad) refl)
+        unjudged x rs _ bad u = absurd u
+
+        struct : (x : tree.Name) (rs : List tree.RegionName) (o d : Option Entry) → AreThin t.pointers → MeansFirst o d
+            → (found h.tables h.names (tree.Struct x rs)).1 ≡ []
+            → faults_of (member_after (tree.Struct x rs) (found g.tables g.names (tree.Struct x rs)) (tag_of o false x.at)) ≡ []
+            → faults_of (tagged x rs (tag_of d false x.at)) ≡ []
+        struct x rs o d k (inl u) bad p = unjudged x rs d bad u
+        struct x rs None None k (inr m) bad p = absurd cc
+        struct x rs (Some (OfBuiltin a)) (Some (OfBuiltin b)) k (inr m) bad p = absurd cc
+        struct x rs (Some OfOther) (Some OfOther) k (inr m) bad p = absurd cc
+        struct x rs (Some (OfTag y)) (Some (OfTag z)) k (inr m) bad p =
+            subst (λ b. faults_of (tagged x rs (if_sound b (of_kind (same_bool z.is_union false) z x.at))) ≡ []) (sym m.1.0)
+            (subst (λ b. faults_of (tagged x rs (of_kind (same_bool b false) z x.at)) ≡ []) (sym m.1.1) (pointed x rs z.regions k bad))
+        struct x rs None (Some d) k (inr m) bad p = absurd m.0
+        struct x rs (Some o) None k (inr m) bad p = absurd m.0
+        struct x rs (Some o) (Some d) k (inr m) bad p = absurd m.0
 
         by : (b : tree.Base) → takes_base with_regions b ≡ true → AreThin t.pointers → faults_of (member_type g false (with_base b)) ≡ []
             → faults_of (head_type h false (with_base b)) ≡ []
-        by tree.Int q k p = word Int p
-        by tree.Unsigned q k p = word Unsigned p
-        by tree.Char q k p = word Char p
-        by tree.Void q k p = word Void p
+        by tree.Int q k p = plain tree.Int refl p
+        by tree.Unsigned q k p = plain tree.Unsigned refl p
+        by tree.Char q k p = plain tree.Char refl p
+        by tree.Void q k p = plain tree.Void refl p
         by (tree.Struct x rs) q k p =
-            struct x rs (find g.tables x.text) (find h.tables x.text) k (found_alike g.tables h.tables x.text alike) (tags x.text) p
+            let bad : (found h.tables h.names (tree.Struct x rs)).1 ≡ [] =
+            same_fault h.tables g.tables h.names x rs (map (λ (p : Pointer). spot true p.region) t.pointers)
+            ∙ (ap (λ (ns : List RegionNamed). (found g.tables ns (tree.Struct x rs)).1) (sym names)
+            ∙ no_bad g (with_base (tree.Struct x rs)) (found g.tables g.names (tree.Struct x rs)).0 (found g.tables g.names (tree.Struct x rs)).1
+            (tag_of (find g.tables x.text) false x.at) p) in
+            struct x rs (find g.tables x.text) (find h.tables x.text) k (tags x.text) bad p
         by (tree.Union x rs) q k p = absurd cc
-        by (tree.Handle r) q k p = handle r p
+        by (tree.Handle r) q k p = plain (tree.Handle r) refl p
         by (tree.Key r) q k p = absurd cc
 
     pub heads_clean : (ms : List tree.Member) → AreMembersTaken with_regions ms → member_faults g false ms ≡ [] → head_faults h false ms ≡ []

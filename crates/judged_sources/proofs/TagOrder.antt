@@ -8,9 +8,10 @@ use Rattle.source_safety.specs.Named.{Below}
 use Rattle.source_typing.specs.Faults.{Fault, is_clean}
 use Rattle.source_typing.specs.Programs.{Judged, all_tag_faults, bare_from, builtins, entries, first_entry, first_from, judged_tag, name_of, named}
 use Rattle.source_typing.specs.Regions.{Level, Region, TheHeap}
+use Rattle.source_typing.specs.Scope.{Env}
 use Rattle.source_typing.specs.Tables.{Entry, Named, OfBuiltin, OfFunction, OfOther, OfTag, OfValue, Tables}
-use Rattle.source_typing.specs.Tags.{head_faults, member_faults, parameter_added, parameters_from, region_parameters, repeated, struct_sized, tag_faults}
-use Rattle.source_typing.specs.Tags.{tag_parts, tag_scope}
+use Rattle.source_typing.specs.Tags.{bare_tag, head_faults, head_scope, member_faults, parameter_added, parameters_from, region_parameters, repeated}
+use Rattle.source_typing.specs.Tags.{struct_sized, tag_faults, tag_parts, tag_scope}
 use Rattle.source_typing.specs.Taken.{Taken, are_members, item_taken, members_taken, only_taken, refused_member, refused_structure, structure_if}
 use Rattle.source_typing.specs.Taken.{takes_arguments, takes_structure, with_regions}
 use Rattle.source_typing.specs.Written.{RegionNamed, find_region}
@@ -18,7 +19,7 @@ use Rattle.source_typing.proofs.Entries.{judged_name}
 use Rattle.source_typing.proofs.Inversion.{both_none, none_of_both, own_is}
 use Rattle.judged_sources.specs.Good.{NamesBelow}
 use Rattle.judged_sources.proofs.GoodTypes.{IsKnownEntry, KnowsTags}
-use Rattle.judged_sources.proofs.HeadTags.{AreAlike, TablesAlike, heads_clean}
+use Rattle.judged_sources.proofs.HeadTags.{AreAlike, TablesAlike, heads_clean, own_first}
 use Rattle.judged_sources.proofs.MemberTypes.{AreMembersTaken, members_are_taken}
 use Rattle.judged_sources.proofs.Named.{named_known}
 use Rattle.judged_sources.proofs.Tags.{judged_list}
@@ -173,10 +174,12 @@ first_sound : (g h : Tables) (i : ℕ) (s : tree.Structure) → KnowsTags h → 
 first_sound g h i s tags alike k p =
     let c : TagClean g i s = tag_clean g i s p in
     let taken : AreMembersTaken with_regions s.members = members_are_taken with_regions (tag_scope g i s) s.members k.members c.members in
-    let clean : head_faults (tag_scope h i s) false s.members ≡ [] =
-    heads_clean (length s.regions) (tag_scope g i s) (tag_scope h i s) tags refl (parameters_below h i s) alike s.members taken c.members in (
-      ap (λ (fs : List Fault). is_clean fs) (both_none ((region_parameters s).1 ++ head_faults (tag_scope h i s) false s.members) (repeated [] s.members)
-          (both_none (region_parameters s).1 (head_faults (tag_scope h i s) false s.members) c.parameters clean) c.once),
+    let e : Env = head_scope h i false s in
+    let clean : head_faults e false s.members ≡ [] =
+    heads_clean (length s.regions) (tag_scope g i s) e (own_first g h (named s.tag (bare_tag i false s false)) refl alike tags) refl
+    (parameters_below h i s) s.members taken c.members in (
+      ap (λ (fs : List Fault). is_clean fs) (both_none ((region_parameters s).1 ++ head_faults e false s.members) (repeated [] s.members)
+          (both_none (region_parameters s).1 (head_faults e false s.members) c.parameters clean) c.once),
       refl,
     )
 

@@ -1,19 +1,13 @@
 -- What is known of names before tags are judged.
 use Rattle.std.proofs.Common.{◌≡◌, ℕ, Bool, true, false, List, [], ◌∷◌, refl, sym, ap, ◌∙◌}
-use Rattle.std.specs.Prelude.{None, Option, Some, bytes_eq, if◌then◌else◌, not, suc, ◌&&◌, ◌||◌}
+use Rattle.std.specs.Prelude.{None, Option, Some, bytes_eq, if◌then◌else◌, not, ◌&&◌, ◌||◌}
 use Rattle.std.proofs.lemmas.Slice.Eq.{bytes_eq-Decides}
-use Rattle.cyc_tree.specs.Tree.{Item}
-use Rattle.source_typing.specs.Programs.{bare_from}
 use Rattle.source_typing.specs.Tables.{Entry, Tables, find}
-use Rattle.source_typing.specs.Taken.{only_taken}
-use Rattle.type_verdicts.specs.Taken.{taken_of}
-use Rattle.type_verdicts.specs.declared.taken.Taken as code_taken
 use Rattle.written_types.specs.Naming.{has_tag_name, tag_entry, tag_named}
 use Rattle.written_types.specs.Tagged.{tag_name_of}
 use Rattle.written_types.specs.declared.tag_names.TagNames.{TagNames}
 use Rattle.written_types.specs.declared.tagged.TagName.{TagName}
-use Rattle.judged_tags.specs.FirstKnown.{AreBare, AreNames, AreSince, bare_tags, first_tags, is_judged, named_since}
-use Rattle.cyc_tree.specs.Tree as tree
+use Rattle.judged_tags.specs.FirstKnown.{AreNames, AreSince, named_since}
 
 -- ---- names that are added
 
@@ -49,33 +43,5 @@ since_last all names since x = sym (since x) ∙ by (tag_entry names x) refl
 
 -- ---- all names
 
-pub first_names : (k : code_taken.Taken) (items : List Item) (names : TagNames) → AreSince names [] (first_tags (only_taken (taken_of k) items))
-    → AreNames names (first_tags (only_taken (taken_of k) items))
-first_names k items names since x = record { is = since_last (first_tags (only_taken (taken_of k) items)) names since x }
-
-abbrev AreJudged : Tables → Type 0
-AreJudged [] = Unit {0}
-AreJudged (n ∷ ns) = (is_judged (tag_name_of (Some n.entry)) ≡ true) × AreJudged ns
-
-judged_found : (g : Tables) → AreJudged g → (x : List ℕ) → is_judged (tag_name_of (find g x)) ≡ true
-judged_found [] p x = refl
-judged_found (n ∷ ns) p x = by (bytes_eq n.name x) (judged_found ns p.1 x)
-  where
-    by : (b : Bool) → is_judged (tag_name_of (find ns x)) ≡ true → is_judged (tag_name_of (if b then Some n.entry else find ns x)) ≡ true
-    by true others = p.0
-    by false others = others
-
-bare_judged : (i : ℕ) (items : List Item) → AreJudged (bare_from i items)
-bare_judged i [] = tt
-bare_judged i (tree.StructItem s ∷ items) = (refl, bare_judged (suc i) items)
-bare_judged i (tree.UnionItem s ∷ items) = (refl, bare_judged (suc i) items)
-bare_judged i (tree.GlobalItem x ∷ items) = (refl, bare_judged (suc i) items)
-bare_judged i (tree.FunctionItem f ∷ items) = (refl, bare_judged (suc i) items)
-
-pub bare_names : (k : code_taken.Taken) (items : List Item) (names : TagNames) → AreSince names [] (bare_tags (only_taken (taken_of k) items))
-    → AreBare names (bare_tags (only_taken (taken_of k) items))
-bare_names k items names since =
-    let all = only_taken (taken_of k) items in (
-      λ x. record { is = since_last (bare_tags all) names since x },
-      λ x. ap is_judged (sym (since_last (bare_tags all) names since x)) ∙ judged_found (bare_tags all) (refl, (refl, bare_judged 0 all)) x,
-    )
+pub all_names : (all : Tables) (names : TagNames) → AreSince names [] all → AreNames names all
+all_names all names since x = record { is = since_last all names since x }

@@ -1,39 +1,38 @@
--- The types of members before tags are judged, where no tag is at fault and the count of region arguments doesn't matter.
-use Rattle.std.proofs.Common.{◌≡◌, ℕ, Bool, true, false, List, [], ◌∷◌, ◌++◌, refl, sym, ap, subst, ◌∙◌, append_assoc, arith}
-use Rattle.std.proofs.lemmas.Bool.Decides.{nat_tests}
+-- The types of members before tags are judged, where the count of region arguments doesn't matter.
+use Rattle.std.proofs.Common.{◌≡◌, ℕ, Bool, true, false, List, [], ◌∷◌, ◌++◌, refl, sym, ap, subst, ◌∙◌, append_assoc}
 use Rattle.std.proofs.lemmas.List.{length-map, length-replicate}
 use Rattle.std.proofs.lemmas.Slice.Eq.{bytes_eq-Decides}
-use Rattle.std.specs.Prelude.{None, Option, Some, if◌then◌else◌, is_none, is_some, length, nat_eq, not, ◌&&◌}
+use Rattle.std.specs.Prelude.{None, Option, Some, bytes_eq, if◌then◌else◌, is_none, is_some, length, not, ◌&&◌}
 use Rattle.cyc_tree.specs.Tree.{TypeName}
 use Rattle.source_typing.proofs.RegionNames.{all_alike}
 use Rattle.source_typing.specs.Faults.{Fault, earliest, is_clean, type_rule}
 use Rattle.source_typing.specs.Tables.{OfOther, OfTag, Tables, as_tag, find}
-use Rattle.source_typing.specs.Tags.{argument_count, fits_member, head_built, head_entry, head_faults, head_fitting, head_type, region_parameters}
-use Rattle.source_typing.specs.Tags.{repeated, settled_alone}
+use Rattle.source_typing.specs.Tags.{argument_count, bare_tag, fits_member, head_entry, head_faults, head_fitting, head_type, head_written}
+use Rattle.source_typing.specs.Tags.{region_parameters, repeated, settled_alone}
 use Rattle.source_typing.specs.Taken.{Taken, refused_type, type_taken}
 use Rattle.source_typing.specs.Types.{PartialType, StaticType, same_bool}
-use Rattle.source_typing.specs.Verdicts.{Faulty, Of, Unjudged, Verdict, after, both, faults_of, if_fits, refuse, unless_faulty}
-use Rattle.source_typing.specs.Written.{Found, RegionNamed, all_found, argument_spots, base_of, built, count_fits, counted_type}
-use Rattle.source_typing.specs.Written.{regions_of_tag, spot, spots_of, type_built, written_on, written_with}
+use Rattle.source_typing.specs.Verdicts.{Faulty, Of, Unjudged, Verdict, after, faults_of, if_fits, refuse}
+use Rattle.source_typing.specs.Written.{RegionNamed, all_found, argument_spots, base_of, regions_of_tag, spot, spots_of, written, written_on, written_with}
 use Rattle.type_verdicts.proofs.Earliest.{sooner_none}
 use Rattle.type_verdicts.specs.Verdicts.{Is, NotJudged, Short, Wrong, shortened}
 use Rattle.written_types.specs.Arguments.{written_arguments}
 use Rattle.written_types.specs.Handles.{handle_taken, is_key_base, region_base}
 use Rattle.written_types.specs.Reading.{plain_of, taken_base}
+use Rattle.written_types.specs.Naming.{tag_named}
 use Rattle.written_types.specs.Tagged.{IsNamed, TagIs, is_union_base, named_as, regions_named, tag_base, tag_name_of, tag_taken}
 use Rattle.written_types.specs.declared.tag_names.TagNames.{TagNames}
 use Rattle.written_types.specs.declared.tagged.TagName.{TagName}
 use Rattle.written_types.specs.declared.tagged.TagName.TheVariants as code
 use Rattle.written_types.proofs.TagTypes.{named_by, regions_by}
 use Rattle.written_types.proofs.TakenTypes.{handle_is_base, handle_stands, not_taken, plain_is_base, plain_stands, tag_is_base, tag_stands}
-use Rattle.judged_tags.specs.FirstKnown.{AreBare, any_count, count_by, is_judged}
+use Rattle.judged_tags.specs.FirstKnown.{AreHeads, AreNames, any_count, count_by}
 use Rattle.judged_tags.specs.Members.{scoped, type_alone}
 use Rattle.judged_tags.specs.Parameters.{SameNames}
 use Rattle.cyc_tree.specs.Tree as tree
 use Rattle.type_verdicts.specs.Faults as code_faults
 use Rattle.type_verdicts.specs.declared.fault.Fault as code_fault
 
--- ---- a member's type, where no tag is at fault
+-- ---- a member's type
 
 abbrev pub clean_short : Bool → Short StaticType → Bool
 clean_short union (Wrong f) = false
@@ -50,64 +49,28 @@ settled_as union at (Of t) = by (fits_member union t)
     by true = refl
     by false = refl
 
-built_as : (union : Bool) (at n : ℕ) (v : Verdict PartialType)
-    → is_clean (faults_of (after (both (let w : Verdict ℕ = Of n in w) v (λ n p. settled_alone at p)) (head_fitting union at)))
-    ≡ clean_short union (shortened (after v (settled_alone at)))
-built_as union at n (Faulty f fs) = refl
-built_as union at n Unjudged = refl
-built_as union at n (Of p) = settled_as union at (settled_alone at p)
-
 -- what is known of the type of a member by tables, and by tables in which its tag asks for the region arguments that it has
 module _ (union : Bool) (g h : Tables) (i : ℕ) (names : List RegionNamed) (t : TypeName) where
   abbrev pub IsAs : Type 0
   IsAs = is_clean (faults_of (head_type (scoped g i names) union t)) ≡ clean_short union (shortened (type_alone h names t))
 
-  abbrev left : Verdict ℕ → Verdict PartialType → Bool
-  left v w = is_clean (faults_of (after (both v w (λ n p. settled_alone t.at p)) (head_fitting union t.at)))
+  of_written : head_written g t (all_found names (spots_of g t)) ≡ written h names t → IsAs
+  of_written e =
+      ap (λ v. is_clean (faults_of (after (after v (settled_alone t.at)) (head_fitting union t.at)))) e ∙ settled_as union t.at (type_alone h names t)
 
-  abbrev right : Verdict PartialType → Bool
-  right w = clean_short union (shortened (after w (settled_alone t.at)))
-
-  with_spots : (spots_of g t ≡ spots_of h t)
-      → ((x : List Found × List Fault) → left (base_of g t.base) (head_built g t x) ≡ right (written_with h t x)) → IsAs
-  with_spots same by = by (all_found names (spots_of g t)) ∙ ap (λ ss. right (written_with h t (all_found names ss))) same
-
-  of_right : spots_of g t ≡ spots_of h t → (n m : ℕ) → base_of g t.base ≡ Of n → base_of h t.base ≡ Of m
-      → ((fs : List Found) → counted_type t fs m (count_fits t.base m) ≡ type_built t.at (built t.base (argument_count g t.base) t.pointers fs)) → IsAs
-  of_right same n m e f counted = with_spots same by
-    where
-      by : (x : List Found × List Fault) → left (base_of g t.base) (head_built g t x) ≡ right (written_with h t x)
-      by (fs, bad) =
-          ap (λ v. left v (head_built g t (fs, bad))) e
-          ∙ built_as union t.at n (unless_faulty bad (type_built t.at (built t.base (argument_count g t.base) t.pointers fs)))
-          ∙ ap (λ w. right (unless_faulty bad w)) (sym (counted fs))
-          ∙ ap (λ v. right (written_on t fs bad v)) (sym f)
-
-  of_wrong : spots_of g t ≡ spots_of h t → (x : Fault) (others : List Fault) → base_of g t.base ≡ Faulty x others → base_of h t.base ≡ Faulty x others
-      → IsAs
-  of_wrong same x others e f = with_spots same by
-    where
-      either : (w : Verdict PartialType) → left (Faulty x others) w ≡ false
-      either (Faulty y hs) = refl
-      either Unjudged = refl
-      either (Of p) = refl
-
-      by : (y : List Found × List Fault) → left (base_of g t.base) (head_built g t y) ≡ right (written_with h t y)
-      by (fs, bad) =
-          ap (λ v. left v (head_built g t (fs, bad))) e ∙ either (head_built g t (fs, bad)) ∙ ap (λ v. right (written_on t fs bad v)) (sym f)
+  of_base : spots_of g t ≡ spots_of h t → after (base_of g t.base) (λ n. let v : Verdict ℕ = Of (argument_count g t.base) in v) ≡ base_of h t.base → IsAs
+  of_base same e =
+      of_written (ap (λ v. written_on t (all_found names (spots_of g t)).0 (all_found names (spots_of g t)).1 v) e
+      ∙ ap (λ ss. written_with h t (all_found names ss)) same)
 
 -- ---- a type that is neither a struct nor a union
 
 plain_as : (union : Bool) (g : Tables) (i : ℕ) (names : List RegionNamed) (at : ℕ) (b : tree.Base) (ps : List tree.Pointer) (p : PartialType)
     → plain_of b ≡ Some p → IsAs union g g i names (record { at = at; base = b; pointers = ps })
-plain_as union g i names at tree.Int ps p e =
-    of_right union g g i names (record { at = at; base = tree.Int; pointers = ps }) refl 0 0 refl refl (λ fs. refl)
-plain_as union g i names at tree.Unsigned ps p e =
-    of_right union g g i names (record { at = at; base = tree.Unsigned; pointers = ps }) refl 0 0 refl refl (λ fs. refl)
-plain_as union g i names at tree.Char ps p e =
-    of_right union g g i names (record { at = at; base = tree.Char; pointers = ps }) refl 0 0 refl refl (λ fs. refl)
-plain_as union g i names at tree.Void ps p e =
-    of_right union g g i names (record { at = at; base = tree.Void; pointers = ps }) refl 0 0 refl refl (λ fs. refl)
+plain_as union g i names at tree.Int ps p e = of_base union g g i names (record { at = at; base = tree.Int; pointers = ps }) refl refl
+plain_as union g i names at tree.Unsigned ps p e = of_base union g g i names (record { at = at; base = tree.Unsigned; pointers = ps }) refl refl
+plain_as union g i names at tree.Char ps p e = of_base union g g i names (record { at = at; base = tree.Char; pointers = ps }) refl refl
+plain_as union g i names at tree.Void ps p e = of_base union g g i names (record { at = at; base = tree.Void; pointers = ps }) refl refl
 plain_as union g i names at (tree.Struct tag rs) ps p e = absurd cc
 plain_as union g i names at (tree.Union tag rs) ps p e = absurd cc
 plain_as union g i names at (tree.Handle r) ps p e = absurd cc
@@ -116,22 +79,8 @@ plain_as union g i names at (tree.Key r) ps p e = absurd cc
 -- a handle or a key
 handle_as : (union : Bool) (g : Tables) (i : ℕ) (names : List RegionNamed) (at : ℕ) (key : Bool) (r : tree.RegionName) (ps : List tree.Pointer)
     → IsAs union g g i names (record { at = at; base = region_base key r; pointers = ps })
-handle_as union g i names at false r ps = of_right union g g i names t refl 0 0 refl refl by
-  where
-    t : TypeName
-    t = record { at = at; base = tree.Handle r; pointers = ps }
-
-    by : (fs : List Found) → counted_type t fs 0 true ≡ type_built at (built (tree.Handle r) (argument_count g (tree.Handle r)) ps fs)
-    by [] = refl
-    by (f ∷ fs) = refl
-handle_as union g i names at true r ps = of_right union g g i names t refl 0 0 refl refl by
-  where
-    t : TypeName
-    t = record { at = at; base = tree.Key r; pointers = ps }
-
-    by : (fs : List Found) → counted_type t fs 0 true ≡ type_built at (built (tree.Key r) (argument_count g (tree.Key r)) ps fs)
-    by [] = refl
-    by (f ∷ fs) = refl
+handle_as union g i names at false r ps = of_written union g g i names (record { at = at; base = tree.Handle r; pointers = ps }) refl
+handle_as union g i names at true r ps = of_written union g g i names (record { at = at; base = tree.Key r; pointers = ps }) refl
 
 other_as : (union : Bool) (k : Taken) (g : Tables) (i : ℕ) (names : List RegionNamed) (t : TypeName) → tag_taken k t ≡ None
     → IsAs union g g i names (type_taken k t)
@@ -142,7 +91,7 @@ other_as union k g i names t x = handle (handle_taken k t) refl
         subst (IsAs union g g i names) (sym (plain_stands k t p e)) (plain_as union g i names t.at t.base t.pointers p (plain_is_base k t p e))
     plain None e r =
         subst (IsAs union g g i names) (sym (not_taken k t x r e))
-        (of_right union g g i names (refused_type t.at) refl 0 0 refl refl (λ fs. refl))
+        (of_base union g g i names (refused_type t.at) refl refl)
 
     handle : (o : Option tree.RegionName) → handle_taken k t ≡ o → IsAs union g g i names (type_taken k t)
     handle None e = plain (taken_base k t) refl e
@@ -195,16 +144,6 @@ same_spots g at true x n (r ∷ rs) ps = refl
 same_spots g at false x n [] ps = refl
 same_spots g at false x n (r ∷ rs) ps = refl
 
-same_count : (n : ℕ) → nat_eq n n ≡ true
-same_count n = grind (arith, nat_tests)
-
--- the tag asks for the arguments that are there
-asks_fit : (wanted : Bool) (x : tree.Name) (m : ℕ) (rs : List tree.RegionName) → count_fits (tag_base wanted x rs) (count_by m rs) ≡ true
-asks_fit true x m [] = refl
-asks_fit true x m (r ∷ rs) = same_count (length (r ∷ rs))
-asks_fit false x m [] = refl
-asks_fit false x m (r ∷ rs) = same_count (length (r ∷ rs))
-
 asks_for : (g : Tables) (x : tree.Name) (u : Bool) (m : ℕ) (rs : List tree.RegionName) → tag_name_of (find g x.text) ≡ code.Tag u m
     → count_by m rs ≡ length (argument_spots g x rs)
 asks_for g x u m [] h =
@@ -222,31 +161,27 @@ based g true x rs n named = named_by (find g x.text) true x.at ∙ ap (λ n. nam
 based g false x rs n named = named_by (find g x.text) false x.at ∙ ap (λ n. named_as false n x.at) named
 
 tagged_as : (union : Bool) (g : Tables) (i : ℕ) (names : List RegionNamed) (at : ℕ) (wanted : Bool) (x : tree.Name) (rs : List tree.RegionName)
-    (ps : List tree.Pointer) (n : TagName) → tag_name_of (find g x.text) ≡ n → is_judged n ≡ true
+    (ps : List tree.Pointer) (n : TagName) → tag_name_of (find g x.text) ≡ n
     → IsAs union g (asked g x.text n rs) i names (record { at = at; base = tag_base wanted x rs; pointers = ps })
-tagged_as union g i names at wanted x rs ps n named judged =
-    by n named (based g wanted x rs n named) judged (based (asked g x.text n rs) wanted x rs (any_count n rs) (asked_named g x.text n rs named))
+tagged_as union g i names at wanted x rs ps n named =
+    of_base union g (asked g x.text n rs) i names (record { at = at; base = tag_base wanted x rs; pointers = ps }) (same_spots g at wanted x n rs ps)
+    (ap with_count (based g wanted x rs n named)
+    ∙ by n named
+    ∙ sym (based (asked g x.text n rs) wanted x rs (any_count n rs) (asked_named g x.text n rs named)))
   where
-    t : TypeName
-    t = record { at = at; base = tag_base wanted x rs; pointers = ps }
+    with_count : Verdict ℕ → Verdict ℕ
+    with_count v = after v (λ m. Of (argument_count g (tag_base wanted x rs)))
 
-    kind : (u c : Bool) (m : ℕ) → same_bool u wanted ≡ c → tag_name_of (find g x.text) ≡ code.Tag u m
-        → base_of g t.base ≡ (if c then Of m else refuse type_rule x.at)
-        → base_of (asked g x.text (code.Tag u m) rs) t.base ≡ (if c then Of (count_by m rs) else refuse type_rule x.at)
-        → IsAs union g (asked g x.text (code.Tag u m) rs) i names t
-    kind u true m same named e f =
-        of_right union g (asked g x.text (code.Tag u m) rs) i names t (same_spots g at wanted x (code.Tag u m) rs ps) m (count_by m rs) e f
-        (λ fs. ap (counted_type t fs (count_by m rs)) (asks_fit wanted x m rs)
-        ∙ ap (λ (n : ℕ). type_built at (built (tag_base wanted x rs) n ps fs)) (asks_all g wanted x u m rs named))
-    kind u false m same named e f =
-        of_wrong union g (asked g x.text (code.Tag u m) rs) i names t (same_spots g at wanted x (code.Tag u m) rs ps) _ [] e f
+    kind : (u c : Bool) (m : ℕ) → tag_name_of (find g x.text) ≡ code.Tag u m
+        → with_count (if c then Of m else refuse type_rule x.at) ≡ (if c then Of (count_by m rs) else refuse type_rule x.at)
+    kind u true m named = ap (λ (k : ℕ). let v : Verdict ℕ = Of k in v) (sym (asks_all g wanted x u m rs named))
+    kind u false m named = refl
 
-    by : (n : TagName) → tag_name_of (find g x.text) ≡ n → base_of g t.base ≡ named_as wanted n x.at → is_judged n ≡ true
-        → base_of (asked g x.text n rs) t.base ≡ named_as wanted (any_count n rs) x.at → IsAs union g (asked g x.text n rs) i names t
-    by (code.NotJudged m) named e h f = absurd cc
-    by code.NoName named e h f = of_wrong union g (asked g x.text code.NoName rs) i names t (same_spots g at wanted x code.NoName rs ps) _ [] e f
-    by code.Other named e h f = of_wrong union g (asked g x.text code.Other rs) i names t (same_spots g at wanted x code.Other rs ps) _ [] e f
-    by (code.Tag u m) named e h f = kind u (same_bool u wanted) m refl named e f
+    by : (n : TagName) → tag_name_of (find g x.text) ≡ n → with_count (named_as wanted n x.at) ≡ named_as wanted (any_count n rs) x.at
+    by (code.NotJudged m) named = refl
+    by code.NoName named = refl
+    by code.Other named = refl
+    by (code.Tag u m) named = kind u (same_bool u wanted) m named
 
 -- by which tables the type of a member is read, where its tag means this
 pub record HeadAs (union : Bool) (k : Taken) (g : Tables) (i : ℕ) (names : List RegionNamed) (t : TypeName) (n : TagName) : Type 0 where
@@ -260,9 +195,9 @@ none_some x e = absurd cc
 same_some : (x y : tree.Name) → Some x ≡ Some y → x ≡ y
 same_some x y e = cc
 
-pub head_as : (union : Bool) (k : Taken) (g : Tables) (i : ℕ) (names : List RegionNamed) (tags : TagNames) (t : TypeName) (n : TagName) → AreBare tags g
-    → TagIs k g t n → HeadAs union k g i names t (any_count n (written_arguments t.base))
-head_as union k g i names tags t n bare tag = by (tag_taken k t) refl
+pub head_as : (union : Bool) (k : Taken) (g : Tables) (i : ℕ) (names : List RegionNamed) (t : TypeName) (n : TagName) → TagIs k g t n
+    → HeadAs union k g i names t (any_count n (written_arguments t.base))
+head_as union k g i names t n tag = by (tag_taken k t) refl
   where
     rs : List tree.RegionName
     rs = written_arguments t.base
@@ -275,7 +210,6 @@ head_as union k g i names tags t n bare tag = by (tag_taken k t) refl
     }
     by (Some x) h =
         let named = (tag x h).is in
-        let judged = ap is_judged (sym named ∙ (bare.0 x.text).is) ∙ bare.1 x.text in
         record {
           by = asked g x.text n rs;
           tag = λ y taken. subst (λ (z : tree.Name). IsNamed (asked g x.text n rs) z.text (any_count n rs)) (same_some x y (sym h ∙ taken))
@@ -283,7 +217,7 @@ head_as union k g i names tags t n bare tag = by (tag_taken k t) refl
           is =
               subst (IsAs union g (asked g x.text n rs) i names) (sym (tag_stands k t x h))
               (subst (λ b. IsAs union g (asked g x.text n rs) i names (record { at = t.at; base = b; pointers = t.pointers })) (sym (tag_is_base k t x h))
-              (tagged_as union g i names t.at (is_union_base t.base) x rs t.pointers n named judged));
+              (tagged_as union g i names t.at (is_union_base t.base) x rs t.pointers n named));
         }
 
 -- ---- members
@@ -318,7 +252,7 @@ clean_none (Some x) (f ∷ fs) e = refl
 module _ (union : Bool) (g : Tables) (i : ℕ) (a b : List RegionNamed) (same : SameNames a b) where
   type_alike : (t : TypeName) → head_type (scoped g i a) union t ≡ head_type (scoped g i b) union t
   type_alike t =
-      ap (λ x. after (both (base_of g t.base) (head_built g t x) (λ n p. settled_alone t.at p)) (head_fitting union t.at)) (all_alike a b same (spots_of g t))
+      ap (λ x. after (after (head_written g t x) (settled_alone t.at)) (head_fitting union t.at)) (all_alike a b same (spots_of g t))
 
   pub heads_alike : (ms : List tree.Member) → head_faults (scoped g i a) union ms ≡ head_faults (scoped g i b) union ms
   heads_alike [] = refl
@@ -328,18 +262,38 @@ module _ (union : Bool) (g : Tables) (i : ℕ) (a b : List RegionNamed) (same : 
 
 -- ---- a struct or union
 
+-- its tables before it is judged: its own name, and those of others
+abbrev pub own_tables : Tables → ℕ → Bool → tree.Structure → Tables
+own_tables g i union s = record { name = s.tag.text; entry = bare_tag i union s false } ∷ g
+
+pub own_named : (g : Tables) (i : ℕ) (union : Bool) (s : tree.Structure) (others : TagNames) (own : List ℕ) (count : ℕ) → own ≡ s.tag.text
+    → count ≡ length s.regions → AreNames others g → AreHeads own count others (own_tables g i union s)
+own_named g i union s others own count same counted names x = record {
+  is =
+      by (bytes_eq s.tag.text x)
+      ∙ ap (λ (y : List ℕ). if bytes_eq y x then code.NotJudged (length s.regions) else tag_named others x) (sym same)
+      ∙ ap (λ (n : ℕ). if bytes_eq own x then code.NotJudged n else tag_named others x) (sym counted);
+}
+  where
+    by : (b : Bool) → tag_name_of (if b then Some (bare_tag i union s false) else find g x)
+        ≡ (if b then code.NotJudged (length s.regions) else tag_named others x)
+    by true = refl
+    by false = (names x).is
+
 -- the name of a union, or else a struct, that is taken, by what was read of its region parameters and members
 pub tag_head : (union : Bool) (g : Tables) (i : ℕ) (s : tree.Structure) (ms : List tree.Member) (names : List RegionNamed) (regions : Option code_fault.Fault)
     (sound own : Bool) (count : ℕ) → SameNames names (region_parameters s).0 → code_faults.faults_of regions ≡ earliest (region_parameters s).1
-    → count ≡ length s.regions → own ≡ is_clean (head_faults (scoped g i names) union ms ++ repeated [] ms) → sound ≡ (is_none regions && own)
+    → count ≡ length s.regions → own ≡ is_clean (head_faults (scoped (own_tables g i union s) i names) union ms ++ repeated [] ms)
+    → sound ≡ (is_none regions && own)
     → (if sound then code.Tag union count else code.NotJudged count) ≡ tag_name_of (Some (head_entry g i union (record s { members = ms })))
 tag_head union g i s ms names regions sound own count same of_regions counted is all =
+    let own_g = own_tables g i union s in
     ap (λ (b : Bool). if b then code.Tag union count else code.NotJudged count)
     (all
     ∙ ap (λ b. b && own) (clean_none regions (region_parameters s).1 of_regions)
     ∙ ap (λ b. is_clean (region_parameters s).1 && b)
-    (is ∙ ap (λ fs. is_clean (fs ++ repeated [] ms)) (heads_alike union g i names (region_parameters s).0 same ms))
-    ∙ sym (clean_of_both (region_parameters s).1 (head_faults (scoped g i (region_parameters s).0) union ms ++ repeated [] ms))
-    ∙ ap is_clean (sym (append_assoc (region_parameters s).1 (head_faults (scoped g i (region_parameters s).0) union ms) (repeated [] ms))))
-    ∙ ap (λ (n : ℕ). if is_clean ((region_parameters s).1 ++ head_faults (scoped g i (region_parameters s).0) union ms ++ repeated [] ms)
+    (is ∙ ap (λ fs. is_clean (fs ++ repeated [] ms)) (heads_alike union own_g i names (region_parameters s).0 same ms))
+    ∙ sym (clean_of_both (region_parameters s).1 (head_faults (scoped own_g i (region_parameters s).0) union ms ++ repeated [] ms))
+    ∙ ap is_clean (sym (append_assoc (region_parameters s).1 (head_faults (scoped own_g i (region_parameters s).0) union ms) (repeated [] ms))))
+    ∙ ap (λ (n : ℕ). if is_clean ((region_parameters s).1 ++ head_faults (scoped own_g i (region_parameters s).0) union ms ++ repeated [] ms)
     then code.Tag union n else code.NotJudged n) counted

@@ -1,5 +1,5 @@
 -- What is known of the names of a program before its tags are judged.
-use Rattle.std.specs.Prelude.{Bool, List, false, if◌then◌else◌, length, true, ℕ, ◌≡◌, [], ◌∷◌}
+use Rattle.std.specs.Prelude.{List, bytes_eq, if◌then◌else◌, length, ℕ, ◌≡◌, [], ◌∷◌}
 use Rattle.cyc_tree.specs.Tree.{Program, RegionName}
 use Rattle.source_typing.specs.Programs.{bare_from, builtins, first_from}
 use Rattle.source_typing.specs.Tables.{Tables, find}
@@ -13,13 +13,12 @@ use Rattle.written_types.specs.declared.tagged.TagName.TheVariants as code
 abbrev pub AreNames : TagNames → Tables → Type 0
 AreNames names g = (x : List ℕ) → IsNamed g x (tag_named names x)
 
-abbrev pub is_judged : TagName → Bool
-is_judged (code.NotJudged n) = false
-is_judged n = true
+-- what a name means to the members of a struct or union before it is judged: its own, with so many region parameters, isn't judged
+abbrev pub head_named : List ℕ → ℕ → TagNames → List ℕ → TagName
+head_named own n others x = (if bytes_eq own x then code.NotJudged n else tag_named others x)
 
--- no tag is at fault
-abbrev pub AreBare : TagNames → Tables → Type 0
-AreBare names g = AreNames names g × ((x : List ℕ) → is_judged (tag_named names x) ≡ true)
+abbrev pub AreHeads : List ℕ → ℕ → TagNames → Tables → Type 0
+AreHeads own n others g = (x : List ℕ) → IsNamed g x (head_named own n others x)
 
 -- how many region parameters a tag has that asks for the region arguments that are written, if any are
 abbrev pub count_by : ℕ → List RegionName → ℕ

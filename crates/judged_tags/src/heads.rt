@@ -11,9 +11,9 @@ ghost use Rattle.source_typing.specs.Verdicts as rules;
 ghost use Rattle.source_typing.specs.Taken as rules_taken;
 ghost use Rattle.type_verdicts.specs.Taken.{taken_of};
 ghost use Rattle.written_types.specs.Arguments.{written_arguments};
-ghost use Rattle.written_types.specs.Tagged.{tag_name_of};
+ghost use Rattle.written_types.specs.Tagged.{TagIs, tag_name_of};
 ghost use Rattle.written_types.specs.declared.tagged.TagName.TheVariants.{NotJudged, Tag};
-ghost use Rattle.judged_tags.specs.FirstKnown.{AreBare, AreNames, AreSince, any_count, bare_tags, count_by, first_tags};
+ghost use Rattle.judged_tags.specs.FirstKnown.{AreHeads, AreNames, AreSince, any_count, bare_tags, count_by, first_tags, head_named};
 ghost use Rattle.judged_tags.specs.Members.{scoped, structure_taken, takes_kind};
 
 use crate::member::{fits_member, repeated_fault, type_alone};
@@ -22,7 +22,7 @@ use cyc_tree::{Base, Item, Member, Name, RegionName, Structure, TypeName};
 use scoped_types::RegionNames;
 use std::alloc::{AllocError, Global};
 use type_verdicts::{Taken, Verdict};
-use written_types::{TagName, TagNames, tag_of_type};
+use written_types::{TagName, TagNames, type_tag};
 
 /// The names of the functions that every program has. Fails only where no host memory is left.
 pub(crate) fn builtin_names<'p>(alloc: Global) -> Result<TagNames<'p>, AllocError>
@@ -118,7 +118,7 @@ pub(crate) fn bare_names<'p>(
     taken: Taken,
     items: &'p [Item],
 ) -> Result<TagNames<'p>, AllocError>
-    ensures { IfOk result (λ names. AreBare names (bare_tags (only_taken (taken_of taken) (program_tree items.entry.now)))) }
+    ensures { IfOk result (λ names. AreNames names (bare_tags (only_taken (taken_of taken) (program_tree items.entry.now)))) }
 {
     let mut names = builtin_names(alloc)?;
     'each: for item in items {
@@ -166,20 +166,53 @@ fn any_count(tag: TagName, of: &TypeName) -> Result<TagName, AllocError>
     }
 }
 
-/// Whether a member of a union, or else of a struct, has none of the faults that hang on no other tag, where these region names are in
-/// scope. Fails only where no host memory is left.
+/// What tags mean to the members of a struct or union before it is judged.
+#[derive(Clone, Copy)]
+struct HeadTags<'a, 'p> {
+    /// Its own name, which isn't judged.
+    own: &'a [u8],
+    /// How many region parameters it has.
+    regions: u32,
+    /// What all other names mean by their own.
+    others: &'a TagNames<'p>,
+}
+
+/// What a name means.
+fn head_named(tags: HeadTags<'_, '_>, name: &[u8]) -> TagName
+    ensures { result ≡ head_named tags.entry.own.now tags.entry.regions tags.entry.others.now name.now }
+{
+    if tags.own == name {
+        TagName::NotJudged(tags.regions)
+    } else {
+        tags.others.of(name)
+    }
+}
+
+/// What the tag means that a type of structs or unions has, where it is taken.
+fn head_tag(taken: Taken, tags: HeadTags<'_, '_>, of: &TypeName) -> TagName
+    ensures { (g : Tables) → AreHeads tags.entry.own.now tags.entry.regions tags.entry.others.now g
+        → TagIs (taken_of taken) g (type_tree of.now) result }
+{
+    match type_tag(taken, of) {
+        Some(name) => head_named(tags, &name.text),
+        None => TagName::NoName,
+    }
+}
+
+/// Whether a member of a union, or else of a struct, has none of the faults that hang on no tag, where these region names are in scope.
+/// Fails only where no host memory is left.
 fn is_head_clean(
     alloc: Global,
     taken: Taken,
     is_union: bool,
-    tags: &TagNames<'_>,
+    tags: HeadTags<'_, '_>,
     names: &RegionNames<'_>,
     of: &TypeName,
 ) -> Result<bool, AllocError>
-    ensures { (g : Tables) (i : ℕ) → AreBare tags.now g → IfOk result (λ b. b
+    ensures { (g : Tables) (i : ℕ) → AreHeads tags.entry.own.now tags.entry.regions tags.entry.others.now g → IfOk result (λ b. b
         ≡ is_clean (rules.faults_of (head_type (scoped g i names.now) is_union (type_taken (taken_of taken) (type_tree of.now))))) }
 {
-    let tag = tag_of_type(taken, tags, of);
+    let tag = head_tag(taken, tags, of);
     let asked = any_count(tag, of)?;
     match type_alone(alloc, taken, asked, names, of)? {
         Verdict::Of(of) => Ok(fits_member(is_union, &of)),
@@ -195,17 +228,17 @@ fn are_both(one: bool, other: bool) -> bool
     one && other
 }
 
-/// Whether members of a union, or else of a struct, have none of the faults that hang on no other tag, where these region names are in
-/// scope. Fails only where no host memory is left.
+/// Whether members of a union, or else of a struct, have none of the faults that hang on no tag, where these region names are in scope.
+/// Fails only where no host memory is left.
 fn are_heads_clean(
     alloc: Global,
     taken: Taken,
     is_union: bool,
-    tags: &TagNames<'_>,
+    tags: HeadTags<'_, '_>,
     names: &RegionNames<'_>,
     members: &[Member],
 ) -> Result<bool, AllocError>
-    ensures { (g : Tables) (i : ℕ) → AreBare tags.now g → IfOk result (λ b. b
+    ensures { (g : Tables) (i : ℕ) → AreHeads tags.entry.own.now tags.entry.regions tags.entry.others.now g → IfOk result (λ b. b
         ≡ is_clean (head_faults (scoped g i names.now) is_union (members_taken (taken_of taken) (map member_tree members.now)))) }
 {
     let mut clean = true;
@@ -216,17 +249,17 @@ fn are_heads_clean(
     Ok(clean)
 }
 
-/// Whether members of a union, or else of a struct, have none of the faults that hang on no other tag, and each name once, where these
-/// region names are in scope. Fails only where no host memory is left.
+/// Whether members of a union, or else of a struct, have none of the faults that hang on no tag, and each name once, where these region
+/// names are in scope. Fails only where no host memory is left.
 fn are_members_clean(
     alloc: Global,
     taken: Taken,
     is_union: bool,
-    tags: &TagNames<'_>,
+    tags: HeadTags<'_, '_>,
     names: &RegionNames<'_>,
     members: &[Member],
 ) -> Result<bool, AllocError>
-    ensures { (g : Tables) (i : ℕ) → AreBare tags.now g → IfOk result (λ b. b
+    ensures { (g : Tables) (i : ℕ) → AreHeads tags.entry.own.now tags.entry.regions tags.entry.others.now g → IfOk result (λ b. b
         ≡ is_clean (head_faults (scoped g i names.now) is_union (members_taken (taken_of taken) (map member_tree members.now))
         ++ repeated [] (members_taken (taken_of taken) (map member_tree members.now)))) }
 {
@@ -256,10 +289,15 @@ fn taken_head(
     tags: &TagNames<'_>,
     structure: &Structure,
 ) -> Result<TagName, AllocError>
-    ensures { (g : Tables) (i : ℕ) → AreBare tags.now g → let s = structure_tree structure.now in
+    ensures { (g : Tables) (i : ℕ) → AreNames tags.now g → let s = structure_tree structure.now in
         IfOk result (λ n. n ≡ tag_name_of (Some (head_entry g i is_union (structure_if true s (members_taken (taken_of taken) s.members))))) }
 {
     let parameters = region_parameters(alloc, &structure.regions)?;
+    let tags = HeadTags {
+        own: &structure.tag.text,
+        regions: parameters.count,
+        others: tags,
+    };
     let members = &structure.members;
     let clean = are_members_clean(alloc, taken, is_union, tags, &parameters.names, members)?;
     Ok(tag_name(
@@ -278,7 +316,7 @@ fn head_of_structure(
     tags: &TagNames<'_>,
     structure: &Structure,
 ) -> Result<TagName, AllocError>
-    ensures { (g : Tables) (i : ℕ) → AreBare tags.now g → IfOk result (λ n. n
+    ensures { (g : Tables) (i : ℕ) → AreNames tags.now g → IfOk result (λ n. n
         ≡ tag_name_of (Some (head_entry g i is_union (structure_taken (taken_of taken) is_union (structure_tree structure.now))))) }
 {
     if takes_structure(taken, is_union, structure) {
@@ -297,7 +335,7 @@ fn head_name(
     tags: &TagNames<'_>,
     item: &Item,
 ) -> Result<TagName, AllocError>
-    ensures { (g : Tables) (i : ℕ) → AreBare tags.now g → IfOk result (λ n. n
+    ensures { (g : Tables) (i : ℕ) → AreNames tags.now g → IfOk result (λ n. n
         ≡ tag_name_of (Some (first_entry g i (item_taken (taken_of taken) (program_item_tree item.now))))) }
 {
     match item {
@@ -308,7 +346,7 @@ fn head_name(
 }
 
 /// What the names of a program are first known to mean, by what they mean where no tag is judged: a tag is at fault here where its
-/// fault hangs on no other tag. Fails only where no host memory is left, or a struct or union has 2^32 region parameters.
+/// fault hangs on no tag. Fails only where no host memory is left, or a struct or union has 2^32 region parameters.
 pub(crate) fn head_names<'p>(
     alloc: Global,
     taken: Taken,
@@ -316,7 +354,7 @@ pub(crate) fn head_names<'p>(
     items: &'p [Item],
 ) -> Result<TagNames<'p>, AllocError>
     ensures { let all = only_taken (taken_of taken) (program_tree items.entry.now) in
-        AreBare bare.now (bare_tags all) → IfOk result (λ names. AreNames names (first_tags all)) }
+        AreNames bare.now (bare_tags all) → IfOk result (λ names. AreNames names (first_tags all)) }
 {
     let mut names = builtin_names(alloc)?;
     'each: for item in items {

@@ -110,3 +110,43 @@ tag_8 : first_fault whole
     (name_at 54 "S") [] ((member (int_at 58) (name_at 62 "a")) ∷ []))) ∷ (main_returns 68) ∷ [])
     ≡ Some (fault type_rule 18)
 tag_8 = refl
+
+-- a struct that names itself as a union
+-- struct S { union S *p; }; int main() { return 0; }
+tag_9 : first_fault whole
+    ((tree.StructItem (structure 0 (name_at 7 "S") [] ((member (type_at 11 (tree.Union (name_at 17 "S") []) (pointer sign.Nullable None ∷ [])) (name_at
+    20 "p")) ∷ []))) ∷ (main_returns 26) ∷ [])
+    ≡ Some (fault type_rule 17)
+tag_9 = refl
+
+-- a union that names itself as a struct
+-- union U { struct U *p; }; int main() { return 0; }
+tag_10 : first_fault whole
+    ((tree.UnionItem (structure 0 (name_at 6 "U") [] ((member (type_at 10 (tree.Struct (name_at 17 "U") []) (pointer sign.Nullable None ∷ [])) (name_at
+    20 "p")) ∷ []))) ∷ (main_returns 26) ∷ [])
+    ≡ Some (fault type_rule 17)
+tag_10 = refl
+
+-- a union that is a member of itself
+-- union U { int a; union U u; }; int main() { return 0; }
+tag_11 : first_fault whole
+    ((tree.UnionItem (structure 0 (name_at 6 "U") [] ((member (int_at 10) (name_at 14 "a")) ∷ (member (type_at 17 (tree.Union (name_at 23 "U") []) [])
+    (name_at 25 "u")) ∷ []))) ∷ (main_returns 31) ∷ [])
+    ≡ Some (fault type_rule 17)
+tag_11 = refl
+
+-- what is at fault by itself isn't judged within itself
+-- struct S { struct S s; int x; int x; }; int main() { return 0; }
+tag_12 : first_fault whole
+    ((tree.StructItem (structure 0 (name_at 7 "S") [] ((member (type_at 11 (tree.Struct (name_at 18 "S") []) []) (name_at 20 "s")) ∷ (member (int_at 23)
+    (name_at 27 "x")) ∷ (member (int_at 30) (name_at 34 "x")) ∷ []))) ∷ (main_returns 40) ∷ [])
+    ≡ Some (fault name_rule 34)
+tag_12 = refl
+
+-- and a fault of such a use is the tag's
+-- struct S { struct S ?`U p; }; int main() { return 0; }
+tag_13 : first_fault whole
+    ((tree.StructItem (structure 0 (name_at 7 "S") [] ((member (type_at 11 (tree.Struct (name_at 18 "S") []) (pointer sign.Fat (Some (tree.Unique 21)) ∷ []))
+    (name_at 24 "p")) ∷ []))) ∷ (main_returns 30) ∷ [])
+    ≡ Some (fault type_rule 11)
+tag_13 = refl

@@ -1,5 +1,5 @@
 -- Structs and unions. Tags are judged in the order of the text: of a tag that stands later, or is being judged, only those faults count that hang on no
--- other tag.
+-- tag that is used by its members, be it another or itself.
 use Rattle.std.specs.Prelude.{Bool, List, None, Option, Some, bytes_eq, false, is_some, length, not, suc, true, ℕ, ◌&&◌, ◌||◌, [], ◌∷◌, ◌++◌}
 use Rattle.cyc_tree.specs.Tree.{TypeName}
 use Rattle.source_meaning.specs.Sizes.{struct_extent}
@@ -11,8 +11,8 @@ use Rattle.source_typing.specs.Regions.{Level, Region, TheHeap}
 use Rattle.source_typing.specs.Scope.{Env, at_item}
 use Rattle.source_typing.specs.Tables.{Entry, OfTag, Part, Tables}
 use Rattle.source_typing.specs.Types.{PartialType, StaticType, is_key, is_scalar, is_union, is_unique, is_void}
-use Rattle.source_typing.specs.Verdicts.{Verdict, after, both, faults_of, if_fits, known, unless_faulty}
-use Rattle.source_typing.specs.Written.{Found, RegionNamed, all_found, base_of, base_spots, built, find_region, spots_of, type_built, written}
+use Rattle.source_typing.specs.Verdicts.{Of, Verdict, after, faults_of, if_fits, known}
+use Rattle.source_typing.specs.Written.{Found, RegionNamed, all_found, base_of, base_spots, find_region, spots_of, written, written_on}
 use Rattle.cyc_tree.specs.Tree as tree
 
 -- ---- region parameters
@@ -110,17 +110,17 @@ tag_entry g i union s = OfTag (record {
 abbrev pub argument_count : Tables → tree.Base → ℕ
 argument_count g b = length (base_spots g b)
 
--- a member's type, where the count of its region arguments and the order of tags don't matter
-abbrev pub head_built : Tables → TypeName → List Found × List Fault → Verdict PartialType
-head_built g t (fs, bad) = unless_faulty bad (type_built t.at (built t.base (argument_count g t.base) t.pointers fs))
+-- a member's type, as if its tag asked for the region arguments that it has
+abbrev pub head_written : Tables → TypeName → List Found × List Fault → Verdict PartialType
+head_written g t (fs, bad) = written_on t fs bad (after (base_of g t.base) (λ n. Of (argument_count g t.base)))
 
+-- and where the order of tags doesn't matter
 abbrev pub head_fitting : Bool → ℕ → StaticType → Verdict StaticType
 head_fitting union at t = if_fits (fits_member union t) at t
 
 abbrev pub head_type : Env → Bool → TypeName → Verdict StaticType
 head_type g union t =
-    after (both (base_of g.tables t.base) (head_built g.tables t (all_found g.names (spots_of g.tables t))) (λ n p. settled_alone t.at p))
-    (head_fitting union t.at)
+    after (after (head_written g.tables t (all_found g.names (spots_of g.tables t))) (settled_alone t.at)) (head_fitting union t.at)
 
 abbrev pub head_faults : Env → Bool → List tree.Member → List Fault
 head_faults g union [] = []
@@ -131,7 +131,11 @@ abbrev pub bare_tag : ℕ → Bool → tree.Structure → Bool → Entry
 bare_tag i union s sound =
     OfTag (record { text = s.tag.text; is_union = union; order = i; regions = length s.regions; parts = []; sound = sound })
 
--- whether it has none of the faults that hang on no other tag: region names, unknown names and names of another kind, `void`, keys, and second members
+-- A use of a tag within itself is judged where the tag is, and not before.
+abbrev pub head_scope : Tables → ℕ → Bool → tree.Structure → Env
+head_scope g i union s = tag_scope (record { name = s.tag.text; entry = bare_tag i union s false } ∷ g) i s
+
+-- whether it has none of the faults that hang on no tag: region names, unknown names and names of another kind, `void`, keys, and second members
 abbrev pub head_entry : Tables → ℕ → Bool → tree.Structure → Entry
 head_entry g i union s =
-    bare_tag i union s (is_clean ((region_parameters s).1 ++ head_faults (tag_scope g i s) union s.members ++ repeated [] s.members))
+    bare_tag i union s (is_clean ((region_parameters s).1 ++ head_faults (head_scope g i union s) union s.members ++ repeated [] s.members))

@@ -12,7 +12,7 @@ use Rattle.judged_tags.specs.Members.{scoped}
 use Rattle.judged_tags.proofs.heads.are_heads_clean.Goals as goal
 
 pub each-preserved : goal.each-preserved
-each-preserved c g i bare =
+each-preserved c g i heads =
     let k = taken_of c.args.taken in
     let e = scoped g i c.args.names.now in
     let all = c.args.members.now in
@@ -20,17 +20,17 @@ each-preserved c g i bare =
     let m = c.member-item.result in
     ap (λ b. b && is_clean (head_faults e c.args.is_union (members_taken k (map member_tree (drop (at + 1) all))))) c.are_both-clean.ensures
     ∙ clean_next c.each.clean c.in_ok-own.own (faults_of (head_type e c.args.is_union (type_taken k (type_tree m.of))))
-    (head_faults e c.args.is_union (members_taken k (map member_tree (drop (at + 1) all)))) (c.in_ok-own.ensures g i bare)
+    (head_faults e c.args.is_union (members_taken k (map member_tree (drop (at + 1) all)))) (c.in_ok-own.ensures g i heads)
     ∙ sym (ap (λ ms. c.each.clean && is_clean (head_faults e c.args.is_union (members_taken k (map member_tree ms))))
     (drop_more all at m c.each-test.true ∙ ap (λ y. y ∷ drop (at + 1) all) (sym c.member-item.is)))
-    ∙ c.each.invariant g i bare
+    ∙ c.each.invariant g i heads
 
 pub returns : goal.returns
-returns c g i bare =
+returns c g i heads =
     let k = taken_of c.args.taken in
     let e = scoped g i c.args.names.now in
     let all = c.args.members.now in
     sym (and_true c.each.clean)
     ∙ sym (ap (λ ms. c.each.clean && is_clean (head_faults e c.args.is_union (members_taken k (map member_tree ms))))
     (drop_all c.each.member-index all (omega (arith, c.each-test.false))))
-    ∙ c.each.invariant g i bare
+    ∙ c.each.invariant g i heads

@@ -6,12 +6,12 @@ use Rattle.source_typing.specs.Tables.{Tables}
 use Rattle.source_typing.specs.Tags.{head_faults}
 use Rattle.source_typing.specs.Taken.{members_taken}
 use Rattle.type_verdicts.specs.Taken.{taken_of}
-use Rattle.judged_tags.specs.FirstKnown.{AreBare}
+use Rattle.judged_tags.specs.FirstKnown.{AreHeads}
 use Rattle.judged_tags.specs.Members.{scoped}
 use Rattle.judged_tags.proofs.heads.are_heads_clean.Given as goal
 
 -- those so far and the rest are all of them
 abbrev pub invariant-each : goal.invariant-each
-invariant-each l = (g : Tables) (i : ℕ) → AreBare l.tags g
+invariant-each l = (g : Tables) (i : ℕ) → AreHeads l.tags.own.now l.tags.regions l.tags.others.now g
     → (l.clean && is_clean (head_faults (scoped g i l.names) l.is_union (members_taken (taken_of l.taken) (map member_tree (drop l.member-index l.members)))))
     ≡ is_clean (head_faults (scoped g i l.names) l.is_union (members_taken (taken_of l.taken) (map member_tree l.members)))

@@ -11,14 +11,14 @@ use Rattle.judged_tags.specs.Members.{scoped}
 use Rattle.judged_tags.proofs.heads.are_members_clean.Goals as goal
 
 pub returns : goal.returns
-returns c g i bare =
+returns c g i heads =
     let k = taken_of c.args.taken in
     let ms = map member_tree c.args.members.now in
-    let heads = head_faults (scoped g i c.args.names.now) c.args.is_union (members_taken k ms) in
+    let all = head_faults (scoped g i c.args.names.now) c.args.is_union (members_taken k ms) in
     c.are_both.ensures
-    ∙ ap (λ b. b && c.is_none.result) (c.in_ok-clean.ensures g i bare)
-    ∙ ap (λ b. is_clean heads && b)
+    ∙ ap (λ b. b && c.is_none.result) (c.in_ok-clean.ensures g i heads)
+    ∙ ap (λ b. is_clean all && b)
     (none_told c.in_ok-second.second c.is_none.result c.is_none.ensures
     ∙ clean_none c.in_ok-second.second (repeated [] (members_taken k ms))
     (c.in_ok-second.ensures ∙ ap earliest (sym (repeated_taken k ms))))
-    ∙ sym (clean_of_both heads (repeated [] (members_taken k ms)))
+    ∙ sym (clean_of_both all (repeated [] (members_taken k ms)))

@@ -5,7 +5,7 @@ use Rattle.source_typing.specs.Programs.{bare_entry, bare_from, name_of}
 use Rattle.source_typing.specs.Taken.{item_taken, only_taken}
 use Rattle.type_verdicts.specs.Taken.{taken_of}
 use Rattle.judged_tags.specs.FirstKnown.{AreSince, bare_tags}
-use Rattle.judged_tags.proofs.FirstKnown.{bare_names, since_next}
+use Rattle.judged_tags.proofs.FirstKnown.{all_names, since_next}
 use Rattle.judged_tags.proofs.heads.bare_names.Goals as goal
 
 pub each-preserved : goal.each-preserved
@@ -29,6 +29,6 @@ returns c =
     let k = taken_of c.args.taken in
     let items = c.args.items.now in
     let all = only_taken k (program_tree items) in
-    bare_names c.args.taken (program_tree items) c.each.names
+    all_names (bare_tags all) c.each.names
     (subst (λ r. AreSince c.each.names (bare_from c.each.item-index (only_taken k (program_tree r))) (bare_tags all))
     (drop_all c.each.item-index items (omega (arith, c.each-test.false))) c.each.invariant)

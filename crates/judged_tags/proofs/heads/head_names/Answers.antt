@@ -5,7 +5,7 @@ use Rattle.source_typing.specs.Programs.{first_entry, first_from, name_of}
 use Rattle.source_typing.specs.Taken.{item_taken, only_taken}
 use Rattle.type_verdicts.specs.Taken.{taken_of}
 use Rattle.judged_tags.specs.FirstKnown.{AreSince, bare_tags, first_tags}
-use Rattle.judged_tags.proofs.FirstKnown.{first_names, since_next}
+use Rattle.judged_tags.proofs.FirstKnown.{all_names, since_next}
 use Rattle.judged_tags.proofs.heads.head_names.Goals as goal
 
 pub each-preserved : goal.each-preserved
@@ -29,6 +29,6 @@ returns c bare =
     let k = taken_of c.args.taken in
     let items = c.args.items.now in
     let all = only_taken k (program_tree items) in
-    first_names c.args.taken (program_tree items) c.each.names
+    all_names (first_tags all) c.each.names
     (subst (λ r. AreSince c.each.names (first_from (bare_tags all) c.each.item-index (only_taken k (program_tree r))) (first_tags all))
     (drop_all c.each.item-index items (omega (arith, c.each-test.false))) (c.each.invariant bare))

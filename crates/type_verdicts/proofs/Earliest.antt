@@ -8,12 +8,12 @@ use Rattle.type_verdicts.specs.declared.fault.Fault as code
 
 -- ---- of three faults, each two are compared
 
-abbrev before_by : Bool → Bool → Bool → Bool
+abbrev pub before_by : Bool → Bool → Bool → Bool
 before_by false true ranked = true
 before_by true false ranked = false
 before_by a b ranked = ranked
 
-is_by : (f g : Fault) → is_before f g ≡ before_by (is_of_flow f.kind) (is_of_flow g.kind) (nat_le (rank_of f) (rank_of g))
+pub is_by : (f g : Fault) → is_before f g ≡ before_by (is_of_flow f.kind) (is_of_flow g.kind) (nat_le (rank_of f) (rank_of g))
 is_by f g = by (is_of_flow f.kind) (is_of_flow g.kind) refl refl
   where
     by : (a b : Bool) → is_of_flow f.kind ≡ a → is_of_flow g.kind ≡ b → is_before f g ≡ before_by a b (nat_le (rank_of f) (rank_of g))

@@ -135,27 +135,38 @@ module _ {T A B : Type 0} (f : T → A) (v : code.Verdict T) (V : Verdict A) (ru
   pub after_unjudged : v ≡ variant.NotJudged → shortened (after V rule) ≡ NotJudged
   after_unjudged h = after_is ∙ ap (λ w. when w) h
 
+-- two parts, and what is answered of both
+module _ {T U A B C : Type 0} (f : T → A) (g : U → B) (v : code.Verdict T) (w : code.Verdict U) (rule : A → B → Short C) where
+  abbrev when_both : code.Verdict (T × U) → Short C
+  when_both p = short_after (short_of (both_as f g) p) (λ q. rule q.0 q.1)
+
+  pair_is : short_both (short_of f v) (short_of g w) rule ≡ when_both (paired v w)
+  pair_is = short_then (short_of f v) (short_of g w) rule ∙ ap (λ s. short_after s (λ q. rule q.0 q.1)) (sym (paired_same f g v w))
+
+  pub pair_known : (t : T) (u : U) → paired v w ≡ variant.Of (t, u) → short_both (short_of f v) (short_of g w) rule ≡ rule (f t) (g u)
+  pair_known t u k = pair_is ∙ ap when_both k
+
+  pub pair_wrong : (x : found.Fault) → paired v w ≡ variant.Wrong x → short_both (short_of f v) (short_of g w) rule ≡ Wrong (fault_of x)
+  pair_wrong x k = pair_is ∙ ap when_both k
+
+  pub pair_not_judged : paired v w ≡ variant.NotJudged → short_both (short_of f v) (short_of g w) rule ≡ NotJudged
+  pair_not_judged k = pair_is ∙ ap when_both k
+
 -- a phrase of two parts
 module _ {T U A B C : Type 0} (f : T → A) (g : U → B) (v : code.Verdict T) (w : code.Verdict U) (V : Verdict A) (W : Verdict B)
     (rule : A → B → Verdict C) (e : short_of f v ≡ shortened V) (h : short_of g w ≡ shortened W) where
-  abbrev on_both : A × B → Short C
-  on_both p = shortened (rule p.0 p.1)
+  abbrev on_both : A → B → Short C
+  on_both a b = shortened (rule a b)
 
-  both_is : shortened (both V W rule) ≡ short_after (short_of (both_as f g) (paired v w)) (λ p. on_both p)
+  both_is : shortened (both V W rule) ≡ short_both (short_of f v) (short_of g w) on_both
   both_is =
-      shortened_both V W rule ∙ short_then (shortened V) (shortened W) (λ a b. shortened (rule a b))
-      ∙ ap (λ s. short_after (short_both s (shortened W) as_pair) (λ p. on_both p)) (sym e)
-      ∙ ap (λ s. short_after (short_both (short_of f v) s as_pair) (λ p. on_both p)) (sym h)
-      ∙ ap (λ s. short_after s (λ p. on_both p)) (sym (paired_same f g v w))
-
-  abbrev when_both : code.Verdict (T × U) → Short C
-  when_both p = short_after (short_of (both_as f g) p) (λ q. on_both q)
+      shortened_both V W rule ∙ ap (λ s. short_both s (shortened W) on_both) (sym e) ∙ ap (λ s. short_both (short_of f v) s on_both) (sym h)
 
   pub both_of : (t : T) (u : U) → paired v w ≡ variant.Of (t, u) → shortened (both V W rule) ≡ shortened (rule (f t) (g u))
-  both_of t u k = both_is ∙ ap (λ p. when_both p) k
+  both_of t u k = both_is ∙ pair_known f g v w on_both t u k
 
   pub both_wrong_is : (x : found.Fault) → paired v w ≡ variant.Wrong x → shortened (both V W rule) ≡ Wrong (fault_of x)
-  both_wrong_is x k = both_is ∙ ap (λ p. when_both p) k
+  both_wrong_is x k = both_is ∙ pair_wrong f g v w on_both x k
 
   pub both_unjudged : paired v w ≡ variant.NotJudged → shortened (both V W rule) ≡ NotJudged
-  both_unjudged k = both_is ∙ ap (λ p. when_both p) k
+  both_unjudged k = both_is ∙ pair_not_judged f g v w on_both k

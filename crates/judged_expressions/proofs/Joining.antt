@@ -8,32 +8,12 @@ use Rattle.source_typing.specs.Fixing.{more}
 use Rattle.source_typing.specs.Operators.{applied, tested_both}
 use Rattle.source_typing.specs.Scope.{Env, Value}
 use Rattle.source_typing.specs.Verdicts.{Verdict, both}
-use Rattle.type_verdicts.specs.Faults.{fault_of}
 use Rattle.type_verdicts.specs.Verdicts.{Is, NotJudged, Short, Wrong, paired, short_after, short_both, short_of, short_wrong, shortened}
-use Rattle.type_verdicts.specs.declared.fault.Fault as found
 use Rattle.type_verdicts.specs.declared.verdict.Verdict as code
 use Rattle.type_verdicts.specs.declared.verdict.Verdict.TheVariants as variant
 use Rattle.type_verdicts.proofs.Earliest.{first_joined}
-use Rattle.type_verdicts.proofs.Shortened.{both_as, paired_same, short_then, shortened_both}
+use Rattle.type_verdicts.proofs.Shortened.{pair_known, shortened_both}
 use Rattle.judged_expressions.specs.Joined.{one_more, short_all, short_links, short_tests}
-
--- ---- two parts in code
-
-module _ {T U A B C : Type 0} (f : T → A) (g : U → B) (v : code.Verdict T) (w : code.Verdict U) (rule : A → B → Short C) where
-  abbrev when_both : code.Verdict (T × U) → Short C
-  when_both p = short_after (short_of (both_as f g) p) (λ q. rule q.0 q.1)
-
-  both_is : short_both (short_of f v) (short_of g w) rule ≡ when_both (paired v w)
-  both_is = short_then (short_of f v) (short_of g w) rule ∙ ap (λ s. short_after s (λ q. rule q.0 q.1)) (sym (paired_same f g v w))
-
-  pub both_known : (t : T) (u : U) → paired v w ≡ variant.Of (t, u) → short_both (short_of f v) (short_of g w) rule ≡ rule (f t) (g u)
-  both_known t u k = both_is ∙ ap when_both k
-
-  pub both_wrong : (x : found.Fault) → paired v w ≡ variant.Wrong x → short_both (short_of f v) (short_of g w) rule ≡ Wrong (fault_of x)
-  both_wrong x k = both_is ∙ ap when_both k
-
-  pub both_not_judged : paired v w ≡ variant.NotJudged → short_both (short_of f v) (short_of g w) rule ≡ NotJudged
-  both_not_judged k = both_is ∙ ap when_both k
 
 -- ---- what a function answers of one part and of two, by what it answers where they are in order
 
@@ -45,7 +25,7 @@ module _ {T U A B V C E : Type 0} (f : T → A) (g : U → B) (h : V → C) (r :
     (rule : A → B → Short C) where
   pub both_answer : (t : T) (u : U) → paired v w ≡ variant.Of (t, u) → IfOk r (λ x. short_of h x ≡ rule (f t) (g u))
       → IfOk r (λ x. short_of h x ≡ short_both (short_of f v) (short_of g w) rule)
-  both_answer t u e k = subst (λ s. IfOk r (λ x. short_of h x ≡ s)) (sym (both_known f g v w rule t u e)) k
+  both_answer t u e k = subst (λ s. IfOk r (λ x. short_of h x ≡ s)) (sym (pair_known f g v w rule t u e)) k
 
 -- ---- operands
 

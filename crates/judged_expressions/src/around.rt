@@ -1,6 +1,6 @@
 // What is around an expression within a larger one.
 
-ghost use Rattle.std.specs.Prelude.{◌≡◌, IfOk, ◌||◌, bytes_eq, option_map, ℕ, List};
+ghost use Rattle.std.specs.Prelude.{◌≡◌, ◌+◌, IfOk, ◌||◌, bytes_eq, length, option_map, ℕ, List};
 ghost use Rattle.std.specs.List.{list_any};
 ghost use Rattle.scoped_names.specs.Means.{Means, meaning_of};
 ghost use Rattle.source_typing.specs.Scope.{Env, meant};
@@ -19,7 +19,7 @@ use type_verdicts::Verdict;
 
 /// What is around an expression within a larger one.
 #[derive(Clone, Copy, Debug)]
-pub(crate) struct Around<'a> {
+pub struct Around<'a> {
     /// The innermost `rnew`.
     pub enclosing: Enclosing,
     /// The indexes of the arrays that are made around, the innermost last. They hide what is in scope.
@@ -27,19 +27,20 @@ pub(crate) struct Around<'a> {
 }
 
 /// Whether a name is one of these.
-fn is_counter(counters: &[&[u8]], name: &[u8]) -> bool
+pub fn is_counter(counters: &[&[u8]], name: &[u8]) -> bool
     ensures { result ≡ is_counter counters.now name.now }
 {
     counters.iter().any(|counter| *counter == name)
 }
 
 /// The indexes of arrays that are made around, and of one more. Fails only where no host memory is left.
-pub(crate) fn with_counter<'a>(
+pub fn with_counter<'a>(
     alloc: Global,
     counters: &[&'a [u8]],
     index: &'a [u8],
 ) -> Result<Vec<&'a [u8]>, AllocError>
-    ensures { IfOk result (λ all. (x : List ℕ) → is_counter all.items x ≡ (is_counter counters.now x || bytes_eq index.entry.now x)) }
+    ensures found { IfOk result (λ all. (x : List ℕ) → is_counter all.items x ≡ (is_counter counters.now x || bytes_eq index.entry.now x)) }
+    ensures one_more { IfOk result (λ all. length all.items ≡ length counters.now + 1) }
 {
     let mut all = Vec::from_slice(alloc, counters)?;
     all.push(index)?;
@@ -65,7 +66,7 @@ pub(crate) fn meaning<'s, 'p>(
 
 impl<'a> Around<'a> {
     /// The same around what is made there.
-    pub(crate) fn inside(self, goal: &Verdict<Goal>) -> Around<'a>
+    pub fn inside(self, goal: &Verdict<Goal>) -> Around<'a>
         ensures enclosing { enclosing_of result.enclosing ≡ enclosed_short (short_of goal_in goal.now) }
         ensures counters { result.counters ≡ self.entry.counters }
     {

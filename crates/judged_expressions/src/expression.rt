@@ -71,7 +71,7 @@ pub fn judge<'p>(
 
 /// The same, with this around.
 #[cycle(expression)]
-fn judge_inside<'p>(
+pub fn judge_inside<'p>(
     scope: &Scope<'_, 'p>,
     alloc: Global,
     around: Around<'_>,

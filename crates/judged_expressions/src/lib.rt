@@ -7,6 +7,8 @@ mod making;
 mod parts;
 mod suffixes;
 
-pub use expression::{are_linked, are_some, judge};
-pub use making::takes_handle;
-pub use suffixes::takes_suffixes;
+pub use around::{Around, is_counter, with_counter};
+pub use expression::{are_linked, are_some, judge, judge_inside};
+pub use making::{goal_part, is_unique_region, takes_handle};
+pub use parts::prefixed_part;
+pub use suffixes::{arrow_part, indexed_parts, member_part, takes_suffixes};

@@ -37,7 +37,7 @@ pub(crate) fn heap_region_taken<'p>(taken: Taken, alloc: Global, at: u32) -> Ver
 }
 
 /// Whether an expression is `unique_region`, also in parentheses.
-pub(crate) fn is_unique_region(expression: &Expression) -> bool
+pub fn is_unique_region(expression: &Expression) -> bool
     ensures { result ≡ is_unique_region (expression_tree expression.now) }
 {
     match expression {
@@ -59,7 +59,7 @@ pub fn takes_handle(taken: Taken, handle: &Expression) -> bool
 }
 
 /// Where a handle makes, by whether it is `unique_region` and by what it is.
-pub(crate) fn goal_part(scope: &Scope, is_unique: bool, handle: Verdict<Value>) -> Verdict<Goal>
+pub fn goal_part(scope: &Scope, is_unique: bool, handle: Verdict<Value>) -> Verdict<Goal>
     ensures { (g : Env) → Sees scope.now g → short_of goal_in result ≡ short_goal is_unique g (short_of value_of handle.entry) }
 {
     if is_unique {
@@ -94,7 +94,7 @@ fn is_refused_alone(goal: &Verdict<Goal>, value: &Verdict<Value>) -> bool
 }
 
 /// Where a value is made, and what it is.
-#[tactic(auto, using(crate::proofs::Joining::both_wrong, crate::proofs::Joining::both_not_judged))]
+#[tactic(auto, using(type_verdicts::proofs::Shortened::pair_wrong, type_verdicts::proofs::Shortened::pair_not_judged))]
 fn made_both<'p>(
     at: u32,
     goal: Verdict<Goal>,
@@ -128,7 +128,7 @@ pub(crate) fn made_parts<'p>(
 }
 
 /// An element of an array that is made, by what their count and the element are.
-#[tactic(auto, using(crate::proofs::Joining::both_known, crate::proofs::Joining::both_wrong, crate::proofs::Joining::both_not_judged))]
+#[tactic(auto, using(type_verdicts::proofs::Shortened::pair_known, type_verdicts::proofs::Shortened::pair_wrong, type_verdicts::proofs::Shortened::pair_not_judged))]
 pub(crate) fn elements_part<'p>(
     at: u32,
     count: Verdict<Value<'p>>,
@@ -145,7 +145,7 @@ pub(crate) fn elements_part<'p>(
 }
 
 /// Where an array is made, and what its elements are.
-#[tactic(auto, using(crate::proofs::Joining::both_wrong, crate::proofs::Joining::both_not_judged))]
+#[tactic(auto, using(type_verdicts::proofs::Shortened::pair_wrong, type_verdicts::proofs::Shortened::pair_not_judged))]
 fn array_both<'p>(
     at: u32,
     goal: Verdict<Goal>,

@@ -50,7 +50,7 @@ pub(crate) fn only_joined<'p>(
 }
 
 /// An operator before an operand.
-pub(crate) fn prefixed_part<'p>(
+pub fn prefixed_part<'p>(
     scope: &Scope<'_, 'p>,
     alloc: Global,
     at: u32,
@@ -79,7 +79,7 @@ pub(crate) fn grouped_part<'p>(at: u32, inner: Verdict<Value<'p>>) -> Verdict<Va
 }
 
 /// Two operands of an operator.
-#[tactic(auto, using(crate::proofs::Joining::both_wrong, crate::proofs::Joining::both_not_judged))]
+#[tactic(auto, using(type_verdicts::proofs::Shortened::pair_wrong, type_verdicts::proofs::Shortened::pair_not_judged))]
 pub(crate) fn applied_parts<'p>(
     scope: &Scope<'_, 'p>,
     alloc: Global,
@@ -98,7 +98,7 @@ pub(crate) fn applied_parts<'p>(
 }
 
 /// Two operands of `&&` or `||`.
-#[tactic(auto, using(crate::proofs::Joining::both_known, crate::proofs::Joining::both_wrong, crate::proofs::Joining::both_not_judged))]
+#[tactic(auto, using(type_verdicts::proofs::Shortened::pair_known, type_verdicts::proofs::Shortened::pair_wrong, type_verdicts::proofs::Shortened::pair_not_judged))]
 pub(crate) fn tested_parts<'p>(
     alloc: Global,
     one: Verdict<Value<'p>>,
@@ -114,7 +114,7 @@ pub(crate) fn tested_parts<'p>(
 }
 
 /// A place, and what is assigned to it.
-#[tactic(auto, using(crate::proofs::Joining::both_wrong, crate::proofs::Joining::both_not_judged))]
+#[tactic(auto, using(type_verdicts::proofs::Shortened::pair_wrong, type_verdicts::proofs::Shortened::pair_not_judged))]
 pub(crate) fn assigned_parts<'p>(
     scope: &Scope<'_, 'p>,
     alloc: Global,
@@ -132,7 +132,7 @@ pub(crate) fn assigned_parts<'p>(
 }
 
 /// What is called, and its arguments.
-#[tactic(auto, using(crate::proofs::Joining::both_wrong, crate::proofs::Joining::both_not_judged))]
+#[tactic(auto, using(type_verdicts::proofs::Shortened::pair_wrong, type_verdicts::proofs::Shortened::pair_not_judged))]
 pub(crate) fn called_parts<'p>(
     scope: &Scope<'_, 'p>,
     alloc: Global,
@@ -155,7 +155,7 @@ pub(crate) fn called_parts<'p>(
 }
 
 /// Arguments, and one after them.
-#[tactic(auto, using(crate::proofs::Joining::both_wrong, crate::proofs::Joining::both_not_judged))]
+#[tactic(auto, using(type_verdicts::proofs::Shortened::pair_wrong, type_verdicts::proofs::Shortened::pair_not_judged))]
 pub(crate) fn given_after<'p>(
     given: Verdict<Vec<Value<'p>>>,
     argument: Verdict<Value<'p>>,
@@ -205,7 +205,7 @@ pub(crate) fn counted_part<'p>(
 }
 
 /// The member of a union that a value is made of, and its value.
-#[tactic(auto, using(crate::proofs::Joining::both_wrong, crate::proofs::Joining::both_not_judged))]
+#[tactic(auto, using(type_verdicts::proofs::Shortened::pair_wrong, type_verdicts::proofs::Shortened::pair_not_judged))]
 fn made_union<'p>(
     scope: &Scope<'_, 'p>,
     alloc: Global,

@@ -48,7 +48,7 @@ pub fn takes_suffixes(taken: Taken, suffixes: &[Suffix]) -> bool
 }
 
 /// A member of what stands before it.
-pub(crate) fn member_part<'p>(
+pub fn member_part<'p>(
     tables: &Tables<'p>,
     field: &Name,
     operand: Verdict<Value<'p>>,
@@ -64,7 +64,7 @@ pub(crate) fn member_part<'p>(
 }
 
 /// A member of what a pointer leads to that stands before it.
-pub(crate) fn arrow_part<'p>(
+pub fn arrow_part<'p>(
     scope: &Scope<'_, 'p>,
     field: &Name,
     operand: Verdict<Value<'p>>,
@@ -80,8 +80,8 @@ pub(crate) fn arrow_part<'p>(
 }
 
 /// A subscript of what stands before it.
-#[tactic(auto, using(crate::proofs::Joining::both_known, crate::proofs::Joining::both_wrong, crate::proofs::Joining::both_not_judged))]
-pub(crate) fn indexed_parts<'p>(
+#[tactic(auto, using(type_verdicts::proofs::Shortened::pair_known, type_verdicts::proofs::Shortened::pair_wrong, type_verdicts::proofs::Shortened::pair_not_judged))]
+pub fn indexed_parts<'p>(
     scope: &Scope<'_, 'p>,
     operand: Verdict<Value<'p>>,
     index: Verdict<Value<'p>>,

@@ -1,8 +1,9 @@
 -- Effects and bounds speak of the head's region variables.
-use Rattle.std.proofs.Common.{◌≡◌, ℕ, zero, suc, ◌+◌, ◌<◌, ◌≤◌, Bool, true, false, Option, Some, None, List, [], ◌∷◌, sym, subst, arith}
+use Rattle.std.proofs.Common.{◌≡◌, ℕ, zero, suc, ◌+◌, ◌≤◌, Bool, true, false, Option, Some, None, List, [], ◌∷◌, sym, subst, arith}
 use Rattle.std.specs.Prelude.{bytes_eq, if◌then◌else◌, map, not, ◌||◌}
 use Rattle.cyc_tree.specs.Places.{region_place}
-use Rattle.source_safety.specs.Named.{AllBelow, Below, BoundsBelow}
+use Rattle.source_safety.proofs.Names.{names_up}
+use Rattle.source_safety.specs.Named.{AllBelow, Below, BoundsBelow, NamesBelow}
 use Rattle.source_typing.specs.Functions.{
   Variables,
   all_of,
@@ -20,13 +21,11 @@ use Rattle.source_typing.specs.Functions.{
   used_named,
   used_region,
 }
-use Rattle.source_typing.specs.Regions.{Level, Region, TheHeap, is_among}
+use Rattle.source_typing.specs.Regions.{Level, Region, is_among}
 use Rattle.source_typing.specs.Tables.{Tables}
 use Rattle.source_typing.specs.Verdicts.{Faulty, Of, Unjudged, Verdict, after, both}
 use Rattle.source_typing.specs.Written.{RegionNamed, Spot, find_region, spots_of}
 use Rattle.judged_heads.proofs.Effects.{levels_known}
-use Rattle.judged_statements.proofs.RegionScopes.{names_up}
-use Rattle.judged_statements.specs.Contexts.{NamesBelow}
 use Rattle.cyc_tree.specs.Tree as tree
 
 -- ---- the names of region variables

@@ -1,5 +1,5 @@
 -- What is in scope where a body begins, and the fault of a function that is answered.
-use Rattle.std.proofs.Common.{◌≡◌, ℕ, Bool, false, true, Option, Some, None, List, [], ◌∷◌, refl, sym, ◌∙◌, ap, subst, arith}
+use Rattle.std.proofs.Common.{◌≡◌, ℕ, Bool, false, Option, Some, None, List, [], ◌∷◌, refl, sym, ◌∙◌, ap, subst, arith}
 use Rattle.std.specs.Prelude.{◌++◌, map, option_map}
 use Rattle.cyc_types.specs.Regions.{region_of, regions_of}
 use Rattle.cyc_types.specs.Sameness.{HasTags}
@@ -18,12 +18,12 @@ use Rattle.scoped_names.specs.Means.{Means}
 use Rattle.scoped_names.specs.declared.scope.Scope.{Scope}
 use Rattle.scoped_types.specs.Fields.{pair_of}
 use Rattle.scoped_types.specs.Scopes.{AreThose, Scoped}
+use Rattle.source_safety.proofs.Names.{names_up}
 use Rattle.source_safety.specs.Named.{AllBelow, BoundsBelow}
 use Rattle.source_typing.specs.Written.{RegionNamed}
 use Rattle.type_verdicts.proofs.Earliest.{earliest_of_both, found_sooner}
 use Rattle.type_verdicts.specs.Faults.{faults_of, first_of, sooner_found}
 use Rattle.type_verdicts.specs.declared.fault.Fault as found
-use Rattle.judged_statements.proofs.RegionScopes.{names_up}
 use Rattle.judged_statements.specs.Contexts.{StandsIn}
 use Rattle.judged_statements.specs.declared.context.Context.{Context}
 use Rattle.judged_heads.specs.Bodies.{KnowsGlobals, own_found, types_of}

@@ -1,6 +1,6 @@
 -- Keys are no pointers, and are found one after another.
-use Rattle.std.proofs.Common.{◌≡◌, Option, Some, None, List, [], ◌∷◌, append-nil, append_assoc, map, refl, sym, ap, ◌∙◌}
-use Rattle.std.specs.Prelude.{option_map, ◌++◌}
+use Rattle.std.proofs.Common.{◌≡◌, Option, Some, None, List, [], ◌∷◌, append-nil, map, refl, sym, ap, ◌∙◌}
+use Rattle.std.specs.Prelude.{◌++◌}
 use Rattle.std.proofs.lemmas.List.{map-append}
 use Rattle.cyc_types.proofs.Outermost.{by_outermost}
 use Rattle.cyc_types.specs.Bases.{base_type}

@@ -1,5 +1,5 @@
 -- Parameters that are read one by one.
-use Rattle.std.proofs.Common.{◌≡◌, Bool, ◌+◌, ℕ, List, [], ◌∷◌, ◌++◌, drop, map, refl, sym, ap, subst, ◌∙◌, append_assoc}
+use Rattle.std.proofs.Common.{◌≡◌, ◌+◌, ℕ, List, [], ◌∷◌, ◌++◌, drop, map, refl, sym, ap, subst, ◌∙◌, append_assoc}
 use Rattle.std.specs.Prelude.{None, Option, Some, unwrap_or}
 use Rattle.cyc_types.specs.Types.{static_type}
 use Rattle.cyc_types.specs.declared.ctype.CType.{CType}

@@ -1,12 +1,11 @@
 -- What a function's body is judged in.
-use Rattle.std.specs.Prelude.{Bool, List, None, Option, Some, false, map, true, ℕ, ◌≡◌}
+use Rattle.std.specs.Prelude.{List, None, Option, Some, map, ℕ}
 use Rattle.cyc_types.specs.Sameness.{HasTags}
 use Rattle.source_typing.specs.Tables.{Tables, find}
 use Rattle.source_typing.specs.Types.{StaticType}
 use Rattle.scoped_names.specs.Globals.{global_meaning}
 use Rattle.scoped_names.specs.Means.{Means}
 use Rattle.scoped_names.specs.declared.globals.Globals.{Globals}
-use Rattle.scoped_names.specs.declared.meaning.Meaning.TheVariants as code
 use Rattle.written_types.specs.Naming.{AreTagNames}
 use Rattle.judged_heads.specs.Heads.{known_static}
 use Rattle.judged_heads.specs.declared.body.Names.{Names}

@@ -5,12 +5,11 @@ use Rattle.cyc_types.specs.Types.{static_type}
 use Rattle.cyc_types.specs.declared.ctype.CType.{CType}
 use Rattle.source_typing.specs.Faults.{earliest}
 use Rattle.scoped_types.specs.Fields.{pair_of}
-use Rattle.source_safety.specs.Named.{AllBelow, BoundsBelow}
+use Rattle.source_safety.specs.Named.{AllBelow, BoundsBelow, NamesBelow}
 use Rattle.source_typing.specs.Types.{StaticType}
 use Rattle.type_verdicts.specs.Faults.{faults_of}
 use Rattle.type_verdicts.specs.declared.verdict.Verdict as verdict
 use Rattle.type_verdicts.specs.declared.verdict.Verdict.TheVariants as variant
-use Rattle.judged_statements.specs.Contexts.{NamesBelow}
 use Rattle.judged_heads.specs.declared.head.Head as code
 use Rattle.judged_heads.specs.declared.head.Parameter.{Parameter}
 use Rattle.cyc_tree.specs.Tree as tree

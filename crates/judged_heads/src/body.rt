@@ -1,6 +1,6 @@
 // The faults of functions.
 
-ghost use Rattle.std.specs.Prelude.{◌≡◌, Bool, IfOk, List, OnOk, [], not, true, ℕ};
+ghost use Rattle.std.specs.Prelude.{◌≡◌, IfOk, List, OnOk, [], not, true, ℕ};
 ghost use Rattle.cyc_tree.specs.Tree as tree;
 ghost use Rattle.cyc_tree.specs.View.{function_tree};
 ghost use Rattle.cyc_types.specs.Regions.{region_of};
@@ -15,6 +15,7 @@ ghost use Rattle.source_typing.specs.Written.{RegionNamed};
 ghost use Rattle.type_verdicts.specs.Taken.{taken_of};
 ghost use Rattle.type_verdicts.specs.Faults.{faults_of};
 ghost use Rattle.scoped_names.specs.Knows.{Knows};
+ghost use Rattle.scoped_names.specs.Matching.{AreLocals};
 ghost use Rattle.scoped_names.specs.Means.{WhatIs};
 ghost use Rattle.judged_statements.specs.Contexts.{StandsIn};
 ghost use Rattle.judged_heads.specs.Bodies.{KnowsNames, code_names, names_of, own_found, types_of};
@@ -52,13 +53,16 @@ fn local_of<'p>(frame: RegionId, of: &Verdict<CType<'p>>) -> Result<What<'p>, Al
 }
 
 /// Declares a parameter in the body's block; a second one of a name leaves the first. Fails only where no host memory is left.
-fn declare_parameter<'p>(
+pub fn declare_parameter<'p>(
     scope: &mut Scope<'_, 'p>,
     context: Context<'_, 'p>,
     parameter: &Parameter<'p>,
 ) -> Result<(), AllocError>
     ensures stands { (ns : List RegionNamed) (g : Env) (x : tree.Name) → x.text ≡ parameter.now.name.now → StandsIn context.entry ns 0 scope.old g
         → OnOk result (StandsIn context.entry ns 0 scope.new (with_local x (what_of_known g.frame (known_static parameter.now.of)) g)) }
+    ensures locals { (ns : List RegionNamed) (g : Env) (x : tree.Name) → x.text ≡ parameter.now.name.now → StandsIn context.entry ns 0 scope.old g
+        → AreLocals scope.old.locals g.locals
+        → OnOk result (AreLocals scope.new.locals (with_local x (what_of_known g.frame (known_static parameter.now.of)) g).locals) }
     ensures taken { OnOk result (scope.new.taken ≡ scope.old.taken) }
 {
     if scope.locals.is_second(0, parameter.name) {
@@ -86,7 +90,7 @@ fn declare_parameters<'p>(
 }
 
 /// What is in scope where a function's body begins, without its parameters. Fails only where no host memory is left.
-fn entered<'g, 'p>(
+pub fn entered<'g, 'p>(
     alloc: Global,
     names: Names<'g, 'p>,
     lenient: bool,

@@ -12,6 +12,6 @@ mod keys;
 mod meaning;
 mod reading;
 
-pub use body::{Names, function_fault};
+pub use body::{Names, declare_parameter, entered, function_fault};
 pub use head::{Head, Parameter, is_main, read_head};
-pub use meaning::head_meaning;
+pub use meaning::{head_meaning, known_type};

@@ -16,7 +16,7 @@ use std::alloc::{AllocError, Global};
 use type_verdicts::Verdict;
 
 /// A type, where it is known.
-pub(crate) fn known_type<'a, 'p>(of: &'a Verdict<CType<'p>>) -> Option<&'a CType<'p>>
+pub fn known_type<'a, 'p>(of: &'a Verdict<CType<'p>>) -> Option<&'a CType<'p>>
     ensures { option_map (λ t. static_type t.now) result ≡ known_static of.now }
 {
     match of {

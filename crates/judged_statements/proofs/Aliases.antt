@@ -1,9 +1,6 @@
 -- Aliases, by what was judged of their parts.
-use Rattle.std.proofs.Common.{◌≡◌, Bool, true, false, List, [], ◌∷◌, Option, Some, None, refl, sym, ap, ◌∙◌}
-use Rattle.std.specs.Prelude.{◌&&◌, if◌then◌else◌}
+use Rattle.std.proofs.Common.{◌≡◌, Bool, false, Option, Some, None, refl, sym, ap, ◌∙◌}
 use Rattle.cyc_tree.specs.Tree as tree
-use Rattle.cyc_tree.specs.declared.name.Sign.{Sign}
-use Rattle.cyc_tree.specs.declared.name.Sign.TheVariants as sign
 use Rattle.cyc_types.proofs.Converting.{by_none, by_outer}
 use Rattle.cyc_types.specs.Bases.{base_type}
 use Rattle.cyc_types.specs.Layers.{outermost, pointer_to}
@@ -18,52 +15,8 @@ use Rattle.cyc_types.specs.declared.region.RegionId.{RegionId}
 use Rattle.source_typing.specs.Declarations.{aliased, with_region}
 use Rattle.source_typing.specs.Regions.{Region, Regions}
 use Rattle.source_typing.specs.Scope.{Env, in_scope}
-use Rattle.source_typing.specs.Taken.{refused_type, takes_arguments, takes_base, takes_pointers, takes_region, takes_sign, type_taken, whole}
 use Rattle.source_typing.specs.Types.{StaticType}
 use Rattle.judged_statements.specs.Operands.{outside_unique}
-
--- ---- every type is taken where all is
-
-all_three : (a b c : Bool) → a ≡ true → b ≡ true → c ≡ true → (a && b && c) ≡ true
-all_three true true c p q r = r
-all_three true false c p q r = absurd cc
-all_three false b c p q r = absurd cc
-
-takes_each_sign : (s : Sign) → takes_sign whole s ≡ true
-takes_each_sign sign.Nullable = refl
-takes_each_sign sign.NotNull = refl
-takes_each_sign sign.Fat = refl
-
-takes_each_region : (r : Option tree.RegionName) → takes_region whole r ≡ true
-takes_each_region None = refl
-takes_each_region (Some (tree.Heap at)) = refl
-takes_each_region (Some (tree.Unique at)) = refl
-takes_each_region (Some (tree.Named n)) = refl
-
-takes_each_pointer : (ps : List tree.Pointer) → takes_pointers whole ps ≡ true
-takes_each_pointer [] = refl
-takes_each_pointer (p ∷ ps) =
-    all_three (takes_sign whole p.sign) (takes_region whole p.region) (takes_pointers whole ps) (takes_each_sign p.sign) (takes_each_region p.region)
-    (takes_each_pointer ps)
-
-takes_all_arguments : (rs : List tree.RegionName) → takes_arguments whole rs ≡ true
-takes_all_arguments [] = refl
-takes_all_arguments (r ∷ rs) = refl
-
-takes_each_base : (b : tree.Base) → takes_base whole b ≡ true
-takes_each_base tree.Int = refl
-takes_each_base tree.Unsigned = refl
-takes_each_base tree.Char = refl
-takes_each_base tree.Void = refl
-takes_each_base (tree.Struct tag rs) = takes_all_arguments rs
-takes_each_base (tree.Union tag rs) = takes_all_arguments rs
-takes_each_base (tree.Handle r) = refl
-takes_each_base (tree.Key r) = refl
-
-pub type_as_is : (t : tree.TypeName) → type_taken whole t ≡ t
-type_as_is t =
-    ap (λ b. if b && takes_pointers whole t.pointers then t else refused_type t.at) (takes_each_base t.base)
-    ∙ ap (λ (b : Bool). if b then t else refused_type t.at) (takes_each_pointer t.pointers)
 
 -- ---- a region that begins hides no name
 

@@ -1,38 +1,29 @@
 -- What is answered of a phrase that is judged.
-use Rattle.std.proofs.Common.{◌≡◌, ℕ, Bool, true, false, Option, Some, None, refl, ◌∙◌, ap, sym}
-use Rattle.std.specs.Prelude.{unwrap_or}
+use Rattle.std.proofs.Common.{◌≡◌, ℕ, Bool, true, false, refl, ◌∙◌, ap, sym}
 use Rattle.cyc_tree.specs.Places.{expression_place}
 use Rattle.cyc_tree.specs.Tree.{Expression}
-use Rattle.source_typing.specs.Faults.{Fault, earliest, sooner_of}
+use Rattle.source_typing.specs.Faults.{earliest}
 use Rattle.source_typing.specs.Taken.{Taken, are_linked, are_some, if_taken, taken, takes_prefix}
 use Rattle.source_typing.specs.Verdicts.{Faulty, Of, Unjudged, Verdict}
 use Rattle.source_typing.specs.Verdicts as rules
 use Rattle.type_verdicts.specs.Faults.{faults_of}
 use Rattle.type_verdicts.specs.Verdicts.{Is, NotJudged, Short, Wrong, fault_found, fault_in, short_of, shortened}
 use Rattle.type_verdicts.specs.declared.verdict.Verdict as code
-use Rattle.type_verdicts.specs.declared.verdict.Verdict.TheVariants as variant
+use Rattle.type_verdicts.proofs.Earliest.{sooner_some}
+use Rattle.type_verdicts.proofs.Shortened.{fault_same}
 
 -- ---- faults
 
-none_later : (f : Fault) (o : Option Fault) → Some (unwrap_or (sooner_of f o) f) ≡ sooner_of f o
-none_later f None = refl
-none_later f (Some g) = refl
-
 -- the fault of a phrase
 pub earliest_in : {A : Type 0} (v : Verdict A) → fault_in (shortened v) ≡ earliest (rules.faults_of v)
-earliest_in (Faulty f fs) = none_later f (earliest fs)
+earliest_in (Faulty f fs) = sooner_some f (earliest fs)
 earliest_in Unjudged = refl
 earliest_in (Of a) = refl
-
-found_in : {T A : Type 0} (as_is : T → A) (v : code.Verdict T) → faults_of (fault_found v) ≡ fault_in (short_of as_is v)
-found_in as_is (variant.Wrong f) = refl
-found_in as_is variant.NotJudged = refl
-found_in as_is (variant.Of v) = refl
 
 -- the fault that is answered of a phrase is the earliest of its faults
 pub fault_is : {T A : Type 0} (as_is : T → A) (v : code.Verdict T) (w : Verdict A) → short_of as_is v ≡ shortened w
     → faults_of (fault_found v) ≡ earliest (rules.faults_of w)
-fault_is as_is v w e = found_in as_is v ∙ ap fault_in e ∙ earliest_in w
+fault_is as_is v w e = fault_same as_is v ∙ ap fault_in e ∙ earliest_in w
 
 -- ---- verdicts by what is answered
 

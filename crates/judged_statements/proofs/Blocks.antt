@@ -8,6 +8,7 @@ use Rattle.cyc_tree.specs.declared.statement.BlockItem as code_item
 use Rattle.cyc_tree.specs.declared.expression.Expression as code_expression
 use Rattle.cyc_tree.specs.View.{OneItem, expression_tree, item_tree, items_of}
 use Rattle.cyc_tree.specs.Tree.{BlockItems, Statement}
+use Rattle.source_safety.proofs.Names.{names_up}
 use Rattle.source_typing.specs.Declarations.{declare, name_added, operand}
 use Rattle.source_typing.specs.Expressions.{judge}
 use Rattle.source_typing.specs.Faults.{Fault, earliest, fault, type_rule}
@@ -18,7 +19,7 @@ use Rattle.source_typing.specs.Types.{is_key, is_unique}
 use Rattle.source_typing.specs.Verdicts as verdict
 use Rattle.type_verdicts.specs.Faults.{faults_of, first_of, sooner_found}
 use Rattle.type_verdicts.specs.declared.fault.Fault as found
-use Rattle.type_verdicts.proofs.Earliest.{earliest_of_both, found_sooner, sooner_first}
+use Rattle.type_verdicts.proofs.Earliest.{earliest_of_both, first_joined, found_sooner}
 use Rattle.scoped_names.specs.Changes.{left}
 use Rattle.scoped_names.specs.Locals.{Known, dropped_to}
 use Rattle.scoped_names.specs.declared.scope.Scope.{Scope}
@@ -36,7 +37,6 @@ use Rattle.source_typing.specs.Regions.{Level, Region}
 use Rattle.source_typing.specs.Written.{RegionNamed}
 use Rattle.judged_statements.specs.Contexts.{StandsIn, Suits, kept_to}
 use Rattle.judged_statements.specs.Leaving.{item_falls}
-use Rattle.judged_statements.proofs.RegionScopes.{names_up}
 use Rattle.judged_statements.specs.declared.context.Context.{Context}
 
 -- the items of a block as far as they are taken
@@ -61,10 +61,6 @@ item_more : (k : Taken) (g : Env) (reached : Bool) (i : OneItem) (rest : List On
 item_more k g reached (OneItem.Declare d) rest =
     ap (λ b. item_faults k g reached (OneItem.Declare d) ++ items_faults (scope_behind k g (OneItem.Declare d)) b (taken_items k rest)) (sym (and_true reached))
 item_more k g reached (OneItem.Execute s) rest = refl
-
-pub first_joined : (a b c : Option Fault) → first_of (first_of a b) c ≡ first_of a (first_of b c)
-first_joined None b c = refl
-first_joined (Some f) b c = sym (sooner_first f b c)
 
 -- where some items were judged: what stands in scope by the rules, and what was found, with the faults of the rest, is what is found of all
 pub record Going (k : Taken) (c : Context) (names : List RegionNamed) (outer : ℕ) (s : Scope) (reached : Bool) (o : Option found.Fault) (rest : List OneItem)

@@ -24,8 +24,7 @@ use Rattle.source_typing.specs.Verdicts.{Faulty, Of, Unjudged, Verdict, after, i
 use Rattle.source_typing.specs.Verdicts as rules
 use Rattle.type_verdicts.specs.Faults.{faults_of, first_of, sooner_found}
 use Rattle.type_verdicts.specs.declared.fault.Fault as found
-use Rattle.type_verdicts.proofs.Earliest.{earliest_of_both, found_sooner}
-use Rattle.judged_statements.proofs.Blocks.{first_joined}
+use Rattle.type_verdicts.proofs.Earliest.{earliest_of_both, first_joined, found_sooner}
 use Rattle.judged_statements.specs.Switching.{clause_faults, is_default, names_part, one_clause_taken, union_in}
 
 -- ---- their faults
@@ -56,7 +55,8 @@ none_more : (n : ℕ) → n ≡ 0 + n
 none_more n = omega arith
 
 pub times_more : (x : List ℕ) (c : code_clause.Clause) (rest : List code_clause.Clause)
-    → named_times x (clauses_of (map clause_tree (c ∷ rest))) ≡ one_if (names_part (pattern_tree c.pattern) x) + named_times x (clauses_of (map clause_tree rest))
+    → named_times x (clauses_of (map clause_tree (c ∷ rest))) ≡ one_if (names_part (pattern_tree c.pattern) x) + named_times x (clauses_of
+    (map clause_tree rest))
 times_more x c rest =
     ap (λ (o : OneClause). named_times x (clauses_of (o ∷ map clause_tree rest))) (clause_parts c) ∙ by (pattern_tree c.pattern)
   where

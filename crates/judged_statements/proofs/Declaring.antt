@@ -19,7 +19,7 @@ use Rattle.type_verdicts.specs.declared.fault.Fault as found
 use Rattle.type_verdicts.specs.Taken.{taken_of}
 use Rattle.type_verdicts.specs.declared.taken.Taken as code_taken
 use Rattle.type_verdicts.specs.Verdicts.{NotJudged, Wrong, fault_in, shortened}
-use Rattle.type_verdicts.proofs.Earliest.{earliest_of_both, found_sooner}
+use Rattle.type_verdicts.proofs.Earliest.{earliest_of_both, first_none, found_sooner}
 use Rattle.scoped_names.specs.Changes.{with_known}
 use Rattle.scoped_names.specs.Means.{WhatIs}
 use Rattle.scoped_names.specs.declared.locals.What as local
@@ -32,10 +32,6 @@ use Rattle.judged_statements.specs.declared.context.Context.{Context}
 use Rattle.judged_statements.specs.declared.local.Judged.{Judged}
 
 -- ---- lists of faults
-
-first_alone : (o : Option Fault) → first_of o None ≡ o
-first_alone None = refl
-first_alone (Some f) = refl
 
 -- what is declared where a fault is answered
 pub what_unsound : (fs : List Fault) (w : What) (f : Fault) → Some f ≡ earliest fs → what_after fs w ≡ Unknown
@@ -243,7 +239,7 @@ module _ (g : Env) (x : tree.Name) (fs : List Fault) where
   pub alone : is_second g.locals g.block x.text ≡ false → earliest fs ≡ earliest (fs ++ second g x)
   alone e =
       sym (earliest_of_both fs (second g x)
-      ∙ ap (λ b. first_of (earliest fs) (earliest (if not b then [] else fault name_rule x.at ∷ []))) e ∙ first_alone (earliest fs))
+      ∙ ap (λ b. first_of (earliest fs) (earliest (if not b then [] else fault name_rule x.at ∷ []))) e ∙ first_none (earliest fs))
 
   pub twice : is_second g.locals g.block x.text ≡ true → first_of (earliest fs) (Some (fault name_rule x.at)) ≡ earliest (fs ++ second g x)
   twice e =

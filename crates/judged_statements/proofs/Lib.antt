@@ -8,3 +8,4 @@ pub mod LocalTypes
 pub mod Operands
 pub mod RegionScopes
 pub mod Sizes
+pub mod Owned

@@ -9,26 +9,19 @@ use Rattle.scoped_names.specs.declared.scope.Scope.{Scope}
 use Rattle.scoped_types.specs.Scopes.{AreThose, Scoped, with_begun, with_opened}
 use Rattle.scoped_types.specs.declared.begun.Begun.{Begun}
 use Rattle.scoped_types.specs.declared.scope.RegionMark.{RegionMark}
-use Rattle.source_safety.specs.Named.{Below}
+use Rattle.source_safety.proofs.Names.{names_up}
+use Rattle.source_safety.specs.Named.{Below, NamesBelow}
 use Rattle.source_typing.specs.Declarations.{if_own_region, key_region, name_added, named_region, opened_region, opens, with_region}
 use Rattle.source_typing.specs.Faults.{Fault}
-use Rattle.source_typing.specs.Regions.{Level, Region, Regions, TheHeap, opened, same_id}
+use Rattle.source_typing.specs.Regions.{Region, Regions, opened, same_id}
 use Rattle.source_typing.specs.Scope.{Env, next_region}
 use Rattle.source_typing.specs.Scope as judged
 use Rattle.source_typing.specs.Verdicts.{Faulty, Of, Unjudged, Verdict, after, unless_faulty}
 use Rattle.source_typing.specs.Written.{RegionNamed, find_region}
-use Rattle.judged_statements.specs.Contexts.{NamesBelow, StandsIn}
+use Rattle.judged_statements.specs.Contexts.{StandsIn}
 use Rattle.judged_statements.specs.declared.context.Context.{Context}
 
 -- ---- of which regions names are
-
-below_up : (n : ℕ) (r : Region) → Below n r → Below (n + 1) r
-below_up n TheHeap h = tt
-below_up n (Level k) h = omega (arith, h)
-
-pub names_up : (n : ℕ) (ns : List RegionNamed) → NamesBelow n ns → NamesBelow (n + 1) ns
-names_up n [] h = tt
-names_up n (r ∷ rs) h = (below_up n r.id h.0, names_up n rs h.1)
 
 -- also with the name of the region that is next
 names_below : (g : Env) (r : tree.RegionName) (next : Regions → Regions) → NamesBelow g.regions.count g.names
@@ -103,7 +96,8 @@ module _ (c : Context) (old new : List RegionNamed) (outer : ℕ) (s : Scope) (g
   }
 
   -- a region is opened
-  pub opened_stands : (q : Region) → AreThose rs (opened q g.regions) → StandsIn c old outer (record s { regions = rs }) (record g { regions = opened q g.regions })
+  pub opened_stands : (q : Region) → AreThose rs (opened q g.regions) → StandsIn c old outer (record s { regions = rs })
+      (record g { regions = opened q g.regions })
   opened_stands q those = record {
     known = record { names = h.known.names; tags = h.known.tags; regions = those; lenient = h.known.lenient; enclosing = h.known.enclosing };
     suits = record {

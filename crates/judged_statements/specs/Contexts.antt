@@ -1,19 +1,14 @@
 -- When the context in code is that of the rules.
-use Rattle.std.specs.Prelude.{List, drop, length, option_map, ℕ, ◌-◌, ◌≡◌, [], ◌∷◌}
+use Rattle.std.specs.Prelude.{List, drop, length, option_map, ℕ, ◌-◌, ◌≡◌}
 use Rattle.cyc_types.specs.Regions.{region_of}
 use Rattle.cyc_types.specs.Types.{static_type}
 use Rattle.scoped_names.specs.Changes.{IsBlock}
 use Rattle.scoped_names.specs.Knows.{Knows}
 use Rattle.scoped_names.specs.declared.scope.Scope.{Scope}
-use Rattle.source_safety.specs.Named.{Below}
+use Rattle.source_safety.specs.Named.{NamesBelow}
 use Rattle.source_typing.specs.Scope.{Env}
 use Rattle.source_typing.specs.Written.{RegionNamed}
 use Rattle.judged_statements.specs.declared.context.Context.{Context}
-
--- all names are of regions that were declared before so many
-abbrev pub NamesBelow : ℕ → List RegionNamed → Type 0
-NamesBelow n [] = Unit {0}
-NamesBelow n (r ∷ rs) = Below n r.id × NamesBelow n rs
 
 -- The region names, the result's type, the innermost block's stack region and how many items stand before are the same; so is whether a loop and
 -- whether a `switch` is around. The names are of regions in scope.

@@ -12,6 +12,7 @@ ghost use Rattle.type_verdicts.specs.Faults.{faults_of};
 ghost use Rattle.type_verdicts.specs.Taken.{taken_of};
 ghost use Rattle.scoped_names.specs.Changes.{IsBlock, left};
 ghost use Rattle.scoped_names.specs.Knows.{Knows};
+ghost use Rattle.scoped_names.specs.Matching.{AreLocals};
 ghost use Rattle.scoped_types.specs.declared.scope.RegionMark.{RegionMark};
 ghost use Rattle.judged_statements.specs.Contexts.{StandsIn, Suits, kept_to};
 ghost use Rattle.judged_statements.specs.Declaring.{Matches, own_faults, own_scope, own_what};
@@ -84,6 +85,8 @@ fn add_local<'p>(
         → IfOk result (λ f. faults_of f ≡ earliest (fs ++ second g (name_tree name.entry.now))) }
     ensures stands { (c : TheContext) (known : List RegionNamed) (g : Env) (fs : List rules.Fault) (w : TheWhat) → StandsIn c known outer scope.old g
         → Matches fs w local.entry → OnOk result (StandsIn c known outer scope.new (with_local (name_tree name.entry.now) w g)) }
+    ensures locals { (g : Env) (fs : List rules.Fault) (w : TheWhat) → IsBlock outer scope.old g → Matches fs w local.entry → AreLocals scope.old.locals g.locals
+        → OnOk result (AreLocals scope.new.locals (with_local (name_tree name.entry.now) w g).locals) }
     ensures left { OnOk result ((count : ℕ) (mark : RegionMark) → count ≤ length scope.old.locals → left count mark scope.new ≡ left count mark scope.old) }
 {
     if scope.locals.is_second(outer, &name.text) {
@@ -114,8 +117,12 @@ pub fn declare<'p>(
     ensures known { (g : Env) → StandsIn context.entry names.old outer scope.old g
         → OnOk result (StandsIn context.entry names.new outer scope.new
         (declare g (declaration_taken (taken_of scope.old.taken) (declaration_tree declaration.entry.now))).scope) }
+    ensures locals { (g : Env) → StandsIn context.entry names.old outer scope.old g → AreLocals scope.old.locals g.locals
+        → OnOk result (AreLocals scope.new.locals
+        (declare g (declaration_taken (taken_of scope.old.taken) (declaration_tree declaration.entry.now))).scope.locals) }
     // where the block is left, what was in scope before is so again
-    ensures left { OnOk result ((count : ℕ) (mark : RegionMark) → count ≤ length scope.old.locals → mark.names ≤ length scope.old.regions.begun → mark.opened ≤ length scope.old.regions.opened
+    ensures left { OnOk result ((count : ℕ) (mark : RegionMark) → count ≤ length scope.old.locals
+        → mark.names ≤ length scope.old.regions.begun → mark.opened ≤ length scope.old.regions.opened
         → left count mark scope.new ≡ left count mark scope.old) }
     ensures kept { OnOk result ((count : ℕ) → count ≤ length names.old → kept_to count names.new ≡ kept_to count names.old) }
 {

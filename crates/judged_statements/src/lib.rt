@@ -12,6 +12,7 @@ mod exchange;
 mod fitting;
 mod local;
 mod local_types;
+mod named_members;
 mod opening;
 mod operand;
 mod regions;

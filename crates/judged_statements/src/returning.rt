@@ -1,6 +1,6 @@
 // Conditions, and statements that leave a loop or a function.
 
-ghost use Rattle.std.specs.Prelude.{◌≡◌, ◌||◌, IfOk, None, Some, false, option_map};
+ghost use Rattle.std.specs.Prelude.{◌≡◌, IfOk, None, Some, false, option_map};
 ghost use Rattle.cyc_tree.specs.View.{expression_tree};
 ghost use Rattle.cyc_types.specs.Types.{static_type};
 ghost use Rattle.source_typing.specs.Faults.{earliest, test, type_rule};

@@ -1,6 +1,6 @@
 // What a `switch` takes: a union's place, and clauses that fit the union.
 
-ghost use Rattle.std.specs.Prelude.{◌≡◌, ◌≤◌, ◌++◌, ◌&&◌, ◌||◌, IfOk, List, None, OnOk, Some, length, map, nat_eq, nat_le, not, option_map, ℕ};
+ghost use Rattle.std.specs.Prelude.{◌≡◌, ◌≤◌, ◌++◌, ◌&&◌, IfOk, List, None, OnOk, Some, length, map, not, option_map, ℕ};
 ghost use Rattle.cyc_tree.specs.View.{clause_tree, clauses_of, name_tree, pattern_tree};
 ghost use Rattle.cyc_types.specs.Bases.{base_type};
 ghost use Rattle.cyc_types.specs.Regions.{region_of, regions_of};
@@ -10,15 +10,11 @@ ghost use Rattle.cyc_types.specs.Types.{static_type};
 ghost use Rattle.source_typing.specs.Faults.{earliest, own_after, test, type_rule};
 ghost use Rattle.source_typing.specs.Scope.{Env, block_entered, next_region};
 ghost use Rattle.source_typing.specs.Statements.{
-  all_named,
   bound_what,
   chosen,
   clause_names,
   clause_scope,
-  clauses_fit,
-  defaults,
   items_faults,
-  named_times,
   part_what,
   parts_of_chosen,
   switched,
@@ -29,19 +25,21 @@ ghost use Rattle.type_verdicts.specs.Taken.{taken_of};
 ghost use Rattle.type_verdicts.specs.Verdicts.{short_of, shortened};
 ghost use Rattle.source_typing.specs.Ways.{ways_of_items};
 ghost use Rattle.source_typing.specs.Written.{RegionNamed};
+ghost use Rattle.scoped_names.specs.Matching.{AreLocals};
 ghost use Rattle.scoped_names.specs.Changes.{left};
 ghost use Rattle.scoped_names.specs.Means.{WhatIs};
 ghost use Rattle.scoped_types.specs.declared.scope.RegionMark.{RegionMark};
 ghost use Rattle.judged_statements.specs.Contexts.{StandsIn};
 ghost use Rattle.judged_statements.specs.declared.context.Context.{Context};
 ghost use Rattle.judged_values.specs.Values.{value_of};
-ghost use Rattle.judged_statements.specs.Switching.{chosen_in, clause_faults, is_default, names_part, one_clause_taken, union_in};
+ghost use Rattle.judged_statements.specs.Switching.{chosen_in, clause_faults, one_clause_taken, union_in};
 ghost use Rattle.cyc_tree.specs.Tree as tree;
 ghost use Rattle.source_typing.specs.Faults as rules;
 ghost use Rattle.source_typing.specs.Scope as judged;
 ghost use Rattle.source_typing.specs.Statements as statements;
 ghost use Rattle.source_typing.specs.Verdicts as verdict;
 
+use crate::named_members::clauses_fit;
 use crate::returning::unless;
 use crate::ways::items_fall;
 use cyc_tree::{Clause, Name, Pattern};
@@ -54,7 +52,7 @@ use type_verdicts::{Fault, FaultKind, Taken, Verdict, sooner};
 /// The union of a `switch`.
 #[derive(Clone, Copy)]
 pub struct Chosen<'a> {
-    tag: &'a [u8],
+    pub(crate) tag: &'a [u8],
     regions: &'a [RegionId],
 }
 
@@ -216,6 +214,9 @@ pub fn bind<'p>(
     ensures stands { (c : Context) (ns : List RegionNamed) (g : Env) → StandsIn c ns (length scope.old.locals) scope.old (block_entered g)
         → region_of frame ≡ next_region g → OnOk result (StandsIn c ns (length scope.old.locals) scope.new
         (clause_scope g (option_map chosen_in chosen.entry) (pattern_tree pattern.entry.now))) }
+    ensures locals { (c : Context) (ns : List RegionNamed) (g : Env) → StandsIn c ns (length scope.old.locals) scope.old (block_entered g)
+        → region_of frame ≡ next_region g → AreLocals scope.old.locals g.locals → OnOk result (AreLocals scope.new.locals
+        (clause_scope g (option_map chosen_in chosen.entry) (pattern_tree pattern.entry.now)).locals) }
     ensures regions { OnOk result (scope.new.regions ≡ scope.old.regions) }
     ensures left { OnOk result ((count : ℕ) (mark : RegionMark) → count ≤ length scope.old.locals → left count mark scope.new ≡ left count mark scope.old) }
 {
@@ -264,98 +265,6 @@ pub(crate) fn clause_found(
     let pattern = pattern_fault(scope.tables, chosen, &clause.pattern);
     let end = end_fault(scope.taken, reached, clause);
     first_or(sooner(pattern, inside), end)
-}
-
-/// Whether a clause names a member.
-fn names(clause: &Clause, member: &[u8]) -> bool
-    ensures { result ≡ names_part (pattern_tree clause.now.pattern) member.now }
-{
-    match &clause.pattern {
-        Pattern::Case(field, _) => field.text.as_slice() == member,
-        Pattern::Default => false,
-    }
-}
-
-/// Whether a clause is a `default`.
-fn is_default(clause: &Clause) -> bool
-    ensures { result ≡ is_default (pattern_tree clause.now.pattern) }
-{
-    match &clause.pattern {
-        Pattern::Case(_, _) => false,
-        Pattern::Default => true,
-    }
-}
-
-/// How often a member stands in the clauses.
-#[tactic(auto, using(crate::proofs::Clauses::times_more))]
-fn named_times(member: &[u8], clauses: &[Clause]) -> usize
-    ensures { result ≡ named_times member.now (clauses_of (map clause_tree clauses.now)) }
-{
-    let mut times = 0;
-    'each: for clause in clauses {
-        if names(clause, member) {
-            times += 1;
-        }
-    }
-    times
-}
-
-/// How often `default` stands in the clauses.
-#[tactic(auto, using(crate::proofs::Clauses::defaults_more))]
-fn defaults(clauses: &[Clause]) -> usize
-    ensures { result ≡ defaults (clauses_of (map clause_tree clauses.now)) }
-{
-    let mut times = 0;
-    'each: for clause in clauses {
-        if is_default(clause) {
-            times += 1;
-        }
-    }
-    times
-}
-
-/// Whether a member stands often enough in the clauses, and not too often.
-fn is_well_named(times: usize, has_default: bool) -> bool
-    ensures { result ≡ (nat_le times 1 && (has_default || nat_eq times 1)) }
-{
-    times <= 1 && (has_default || times == 1)
-}
-
-/// Whether each member stands in the clauses once, or where there is a `default`, at most once.
-fn all_named(members: &[Member], clauses: &[Clause], has_default: bool) -> bool
-    ensures { result ≡ all_named (members_of members.now) (clauses_of (map clause_tree clauses.now)) has_default }
-{
-    'each: for member in members {
-        let times = named_times(member.name, clauses);
-        if !is_well_named(times, has_default) {
-            return false;
-        }
-    }
-    true
-}
-
-/// Whether the clauses name the members of a union, each once, or where there is a `default`, at most once.
-fn union_named(
-    tables: &Tables<'_>,
-    union: Chosen<'_>,
-    clauses: &[Clause],
-    has_default: bool,
-) -> bool
-    ensures { (g : Env) → HasTags tables.now g.tables
-        → result ≡ all_named (parts_of_chosen g (Some (chosen_in union.entry))) (clauses_of (map clause_tree clauses.now)) has_default }
-{
-    match tables.tag(union.tag) {
-        Some(tag) => all_named(&tag.members, clauses, has_default),
-        None => true,
-    }
-}
-
-/// Whether the clauses fit a union.
-fn clauses_fit(tables: &Tables<'_>, union: Chosen<'_>, clauses: &[Clause]) -> bool
-    ensures { (g : Env) → HasTags tables.now g.tables → result ≡ clauses_fit g (chosen_in union.entry) (clauses_of (map clause_tree clauses.now)) }
-{
-    let count = defaults(clauses);
-    count <= 1 && union_named(tables, union, clauses, count == 1)
 }
 
 /// The fault of a `switch` on what is in order: that is no union's place, or the clauses don't fit.

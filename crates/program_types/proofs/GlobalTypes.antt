@@ -13,7 +13,7 @@ use Rattle.cyc_types.specs.declared.tables.Tables as code_tables
 use Rattle.judged_statements.specs.Declaring.{could_be, elements_fit, fitting_by, stands_before}
 use Rattle.judged_statements.proofs.LocalTypes.{Alike, alike, can_be_is, size_alike, stands_is}
 use Rattle.source_typing.specs.Declarations.{can_be, if_sized, name_added}
-use Rattle.source_typing.specs.Extents.{fits_bytes, size_of, variable_size}
+use Rattle.source_typing.specs.Extents.{fits_bytes, variable_size}
 use Rattle.source_typing.specs.Globals.{count_of, fitting_global, foreign_names, global_type, has_none}
 use Rattle.source_typing.specs.Regions.{Region, TheHeap}
 use Rattle.source_typing.specs.Scope.{Env, at_item}

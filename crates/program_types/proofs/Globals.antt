@@ -1,5 +1,5 @@
 -- Globals by what their types are.
-use Rattle.std.proofs.Common.{◌≡◌, ℕ, zero, suc, Bool, true, false, List, [], ◌∷◌, ◌++◌, ◌*◌, append-nil, arith, nat_eq, refl, sym, ap, subst, ◌∙◌, true≢false}
+use Rattle.std.proofs.Common.{◌≡◌, ℕ, zero, suc, Bool, true, false, List, [], ◌∷◌, ◌*◌, append-nil, arith, nat_eq, refl, sym, ap, subst, ◌∙◌, true≢false}
 use Rattle.std.specs.Prelude.{None, Option, Some, if◌then◌else◌, is_some, ◌&&◌}
 use Rattle.std.proofs.lemmas.Bool.Decides.{nat_tests}
 use Rattle.cyc_tree.specs.Tree.{Initial, TypeName}
@@ -20,7 +20,7 @@ use Rattle.source_meaning.specs.Sizes.{rounded_up}
 use Rattle.source_typing.specs.Declarations.{what_after, what_of}
 use Rattle.source_typing.specs.Faults.{Fault, earliest, fault, type_rule}
 use Rattle.source_typing.specs.Extents.{fits_bytes, size_of, variable_size}
-use Rattle.source_typing.specs.Globals.{count_of, global_entry, global_faults, global_size, global_type, if_clean, initial_faults, typed_size}
+use Rattle.source_typing.specs.Globals.{count_of, global_entry, global_faults, global_size, global_type, if_clean, typed_size}
 use Rattle.source_typing.specs.Regions.{TheHeap}
 use Rattle.source_typing.specs.Scope.{Env}
 use Rattle.source_typing.specs.Tables.{OfValue, Tables}
@@ -187,8 +187,3 @@ pub global_bytes : (g : Env) (x : tree.Global) (count : Option ℕ) → count_of
     → if_clean (global_faults g x) (bytes_by g.tables count (global_type g x)) ≡ rounded_up (global_size g x) 8
 global_bytes g x count e =
     ap (λ n. if_clean (global_faults g x) (bytes_by g.tables n (global_type g x))) (sym e) ∙ sym (rounded_by g x (global_type g x) (global_faults g x))
-
-pub both_taken : (a b : Bool) → (a && b) ≡ true → (a ≡ true) × (b ≡ true)
-both_taken true true e = (refl, refl)
-both_taken true false e = absurd cc
-both_taken false b e = absurd cc

@@ -1,5 +1,5 @@
 -- An item's scope in code without any name.
-use Rattle.std.proofs.Common.{◌≡◌, ℕ, ◌≤◌, [], List, Bool, arith, false, length, refl, subst, sym, ap, ◌∙◌}
+use Rattle.std.proofs.Common.{◌≡◌, ℕ, [], List, Bool, arith, false, length, refl, subst, sym, ap, ◌∙◌}
 use Rattle.std.specs.Prelude.{None}
 use Rattle.cyc_types.specs.Sameness.{HasTags}
 use Rattle.cyc_types.specs.Tables.{tables_of}

@@ -1,5 +1,5 @@
 -- When what is known in code of a program's structs, where its globals and heads are judged, is what the rules' tables know of them.
-use Rattle.std.specs.Prelude.{Bool, Some, false, true, ◌≡◌}
+use Rattle.std.specs.Prelude.{Some}
 use Rattle.cyc_types.specs.Sameness.{HasTags}
 use Rattle.source_typing.specs.Tables.{Entry, Tables}
 use Rattle.cyc_tree.specs.Tree.{Item}

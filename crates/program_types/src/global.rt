@@ -1,7 +1,7 @@
 // Globals.
 
 ghost use Rattle.std.specs.Prelude.{◌≡◌, ◌&&◌, Bool, IfOk, List, None, Some, if◌then◌else◌, is_some};
-ghost use Rattle.cyc_tree.specs.View.{global_tree, initial_tree, type_tree};
+ghost use Rattle.cyc_tree.specs.View.{global_tree, initial_tree};
 ghost use Rattle.cyc_types.specs.Types.{static_type};
 ghost use Rattle.source_typing.specs.Faults.{Fault as TheFault, earliest};
 ghost use Rattle.source_meaning.specs.Sizes.{rounded_up};

@@ -16,4 +16,6 @@ mod strings;
 mod structs;
 mod total;
 
+pub use names::{next_index, program_names};
 pub use program::program_fault;
+pub use structs::Structs;

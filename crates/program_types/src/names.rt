@@ -102,7 +102,7 @@ fn item_meaning<'p>(
 
 /// What the names of a program's items mean, and those of the functions that every program has; with or without the rules on live
 /// regions and effects. Fails only where no host memory is left.
-pub(crate) fn program_names<'p>(
+pub fn program_names<'p>(
     alloc: Global,
     structs: Structs<'_, 'p>,
     lenient: bool,
@@ -123,7 +123,7 @@ pub(crate) fn program_names<'p>(
 }
 
 /// The index after this one. One over a u32 is want of memory.
-pub(crate) fn next_index(index: u32) -> Result<u32, AllocError>
+pub fn next_index(index: u32) -> Result<u32, AllocError>
     ensures { IfOk result (λ i. i ≡ index + 1) }
 {
     match index.checked_add(1) {

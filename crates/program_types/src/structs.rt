@@ -6,7 +6,7 @@ use written_types::TagNames;
 
 /// What is known of a program's structs, and which forms are taken.
 #[derive(Clone, Copy)]
-pub(crate) struct Structs<'g, 'p> {
+pub struct Structs<'g, 'p> {
     /// What names mean where a tag is wanted.
     pub tags: &'g TagNames<'p>,
     /// Members and bytes.

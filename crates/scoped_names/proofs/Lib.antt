@@ -1,3 +1,4 @@
 pub mod Keeping
-mod Linking
+pub mod Linking
+pub mod Matching
 mod Ruled

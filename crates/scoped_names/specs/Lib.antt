@@ -4,3 +4,4 @@ pub mod Knows
 pub mod Linked
 pub mod Locals
 pub mod Means
+pub mod Matching

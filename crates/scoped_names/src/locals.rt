@@ -1,6 +1,7 @@
 // The locals that are visible at a point.
 
 ghost use Rattle.std.specs.Prelude.{◌≡◌, ◌∷◌, [], OnErr, OnOk, length, option_copied};
+ghost use Rattle.scoped_names.specs.Linked.{position_of};
 ghost use Rattle.scoped_names.specs.Locals.{dropped_to, find_what, is_after, known};
 
 use crate::last::LastLocals;
@@ -39,6 +40,7 @@ pub struct Locals<'p> {
 
 impl<'p> Model for Locals<'p> {
     ghost use Rattle.std.specs.Prelude.{List};
+    ghost use Rattle.scoped_names.specs.Linked.{position_of};
     ghost use Rattle.scoped_names.specs.Locals.{Known};
     ghost use Rattle.scoped_names.specs.Linked.{AreLinked, known_of};
 
@@ -106,6 +108,13 @@ impl<'p> Locals<'p> {
             },
             None => None,
         }
+    }
+
+    /// How many locals were declared before the latest one of a name, where there is one.
+    pub fn position(&self, name: &[u8]) -> Option<usize>
+        ensures { result ≡ position_of self.now name.now }
+    {
+        self.last.of(name)
     }
 
     /// Whether there is one of a name after the first so many locals.

@@ -1,8 +1,9 @@
 //! Unique pointers, and the programs that are accepted.
 //!
 //! `flow` answers the earliest fault of flow, or the program as `Checked`: nothing in it breaks a
-//! rule. No form that flow is judged for is supported yet, so this layer finds no fault: that there is none is a law of
-//! `accepted_sources`. Stands on that and on `effect_check`.
+//! rule. No form that flow is judged for is supported yet, so it finds no fault: that there is none is a law of
+//! `accepted_sources`. `flow_fault` answers the earliest fault of flow where any forms of the language are taken; `judged_flow` finds
+//! it. Stands on these and on `effect_check`.
 #![tactic(auto)]
 
 mod checked;
@@ -10,3 +11,4 @@ mod fault;
 
 pub use checked::{Checked, flow};
 pub use fault::FlowFault;
+pub use judged_flow::flow_fault;

@@ -232,7 +232,7 @@ judge_made-returns-in_ok-element-in-Array t c = λ g h.
     let element = c.in-Array.element.value in
     let to = short_of goal_in c.args.goal in
     let more : (y : List ℕ) → is_counter c.as_slice.result.now y ≡ (is_counter c.args.around.counters.now y || bytes_eq x.text y) =
-    λ y. ap (λ cs. is_counter cs y) c.as_slice.ensures.value ∙ c.in_ok-counters-in-Array.ensures y
+    λ y. ap (λ cs. is_counter cs y) c.as_slice.ensures.value ∙ c.in_ok-counters-in-Array.ensures.found y
     ∙ ap (λ (z : List ℕ). is_counter c.args.around.counters.now y || bytes_eq z y) c.deref-in-Array-2.ensures.value in
     let is : made_tree c.args.new.now ≡ Array x (expression_tree count) (expression_tree element) =
     ap (λ m. made_tree m) c.in-Array.is ∙ array_tree c.in-Array.index c.in-Array.count c.in-Array.element in

@@ -1,4 +1,4 @@
-use Rattle.std.proofs.Common.{◌≡◌, List, Bool, ap, sym, ◌∙◌}
+use Rattle.std.proofs.Common.{List, Bool, ap, sym, ◌∙◌}
 use Rattle.std.specs.Prelude.{not, ◌||◌}
 use Rattle.cyc_tree.specs.Places.{region_place}
 use Rattle.cyc_tree.specs.Tree.{RegionName}
@@ -8,7 +8,7 @@ use Rattle.source_typing.specs.Functions.{if_no_key, used_region}
 use Rattle.source_typing.specs.Regions.{Region, is_among}
 use Rattle.source_typing.specs.Verdicts.{Verdict}
 use Rattle.type_verdicts.proofs.Shortened.{after_of, after_unjudged, after_wrong}
-use Rattle.type_verdicts.specs.Verdicts.{short_of, shortened}
+use Rattle.type_verdicts.specs.Verdicts.{shortened}
 use Rattle.judged_heads.proofs.effect.effect_region.Goals as goal
 
 -- what the rules ask of a region that is known

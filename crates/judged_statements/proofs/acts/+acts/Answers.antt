@@ -15,7 +15,8 @@ use Rattle.judged_statements.proofs.acts.+acts.Goals.{act_in_suffixes-in-Arrow, 
 pub act_in-returns-in-Suffixed : goal.act_in-returns-in-Suffixed
 act_in-returns-in-Suffixed t c =
     let x = c.in-Suffixed in
-    two_found c.act_in-in-Suffixed.result c.act_in_suffixes.result c.sooner.result (acts (expression_tree x.first.value)) (suffix_acts (suffixes_of (map suffix_tree x.suffixes.items))) c.sooner.ensures
+    two_found c.act_in-in-Suffixed.result c.act_in_suffixes.result c.sooner.result (acts (expression_tree x.first.value)) (suffix_acts (suffixes_of
+    (map suffix_tree x.suffixes.items))) c.sooner.ensures
     (c.act_in-in-Suffixed.ensures ∙ ap (λ e. earliest (acts (expression_tree e))) c.deref-in-Suffixed.ensures)
     (c.act_in_suffixes.ensures ∙ ap (λ es. earliest (suffix_acts (suffixes_of (map suffix_tree es)))) c.deref-in-Suffixed-2.ensures.value)
     ∙ ap (λ e. earliest (acts e)) (sym (ap expression_tree x.is ∙ suffixed_tree x.first x.suffixes))
@@ -33,7 +34,8 @@ act_in-returns-in-NewIn t c =
 pub act_in-returns-in-Chain : goal.act_in-returns-in-Chain
 act_in-returns-in-Chain t c =
     let x = c.in-Chain in
-    two_found c.act_in-in-Chain.result c.act_in_links.result c.sooner-in-Chain.result (acts (expression_tree x.first.value)) (link_acts (links_of (map link_tree x.links.items))) c.sooner-in-Chain.ensures
+    two_found c.act_in-in-Chain.result c.act_in_links.result c.sooner-in-Chain.result (acts (expression_tree x.first.value)) (link_acts (links_of
+    (map link_tree x.links.items))) c.sooner-in-Chain.ensures
     (c.act_in-in-Chain.ensures ∙ ap (λ e. earliest (acts (expression_tree e))) c.deref-in-Chain.ensures)
     (c.act_in_links.ensures ∙ ap (λ es. earliest (link_acts (links_of (map link_tree es)))) c.deref-in-Chain-2.ensures.value)
     ∙ ap (λ e. earliest (acts e)) (sym (ap expression_tree x.is ∙ chain_tree x.first x.links))
@@ -53,7 +55,8 @@ act_in-returns-in-Assign t c =
 pub act_in-returns-in-AllOf : goal.act_in-returns-in-AllOf
 act_in-returns-in-AllOf t c =
     let x = c.in-AllOf in
-    two_found c.act_in-in-AllOf.result c.act_in_all-in-AllOf.result c.sooner-in-AllOf.result (acts (expression_tree x.first.value)) (all_acts (expressions_of (map expression_tree x.others.items))) c.sooner-in-AllOf.ensures
+    two_found c.act_in-in-AllOf.result c.act_in_all-in-AllOf.result c.sooner-in-AllOf.result (acts (expression_tree x.first.value)) (all_acts
+    (expressions_of (map expression_tree x.others.items))) c.sooner-in-AllOf.ensures
     (c.act_in-in-AllOf.ensures ∙ ap (λ e. earliest (acts (expression_tree e))) c.deref-in-AllOf.ensures)
     (c.act_in_all-in-AllOf.ensures ∙ ap (λ es. earliest (all_acts (expressions_of (map expression_tree es)))) c.deref-in-AllOf-2.ensures.value)
     ∙ ap (λ e. earliest (acts e)) (sym (ap expression_tree x.is ∙ all_of_tree x.first x.others))
@@ -61,7 +64,8 @@ act_in-returns-in-AllOf t c =
 pub act_in-returns-in-AnyOf : goal.act_in-returns-in-AnyOf
 act_in-returns-in-AnyOf t c =
     let x = c.in-AnyOf in
-    two_found c.act_in-in-AnyOf.result c.act_in_all-in-AnyOf.result c.sooner-in-AnyOf.result (acts (expression_tree x.first.value)) (all_acts (expressions_of (map expression_tree x.others.items))) c.sooner-in-AnyOf.ensures
+    two_found c.act_in-in-AnyOf.result c.act_in_all-in-AnyOf.result c.sooner-in-AnyOf.result (acts (expression_tree x.first.value)) (all_acts
+    (expressions_of (map expression_tree x.others.items))) c.sooner-in-AnyOf.ensures
     (c.act_in-in-AnyOf.ensures ∙ ap (λ e. earliest (acts (expression_tree e))) c.deref-in-AnyOf.ensures)
     (c.act_in_all-in-AnyOf.ensures ∙ ap (λ es. earliest (all_acts (expressions_of (map expression_tree es)))) c.deref-in-AnyOf-2.ensures.value)
     ∙ ap (λ e. earliest (acts e)) (sym (ap expression_tree x.is ∙ any_of_tree x.first x.others))
@@ -90,7 +94,8 @@ act_in_links-each-preserved t c =
 pub act_in_made-returns-in-Array : goal.act_in_made-returns-in-Array
 act_in_made-returns-in-Array t c =
     let x = c.in-Array in
-    two_found c.act_in-in-Array.result c.act_in-in-Array-2.result c.sooner.result (acts (expression_tree x.count.value)) (acts (expression_tree x.element.value))
+    two_found c.act_in-in-Array.result c.act_in-in-Array-2.result c.sooner.result (acts (expression_tree x.count.value)) (acts
+    (expression_tree x.element.value))
     c.sooner.ensures (c.act_in-in-Array.ensures ∙ ap (λ e. earliest (acts (expression_tree e))) c.deref-in-Array.ensures)
     (c.act_in-in-Array-2.ensures ∙ ap (λ e. earliest (acts (expression_tree e))) c.deref-in-Array-2.ensures)
     ∙ ap (λ m. earliest (made_acts m)) (sym (ap made_tree x.is ∙ array_tree x.field-0 x.count x.element))

@@ -3,6 +3,7 @@ use Rattle.std.specs.Prelude.{None, true}
 use Rattle.cyc_tree.specs.View.{name_tree, region_tree, type_tree}
 use Rattle.cyc_types.specs.Types.{static_type}
 use Rattle.judged_values.specs.Values.{value_of}
+use Rattle.source_typing.proofs.TakenWhole.{type_whole}
 use Rattle.source_typing.specs.Declarations.{alias_type, operand, region_declared, type_in_scope, type_of_alias, what_of}
 use Rattle.source_typing.specs.Regions.{with_name}
 use Rattle.source_typing.specs.Scope.{in_scope, next_region}
@@ -17,7 +18,7 @@ use Rattle.type_verdicts.specs.Verdicts.{shortened}
 use Rattle.scoped_names.specs.Means.{WhatIs}
 use Rattle.judged_statements.specs.Contexts.{StandsIn}
 use Rattle.judged_statements.specs.Declaring.{alias_scope}
-use Rattle.judged_statements.proofs.Aliases.{begun_tables, type_as_is}
+use Rattle.judged_statements.proofs.Aliases.{begun_tables}
 use Rattle.judged_statements.proofs.Answered.{fault_is}
 use Rattle.judged_statements.proofs.Blocks.{two_found}
 use Rattle.judged_statements.proofs.Declaring.{alias_matches, named_scope}
@@ -38,7 +39,7 @@ returns-clause-judged c = λ g x known suits.
     let w = type_in_scope inside t in
     let source = c.in_ok-source.ensures g known in
     let tag = c.local_tag-tag.ensures g known in
-    let as_is = ap (λ n. type_taken n t) c.whole-all.ensures ∙ type_as_is t in
+    let as_is = ap (λ n. type_taken n t) c.whole-all.ensures ∙ type_whole t in
     let is_written =
     c.in_ok-written.ensures (in_scope g) tag
     ∙ ap (λ ns. shortened (written (in_scope g) ns (type_taken all t))) (c.in_ok-next.ensures.named g (with_name true) known suits.names)
@@ -70,5 +71,6 @@ returns-clause-stands c = λ g x outer h.
     let rs = c.begin_name.new.self in
     subst (StandsIn c.args.context names outer (record s { regions = rs }))
     (named_scope s.taken.unique a.at r x g c.if-not-scope.false (type_tree a.of.now) (name_tree a.source.now))
-    (begun_stands c.args.context c.args.names.now names outer s g rs h r (with_name true) (c.in_ok-begin_name.ensures.by_the_rules g.regions h.known.regions) refl
+    (begun_stands c.args.context c.args.names.now names outer s g rs h r (with_name true) (c.in_ok-begin_name.ensures.by_the_rules g.regions
+    h.known.regions) refl
     (c.in_ok-next.ensures.named g (with_name true) h.known h.suits.names))

@@ -29,5 +29,6 @@ returns-clause-stands c = λ g x outer h.
     let names = c.next_named.new.names in
     let rs = c.begin_name.new.self in
     subst (StandsIn c.args.context names outer (record s { regions = rs })) (key_scope s.taken.keys c.args.at r x g c.if-not-scope.false)
-    (begun_stands c.args.context c.args.names.now names outer s g rs h r (with_name false) (c.in_ok-begin_name.ensures.by_the_rules g.regions h.known.regions) refl
+    (begun_stands c.args.context c.args.names.now names outer s g rs h r (with_name false) (c.in_ok-begin_name.ensures.by_the_rules g.regions
+    h.known.regions) refl
     (c.in_ok-next.ensures.named g (with_name false) h.known h.suits.names))

@@ -11,7 +11,8 @@ use Rattle.source_typing.specs.Expressions.{judge}
 use Rattle.source_typing.specs.Faults.{earliest, own_after, test, type_rule}
 use Rattle.source_typing.specs.Regions.{Level}
 use Rattle.source_typing.specs.Scope.{block_entered}
-use Rattle.source_typing.specs.Statements.{chosen, clause_scope, clauses_faults, condition_faults, in_a_loop, in_a_switch, items_faults, returned, statement_faults, switched}
+use Rattle.source_typing.specs.Statements.{chosen, clause_scope, clauses_faults, condition_faults, in_a_loop}
+use Rattle.source_typing.specs.Statements.{in_a_switch, items_faults, returned, statement_faults, switched}
 use Rattle.source_typing.specs.Taken.{clauses_taken, items_taken, statement_taken, taken}
 use Rattle.source_typing.specs.Verdicts as verdict
 use Rattle.type_verdicts.specs.Faults as found
@@ -75,7 +76,8 @@ block_fault-returns-clause-scope t c =
     (c.leave-2.ensures ∙ ap (λ n. dropped_to n after.locals) c.len-outer.ensures)
     (c.leave.ensures ∙ ap (λ m. first_of m.names m.opened after.regions) c.mark-mark.ensures)
     ∙ block_left s after regions begun
-    (c.in_ok-found.ensures.left (length s.locals) (mark_of s.regions) (grind arith) (begun_longer s.regions regions begun) (opened_same s.regions regions begun))
+    (c.in_ok-found.ensures.left (length s.locals) (mark_of s.regions) (grind arith) (begun_longer s.regions regions begun)
+    (opened_same s.regions regions begun))
 
 pub block_fault-returns-clause-kept : goal.block_fault-returns-clause-kept
 block_fault-returns-clause-kept t c =

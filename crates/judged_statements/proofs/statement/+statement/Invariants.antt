@@ -34,6 +34,7 @@ invariant-clauses_fault-each l = record {
   names : l.names ≡ l.fn.names;
   each : (g : Env) → Knows l.fn.scope g → Suits l.fn.context l.fn.names g → AllAround g.block g.locals
       → first_of (faults_of l.found)
-      (earliest (clauses_faults g l.fn.reached (option_map chosen_in l.fn.chosen) (taken_clauses (taken_of l.fn.scope.taken) (drop l.clause-index l.fn.clauses))))
+      (earliest (clauses_faults g l.fn.reached (option_map chosen_in l.fn.chosen) (taken_clauses (taken_of l.fn.scope.taken)
+      (drop l.clause-index l.fn.clauses))))
       ≡ earliest (clauses_faults g l.fn.reached (option_map chosen_in l.fn.chosen) (taken_clauses (taken_of l.fn.scope.taken) l.fn.clauses));
 }

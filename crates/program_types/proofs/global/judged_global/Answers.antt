@@ -1,6 +1,6 @@
 use Rattle.std.proofs.Common.{◌≡◌, Some, ap, refl, subst, sym, ◌∙◌}
-use Rattle.std.specs.Prelude.{Bool}
-use Rattle.cyc_tree.specs.View.{global_tree, initial_tree}
+use Rattle.std.proofs.lemmas.Bool.{and_parts}
+use Rattle.cyc_tree.specs.View.{global_tree}
 use Rattle.scoped_names.specs.Means.{Means}
 use Rattle.source_meaning.specs.Sizes.{rounded_up}
 use Rattle.source_typing.specs.Declarations.{what_after, what_of}
@@ -13,7 +13,7 @@ use Rattle.source_typing.specs.Taken.{takes_initial, takes_type}
 use Rattle.type_verdicts.specs.Faults.{faults_of}
 use Rattle.type_verdicts.specs.Taken.{taken_of}
 use Rattle.program_types.proofs.GlobalTypes.{global_sized}
-use Rattle.program_types.proofs.Globals.{as_many, both_taken, global_bytes, is_with_start, refused_bytes, refused_faults, refused_means, with_start}
+use Rattle.program_types.proofs.Globals.{as_many, global_bytes, is_with_start, refused_bytes, refused_faults, refused_means, with_start}
 use Rattle.program_types.specs.Globals.{IsSized, global_taken}
 use Rattle.program_types.proofs.global.judged_global.Goals as goal
 
@@ -40,7 +40,7 @@ returns-clause-fault c lenient g known =
     let x = global_tree c.args.global.now in
     let env = at_item lenient g c.args.item in
     let e = sym c.is_taken.ensures ∙ c.if-not-is_taken.false in
-    let both = both_taken (takes_type (taken_of k) x.of) (takes_initial (taken_of k) x.initial) e in
+    let both = and_parts (takes_type (taken_of k) x.of) (takes_initial (taken_of k) x.initial) e in
     let y = with_start k env x in
     let many : count_of y.initial ≡ c.count_of-count.result = as_many (taken_of k) x.of x.initial ∙ sym c.count_of-count.ensures in
     let typed = c.in_ok-of.ensures lenient g y known refl both.0 many in
@@ -54,7 +54,7 @@ returns-clause-meaning c lenient g known =
     let x = global_tree c.args.global.now in
     let env = at_item lenient g c.args.item in
     let e = sym c.is_taken.ensures ∙ c.if-not-is_taken.false in
-    let both = both_taken (takes_type (taken_of k) x.of) (takes_initial (taken_of k) x.initial) e in
+    let both = and_parts (takes_type (taken_of k) x.of) (takes_initial (taken_of k) x.initial) e in
     let y = with_start k env x in
     let many : count_of y.initial ≡ c.count_of-count.result = as_many (taken_of k) x.of x.initial ∙ sym c.count_of-count.ensures in
     let typed = c.in_ok-of.ensures lenient g y known refl both.0 many in
@@ -69,7 +69,7 @@ returns-clause-bytes c lenient g known =
     let x = global_tree c.args.global.now in
     let env = at_item lenient g c.args.item in
     let e = sym c.is_taken.ensures ∙ c.if-not-is_taken.false in
-    let both = both_taken (takes_type (taken_of k) x.of) (takes_initial (taken_of k) x.initial) e in
+    let both = and_parts (takes_type (taken_of k) x.of) (takes_initial (taken_of k) x.initial) e in
     let y = with_start k env x in
     let count = c.count_of-count.result in
     let many : count_of y.initial ≡ count = as_many (taken_of k) x.of x.initial ∙ sym c.count_of-count.ensures in

@@ -1,0 +1,15 @@
+pub mod Adding
+pub mod Beginning
+pub mod Blocks
+pub mod Folds
+pub mod Forms
+pub mod Functions
+pub mod Located
+pub mod NameUses
+pub mod PrefixUses
+pub mod Programs
+pub mod Shortly
+pub mod Steps
+pub mod SuffixUses
+pub mod Told
+pub mod Within

@@ -1,0 +1,7 @@
+pub mod Declarations
+pub mod Folded
+pub mod Short
+pub mod Standing
+pub mod Suffixed
+pub mod Switched
+pub mod Within

@@ -1,0 +1,4 @@
+pub mod Leaving
+pub mod Passages
+pub mod Sequences
+pub mod Turns

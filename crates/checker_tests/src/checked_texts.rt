@@ -3,19 +3,22 @@
 use cyc_lexer::{LexFault, place_of, tokens};
 use cyc_parser::{ParseFault, parse};
 use cyc_tree::Program;
+use judged_flow::flow_fault;
 use program_types::program_fault;
 use std::alloc::{AllocError, Global};
 use std::process::Abort;
 use std::test::Fail;
-use type_verdicts::Taken;
+use type_verdicts::{Fault, Taken};
 
 /// The rules that are looked at.
-#[derive(Clone, Copy, PartialEq, Eq, Debug)]
+#[derive(Clone, Copy, Debug)]
 pub enum Rules {
     /// All but those of flow.
     Whole,
     /// The same without those on live regions and effects.
     Lenient,
+    /// Those of flow alone.
+    Flow,
 }
 
 /// The bytes of a text in which `$` is a line's end.
@@ -33,6 +36,15 @@ fn placed(alloc: Global, text: &[u8], at: u32, fault: &str) -> Result<String, Fa
     Ok(format!(in alloc; "{line}:{column}: {fault}")?)
 }
 
+/// The first fault of a program by these rules.
+fn fault_by(alloc: Global, program: &Program, rules: Rules) -> Result<Option<Fault>, AllocError> {
+    match rules {
+        Rules::Whole => program_fault(alloc, Taken::whole(), program, false),
+        Rules::Lenient => program_fault(alloc, Taken::whole(), program, true),
+        Rules::Flow => flow_fault(alloc, Taken::whole(), program),
+    }
+}
+
 /// What is answered on a program of this text: `accepted`, or its first fault.
 fn program_answer(
     alloc: Global,
@@ -40,7 +52,7 @@ fn program_answer(
     program: &Program,
     rules: Rules,
 ) -> Result<String, Fail> {
-    match program_fault(alloc, Taken::whole(), program, rules == Rules::Lenient)? {
+    match fault_by(alloc, program, rules)? {
         Some(fault) => {
             let kind = format!(in alloc; "{kind}", kind = fault.kind)?;
             placed(alloc, text, fault.at, kind.as_str())
@@ -49,7 +61,7 @@ fn program_answer(
     }
 }
 
-/// What is answered on a text: `accepted`, or the first fault of its tokens, its grammar, or its names, types, regions and sizes.
+/// What is answered on a text: `accepted`, or the first fault of its tokens or its grammar, or by the rules that are looked at.
 fn answer_on(alloc: Global, text: &[u8], rules: Rules) -> Result<String, Fail> {
     let tokens = match tokens(alloc, text) {
         Ok(tokens) => tokens,

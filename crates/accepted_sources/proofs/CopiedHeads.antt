@@ -1,6 +1,7 @@
 -- What the tables of a program and the scopes of its functions are where no form is taken but those of copied values: copied types, and what isn't known.
 use Rattle.std.proofs.Common.{◌≡◌, ℕ, suc, Bool, true, false, Option, Some, None, List, [], ◌∷◌, refl, sym, subst}
 use Rattle.std.specs.Prelude.{if◌then◌else◌, map, not, ◌++◌, ◌&&◌, ◌||◌}
+use Rattle.std.proofs.lemmas.Bool.{and_parts}
 use Rattle.cyc_tree.specs.Tree as tree
 use Rattle.cyc_tree.specs.Tree.{Initial, Item, Program, TypeName}
 use Rattle.source_typing.specs.Declarations.{stands_earlier, what_after, what_of}
@@ -44,7 +45,6 @@ use Rattle.source_typing.specs.Taken.{
 use Rattle.source_typing.specs.Types.{PartialType, StaticType, is_key, is_void}
 use Rattle.source_typing.specs.Verdicts.{Verdict, after, if_fits, known}
 use Rattle.source_typing.specs.Written.{RegionNamed, spots_of, written, written_with}
-use Rattle.source_typing.proofs.Converting.{and_is}
 use Rattle.accepted_sources.proofs.CopiedNames.{
   AreCopiedParts,
   AreNoOtherValues,
@@ -189,7 +189,7 @@ taken_global b x = by (takes_type (k b) x.of && takes_initial (k b) x.initial) r
     by false e = GlobalFault
     by true e =
         let c : (takes_type (k b) x.of ≡ true) × (takes_initial (k b) x.initial ≡ true) =
-        and_is (takes_type (k b) x.of) (takes_initial (k b) x.initial) e in
+        and_parts (takes_type (k b) x.of) (takes_initial (k b) x.initial) e in
         TakenGlobal c.0 (initial_uncounted b x.of x.initial c.1)
 
 type_known : (b : Bool) (g : Env) (x : tree.Global) → takes_type (k b) x.of ≡ true → IsCopiedIfKnown (global_type g x)

@@ -1,6 +1,7 @@
 -- What is in scope after a declaration, where no form is taken but those of copied values: variables of copied types.
 use Rattle.std.proofs.Common.{◌≡◌, ℕ, Bool, true, false, Option, Some, None, refl}
 use Rattle.std.specs.Prelude.{◌&&◌, ◌||◌}
+use Rattle.std.proofs.lemmas.Bool.{and_parts}
 use Rattle.cyc_tree.specs.Tree as tree
 use Rattle.cyc_tree.specs.Tree.{Initializer, TypeName}
 use Rattle.source_typing.specs.Declarations.{declare, fitting_local, local_type, misses_region, region_of, set_faults, set_type, taken_from, type_in_scope}
@@ -14,7 +15,6 @@ use Rattle.source_typing.specs.Taken.{Taken, declaration_taken, declared_if, ini
 use Rattle.source_typing.specs.Taken.{takes_initializer, takes_type}
 use Rattle.source_typing.specs.Types.{Handle, PartialType, StaticType}
 use Rattle.source_typing.specs.Verdicts.{Faulty, Of, Unjudged, Verdict}
-use Rattle.source_typing.proofs.Converting.{and_is}
 use Rattle.accepted_sources.proofs.CopiedExpressions.{judge_copied}
 use Rattle.accepted_sources.proofs.CopiedValues.{GivesCopied}
 use Rattle.accepted_sources.proofs.CopiedNames.{HasCopiedAlone, known_what, local_kept, what_clean}
@@ -92,6 +92,6 @@ declared_kept b (tree.Local t x i) g h = by (takes_type (k b) t && takes_initial
     by : (c : Bool) → takes_type (k b) t && takes_initializer (k b) i ≡ c
         → HasCopiedAlone (declare g (declared_if c t.at (tree.Local t x (initializer_taken (k b) i)))).scope
     by true e =
-        let c : (takes_type (k b) t ≡ true) × (takes_initializer (k b) i ≡ true) = and_is (takes_type (k b) t) (takes_initializer (k b) i) e in
+        let c : (takes_type (k b) t ≡ true) × (takes_initializer (k b) i ≡ true) = and_parts (takes_type (k b) t) (takes_initializer (k b) i) e in
         plain_kept b g t x i c.0 c.1 h
     by false e = refused_kept g t.at x h

@@ -1,6 +1,7 @@
 -- Types as they are written are of copied values, where thin pointers and structs are taken, with the heap and lexical regions or without.
 use Rattle.std.proofs.Common.{◌≡◌, ℕ, zero, suc, Bool, true, false, Option, Some, None, List, [], ◌∷◌}
 use Rattle.std.specs.Prelude.{◌&&◌, ◌++◌, map, replicate}
+use Rattle.std.proofs.lemmas.Bool.{and_parts}
 use Rattle.cyc_tree.specs.declared.name.Sign.{Sign}
 use Rattle.cyc_tree.specs.declared.name.Sign.TheVariants as sign
 use Rattle.cyc_tree.specs.Tree as tree
@@ -15,7 +16,6 @@ use Rattle.source_typing.specs.Verdicts.{Faulty, Of, Unjudged, Verdict, refuse, 
 use Rattle.source_typing.specs.Written.{Found, Is, IsUnique, Missing, RegionNamed, Spot, all_found, as_region, built, count_fits, counted_type, find_region}
 use Rattle.source_typing.specs.Written.{found_by, found_named, pointer_to, pointers_to, regions_of_tag, spot, spots_of, tag_of, type_built, with_arguments}
 use Rattle.source_typing.specs.Written.{written, written_on, written_with}
-use Rattle.source_typing.proofs.Converting.{and_is}
 use Rattle.accepted_sources.proofs.CopiedTypes.{AreNotUnique, IsCopied, IsCopiedIfSome, IsNotUnique, WhereJudged, judged_unless}
 
 -- a region name, of a pointer or of an argument: the unique region is at fault as an argument, and so is none that is found
@@ -92,12 +92,12 @@ region_shared b (Some (tree.Named n)) e = tt
 pointers_shared : (b : Bool) (ps : List tree.Pointer) → takes_pointers (k b) ps ≡ true → AreShared (map (λ (p : tree.Pointer). spot true p.region) ps)
 pointers_shared b [] e = tt
 pointers_shared b (p ∷ ps) e =
-    let a = and_is (takes_sign (k b) p.sign && takes_region (k b) p.region) (takes_pointers (k b) ps) e in
-    (region_shared b p.region (and_is (takes_sign (k b) p.sign) (takes_region (k b) p.region) a.0).1, pointers_shared b ps a.1)
+    let a = and_parts (takes_sign (k b) p.sign && takes_region (k b) p.region) (takes_pointers (k b) ps) e in
+    (region_shared b p.region (and_parts (takes_sign (k b) p.sign) (takes_region (k b) p.region) a.0).1, pointers_shared b ps a.1)
 
 type_shared : (b : Bool) (g : Tables) (t : TypeName) → takes_type (k b) t ≡ true → AreShared (spots_of g t)
 type_shared b g t e =
-    let a = and_is (takes_base (k b) t.base) (takes_pointers (k b) t.pointers) e in by t.base a.0 (pointers_shared b t.pointers a.1)
+    let a = and_parts (takes_base (k b) t.base) (takes_pointers (k b) t.pointers) e in by t.base a.0 (pointers_shared b t.pointers a.1)
   where
     by : (x : tree.Base) → takes_base (k b) x ≡ true → AreShared (map (λ (p : tree.Pointer). spot true p.region) t.pointers)
         → AreShared (spots_of g (record { at = t.at; base = x; pointers = t.pointers }))
@@ -156,9 +156,9 @@ pointers_copied b [] fs t e h c = c
 pointers_copied b (p ∷ ps) [] t e h c = c
 pointers_copied b (p ∷ ps) (f ∷ fs) None e h c = tt
 pointers_copied b (p ∷ ps) (f ∷ fs) (Some t) e h c =
-    let a = and_is (takes_sign (k b) p.sign && takes_region (k b) p.region) (takes_pointers (k b) ps) e in
+    let a = and_parts (takes_sign (k b) p.sign && takes_region (k b) p.region) (takes_pointers (k b) ps) e in
     pointers_copied b ps fs (pointer_to p.sign f t) a.1 h.1
-    (pointer_copied b p.sign f t (and_is (takes_sign (k b) p.sign) (takes_region (k b) p.region) a.0).0 h.0 c)
+    (pointer_copied b p.sign f t (and_parts (takes_sign (k b) p.sign) (takes_region (k b) p.region) a.0).0 h.0 c)
 
 -- a struct, whose first regions are its arguments
 struct_copied : (b : Bool) (tag : List ℕ) (n : ℕ) (args : List Found) (ps : List tree.Pointer) (fs : List Found) → takes_pointers (k b) ps ≡ true
@@ -171,7 +171,7 @@ struct_copied b tag (suc n) args ps (f ∷ fs) e h = struct_copied b tag n (args
 written_copied : (b : Bool) (g : Tables) (t : TypeName) (fs : List Found) (bad : List Fault) → takes_type (k b) t ≡ true → AreNotUnique fs
     → WhereJudged (λ (p : PartialType). IsCopied p) (written_with g t (fs, bad))
 written_copied b g t fs bad e h =
-    let a = and_is (takes_base (k b) t.base) (takes_pointers (k b) t.pointers) e in by t.base a.0 a.1
+    let a = and_parts (takes_base (k b) t.base) (takes_pointers (k b) t.pointers) e in by t.base a.0 a.1
   where
     found : (p : Option PartialType) → IsCopiedIfSome p → WhereJudged (λ (p : PartialType). IsCopied p) (unless_faulty bad (type_built t.at p))
     found None c = judged_unless (λ (p : PartialType). IsCopied p) bad (type_built t.at None) tt

@@ -12,7 +12,7 @@ use Rattle.accepted_sources.specs.Laws.{RegionsHaveNoFlowFaults}
 use Rattle.accepted_sources.proofs.CopiedHeads.{body_kept, tables_known}
 use Rattle.accepted_sources.proofs.CopiedNames.{AreNoOtherValues}
 use Rattle.accepted_sources.proofs.CopiedWritten.{copied_forms}
-use Rattle.accepted_sources.proofs.StillStates.{no_more}
+use Rattle.source_typing.proofs.Inversion.{both_none}
 use Rattle.accepted_sources.proofs.StillStatements.{items_still}
 
 abbrev k : Bool → Taken
@@ -30,7 +30,7 @@ item_flow b g i (tree.FunctionItem f) h =
 items_flow : (b : Bool) (g : Tables) (i : ℕ) (p : List Item) → AreNoOtherValues g → flow_from g i (only_taken (k b) p) ≡ []
 items_flow b g i [] h = refl
 items_flow b g i (x ∷ p) h =
-    no_more (flow_of g i (item_taken (k b) x)) (flow_from g (suc i) (only_taken (k b) p)) (item_flow b g i x h) (items_flow b g (suc i) p h)
+    both_none (flow_of g i (item_taken (k b) x)) (flow_from g (suc i) (only_taken (k b) p)) (item_flow b g i x h) (items_flow b g (suc i) p h)
 
 -- with the heap and lexical regions, and without
 no_flow_faults : (b : Bool) (p : Program) → flow_faults (only_taken (k b) p) ≡ []

@@ -1,5 +1,5 @@
 -- Uses and statements that leave the states of all locals as they are, and have no fault of flow.
-use Rattle.std.proofs.Common.{◌≡◌, ℕ, zero, suc, Option, Some, None, List, [], ◌∷◌, refl, sym, subst, ap, ap₂, ◌∙◌}
+use Rattle.std.proofs.Common.{◌≡◌, ℕ, zero, suc, Option, Some, None, [], ◌∷◌, refl, sym, subst, ap, ap₂, ◌∙◌}
 use Rattle.std.proofs.Math.Seq.{drop-append_seam}
 use Rattle.std.specs.Prelude.{length, option_map, ◌++◌}
 use Rattle.source_typing.specs.Left.{
@@ -37,11 +37,7 @@ use Rattle.source_typing.specs.States.{
   or_entry,
   passed,
 }
-
--- nothing and nothing is nothing
-pub no_more : {A : Type 0} (xs ys : List A) → xs ≡ [] → ys ≡ [] → xs ++ ys ≡ []
-no_more [] ys a b = b
-no_more (x ∷ xs) ys a b = absurd cc
+use Rattle.source_typing.proofs.Inversion.{both_none}
 
 -- ---- uses
 
@@ -106,7 +102,7 @@ joined_still s a b w h k r = record {
   falls = r;
   breaks = meet_reached s a.breaks b.breaks h.breaks k.breaks;
   continues = meet_reached s a.continues b.continues h.continues k.continues;
-  faults = no_more a.faults b.faults h.faults k.faults;
+  faults = both_none a.faults b.faults h.faults k.faults;
 }
 
 pub either_still : (s : States) (a b : Left) → IsStill s a → IsStill s b → IsStill s (either a b)

@@ -1,21 +1,19 @@
 -- A machine that begins with the lines of a program's lowered Core does what the source does.
 use Rattle.std.proofs.Common.{◌≡◌, ℕ, ⊎_elim, List, [], ◌∷◌, Option, refl, sym, ap, ◌∙◌, subst}
 use Rattle.cyc_words.specs.Events as events
-use Rattle.cyc_words.specs.Events.{SourceEvent, SourceEnding}
+use Rattle.cyc_words.specs.Events.{AreBytes, SourceEvent, SourceEnding}
 use Rattle.cyc_tree.specs.Tree.{Program}
 use Rattle.source_meaning.specs.Steps.{World, Routine}
 use Rattle.source_meaning.specs.Programs.{world_of, source}
 use Rattle.core_meaning.specs.Steps as core_steps
 use Rattle.core_meaning.specs.Meaning.{core as core_source}
 use Rattle.rv32_machine.specs.State.{Areas, State}
-use Rattle.rv32_machine.specs.Run as run
 use Rattle.rv32_machine.specs.Run.{run_steps, from, ending_of}
 use Rattle.rv32_machine.specs.Implements.{Meaning, Implements, AgreesIn, Reaches}
 use Rattle.core_frames.specs.Running.{named, core_meaning, IsNeverStuck}
 use Rattle.core_frames.proofs.DoesAsCore.{does_as_core}
 use Rattle.source_lowering.specs.Programs.{program_code}
 use Rattle.source_lowering.specs.Lowerable.{IsLowerable}
-use Rattle.source_lowering.proofs.Relations as lowering
 use Rattle.source_lowering.proofs.Relations.{SameEvent, BothVisible, BothCalled, BothReturned, SameEvents, SameOutcome}
 use Rattle.source_lowering.proofs.Programs.{programs_same}
 use Rattle.compiled_sources.specs.Promise.{meaning_of, name_in, names_of, DoesAsSource, AreNamedApart, frame_bound_of}
@@ -70,11 +68,7 @@ all_named w [] (f ∷ fs) h = absurd h
 all_named w (e ∷ es) [] h = absurd h
 
 -- an input of bytes
-bytes_same : (input : List ℕ) → run.AreBytes input → lowering.AreBytes input
-bytes_same [] h = tt
-bytes_same (b ∷ bs) h = (h.0, bytes_same bs h.1)
-
-module _ (p : Program) (lowerable : IsLowerable p) (input : List ℕ) (bytes : run.AreBytes input) (sound : IsNeverStuck (meaning_of p input)) where
+module _ (p : Program) (lowerable : IsLowerable p) (input : List ℕ) (bytes : AreBytes input) (sound : IsNeverStuck (meaning_of p input)) where
   abbrev w : World
   w = world_of p
 
@@ -83,7 +77,7 @@ module _ (p : Program) (lowerable : IsLowerable p) (input : List ℕ) (bytes : r
       ⊎_elim
       (λ (stuck : (source p input fuel).ending ≡ SourceEnding.Stuck). absurd (sound fuel stuck))
       (λ (same : SameOutcome w (source p input fuel) (core_source (program_code p) input fuel)). same)
-      (programs_same p lowerable input (bytes_same input bytes) fuel)
+      (programs_same p lowerable input bytes fuel)
 
   core_is_source : SameMeaning (core_meaning (names_of w.functions) (program_code p) input) (meaning_of p input)
   core_is_source = record {

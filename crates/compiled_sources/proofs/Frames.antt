@@ -2,8 +2,8 @@
 use Rattle.std.specs.Prelude.{slice_get, bytes_eq, if◌then◌else◌}
 use Rattle.std.specs.List.{All}
 use Rattle.std.proofs.Common.{◌≡◌, ℕ, zero, suc, ◌≤◌, true, false, List, [], ◌∷◌, Option, Some, refl, ap, ◌∙◌, subst, arith}
-use Rattle.std.proofs.lemmas.Slice.Eq.{bytes_eq-Decides}
 use Rattle.std.proofs.lemmas.List.Elements.{All-head, All-tail}
+use Rattle.std.proofs.lemmas.Option.{same_Some, none-some}
 use Rattle.cyc_tree.specs.Tree.{Program}
 use Rattle.source_meaning.specs.Steps.{World, Routine}
 use Rattle.source_meaning.specs.Calls.{function_of}
@@ -29,7 +29,6 @@ use Rattle.core_frames.specs.Selected.{frame_bytes}
 use Rattle.core_frames.specs.Bounds as frames
 use Rattle.core_frames.specs.Running.{AreBounded}
 use Rattle.core_frames.proofs.Locals.{frame_spares}
-use Rattle.core_frames.proofs.Fitting.{none_some, some_same}
 use Rattle.source_lowering.specs.Programs.{function_code, program_code}
 use Rattle.source_lowering.specs.Lowerable.{IsLowerable}
 use Rattle.source_lowering.specs.Bounds as source
@@ -39,6 +38,7 @@ use Rattle.source_lowering.proofs.Bounded.{frame_bounded}
 use Rattle.source_lowering.proofs.Programs.{routines_are}
 use Rattle.compiled_sources.specs.Promise.{name_in, names_of, AreNamedApart, bound_in, frame_bound_of}
 use Rattle.compiled_sources.proofs.Selectable.{code_of}
+use Rattle.source_safety.proofs.Layouts.{same_text}
 
 -- ---- both count the words of locals alike
 
@@ -72,21 +72,18 @@ frame_within w f is =
 
 -- ---- by names
 
-pub bytes_self : (xs : List ℕ) → bytes_eq xs xs ≡ true
-bytes_self xs = (bytes_eq-Decides xs xs).1 refl
-
 apart_at : (name : List ℕ) (fs : List Routine) (number : ℕ) (f : Routine) → All (λ (g : Routine). bytes_eq name g.name ≡ false) fs
     → slice_get fs number ≡ Some f → bytes_eq name f.name ≡ false
-apart_at name [] number f all is = absurd (none_some f is)
+apart_at name [] number f all is = absurd (none-some f is)
 apart_at name (g ∷ gs) zero f all is =
-    subst (λ (h : Routine). bytes_eq name h.name ≡ false) (some_same g f is) (All-head (λ (h : Routine). bytes_eq name h.name ≡ false) g gs all)
+    subst (λ (h : Routine). bytes_eq name h.name ≡ false) (same_Some g f is) (All-head (λ (h : Routine). bytes_eq name h.name ≡ false) g gs all)
 apart_at name (g ∷ gs) (suc number) f all is = apart_at name gs number f (All-tail (λ (h : Routine). bytes_eq name h.name ≡ false) g gs all) is
 
 -- the function of a name is the one of its number
 named_one : (fs : List Routine) (number : ℕ) (f : Routine) → AreNamedApart fs → slice_get fs number ≡ Some f → function_of fs f.name ≡ Some f
-named_one [] number f apart is = absurd (none_some f is)
+named_one [] number f apart is = absurd (none-some f is)
 named_one (g ∷ gs) zero f apart is =
-    let same : bytes_eq g.name f.name ≡ true = ap (λ (h : Routine). bytes_eq h.name f.name) (some_same g f is) ∙ bytes_self f.name in
+    let same : bytes_eq g.name f.name ≡ true = ap (λ (h : Routine). bytes_eq h.name f.name) (same_Some g f is) ∙ same_text f.name in
     ap (λ z. if z then Some g else function_of gs f.name) same ∙ is
 named_one (g ∷ gs) (suc number) f apart is =
     ap (λ z. if z then Some g else function_of gs f.name) (apart_at g.name gs number f apart.0 is) ∙ named_one gs number f apart.1 is

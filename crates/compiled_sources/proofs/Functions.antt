@@ -41,7 +41,7 @@ use Rattle.source_lowering.specs.Programs.{
 use Rattle.source_lowering.specs.Lowerable.{IsObject, AreObjects, AreStructs, Takes, TakesValue, TakesDeclaration, TakesStatement, TakesItems, TakesProgram}
 use Rattle.source_lowering.proofs.Integers.{word_object}
 use Rattle.source_lowering.proofs.Names.{AreParameters, IsRoutine}
-use Rattle.source_lowering.proofs.EachDeclaration.{shape_object}
+use Rattle.source_lowering.proofs.EachDeclaration.{block_objects}
 use Rattle.source_lowering.proofs.WrittenTypes.{object_settled}
 use Rattle.source_lowering.proofs.WholeObjects.{item_objects}
 use Rattle.source_lowering.proofs.Heap.{laid_out_as}
@@ -59,16 +59,7 @@ layouts_taken : (w : World) (ss : List Shape) → AreStructs w.unions w.structs 
 layouts_taken w [] structs h = tt
 layouts_taken w (s ∷ ss) structs h = ((object_layout w s structs h.0).lies, layouts_taken w ss structs h.1)
 
--- the locals of a block and the parameters are objects
-items_objects : (w : World) (result : Shape) (names : List Named) (index : ℕ) (items : BlockItems) → TakesItems w result names index items
-    → AreObjects w.structs (block_shapes items)
-items_objects w result names index NoItems h = tt
-items_objects w result names index (Declare d others) h = (
-  shape_object w names d h.0,
-  items_objects w result (named_here (tree.local_of d).text (local_shape d) index ∷ names) (suc index) others h.1,
-)
-items_objects w result names index (Execute s others) h = items_objects w result names index others h.1
-
+-- the parameters are objects
 parameters_objects : (w : World) (ps : List Part) (ss : List Shape) → AreParameters ps → AreObjects w.structs ss
     → AreObjects w.structs (part_shapes ps ++ ss)
 parameters_objects w [] ss h more = more
@@ -155,7 +146,7 @@ mutual
       let k = length (locals_of w shapes) in
       let many = as_many w shapes in (
         (
-          layouts_taken w shapes structs (items_objects w result (outward names) 0 items h),
+          layouts_taken w shapes structs (block_objects w result (outward names) 0 items h),
           all_name (k ∷ blocks) own n _ (items_names k blocks own n w result (outward names) structs (further_in blocks n k w names a) r 0 next items h
               (omega (arith, many)) f),
         ),
@@ -257,7 +248,7 @@ body_names n w f globals structs is =
     let many = as_many w shapes in
     let room = as_many w (routine_values w f) in
     let objects = parameters_objects w f.parameters (block_shapes f.body) is.parameters
-    (items_objects w f.result (parameter_names f.parameters 0 []) (length f.parameters) f.body is.body) in
+    (block_objects w f.result (parameter_names f.parameters 0 []) (length f.parameters) f.body is.body) in
     let all = many_shapes f.parameters f.body in
     let names = parameter_names f.parameters 0 [] in
     let a : Around (k ∷ []) n w names =

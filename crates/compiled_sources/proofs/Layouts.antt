@@ -1,8 +1,39 @@
 -- How lowering lays objects out can be selected: parts tile the object's bytes, words lie at multiples of 4, and bytes of 0 show what parts begin with.
-use Rattle.std.proofs.Common.{◌≡◌, ⊎_elim, ℕ, zero, suc, ◌+◌, ◌-◌, ◌%◌, ◌<◌, ◌≤◌, ◌⊎◌, inl, inr, List, [], ◌∷◌, ◌++◌, map, Bool, true, false, nat_eq, Some, None, refl, sym, ap, ◌∙◌, subst, arith}
+use Rattle.std.proofs.Common.{
+  ◌≡◌,
+  ⊎_elim,
+  ℕ,
+  zero,
+  suc,
+  ◌+◌,
+  ◌-◌,
+  ◌%◌,
+  ◌<◌,
+  ◌≤◌,
+  ◌⊎◌,
+  inl,
+  inr,
+  List,
+  [],
+  ◌∷◌,
+  ◌++◌,
+  map,
+  Bool,
+  true,
+  false,
+  nat_eq,
+  Some,
+  refl,
+  sym,
+  ap,
+  ◌∙◌,
+  subst,
+  arith,
+}
 use Rattle.std.specs.Prelude.{◌&&◌, nat_lt, slice_get}
 use Rattle.std.proofs.lemmas.Bool.{eqb-true, eq-eqb}
 use Rattle.std.proofs.lemmas.Bool.Decides.{nat_tests}
+use Rattle.std.proofs.lemmas.Option.{same_Some, none-some}
 use Rattle.source_meaning.specs.Shapes.{
   Shape,
   IntShape,
@@ -57,18 +88,12 @@ record IsWithin (from to : ℕ) (s : PartShape) : Type 0 where
   low : from ≤ s.offset
   high : s.offset + s.width ≤ to
 
-no_part : (s : PartShape) → None ≡ Some s → ⊥
-no_part s e = cc e
-
-part_is : (x s : PartShape) → Some x ≡ Some s → x ≡ s
-part_is x s e = cc e
-
 part_within : (from to : ℕ) (xs : List PartShape) (j : ℕ) (s : PartShape) → Tile from to xs → slice_get xs j ≡ Some s → IsWithin from to s
-part_within from to [] j s h e = absurd (no_part s e)
+part_within from to [] j s h e = absurd (none-some s e)
 part_within from to (x ∷ xs) zero s h e =
     let more = tile_on (from + x.width) to xs h.1 in
     let offset = h.0 in
-    subst (λ z. IsWithin from to z) (part_is x s e) (record { low = omega (arith, offset); high = omega (arith, offset, more) })
+    subst (λ z. IsWithin from to z) (same_Some x s e) (record { low = omega (arith, offset); high = omega (arith, offset, more) })
 part_within from to (x ∷ xs) (suc j) s h e =
     let one = part_within (from + x.width) to xs j s h.1 e in
     let low = one.low in
@@ -76,7 +101,7 @@ part_within from to (x ∷ xs) (suc j) s h e =
 
 has_within : (from to : ℕ) (xss : List (List PartShape)) (k j : ℕ) (s : PartShape) → AllTile from to xss → shape_in (slice_get xss k) j ≡ Some s
     → IsWithin from to s
-has_within from to [] k j s h e = absurd (no_part s e)
+has_within from to [] k j s h e = absurd (none-some s e)
 has_within from to (xs ∷ xss) zero j s h e =
     let one = part_within from h.0 xs j s h.1.0 e in
     let more = all_on h.0 to xss h.1.1 in
@@ -96,16 +121,16 @@ next_eq i j e = grind (arith, nat_tests, e)
 
 parts_apart : (from to : ℕ) (xs : List PartShape) (i j : ℕ) (s t : PartShape) → Tile from to xs → nat_eq i j ≡ false → slice_get xs i ≡ Some s
     → slice_get xs j ≡ Some t → Apart s.offset s.width t.offset t.width
-parts_apart from to [] i j s t h ne e f = absurd (no_part s e)
+parts_apart from to [] i j s t h ne e f = absurd (none-some s e)
 parts_apart from to (x ∷ xs) zero zero s t h ne e f = absurd (same_false zero ne)
 parts_apart from to (x ∷ xs) zero (suc j) s t h ne e f =
     let other = (part_within (from + x.width) to xs j t h.1 f).low in
     let offset = h.0 in
-    subst (λ z. Apart z.offset z.width t.offset t.width) (part_is x s e) (inl (omega (arith, other, offset)))
+    subst (λ z. Apart z.offset z.width t.offset t.width) (same_Some x s e) (inl (omega (arith, other, offset)))
 parts_apart from to (x ∷ xs) (suc i) zero s t h ne e f =
     let other = (part_within (from + x.width) to xs i s h.1 e).low in
     let offset = h.0 in
-    subst (λ z. Apart s.offset s.width z.offset z.width) (part_is x t f) (inr (omega (arith, other, offset)))
+    subst (λ z. Apart s.offset s.width z.offset z.width) (same_Some x t f) (inr (omega (arith, other, offset)))
 parts_apart from to (x ∷ xs) (suc i) (suc j) s t h ne e f = parts_apart (from + x.width) to xs i j s t h.1 (next_eq i j ne) e f
 
 next_same : (a b : ℕ) → nat_eq a b ≡ nat_eq (suc a) (suc b)
@@ -117,7 +142,7 @@ next_same a b = by (nat_eq a b) refl
 
 cells_apart : (from to : ℕ) (xss : List (List PartShape)) (k i l j : ℕ) (s t : PartShape) → AllTile from to xss → (nat_eq k l && nat_eq i j) ≡ false
     → shape_in (slice_get xss k) i ≡ Some s → shape_in (slice_get xss l) j ≡ Some t → Apart s.offset s.width t.offset t.width
-cells_apart from to [] k i l j s t h ne e f = absurd (no_part s e)
+cells_apart from to [] k i l j s t h ne e f = absurd (none-some s e)
 cells_apart from to (xs ∷ xss) zero i zero j s t h ne e f = parts_apart from h.0 xs i j s t h.1.0 ne e f
 cells_apart from to (xs ∷ xss) zero i (suc l) j s t h ne e f =
     let one = (part_within from h.0 xs i s h.1.0 e).high in
@@ -181,12 +206,12 @@ EachOf P [] = Unit {0}
 EachOf P (xs ∷ xss) = Each P xs × EachOf P xss
 
 each_part : (P : PartShape → Type 0) (xs : List PartShape) (j : ℕ) (s : PartShape) → Each P xs → slice_get xs j ≡ Some s → P s
-each_part P [] j s h e = absurd (no_part s e)
-each_part P (x ∷ xs) zero s h e = subst P (part_is x s e) h.0
+each_part P [] j s h e = absurd (none-some s e)
+each_part P (x ∷ xs) zero s h e = subst P (same_Some x s e) h.0
 each_part P (x ∷ xs) (suc j) s h e = each_part P xs j s h.1 e
 
 each_has : (P : PartShape → Type 0) (xss : List (List PartShape)) (k j : ℕ) (s : PartShape) → EachOf P xss → shape_in (slice_get xss k) j ≡ Some s → P s
-each_has P [] k j s h e = absurd (no_part s e)
+each_has P [] k j s h e = absurd (none-some s e)
 each_has P (xs ∷ xss) zero j s h e = each_part P xs j s h.0 e
 each_has P (xs ∷ xss) (suc k) j s h e = each_has P xss k j s h.1 e
 

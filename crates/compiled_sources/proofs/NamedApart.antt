@@ -25,7 +25,7 @@ use Rattle.source_typing.specs.Programs.{
 }
 use Rattle.source_typing.proofs.Inversion.{test_is, none_of_both}
 use Rattle.compiled_sources.specs.Promise.{AreNamedApart}
-use Rattle.compiled_sources.proofs.Frames.{bytes_self}
+use Rattle.source_safety.proofs.Layouts.{same_text}
 
 -- ---- names that were seen
 
@@ -77,7 +77,7 @@ all_apart seen [] e = tt
 all_apart seen (tree.FunctionItem f ∷ items) e =
     let h = first_one seen (tree.FunctionItem f) items e in (
       none_again (f.name.text ∷ seen) items f.name.text h.others (or_left (bytes_eq f.name.text f.name.text) (is_seen seen f.name.text)
-          (bytes_self f.name.text)),
+          (same_text f.name.text)),
       all_apart (f.name.text ∷ seen) items h.others,
     )
 all_apart seen (tree.GlobalItem x ∷ items) e = let h = first_one seen (tree.GlobalItem x) items e in all_apart (x.name.text ∷ seen) items h.others

@@ -1,12 +1,12 @@
 -- What a program that lowering takes is lowered to has code.
 use Rattle.std.proofs.Common.{◌≡◌, ℕ, zero, suc, List, [], ◌∷◌, length, map, Some, refl, subst, arith}
 use Rattle.std.specs.Prelude.{slice_get}
+use Rattle.std.proofs.lemmas.Option.{same_Some, none-some}
 use Rattle.cyc_tree.specs.Tree.{Program}
 use Rattle.source_meaning.specs.Steps.{World, Routine}
 use Rattle.source_meaning.specs.Programs.{world_of}
 use Rattle.core_meaning.specs.Core.{Function}
 use Rattle.core_frames.specs.Selectable.{IsSelectableIn, IsSelectable, scope_of}
-use Rattle.core_frames.proofs.Fitting.{none_some, some_same}
 use Rattle.source_lowering.specs.Programs.{body_code, function_code, data_of, program_code}
 use Rattle.source_lowering.specs.Lowerable.{AreStructs, IsLowerable}
 use Rattle.source_lowering.proofs.Names.{IsRoutine, AreRoutines}
@@ -24,12 +24,13 @@ pub record IsCodeOf (w : World) (fs : List Routine) (number : ℕ) (f : Function
 
 pub code_of : (w : World) (fs : List Routine) (number : ℕ) (f : Function) → AreRoutines w fs → slice_get (map (function_code w) fs) number ≡ Some f
     → IsCodeOf w fs number f
-code_of w [] number f all e = absurd (none_some f e)
-code_of w (r ∷ rs) zero f all e = record { routine = r; there = refl; is = all.0; same = some_same (function_code w r) f e }
+code_of w [] number f all e = absurd (none-some f e)
+code_of w (r ∷ rs) zero f all e = record { routine = r; there = refl; is = all.0; same = same_Some (function_code w r) f e }
 code_of w (r ∷ rs) (suc number) f all e =
     let h = code_of w rs number f all.1 e in record { routine = h.routine; there = h.there; is = h.is; same = h.same }
 
-function_selectable : (n : ℕ) (w : World) (f : Routine) → GlobalsLie n w.globals → AreStructs w.unions w.structs → IsRoutine w f → IsSelectableIn n (function_code w f)
+function_selectable : (n : ℕ) (w : World) (f : Routine) → GlobalsLie n w.globals → AreStructs w.unions w.structs → IsRoutine w f
+    → IsSelectableIn n (function_code w f)
 function_selectable n w f globals structs is = record {
   own_layouts = own_layouts w f structs is;
   few = omega arith;

@@ -1,12 +1,12 @@
 -- What is promised of the lines that a program's tree becomes: a machine that begins with them does what the source does.
 use Rattle.std.specs.Prelude.{◌≡◌, ℕ, ◌≤◌, false, List, [], ◌∷◌, Option, Some, None, slice_get, bytes_eq}
 use Rattle.std.specs.List.{All}
+use Rattle.cyc_words.specs.Events.{AreBytes}
 use Rattle.cyc_tree.specs.Tree.{Program}
 use Rattle.source_meaning.specs.Steps.{World, Routine}
 use Rattle.source_meaning.specs.Calls.{function_of}
 use Rattle.source_meaning.specs.Programs.{world_of, source}
 use Rattle.rv32_machine.specs.State.{Areas, State}
-use Rattle.rv32_machine.specs.Run.{AreBytes}
 use Rattle.rv32_machine.specs.Implements.{Meaning, Implements}
 use Rattle.core_frames.specs.declared.line.Line.{Line}
 use Rattle.core_frames.specs.Lines.{code_length}

@@ -1,6 +1,6 @@
 -- A region gets a block, as Core does it.
 use Rattle.std.specs.Prelude.{slice_get, slice_set, option_map}
-use Rattle.std.proofs.Common.{◌≡◌, ℕ, zero, suc, ◌+◌, ◌*◌, Bool, true, false, Option, Some, None, List, [], ◌∷◌, ◌++◌, length, refl, ap, ◌∙◌, sym, subst, arith}
+use Rattle.std.proofs.Common.{◌≡◌, ℕ, zero, suc, ◌+◌, ◌*◌, Option, Some, None, List, [], ◌∷◌, ◌++◌, length, refl, ap, ◌∙◌, sym, subst, arith}
 use Rattle.cyc_words.specs.Events as events
 use Rattle.core_meaning.specs.Memory as memory
 use Rattle.core_meaning.specs.Memory.{Region, Born, Content, Pointer, Part, is_live, with_object, blanks, first_spot}
@@ -16,19 +16,19 @@ use Rattle.core_eval.specs.declared.value.Value.{Value}
 use Rattle.core_eval.specs.declared.value.Value.TheVariants as value
 use Rattle.core_eval.specs.declared.value.Slot.{Slot}
 use Rattle.core_eval.specs.Values.{region_of, spot_of, content_of, temp_of, part_in, Shows}
-use Rattle.core_eval.specs.Regions.{Regions, still_held, region_at, block_cells, grown_held, area_of, block_place}
+use Rattle.core_eval.specs.Regions.{Regions, region_at, block_cells, grown_held, area_of, block_place}
 use Rattle.core_eval.specs.Blocks.{Stored, born_objects, next_place, grown}
 use Rattle.core_eval.specs.Whole.{is_still}
 use Rattle.core_eval.specs.Pendings.{Execute, Leave, Wait, Go, Wrong, Mark}
 use Rattle.core_eval.specs.Standing.{Known, Agrees, Gives}
 use Rattle.core_eval.specs.Costs.{IsMove}
-use Rattle.core_eval.proofs.Memories.{itself, other_number, shows_object, shows_grown}
+use Rattle.core_eval.proofs.Memories.{other_number, shows_object, shows_grown}
 use Rattle.core_eval.proofs.Elements.{block_parts}
 use Rattle.core_eval.proofs.Born.{held_there, heap_changed, region_changed, region_shows, born_agrees}
 use Rattle.core_eval.proofs.Changes.{stored_in, with_stored}
 use Rattle.core_eval.proofs.Laid.{live_is}
 use Rattle.core_eval.proofs.Moves.{becomes_saying, goes_wrong}
-use Rattle.core_eval.proofs.OperationMoves.{given, agrees_given, IsNoWord, no_word}
+use Rattle.core_eval.proofs.OperationMoves.{given, agrees_given}
 use Rattle.core_eval.proofs.RegionMoves.{object_keeps, object_others, one_counted}
 
 -- ---- what is stored

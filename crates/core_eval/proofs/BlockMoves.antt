@@ -41,12 +41,13 @@ use Rattle.core_eval.specs.Blocks.{Activation, position_of}
 use Rattle.core_eval.specs.Pendings.{Execute, Follow, Leave, Wait, Block, Go, Mark, rest_of}
 use Rattle.core_eval.specs.Standing.{Holds, Known, Agrees, Stands, IsFresh, AreNested, AreAllLive, AreOwned, AreAllOwned, AreBorn}
 use Rattle.core_eval.specs.Costs.{IsMove}
-use Rattle.core_eval.proofs.Memories.{blank_part, itself, other_number, shows_standing, shows_objects, shows_grown}
+use Rattle.core_eval.proofs.Memories.{blank_part, other_number, shows_standing, shows_objects, shows_grown}
 use Rattle.core_eval.proofs.Lists.{length_more}
 use Rattle.core_eval.proofs.Nested.{nested_still}
 use Rattle.core_eval.proofs.Owned.{owned_still}
 use Rattle.core_eval.proofs.Born.{KeepsBorn, born_kept}
 use Rattle.core_eval.proofs.Moves.{all_stand, goes_here}
+use Rattle.core_meaning.proofs.Spots.{region_self}
 
 -- ---- what a block's objects change
 
@@ -114,7 +115,7 @@ all_shown r [] m objects shows counted = subst (λ (os : List (List Slot)). Show
 all_shown r (w ∷ locals) m objects shows counted =
     let m1 = with_object m r (blanks (local_layout w) 1) in
     let more : m1.objects r ≡ length (objects ++ blank_object w ∷ []) =
-    ap (λ b. if b then m.objects r + 1 else m.objects r) (itself r) ∙ ap (λ n. n + 1) counted ∙ length_more objects (blank_object w) in
+    ap (λ b. if b then m.objects r + 1 else m.objects r) (region_self r) ∙ ap (λ n. n + 1) counted ∙ length_more objects (blank_object w) in
     subst (λ (os : List (List Slot)). Shows (with_objects r (map local_tree locals) m1) r os) (append_assoc objects (blank_object w ∷ []) (map blank_object locals))
     (all_shown r locals m1 (objects ++ blank_object w ∷ []) (shows_grown shows counted (blanks (local_layout w) 1) (blank_object w) (blank_part w)) more)
 
@@ -165,7 +166,7 @@ module _ (known : Known) (ws : List Wait) (locals : List code.Local) where
           sym h.entered,
           omega (arith, counted),
           all_shown (Frame a) locals (begun m) []
-              (record { live = ap (λ b. if b then Live else m.standing (Frame a)) (itself (Frame a)); holds = λ i k j. h.fresh.missing a i k j (omega arith) })
+              (record { live = ap (λ b. if b then Live else m.standing (Frame a)) (region_self (Frame a)); holds = λ i k j. h.fresh.missing a i k j (omega arith) })
               (h.fresh.empty a (omega arith)),
           nested_still m m' a a c.blocks known.base known.blocks ws marks (omega arith)
               (λ k objects below shows. still (Frame k) objects (other_number k a (omega (arith, below))) shows) h.nested,

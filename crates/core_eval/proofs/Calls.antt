@@ -5,7 +5,7 @@ use Rattle.std.proofs.lemmas.Bool.Decides.{nat_tests}
 use Rattle.std.proofs.lemmas.List.{length-map}
 use Rattle.step_trees.specs.Trees as trees
 use Rattle.core_meaning.specs.Memory as memory
-use Rattle.core_meaning.specs.Memory.{Region, Frame, Own, Born, Standing, Live, Dead, is_live, same_region, Memory, Content, Part, PartShape, with_standing, shape_in, blanks}
+use Rattle.core_meaning.specs.Memory.{Region, Frame, Own, Born, Live, Dead, is_live, same_region, Memory, Content, Part, PartShape, with_standing, shape_in, blanks}
 use Rattle.core_meaning.specs.Core.{Function}
 use Rattle.core_meaning.specs.Steps.{Config, Called, Step, checked}
 use Rattle.core_meaning.specs.Meaning.{with_objects, entered, called, body_of, first_memory, status_of, start}
@@ -21,7 +21,6 @@ use Rattle.cyc_core.specs.declared.layout.Local.TheVariants as local
 use Rattle.cyc_core.specs.Trees.{
   bytes_of,
   cell_width,
-  cell_first,
   cell_parts,
   padding_parts,
   part_first,
@@ -35,15 +34,15 @@ use Rattle.cyc_core.specs.Trees.{
 }
 use Rattle.core_eval.specs.declared.value.Value.{Value}
 use Rattle.core_eval.specs.declared.value.Value.TheVariants as value
-use Rattle.core_eval.specs.Values.{spot_of, content_of, part_of, part_in, slot_at, cells_of, Shows, blank_slot, blank_object}
+use Rattle.core_eval.specs.Values.{spot_of, content_of, part_of, part_in, slot_at, Shows, blank_slot, blank_object}
 use Rattle.core_eval.specs.declared.frame.Frame as frame_code
 use Rattle.core_eval.specs.declared.memory.Memory as memory_code
 use Rattle.core_eval.specs.declared.value.Slot.{Slot}
 use Rattle.core_eval.specs.Regions.{Regions}
-use Rattle.core_eval.specs.Blocks.{activation_of, position_of}
-use Rattle.core_eval.specs.Pendings.{Follow, Wait, Caller, Next, Go, Wrong, Mark, rest_of, coming, returned_to}
-use Rattle.core_eval.specs.Standing.{Known, IsFresh, Agrees, AreBorn, Stands, IsCall, first_value, first_slot, scalar, first_object, first_known, known_of}
-use Rattle.core_eval.proofs.Memories.{padding_part, blank_part, cell_begins, itself, other_number, shows_standing, shows_objects}
+use Rattle.core_eval.specs.Blocks.{position_of}
+use Rattle.core_eval.specs.Pendings.{Follow, Wait, Caller, Go, Wrong, Mark, rest_of, coming, returned_to}
+use Rattle.core_eval.specs.Standing.{Known, IsFresh, Agrees, AreBorn, Stands, IsCall, first_slot, scalar, first_object, first_known}
+use Rattle.core_eval.proofs.Memories.{padding_part, blank_part, cell_begins, other_number, shows_standing, shows_objects}
 use Rattle.core_eval.proofs.BlockMoves.{
   objects_other,
   parts_other,
@@ -59,6 +58,7 @@ use Rattle.core_eval.proofs.Owned.{owned_still}
 use Rattle.core_eval.proofs.Born.{born_kept}
 use Rattle.core_eval.proofs.Nested.{nested_still}
 use Rattle.core_eval.proofs.Moves.{goes_here}
+use Rattle.core_meaning.proofs.Spots.{region_self}
 
 -- ---- the functions of a program
 
@@ -109,7 +109,7 @@ module _ (known : Known) (ws : List Wait) (marks : List Mark) (temps : List Valu
       subst (λ (os : List (List Slot)). Shows (after_call m locals) (Own m.calls) os) (sym is)
       (all_shown (Own m.calls) locals (called_in m locals) []
       (record {
-        live = ap (λ b. if b then Live else m.standing (Own m.calls)) (itself (Own m.calls));
+        live = ap (λ b. if b then Live else m.standing (Own m.calls)) (region_self (Own m.calls));
         holds = λ i k j. fresh.no_value m.calls i k j (omega arith);
       })
       (fresh.no_values m.calls (omega arith)))

@@ -1,5 +1,5 @@
 -- Cells of an object that get other values, and what Core's memory shows then.
-use Rattle.std.specs.Prelude.{if◌then◌else◌, slice_get, slice_set, ◌&&◌, nat_eq, nat_le, nat_lt, map}
+use Rattle.std.specs.Prelude.{if◌then◌else◌, slice_get, ◌&&◌, nat_eq, nat_le, nat_lt}
 use Rattle.std.proofs.Common.{
   ◌≡◌,
   ℕ,
@@ -30,7 +30,7 @@ use Rattle.std.proofs.Common.{
 }
 use Rattle.std.proofs.lemmas.Bool.Decides.{nat_tests}
 use Rattle.std.proofs.lemmas.List.{length-set}
-use Rattle.core_meaning.specs.Memory.{Region, Part, same_region}
+use Rattle.core_meaning.specs.Memory.{Region, Part}
 use Rattle.core_meaning.specs.Operations.{cells_on}
 use Rattle.cyc_core.specs.declared.layout.CellLayout.{CellLayout}
 use Rattle.core_eval.specs.declared.value.Value.{Value}
@@ -38,7 +38,7 @@ use Rattle.core_eval.specs.declared.value.Slot.{Slot}
 use Rattle.core_eval.specs.Values.{spot_of, part_in, cell_in, slot_at, with_value}
 use Rattle.core_eval.specs.Whole.{held_by, values_from, fill_slot, fill_cells, fill_object, fill_in}
 use Rattle.core_eval.proofs.Lists.{get_set, get_past}
-use Rattle.core_eval.proofs.Memories.{itself}
+use Rattle.core_meaning.proofs.Spots.{region_self}
 
 -- the value for a cell, of values from the k-th cell on
 abbrev pub value_on : ℕ → List Value → ℕ → Option Value
@@ -205,7 +205,7 @@ module _ (change : Option ℕ → ℕ → Option Part → Option Part) (n : ℕ)
   pub object_changed : (objects : List (List Slot)) (r : Region) (i k x y j : ℕ)
       → change (cells_on n (spot_of r i k) (spot_of r x y)) j (part_in (slot_at objects x y) j) ≡ part_in (slot_at (fill_in objects i k vs) x y) j
   object_changed objects r i k x y j =
-      ap (λ b. change (if (b && nat_eq x i) && (nat_le k y && nat_lt y (k + n)) then Some (y - k) else None) j (part_in (slot_at objects x y) j)) (itself r)
+      ap (λ b. change (if (b && nat_eq x i) && (nat_le k y && nat_lt y (k + n)) then Some (y - k) else None) j (part_in (slot_at objects x y) j)) (region_self r)
       ∙ by (nat_eq x i) refl ∙ ap (λ o. part_in o j) (sym (slot_filled objects i k vs x y))
     where
       by : (b : Bool) → nat_eq x i ≡ b

@@ -1,6 +1,6 @@
 -- What lists of temporaries, objects and blocks hold at an index.
 use Rattle.std.specs.Prelude.{if◌then◌else◌, slice_index_or, slice_get, slice_set, nat_eq, drop, option_to_list, option_map, Option}
-use Rattle.std.proofs.Common.{◌≡◌, ℕ, zero, suc, ◌+◌, ◌<◌, ◌≤◌, Bool, true, false, Some, None, List, [], ◌∷◌, ◌++◌, length, map, Result, Ok, Err, OnOk, refl, ap, ◌∙◌, sym, arith}
+use Rattle.std.proofs.Common.{◌≡◌, ℕ, zero, suc, ◌+◌, ◌<◌, ◌≤◌, Bool, true, false, Some, None, List, [], ◌∷◌, ◌++◌, length, map, refl, ap, ◌∙◌, sym, arith}
 use Rattle.std.proofs.lemmas.List.{length-map}
 use Rattle.std.proofs.Math.Dec.{eqb-suc-suc, eqb-zero-suc, eqb-suc-zero}
 use Rattle.core_meaning.specs.Memory.{Blank}
@@ -170,11 +170,6 @@ module _ (bs : List Block) (n i k : ℕ) (vs : List Value) where
 
   pub fill_none : length bs ≤ n → map activation_of bs ≡ fill_through (map activation_of bs) (Some n) i k vs
   fill_none h = sym (ap (fill_among (map activation_of bs) n i k vs) (no_block bs n h))
-
--- what follows from a fact on what is right
-pub ok_then : {T E P Q : Type 0} (r : Result T E) → OnOk r P → (P → Q) → OnOk r Q
-ok_then (Ok x) h f = f h
-ok_then (Err e) h f = tt
 
 -- all but the first block
 pub first_left : (gone : Option Block) (bs rest : List Block) → bs ≡ option_to_list gone ++ rest → (gone ≡ None → length bs ≡ 0)

@@ -35,9 +35,6 @@ use Rattle.std.proofs.lemmas.Bool.Decides.{nat_tests}
 use Rattle.core_meaning.specs.Memory as memory
 use Rattle.core_meaning.specs.Memory.{
   Region,
-  Frame,
-  Own,
-  Born,
   Standing,
   Spot,
   Part,
@@ -65,7 +62,7 @@ use Rattle.cyc_core.specs.declared.operation.Cell.TheVariants as cell
 use Rattle.cyc_core.specs.declared.layout.CellLayout.{CellLayout}
 use Rattle.cyc_core.specs.declared.layout.Local as code
 use Rattle.cyc_core.specs.declared.layout.Local.TheVariants as local
-use Rattle.cyc_core.specs.Trees.{bytes_of, cell_first, cell_parts, padding_parts, local_tree, local_layout}
+use Rattle.cyc_core.specs.Trees.{bytes_of, cell_first, cell_parts, padding_parts, local_layout}
 use Rattle.core_eval.specs.declared.value.Value.{Value}
 use Rattle.core_eval.specs.declared.value.Slot.{Slot}
 use Rattle.core_eval.specs.Values.{
@@ -81,7 +78,6 @@ use Rattle.core_eval.specs.Values.{
   is_fit,
   with_value,
   put_slot,
-  put_cell,
   put_object,
   put_in,
   blank_slot,
@@ -91,6 +87,7 @@ use Rattle.core_eval.specs.Values.{
 use Rattle.core_eval.specs.Regions.{slot_from}
 use Rattle.core_eval.specs.Standing.{first_value}
 use Rattle.core_eval.proofs.Lists.{get_set, get_grown}
+use Rattle.core_meaning.proofs.Spots.{region_self}
 
 -- ---- reading
 
@@ -186,11 +183,6 @@ same_number k = grind (arith, nat_tests)
 
 pub other_number : (j k : ℕ) → j ≢ k → nat_eq j k ≡ false
 other_number j k h = grind (arith, nat_tests, h)
-
-pub itself : (r : Region) → same_region r r ≡ true
-itself (Frame k) = same_number k
-itself (Own k) = same_number k
-itself (Born k) = same_number k
 
 module _ {m : Memory} {q : Region} {objects : List (List Slot)} (shows : Shows m q objects) (r : Region) (other : same_region q r ≡ false) where
   -- a change of another region
@@ -337,7 +329,7 @@ module _ {m : Memory} {r : Region} {objects : List (List Slot)} (shows : Shows m
       → (with_part m (spot_of r i k) 0 (first_part (with_value old v))).parts (spot_of r x y) z
       ≡ part_in (slot_at (slice_set objects i (slice_set cells k (with_value old v))) x y) z
   parts_put i k cells old v object there x y z =
-      ap (λ b. if (b && (nat_eq x i && nat_eq y k)) && nat_eq z 0 then Some (first_part (with_value old v)) else m.parts (spot_of r x y) z) (itself r)
+      ap (λ b. if (b && (nat_eq x i && nat_eq y k)) && nat_eq z 0 then Some (first_part (with_value old v)) else m.parts (spot_of r x y) z) (region_self r)
       ∙ by (nat_eq x i && nat_eq y k) refl z
       ∙ ap (λ o. part_in o z) (sym (slot_put objects i k cells old (with_value old v) x y object there))
     where
@@ -362,7 +354,7 @@ module _ {m : Memory} {r : Region} {objects : List (List Slot)} (shows : Shows m
   shows_grown counted o cells is = record {
     live = shows.live;
     holds = λ x y z.
-        ap (λ b. if b && nat_eq x (m.objects r) then o y z else m.parts (spot_of r x y) z) (itself r)
+        ap (λ b. if b && nat_eq x (m.objects r) then o y z else m.parts (spot_of r x y) z) (region_self r)
         ∙ ap (λ n. if nat_eq x n then o y z else m.parts (spot_of r x y) z) counted
         ∙ both (nat_eq x (length objects)) x y z
         ∙ ap (λ o. part_in (cell_in o y) z) (sym (get_grown objects cells x));

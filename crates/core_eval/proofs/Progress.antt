@@ -33,7 +33,7 @@ use Rattle.std.specs.Io.KnownBytes.{Appends, Consumes, Keeps, IsAtEnd}
 use Rattle.std.proofs.KnownBytes.{Appends-trans, Consumes-trans, Consumes-kept}
 use Rattle.core_meaning.specs.Core.{Program}
 use Rattle.cyc_words.specs.Events as events
-use Rattle.cyc_words.specs.Events.{ByteRead, ByteWritten, output, bytes_read}
+use Rattle.cyc_words.specs.Events.{AreBytes, ByteRead, ByteWritten, output, bytes_read}
 use Rattle.core_meaning.specs.Memory.{Memory}
 use Rattle.core_meaning.specs.Steps.{Config, Event, Visible, Called, Returned, Exit, Invocation, LoopTurn, Step}
 use Rattle.core_meaning.specs.Meaning.{bodies, called, turned, core}
@@ -42,14 +42,8 @@ use Rattle.step_trees.specs.Trees.{Says, Reads, Pays, Calls, Turns, Outcome, aft
 use Rattle.core_eval.specs.Standing.{saying, AreAllSilent}
 use Rattle.core_eval.specs.Evaluated.{seen}
 use Rattle.core_eval.proofs.Quiet.{told_first, said_silent}
-use Rattle.cyc_words.proofs.Events.{output_append, read_append, told_before}
+use Rattle.cyc_words.proofs.Events.{bytes_push, output_append, read_append, told_before}
 use Rattle.cyc_host.specs.Transfers.{WritesBut, Answers}
-use Rattle.rv32_machine.specs.Run.{AreBytes}
-
--- bytes, and one more (cyc_host's proofs have it too, for themselves)
-bytes_push : (bytes : List ℕ) (byte : ℕ) → AreBytes bytes → byte < 256 → AreBytes (bytes ++ byte ∷ [])
-bytes_push [] byte all below = (below, tt)
-bytes_push (first ∷ rest) byte (fits, all) below = (fits, bytes_push rest byte all below)
 
 -- these events, and then what a run comes to
 abbrev pub prepended : List Event → Outcome Event → Outcome Event

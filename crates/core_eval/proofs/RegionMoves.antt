@@ -44,38 +44,32 @@ use Rattle.core_meaning.specs.Memory.{
 }
 use Rattle.core_meaning.specs.Core as core
 use Rattle.core_meaning.specs.Steps as steps
-use Rattle.core_meaning.specs.Steps.{Config, with_temp, with_memory, Step, stuck, checked, birth_of, word_of}
-use Rattle.core_meaning.specs.Operations.{born, saturated, says}
+use Rattle.core_meaning.specs.Steps.{Config, with_temp, with_memory, Step, checked, birth_of}
+use Rattle.core_meaning.specs.Operations.{born, says}
 use Rattle.cyc_core.specs.declared.layout.Layout as code
-use Rattle.cyc_core.specs.Trees.{layout_tree}
-use Rattle.core_eval.specs.declared.value.Place.{Place}
 use Rattle.core_eval.specs.declared.value.Value.{Value}
 use Rattle.core_eval.specs.declared.value.Value.TheVariants as value
 use Rattle.core_eval.specs.declared.value.Slot.{Slot}
-use Rattle.core_eval.specs.Values.{region_of, spot_of, content_of, temp_of, Shows}
-use Rattle.core_eval.specs.Regions.{Regions, region_at, free_held, freed, block_cells, area_of, block_place}
-use Rattle.core_eval.specs.Blocks.{Stored, born_objects, next_place, grown}
+use Rattle.core_eval.specs.Values.{spot_of, content_of, temp_of}
+use Rattle.core_eval.specs.Regions.{Regions, region_at, free_held, freed}
 use Rattle.core_eval.specs.Whole.{is_still}
 use Rattle.core_eval.specs.Pendings.{Execute, Leave, Wait, Go, Wrong, Mark}
 use Rattle.core_eval.specs.Standing.{Known, Agrees, ShowsBlocks, AreBorn, Gives}
 use Rattle.core_eval.specs.Costs.{IsMove}
 use Rattle.core_eval.proofs.Lists.{length_more}
-use Rattle.core_eval.proofs.Memories.{itself, other_number, shows_standing, shows_grown}
-use Rattle.core_eval.proofs.Elements.{block_parts}
+use Rattle.core_eval.proofs.Memories.{other_number, shows_standing}
 use Rattle.core_eval.proofs.Born.{
   KeepsFrames,
   KeepsOthers,
   region_grown,
   held_there,
   blocks_same,
-  heap_changed,
   region_changed,
-  region_shows,
   born_agrees,
 }
-use Rattle.core_eval.proofs.Changes.{stored_in, with_stored}
 use Rattle.core_eval.proofs.Moves.{becomes_saying, goes_wrong}
-use Rattle.core_eval.proofs.OperationMoves.{given, agrees_given, no_word}
+use Rattle.core_eval.proofs.OperationMoves.{given, agrees_given}
+use Rattle.core_meaning.proofs.Spots.{region_self}
 
 -- nothing of blocks and functions changes where a region's standing does, or it gets an object
 standing_keeps : (m : Memory) (d : ℕ) (now : memory.Standing) → KeepsFrames m (with_standing m (Born d) now)
@@ -124,7 +118,7 @@ object_others m d o = record {
 pub one_counted : (m : Memory) (r : Region) (o : ℕ → ℕ → Option Part) (objects : List (List Slot)) (block : List Slot) → m.objects r ≡ length objects
     → (with_object m r o).objects r ≡ length (objects ++ block ∷ [])
 one_counted m r o objects block counted =
-    ap (λ b. if b then m.objects r + 1 else m.objects r) (itself r) ∙ ap (λ n. n + 1) counted ∙ length_more objects block
+    ap (λ b. if b then m.objects r + 1 else m.objects r) (region_self r) ∙ ap (λ n. n + 1) counted ∙ length_more objects block
 
 -- ---- a region is born
 
@@ -229,7 +223,7 @@ module _ (known : Known) (ws : List Wait) (x : ℕ) (v : Value) (read : content_
         (shows_standing h.globals (Born (suc n)) (other_number 0 (suc n) (omega arith)) Dead)
         (region_changed m m' known.globals known.regions h.born n (standing_others m (suc n) Dead) None (Some objects)
         (held_there known.regions n objects has)
-        (ap (λ b. if b then Dead else m.standing (Born (suc n))) (itself (Born (suc n)))))
+        (ap (λ b. if b then Dead else m.standing (Born (suc n))) (region_self (Born (suc n)))))
 
     region_freed : (regions' : Regions) (held : Option (List (List Slot))) → region_at known.regions n ≡ held
         → option_map (slice_set known.regions n) (free_held held) ≡ Some regions'

@@ -3,12 +3,9 @@ use Rattle.std.specs.Prelude.{if◌then◌else◌, not, ◌&&◌, nat_eq, nat_le
 use Rattle.std.proofs.Common.{
   ◌≡◌,
   ℕ,
-  zero,
-  suc,
   ◌+◌,
   ◌-◌,
   ◌*◌,
-  ◌%◌,
   ◌<◌,
   Bool,
   true,
@@ -17,8 +14,6 @@ use Rattle.std.proofs.Common.{
   Some,
   None,
   List,
-  [],
-  ◌∷◌,
   length,
   refl,
   ap,
@@ -27,10 +22,12 @@ use Rattle.std.proofs.Common.{
   subst,
   arith,
 }
+use Rattle.std.proofs.lemmas.Bool.{and_parts}
 use Rattle.std.proofs.lemmas.List.{length-map}
+use Rattle.std.proofs.Math.Bool.{and-false, and-true}
 use Rattle.std.proofs.Math.Nat.{mod-eq_of_lt}
 use Rattle.core_meaning.specs.Memory as memory
-use Rattle.core_meaning.specs.Memory.{Region, Frame, Content, Pointer, Spot, Part, PartShape, Layout, Memory, is_live, same_region, shape_in}
+use Rattle.core_meaning.specs.Memory.{Region, Content, Pointer, Spot, Part, PartShape, Layout, Memory, is_live, shape_in}
 use Rattle.core_meaning.specs.Core as core
 use Rattle.core_meaning.specs.Steps as steps
 use Rattle.core_meaning.specs.Steps.{Config, with_memory, Step, checked, pointer_of}
@@ -40,36 +37,30 @@ use Rattle.core_meaning.specs.Operations.{
   are_elements,
   cells_on,
   part_of,
-  content_from,
   on_from,
   copied,
   in_element,
-  begun,
   cleared,
 }
 use Rattle.cyc_core.specs.declared.layout.CellLayout.{CellLayout}
 use Rattle.cyc_core.specs.declared.layout.Layout as code
-use Rattle.cyc_core.specs.Trees.{bytes_of, cell_width, cell_first, cell_parts, padding_parts, layout_tree}
+use Rattle.cyc_core.specs.Trees.{cell_parts, layout_tree}
 use Rattle.core_eval.specs.declared.value.Area.{Area}
 use Rattle.core_eval.specs.declared.value.Area.TheVariants as area
 use Rattle.core_eval.specs.declared.value.Place.{Place}
 use Rattle.core_eval.specs.declared.value.Value.{Value}
 use Rattle.core_eval.specs.declared.value.Value.TheVariants as value
 use Rattle.core_eval.specs.declared.value.Slot.{Slot}
-use Rattle.core_eval.specs.Values as values
-use Rattle.core_eval.specs.Values.{region_of, spot_of, place_spot, content_of, temp_of, part_in, slot_at}
-use Rattle.core_eval.specs.Blocks.{Activation, Stored, position_of, slot_in}
+use Rattle.core_eval.specs.Values.{region_of, spot_of, place_spot, content_of, temp_of, part_in}
+use Rattle.core_eval.specs.Blocks.{Activation, Stored, position_of}
 use Rattle.core_eval.specs.Regions.{region_at}
 use Rattle.core_eval.specs.Whole.{
-  is_cell,
-  are_cells,
   slots_of,
   is_found,
   is_still,
   is_held,
   are_laid,
   same_object,
-  held_by,
   values_from,
   fill_in,
   fill_held,
@@ -85,7 +76,7 @@ use Rattle.core_eval.proofs.Nested.{position_there}
 use Rattle.core_eval.proofs.Born.{held_there}
 use Rattle.core_eval.proofs.Changes.{stored_in, with_stored, Replaces, replaced_shows, replaced_agrees}
 use Rattle.core_eval.proofs.MemoryMoves.{AreInOrder, ordered, same_regions}
-use Rattle.core_eval.proofs.Laid.{live_is, held_part, laid_is}
+use Rattle.core_eval.proofs.Laid.{held_part, laid_is}
 use Rattle.core_eval.proofs.Filled.{filled_slot, fill_length, object_changed}
 use Rattle.core_eval.proofs.WholeParts.{
   copied_by,
@@ -159,7 +150,8 @@ module _ (known : Known) (ws : List Wait) (marks : List Mark) (c : Config) (h : 
       let (objects, replaces) = replaced known p.object p.cell vs p.area held in
       let shows = replaced_shows known ws marks c h p.area objects (fill_in objects p.object p.cell vs) (fill_to (stored_in known) p.area p.object p.cell vs)
       replaces in
-      replaced_agrees known ws marks c h parts' p.area objects (fill_in objects p.object p.cell vs) (fill_to (stored_in known) p.area p.object p.cell vs) replaces
+      replaced_agrees known ws marks c h parts' p.area objects (fill_in objects p.object p.cell vs)
+      (fill_to (stored_in known) p.area p.object p.cell vs) replaces
       (fill_length objects p.object p.cell vs)
       (λ t j other.
       is t j
@@ -174,15 +166,6 @@ module _ (known : Known) (ws : List Wait) (marks : List Mark) (c : Config) (h : 
 
 -- ---- moves
 
--- both tests of two
-and_both : (a b : Bool) → a && b ≡ true → (a ≡ true) × (b ≡ true)
-and_both true b e = (refl, e)
-and_both false b e = absurd (cc)
-
-and_one : (a : Bool) → (a && true) ≡ a
-and_one true = refl
-and_one false = refl
-
 -- whether all three hold that a copy needs
 pub all_hold : (a b s : Bool) → a ≡ true → b ≡ true → s ≡ false → (a && (b && not s)) ≡ true
 all_hold a b s e f g = rw (e, f, g) refl
@@ -190,15 +173,11 @@ all_hold a b s e f g = rw (e, f, g) refl
 pub first_fails : (a b s : Bool) → a ≡ false → (a && (b && not s)) ≡ false
 first_fails a b s e = rw e refl
 
-and_none : (a : Bool) → (a && false) ≡ false
-and_none true = refl
-and_none false = refl
-
 pub second_fails : (a b s : Bool) → b ≡ false → (a && (b && not s)) ≡ false
-second_fails a b s e = ap (λ t. a && (t && not s)) e ∙ and_none a
+second_fails a b s e = ap (λ t. a && (t && not s)) e ∙ and-false a
 
 pub third_fails : (a b s : Bool) → s ≡ true → (a && (b && not s)) ≡ false
-third_fails a b s e = ap (λ t. a && (b && not t)) e ∙ ap (λ t. a && t) (and_none b) ∙ and_none a
+third_fails a b s e = ap (λ t. a && (b && not t)) e ∙ ap (λ t. a && t) (and-false b) ∙ and-false a
 
 module _ (known : Known) (ws : List Wait) (x : ℕ) (u : Value) (read : content_of u ≡ temp_of known.temps x) (p : Place) (is : u ≡ value.Pointer p)
     (l : code.Layout) where
@@ -243,13 +222,14 @@ module _ (known : Known) (ws : List Wait) (x : ℕ) (u : Value) (read : content_
         → Agrees (with_stored known (fill_to (stored_in known) p.area p.object p.cell copied_values)) ws marks
         (with_memory (copied tree (place_spot p) (place_spot q) c.memory) c)
     copied_agrees marks c h laid laid_from =
-        change_agrees known ws marks c h p copied_values (and_both _ _ laid).0
+        change_agrees known ws marks c h p copied_values (and_parts _ _ laid).0
         (λ k j o. copied_by o (part_of tree k j) (c.memory.parts (on_from (place_spot q) k) j))
         (length tree.cells) (values_long (slots_of (stored_in known) q) cs q.cell)
         (λ j o. unchanged o (c.memory.parts (place_spot q) j))
         one
         (copied tree (place_spot p) (place_spot q) c.memory).parts
-        (λ t j. copied_part tree c.memory (place_spot p) (place_spot q) t j (c.memory.parts t j) (part_of tree (cells_on (length tree.cells) (place_spot p) t) j)
+        (λ t j. copied_part tree c.memory (place_spot p) (place_spot q) t j (c.memory.parts t j)
+        (part_of tree (cells_on (length tree.cells) (place_spot p) t) j)
         refl refl)
       where
         unchanged : (o : Option Part) (w : Option Part) → copied_by o None w ≡ o
@@ -260,7 +240,7 @@ module _ (known : Known) (ws : List Wait) (x : ℕ) (u : Value) (read : content_
             → copied_by (part_in o j) (part_of tree (Some n) j) (c.memory.parts (on_from (place_spot q) (Some n)) j) ≡ part_in (filled_slot (Some w) o) j
         one n j o w e =
             let (d, at, same) = values_at (slots_of (stored_in known) q) cs q.cell n w e in
-            let (held, cells) = and_both _ _ laid_from in
+            let (held, cells) = and_parts _ _ laid_from in
             ap (λ (z : Option PartShape). copied_by (part_in o j) z (c.memory.parts (on_from (place_spot q) (Some n)) j))
             (ap (λ z. shape_in z j) (cell_at cs n d at))
             ∙ ap (copied_by (part_in o j) (slice_get (cell_parts d) j)) (held_part known ws marks c h q.area q.object (q.cell + n) j held)
@@ -273,8 +253,8 @@ module _ (known : Known) (ws : List Wait) (x : ℕ) (u : Value) (read : content_
     copy_moves after can gives = record {
       still = all_stand _ ws known _ ws (with_stored known after) (λ main marks c h.
           let ok = can (ordered known ws marks c h) in
-          let (laid, others) = and_both _ _ ok in
-          let (laid_from, apart) = and_both _ _ others in
+          let (laid, others) = and_parts _ _ ok in
+          let (laid_from, apart) = and_parts _ _ others in
           goes_here main marks (with_memory (copied tree (place_spot p) (place_spot q) c.memory) c) _ _ ws (with_stored known after)
           (subst
           (λ (s : Stored). Agrees (with_stored known s) ws marks (with_memory (copied tree (place_spot p) (place_spot q) c.memory) c))
@@ -301,14 +281,14 @@ module _ (known : Known) (ws : List Wait) (x : ℕ) (u : Value) (read : content_
   clears_is marks c h next =
       ap (clears c.memory c next) (h.temps x ∙ sym read ∙ ap content_of is)
       ∙ ap (λ b. checked (is_live (c.memory.standing (region_of p.area)) && b) (next (with_memory (cleared tree 1 (place_spot p) c.memory) c)))
-      (and_one (operations.are_laid c.memory (place_spot p) p.byte tree.cells))
+      (and-true (operations.are_laid c.memory (place_spot p) p.byte tree.cells))
       ∙ ap (λ b. checked b (next (with_memory (cleared tree 1 (place_spot p) c.memory) c))) (laid_is known ws marks c h p cs l.bytes)
 
   cleared_agrees : (marks : List Mark) (c : Config) → Agrees known ws marks c → are_laid (stored_in known) p cs ≡ true
       → Agrees (with_stored known (fill_to (stored_in known) p.area p.object p.cell (map first_held cs))) ws marks
       (with_memory (cleared tree 1 (place_spot p) c.memory) c)
   cleared_agrees marks c h laid =
-      change_agrees known ws marks c h p (map first_held cs) (and_both _ _ laid).0
+      change_agrees known ws marks c h p (map first_held cs) (and_parts _ _ laid).0
       (λ k j o. cleared_by o (part_of tree (in_element tree k) j))
       (1 * length tree.cells)
       (let a = length-map cs first_held in let b = length-map cs cell_parts in omega (arith, a, b))

@@ -3,11 +3,10 @@ use Rattle.std.specs.Prelude.{◌≡◌, ◌≢◌, ℕ, suc, ◌<◌, ◌≤◌
 use Rattle.std.specs.Io.KnownBytes.{Appends, Consumes, IsAtEnd}
 use Rattle.core_meaning.specs.Core.{Program}
 use Rattle.core_meaning.specs.Steps as steps
-use Rattle.cyc_words.specs.Events.{Event, ByteRead, SourceEnding, output, bytes_read}
+use Rattle.cyc_words.specs.Events.{AreBytes, Event, ByteRead, SourceEnding, output, bytes_read}
 use Rattle.cyc_words.specs.Words.{word}
 use Rattle.cyc_words.specs.Devices.{one_more}
 use Rattle.core_meaning.specs.Meaning.{core}
-use Rattle.rv32_machine.specs.Run.{AreBytes}
 use Rattle.core_eval.specs.declared.ending.EvalEnding.{EvalEnding}
 use Rattle.core_eval.specs.declared.ending.EvalEnding.TheVariants as ending
 

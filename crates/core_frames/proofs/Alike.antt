@@ -1,6 +1,6 @@
 -- Maps: what stays where they are extended.
 use Rattle.std.specs.Prelude.{if◌then◌else◌}
-use Rattle.std.proofs.Common.{◌≡◌, ℕ, ◌⊎◌, inl, inr, Bool, true, false, Option, Some, None, refl, ap}
+use Rattle.std.proofs.Common.{◌≡◌, ℕ, ◌⊎◌, inl, inr, Bool, true, false, Option, Some, None, refl}
 use Rattle.core_meaning.specs.Memory.{Content, Blank, Word, Null, Pointer, Birth}
 use Rattle.core_frames.specs.Lies.{Maps, Extends, Shows}
 
@@ -11,12 +11,6 @@ if_split false x y z e = inr (refl, e)
 abbrev or_else : {A : Type 0} → A → Option A → A
 or_else x None = x
 or_else x (Some y) = y
-
-pub some_same : {A : Type 0} (x y : A) → Some x ≡ Some y → x ≡ y
-some_same x y e = ap (or_else x) e
-
-pub none_some : {A : Type 0} (x : A) → None ≡ Some x → ⊥
-none_some x e = cc e
 
 -- ---- maps
 

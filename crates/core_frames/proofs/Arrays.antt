@@ -4,10 +4,11 @@ use Rattle.std.proofs.Common.{◌≡◌, ℕ, ◌+◌, ◌*◌, ◌/◌, ◌%◌
 use Rattle.std.proofs.lemmas.Bool.{ltb-true, eqb-true, eq-eqb, cases_lt, and_left, and_right, and_from}
 use Rattle.std.proofs.lemmas.Nat.{div-add-mod'}
 use Rattle.std.proofs.Math.Nat.{suc-mul, mul-le-mul_right, mul_assoc}
+use Rattle.std.proofs.lemmas.Option.{same_Some, none-some}
 use Rattle.core_meaning.specs.Memory.{Blank, Part, PartShape, Layout, shape_in, blank_of, blanks}
 use Rattle.core_frames.specs.Lies.{Apart}
 use Rattle.core_frames.specs.Layouts.{HasPart, IsLayout}
-use Rattle.core_frames.proofs.Fitting.{none_some, some_same, IsWidth}
+use Rattle.core_frames.proofs.Fitting.{IsWidth}
 use Rattle.core_frames.proofs.Growing.{ObjectFits}
 
 -- the part of an element
@@ -23,16 +24,16 @@ module _ (l : Layout) (count : ℕ) where
     where
       of_shape : (shape : Option PartShape) → shape_in (slice_get l.cells (cell % length l.cells)) part ≡ shape → cell / length l.cells < count
           → blank_of (cell / length l.cells * l.bytes) shape ≡ Some p → Found l count cell part p
-      of_shape None has inside e = absurd (none_some p e)
+      of_shape None has inside e = absurd (none-some p e)
       of_shape (Some shape) has inside e =
-          record { shape = shape; has = record { is = has }; inside = inside; is = sym (some_same _ p e) }
+          record { shape = shape; has = record { is = has }; inside = inside; is = sym (same_Some _ p e) }
 
       by : (c : Bool) → nat_lt (cell / length l.cells) count ≡ c → Found l count cell part p
       by true less =
           of_shape (shape_in (slice_get l.cells (cell % length l.cells)) part) refl (ltb-true (cell / length l.cells) count less)
           (ap (λ c. if c then blank_of (cell / length l.cells * l.bytes) (shape_in (slice_get l.cells (cell % length l.cells)) part) else None) (sym less) ∙ e)
       by false less =
-          absurd (none_some p
+          absurd (none-some p
           (ap (λ c. if c then blank_of (cell / length l.cells * l.bytes) (shape_in (slice_get l.cells (cell % length l.cells)) part) else None) (sym less) ∙ e))
 
   -- the bytes of an element lie behind those of the elements before it

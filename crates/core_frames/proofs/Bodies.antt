@@ -6,7 +6,7 @@ use Rattle.core_meaning.specs.Memory.{Content, Memory, Own, Dead, with_standing}
 use Rattle.core_meaning.specs.Core.{Function, Call, Return}
 use Rattle.core_meaning.specs.Meaning as core
 use Rattle.core_meaning.specs.Steps.{Config, Step, Exit, Falls, Breaks, Continues, Returns, Called, Returned, with_temp, with_memory}
-use Rattle.core_meaning.specs.Meaning.{values_of, with_results, passed_in, with_objects, entered, left}
+use Rattle.core_meaning.specs.Meaning.{values_of, with_results, with_objects, entered, left}
 use Rattle.core_frames.specs.Machines.{Machine}
 use Rattle.core_frames.specs.declared.line.Line.{Line}
 use Rattle.core_frames.specs.declared.line.Line.TheVariants.{CallTo}
@@ -50,6 +50,10 @@ pub record IsIn (x : Waiting) (c : Config) : Type 0 where
 -- from each state at a place, with any temporaries and any memory, what follows goes on
 abbrev pub GoesFrom : World → Waiting → List Waiting → ℕ → ℕ → (Config → Step) → Type 0
 GoesFrom w x outer most place next = (c : Config) → IsIn x c → Goes w most (next c) (At w (with_config x c) outer c.memory place) (active_of w (x ∷ outer))
+
+pub from_same : (w : World) (x : Waiting) (outer : List Waiting) (fuel a b : ℕ) (next : Config → Step) → a ≡ b → GoesFrom w x outer fuel a next
+    → GoesFrom w x outer fuel b next
+from_same w x outer fuel a b next e goes = subst (λ p. GoesFrom w x outer fuel p next) e goes
 
 -- the same, with a temporary in x5 where one is known to be
 abbrev pub GoesHolding : World → Waiting → List Waiting → ℕ → ℕ → Option ℕ → (Config → Step) → Type 0

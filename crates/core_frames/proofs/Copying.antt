@@ -1,7 +1,38 @@
 -- What the code of a copy does.
 use Rattle.std.specs.Prelude.{nat_eq, length, if◌then◌else◌}
-use Rattle.std.proofs.Common.{◌≡◌, ℕ, suc, ◌+◌, ◌-◌, ◌*◌, ◌/◌, ◌%◌, ◌^◌, ◌<◌, ◌≤◌, ◌⊎◌, inl, inr, ⊎_elim, Bool, true, false, List, [], ◌∷◌, ◌++◌, Some, refl, sym, ap, subst, ◌∙◌, arith}
+use Rattle.std.proofs.Common.{
+  ◌≡◌,
+  ℕ,
+  suc,
+  ◌+◌,
+  ◌-◌,
+  ◌*◌,
+  ◌/◌,
+  ◌%◌,
+  ◌^◌,
+  ◌<◌,
+  ◌≤◌,
+  ◌⊎◌,
+  inl,
+  inr,
+  ⊎_elim,
+  Bool,
+  true,
+  false,
+  List,
+  [],
+  ◌∷◌,
+  ◌++◌,
+  Some,
+  refl,
+  sym,
+  ap,
+  subst,
+  ◌∙◌,
+  arith,
+}
 use Rattle.std.proofs.lemmas.Bool.{and_parts, eqb-true, eqb-false, cases_lt}
+use Rattle.std.proofs.lemmas.Option.{same_Some}
 use Rattle.cyc_words.specs.Words.{sum_of}
 use Rattle.rv32_machine.specs.State.{Areas, word_at}
 use Rattle.core_frames.specs.Frames.{slot_of}
@@ -18,7 +49,6 @@ use Rattle.core_frames.specs.Layouts.{IsLayout, IsFull}
 use Rattle.core_frames.proofs.Relations.{Moves, World, IsInOrder, Has, Waiting, At}
 use Rattle.core_frames.proofs.Moving.{Reach, Comes, comes_then, comes_as}
 use Rattle.core_frames.proofs.Steps.{state_at}
-use Rattle.core_frames.proofs.Fitting.{some_same}
 use Rattle.core_frames.proofs.Storing.{live_lasts}
 use Rattle.core_frames.proofs.Access.{written_out}
 use Rattle.core_frames.proofs.Passing.{has_first, has_second}
@@ -51,8 +81,8 @@ module _ (n : Areas) (m : Maps) (fs : List Activation) (mem : Memory) (bytes : �
           let other = elements_in mem t c l 1 there' a.element a.cell j a.shape a.within a.has in
           let q = other.part in
           let p_is : (record copy.old { content = q.content }) ≡ p =
-          some_same (record copy.old { content = q.content }) p (sym (ap (λ o. content_from copy.old o) other.is) ∙ copy.now) in
-          let old_is : copy.old ≡ mine.part = some_same copy.old mine.part (sym copy.was ∙ ap (λ (v : Spot). mem.parts v j) a.there ∙ mine.is) in
+          same_Some (record copy.old { content = q.content }) p (sym (ap (λ o. content_from copy.old o) other.is) ∙ copy.now) in
+          let old_is : copy.old ≡ mine.part = same_Some copy.old mine.part (sym copy.was ∙ ap (λ (v : Spot). mem.parts v j) a.there ∙ mine.is) in
           let width : p.width ≡ q.width =
           sym (ap (λ (r : Part). r.width) p_is) ∙ ap (λ (r : Part). r.width) old_is ∙ mine.width ∙ sym other.width in
           let o = a.element * l.bytes + a.shape.offset in

@@ -1,11 +1,11 @@
 -- Globals and strings: each lies in the data, and the parts of no two meet.
 use Rattle.std.specs.Prelude.{slice_get, length}
 use Rattle.std.proofs.Common.{◌≡◌, ℕ, zero, suc, ◌+◌, ◌*◌, ◌%◌, ◌<◌, ◌≤◌, List, [], ◌∷◌, Option, Some, None, refl, sym, ap, ◌∙◌, arith}
+use Rattle.std.proofs.lemmas.Option.{same_Some, none-some}
 use Rattle.core_meaning.specs.Memory.{Part, blanks}
 use Rattle.core_meaning.specs.Core.{Local, Datum}
 use Rattle.core_meaning.specs.Meaning.{datum_parts}
 use Rattle.core_frames.specs.Selected.{datum_local, datum_locals}
-use Rattle.core_frames.proofs.Fitting.{none_some, some_same}
 use Rattle.core_frames.proofs.Growing.{ObjectFits}
 use Rattle.core_frames.proofs.Laying.{LaidOut, laid_high}
 
@@ -31,13 +31,13 @@ like_blank d ds cell part p e = by (blanks d.layout d.count cell part) refl e
   where
     by : (found : Option Part) → blanks d.layout d.count cell part ≡ found → datum_parts (d ∷ ds) zero cell part ≡ Some p → LikeBlank
         (datum_local d) cell part p
-    by None is e = absurd (none_some p (ap (λ (f : Option Part). filled f) (sym is) ∙ e))
+    by None is e = absurd (none-some p (ap (λ (f : Option Part). filled f) (sym is) ∙ e))
       where
         filled : Option Part → Option Part
         filled None = None
         filled (Some q) = Some (record q { content = d.first cell part })
     by (Some q) is e =
-        let same = some_same (record q { content = d.first cell part }) p (ap (λ (f : Option Part). filled f) (sym is) ∙ e) in
+        let same = same_Some (record q { content = d.first cell part }) p (ap (λ (f : Option Part). filled f) (sym is) ∙ e) in
         record { blank = q; is = is; offset = sym (ap (λ (x : Part). x.offset) same); width = sym (ap (λ (x : Part). x.width) same) }
       where
         filled : Option Part → Option Part
@@ -48,21 +48,21 @@ like_blank d ds cell part p e = by (blanks d.layout d.count cell part) refl e
 above_all : (ds : List Datum) (offsets : List ℕ) (low high object offset : ℕ) → LaidOut (datum_locals ds) offsets low high → slice_get offsets object
     ≡ Some offset
     → low ≤ offset
-above_all [] [] low high object offset laid e = absurd (none_some offset e)
+above_all [] [] low high object offset laid e = absurd (none-some offset e)
 above_all [] (o ∷ os) low high object offset laid e = absurd laid
 above_all (d ∷ ds) [] low high object offset laid e = absurd laid
-above_all (d ∷ ds) (o ∷ os) low high zero offset laid e = let is = some_same o offset e in let first = laid.0 in omega (arith, is, first)
+above_all (d ∷ ds) (o ∷ os) low high zero offset laid e = let is = same_Some o offset e in let first = laid.0 in omega (arith, is, first)
 above_all (d ∷ ds) (o ∷ os) low high (suc object) offset laid e =
     let rest = above_all ds os (o + d.count * d.layout.bytes) high object offset laid.3 e in let first = laid.0 in omega (arith, rest, first)
 
 pub object_at : (ds : List Datum) (offsets : List ℕ) (low high object offset : ℕ) → LaidOut (datum_locals ds) offsets low high → slice_get offsets object
     ≡ Some offset
     → IsObject ds offsets low high object offset
-object_at [] [] low high object offset laid e = absurd (none_some offset e)
+object_at [] [] low high object offset laid e = absurd (none-some offset e)
 object_at [] (o ∷ os) low high object offset laid e = absurd laid
 object_at (d ∷ ds) [] low high object offset laid e = absurd laid
 object_at (d ∷ ds) (o ∷ os) low high zero offset laid e =
-    let is = some_same o offset e in
+    let is = same_Some o offset e in
     let first = laid.0 in
     let behind = laid_high (datum_locals ds) os (o + d.count * d.layout.bytes) high laid.3 in
     record {
@@ -100,7 +100,7 @@ object_at (d ∷ ds) (o ∷ os) low high (suc object) offset laid e =
 -- each object with a part has an offset
 pub placed_at : (ds : List Datum) (offsets : List ℕ) (low high object cell part : ℕ) (p : Part) → LaidOut (datum_locals ds) offsets low high
     → datum_parts ds object cell part ≡ Some p → (offset : ℕ) × (slice_get offsets object ≡ Some offset)
-placed_at [] os low high object cell part p laid e = absurd (none_some p e)
+placed_at [] os low high object cell part p laid e = absurd (none-some p e)
 placed_at (d ∷ ds) [] low high object cell part p laid e = absurd laid
 placed_at (d ∷ ds) (o ∷ os) low high zero cell part p laid e = (o, refl)
 placed_at (d ∷ ds) (o ∷ os) low high (suc object) cell part p laid e = placed_at ds os (o + d.count * d.layout.bytes) high object cell part p laid.3 e

@@ -32,6 +32,7 @@ use Rattle.std.proofs.Common.{
 use Rattle.std.proofs.Math.Nat.{suc-mul, zero-mul}
 use Rattle.std.proofs.lemmas.Nat.{pow_pos, div-add-mod'}
 use Rattle.std.proofs.lemmas.List.{length-append}
+use Rattle.std.proofs.lemmas.Option.{same_Some, none-some}
 use Rattle.rv32_machine.specs.State.{data_base}
 use Rattle.core_meaning.specs.Memory.{Content, Blank, Word, Null, Pointer, Birth, Part, PartShape, Layout, blanks, shape_in}
 use Rattle.core_meaning.specs.Core.{Datum}
@@ -58,7 +59,7 @@ use Rattle.core_frames.specs.Statics.{
   HasBytes,
 }
 use Rattle.core_frames.specs.Running.{ShowsData, data_offsets, first_maps}
-use Rattle.core_frames.proofs.Fitting.{none_some, some_same, IsWidth}
+use Rattle.core_frames.proofs.Fitting.{IsWidth}
 use Rattle.core_frames.proofs.Arrays.{found}
 
 -- ---- a layout of one part
@@ -71,13 +72,13 @@ only_part : (width : ℕ) (first : Content) (cell part : ℕ) (s : PartShape) �
 only_part width first cell part s has = by cell part has.is
   where
     by : (cell part : ℕ) → shape_in (slice_get (one_part width first).cells cell) part ≡ Some s → IsOnlyPart width first part s
-    by zero zero e = record { is = sym (some_same (record { offset = 0; width = width; first = first }) s e); first_of_all = refl }
-    by zero (suc part) e = absurd (none_some s e)
-    by (suc cell) part e = absurd (none_some s e)
+    by zero zero e = record { is = sym (same_Some (record { offset = 0; width = width; first = first }) s e); first_of_all = refl }
+    by zero (suc part) e = absurd (none-some s e)
+    by (suc cell) part e = absurd (none-some s e)
 
 only_cell : (width : ℕ) (first : Content) (cell part : ℕ) (s : PartShape) → HasPart (one_part width first) cell part s → cell ≡ 0
 only_cell width first zero part s has = refl
-only_cell width first (suc cell) part s has = absurd (none_some s has.is)
+only_cell width first (suc cell) part s has = absurd (none-some s has.is)
 
 -- it is in order
 pub one_part_is_layout : (width : ℕ) (first : Content) → IsWidth width → IsLayout (one_part width first)
@@ -161,10 +162,10 @@ datum_length d plain = elements_length d.layout.cells d.first 0 d.count plain.jo
 -- a part's bytes, and that it is a byte or a word
 part_at : (bytes : ℕ → ℕ) (first : ℕ → Content) (base at j : ℕ) (ss : List PartShape) → AreJoined at ss → HasBytes bytes (base + at) (parts_bytes first j ss)
     → (i : ℕ) (s : PartShape) → slice_get ss i ≡ Some s → HasBytes bytes (base + s.offset) (number_bytes s.width (number_in (first (j + i))))
-part_at bytes first base at j [] joined has i s e = absurd (none_some s e)
+part_at bytes first base at j [] joined has i s e = absurd (none-some s e)
 part_at bytes first base at j (x ∷ ss) joined has zero s e =
     let same : j ≡ j + 0 = omega arith in
-    subst (λ (y : PartShape). HasBytes bytes (base + y.offset) (number_bytes y.width (number_in (first (j + 0))))) (some_same x s e)
+    subst (λ (y : PartShape). HasBytes bytes (base + y.offset) (number_bytes y.width (number_in (first (j + 0))))) (same_Some x s e)
     (subst (λ q. HasBytes bytes (base + x.offset) (number_bytes x.width (number_in (first q)))) same
     (subst (λ q. HasBytes bytes (base + q) (number_bytes x.width (number_in (first j)))) (sym joined.0)
     (before bytes (base + at) (number_bytes x.width (number_in (first j))) (parts_bytes first (j + 1) ss) has)))
@@ -178,14 +179,14 @@ part_at bytes first base at j (x ∷ ss) joined has (suc i) s e =
     (part_at bytes first base (at + x.width) (j + 1) ss joined.2 rest i s e)
 
 part_width : (at : ℕ) (ss : List PartShape) → AreJoined at ss → (i : ℕ) (s : PartShape) → slice_get ss i ≡ Some s → IsWidth s.width
-part_width at [] joined i s e = absurd (none_some s e)
-part_width at (x ∷ ss) joined zero s e = subst (λ (y : PartShape). IsWidth y.width) (some_same x s e) joined.1
+part_width at [] joined i s e = absurd (none-some s e)
+part_width at (x ∷ ss) joined zero s e = subst (λ (y : PartShape). IsWidth y.width) (same_Some x s e) joined.1
 part_width at (x ∷ ss) joined (suc i) s e = part_width (at + x.width) ss joined.2 i s e
 
 cell_at : (bytes : ℕ → ℕ) (first : ℕ → ℕ → Content) (base at k : ℕ) (cs : List (List PartShape)) → AreCellsJoined at cs
     → HasBytes bytes (base + at) (cells_bytes first k cs) → (c i : ℕ) (s : PartShape) → shape_in (slice_get cs c) i ≡ Some s
     → HasBytes bytes (base + s.offset) (number_bytes s.width (number_in (first (k + c) i)))
-cell_at bytes first base at k [] joined has c i s e = absurd (none_some s e)
+cell_at bytes first base at k [] joined has c i s e = absurd (none-some s e)
 cell_at bytes first base at k (x ∷ cs) joined has zero i s e =
     let same : k ≡ k + 0 = omega arith in
     let part : 0 + i ≡ i = omega arith in
@@ -202,7 +203,7 @@ cell_at bytes first base at k (x ∷ cs) joined has (suc c) i s e =
     (cell_at bytes first base (parts_end at x) (k + 1) cs joined.1 rest c i s e)
 
 cell_width : (at : ℕ) (cs : List (List PartShape)) → AreCellsJoined at cs → (c i : ℕ) (s : PartShape) → shape_in (slice_get cs c) i ≡ Some s → IsWidth s.width
-cell_width at [] joined c i s e = absurd (none_some s e)
+cell_width at [] joined c i s e = absurd (none-some s e)
 cell_width at (x ∷ cs) joined zero i s e = part_width at x joined.0 i s e
 cell_width at (x ∷ cs) joined (suc c) i s e = cell_width (parts_end at x) cs joined.1 c i s e
 
@@ -301,8 +302,8 @@ first_part d ds cell part p e = by (blanks d.layout d.count cell part) refl e
 
     by : (f : Option Part) → blanks d.layout d.count cell part ≡ f → datum_parts (d ∷ ds) zero cell part ≡ Some p
         → (q : Part) × ((blanks d.layout d.count cell part ≡ Some q) × (p ≡ record q { content = d.first cell part }))
-    by None is e = absurd (none_some p (ap filled (sym is) ∙ e))
-    by (Some q) is e = (q, (is, sym (some_same (record q { content = d.first cell part }) p (ap filled (sym is) ∙ e))))
+    by None is e = absurd (none-some p (ap filled (sym is) ∙ e))
+    by (Some q) is e = (q, (is, sym (same_Some (record q { content = d.first cell part }) p (ap filled (sym is) ∙ e))))
 
 module _ (m : Maps) (bytes : ℕ → ℕ) where
   first_shows : (d : Datum) (ds : List Datum) (cell part at : ℕ) (p : Part) → IsPlainDatum d → HasBytes bytes at (datum_bytes d) → datum_parts
@@ -349,11 +350,11 @@ module _ (m : Maps) (bytes : ℕ → ℕ) where
   shows_from : (ds : List Datum) (low object cell part offset : ℕ) (p : Part) → ArePlainData ds → HasBytes bytes (data_base + low) (data_bytes low ds)
       → datum_parts ds object cell part ≡ Some p → slice_get (offsets_from low (datum_locals ds)) object ≡ Some offset
       → Shows m p.content (read bytes (data_base + offset + p.offset) p.width)
-  shows_from [] low object cell part offset p plain has e is = absurd (none_some offset is)
+  shows_from [] low object cell part offset p plain has e is = absurd (none-some offset is)
   shows_from (d ∷ ds) low zero cell part offset p plain has e is =
       let rest = data_bytes (rounded low + length (datum_bytes d)) ds in
       let here = at_datum d low rest has in
-      subst (λ q. Shows m p.content (read bytes (data_base + q + p.offset) p.width)) (some_same (rounded low) offset is)
+      subst (λ q. Shows m p.content (read bytes (data_base + q + p.offset) p.width)) (same_Some (rounded low) offset is)
       (first_shows d ds cell part (data_base + rounded low) p plain.0 (before bytes (data_base + rounded low) (datum_bytes d) rest here) e)
   shows_from (d ∷ ds) low (suc object) cell part offset p plain has e is =
       let rest = data_bytes (rounded low + length (datum_bytes d)) ds in

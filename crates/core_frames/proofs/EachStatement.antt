@@ -3,7 +3,7 @@ use Rattle.std.specs.Prelude.{length}
 use Rattle.std.proofs.Common.{◌≡◌, ℕ, suc, ◌+◌, ◌^◌, ◌<◌, ◌≤◌, List, [], ◌∷◌, ◌++◌, Option, None, refl, sym, subst, ◌∙◌, arith}
 use Rattle.core_meaning.specs.Core.{Local, Statement, Do, If, While, Block, Break, Continue, Call, Return, Raise, Statements, NoStatements, MoreStatements}
 use Rattle.core_meaning.specs.Meaning as core
-use Rattle.core_meaning.specs.Steps.{Config, Step, Falls, Continues}
+use Rattle.core_meaning.specs.Steps.{Falls, Continues}
 use Rattle.core_frames.specs.declared.line.Line.{Line}
 use Rattle.core_frames.specs.declared.line.Line.TheVariants.{Label, Jump}
 use Rattle.core_frames.specs.Lines.{code_length}
@@ -14,7 +14,7 @@ use Rattle.core_frames.specs.Selectable.{HasLinesIn, HaveLinesIn, AreBelow}
 use Rattle.core_frames.proofs.Relations.{active_of, World, IsInOrder, Has, Waiting, Place}
 use Rattle.core_frames.proofs.Access.{behind, length_of_both}
 use Rattle.core_frames.proofs.Passing.{has_first, has_second, AreWithin}
-use Rattle.core_frames.proofs.Bodies.{with_config, GoesFrom, goes_any, BodyGoes, call_goes, return_goes}
+use Rattle.core_frames.proofs.Bodies.{with_config, GoesFrom, from_same, goes_any, BodyGoes, call_goes, return_goes}
 use Rattle.core_frames.proofs.Forms.{Does, does_any, within_block, break_does, nothing_does, sequence_does, block_does, jump_goes, choice_goes, loop_goes}
 use Rattle.core_frames.proofs.Laying.{NestFits}
 use Rattle.core_frames.proofs.Locals.{offsets_lie, as_many_offsets, end_above, offset_below, highest_of_above, both_below}
@@ -38,9 +38,6 @@ same_below most (t ∷ ts) below = (below.0, same_below most ts below.1)
 -- ---- a choice and a loop, from where their parts stand
 
 module _ (w : World) (order : IsInOrder w) (x : Waiting) (outer : List Waiting) (most : ℕ) where
-  from_same : (fuel a b : ℕ) (next : Config → Step) → a ≡ b → GoesFrom w x outer fuel a next → GoesFrom w x outer fuel b next
-  from_same fuel a b next e goes = subst (λ p. GoesFrom w x outer fuel p next) e goes
-
   choice_does : (held first_last second_last : Option ℕ) (t next behind_label out again : ℕ) (these those : Statements) (second fourth : List Line)
       → t < x.fn.temporaries
       → Does w x outer most None first_last second out again (core.statements these)
@@ -67,7 +64,7 @@ module _ (w : World) (order : IsInOrder w) (x : Waiting) (outer : List Waiting) 
         let next_there : w.places next ≡ place + code_length three = at_third.2.1 ∙ omega (arith, length_of_both two third) in
         let end : w.places behind_label ≡ place + code_length (four ++ last) = at_last.1 ∙ omega (arith, length_of_both four last) in
         let end' : w.places behind_label ≡ place + code_length three + code_length fourth = at_last.1 ∙ omega (arith, length_of_both three fourth) in
-        let falls = from_same fuel (place + code_length (four ++ last)) (w.places behind_label) (k Falls) (sym end) ways.falls in
+        let falls = from_same w x outer fuel (place + code_length (four ++ last)) (w.places behind_label) (k Falls) (sym end) ways.falls in
         let over : GoesFrom w x outer fuel (place + code_length two) (k Falls) =
         jump_goes w order x outer most (choice_code x.fn.passed) (tests_and_jumps w order x outer) fuel behind_label (place + code_length two) (k Falls)
         (at_third.0, at_third.1, tt) falls in
@@ -76,15 +73,15 @@ module _ (w : World) (order : IsInOrder w) (x : Waiting) (outer : List Waiting) 
         (core.statements those k) named has1
         (one.goes (place + code_length first) fuel le k (behind place first aligned) at_second (record {
           falls = goes_any w x outer fuel (place + code_length first + code_length second) first_last (k Falls)
-              (from_same fuel (place + code_length two) (place + code_length first + code_length second) (k Falls) e over);
+              (from_same w x outer fuel (place + code_length two) (place + code_length first + code_length second) (k Falls) e over);
           breaks = ways.breaks;
           continues = ways.continues;
           returns = ways.returns;
         }))
-        (from_same fuel (place + code_length three) (w.places next) (core.statements those k) (sym next_there)
+        (from_same w x outer fuel (place + code_length three) (w.places next) (core.statements those k) (sym next_there)
         (other.goes (place + code_length three) fuel le k (behind place three aligned) at_fourth (record {
           falls = goes_any w x outer fuel (place + code_length three + code_length fourth) second_last (k Falls)
-              (from_same fuel (w.places behind_label) (place + code_length three + code_length fourth) (k Falls) end' falls);
+              (from_same w x outer fuel (w.places behind_label) (place + code_length three + code_length fourth) (k Falls) end' falls);
           breaks = ways.breaks;
           continues = ways.continues;
           returns = ways.returns;

@@ -3,6 +3,7 @@ use Rattle.std.specs.Prelude.{nat_eq, length, slice_get, if◌then◌else◌}
 use Rattle.std.proofs.Common.{◌≡◌, ℕ, zero, suc, ◌+◌, ◌-◌, ◌*◌, ◌/◌, ◌<◌, ◌≤◌, ◌⊎◌, inl, inr, ⊎_elim, Bool, true, false, List, [], ◌∷◌, ◌++◌, Some, refl, sym}
 use Rattle.std.proofs.Common.{ap, ◌∙◌, subst, arith, append_assoc, append-nil, length-append}
 use Rattle.std.proofs.lemmas.Bool.{ne_eqb, eq-eqb, cases_lt}
+use Rattle.std.proofs.lemmas.Option.{none-some}
 use Rattle.core_meaning.specs.Memory.{Region, Content, Blank, Word, Memory, Live, Own, same_region, with_standing}
 use Rattle.core_meaning.specs.Core.{Function}
 use Rattle.core_meaning.specs.Steps.{set_temp}
@@ -16,7 +17,7 @@ use Rattle.core_frames.specs.Lies.{Maps, Activation, Name, Slot, Cell, PartLies,
 use Rattle.core_frames.proofs.Relations.{World, IsInOrder, Has, Waiting, slots_in, back_of, FrameShows, StackShows, Stands, At, Calling, Passed, active_of}
 use Rattle.core_frames.proofs.Moving.{Reach, Comes, comes_then, comes_as, and_then, Full}
 use Rattle.core_frames.proofs.Steps.{state_at}
-use Rattle.core_frames.proofs.Fitting.{with_slot, none_some}
+use Rattle.core_frames.proofs.Fitting.{with_slot}
 use Rattle.core_frames.proofs.Frames.{push_fits, push_stacked}
 use Rattle.core_frames.proofs.Knowing.{known_called, no_parts}
 use Rattle.core_frames.proofs.Access.{length_of_both, loads, saves}
@@ -308,7 +309,7 @@ module _ (w : World) (order : IsInOrder w) (f : ℕ) (fn : Function) (is : slice
             blocks = tt;
             own = refl;
             own_high = refl;
-            own_based = λ o y e. absurd (none_some y e);
+            own_based = λ o y e. absurd (none-some y e);
           };
           stack = r.stack;
           passed = r.passed;

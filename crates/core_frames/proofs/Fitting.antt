@@ -4,6 +4,7 @@ use Rattle.std.proofs.Common.{◌≡◌, ℕ, zero, suc, ◌+◌, ◌*◌, ◌%�
 use Rattle.std.proofs.Common.{subst, arith}
 use Rattle.std.proofs.lemmas.Bool.{eqb-true, ne_eqb, eq-eqb, and_parts, and_right, and_left, and_from, or_right, or_left, le-leb}
 use Rattle.std.proofs.lemmas.Bool.Decides.{nat_tests}
+use Rattle.std.proofs.lemmas.Option.{same_Some}
 use Rattle.core_meaning.specs.Memory.{Region, Frame, Own, Born, Spot, Content, Part, Memory, same_spot, with_part}
 use Rattle.core_frames.specs.Machines.{Store}
 use Rattle.rv32_machine.specs.State.{Areas, data_base, stack_base, is_within, word_at, set_word, set_byte}
@@ -17,7 +18,7 @@ use Rattle.core_frames.proofs.Bytes.{same_word, other_word, other_byte, byte_is_
 use Rattle.core_frames.proofs.Steps.{IsAllowed}
 use Rattle.rv32_machine.proofs.Bytes.{within_true}
 pub use Rattle.core_meaning.proofs.Spots.{region_same, region_self, spot_same}
-pub use Rattle.core_frames.proofs.Alike.{if_split, some_same, none_some, shows_on, extends_self, extends_on}
+pub use Rattle.core_frames.proofs.Alike.{if_split, shows_on, extends_self, extends_on}
 
 -- ---- writes
 
@@ -219,7 +220,7 @@ module _ (n : Areas) (m : Maps) (fs : List Activation) (mem : Memory) (s0 : Spot
   part_back (Cell s j) at width u h = ⊎_elim
       (λ (e : (same_spot s s0 && nat_eq j j0 ≡ true) × (Some (record old { content = v }) ≡ Some (record { offset = h.offset; width = width; content = u }))).
       let q = here s j e.0 in
-      let p = some_same (record old { content = v }) (record { offset = h.offset; width = width; content = u }) e.1 in
+      let p = same_Some (record old { content = v }) (record { offset = h.offset; width = width; content = u }) e.1 in
       let o : old.offset ≡ h.offset = ap (λ (x : Part). x.offset) p in
       let w : old.width ≡ width = ap (λ (x : Part). x.width) p in
       let found : mem.parts s j ≡ Some old = ap (λ t. mem.parts t j) q.0 ∙ ap (λ i. mem.parts s0 i) q.1 ∙ is in (
@@ -244,11 +245,11 @@ module _ (n : Areas) (m : Maps) (fs : List Activation) (mem : Memory) (s0 : Spot
   part_split (Cell s j) at width u h = ⊎_elim
       (λ (e : (same_spot s s0 && nat_eq j j0 ≡ true) × (Some (record old { content = v }) ≡ Some (record { offset = h.offset; width = width; content = u }))).
       let q = here s j e.0 in
-      let p = some_same (record old { content = v }) (record { offset = h.offset; width = width; content = u }) e.1 in
+      let p = same_Some (record old { content = v }) (record { offset = h.offset; width = width; content = u }) e.1 in
       let o : old.offset ≡ h.offset = ap (λ (x : Part). x.offset) p in
       let w : old.width ≡ width = ap (λ (x : Part). x.width) p in
       let c : v ≡ u = ap (λ (x : Part). x.content) p in
-      let b : h.base ≡ base = some_same h.base base (sym h.known ∙ ap (λ (t : Spot). m.base t.region t.object) q.0 ∙ known) in
+      let b : h.base ≡ base = same_Some h.base base (sym h.known ∙ ap (λ (t : Spot). m.base t.region t.object) q.0 ∙ known) in
       inl (h.there ∙ ap (λ k. k + h.offset) b ∙ ap (λ k. base + k) (sym o), sym w, sym c))
       (λ (e : (same_spot s s0 && nat_eq j j0 ≡ false) × (mem.parts s j ≡ Some (record { offset = h.offset; width = width; content = u }))).
       inr (e.0, record { base = h.base; offset = h.offset; known = h.known; there = h.there; has = e.1; lasts = h.lasts }))

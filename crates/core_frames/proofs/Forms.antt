@@ -1,22 +1,22 @@
 -- The forms of statements, from what their parts do: a choice, a loop, a block, one after the other. Tests, jumps and operations are given.
 use Rattle.std.specs.Prelude.{slice_get}
 use Rattle.std.proofs.Common.{◌≡◌, ℕ, zero, suc, ◌+◌, ◌%◌, ◌<◌, ◌≤◌, inl, List, [], ◌∷◌, ◌++◌, Option, Some, None, refl, sym, ap, ◌∙◌, subst, arith}
-use Rattle.core_meaning.specs.Memory.{Content, Blank, Word, Null, Pointer, Birth, Memory, Frame, Live, Dead, with_standing}
+use Rattle.cyc_words.specs.Events.{AreBytes}
+use Rattle.core_meaning.specs.Memory.{Content, Memory, Frame, Dead, with_standing}
 use Rattle.core_meaning.specs.Core.{Local, Statement, Statements, While, Block, Break, NoStatements, MoreStatements}
 use Rattle.core_meaning.specs.Meaning as core
 use Rattle.core_meaning.specs.Steps.{Config, Step, Exit, Falls, Breaks, Continues, Returns}
-use Rattle.core_meaning.specs.Meaning.{in_block, out_of_block, with_objects}
+use Rattle.core_meaning.specs.Meaning.{in_block, out_of_block}
 use Rattle.core_frames.specs.Machines.{Machine}
 use Rattle.rv32_machine.specs.State.{Runs}
-use Rattle.rv32_machine.specs.Run.{AreBytes}
 use Rattle.core_frames.specs.declared.line.Line.{Line}
 use Rattle.core_frames.specs.declared.line.Line.TheVariants.{Jump}
 use Rattle.core_frames.specs.Lines.{code_length}
-use Rattle.core_frames.proofs.Relations.{World, IsInOrder, Has, Waiting, Place, Leads, Goes, Led, At, Returning, active_of}
+use Rattle.core_frames.proofs.Relations.{World, IsInOrder, Has, Waiting, Place, Leads, Goes, At, Returning, active_of}
 use Rattle.core_frames.proofs.Moving.{Comes, goes_from, goes_as, goes_stuck, leads_from, fewer}
 use Rattle.core_frames.proofs.Access.{length_of_both, behind}
 use Rattle.core_frames.proofs.Passing.{has_first, has_second}
-use Rattle.core_frames.proofs.Bodies.{with_config, IsIn, GoesFrom, GoesHolding, goes_any, GoesReturning}
+use Rattle.core_frames.proofs.Bodies.{with_config, IsIn, GoesFrom, from_same, GoesHolding, goes_any, GoesReturning}
 use Rattle.core_frames.proofs.Registers.{AtHolding, at_any}
 use Rattle.core_frames.proofs.Laying.{LaidOut, NestFits, enters_block}
 use Rattle.core_frames.proofs.Zones.{leaves_block, leaves_block_returning}
@@ -97,9 +97,6 @@ turn_goes w R R' active most turn next c comes some runs goes = record { at = by
 
 module _ (w : World) (order : IsInOrder w) (x : Waiting) (outer : List Waiting) (most : ℕ) (test : Option ℕ → ℕ → ℕ → List Line)
     (jumps : Jumps w x outer test) where
-  from_same : (fuel a b : ℕ) (next : Config → Step) → a ≡ b → GoesFrom w x outer fuel a next → GoesFrom w x outer fuel b next
-  from_same fuel a b next e goes = subst (λ p. GoesFrom w x outer fuel p next) e goes
-
   same_holding : (fuel a b : ℕ) (held : Option ℕ) (next : Config → Step) → a ≡ b → GoesHolding w x outer fuel a held next
       → GoesHolding w x outer fuel b held next
   same_holding fuel a b held next e goes = subst (λ p. GoesHolding w x outer fuel p held next) e goes
@@ -186,10 +183,10 @@ module _ (w : World) (order : IsInOrder w) (x : Waiting) (outer : List Waiting) 
 
     turn_again : (j : ℕ) → j ≤ most → GoesFrom w x outer j place loop → WaysOut w x outer j end None out again k → GoesFrom w x outer j body_at turn
     turn_again j le goes ways =
-        let from_label = from_same j place (w.places next_label) loop (sym label_first) goes in
+        let from_label = from_same w x outer j place (w.places next_label) loop (sym label_first) goes in
         other.goes body_at j le (λ exit. core.after_turn exit loop k) body_aligned has_body (record {
           falls = goes_any w x outer j (body_at + code_length second) last loop (jump_goes j next_label (body_at + code_length second) loop back from_label);
-          breaks = from_same j end (w.places behind_label) (k Falls) (sym label_end) ways.falls;
+          breaks = from_same w x outer j end (w.places behind_label) (k Falls) (sym label_end) ways.falls;
           continues = from_label;
           returns = ways.returns;
         })
@@ -204,14 +201,14 @@ module _ (w : World) (order : IsInOrder w) (x : Waiting) (outer : List Waiting) 
             subst (λ q. Goes w fuel q (R c) (active_of w (x ∷ outer))) (sym (g (Turns here k c) (k Falls c)))
             (goes_from w (R c) (active_of w (x ∷ outer)) fuel (k Falls c) (At w (with_config x c) outer c.memory (w.places behind_label))
             (jumps.fails held t behind_label tested named has_test c is g)
-            (from_same fuel end (w.places behind_label) (k Falls) (sym label_end) ways.falls c is))
+            (from_same w x outer fuel end (w.places behind_label) (k Falls) (sym label_end) ways.falls c is))
         by v e (Holds u f) =
             let g : (a b : Step) → core.branch (c.temps t) a b ≡ a = λ a b. ap (λ q. core.branch q a b) e ∙ f a b in
             subst (λ q. Goes w fuel q (R c) (active_of w (x ∷ outer))) (sym (g (Turns here k c) (k Falls c)))
             (turn_goes w (R c) (At w (with_config x c) outer c.memory (tested + code_length (test held t behind_label))) (active_of w (x ∷ outer)) fuel here k c
             (jumps.holds held t behind_label tested named has_test c is g) (jumps.some held t behind_label tested named has_test c is g)
             (λ s a. (at_any w (with_config x c) outer c.memory tested held s a).stands.runs)
-            (λ j less. from_same j body_at (tested + code_length (test held t behind_label)) turn (sym at_body)
+            (λ j less. from_same w x outer j body_at (tested + code_length (test held t behind_label)) turn (sym at_body)
             (turn_again j (omega (arith, less, le)) (goes j less) (fewer_ways w x outer fuel j end None out again k (omega (arith, less)) ways)) c is))
         by v e (Neither u f) =
             subst (λ q. Goes w fuel q (R c) (active_of w (x ∷ outer))) (sym

@@ -1,5 +1,5 @@
 -- A frame is pushed, and popped, and blocks end: what fits still does.
-use Rattle.std.specs.Prelude.{nat_eq, ◌&&◌, if◌then◌else◌}
+use Rattle.std.specs.Prelude.{nat_eq, if◌then◌else◌}
 use Rattle.std.proofs.Common.{
   ◌≡◌,
   ℕ,
@@ -27,7 +27,7 @@ use Rattle.std.proofs.Common.{
   subst,
   arith,
 }
-use Rattle.std.proofs.lemmas.Bool.{eqb-false, ne_eqb, eq-eqb, and_right, and_left, and_from, and_cases, cases_eq, cases_lt}
+use Rattle.std.proofs.lemmas.Bool.{eqb-false, ne_eqb, eq-eqb, and_right, and_left, and_from, and_cases, cases_eq, cases_lt, true≢false}
 use Rattle.core_meaning.specs.Memory.{Region, Frame, Own, Born, Dead, Spot, Content, Blank, Memory, same_region, with_standing}
 use Rattle.core_frames.specs.Machines.{Store}
 use Rattle.rv32_machine.specs.State.{Areas}
@@ -54,9 +54,6 @@ use Rattle.core_frames.specs.Lies.{
   Stacked,
 }
 use Rattle.core_frames.proofs.Fitting.{inside, below_end, IsWidth}
-
-no_both : (t : Bool) → t ≡ true → t ≡ false → ⊥
-no_both t e f = cc (e, f)
 
 abbrev up : (fs : List Activation) (a fr : Activation) (at width : ℕ) → InFrame fs fr at width → InFrame (a ∷ fs) fr at width
 up fs a fr at width i = record { among = inr i.among; low = i.low; high = i.high }
@@ -101,7 +98,7 @@ module _ (n : Areas) (few : n.statics ≤ 2 ^ 20) (m : Maps) (fs : List Activati
   old_apart (Slot (suc g) j) (Slot (suc g') j') at width at' width' v v' ne h i =
       ⊎_elim
       (λ (e : g ≡ g'). ⊎_elim
-      (λ (e' : j ≡ j'). absurd (no_both _ (and_from (nat_eq (suc g) (suc g')) (nat_eq j j') (eq-eqb (suc g) (suc g') (ap suc e)) (eq-eqb j j' e')) ne))
+      (λ (e' : j ≡ j'). absurd (true≢false (sym (and_from (nat_eq (suc g) (suc g')) (nat_eq j j') (eq-eqb (suc g) (suc g') (ap suc e)) (eq-eqb j j' e')) ∙ ne)))
       (λ (e' : j ≡ j' → ⊥). and_right (nat_eq g g') (nat_eq j j') (ne_eqb j j' e'))
       (cases_eq j j'))
       (λ (e : g ≡ g' → ⊥). and_left (nat_eq g g') (nat_eq j j') (ne_eqb g g' e))
@@ -155,7 +152,7 @@ module _ (n : Areas) (few : n.statics ≤ 2 ^ 20) (m : Maps) (fs : List Activati
       let four' = i.wide in
       ⊎_elim (λ (lt : j < j'). inl (omega (arith, e, e', four, lt)))
       (λ (le : j' ≤ j). ⊎_elim
-      (λ (same : j ≡ j'). absurd (no_both (nat_eq 0 0 && nat_eq j j') (and_from (nat_eq 0 0) (nat_eq j j') refl (eq-eqb j j' same)) ne))
+      (λ (same : j ≡ j'). absurd (true≢false (sym (and_from (nat_eq 0 0) (nat_eq j j') refl (eq-eqb j j' same)) ∙ ne)))
       (λ (other : j ≡ j' → ⊥). ⊎_elim (λ (x : j' < j). inr (omega (arith, e, e', four', x))) (λ (x : j ≤ j'). absurd (other (omega (arith, le, x))))
       (cases_lt j' j))
       (cases_eq j j'))
@@ -286,7 +283,7 @@ module _ (n : Areas) (m : Maps) (a : Activation) (fs : List Activation) (mem : M
   region_still s at width other (Own k) is g = ⊎_elim
       (λ (e : g.frame ≡ a).
       let same : k ≡ a.own = sym g.holds ∙ ap (λ (x : Activation). x.own) e in
-      absurd (no_both (same_region s.region (Own a.own)) (subst (λ r. same_region r (Own a.own) ≡ true) (sym is) (eq-eqb k a.own same)) other))
+      absurd (true≢false (sym (subst (λ r. same_region r (Own a.own) ≡ true) (sym is) (eq-eqb k a.own same)) ∙ other)))
       (λ (i : InFrame fs g.frame at width). record { frame = g.frame; inside = i; holds = g.holds; low = g.low; high = g.high })
       (down g.frame at width g.inside)
   region_still s at width other (Born d) is g = g

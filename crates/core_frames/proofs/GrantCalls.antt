@@ -2,6 +2,7 @@
 use Rattle.std.specs.Prelude.{nat_eq, if◌then◌else◌}
 use Rattle.std.proofs.Common.{◌≡◌, ℕ, ◌+◌, ◌≤◌, ◌⊎◌, inl, inr, ⊎_elim, Bool, true, false, List, [], ◌∷◌, Option, Some, Ok, refl, sym, ap, subst, ◌∙◌, arith}
 use Rattle.std.proofs.lemmas.Bool.{ltb-false, eq-eqb, and_from}
+use Rattle.std.proofs.lemmas.Option.{same_Some}
 use Rattle.cyc_words.specs.Events as events
 use Rattle.arena_laws.specs.declared.owner.Owner.TheVariants as owner
 use Rattle.arena_laws.specs.declared.refusal.StoreRefusal.TheVariants.{Full, BadHandle, Memory as NoMemory}
@@ -21,7 +22,6 @@ use Rattle.core_frames.specs.declared.line.Line.TheVariants.{Plain}
 use Rattle.core_frames.specs.Lies.{Maps, TagOf, IsNumber, Known, IsNamed}
 use Rattle.core_frames.specs.Machines.{Machine, Store, state_of}
 use Rattle.core_frames.proofs.Relations.{World, IsInOrder, Has, Waiting, Goes}
-use Rattle.core_frames.proofs.Fitting.{some_same}
 use Rattle.core_frames.proofs.Growing.{ObjectFits}
 use Rattle.core_frames.proofs.Registers.{AtWith, InRegister}
 use Rattle.core_frames.proofs.Streams.{now, here, call_is, lawful_here, next_is}
@@ -91,7 +91,7 @@ pub handle_of : (m : Maps) (mem : Memory) (st : Store) (d h : ℕ) → Known m m
     → IsHandle st d h
 handle_of m mem st d h k number live = ⊎_elim
     (λ (zero_is : d ≡ 0).
-    let h_is : h ≡ 0 = some_same h 0 (sym number ∙ ap (λ e. m.number e) zero_is ∙ k.zero_is_heap) in
+    let h_is : h ≡ 0 = same_Some h 0 (sym number ∙ ap (λ e. m.number e) zero_is ∙ k.zero_is_heap) in
     record {
       takes = ap (λ q. takes_blocks q (st.holdings.standing q)) h_is ∙ ap (λ o. takes_blocks 0 o) k.no_zero;
       birth = ap (λ q. st.ledger.birth_of q) h_is ∙ k.heap_is_zero ∙ sym zero_is;

@@ -1,7 +1,33 @@
 -- A region gets an object: in bytes that nothing else has.
 use Rattle.std.specs.Prelude.{nat_eq, ◌&&◌, if◌then◌else◌}
-use Rattle.std.proofs.Common.{◌≡◌, ℕ, ◌+◌, ◌%◌, ◌^◌, ◌<◌, ◌≤◌, ◌⊎◌, inl, inr, ⊎_elim, Bool, true, false, List, Option, Some, None, refl, sym, ap, ◌∙◌, subst, arith}
+use Rattle.std.proofs.Common.{
+  ◌≡◌,
+  ℕ,
+  ◌+◌,
+  ◌%◌,
+  ◌^◌,
+  ◌<◌,
+  ◌≤◌,
+  ◌⊎◌,
+  inl,
+  inr,
+  ⊎_elim,
+  Bool,
+  true,
+  false,
+  List,
+  Option,
+  Some,
+  None,
+  refl,
+  sym,
+  ap,
+  ◌∙◌,
+  subst,
+  arith,
+}
 use Rattle.std.proofs.lemmas.Bool.{eqb-true, ne_eqb, eq-eqb, and_parts, and_right, and_left, and_from}
+use Rattle.std.proofs.lemmas.Option.{same_Some, none-some}
 use Rattle.core_meaning.specs.Memory.{Region, Frame, Own, Born, Dead, Spot, Content, Blank, Part, Memory, same_region, same_spot, is_live, with_object}
 use Rattle.core_frames.specs.Machines.{Store}
 use Rattle.rv32_machine.specs.State.{Areas}
@@ -25,7 +51,7 @@ use Rattle.core_frames.specs.Lies.{
   IsNumber,
   TagOf,
 }
-use Rattle.core_frames.proofs.Fitting.{some_same, none_some, region_same, shows_on, IsWidth}
+use Rattle.core_frames.proofs.Fitting.{region_same, shows_on, IsWidth}
 
 -- ---- maps
 
@@ -44,7 +70,7 @@ placed_extends m r o x none = record {
         let both = and_parts (same_region q r) (nat_eq p o) e in
         let one = region_same q r both.0 in
         let two = eqb-true p o both.1 in
-        absurd (none_some y (sym none ∙ ap (λ k. m.base r k) (sym two) ∙ ap (λ k. m.base k p) (sym one) ∙ h))
+        absurd (none-some y (sym none ∙ ap (λ k. m.base r k) (sym two) ∙ ap (λ k. m.base k p) (sym one) ∙ h))
     by q p y h false e = ap (λ c. if c then Some x else m.base q p) e ∙ h
 
 -- ---- objects
@@ -94,7 +120,7 @@ module _ (n : Areas) (m : Maps) (fs : List Activation) (mem : Memory) (b : ℕ �
       by true e =
           let both = and_parts (same_region s.region r) (nat_eq s.object (mem.objects r)) e in
           let base : Some x ≡ Some h.base = ap (λ c. if c then Some x else m.base s.region s.object) (sym e) ∙ h.known in
-          let is = some_same x h.base base in
+          let is = same_Some x h.base base in
           inl (record {
             region = both.0;
             object = both.1;
@@ -235,7 +261,7 @@ module _ (n : Areas) (m : Maps) (fs : List Activation) (mem : Memory) (b : ℕ �
 
       low : (q : Region) (c y : ℕ) → m'.base q c ≡ Some y → (t : Bool) → (same_region q r && nat_eq c (mem.objects r)) ≡ t → y < 2 ^ 31
       low q c y e true is =
-          subst (λ z. z < 2 ^ 31) (some_same x y (ap (λ t. if t then Some x else m.base q c) (sym is) ∙ e)) below
+          subst (λ z. z < 2 ^ 31) (same_Some x y (ap (λ t. if t then Some x else m.base q c) (sym is) ∙ e)) below
       low q c y e false is = k.low q c y (ap (λ t. if t then Some x else m.base q c) (sym is) ∙ e)
 
       other_base : (q : Region) (c : ℕ) → (same_region q r && nat_eq c (mem.objects r)) ≡ false → m'.base q c ≡ m.base q c

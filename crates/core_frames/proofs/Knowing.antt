@@ -2,10 +2,11 @@
 use Rattle.std.specs.Prelude.{if◌then◌else◌}
 use Rattle.std.proofs.Common.{◌≡◌, ℕ, ◌+◌, Bool, true, false, Some, refl, sym, ap, ◌∙◌, subst, arith}
 use Rattle.std.proofs.lemmas.Bool.{ne_eqb}
+use Rattle.std.proofs.lemmas.Option.{none-some}
 use Rattle.core_meaning.specs.Memory.{Region, Frame, Own, Born, Standing, Live, Dead, Spot, Part, Memory, same_region, with_standing}
 use Rattle.core_frames.specs.Machines.{Store}
 use Rattle.core_frames.specs.Lies.{Maps, Known, TagOf}
-use Rattle.core_frames.proofs.Fitting.{region_same, none_some}
+use Rattle.core_frames.proofs.Fitting.{region_same}
 
 -- a region of a frame, and not one that was born
 abbrev pub IsOfFrame : Region → Type 0
@@ -58,7 +59,7 @@ no_parts m mem st r none k s j p same has =
     let is = region_same s.region r same in
     let zero_objects : mem.objects s.region ≡ 0 = ap (λ q. mem.objects q) is ∙ none in
     let based = k.based s j p has in
-    none_some based.0 (sym (k.unmade s.region s.object (omega (arith, zero_objects))) ∙ based.1)
+    none-some based.0 (sym (k.unmade s.region s.object (omega (arith, zero_objects))) ∙ based.1)
 
 other_still : (mem : Memory) (q r : Region) → same_region q r ≡ false → (with_standing mem r Live).standing q ≡ mem.standing q
 other_still mem q r e = ap (λ c. if c then Live else mem.standing q) e

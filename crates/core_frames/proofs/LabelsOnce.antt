@@ -1,5 +1,32 @@
 -- Each label of a program's code is placed once: functions have the first labels, and the statements of each function those behind the statements before.
-use Rattle.std.proofs.Common.{◌≡◌, ℕ, zero, suc, pos, ◌+◌, ◌*◌, ◌/◌, ◌%◌, ◌≤◌, ◌<◌, ◌^◌, ◌⊎◌, inl, inr, Bool, true, false, nat_eq, List, [], ◌∷◌, ◌++◌, Option, None, refl}
+use Rattle.std.proofs.Common.{
+  ◌≡◌,
+  ℕ,
+  zero,
+  suc,
+  pos,
+  ◌+◌,
+  ◌*◌,
+  ◌/◌,
+  ◌%◌,
+  ◌≤◌,
+  ◌<◌,
+  ◌^◌,
+  ◌⊎◌,
+  inl,
+  inr,
+  Bool,
+  true,
+  false,
+  nat_eq,
+  List,
+  [],
+  ◌∷◌,
+  ◌++◌,
+  Option,
+  None,
+  refl,
+}
 use Rattle.std.proofs.Common.{sym, ap, subst, ◌∙◌, arith, append_assoc}
 use Rattle.std.specs.Prelude.{if◌then◌else◌, length}
 use Rattle.std.specs.List.{All}
@@ -18,12 +45,35 @@ use Rattle.rv32_machine.specs.State.{data_base}
 use Rattle.core_frames.specs.declared.line.Line.{Line}
 use Rattle.core_frames.specs.declared.line.Line.TheVariants.{Plain, Label, Jump, JumpIfZero, CallTo}
 use Rattle.core_frames.specs.Lines.{labels_placed, AreOnce}
-use Rattle.core_frames.specs.Frames.{is_short, word_code, load_code, save_code, slot_of, pass_code, result_code, call_code, environment_code, raise_code, take_code}
+use Rattle.core_frames.specs.Frames.{
+  is_short,
+  word_code,
+  load_code,
+  save_code,
+  slot_of,
+  pass_code,
+  result_code,
+  call_code,
+  environment_code,
+  raise_code,
+  take_code,
+}
 use Rattle.core_frames.specs.Frames.{test_code, move_code, prologue_code, values_code, leave_code, return_code}
 use Rattle.core_frames.specs.Selected.{frame_bytes, Surroundings, local_offset, nth, from_temp, to_temp, constant_code, far_code, read_line, read_code}
 use Rattle.core_frames.specs.Loops.{are_words, copy_loop, clear_loop}
 use Rattle.core_frames.specs.Choosing.{is_held, held_behind, held_behind_all, held_or_loaded, choice_code}
-use Rattle.core_frames.specs.Selected.{write_line, write_code, binary_code, address_code, bytes_code, operation_code, labels_in, labels_of, holding, within_block}
+use Rattle.core_frames.specs.Selected.{
+  write_line,
+  write_code,
+  binary_code,
+  address_code,
+  bytes_code,
+  operation_code,
+  labels_in,
+  labels_of,
+  holding,
+  within_block,
+}
 use Rattle.core_frames.specs.Selected.{further_code, bytes_in, statement_code, statements_code, around, function_code, functions_code, program_code}
 use Rattle.core_frames.specs.Running.{data_offsets}
 
@@ -78,14 +128,11 @@ choice_none : (test : Bool) (these those : List Line) → labels_placed these �
 choice_none true these those a b = a
 choice_none false these those a b = b
 
-two : (a b : List Line) → labels_placed a ≡ [] → labels_placed b ≡ [] → labels_placed (a ++ b) ≡ []
-two a b p q = none_append a b p q
-
 three : (a b c : List Line) → labels_placed a ≡ [] → labels_placed b ≡ [] → labels_placed c ≡ [] → labels_placed (a ++ b ++ c) ≡ []
-three a b c p q r = two (a ++ b) c (two a b p q) r
+three a b c p q r = none_append (a ++ b) c (none_append a b p q) r
 
 four : (a b c d : List Line) → labels_placed a ≡ [] → labels_placed b ≡ [] → labels_placed c ≡ [] → labels_placed d ≡ [] → labels_placed (a ++ b ++ c ++ d) ≡ []
-four a b c d p q r s = two (a ++ b ++ c) d (three a b c p q r) s
+four a b c d p q r s = none_append (a ++ b ++ c) d (three a b c p q r) s
 
 constant_none : (w : ℕ) → labels_placed (constant_code w) ≡ []
 constant_none w = choice_none (is_short w) _ _ refl refl
@@ -122,11 +169,11 @@ plain_none false a b = refl
 
 read_none : (width from w : ℕ) → labels_placed (read_code width from w) ≡ []
 read_none width from w = choice_none (is_short w) _ _ (plain_none (nat_eq width 1) _ _)
-    (two (far_code from w) (read_line width 7 w ∷ []) refl (plain_none (nat_eq width 1) _ _))
+    (none_append (far_code from w) (read_line width 7 w ∷ []) refl (plain_none (nat_eq width 1) _ _))
 
 write_none : (width from w : ℕ) → labels_placed (write_code width from w) ≡ []
 write_none width from w = choice_none (is_short w) _ _ (plain_none (nat_eq width 1) _ _)
-    (two (far_code from w) (write_line width 7 w ∷ []) refl (plain_none (nat_eq width 1) _ _))
+    (none_append (far_code from w) (write_line width 7 w ∷ []) refl (plain_none (nat_eq width 1) _ _))
 
 binary_none : (o : Binary) → labels_placed (binary_code o) ≡ []
 binary_none Add = refl
@@ -150,24 +197,24 @@ binary_none LessUnsigned = refl
 binary_none LessEqualUnsigned = refl
 
 operation_none : (u : Surroundings) (o : Operation) → labels_placed (operation_code u o) ≡ []
-operation_none u (Constant t w) = two (constant_code (w % 2 ^ 32)) (to_temp u 5 t) (constant_none (w % 2 ^ 32)) (to_none u 5 t)
+operation_none u (Constant t w) = none_append (constant_code (w % 2 ^ 32)) (to_temp u 5 t) (constant_none (w % 2 ^ 32)) (to_none u 5 t)
 operation_none u (NullPointer t) = to_none u 0 t
-operation_none u (Move t x) = two (from_temp u 5 x) (to_temp u 5 t) (from_none u 5 x) (to_none u 5 t)
+operation_none u (Move t x) = none_append (from_temp u 5 x) (to_temp u 5 t) (from_none u 5 x) (to_none u 5 t)
 operation_none u (Narrow t x) = three (from_temp u 5 x) (Plain (instr.Andi 5 5 (pos 255)) ∷ []) (to_temp u 5 t) (from_none u 5 x) refl (to_none u 5 t)
 operation_none u (Apply o t x y) =
     four (from_temp u 5 x) (from_temp u 6 y) (binary_code o) (to_temp u 5 t) (from_none u 5 x) (from_none u 6 y) (binary_none o) (to_none u 5 t)
 operation_none u (LocalAddress t out local) =
-    two (address_code (local_offset u out local)) (to_temp u 5 t) (address_none (local_offset u out local)) (to_none u 5 t)
-operation_none u (OwnAddress t object) = two (address_code (nth u.own object)) (to_temp u 5 t) (address_none (nth u.own object)) (to_none u 5 t)
-operation_none u (DataAddress t object) = two (constant_code (data_base + nth u.statics object)) (to_temp u 5 t)
+    none_append (address_code (local_offset u out local)) (to_temp u 5 t) (address_none (local_offset u out local)) (to_none u 5 t)
+operation_none u (OwnAddress t object) = none_append (address_code (nth u.own object)) (to_temp u 5 t) (address_none (nth u.own object)) (to_none u 5 t)
+operation_none u (DataAddress t object) = none_append (constant_code (data_base + nth u.statics object)) (to_temp u 5 t)
     (constant_none (data_base + nth u.statics object)) (to_none u 5 t)
 operation_none u (Offset t p cells bytes) =
     three (from_temp u 5 p) (further_code 5 bytes) (to_temp u 5 t) (from_none u 5 p) (further_none 5 bytes) (to_none u 5 t)
 operation_none u (Element t p i cells bytes) = refl
 operation_none u (Get t out local width) =
-    two (read_code width 2 (local_offset u out local)) (to_temp u 5 t) (read_none width 2 (local_offset u out local)) (to_none u 5 t)
+    none_append (read_code width 2 (local_offset u out local)) (to_temp u 5 t) (read_none width 2 (local_offset u out local)) (to_none u 5 t)
 operation_none u (Put out local width x) =
-    two (from_temp u 6 x) (write_code width 2 (local_offset u out local)) (from_none u 6 x) (write_none width 2 (local_offset u out local))
+    none_append (from_temp u 6 x) (write_code width 2 (local_offset u out local)) (from_none u 6 x) (write_none width 2 (local_offset u out local))
 operation_none u (Load t p d) =
     three (from_temp u 5 p) (read_code d.width 5 d.bytes) (to_temp u 5 t) (from_none u 5 p) (read_none d.width 5 d.bytes) (to_none u 5 t)
 operation_none u (Store p d x) =
@@ -183,14 +230,14 @@ operation_none u (Clear p l count) =
 operation_none u (IsNull t p) = three (from_temp u 5 p) (Plain (instr.Sltiu 5 5 (pos 1)) ∷ []) (to_temp u 5 t) (from_none u 5 p) refl (to_none u 5 t)
 operation_none u (SamePlace t p q) =
     four (from_temp u 5 p) (from_temp u 6 q) (binary_code Equal) (to_temp u 5 t) (from_none u 5 p) (from_none u 6 q) refl (to_none u 5 t)
-operation_none u (Getchar t) = two (environment_code 2) (to_temp u 10 t) refl (to_none u 10 t)
+operation_none u (Getchar t) = none_append (environment_code 2) (to_temp u 10 t) refl (to_none u 10 t)
 operation_none u (Putchar t x) = three (from_temp u 10 x) (environment_code 1) (to_temp u 10 t) (from_none u 10 x) refl (to_none u 10 t)
-operation_none u (HeapHandle t) = two (constant_code 0) (to_temp u 5 t) refl (to_none u 5 t)
-operation_none u (RegionNew t) = two (environment_code 4) (to_temp u 10 t) refl (to_none u 10 t)
+operation_none u (HeapHandle t) = none_append (constant_code 0) (to_temp u 5 t) refl (to_none u 5 t)
+operation_none u (RegionNew t) = none_append (environment_code 4) (to_temp u 10 t) refl (to_none u 10 t)
 operation_none u (RegionAlloc t h n layout) =
     three (from_temp u 10 h ++ from_temp u 5 n ++ bytes_code layout.bytes) (environment_code 5) (to_temp u 10 t)
     (three (from_temp u 10 h) (from_temp u 5 n) (bytes_code layout.bytes) (from_none u 10 h) (from_none u 5 n) refl) refl (to_none u 10 t)
-operation_none u (RegionFree h) = two (from_temp u 10 h) (environment_code 6) (from_none u 10 h) refl
+operation_none u (RegionFree h) = none_append (from_temp u 10 h) (environment_code 6) (from_none u 10 h) refl
 operation_none u (UniqueAlloc t layout) = refl
 operation_none u (UniqueFree p) = refl
 operation_none u (KeyNew t) = refl
@@ -200,7 +247,7 @@ operation_none u (KeyFree k) = refl
 
 choice_code_none : (passed : ℕ) (held : Option ℕ) (t label : ℕ) → labels_placed (choice_code passed held t label) ≡ []
 choice_code_none passed held t label =
-    two (held_or_loaded passed held t) (JumpIfZero 5 label ∷ [])
+    none_append (held_or_loaded passed held t) (JumpIfZero 5 label ∷ [])
     (choice_none (is_held held t) [] (load_code 5 (slot_of passed t)) refl (load_none 5 (slot_of passed t))) refl
 
 pass_none : (passed k : ℕ) (ts : List ℕ) → labels_placed (pass_code passed k ts) ≡ []
@@ -212,7 +259,7 @@ pass_none passed k (t ∷ ts) =
 result_none : (passed r : ℕ) (ts : List ℕ) → labels_placed (result_code passed r ts) ≡ []
 result_none passed r [] = refl
 result_none passed r (t ∷ ts) =
-    two (save_code (suc r) (slot_of passed t)) (result_code passed (suc r) ts) (save_none (suc r) (slot_of passed t)) (result_none passed (suc r) ts)
+    none_append (save_code (suc r) (slot_of passed t)) (result_code passed (suc r) ts) (save_none (suc r) (slot_of passed t)) (result_none passed (suc r) ts)
 
 call_none : (passed : ℕ) (results : List ℕ) (f : ℕ) (arguments : List ℕ) → labels_placed (call_code passed results f arguments) ≡ []
 call_none passed results f arguments =
@@ -221,11 +268,11 @@ call_none passed results f arguments =
 values_none : (passed r : ℕ) (ts : List ℕ) → labels_placed (values_code passed r ts) ≡ []
 values_none passed r [] = refl
 values_none passed r (t ∷ ts) =
-    two (load_code (suc r) (slot_of passed t)) (values_code passed (suc r) ts) (load_none (suc r) (slot_of passed t)) (values_none passed (suc r) ts)
+    none_append (load_code (suc r) (slot_of passed t)) (values_code passed (suc r) ts) (load_none (suc r) (slot_of passed t)) (values_none passed (suc r) ts)
 
 return_none : (bytes passed : ℕ) (ts : List ℕ) → labels_placed (return_code bytes passed ts) ≡ []
 return_none bytes passed ts =
-    two (values_code passed 9 ts) (leave_code bytes) (values_none passed 9 ts)
+    none_append (values_code passed 9 ts) (leave_code bytes) (values_none passed 9 ts)
     (three (load_code 1 0) (word_code 7 bytes) (Plain (instr.Add 2 2 7) ∷ Plain (instr.Jalr 0 1 (pos 0)) ∷ []) (load_none 1 0) refl refl)
 
 take_none : (bytes passed k count : ℕ) → labels_placed (take_code bytes passed k count) ≡ []

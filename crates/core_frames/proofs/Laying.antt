@@ -2,6 +2,7 @@
 use Rattle.std.specs.Prelude.{nat_eq, slice_get, if◌then◌else◌}
 use Rattle.std.proofs.Common.{◌≡◌, ℕ, zero, suc, ◌+◌, ◌*◌, ◌^◌, ◌≤◌, inr, ⊎_elim, true, List, [], ◌∷◌, Option, Some, refl, sym, ap, ◌∙◌, subst, arith}
 use Rattle.std.proofs.lemmas.Bool.{eq-eqb, and_from}
+use Rattle.std.proofs.lemmas.Option.{same_Some, none-some}
 use Rattle.core_meaning.specs.Memory.{Region, Frame, Own, Born, Live, Part, Memory, is_live, blanks, with_object, with_standing}
 use Rattle.core_meaning.specs.Core.{Local}
 use Rattle.core_meaning.specs.Meaning.{with_objects}
@@ -9,7 +10,7 @@ use Rattle.core_frames.specs.Machines.{Store, Machine}
 use Rattle.rv32_machine.specs.State.{data_base, Areas}
 use Rattle.core_frames.specs.Lies.{Maps, Extends, Zone, Activation, Cell, Among, InFrame, InBlockOf, InOwn, CellGround, Fits, Known, Zoned, Stacked}
 use Rattle.core_frames.proofs.Relations.{World, IsInOrder, Waiting, Place, BlocksLie, back_of, At}
-use Rattle.core_frames.proofs.Fitting.{extends_self, extends_on, none_some, some_same}
+use Rattle.core_frames.proofs.Fitting.{extends_self, extends_on}
 use Rattle.core_frames.proofs.Knowing.{known_block}
 use Rattle.core_frames.proofs.Entering.{begun_fits, counted_fits}
 use Rattle.core_frames.proofs.Extending.{frame_extends, stack_extends}
@@ -54,7 +55,7 @@ module _ (n : Areas) (few : n.statics ≤ 2 ^ 20) (a : Activation) (fs : List Ac
     fits = f;
     known = known;
     stacked = stacked;
-    based = λ o x e. absurd (none_some x e);
+    based = λ o x e. absurd (none-some x e);
   }
   lays [] (o ∷ os) start count m mem laid is live stacked f known = absurd laid
   lays (l ∷ ls) [] start count m mem laid is live stacked f known = absurd laid
@@ -93,7 +94,7 @@ module _ (n : Areas) (few : n.statics ≤ 2 ^ 20) (a : Activation) (fs : List Ac
     where
       based : {m1 m2 : Maps} (i x : ℕ) → slice_get (o ∷ os) i ≡ Some x → m1.base (Frame k) (count + 0) ≡ Some (a.at + o) → Extends m1 m2
           → ((j y : ℕ) → slice_get os j ≡ Some y → m2.base (Frame k) (count + 1 + j) ≡ Some (a.at + y)) → m2.base (Frame k) (count + i) ≡ Some (a.at + x)
-      based {m1} {m2} zero x e here ext rest = ext.base (Frame k) (count + 0) (a.at + x) (here ∙ ap (λ q. Some (a.at + q)) (some_same o x e))
+      based {m1} {m2} zero x e here ext rest = ext.base (Frame k) (count + 0) (a.at + x) (here ∙ ap (λ q. Some (a.at + q)) (same_Some o x e))
       based {m1} {m2} (suc i) x e here ext rest =
           let same : count + 1 + i ≡ count + suc i = omega arith in subst (λ q. m2.base (Frame k) q ≡ Some (a.at + x)) same (rest i x e)
 

@@ -39,7 +39,7 @@ use Rattle.rv32_machine.specs.State.{code_base, set_register}
 use Rattle.core_frames.specs.declared.line.Line.TheVariants.{Plain}
 use Rattle.core_frames.specs.Lines.{code_length}
 use Rattle.core_frames.specs.Frames.{word_code, load_code, save_code, slot_of, values_code, leave_code, return_code}
-use Rattle.core_frames.specs.Lies.{Maps, Shows, Zone, Activation, Stacked, Fits}
+use Rattle.core_frames.specs.Lies.{Maps, Shows, Activation, Stacked, Fits}
 use Rattle.core_frames.proofs.Relations.{
   Moves,
   World,
@@ -55,6 +55,7 @@ use Rattle.core_frames.proofs.Relations.{
   InRegisters,
   Returning,
   Back,
+  no_zones,
 }
 use Rattle.core_frames.proofs.Moving.{Comes, comes_then, comes_as, and_then}
 use Rattle.core_frames.proofs.Steps.{state_at, goes_to, gives_value}
@@ -257,10 +258,6 @@ module _ (w : World) (order : IsInOrder w) (x : Waiting) (outer : List Waiting) 
       (leaves (values_of x.config.temps ts) middle few_values (has_second w place first (leave_code size) has)))
 
   -- ---- what ends with the activation
-
-  no_zones : (m : Maps) (at : ℕ) (zs : List Zone) → BlocksLie m at [] [] zs → zs ≡ []
-  no_zones m at [] lie = refl
-  no_zones m at (z ∷ zs) lie = absurd lie
 
   -- an activation that is in no block any more is gone: its frame is popped, and its unnamed values end
   pub is_back : x.nest ≡ [] → x.config.blocks ≡ [] → (values : List Content) (s : Machine) → Returning w x outer mem values s

@@ -2,6 +2,7 @@
 use Rattle.std.specs.Prelude.{nat_le, slice_get, length, if◌then◌else◌}
 use Rattle.std.proofs.Common.{◌≡◌, ℕ, zero, suc, ◌+◌, ◌-◌, ◌*◌, ◌/◌, ◌%◌, ◌^◌, ◌<◌, ◌≤◌, Bool, true, false, List, [], ◌∷◌, Some, refl, ap, arith}
 use Rattle.std.proofs.lemmas.Bool.{leb-true, leb-false}
+use Rattle.std.proofs.lemmas.Option.{same_Some, none-some}
 use Rattle.core_meaning.specs.Core.{
   Local,
   Statement,
@@ -22,7 +23,6 @@ use Rattle.core_meaning.specs.Core.{
 use Rattle.core_frames.specs.Selected.{rounded, bytes_of, offsets_from, end_from, greater, highest, highest_of, slots_of, own_end, frame_bytes, too_many}
 use Rattle.core_frames.specs.Selectable.{AreLayouts}
 use Rattle.core_frames.specs.Bounds.{words_of, local_words, all_local_words, core_bound}
-use Rattle.core_frames.proofs.Fitting.{none_some, some_same}
 use Rattle.core_frames.proofs.Arrays.{object_fits}
 use Rattle.core_frames.proofs.Laying.{LaidOut}
 
@@ -40,9 +40,9 @@ end_above low [] = omega arith
 end_above low (l ∷ ls) = let h = end_above (rounded low + bytes_of l) ls in omega (arith, h)
 
 pub offset_below : (low : ℕ) (ls : List Local) (o y : ℕ) → slice_get (offsets_from low ls) o ≡ Some y → y ≤ end_from low ls
-offset_below low [] o y e = absurd (none_some y e)
+offset_below low [] o y e = absurd (none-some y e)
 offset_below low (l ∷ ls) zero y e =
-    let h = end_above (rounded low + bytes_of l) ls in let same = some_same (rounded low) y e in omega (arith, h, same)
+    let h = end_above (rounded low + bytes_of l) ls in let same = same_Some (rounded low) y e in omega (arith, h, same)
 offset_below low (l ∷ ls) (suc o) y e = offset_below (rounded low + bytes_of l) ls o y e
 
 -- ---- how high all blocks reach

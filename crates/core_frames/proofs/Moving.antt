@@ -27,7 +27,7 @@ use Rattle.std.proofs.Common.{
   arith,
   add-sub_of_le,
 }
-use Rattle.cyc_words.specs.Events.{SourceEnding, SourceEvent, visible}
+use Rattle.cyc_words.specs.Events.{AreBytes, SourceEvent, visible}
 use Rattle.cyc_words.specs.Events as events
 use Rattle.arena_laws.specs.Lawful.{Answer, Refuses}
 use Rattle.rv32_isa.specs.Table.{decoded}
@@ -35,7 +35,7 @@ use Rattle.rv32_isa.specs.declared.instruction.Instr.{Instr}
 use Rattle.rv32_isa.specs.declared.instruction.Instr.TheVariants.{Lb, Lh, Lw, Lbu, Lhu, Sb, Sh, Sw}
 use Rattle.rv32_machine.specs.State.{Areas, Stop, Mode, Runs, Waits, Over, word_at}
 use Rattle.rv32_machine.specs.Step.{Nothing, Stops, Silent, step, step_in}
-use Rattle.rv32_machine.specs.Run.{Run, after_step, run_step, run_steps, AreBytes}
+use Rattle.rv32_machine.specs.Run.{Run, after_step, run_step, run_steps}
 use Rattle.rv32_machine.specs.Audit.{IsLawful, IsLawfulIn, AccessIsLawful, DecodedIsLawful}
 use Rattle.rv32_machine.specs.Implements.{active_after, frames}
 use Rattle.rv32_machine.proofs.LongerRuns.{AreLawful, run_more, lawful_more, over_steps}

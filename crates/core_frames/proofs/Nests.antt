@@ -1,12 +1,12 @@
 -- The locals of the blocks around a statement have addresses where the code looks for them.
 use Rattle.std.specs.Prelude.{slice_get, length}
 use Rattle.std.proofs.Common.{◌≡◌, ℕ, zero, suc, ◌+◌, ◌<◌, ◌^◌, List, [], ◌∷◌, Some, refl, sym, ap, subst, ◌∙◌, arith}
+use Rattle.std.proofs.lemmas.Option.{same_Some, none-some}
 use Rattle.core_meaning.specs.Memory.{Frame}
 use Rattle.core_frames.specs.Lies.{Maps, Zone}
 use Rattle.core_frames.specs.Selected.{nth, nth_block}
 use Rattle.core_frames.specs.Selectable.{IsLocal}
 use Rattle.core_frames.proofs.Relations.{Place, BlocksLie}
-use Rattle.core_frames.proofs.Fitting.{none_some, some_same}
 
 -- each block around has so many locals, and their offsets are those of its place in the frame
 abbrev pub BlocksAre : List ℕ → List Place → List (List ℕ) → Type 0
@@ -34,12 +34,12 @@ pub local_found : (m : Maps) (at : ℕ) (ns : List ℕ) (ps : List Place) (oss :
 local_found m at [] ps oss ks zs out local k are lie is e = absurd is
 local_found m at (n ∷ ns) [] oss ks zs out local k are lie is e = absurd are
 local_found m at (n ∷ ns) (p ∷ ps) [] ks zs out local k are lie is e = absurd are
-local_found m at (n ∷ ns) (p ∷ ps) (os ∷ oss) [] zs out local k are lie is e = absurd (none_some k e)
+local_found m at (n ∷ ns) (p ∷ ps) (os ∷ oss) [] zs out local k are lie is e = absurd (none-some k e)
 local_found m at (n ∷ ns) (p ∷ ps) (os ∷ oss) (j ∷ ks) [] out local k are lie is e = absurd lie
 local_found m at (n ∷ ns) (p ∷ ps) (os ∷ oss) (j ∷ ks) (z ∷ zs) zero local k are lie is e =
     let found = nth_is os local (subst (λ q. local < q) are.0 is) in
     let known = lie.1 local (nth os local) (ap (λ q. slice_get q local) are.1 ∙ found) in
-    record { known = ap (λ q. m.base (Frame q) local) (sym (some_same j k e)) ∙ known; small = are.2 local (nth os local) found }
+    record { known = ap (λ q. m.base (Frame q) local) (sym (same_Some j k e)) ∙ known; small = are.2 local (nth os local) found }
 local_found m at (n ∷ ns) (p ∷ ps) (os ∷ oss) (j ∷ ks) (z ∷ zs) (suc out) local k are lie is e = local_found m at ns ps oss ks zs out local k are.3 lie.2 is e
 
 pub local_small : (ns : List ℕ) (ps : List Place) (oss : List (List ℕ)) (out local : ℕ) → BlocksAre ns ps oss → IsLocal ns out local → nth

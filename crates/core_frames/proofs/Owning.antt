@@ -30,13 +30,14 @@ use Rattle.std.proofs.Common.{
   arith,
 }
 use Rattle.std.proofs.lemmas.Bool.{eq-eqb, and_from}
+use Rattle.std.proofs.lemmas.Option.{same_Some, none-some}
 use Rattle.rv32_machine.specs.State.{Areas}
 use Rattle.core_meaning.specs.Memory.{Region, Frame, Own, Born, Content, Part, Memory, is_live, blanks, with_object}
 use Rattle.core_meaning.specs.Core.{Local}
 use Rattle.core_meaning.specs.Meaning.{with_objects}
 use Rattle.core_frames.specs.Machines.{Store}
 use Rattle.core_frames.specs.Lies.{Maps, Extends, Activation, Name, Slot, Cell, Lies, Among, InFrame, InOwn, CellGround, Fits, Known, Zoned, Laid, Stacked}
-use Rattle.core_frames.proofs.Fitting.{inside, below_end, extends_self, extends_on, none_some, some_same}
+use Rattle.core_frames.proofs.Fitting.{inside, below_end, extends_self, extends_on}
 use Rattle.core_frames.proofs.Growing.{placed, placed_extends, ObjectFits, grow_fits, grow_known}
 use Rattle.core_frames.proofs.Reframing.{reframed, counterpart, reframed_fits}
 use Rattle.core_frames.proofs.Laying.{LaidOut, laid_high, slots_above}
@@ -198,7 +199,7 @@ module _ (n : Areas) (few : n.statics ≤ 2 ^ 20) (a : Activation) (fs : List Ac
     fits = f;
     known = known;
     stacked = stacked;
-    based = λ o x e. absurd (none_some x e);
+    based = λ o x e. absurd (none-some x e);
   }
   owns [] (o ∷ os) start count m mem laid counts live stacked f known = absurd laid
   owns (l ∷ ls) [] start count m mem laid counts live stacked f known = absurd laid
@@ -232,6 +233,6 @@ module _ (n : Areas) (few : n.statics ≤ 2 ^ 20) (a : Activation) (fs : List Ac
     where
       based : {m1 m2 : Maps} (i x : ℕ) → slice_get (o ∷ os) i ≡ Some x → m1.base (Own k) (count + 0) ≡ Some (a.at + o) → Extends m1 m2
           → ((j y : ℕ) → slice_get os j ≡ Some y → m2.base (Own k) (count + 1 + j) ≡ Some (a.at + y)) → m2.base (Own k) (count + i) ≡ Some (a.at + x)
-      based {m1} {m2} zero x e here ext rest = ext.base (Own k) (count + 0) (a.at + x) (here ∙ ap (λ q. Some (a.at + q)) (some_same o x e))
+      based {m1} {m2} zero x e here ext rest = ext.base (Own k) (count + 0) (a.at + x) (here ∙ ap (λ q. Some (a.at + q)) (same_Some o x e))
       based {m1} {m2} (suc i) x e here ext rest =
           let same : count + 1 + i ≡ count + suc i = omega arith in subst (λ q. m2.base (Own k) q ≡ Some (a.at + x)) same (rest i x e)

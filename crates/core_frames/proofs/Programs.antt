@@ -28,6 +28,7 @@ use Rattle.std.proofs.Common.{
   arith,
   leb-true,
 }
+use Rattle.std.proofs.lemmas.Option.{same_Some, none-some}
 use Rattle.rv32_isa.specs.declared.instruction.Instr.TheVariants.{Addi, Ecall}
 use Rattle.rv32_machine.specs.State.{State, Areas}
 use Rattle.rv32_machine.specs.Ledger.{unborn}
@@ -42,7 +43,6 @@ use Rattle.core_frames.specs.Running.{AreBounded, Begins, DoesAsCore, data_offse
 use Rattle.core_frames.proofs.Relations.{World, IsInOrder, Has}
 use Rattle.core_frames.proofs.Access.{behind, first_lines, other_lines}
 use Rattle.core_frames.proofs.Passing.{has_first, has_second}
-use Rattle.core_frames.proofs.Fitting.{none_some, some_same}
 use Rattle.core_frames.proofs.Locals.{offsets_lie, end_above, highest_of_above, top_of, frame_even, frame_has_all}
 use Rattle.core_frames.proofs.Bodies.{FunctionDoes}
 use Rattle.core_frames.proofs.Start.{IsStart, program_does}
@@ -95,12 +95,12 @@ pub record IsAtCode (w : World) (number : ℕ) (f : Function) : Type 0 where
 
 code_of : (w : World) (functions : List Function) (number next place k : ℕ) (f : Function) → place % 4 ≡ 0
     → Has w place (functions_code w.data_offsets number next functions) → slice_get functions k ≡ Some f → IsAtCode w (number + k) f
-code_of w [] number next place k f aligned has is = absurd (none_some f is)
+code_of w [] number next place k f aligned has is = absurd (none-some f is)
 code_of w (g ∷ gs) number next place zero f aligned has is =
     let first = function_code w.data_offsets number next g in
     let others = functions_code w.data_offsets (number + 1) (next + labels_of g.body) gs in
     let e : number ≡ number + 0 = omega arith in
-    subst (λ k. IsAtCode w k f) e (subst (λ (h : Function). IsAtCode w number h) (some_same g f is)
+    subst (λ k. IsAtCode w k f) e (subst (λ (h : Function). IsAtCode w number h) (same_Some g f is)
     (record { next = next; place = place; aligned = aligned; has = has_first w place first others has }))
 code_of w (g ∷ gs) number next place (suc k) f aligned has is =
     let first = function_code w.data_offsets number next g in

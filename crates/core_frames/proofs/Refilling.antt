@@ -2,6 +2,7 @@
 use Rattle.std.proofs.Common.{◌≡◌, ℕ, ◌+◌, ◌-◌, ◌*◌, ◌<◌, ◌≤◌, ◌⊎◌, ⊎_elim, inl, inr, true, ◌%◌, ◌∷◌, refl, Option, Some, List, sym, ap, subst, ◌∙◌, arith}
 use Rattle.std.proofs.lemmas.Bool.{cases_lt}
 use Rattle.std.proofs.Math.Nat.{mul-le-mul_right}
+use Rattle.std.proofs.lemmas.Option.{same_Some}
 use Rattle.rv32_machine.specs.State.{Areas}
 use Rattle.core_meaning.specs.Memory.{Spot, Content, Part, Layout, Memory, is_live}
 use Rattle.core_meaning.specs.Operations.{are_elements}
@@ -11,7 +12,7 @@ use Rattle.core_frames.specs.Lies.{Maps, Shows, read, Activation, Name, Slot, Ce
 use Rattle.core_frames.specs.Layouts.{IsLayout, IsFull}
 use Rattle.core_frames.proofs.Relations.{World, IsInOrder, Waiting, At}
 use Rattle.core_frames.proofs.Steps.{state_at, IsKeptBelow}
-use Rattle.core_frames.proofs.Fitting.{some_same, IsWidth}
+use Rattle.core_frames.proofs.Fitting.{IsWidth}
 use Rattle.core_frames.proofs.Filling.{Filled, read_filled, read_outside}
 use Rattle.core_frames.proofs.Covering.{IsOther, byte_apart}
 
@@ -89,14 +90,14 @@ module _ (n : Areas) (m : Maps) (fs : List Activation) (mem : Memory) (bytes : �
       let a = r.among in
       let o = offset_among l count s u j a in
       let shaped = elements_in mem s b l count there a.element a.cell j a.shape a.within a.has in
-      let part : r.old ≡ shaped.part = some_same r.old shaped.part (sym r.was ∙ ap (λ (t : Spot). mem.parts t j) a.there ∙ shaped.is) in
+      let part : r.old ≡ shaped.part = same_Some r.old shaped.part (sym r.was ∙ ap (λ (t : Spot). mem.parts t j) a.there ∙ shaped.is) in
       let old_offset = ap (λ (p : Part). p.offset) part in
       let old_width = ap (λ (p : Part). p.width) part in
       let begins = shaped.offset in
       let wide = shaped.width in
       let same_offset = r.same_offset in
       let same_width = r.same_width in
-      let base_is : h.base ≡ base = some_same h.base base (sym h.known ∙ ap (λ (t : Spot). m.base t.region t.object) a.there ∙ known) in
+      let base_is : h.base ≡ base = same_Some h.base base (sym h.known ∙ ap (λ (t : Spot). m.base t.region t.object) a.there ∙ known) in
       let at_is = h.there in
       let there_is : at ≡ base + b + o = omega (arith, at_is, base_is, same_offset, old_offset, begins) in
       let within = layout.within a.cell j a.shape (record { is = a.has }) in

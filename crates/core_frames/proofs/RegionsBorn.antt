@@ -2,6 +2,7 @@
 use Rattle.std.specs.Prelude.{nat_eq, if◌then◌else◌}
 use Rattle.std.proofs.Common.{◌≡◌, ℕ, ◌+◌, ◌≤◌, ◌⊎◌, inl, inr, ⊎_elim, Bool, true, false, List, Some, None, refl, sym, ap, subst, ◌∙◌, arith}
 use Rattle.std.proofs.lemmas.Bool.{eqb-true, ne_eqb, eq-eqb}
+use Rattle.std.proofs.lemmas.Option.{same_Some, none-some}
 use Rattle.arena_laws.specs.declared.owner.Owner.{Owner}
 use Rattle.arena_laws.specs.declared.owner.Owner.TheVariants as owner
 use Rattle.arena_laws.specs.declared.standing.Standing.{Standing as Tag}
@@ -12,8 +13,27 @@ use Rattle.rv32_machine.specs.State.{Areas}
 use Rattle.core_meaning.specs.Memory.{Region, Frame, Own, Born, Standing, Dead, Memory, same_region}
 use Rattle.core_meaning.specs.Operations.{born}
 use Rattle.core_frames.specs.Machines.{Store}
-use Rattle.core_frames.specs.Lies.{Maps, Extends, Activation, Name, Slot, Cell, PartLies, Lies, birth_in, CellGround, Ground, Fits, TagOf, Held, IsNumber, Known, IsNamed, HoldsBlocks}
-use Rattle.core_frames.proofs.Fitting.{if_split, some_same, none_some, shows_on}
+use Rattle.core_frames.specs.Lies.{
+  Maps,
+  Extends,
+  Activation,
+  Name,
+  Slot,
+  Cell,
+  PartLies,
+  Lies,
+  birth_in,
+  CellGround,
+  Ground,
+  Fits,
+  TagOf,
+  Held,
+  IsNumber,
+  Known,
+  IsNamed,
+  HoldsBlocks,
+}
+use Rattle.core_frames.proofs.Fitting.{if_split, shows_on}
 use Rattle.core_frames.proofs.Knowing.{no_parts}
 
 module _ (n : Areas) (m : Maps) (fs : List Activation) (mem : Memory) (b : ℕ → ℕ) (st : Store) (f : Fits n m fs mem b st) (k : Known m mem st)
@@ -41,7 +61,7 @@ module _ (n : Areas) (m : Maps) (fs : List Activation) (mem : Memory) (b : ℕ �
   pub numbered_extends : Extends m numbered_maps
   numbered_extends = record {
     base = λ r o x e. e;
-    number = λ e q is. ap (λ c. if c then Some h else m.number e) (ne_eqb e d (λ same. none_some q (sym none_yet ∙ ap (λ c. m.number c) (sym same) ∙ is)))
+    number = λ e q is. ap (λ c. if c then Some h else m.number e) (ne_eqb e d (λ same. none-some q (sym none_yet ∙ ap (λ c. m.number c) (sym same) ∙ is)))
         ∙ is;
   }
 
@@ -65,7 +85,7 @@ module _ (n : Areas) (m : Maps) (fs : List Activation) (mem : Memory) (b : ℕ �
 
   -- a live number is another one
   live_other : (q : ℕ) (y : Tag) → st.holdings.standing q ≡ Some y → q ≡ h → ⊥
-  live_other q y is same = none_some y (sym free ∙ ap (λ c. st.holdings.standing c) (sym same) ∙ is)
+  live_other q y is same = none-some y (sym free ∙ ap (λ c. st.holdings.standing c) (sym same) ∙ is)
 
   -- ---- what fits
 
@@ -141,12 +161,12 @@ module _ (n : Areas) (m : Maps) (fs : List Activation) (mem : Memory) (b : ℕ �
       record {
         known = ap (λ c. numbered_maps.number c) birth ∙ ap (λ c. if c then Some h else m.number d) (eq-eqb d d refl) ∙ ap (λ c. Some c) (sym same);
         stands = subst (λ c. TagOf y (mem'.standing (Born c))) (sym birth)
-            (subst (λ t. TagOf y t) (sym its_standing) (subst (λ t. TagOf t now) (some_same tag y z.1) stands));
+            (subst (λ t. TagOf y t) (sym its_standing) (subst (λ t. TagOf t now) (same_Some tag y z.1) stands));
       })
       (λ (z : (nat_eq q h ≡ false) × (st.holdings.standing q ≡ Some y)).
       let old = k.held q y z.1 in
       let birth : numbering.ledger.birth_of q ≡ st.ledger.birth_of q = other_birth q (live_other q y z.1) in
-      let ne : st.ledger.birth_of q ≡ d → ⊥ = λ same. none_some q (sym none_yet ∙ ap (λ c. m.number c) (sym same) ∙ old.known) in
+      let ne : st.ledger.birth_of q ≡ d → ⊥ = λ same. none-some q (sym none_yet ∙ ap (λ c. m.number c) (sym same) ∙ old.known) in
       record {
         known = ap (λ c. numbered_maps.number c) birth ∙ numbered_extends.number (st.ledger.birth_of q) q old.known;
         stands = subst (λ c. TagOf y (mem'.standing (Born c))) (sym birth) (subst (λ t. TagOf y t) (sym (other_standing (st.ledger.birth_of q) ne)) old.stands);
@@ -156,7 +176,7 @@ module _ (n : Areas) (m : Maps) (fs : List Activation) (mem : Memory) (b : ℕ �
   numbered_on : (e q : ℕ) → numbered_maps.number e ≡ Some q → (mem'.standing (Born e) ≡ Dead → ⊥) → (e ≡ 0) ⊎ IsNumber numbering e q
   numbered_on e q is alive = ⊎_elim
       (λ (z : (nat_eq e d ≡ true) × (Some h ≡ Some q)).
-      let same : h ≡ q = some_same h q z.1 in
+      let same : h ≡ q = same_Some h q z.1 in
       inr (record {
         tag = tag;
         held = ap (λ c. numbering.holdings.standing c) (sym same) ∙ its_number;

@@ -2,6 +2,7 @@
 use Rattle.std.specs.Prelude.{nat_eq, if◌then◌else◌}
 use Rattle.std.proofs.Common.{◌≡◌, ℕ, ◌⊎◌, inl, inr, ⊎_elim, Bool, true, false, List, [], ◌∷◌, Option, Some, None, refl, sym, ap, subst, ◌∙◌}
 use Rattle.std.proofs.lemmas.Bool.{eqb-false, ne_eqb, eq-eqb}
+use Rattle.std.proofs.lemmas.Option.{same_Some, none-some}
 use Rattle.arena_laws.specs.declared.owner.Owner.{Owner}
 use Rattle.arena_laws.specs.declared.owner.Owner.TheVariants as owner
 use Rattle.arena_laws.specs.declared.standing.Standing.{Standing as Tag}
@@ -30,7 +31,7 @@ use Rattle.core_frames.specs.Lies.{
   IsNamed,
   HoldsBlocks,
 }
-use Rattle.core_frames.proofs.Fitting.{if_split, some_same, none_some}
+use Rattle.core_frames.proofs.Fitting.{if_split}
 use Rattle.core_frames.proofs.Frames.{other_region, death_back}
 
 -- ---- the blocks whose owner fails a test
@@ -157,11 +158,11 @@ module _ (n : Areas) (m : Maps) (fs : List Activation) (mem : Memory) (b : ℕ �
   -- another number stands for another birth
   held_on : (q : ℕ) (y : Tag) → freeing.holdings.standing q ≡ Some y → Held m freed freeing q y
   held_on q y e = ⊎_elim
-      (λ (z : (nat_eq q h ≡ true) × (None ≡ Some y)). absurd (none_some y z.1))
+      (λ (z : (nat_eq q h ≡ true) × (None ≡ Some y)). absurd (none-some y z.1))
       (λ (z : (nat_eq q h ≡ false) × (st.holdings.standing q ≡ Some y)).
       let old = k.held q y z.1 in
       let ne : st.ledger.birth_of q ≡ d → ⊥ = λ same.
-      eqb-false q h z.0 (some_same q h (sym old.known ∙ ap (λ c. m.number c) same ∙ its)) in
+      eqb-false q h z.0 (same_Some q h (sym old.known ∙ ap (λ c. m.number c) same ∙ its)) in
       record { known = old.known; stands = subst (λ t. TagOf y t) (sym (other_standing (st.ledger.birth_of q) ne)) old.stands })
       (if_split (nat_eq q h) None (st.holdings.standing q) (Some y) e)
 

@@ -1,11 +1,11 @@
 -- When Core and the machine stand at the same point, and when they do the same from there on.
-use Rattle.std.proofs.Common.{◌≡◌, ℕ, suc, ◌+◌, ◌*◌, ◌%◌, ◌≤◌, ◌<◌, ◌⊎◌, ◌^◌, List, [], ◌∷◌, Option, Some, None}
+use Rattle.std.proofs.Common.{◌≡◌, ℕ, suc, ◌+◌, ◌*◌, ◌%◌, ◌≤◌, ◌<◌, ◌⊎◌, ◌^◌, List, [], ◌∷◌, Option, Some, None, refl}
 use Rattle.std.specs.Prelude.{slice_get}
-use Rattle.cyc_words.specs.Events.{SourceEnding, SourceEvent, Request, visible, MachineEnding}
+use Rattle.cyc_words.specs.Events.{AreBytes, SourceEnding, SourceEvent, Request, visible}
 use Rattle.cyc_words.specs.Events as events
 use Rattle.arena_laws.specs.Lawful.{Answer}
 use Rattle.rv32_machine.specs.State.{Areas, Stop, Mode, Runs, Over, code_base, data_base}
-use Rattle.rv32_machine.specs.Run.{Run, run_steps, AreBytes}
+use Rattle.rv32_machine.specs.Run.{Run, run_steps}
 use Rattle.rv32_machine.specs.Implements.{IsCut, IsRefused, HasNoFrame, active_after}
 use Rattle.rv32_machine.proofs.LongerRuns.{AreLawful}
 use Rattle.step_trees.specs.Trees.{Outcome}
@@ -139,6 +139,10 @@ BlocksLie m at [] [] (z ∷ zs) = ⊥
 BlocksLie m at [] (k ∷ ks) zs = ⊥
 BlocksLie m at (p ∷ ps) [] zs = ⊥
 BlocksLie m at (p ∷ ps) (k ∷ ks) [] = ⊥
+
+pub no_zones : (m : Maps) (at : ℕ) (zs : List Zone) → BlocksLie m at [] [] zs → zs ≡ []
+no_zones m at [] lie = refl
+no_zones m at (z ∷ zs) lie = absurd lie
 
 -- a frame shows an activation
 pub record FrameShows (w : World) (m : Maps) (x : Waiting) (back : ℕ) (a : Activation) : Type 0 where

@@ -1,5 +1,6 @@
 -- A call of the environment that the store answers: the machine goes on with Core's event, or the run is cut before it.
 use Rattle.std.proofs.Common.{◌≡◌, ℕ, suc, ◌≤◌, ◌⊎◌, inr, ⊎_elim, List, [], ◌∷◌, Some, None, Ok, Err, refl, sym, ap, subst, ◌∙◌, arith}
+use Rattle.cyc_words.specs.Events.{AreBytes}
 use Rattle.cyc_words.specs.Events as events
 use Rattle.arena_laws.specs.declared.refusal.StoreRefusal.TheVariants.{Full, Memory as NoMemory}
 use Rattle.arena_laws.specs.Asked.{Asked, is_granted}
@@ -7,7 +8,7 @@ use Rattle.arena_laws.specs.Holdings.{Holdings}
 use Rattle.arena_laws.specs.Lawful.{Answer, Done, refuses}
 use Rattle.rv32_machine.specs.State.{Areas, Runs, Over}
 use Rattle.rv32_machine.specs.Step.{concludes, step}
-use Rattle.rv32_machine.specs.Run.{Run, after_step, answers_after, run_step, run_steps, AreBytes}
+use Rattle.rv32_machine.specs.Run.{Run, after_step, answers_after, run_step, run_steps}
 use Rattle.rv32_machine.specs.Ledger.{event_of, entered, request_of}
 use Rattle.rv32_machine.specs.Implements.{IsRequested}
 use Rattle.rv32_machine.specs.Audit.{IsLawful}

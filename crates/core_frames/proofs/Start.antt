@@ -34,11 +34,12 @@ use Rattle.std.proofs.Common.{
   arith,
 }
 use Rattle.std.proofs.lemmas.Bool.{eq-eqb, ne_eqb, cases_lt, and_from, and_left, and_right}
+use Rattle.std.proofs.lemmas.Option.{same_Some, none-some}
 use Rattle.cyc_words.specs.Words.{word, sum_of}
-use Rattle.cyc_words.specs.Events.{SourceEnding}
+use Rattle.cyc_words.specs.Events.{AreBytes, SourceEnding}
 use Rattle.rv32_isa.specs.declared.instruction.Instr.TheVariants.{Addi, Ecall, Jal}
 use Rattle.rv32_machine.specs.State.{Stop, Runs, Over, code_base, data_base, set_register}
-use Rattle.rv32_machine.specs.Run.{Run, AreBytes}
+use Rattle.rv32_machine.specs.Run.{Run}
 use Rattle.rv32_machine.specs.Ledger.{Ledger, unborn}
 use Rattle.rv32_machine.specs.Implements.{Implements}
 use Rattle.step_trees.specs.Trees.{Stops}
@@ -50,7 +51,24 @@ use Rattle.core_meaning.specs.Steps.{Step}
 use Rattle.core_frames.specs.declared.line.Line.TheVariants.{Plain, CallTo}
 use Rattle.core_frames.specs.Lines.{offset_to}
 use Rattle.core_frames.specs.Machines.{Machine, Store, state_of}
-use Rattle.core_frames.specs.Lies.{Shows, read, Name, Slot, Cell, same_name, PartLies, Lies, Apart, Among, CellGround, Ground, Fits, Known, HoldsBlocks, stack_end}
+use Rattle.core_frames.specs.Lies.{
+  Shows,
+  read,
+  Name,
+  Slot,
+  Cell,
+  same_name,
+  PartLies,
+  Lies,
+  Apart,
+  Among,
+  CellGround,
+  Ground,
+  Fits,
+  Known,
+  HoldsBlocks,
+  stack_end,
+}
 use Rattle.core_frames.specs.Selected.{datum_locals}
 use Rattle.core_frames.specs.Running.{named, core_run, in_data, first_base, first_maps, ShowsData}
 use Rattle.core_frames.proofs.Relations.{Moves, Has, World, IsInOrder, Goes, Calling, Back, invoke}
@@ -58,7 +76,7 @@ use Rattle.core_frames.proofs.Moving.{Reach, Comes, goes_from, goes_stuck, and_t
 use Rattle.core_frames.proofs.Words.{offset_joined}
 use Rattle.core_frames.proofs.Steps.{state_at, goes_to, gives_value, step_is, is_lawful}
 use Rattle.core_frames.proofs.Access.{written_out}
-use Rattle.core_frames.proofs.Fitting.{none_some, some_same, IsWidth}
+use Rattle.core_frames.proofs.Fitting.{IsWidth}
 use Rattle.core_frames.proofs.Growing.{aligned_at}
 use Rattle.core_frames.proofs.Laying.{LaidOut}
 use Rattle.core_frames.proofs.Data.{IsObject, object_at, placed_at, none_behind}
@@ -88,8 +106,8 @@ record DataPart (ds : List Datum) (offsets : List ℕ) (s : Spot) (j at width : 
   pub there : at ≡ data_base + begin + offset
 
 in_data_is : (found : Option ℕ) (x : ℕ) → in_data found ≡ Some x → (offset : ℕ) × ((found ≡ Some offset) × (x ≡ data_base + offset))
-in_data_is None x e = absurd (none_some x e)
-in_data_is (Some offset) x e = (offset, (refl, sym (some_same (data_base + offset) x e)))
+in_data_is None x e = absurd (none-some x e)
+in_data_is (Some offset) x e = (offset, (refl, sym (same_Some (data_base + offset) x e)))
 
 module _ (ds : List Datum) (offsets : List ℕ) where
   abbrev first : Memory
@@ -108,9 +126,9 @@ module _ (ds : List Datum) (offsets : List ℕ) where
         has = has;
         there = h.there ∙ ap (λ k. k + h.offset) x.1.1;
       }
-      by (Born (suc d)) is known has = absurd (none_some h.base known)
-      by (Frame k) is known has = absurd (none_some h.base known)
-      by (Own k) is known has = absurd (none_some h.base known)
+      by (Born (suc d)) is known has = absurd (none-some h.base known)
+      by (Frame k) is known has = absurd (none-some h.base known)
+      by (Own k) is known has = absurd (none-some h.base known)
 
 module _ (ds : List Datum) (offsets : List ℕ) (high : ℕ) (laid : LaidOut (datum_locals ds) offsets 0 high) where
   object_of : (s : Spot) (j at width : ℕ) (v : Content) (d : DataPart ds offsets s j at width v) → IsObject ds offsets 0 high s.object d.begin
@@ -159,7 +177,7 @@ module _ (ds : List Datum) (offsets : List ℕ) (high : ℕ) (laid : LaidOut (da
       beside : s.object ≡ t.object → Apart at width at' width'
       beside same =
           let o = object_of s i at width v d in
-          let begin : d'.begin ≡ d.begin = some_same d'.begin d.begin (sym d'.placed ∙ ap (λ k. slice_get offsets k) (sym same) ∙ d.placed) in
+          let begin : d'.begin ≡ d.begin = same_Some d'.begin d.begin (sym d'.placed ∙ ap (λ k. slice_get offsets k) (sym same) ∙ d.placed) in
           let like = o.parts s.cell i (record { offset = d.offset; width = width; content = v }) d.has in
           let has' : datum_parts ds s.object t.cell j ≡ Some (record { offset = d'.offset; width = width'; content = v' }) =
           ap (λ k. datum_parts ds k t.cell j) same ∙ d'.has in
@@ -235,7 +253,7 @@ module _ (w : World) (order : IsInOrder w) (four : w.stub ≡ 4) (main : ℕ)
     births = ap (λ (l : Ledger). l.births + 1) start.fresh;
     heap = refl;
     no_zero = start.no_numbers 0;
-    held = λ h x e. absurd (none_some x (sym (start.no_numbers h) ∙ e));
+    held = λ h x e. absurd (none-some x (sym (start.no_numbers h) ∙ e));
     numbered = λ d h e alive. inl (zero_only d h e);
     zero_is_heap = refl;
     heap_is_zero = ap (λ (l : Ledger). l.birth_of 0) start.fresh;
@@ -249,7 +267,7 @@ module _ (w : World) (order : IsInOrder w) (four : w.stub ≡ 4) (main : ℕ)
     where
       zero_only : (d h : ℕ) → (first_maps offsets).number d ≡ Some h → d ≡ 0
       zero_only zero h e = refl
-      zero_only (suc d) h e = absurd (none_some h (sym (ap (λ c. if c then Some 0 else None) (ne_eqb (suc d) 0 (λ q. omega (arith, q)))) ∙ e))
+      zero_only (suc d) h e = absurd (none-some h (sym (ap (λ c. if c then Some 0 else None) (ne_eqb (suc d) 0 (λ q. omega (arith, q)))) ∙ e))
 
       later : (d : ℕ) → 1 ≤ d → (memory.standing (Born d) ≡ Dead) × (memory.objects (Born d) ≡ 0) × ((first_maps offsets).number d ≡ None)
       later zero le = absurd (omega (arith, le))
@@ -262,9 +280,9 @@ module _ (w : World) (order : IsInOrder w) (four : w.stub ≡ 4) (main : ℕ)
           let is = found.1.1 in
           let few = order.statics_within in
           omega (arith, is, within, room, few)
-      low (Born (suc d)) o x e = absurd (none_some x e)
-      low (Frame k) o x e = absurd (none_some x e)
-      low (Own k) o x e = absurd (none_some x e)
+      low (Born (suc d)) o x e = absurd (none-some x e)
+      low (Frame k) o x e = absurd (none-some x e)
+      low (Own k) o x e = absurd (none-some x e)
 
       unmade : (r : Region) (o : ℕ) → memory.objects r ≤ o → first_base offsets r o ≡ None
       unmade (Born zero) o le = ap in_data (none_behind ds offsets 0 high o laid le)
@@ -275,9 +293,9 @@ module _ (w : World) (order : IsInOrder w) (four : w.stub ≡ 4) (main : ℕ)
       based : (t : Spot) (j : ℕ) (p : Part) (r : Region) → memory.parts (record t { region = r }) j ≡ Some p → (x : ℕ) ×
           (first_base offsets r t.object ≡ Some x)
       based t j p (Born zero) e = let x = placed_at ds offsets 0 high t.object t.cell j p laid e in (data_base + x.0, ap in_data x.1)
-      based t j p (Born (suc d)) e = absurd (none_some p e)
-      based t j p (Frame k) e = absurd (none_some p e)
-      based t j p (Own k) e = absurd (none_some p e)
+      based t j p (Born (suc d)) e = absurd (none-some p e)
+      based t j p (Frame k) e = absurd (none-some p e)
+      based t j p (Own k) e = absurd (none-some p e)
 
   first_blocks : (s : Machine) → IsStart w main ds offsets s → HoldsBlocks w.areas s.store
   first_blocks s start = record {

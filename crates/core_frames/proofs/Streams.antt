@@ -1,12 +1,12 @@
 -- What the code of `putchar` and `getchar` does: each shows its event, and pays a unit.
 use Rattle.std.proofs.Common.{◌≡◌, ℕ, zero, suc, pos, ◌+◌, ◌%◌, ◌^◌, ◌<◌, ◌≤◌, inl, List, [], ◌∷◌, ◌++◌, Option, Some, None, refl, sym, ap, subst, ◌∙◌, arith}
-use Rattle.cyc_words.specs.Events.{ByteRead, ByteWritten}
+use Rattle.cyc_words.specs.Events.{AreBytes, ByteRead, ByteWritten}
 use Rattle.cyc_words.specs.Words.{word, sum_of}
 use Rattle.arena_laws.specs.Lawful.{Answer}
 use Rattle.rv32_isa.specs.declared.instruction.Instr.TheVariants.{Addi, Ecall}
 use Rattle.rv32_machine.specs.State.{Runs, code_base, set_register}
 use Rattle.rv32_machine.specs.Step.{step, calls, answered, following}
-use Rattle.rv32_machine.specs.Run.{AreBytes, after_step, run_step}
+use Rattle.rv32_machine.specs.Run.{after_step, run_step}
 use Rattle.rv32_machine.specs.Audit.{IsLawful}
 use Rattle.step_trees.specs.Trees.{Pays, Reads, Says}
 use Rattle.core_meaning.specs.Memory.{Content, Word, Memory}

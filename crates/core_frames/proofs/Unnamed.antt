@@ -1,11 +1,11 @@
 -- A function is entered: its unnamed values get their bytes behind its slots. No instruction is needed.
-use Rattle.std.proofs.Common.{◌≡◌, ℕ, ◌+◌, ◌≤◌, true, List, [], ◌∷◌, Some, refl, sym, subst, arith}
+use Rattle.std.proofs.Common.{◌≡◌, ℕ, ◌+◌, ◌≤◌, true, List, [], Some, sym, subst, arith}
 use Rattle.rv32_machine.specs.State.{data_base}
 use Rattle.core_meaning.specs.Memory.{Own, Born, Memory, is_live}
 use Rattle.core_meaning.specs.Meaning.{with_objects}
 use Rattle.core_frames.specs.Machines.{Machine}
-use Rattle.core_frames.specs.Lies.{Maps, Zone, Activation}
-use Rattle.core_frames.proofs.Relations.{World, IsInOrder, Waiting, BlocksLie, back_of, At}
+use Rattle.core_frames.specs.Lies.{Activation}
+use Rattle.core_frames.proofs.Relations.{no_zones, World, IsInOrder, Waiting, BlocksLie, back_of, At}
 use Rattle.core_frames.proofs.Extending.{frame_extends, stack_extends}
 use Rattle.core_frames.proofs.Laying.{LaidOut}
 use Rattle.core_frames.proofs.Owning.{owns}
@@ -13,10 +13,6 @@ use Rattle.core_frames.proofs.Owning.{owns}
 -- an activation with its unnamed values at these offsets, up to one, and with this memory
 abbrev pub owning : Waiting → List ℕ → ℕ → Memory → Waiting
 owning x offsets high mem = record x { unnamed = offsets; own_high = high; config = record x.config { memory = mem } }
-
-no_zones : (m : Maps) (at : ℕ) (zs : List Zone) → BlocksLie m at [] [] zs → zs ≡ []
-no_zones m at [] lie = refl
-no_zones m at (z ∷ zs) lie = absurd lie
 
 pub owned_at : (w : World) (order : IsInOrder w) (x : Waiting) (outer : List Waiting) (offsets : List ℕ) (high : ℕ) (mem : Memory) (place : ℕ) (s : Machine)
     → x.nest ≡ [] → x.config.blocks ≡ [] → LaidOut x.fn.own offsets x.own_high high → high ≤ w.frame_bytes x.function

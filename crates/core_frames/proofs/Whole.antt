@@ -29,12 +29,12 @@ use Rattle.std.proofs.Common.{
   le_of_lt,
 }
 use Rattle.std.proofs.lemmas.Bool.{cases_lt}
-use Rattle.cyc_words.specs.Events.{SourceEnding, SourceEvent, Visible, Called, Returned, visible, MachineEnding, Request}
+use Rattle.cyc_words.specs.Events.{AreBytes, SourceEnding, SourceEvent, Visible, Called, Returned, visible, MachineEnding, Request}
 use Rattle.cyc_words.specs.Events as events
 use Rattle.arena_laws.specs.Lawful.{Answer}
 use Rattle.rv32_machine.specs.State.{Areas, Stop, Mode, Runs, Waits, Over}
 use Rattle.rv32_machine.specs.Ledger.{unborn}
-use Rattle.rv32_machine.specs.Run.{AreBytes, Run, run_steps, from, ending_of, ending_in}
+use Rattle.rv32_machine.specs.Run.{Run, run_steps, from, ending_of, ending_in}
 use Rattle.rv32_machine.specs.Audit.{IsLawful, IsLawfulIn}
 use Rattle.rv32_machine.specs.Implements.{Meaning, IsCut, IsBeginning, AgreesIn, EndsWith, Reaches, Implements, is_cut_short, active_after}
 use Rattle.rv32_machine.proofs.LongerRuns.{run_more, lawful_at, over_steps, steps_show}
@@ -47,7 +47,7 @@ use Rattle.core_frames.proofs.Relations.{IsAt, Led, Cut, Cause, Refused, NoStack
 begins_on : (a b c : List events.Event) → IsBeginning a b → IsBeginning b c → IsBeginning a c
 begins_on a b c x y = (x.0 ++ y.0, y.1 ∙ ap (λ es. es ++ y.0) x.1 ∙ append_assoc a x.0 y.0)
 
-visible_of_both : (a b : List SourceEvent) → visible (a ++ b) ≡ visible a ++ visible b
+pub visible_of_both : (a b : List SourceEvent) → visible (a ++ b) ≡ visible a ++ visible b
 visible_of_both [] b = refl
 visible_of_both (Visible e ∷ a) b = ap (λ es. e ∷ es) (visible_of_both a b)
 visible_of_both (Called f ∷ a) b = visible_of_both a b
@@ -55,7 +55,7 @@ visible_of_both (Returned f ∷ a) b = visible_of_both a b
 
 -- ---- agreeing
 
-cut_begins : (shown : List events.Event) (meant : List SourceEvent) (reason : List SourceEvent → SourceEvent → Type 0) → IsCut shown meant reason
+pub cut_begins : (shown : List events.Event) (meant : List SourceEvent) (reason : List SourceEvent → SourceEvent → Type 0) → IsCut shown meant reason
     → IsBeginning shown (visible meant)
 cut_begins shown meant reason c =
     (visible (c.next ∷ c.rest), ap visible c.split ∙ visible_of_both c.before (c.next ∷ c.rest) ∙ ap (λ es. es ++ visible (c.next ∷ c.rest)) (sym c.same))

@@ -1,6 +1,6 @@
 -- When a machine with lines of code does what a program of Core does.
 use Rattle.std.specs.Prelude.{◌≡◌, ◌≢◌, ℕ, zero, suc, ◌+◌, ◌≤◌, ◌<◌, ◌^◌, List, [], ◌∷◌, Option, Some, None, nat_eq, if◌then◌else◌, slice_get}
-use Rattle.cyc_words.specs.Events.{SourceEvent, SourceEnding}
+use Rattle.cyc_words.specs.Events.{AreBytes, SourceEvent, SourceEnding}
 use Rattle.cyc_words.specs.Events as source
 use Rattle.step_trees.specs.Trees.{Outcome, Bodies, run}
 use Rattle.core_meaning.specs.Memory.{Region, Frame, Own, Born, Content, Part, Memory}
@@ -8,7 +8,6 @@ use Rattle.core_meaning.specs.Core.{Function, Datum, Program}
 use Rattle.core_meaning.specs.Steps.{Config, Event, Visible, Called, Returned, Exit, Invocation, LoopTurn, Step, read_event}
 use Rattle.core_meaning.specs.Meaning.{called, turned, datum_parts, core}
 use Rattle.rv32_machine.specs.State.{State, Areas, Runs, code_base, data_base}
-use Rattle.rv32_machine.specs.Run.{AreBytes}
 use Rattle.rv32_machine.specs.Implements.{Meaning, Implements}
 use Rattle.core_frames.specs.declared.line.Line.{Line}
 use Rattle.core_frames.specs.Lines.{HasLines, IsPlace}

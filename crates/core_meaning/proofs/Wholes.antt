@@ -3,7 +3,7 @@ use Rattle.std.specs.Prelude.{nat_eq, nat_lt, nat_le, ◌&&◌, length, slice_ge
 use Rattle.std.proofs.Common.{◌≡◌, ℕ, zero, suc, ◌+◌, ◌-◌, ◌*◌, ◌/◌, ◌%◌, ◌<◌, ◌⊎◌, inl, inr, ⊎_elim, ◌≤◌, Bool, true, false, List, [], ◌∷◌, Option, Some, None, refl, sym, ap, subst, ◌∙◌, arith}
 use Rattle.std.proofs.lemmas.Bool.{eq-eqb, le-leb, lt-ltb, cases_lt, eqb-true, leb-true, ltb-true, and_parts, and_from}
 use Rattle.std.proofs.lemmas.Nat.{mod-mul-add}
-use Rattle.std.proofs.lemmas.Option.{slice_get_within}
+use Rattle.std.proofs.lemmas.Option.{slice_get_within, same_Some}
 use Rattle.std.proofs.Math.Nat.{mod-add-div', mul-le-mul_right}
 use Rattle.core_meaning.specs.Memory.{Spot, Part, PartShape, Layout, Memory, shape_in, beyond, same_region}
 use Rattle.core_meaning.specs.Operations.{is_part, are_parts, are_laid, are_elements, same_object, cells_on, part_of, content_from, on_from, copied, in_element, begun, cleared}
@@ -35,9 +35,6 @@ shaped m s j b x (Some p) e is =
     let both = and_parts (nat_eq p.offset (b + x.offset)) (nat_eq p.width x.width) is in
     record { part = p; is = e; offset = eqb-true p.offset (b + x.offset) both.0; width = eqb-true p.width x.width both.1 }
 
-same_part : (x y : PartShape) → Some x ≡ Some y → x ≡ y
-same_part x y e = cc e
-
 parts_in : (m : Memory) (s : Spot) (b j : ℕ) (xs : List PartShape) → are_parts m s b j xs ≡ true → (i : ℕ) (x : PartShape) → slice_get xs i ≡ Some x
     → IsShaped m s (j + i) (b + x.offset) x.width
 parts_in m s b j [] are i x e = absurd (cc e)
@@ -45,7 +42,7 @@ parts_in m s b j (y ∷ ys) are zero x e =
     let both = and_parts (is_part (m.parts s j) b y) (are_parts m s b (suc j) ys) are in
     let same : j ≡ j + zero = omega arith in
     subst (λ q. IsShaped m s q (b + x.offset) x.width) same
-    (subst (λ (z : PartShape). IsShaped m s j (b + z.offset) z.width) (same_part y x e) (shaped m s j b y (m.parts s j) refl both.0))
+    (subst (λ (z : PartShape). IsShaped m s j (b + z.offset) z.width) (same_Some y x e) (shaped m s j b y (m.parts s j) refl both.0))
 parts_in m s b j (y ∷ ys) are (suc i) x e =
     let both = and_parts (is_part (m.parts s j) b y) (are_parts m s b (suc j) ys) are in
     let same : suc j + i ≡ j + suc i = omega arith in

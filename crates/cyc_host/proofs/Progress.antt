@@ -6,12 +6,12 @@ use Rattle.std.proofs.KnownBytes.{Appends-nil, Appends-trans, Consumes-nil, Cons
 use Rattle.arena_laws.specs.declared.refusal.StoreRefusal.{StoreRefusal}
 use Rattle.arena_laws.specs.Lawful.{Answer}
 use Rattle.arena_laws.specs.Asked.{Asked, RegionNew, RegionAlloc, RegionFree, UniqueAlloc, UniqueFree, KeyNew, KeyOpen, KeyClose, KeyFree, is_granted}
-use Rattle.cyc_words.specs.Events.{Event, Request, ByteRead, ByteWritten, output}
-use Rattle.cyc_words.proofs.Events.{output_append, told_before}
+use Rattle.cyc_words.specs.Events.{AreBytes, Event, Request, ByteRead, ByteWritten, output}
+use Rattle.cyc_words.proofs.Events.{bytes_push, output_append, told_before}
 use Rattle.rv32_machine.specs.State.{State, Areas, Stop}
 use Rattle.rv32_machine.specs.Step.{Stepped, Shown, Nothing, Writes, Asks, Stops, Told, Silent, Says, step, given}
 use Rattle.rv32_machine.specs.Ledger.{Ledger, unborn, event_of, entered}
-use Rattle.rv32_machine.specs.Run.{AreBytes, Run, answer_from, answers_after, after_call, after_step, refused_by, run_steps, from}
+use Rattle.rv32_machine.specs.Run.{Run, answer_from, answers_after, after_call, after_step, refused_by, run_steps, from}
 use Rattle.cyc_host.specs.Transfers.{WritesBut, Answers}
 use Rattle.rv32_machine.specs.Shortage.{IsShortage, asked_at}
 use Rattle.cyc_host.specs.Hosted.{IsHosted, IsExact, EndsAs, Written}
@@ -22,11 +22,6 @@ use Rattle.rv32_machine.proofs.Modes.{was_free, step_alike, write_is_quiet, ask_
 use Rattle.cyc_host.proofs.OneStep.{IsStep, one_more_exact}
 use Rattle.cyc_host.proofs.Answers.{first, stream, stream_more}
 use Rattle.rv32_machine.proofs.Stepping.{one_more_step, after_nothing, after_write, after_ask, after_stop}
-
--- bytes, and one more
-bytes_push : (bytes : List ℕ) (byte : ℕ) → AreBytes bytes → byte < 256 → AreBytes (bytes ++ byte ∷ [])
-bytes_push [] byte all below = (below, tt)
-bytes_push (first ∷ rest) byte (fits, all) below = (fits, bytes_push rest byte all below)
 
 -- A run of so many steps has taken these bytes and answers of the store and no more, whatever else follows them; after the input's end no byte follows.
 pub record Progress (n : Areas) (old : State) (count : ℕ) (is_over : Bool) (now : State)

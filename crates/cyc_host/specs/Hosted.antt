@@ -1,12 +1,12 @@
 -- What a run between a reader and a writer does: the machine's run on the bytes that the reader gave, whose output goes to the writer.
 use Rattle.std.specs.Prelude.{◌≡◌, ℕ, ◌<◌, ◌≤◌, ◌⊎◌, List, [], Option, None, take, Contains}
 use Rattle.std.specs.Io.KnownBytes.{Appends, Consumes, IsAtEnd}
-use Rattle.cyc_words.specs.Events.{output, ByteRead}
+use Rattle.cyc_words.specs.Events.{AreBytes, output, ByteRead}
 use Rattle.cyc_words.specs.Words.{word}
 use Rattle.rv32_machine.specs.State.{State, Areas, Stop, Over}
 use Rattle.rv32_machine.specs.Step.{step, Asks}
 use Rattle.arena_laws.specs.Lawful.{Answer}
-use Rattle.rv32_machine.specs.Run.{Run, AreBytes, run_steps, from}
+use Rattle.rv32_machine.specs.Run.{Run, run_steps, from}
 use Rattle.rv32_machine.specs.Shortage.{IsShortage, asked_at}
 use Rattle.cyc_host.specs.declared.ending.Ending.{Ending}
 use Rattle.cyc_host.specs.declared.ending.Ending.TheVariants as ending

@@ -1,19 +1,16 @@
 -- An accepted program is never stuck, and its Core does what it does.
-use Rattle.std.proofs.Common.{◌≡◌, ℕ, List, [], ⊎_elim}
-use Rattle.cyc_words.specs.Events.{SourceEnding}
+use Rattle.std.proofs.Common.{◌≡◌, ℕ, List, ⊎_elim}
+use Rattle.cyc_words.specs.Events.{AreBytes, SourceEnding}
 use Rattle.cyc_tree.specs.Tree.{Program}
 use Rattle.core_meaning.specs.Meaning.{core}
-use Rattle.judged_sources.proofs.Joined.{lowerable, never_stuck}
+use Rattle.judged_sources.proofs.Joined.{never_stuck}
 use Rattle.source_lowering.proofs.Programs.{programs_same}
-use Rattle.source_lowering.specs.Agreeing.{AreBytes, SameOutcome}
+use Rattle.source_lowering.specs.Agreeing.{SameOutcome}
 use Rattle.source_lowering.specs.Programs.{program_code}
-use Rattle.source_lowering.specs.Lowerable.{IsLowerable}
 use Rattle.source_meaning.specs.Programs.{source, world_of}
 use Rattle.unique_flow.proofs.Accepted.{no_faults}
 use Rattle.unique_flow.specs.Accepted.{IsAccepted}
-
-is_lowerable : (p : Program) → IsAccepted p → IsLowerable p
-is_lowerable p accepted = lowerable p (no_faults p accepted)
+use Rattle.lower_checks.proofs.Lowerable.{is_lowerable}
 
 pub is_never_stuck : (p : Program) → IsAccepted p → (input : List ℕ) (n : ℕ) → (source p input n).ending ≡ SourceEnding.Stuck → ⊥
 is_never_stuck p accepted = never_stuck p (no_faults p accepted)

@@ -1,16 +1,16 @@
 -- An evaluation of the Core of a program is one of the program: Core shows what the source shows, and ends as it does.
 use Rattle.std.proofs.Common.{◌≡◌, ℕ, suc, ◌<◌, List, [], ◌∷◌, ◌++◌, Option, Some, None, refl, sym, ap, ◌∙◌, subst}
 use Rattle.std.specs.Prelude.{Contains, slice_get}
+use Rattle.cyc_words.proofs.Events.{bytes_push}
 use Rattle.cyc_words.specs.Events as events
-use Rattle.cyc_words.specs.Events.{Event, ByteRead, SourceEvent, SourceEnding, visible, output, bytes_read}
+use Rattle.cyc_words.specs.Events.{AreBytes, Event, ByteRead, SourceEvent, SourceEnding, visible, output, bytes_read}
 use Rattle.cyc_tree.specs.Tree.{Program}
-use Rattle.rv32_machine.specs.Run as run
 use Rattle.source_meaning.specs.Steps.{Routine, World}
 use Rattle.source_meaning.specs.Programs.{source, world_of}
 use Rattle.core_meaning.specs.Steps as core_steps
 use Rattle.core_meaning.specs.Core as cyc_core
 use Rattle.core_meaning.specs.Meaning.{core}
-use Rattle.source_lowering.specs.Agreeing.{AreBytes, SameEvent, BothVisible, BothCalled, BothReturned, SameEvents, SameOutcome}
+use Rattle.source_lowering.specs.Agreeing.{SameEvent, BothVisible, BothCalled, BothReturned, SameEvents, SameOutcome}
 use Rattle.source_lowering.specs.Programs.{program_code}
 use Rattle.core_eval.specs.Evaluated.{Wrote, seen}
 use Rattle.core_eval.specs.Evaluated as core_run
@@ -56,16 +56,6 @@ visible_seen w (core_steps.Visible e ∷ es) = ap (λ (l : List Event). e ∷ l)
 visible_seen w (core_steps.Called number ∷ es) = visible_seen w es
 visible_seen w (core_steps.Returned number ∷ es) = visible_seen w es
 
--- ---- bytes
-
-pub are_bytes : (input : List ℕ) → run.AreBytes input → AreBytes input
-are_bytes [] bytes = bytes
-are_bytes (b ∷ bs) bytes = (bytes.0, are_bytes bs bytes.1)
-
-with_byte : (input : List ℕ) (byte : ℕ) → AreBytes input → byte < 256 → AreBytes (input ++ byte ∷ [])
-with_byte [] byte bytes below = (below, tt)
-with_byte (b ∷ bs) byte bytes below = (bytes.0, with_byte bs byte bytes.1 below)
-
 -- ---- evaluations
 
 module _ (p : Program)
@@ -81,7 +71,7 @@ module _ (p : Program)
       → IsReadNext p input units byte
   read_next input bytes units byte below (rest, next) = (
     source_events (world_of p) rest,
-    shown (input ++ byte ∷ []) (with_byte input byte bytes below) (suc units) ∙ ap (source_events (world_of p)) next
+    shown (input ++ byte ∷ []) (bytes_push input byte bytes below) (suc units) ∙ ap (source_events (world_of p)) next
         ∙ source_append (world_of p) (core (program_code p) input units).events (core_steps.Visible (ByteRead (Some byte)) ∷ rest)
         ∙ ap (λ (l : List SourceEvent). l ++ events.Visible (ByteRead (Some byte)) ∷ source_events (world_of p) rest) (sym (shown input bytes units)),
   )
@@ -101,18 +91,17 @@ module _ (p : Program)
       → core_run.IsEvaluated why (program_code p) fuel reader_old reader_new writer_old writer_new
       → IsEvaluated why p fuel reader_old reader_new writer_old writer_new
   carried why fuel reader_old reader_new writer_old writer_new run =
-      let bytes = are_bytes run.input run.bytes in
-      let same_seen = seen_same run.input bytes run.units in
+      let same_seen = seen_same run.input run.bytes run.units in
       record {
         input = run.input;
-        bytes = bytes;
+        bytes = run.bytes;
         units = run.units;
         within = run.within;
         given = run.given;
         taken = ap bytes_read same_seen ∙ run.taken;
         at_end = λ has. run.at_end (subst (λ (es : List Event). Contains es (ByteRead None)) same_seen has);
         wrote = subst (λ (es : List Event). Wrote why writer_old writer_new (output es)) (sym same_seen) run.wrote;
-        ends = ends_as why fuel run.units run.input bytes run.ends;
+        ends = ends_as why fuel run.units run.input run.bytes run.ends;
       }
 
 -- an evaluation of a program that is the Core of another one
@@ -124,7 +113,8 @@ of_code {why} {fuel} {reader_old} {reader_new} {writer_old} {writer_new} p q sam
 
 -- a run of a source that is never Stuck doesn't end so
 pub not_stuck : (p : Program) → ((input : List ℕ) (n : ℕ) → (source p input n).ending ≡ SourceEnding.Stuck → ⊥) → (why : EvalEnding) (fuel : ℕ)
-    (reader_old reader_new writer_old writer_new : Option (List ℕ)) → IsEvaluated why p fuel reader_old reader_new writer_old writer_new → why ≡ ending.Stuck → ⊥
+    (reader_old reader_new writer_old writer_new : Option (List ℕ)) → IsEvaluated why p fuel reader_old reader_new writer_old writer_new → why ≡ ending.Stuck
+    → ⊥
 not_stuck p never why fuel reader_old reader_new writer_old writer_new run is =
     let ends : EndsAs ending.Stuck p fuel run.units run.input = subst (λ (w : EvalEnding). EndsAs w p fuel run.units run.input) is run.ends in
     never run.input run.units ends.1

@@ -2,10 +2,9 @@
 use Rattle.std.specs.Prelude.{◌≡◌, ℕ, suc, ◌<◌, ◌≤◌, List, [], ◌∷◌, ◌++◌, Option, Some, None, Contains}
 use Rattle.std.specs.Io.KnownBytes.{Consumes, IsAtEnd}
 use Rattle.cyc_tree.specs.Tree.{Program}
-use Rattle.cyc_words.specs.Events.{ByteRead, SourceEvent, Visible, SourceEnding, visible, output, bytes_read}
+use Rattle.cyc_words.specs.Events.{AreBytes, ByteRead, SourceEvent, Visible, SourceEnding, visible, output, bytes_read}
 use Rattle.cyc_words.specs.Words.{word}
 use Rattle.source_meaning.specs.Programs.{source as source_run}
-use Rattle.source_lowering.specs.Agreeing.{AreBytes}
 use Rattle.core_eval.specs.Evaluated.{Wrote}
 use Rattle.core_eval.specs.declared.ending.EvalEnding.{EvalEnding}
 use Rattle.core_eval.specs.declared.ending.EvalEnding.TheVariants as ending

@@ -1,5 +1,6 @@
 -- The readers of expressions with commas between them, and of arguments, are exact.
 use Rattle.std.proofs.Common.{◌≡◌, ℕ, max, ◌||◌, Bool, true, false, List, [], ◌∷◌, refl, sym, ap, subst, ◌∙◌, arith, inl, inr}
+use Rattle.std.proofs.lemmas.Bool.{or_right}
 use Rattle.cyc_lexer.specs.declared.token.Sign.TheVariants as sign_of
 use Rattle.cyc_lexer.specs.declared.token.TokenKind.{TokenKind}
 use Rattle.cyc_lexer.specs.declared.token.TokenKind.TheVariants as kind
@@ -14,7 +15,6 @@ use Rattle.cyc_parser.specs.ReadExpressions.{arguments_by}
 use Rattle.cyc_parser.specs.Exact.{Exact, Anything, Within, Whole, Then, Either, Rows, ends, always}
 use Rattle.cyc_parser.proofs.Exact.{exact_as}
 use Rattle.cyc_parser.proofs.ExactTypes.{sign_exact}
-use Rattle.cyc_parser.proofs.ExactParts.{or_second}
 use Rattle.cyc_parser.proofs.ExactComposed.{then_exact, meets_exact, either_exact, begins_with, begins_stops}
 use Rattle.cyc_parser.proofs.ExactBegins.{expression_begins}
 use Rattle.cyc_parser.proofs.ExactOperands.{IsExpressionAt, Made, made_of, closed_exact, within_always, within_both, within, rows_stop, IsNested}
@@ -58,7 +58,7 @@ module _ (d : ℕ) (expr : Tokens → Outcome Expression) (inner : Exact Anythin
       (always comma_or) (λ es k h. h))
       (λ b e es mid to h g. rows_stop IsOther (is_sign sign_of.Comma) (continues 0) comma_or
       (behind_begins sign_of.Comma 0 expression_nesting argument_nesting refl (λ e es. refl) d)
-      (begins_stops (is_sign sign_of.Comma) (continues 0) comma_apart) (λ k w. or_second (is_sign sign_of.Comma k) (continues 0 k) w) b h.0 mid to h.2
+      (begins_stops (is_sign sign_of.Comma) (continues 0) comma_apart) (λ k w. or_right (is_sign sign_of.Comma k) (continues 0 k) w) b h.0 mid to h.2
       g)
 
   abbrev pub ClosedRead : Bool → List Expression → Tokens → Tokens → Type 0

@@ -1,5 +1,6 @@
 -- The readers of a block's items and of blocks are exact.
-use Rattle.std.proofs.Common.{◌≡◌, ◌&&◌, ℕ, suc, Bool, true, false, List, [], ◌∷◌, refl, sym, ap, subst, inl, inr}
+use Rattle.std.proofs.Common.{◌≡◌, ℕ, suc, Bool, true, false, List, [], ◌∷◌, refl, sym, ap, subst, inl, inr}
+use Rattle.std.proofs.Math.Bool.{and-false}
 use Rattle.cyc_lexer.specs.declared.token.Keyword.TheVariants as word
 use Rattle.cyc_lexer.specs.declared.token.Sign.TheVariants as sign_of
 use Rattle.cyc_lexer.specs.declared.token.TokenKind.{TokenKind}
@@ -35,13 +36,9 @@ pub item_begins : (d : ℕ) (b : Bool) (i : OneItem) (from to : Tokens) → IsIt
 item_begins d b (OneItem.Declare x) from to w = declaration_begins_item x from to w.0
 item_begins d b (OneItem.Execute s) from to w = statement_begins_item s from to w.0
 
-and_false : (a : Bool) → (a && false) ≡ false
-and_false true = refl
-and_false false = refl
-
 pub item_apart : (i : OneItem) (k : TokenKind) → begins_item k ≡ true → item_takes i k ≡ false
 item_apart (OneItem.Declare x) k h = refl
-item_apart (OneItem.Execute s) k h = rw (item_no_else k h) (and_false (ends_open s))
+item_apart (OneItem.Execute s) k h = rw (item_no_else k h) (and-false (ends_open s))
 
 pub item_within : (i : OneItem) (k : TokenKind) → item_takes i k ≡ true → is_keyword word.Else k ≡ true
 item_within (OneItem.Declare x) k h = absurd cc

@@ -1,12 +1,13 @@
 -- One phrase or the other, by the next token: their reader is exact where both parts' readers are.
 use Rattle.std.proofs.Common.{◌≡◌, ℕ, Bool, true, false, ◌∷◌, ◌++◌, Ok, Err, refl, sym, ap, ◌∙◌, inl, inr}
+use Rattle.std.proofs.lemmas.Bool.{cases_Bool}
 use Rattle.cyc_lexer.specs.Lexing.{Token}
 use Rattle.cyc_lexer.specs.declared.token.TokenKind.{TokenKind}
 use Rattle.cyc_parser.specs.declared.fault.ParseFault.TheVariants.{Parse, TooDeep, Memory}
 use Rattle.cyc_parser.specs.Phrases.{Tokens}
 use Rattle.cyc_parser.specs.Reader.{Outcome, choose, next_is}
 use Rattle.cyc_parser.specs.Exact.{Found, Refused, Deepened, Stops, Passes, Exact, Either}
-use Rattle.cyc_parser.proofs.ExactParts.{which, next_same}
+use Rattle.cyc_parser.proofs.ExactParts.{next_same}
 
 pub choose_first : {A : Type 0} (test : TokenKind → Bool) (p q : Tokens → Outcome A) (ts : Tokens) → next_is test ts ≡ true
     → choose test p q ts ≡ p ts
@@ -85,7 +86,7 @@ module _ {A : Type 0} (Guard : Tokens → Type 0) (test : TokenKind → Bool) (g
 
   choose_sound : (ts : Tokens) (a : A) (rest : Tokens) → Guard ts → r ts ≡ Ok (a, rest) → Found (One true) r ts a rest
   choose_sound ts a rest guard h =
-      elim (which (next_is test ts)) [
+      elim (cases_Bool (next_is test ts)) [
         | inl b ↦ found First into_first p true (choose_first test p q) ts a rest b
             (first.sound ts a rest (guard, b) (sym (choose_first test p q ts b) ∙ h))
         | inr b ↦ found Second into_second q false (choose_second test p q) ts a rest b
@@ -106,7 +107,7 @@ module _ {A : Type 0} (Guard : Tokens → Type 0) (test : TokenKind → Bool) (g
 
   choose_refused : (ts : Tokens) (at : ℕ) → Guard ts → r ts ≡ Err (Parse at) → Refused (One false) r ts at
   choose_refused ts at guard h =
-      elim (which (next_is test ts)) [
+      elim (cases_Bool (next_is test ts)) [
         | inl b ↦ refused First into_first p true (choose_first test p q) ts at b
             (first.refused ts at (guard, b) (sym (choose_first test p q ts b) ∙ h))
         | inr b ↦ refused Second into_second q false (choose_second test p q) ts at b
@@ -115,7 +116,7 @@ module _ {A : Type 0} (Guard : Tokens → Type 0) (test : TokenKind → Bool) (g
 
   choose_deepened : (ts : Tokens) (at : ℕ) → Guard ts → r ts ≡ Err (TooDeep at) → Deepened (One false) r ts at
   choose_deepened ts at guard h =
-      elim (which (next_is test ts)) [
+      elim (cases_Bool (next_is test ts)) [
         | inl b ↦ deepened First into_first p true (choose_first test p q) ts at b
             (first.deepened ts at (guard, b) (sym (choose_first test p q ts b) ∙ h))
         | inr b ↦ deepened Second into_second q false (choose_second test p q) ts at b
@@ -125,7 +126,7 @@ module _ {A : Type 0} (Guard : Tokens → Type 0) (test : TokenKind → Bool) (g
   -- memory never runs out, as it doesn't in the one that is read
   choose_enough : (ts : Tokens) → Guard ts → r ts ≡ Err Memory → ⊥
   choose_enough ts guard h =
-      elim (which (next_is test ts)) [
+      elim (cases_Bool (next_is test ts)) [
         | inl b ↦ first.enough ts (guard, b) (sym (choose_first test p q ts b) ∙ h)
         | inr b ↦ second.enough ts (guard, b) (sym (choose_second test p q ts b) ∙ h)
       ]

@@ -1,5 +1,6 @@
 -- The readers of a `switch` and its clauses are exact.
 use Rattle.std.proofs.Common.{◌≡◌, ◌||◌, ℕ, suc, max, Bool, true, false, List, [], ◌∷◌, refl, sym, ap, subst, inl, inr}
+use Rattle.std.proofs.lemmas.Bool.{or_right}
 use Rattle.cyc_lexer.specs.Lexing.{Token}
 use Rattle.cyc_lexer.specs.declared.token.Keyword.{Keyword}
 use Rattle.cyc_lexer.specs.declared.token.Keyword.TheVariants as word
@@ -16,7 +17,7 @@ use Rattle.cyc_parser.specs.Reader.{next_is}
 use Rattle.cyc_parser.specs.ReadExpressions.{Reads, parenthesized_by}
 use Rattle.cyc_parser.specs.ReadStatements.{pattern, clause_by, clauses_by, switch_by}
 use Rattle.cyc_parser.specs.Exact.{Exact, Stops, Anything, ends, always, Whole, Within, IsDone, IsPlaced, Then, Either, Rows}
-use Rattle.cyc_parser.proofs.ExactParts.{begins_stops, or_second, stops_wider}
+use Rattle.cyc_parser.proofs.ExactParts.{begins_stops, stops_wider}
 use Rattle.cyc_parser.proofs.Exact.{exact_as, done_exact, many_exact, placed_exact}
 use Rattle.cyc_parser.proofs.ExactTypes.{keyword_exact, name_exact}
 use Rattle.cyc_parser.proofs.ExactExpressions.{IsExpressionAt, IsParenthesizedAt}
@@ -89,7 +90,7 @@ abbrev pub goes_on_in_switch : TokenKind → Bool
 goes_on_in_switch k = begins_clause k || goes_on_in_block k
 
 block_in_switch : (k : TokenKind) → goes_on_in_block k ≡ true → goes_on_in_switch k ≡ true
-block_in_switch k h = or_second (begins_clause k) (goes_on_in_block k) h
+block_in_switch k h = or_right (begins_clause k) (goes_on_in_block k) h
 
 pub clause_list : Clauses → List OneClause
 clause_list NoClauses = []

@@ -1,5 +1,6 @@
 -- The readers of `if` and `while` are exact, and none stops before an `else` that its tree would take.
 use Rattle.std.proofs.Common.{◌≡◌, ◌⊎◌, ◌&&◌, ℕ, suc, max, Bool, true, false, [], ◌∷◌, Ok, Err, refl, sym, subst, ◌∙◌, inl, inr}
+use Rattle.std.proofs.lemmas.Bool.{cases_Bool}
 use Rattle.cyc_lexer.specs.declared.token.Keyword.TheVariants as word
 use Rattle.cyc_tree.specs.Tree.{Expression, Statement, If, IfElse, While}
 use Rattle.cyc_tree.proofs.PartNesting.{expression_nesting, statement_nesting}
@@ -13,7 +14,7 @@ use Rattle.cyc_parser.specs.ReadExpressions.{Reads, parenthesized_by}
 use Rattle.cyc_parser.specs.ReadStatements.{otherwise_by, conditional_by, repeated_by}
 use Rattle.cyc_parser.specs.Exact.{Found, Exact, Stops, Anything, ends, Whole, Within, IsDone, Then, Either}
 use Rattle.cyc_parser.proofs.Exact.{read_exact, exact_as, exact_on, exact_wider, done_exact}
-use Rattle.cyc_parser.proofs.ExactParts.{bind_ok, no_fault, ok_is, which, stops_wider}
+use Rattle.cyc_parser.proofs.ExactParts.{bind_ok, no_fault, ok_is, stops_wider}
 use Rattle.cyc_parser.proofs.ExactChoice.{choose_first, choose_second}
 use Rattle.cyc_parser.proofs.ExactTypes.{keyword_exact}
 use Rattle.cyc_parser.proofs.ExactExpressions.{IsParenthesizedAt}
@@ -105,7 +106,7 @@ module _ (d : ℕ) (stmt : Reads Statement) (inner : Exact Anything (IsStatement
       }
 
     otherwise_exact : Exact (Stops (takes_else body)) IsOtherwise takes_else (otherwise_by stmt at condition body)
-    otherwise_exact = elim (which (ends_open body)) [
+    otherwise_exact = elim (cases_Bool (ends_open body)) [
       | inl opens ↦ open_exact opens
       | inr shut ↦ exact_on Anything (Stops (takes_else body)) IsOtherwise takes_else _ (shut_exact shut) (λ ts h. tt)
     ]

@@ -1,5 +1,6 @@
 -- The readers of what begins with a name, and of primary expressions with the member that was read behind them, are exact.
 use Rattle.std.proofs.Common.{◌≡◌, ℕ, suc, ◌||◌, Bool, true, false, Option, Some, None, refl, sym, ap, subst, arith, inl, inr}
+use Rattle.std.proofs.lemmas.Bool.{or_left, or_right}
 use Rattle.cyc_lexer.specs.declared.token.Sign.TheVariants as sign_of
 use Rattle.cyc_lexer.specs.declared.token.TokenKind.{TokenKind}
 use Rattle.cyc_lexer.specs.declared.token.TokenKind.TheVariants as kind
@@ -16,7 +17,6 @@ use Rattle.cyc_parser.specs.ReadExpressions.{parenthesized_by, arguments_by, mem
 use Rattle.cyc_parser.specs.Exact.{Exact, Anything, Stops, Whole, Then, Either, IsDone, ends, always}
 use Rattle.cyc_parser.proofs.Exact.{exact_as}
 use Rattle.cyc_parser.proofs.ExactTypes.{sign_exact, name_exact}
-use Rattle.cyc_parser.proofs.ExactParts.{or_first, or_second}
 use Rattle.cyc_parser.proofs.ExactComposed.{then_exact, either_exact, option_exact, begins_with, begins_stops, stops_wider}
 use Rattle.cyc_parser.proofs.ExactOperands.{IsExpressionAt, IsParenthesizedAt, IsOperandAt, Made, made_of, within_always, within, never_on}
 use Rattle.cyc_parser.proofs.ExactPrimaries.{IsLiteral, PrimaryRead, inside_exact, inside_begins, primary_exact, primary_stops}
@@ -82,7 +82,7 @@ module _ (d : ℕ) (expr : Tokens → Outcome Expression) (inner : Exact Anythin
       begins_stops (is_sign sign_of.Dot) (is_sign sign_of.LeftParenthesis) dot_no_left from (member_begins n b x from to h)
   tail_apart n b x from to (inr h) s =
       stops_wider (is_sign sign_of.LeftParenthesis) (first_on (Variable n, None))
-      (λ k g. or_first (is_sign sign_of.LeftParenthesis k) (is_sign sign_of.Dot k) g) from
+      (λ k g. or_left (is_sign sign_of.LeftParenthesis k) (is_sign sign_of.Dot k) g) from
       (subst (Stops (first_on (Variable n, None))) (sym h.1) (subst (λ y. Stops (first_on y) to) h.0 s))
 
   tail_exact : (n : Name) → Exact Anything (TailRead n) first_on
@@ -94,7 +94,7 @@ module _ (d : ℕ) (expr : Tokens → Outcome Expression) (inner : Exact Anythin
       first_on (λ es k h. never_on h))
       (Either (MemberRead n) (IsDone (Variable n, None))) _
       (option_exact (is_sign sign_of.Dot) first_on (MemberRead n) (member_by expr n) (member_exact n) (Variable n, None) (member_begins n)
-      (λ k g. or_second (is_sign sign_of.LeftParenthesis k) (is_sign sign_of.Dot k) g))
+      (λ k g. or_right (is_sign sign_of.LeftParenthesis k) (is_sign sign_of.Dot k) g))
       (λ b x from to h. arguments_begin d expr inner b h.0 from to h.2) (tail_apart n)
 
   named_exact : Exact Anything NamedRead first_on (named_by expr)

@@ -1,13 +1,14 @@
 -- Phrases as long as the next token passes: their reader is exact where the reader of each is.
 use Rattle.std.proofs.Common.{◌≡◌, ◌⊎◌, ℕ, zero, suc, ◌<◌, Bool, true, false, ◌||◌, List, [], ◌∷◌, ◌++◌, length, Ok, Err, refl, sym, ap, subst, ◌∙◌}
 use Rattle.std.proofs.Common.{append_assoc, length-append, arith, inl, inr}
+use Rattle.std.proofs.lemmas.Bool.{cases_Bool, or_left, or_right}
 use Rattle.cyc_lexer.specs.declared.token.TokenKind.{TokenKind}
 use Rattle.cyc_parser.specs.declared.fault.ParseFault.{ParseFault}
 use Rattle.cyc_parser.specs.declared.fault.ParseFault.TheVariants.{Parse, TooDeep, Memory}
 use Rattle.cyc_parser.specs.Phrases.{Tokens}
 use Rattle.cyc_parser.specs.Reader.{Outcome, ◌>>=◌, many, one_more, next_is}
 use Rattle.cyc_parser.specs.Exact.{Found, Refused, Deepened, Stops, Passes, Exact, Anything, always, Rows}
-use Rattle.cyc_parser.proofs.ExactParts.{bind_ok, bind_err, reads, ok_is, no_fault, which, next_same, or_first, or_second, stops_wider, begins_stops}
+use Rattle.cyc_parser.proofs.ExactParts.{bind_ok, bind_err, reads, ok_is, no_fault, next_same, stops_wider, begins_stops}
 use Rattle.cyc_parser.proofs.ExactParts.{kept_on}
 use Rattle.cyc_parser.proofs.Many.{many_more, many_end, many_next}
 
@@ -82,7 +83,7 @@ module _ {A : Type 0} (test : TokenKind → Bool) (Is : Bool → A → Tokens �
   many_sound : (n : ℕ) (ts : Tokens) (all : List A) (rest : Tokens) → length ts < n → r ts ≡ Ok (all, rest) → Found (Rows Is true) r ts all rest
   many_sound zero ts all rest lt h = absurd (omega arith)
   many_sound (suc n) ts all rest lt h =
-      elim (which (next_is test ts)) [
+      elim (cases_Bool (next_is test ts)) [
         | inl b ↦
             let x = bind_ok (p ts) (λ x. one_more ts x (r x.1)) (all, rest) (sym (many_more test p ts b) ∙ h) in
             let y = bind_ok (r x.0.1) (λ y. Ok (x.0.0 ∷ y.0, y.1)) (all, rest) (sym (next ts x.0.0 x.0.1 x.1) ∙ h) in
@@ -99,13 +100,13 @@ module _ {A : Type 0} (test : TokenKind → Bool) (Is : Bool → A → Tokens �
   -- what stands behind a phrase is another one, or what stands behind all
   pub rows_stop : (b : Bool) (a : A) (all : List A) (mid to : Tokens) → Rows Is b all mid to → Stops (λ k. test k || any k) to → Stops (goes_on a) mid
   rows_stop b a [] mid to is stops =
-      stops_wider (goes_on a) (λ k. test k || any k) (λ k h. or_second (test k) (any k) (within a k h)) mid
+      stops_wider (goes_on a) (λ k. test k || any k) (λ k h. or_right (test k) (any k) (within a k h)) mid
       (subst (Stops (λ k. test k || any k)) (sym is) stops)
   rows_stop b a (next ∷ all) mid to is stops = begins_stops test (goes_on a) (apart a) mid (begins b next mid is.0 is.1)
 
   pub rows_end : (from to : Tokens) → from ≡ to → Stops (λ k. test k || any k) to → r from ≡ Ok ([], to)
   rows_end from to same stops =
-      rw same (many_end test p to (stops_wider test (λ k. test k || any k) (λ k h. or_first (test k) (any k) h) to stops))
+      rw same (many_end test p to (stops_wider test (λ k. test k || any k) (λ k h. or_left (test k) (any k) h) to stops))
 
   many_again : (all : List A) (from to : Tokens) → Rows Is true all from to → Stops (λ k. test k || any k) to → r from ≡ Ok (all, to)
   many_again [] from to is stops = rows_end from to is stops
@@ -218,7 +219,7 @@ module _ {A : Type 0} (test : TokenKind → Bool) (Is : Bool → A → Tokens �
   fault_is : (ts : Tokens) (fault : ParseFault) (whole : r ts ≡ Err fault)
       → ((next_is test ts ≡ true) × (p ts ≡ Err fault)) ⊎ ((a : A) × (mid : Tokens) × (p ts ≡ Ok (a, mid)) × (r mid ≡ Err fault))
   fault_is ts fault whole =
-      elim (which (next_is test ts)) [
+      elim (cases_Bool (next_is test ts)) [
         | inl b ↦ elim (bind_err (p ts) (λ x. one_more ts x (r x.1)) fault (sym (many_more test p ts b) ∙ whole)) [
           | inl g ↦ inl (b, g)
           | inr x ↦ elim (bind_err (r x.0.1) (λ y. Ok (x.0.0 ∷ y.0, y.1)) fault (sym (next ts x.0.0 x.0.1 x.1) ∙ whole)) [

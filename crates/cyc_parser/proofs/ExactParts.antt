@@ -1,5 +1,5 @@
 -- What the proofs of exact readers share: steps that may fail, what is next, and what is kept when other tokens follow.
-use Rattle.std.proofs.Common.{◌≡◌, ◌⊎◌, Bool, true, false, ◌||◌, [], ◌∷◌, ◌++◌, Ok, Err, refl, ap, inl, inr}
+use Rattle.std.proofs.Common.{◌≡◌, ◌⊎◌, Bool, true, false, [], ◌∷◌, ◌++◌, Ok, Err, refl, ap, inl, inr}
 use Rattle.cyc_lexer.specs.Lexing.{Token}
 use Rattle.cyc_lexer.specs.declared.token.TokenKind.{TokenKind}
 use Rattle.cyc_parser.specs.declared.fault.ParseFault.{ParseFault}
@@ -35,22 +35,11 @@ no_fault x e h = cc
 
 -- ---- what is next
 
-pub which : (b : Bool) → (b ≡ true) ⊎ (b ≡ false)
-which true = inl refl
-which false = inr refl
-
 -- the next token is the same, whatever follows it
 pub next_same : (test : TokenKind → Bool) (b : Bool) (ts front : Tokens) (t : Token) (others after : Tokens)
     → ts ≡ front ++ t ∷ others → next_is test ts ≡ b → next_is test (front ++ t ∷ after) ≡ b
 next_same test b ts [] t others after e h = let g : next_is test ts ≡ test t.kind = ap (next_is test) e in rw (← g) h
 next_same test b ts (x ∷ front) t others after e h = let g : next_is test ts ≡ test x.kind = ap (next_is test) e in rw (← g) h
-
-pub or_first : (a b : Bool) → a ≡ true → (a || b) ≡ true
-or_first a b h = rw h refl
-
-pub or_second : (a b : Bool) → b ≡ true → (a || b) ≡ true
-or_second true b h = refl
-or_second false b h = h
 
 pub false_of : (b c : Bool) → (b ≡ true → c ≡ true) → c ≡ false → b ≡ false
 false_of true c h g = absurd (let bad = h refl in cc)

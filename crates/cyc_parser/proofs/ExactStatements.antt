@@ -1,5 +1,6 @@
 -- The readers of declarations and statements are exact.
 use Rattle.std.proofs.Common.{◌≡◌, ◌⊎◌, ℕ, zero, suc, max, Bool, true, [], ◌++◌, Some, None, Ok, refl, sym, ◌∙◌, inl, inr, arith}
+use Rattle.std.proofs.lemmas.Bool.{cases_Bool}
 use Rattle.cyc_lexer.specs.declared.token.Keyword.TheVariants as word
 use Rattle.cyc_lexer.specs.declared.token.Sign.TheVariants as sign_of
 use Rattle.cyc_lexer.specs.declared.token.TokenKind.{TokenKind}
@@ -13,7 +14,6 @@ use Rattle.cyc_parser.specs.ReadExpressions.{Reads, parenthesized_by, expression
 use Rattle.cyc_parser.specs.ReadStatements.{declaration_by, items_by, block_by, conditional_by, repeated_by, switch_by, simple_by, compound_by, statement_at}
 use Rattle.cyc_parser.specs.Exact.{Found, PhraseFrom, Exact, Stops, Anything, ends, always, Within, Either}
 use Rattle.cyc_parser.proofs.Exact.{exact_as, exact_wider, refuse_exact}
-use Rattle.cyc_parser.proofs.ExactParts.{which}
 use Rattle.cyc_parser.proofs.ExactChoice.{choose_first, choose_second}
 use Rattle.cyc_parser.proofs.ExactExpressions.{IsExpressionAt, IsParenthesizedAt, expression_exact, parenthesized_exact}
 pub use Rattle.cyc_parser.proofs.StatementsWithin.{IsDeclarationAt, IsStatementAt, AreItemsAt, takes_else, goes_on_in_block}
@@ -33,7 +33,7 @@ declaration_exact d = declaration_by_exact d (expression_at d) (expression_exact
 -- what a choice reads is what one of the two reads
 chosen : {A : Type 0} (test : TokenKind → Bool) (p q : Tokens → Outcome A) (ts : Tokens) (y : Outcome A) → choose test p q ts ≡ y
     → (p ts ≡ y) ⊎ (q ts ≡ y)
-chosen test p q ts y e = elim (which (next_is test ts)) [
+chosen test p q ts y e = elim (cases_Bool (next_is test ts)) [
   | inl h ↦ inl (sym (choose_first test p q ts h) ∙ e)
   | inr h ↦ inr (sym (choose_second test p q ts h) ∙ e)
 ]

@@ -1,5 +1,6 @@
 -- What the readers of expressions between two signs and of arguments answer: the tree, or the place of the first token that is too deep.
 use Rattle.std.proofs.Common.{◌≡◌, ℕ, suc, ◌+◌, Bool, true, false, List, [], ◌∷◌, Option, refl, sym, ap, subst, ◌∙◌, inl, inr}
+use Rattle.std.proofs.lemmas.Bool.{or_right}
 use Rattle.cyc_lexer.specs.declared.token.Sign.{Sign}
 use Rattle.cyc_lexer.specs.declared.token.Sign.TheVariants as sign_of
 use Rattle.cyc_lexer.specs.declared.token.TokenKind.TheVariants as kind
@@ -14,7 +15,6 @@ use Rattle.cyc_parser.specs.Reader.{Outcome, done, read, choose, many, behind, l
 use Rattle.cyc_parser.specs.ReadExpressions.{parenthesized_by, arguments_by, expression_at}
 use Rattle.cyc_parser.specs.Exact.{Stops, Either, Rows, always}
 use Rattle.cyc_parser.proofs.ExactComposed.{stops_ends, begins_with, begins_stops}
-use Rattle.cyc_parser.proofs.ExactParts.{or_second}
 use Rattle.cyc_parser.proofs.ExactOperands.{IsBehind, behind_exact, behind_begins, closed_exact, rows_stop}
 use Rattle.cyc_parser.proofs.ExactArguments.{comma_apart, comma_or, argument_exact, NoneRead, ClosedRead, closed_stops, ArgumentsRead}
 use Rattle.cyc_parser.proofs.ExactExpressions.{expression_exact}
@@ -84,7 +84,7 @@ module _ (limit n m : ℕ) (same : n + suc m ≡ limit)
       from e mid (e ∷ es) to (deep e) (first_of deep es)
       (inner_goes e from mid is
       (rows_stop IsOther (is_sign sign_of.Comma) (continues 0) comma_or other_begins (begins_stops (is_sign sign_of.Comma) (continues 0) comma_apart)
-      (λ k w. or_second (is_sign sign_of.Comma k) (continues 0 k) w) false es mid to others stops))
+      (λ k w. or_right (is_sign sign_of.Comma k) (continues 0 k) w) false es mid to others stops))
       (goes_before (many (is_sign sign_of.Comma) (behind sign_of.Comma (expression_at m))) (λ xs. done (e ∷ xs)) mid es to (e ∷ es) to
       (first_of deep es) (others_go es mid to others stops) refl)
 

@@ -1,5 +1,6 @@
 -- What the reader of primary expressions answers: the tree, or the place of the first token that is too deep.
 use Rattle.std.proofs.Common.{◌≡◌, ℕ, suc, ◌+◌, ◌≤◌, true, false, [], ◌∷◌, Option, Some, None, refl, sym, ap, subst, ◌∙◌, arith, inr}
+use Rattle.std.proofs.lemmas.Bool.{or_left, or_right}
 use Rattle.cyc_lexer.specs.declared.token.Keyword.TheVariants as word
 use Rattle.cyc_lexer.specs.declared.token.Sign.TheVariants as sign_of
 use Rattle.cyc_tree.specs.Tree.{Name, Expression, Number, Character, Text, Null, HeapRegion, UniqueRegion, Variable, Call, MakeUnion, NumElts}
@@ -15,7 +16,6 @@ use Rattle.cyc_parser.specs.ReadTypes.{name}
 use Rattle.cyc_parser.specs.ReadExpressions.{literal, parenthesized_by, grouped_by, primary_by, arguments_by, member_by, named_by}
 use Rattle.cyc_parser.specs.ReadExpressions.{first_by, expression_at}
 use Rattle.cyc_parser.specs.Exact.{Stops}
-use Rattle.cyc_parser.proofs.ExactParts.{or_first, or_second}
 use Rattle.cyc_parser.proofs.ExactComposed.{stops_ends, stops_wider, begins_with, begins_stops}
 use Rattle.cyc_parser.proofs.ExactPrimaries.{IsLiteral, literal_begins, primary_exact}
 use Rattle.cyc_parser.proofs.ExactArguments.{arguments_back, arguments_begin}
@@ -123,10 +123,10 @@ module _ (limit n m : ℕ) (same : n + suc m ≡ limit)
   variable_goes v ts stops =
       goes_second (is_sign sign_of.LeftParenthesis) (call_by v) (other_by v) ts (Variable v, None) ts None
       (stops_wider (is_sign sign_of.LeftParenthesis) (first_on (Variable v, None))
-      (λ k g. or_first (is_sign sign_of.LeftParenthesis k) (is_sign sign_of.Dot k) g) ts stops)
+      (λ k g. or_left (is_sign sign_of.LeftParenthesis k) (is_sign sign_of.Dot k) g) ts stops)
       (goes_second (is_sign sign_of.Dot) (member_by (expression_at m) v) (done (Variable v, None)) ts (Variable v, None) ts None
       (stops_wider (is_sign sign_of.Dot) (first_on (Variable v, None))
-      (λ k g. or_second (is_sign sign_of.LeftParenthesis k) (is_sign sign_of.Dot k) g) ts stops) refl)
+      (λ k g. or_right (is_sign sign_of.LeftParenthesis k) (is_sign sign_of.Dot k) g) ts stops) refl)
 
   call_goes : (v : Name) (es : Expressions) (from mid to : Tokens) → IsSign sign_of.LeftParenthesis from mid → AreArguments es mid to
       → Goes (tail_by v from) (Call v es, None) to (first_deeper limit (argument_starts (n + 1) es))

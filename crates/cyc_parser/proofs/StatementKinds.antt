@@ -1,5 +1,6 @@
 -- What statements begin with.
 use Rattle.std.proofs.Common.{◌≡◌, ℕ, suc, ◌≤◌, Bool, true, false, [], ◌∷◌, refl, arith}
+use Rattle.std.proofs.lemmas.Bool.{or_right}
 use Rattle.cyc_lexer.specs.Lexing.{Token}
 use Rattle.cyc_lexer.specs.declared.token.Keyword.{Keyword}
 use Rattle.cyc_lexer.specs.declared.token.Keyword.TheVariants as word
@@ -13,7 +14,6 @@ use Rattle.cyc_parser.specs.StatementGrammar.{IsDeclaration, IsStatement}
 use Rattle.cyc_parser.specs.Tests.{is_sign, is_keyword, begins_declaration, begins_unary, begins_control, begins_statement, begins_item, begins_clause}
 use Rattle.cyc_parser.specs.Reader.{next_is}
 use Rattle.cyc_parser.proofs.StatementsWithin.{goes_on_in_block}
-use Rattle.cyc_parser.proofs.ExactParts.{or_second}
 use Rattle.cyc_parser.proofs.ExactUnguarded.{begins_within}
 use Rattle.cyc_parser.proofs.ExactExpressions.{expression_begins}
 use Rattle.cyc_parser.proofs.ExactDeclarations.{declaration_begins}
@@ -140,13 +140,13 @@ statement_no_declaration (kind.Keyword word.Let) h = absurd cc
 statement_no_declaration _ h = refl
 
 unary_begins : (k : TokenKind) → begins_unary k ≡ true → begins_statement k ≡ true
-unary_begins k h = or_second (begins_control k) (begins_unary k) h
+unary_begins k h = or_right (begins_control k) (begins_unary k) h
 
 declaration_item : (k : TokenKind) → begins_declaration k ≡ true → begins_item k ≡ true
 declaration_item k h = rw h refl
 
 statement_item : (k : TokenKind) → begins_statement k ≡ true → begins_item k ≡ true
-statement_item k h = or_second (begins_declaration k) (begins_statement k) h
+statement_item k h = or_right (begins_declaration k) (begins_statement k) h
 
 -- ---- the first token of a phrase
 

@@ -7,6 +7,7 @@ use Rattle.std.specs.List.{list_all}
 use Rattle.std.specs.Prelude.{Err, None, Ok, OnErr, OnOk, Option, Result, Some, bytes_eq, is_none, is_some, nat_eq, option_map, unwrap_or, ◌&&◌}
 use Rattle.source_meaning.specs.Sizes.{Extent}
 use Rattle.source_typing.proofs.Converting.{bool_is}
+use Rattle.source_typing.proofs.Parts.{each_as}
 use Rattle.source_typing.specs.Regions.{Region}
 use Rattle.source_typing.specs.Tables.{OfTag, Part, as_tag, begins, copies, each_part, find, has_beginning, if_known, is_copyable, parts_in, parts_of_tag, tag_in}
 use Rattle.source_typing.specs.Types.{Char, Fat, Handle, Int, Key, Null, StaticType, Struct, Thin, Union, Unique, Unsigned, Void, same_bool}
@@ -295,14 +296,6 @@ declared_same es (Unique m t) = refl
 declared_same es (Handle r) = refl
 declared_same es (Key r) = refl
 
-pub each_as : (f g : StaticType → Bool) (ps : List Part) → ((t : StaticType) → f t ≡ g t) → each_part f ps ≡ each_part g ps
-each_as f g [] same = refl
-each_as f g (p ∷ ps) same = ap (λ b. b && each_part f ps) (by p.type) ∙ ap (λ b. if_known g p.type && b) (each_as f g ps same)
-  where
-    by : (o : Option StaticType) → if_known f o ≡ if_known g o
-    by None = refl
-    by (Some t) = same t
-
 pub each_member : (holds : StaticType → Bool) (ms : List Member) → list_all (λ m. if_known holds (member_of m).type) ms ≡ each_part holds (members_of ms)
 each_member holds [] = refl
 each_member holds (m ∷ ms) = ap (λ b. if_known holds (member_of m).type && b) (each_member holds ms)
@@ -354,10 +347,6 @@ pub known_either : {A E : Type 0} (r : Result A E) (old new : List Entry) (e : E
     → are_known [] old ≡ true → are_known [] (old ++ e ∷ []) ≡ true → are_known [] new ≡ true
 known_either (Ok a) old new e ok err first second = subst (λ l. are_known [] l ≡ true) (sym ok) second
 known_either (Err a) old new e ok err first second = subst (λ l. are_known [] l ≡ true) (sym err) first
-
-pub ok_then : {A E : Type 0} (r : Result A E) (P Q : Type 0) → OnOk r P → (P → Q) → OnOk r Q
-ok_then (Ok a) P Q p f = f p
-ok_then (Err a) P Q p f = p
 
 pub entries_more : (es : List Entry) (e : Entry) → entries_of (es ++ e ∷ []) ≡ entries_of es ++ named_by e ∷ []
 entries_more es e = map_push named_by es e

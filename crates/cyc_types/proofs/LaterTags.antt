@@ -1,8 +1,10 @@
 -- Structs and unions of which no members are known have no bytes to be counted, whichever stand behind others.
 use Rattle.std.proofs.Common.{◌≡◌, ℕ, Bool, true, false, List, [], ◌∷◌, ◌++◌, refl, sym, ap, subst, ◌∙◌, max, true≢false}
 use Rattle.std.proofs.lemmas.Slice.Eq.{bytes_eq-Decides}
-use Rattle.std.specs.Prelude.{bytes_eq, if◌then◌else◌, ◌*◌, ◌+◌, ◌||◌}
+use Rattle.std.specs.Prelude.{bytes_eq, if◌then◌else◌, ◌*◌, ◌+◌}
+use Rattle.std.proofs.lemmas.Bool.{or_parts}
 use Rattle.cyc_tree.specs.Tree.{Structure}
+use Rattle.source_meaning.proofs.Layouts.{no_parts}
 use Rattle.source_meaning.specs.Shapes.{CharShape, FatShape, Layout, Shape, StructShape, UnionShape, VoidShape, has_tag, parts_of}
 use Rattle.source_meaning.specs.Sizes.{Extent, extent_by, laid_out, largest, no_extent, rounded_up, struct_extent, union_extent}
 use Rattle.source_typing.specs.Extents.{is_named_before, layouts_of, layouts_onto, meant_first, part_shapes}
@@ -44,16 +46,12 @@ onto_both union so_far before (n ∷ ns) h =
 abbrev Within : List Layout → List (List ℕ) → Type 0
 Within ls before = (x : List ℕ) → is_named_before before x ≡ false → has_tag ls x ≡ false
 
-or_false : (b c : Bool) → (b || c) ≡ false → (b ≡ false) × (c ≡ false)
-or_false true c h = absurd (true≢false h)
-or_false false c h = (refl, h)
-
 within_more : (ls : List Layout) (before : List (List ℕ)) (y : List ℕ) → Within ls before → Within ls (y ∷ before)
-within_more ls before y within x h = within x (or_false (bytes_eq y x) (is_named_before before x) h).1
+within_more ls before y within x h = within x (or_parts (bytes_eq y x) (is_named_before before x) h).1
 
 within_next : (ls : List Layout) (before : List (List ℕ)) (y : List ℕ) (l : Layout) → l.tag ≡ y → Within ls before → Within (l ∷ ls) (y ∷ before)
 within_next ls before y l same within x h =
-    let both = or_false (bytes_eq y x) (is_named_before before x) h in
+    let both = or_parts (bytes_eq y x) (is_named_before before x) h in
     ap (λ z. if bytes_eq z x then true else has_tag ls x) same
     ∙ ap (λ (b : Bool). if b then true else has_tag ls x) both.0
     ∙ within x both.1
@@ -102,14 +100,6 @@ record AddsNone (more ls : List Layout) : Type 0 where
 
 adds_itself : (ls : List Layout) → AddsNone ls ls
 adds_itself ls = record { parts = λ x. refl; extent = λ unions x. refl }
-
-no_parts : (ls : List Layout) (x : List ℕ) → has_tag ls x ≡ false → parts_of ls x ≡ []
-no_parts [] x h = refl
-no_parts (l ∷ ls) x h = by (bytes_eq l.tag x) h (no_parts ls x)
-  where
-    by : (b : Bool) → (if b then true else has_tag ls x) ≡ false → (has_tag ls x ≡ false → parts_of ls x ≡ []) → (if b then l.parts else parts_of ls x) ≡ []
-    by true h others = absurd (true≢false h)
-    by false h others = others h
 
 no_bytes : (unions ls : List Layout) (x : List ℕ) → has_tag ls x ≡ false → struct_extent unions ls x ≡ no_extent x
 no_bytes unions [] x h = refl

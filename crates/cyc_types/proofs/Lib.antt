@@ -2,7 +2,7 @@ pub mod Converting
 pub mod FirstTags
 mod InCells
 mod InLayouts
-mod InOrder
+pub mod InOrder
 pub mod KindsUnder
 mod Laid
 pub mod LaterTags

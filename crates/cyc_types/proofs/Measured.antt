@@ -1,26 +1,13 @@
 -- Bytes are counted member by member, up to the most that a type may have.
-use Rattle.std.proofs.Common.{◌≡◌, ℕ, ◌≤◌, ◌+◌, ◌*◌, ◌/◌, Bool, true, false, List, [], ◌∷◌, refl, sym, ap, ◌∙◌, arith, suc, zero, max}
-use Rattle.std.proofs.Math.Nat.{lt-div-mul-add, zero-lt-suc}
-use Rattle.std.specs.Prelude.{None, Option, Some, ◌<◌, if◌then◌else◌}
+use Rattle.std.proofs.Common.{◌≡◌, ℕ, ◌≤◌, ◌+◌, Bool, true, false, List, [], ◌∷◌, refl, sym, ap, ◌∙◌, arith, max}
+use Rattle.std.specs.Prelude.{None, Option, Some, if◌then◌else◌}
+use Rattle.source_meaning.proofs.Layouts.{laid_above}
 use Rattle.source_meaning.specs.Shapes.{Shape}
 use Rattle.source_meaning.specs.Sizes.{Extent, laid_out, rounded_up}
 use Rattle.source_typing.specs.Extents.{fits_bytes, known_shape, part_shapes}
 use Rattle.source_typing.specs.Tables.{Part}
 use Rattle.source_typing.specs.Types.{StaticType}
 use Rattle.cyc_types.specs.Measures.{bytes_and, limited, part_extent, placed_after, quick_laid}
-
-pub rounded_above : (x a : ℕ) → x ≤ rounded_up x a
-rounded_above x zero = omega arith
-rounded_above x (suc a) = let more : x + a < (x + a) / suc a * suc a + suc a = lt-div-mul-add (zero-lt-suc a) in omega (arith, more)
-
--- too many bytes stay too many
-pub laid_above : (extent : Shape → Extent) (s : Extent) (ps : List Part) → s.size ≤ (laid_out extent s (part_shapes ps)).size
-laid_above extent s [] = rounded_above s.size s.align
-laid_above extent s (p ∷ ps) =
-    let e = extent (known_shape p.type) in
-    let further : rounded_up s.size e.align + e.size ≤ (laid_out extent s (part_shapes (p ∷ ps))).size =
-    laid_above extent (bytes_and (rounded_up s.size e.align + e.size) (max s.align e.align)) ps in
-    omega (arith, rounded_above s.size e.align, further)
 
 pub if_over : (e : Extent) → fits_bytes e.size ≡ false → limited e ≡ None
 if_over e h = ap (λ b. if b then Some e else None) h
@@ -51,7 +38,7 @@ nothing_laid of (p ∷ ps) = refl
 pub laid_as : (extent : Shape → Extent) (of : StaticType → Option Extent) (ps : List Part) (s : Extent) (b : Bool) → fits_bytes s.size ≡ b
     → EachExtent extent of ps → limited (laid_out extent s (part_shapes ps)) ≡ quick_laid of (limited s) ps
 laid_as extent of ps s false h each =
-    if_over (laid_out extent s (part_shapes ps)) (over_more s.size (laid_out extent s (part_shapes ps)).size (laid_above extent s ps) h)
+    if_over (laid_out extent s (part_shapes ps)) (over_more s.size (laid_out extent s (part_shapes ps)).size (laid_above extent s (part_shapes ps)) h)
     ∙ sym (ap (λ o. quick_laid of o ps) (if_over s h) ∙ nothing_laid of ps)
 laid_as extent of [] s true h each = sym (ap (λ o. quick_laid of o []) (if_fits s h))
 laid_as extent of (p ∷ ps) s true h each =

@@ -2,13 +2,14 @@
 use Rattle.std.proofs.Common.{◌≡◌, ℕ, ◌≤◌, ◌+◌, Bool, true, false, List, [], ◌∷◌, ◌++◌, refl, sym, ap, ◌∙◌, arith, map, max, true≢false}
 use Rattle.std.proofs.lemmas.List.{map-append}
 use Rattle.std.specs.Prelude.{None, Option, Some, if◌then◌else◌, is_none, unwrap_or}
+use Rattle.source_meaning.proofs.Layouts.{rounded_above}
 use Rattle.source_meaning.specs.Sizes.{Extent, rounded_up}
 use Rattle.source_typing.specs.Extents.{fits_bytes}
 use Rattle.source_typing.specs.Tables.{Part}
 use Rattle.source_typing.specs.Types.{StaticType}
 use Rattle.cyc_types.specs.Cells.{KindAt, cells_after, moved_by, part_cells, placed_onto}
 use Rattle.cyc_types.specs.Measures.{bytes_and, limited, part_extent, placed_after, quick_laid}
-use Rattle.cyc_types.proofs.Measured.{if_fits, if_over, nothing_laid, rounded_above}
+use Rattle.cyc_types.proofs.Measured.{if_fits, if_over, nothing_laid}
 
 abbrev pub after : Extent → Extent → Extent
 after s e = bytes_and (rounded_up s.size e.align + e.size) (max s.align e.align)

@@ -1,14 +1,45 @@
 -- A type by its outermost pointer.
 use Rattle.std.proofs.Common.{◌≡◌, ℕ, ◌+◌, map, Bool, true, List, [], ◌∷◌, length, refl, sym, ap, ◌∙◌, arith, ◌-◌}
 use Rattle.std.specs.Prelude.{None, Option, Some, slice_get}
+use Rattle.source_typing.specs.Missing.{outer_region, pointee_of}
 use Rattle.source_typing.specs.Types.{StaticType}
+use Rattle.source_typing.specs.Written.{Missing}
+use Rattle.cyc_types.specs.Bases.{base_type}
 use Rattle.cyc_types.specs.Cells.{KindAt, moved_by, quick_cells, scalar_at}
 use Rattle.cyc_types.specs.Known.{Entry, is_declared, quick_begins, quick_copies}
 use Rattle.cyc_types.specs.Measures.{layer_extent, quick_measure, scalar_bytes}
 use Rattle.cyc_types.specs.Layers.{last_or, layer_begins, layer_copies, outermost, pointed, pointer_to}
 use Rattle.cyc_types.specs.Scalars.{layer_kind, only_kind}
+use Rattle.cyc_types.specs.declared.base.BaseType.{BaseType}
+use Rattle.cyc_types.specs.declared.base.BaseType.TheVariants as base
 use Rattle.cyc_types.specs.declared.layer.Layer.{Layer}
 use Rattle.cyc_types.specs.declared.layer.Layer.TheVariants as code
+
+-- ---- a type without pointers
+
+pub base_leads : (b : BaseType) → pointee_of (Some (base_type b)) ≡ None
+base_leads base.Int = refl
+base_leads base.Unsigned = refl
+base_leads base.Char = refl
+base_leads base.Void = refl
+base_leads base.Null = refl
+base_leads (base.Handle r) = refl
+base_leads (base.Key r) = refl
+base_leads (base.Struct tag rs) = refl
+base_leads (base.Union tag rs) = refl
+
+pub base_outer : (b : BaseType) → outer_region (Some (base_type b)) ≡ Missing
+base_outer base.Int = refl
+base_outer base.Unsigned = refl
+base_outer base.Char = refl
+base_outer base.Void = refl
+base_outer base.Null = refl
+base_outer (base.Handle r) = refl
+base_outer (base.Key r) = refl
+base_outer (base.Struct tag rs) = refl
+base_outer (base.Union tag rs) = refl
+
+-- ---- the last of its pointers
 
 last_found : (l : Layer) (ls : List Layer) → slice_get (l ∷ ls) (length ls) ≡ Some (last_or l ls)
 last_found l [] = refl

@@ -2,6 +2,7 @@
 use Rattle.std.proofs.Common.{◌≡◌, ℕ, ◌≤◌, ◌+◌, true, List, [], ◌∷◌, ◌++◌, refl, sym, ap, ◌∙◌, arith, map, max}
 use Rattle.std.proofs.lemmas.List.{map-append}
 use Rattle.std.specs.Prelude.{Option, Some, if◌then◌else◌}
+use Rattle.source_meaning.proofs.Layouts.{laid_above}
 use Rattle.source_meaning.specs.Placing.{Placed, all_placed, moved}
 use Rattle.source_meaning.specs.Shapes.{Shape}
 use Rattle.source_meaning.specs.Sizes.{Extent, laid_out, rounded_up}
@@ -10,7 +11,7 @@ use Rattle.source_typing.specs.Tables.{Part}
 use Rattle.source_typing.specs.Types.{StaticType}
 use Rattle.cyc_types.specs.Cells.{KindAt, cells_after, kind_placed, moved_by, part_cells, placed_onto}
 use Rattle.cyc_types.specs.Measures.{bytes_and, limited, part_extent, placed_after}
-use Rattle.cyc_types.proofs.Measured.{if_fits, laid_above}
+use Rattle.cyc_types.proofs.Measured.{if_fits}
 
 map_moved : (at : ℕ) (ps : List Placed) → map (moved_by at) (map kind_placed ps) ≡ map kind_placed (map (moved at) ps)
 map_moved at [] = refl
@@ -47,7 +48,7 @@ placed_as extent placed of cells (p ∷ ps) s h each =
     let at = rounded_up s.size e.align in
     let next = bytes_and (at + e.size) (max s.align e.align) in
     let rest = part_cells cells p.type in
-    let next_fits : fits_bytes (at + e.size) ≡ true = less_fits (at + e.size) (laid_out extent next (part_shapes ps)).size (laid_above extent next ps) h in
+    let next_fits : fits_bytes (at + e.size) ≡ true = less_fits (at + e.size) (laid_out extent next (part_shapes ps)).size (laid_above extent next (part_shapes ps)) h in
     let more : e.size ≤ at + e.size = omega arith in
     let own_fits : fits_bytes e.size ≡ true = less_fits e.size (at + e.size) more next_fits in
     let own : map kind_placed (placed shape) ≡ rest = sym (ap (λ b. if b then map kind_placed (placed shape) else []) own_fits) ∙ each.1 in

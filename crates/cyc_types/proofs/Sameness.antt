@@ -1,6 +1,7 @@
 -- What is copied, and what has a beginning, is the same in all tables of the rules that have the structs and unions that code has.
 use Rattle.std.proofs.Common.{◌≡◌, ℕ, ◌≤◌, Bool, true, false, List, refl, sym, ap, ◌∙◌, arith, suc, zero, length}
 use Rattle.std.proofs.lemmas.List.{length-map}
+use Rattle.source_typing.proofs.Parts.{each_as}
 use Rattle.source_typing.specs.Extents.{layouts_of, size_by, size_of}
 use Rattle.source_typing.specs.Tables.{begins, copies, each_part, has_beginning, is_copyable, parts_in, parts_of_tag, tag_in}
 use Rattle.source_typing.specs.Types.{Char, Fat, Handle, Int, Key, Null, StaticType, Struct, Thin, Union, Unique, Unsigned, Void}
@@ -9,7 +10,7 @@ use Rattle.cyc_types.specs.Sameness.{HasTags}
 use Rattle.cyc_types.specs.Tables.{tables_of}
 use Rattle.cyc_types.specs.declared.tables.Tables.{Tables}
 use Rattle.cyc_types.specs.declared.tag.Known.{Known}
-use Rattle.cyc_types.proofs.InOrder.{Looks, begins_known, begins_looks, by_tables, copies_known, copies_looks, each_as}
+use Rattle.cyc_types.proofs.InOrder.{Looks, begins_known, begins_looks, by_tables, copies_known, copies_looks}
 use Rattle.source_typing.specs.Tables as rules
 
 -- a rule that looks into structs finds the same in tables that have the same structs

@@ -1,8 +1,8 @@
 -- Events one after another.
-use Rattle.std.proofs.Common.{◌≡◌, List, [], ◌∷◌, ◌++◌, Some, None, refl, ap, inl, inr}
+use Rattle.std.proofs.Common.{◌≡◌, ℕ, ◌<◌, List, [], ◌∷◌, ◌++◌, Some, None, refl, ap, inl, inr}
 use Rattle.std.specs.List.{Contains}
 use Rattle.std.proofs.lemmas.List.Elements.{Contains-push_cases}
-use Rattle.cyc_words.specs.Events.{Event, ByteRead, ByteWritten, RegionNew, RegionAlloc, RegionFree, UniqueAlloc, UniqueFree, KeyNew, KeyOpen, KeyClose, KeyFree, output, bytes_read}
+use Rattle.cyc_words.specs.Events.{AreBytes, Event, ByteRead, ByteWritten, RegionNew, RegionAlloc, RegionFree, UniqueAlloc, UniqueFree, KeyNew, KeyOpen, KeyClose, KeyFree, output, bytes_read}
 
 -- the output of events, and then more
 pub output_append : (first more : List Event) → output (first ++ more) ≡ output first ++ output more
@@ -34,6 +34,11 @@ read_append (KeyNew k ∷ es) more = read_append es more
 read_append (KeyOpen k ∷ es) more = read_append es more
 read_append (KeyClose k ∷ es) more = read_append es more
 read_append (KeyFree k ∷ es) more = read_append es more
+
+-- bytes, and one more
+pub bytes_push : (bytes : List ℕ) (byte : ℕ) → AreBytes bytes → byte < 256 → AreBytes (bytes ++ byte ∷ [])
+bytes_push [] byte all below = (below, tt)
+bytes_push (first ∷ rest) byte (fits, all) below = (fits, bytes_push rest byte all below)
 
 -- an event of a longer list is one of the shorter or the last one
 pub told_before : {P : Type 0} (events : List Event) (last x : Event) → (Contains events x → P) → (last ≡ x → P) → Contains (events ++ last ∷ []) x → P

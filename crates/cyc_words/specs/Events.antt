@@ -1,5 +1,5 @@
 -- What a run of a source, or of an image, shows to the world, and how it ends. Both meanings speak of these.
-use Rattle.std.specs.Prelude.{ℕ, List, [], ◌∷◌, Option, Some, None}
+use Rattle.std.specs.Prelude.{ℕ, ◌<◌, List, [], ◌∷◌, Option, Some, None}
 use Rattle.cyc_words.specs.declared.faults.Kind.{Kind}
 use Rattle.cyc_words.specs.declared.faults.MachineFault.{MachineFault}
 
@@ -55,6 +55,11 @@ output (KeyNew k ∷ es) = output es
 output (KeyOpen k ∷ es) = output es
 output (KeyClose k ∷ es) = output es
 output (KeyFree k ∷ es) = output es
+
+-- an input is of bytes
+abbrev pub AreBytes : List ℕ → Type 0
+AreBytes [] = Unit {0}
+AreBytes (byte ∷ rest) = (byte < 256) × AreBytes rest
 
 -- the bytes that were read
 abbrev pub bytes_read : List Event → List ℕ

@@ -1,5 +1,6 @@
 -- The failed calls of a run, by its ending.
-use Rattle.std.proofs.Common.{◌≡◌, ◌≢◌, ℕ, ℤ, pos, negsuc, zero, suc, Result, Ok, Err, IfOk, inl, inr, arith}
+use Rattle.std.proofs.Common.{◌≡◌, ◌≢◌, ℕ, ℤ, pos, negsuc, zero, suc, Result, IfOk, inl, inr, arith}
+use Rattle.std.proofs.lemmas.Result.{IfOk-weaker}
 use Rattle.cyc_words.specs.Devices.{one_more}
 use Rattle.cyc_host.specs.Failures.{reads_failed, writes_failed}
 use Rattle.cyc_host.specs.declared.ending.Ending.{Ending}
@@ -47,18 +48,13 @@ module _ (status r_old r_new w_old w_new : ℕ) where
   evaluation eval.WriteFault shown = write_failed shown
   evaluation eval.HostMemory shown = none_failed (λ six. omega arith)
 
--- what follows of each value, where one is answered
-pub weakened : {A E : Type 0} (r : Result A E) (P Q : A → Type 0) → ((a : A) → P a → Q a) → IfOk r P → IfOk r Q
-weakened (Ok a) P Q f h = f a h
-weakened (Err e) P Q f h = tt
-
 module _ {E : Type 0} (result : Result ℕ E) (r_old r_new w_old w_new : ℕ) where
   -- of a machine's run
   pub of_run : (why : Ending) → IfOk result (λ status. status ≡ status_of why) → r_new ≡ reads_failed why r_old → w_new ≡ writes_failed why w_old
       → IfOk result (λ status. AreCounted status r_old r_new w_old w_new)
-  of_run why shown reads writes = weakened result _ _ (λ status s. run status r_old r_new w_old w_new why s reads writes) shown
+  of_run why shown reads writes = IfOk-weaker result _ _ (λ status s. run status r_old r_new w_old w_new why s reads writes) shown
 
   -- of an evaluation
   pub of_evaluation : (why : EvalEnding) → IfOk result (λ status. status ≡ evaluated_status why) → r_new ≡ eval_reads_failed why r_old
       → w_new ≡ eval_writes_failed why w_old → IfOk result (λ status. AreCounted status r_old r_new w_old w_new)
-  of_evaluation why shown reads writes = weakened result _ _ (λ status s. evaluation status r_old r_new w_old w_new why s reads writes) shown
+  of_evaluation why shown reads writes = IfOk-weaker result _ _ (λ status s. evaluation status r_old r_new w_old w_new why s reads writes) shown

@@ -1,10 +1,10 @@
 -- A run between a reader and a writer of a machine that does what a program does.
-use Rattle.std.proofs.Common.{◌≡◌, ℕ, ◌<◌, List, [], ◌∷◌, ◌++◌, Option, Some, None, inl, inr, take, drop, refl, sym, ap, subst, ◌∙◌, append_assoc, append-nil, arith, ⊎_elim}
+use Rattle.std.proofs.Common.{◌≡◌, ℕ, ◌<◌, List, [], ◌∷◌, ◌++◌, Option, Some, None, inl, inr, take, drop, sym, ap, subst, ◌∙◌, append_assoc, append-nil, arith, ⊎_elim}
 use Rattle.std.proofs.lemmas.List.{take-append-drop}
 use Rattle.std.proofs.lemmas.Bool.{cases_lt}
 use Rattle.std.specs.Io.KnownBytes.{Appends}
 use Rattle.cyc_words.specs.Words.{word}
-use Rattle.cyc_words.specs.Events.{Event, SourceEvent, Visible, Called, Returned, SourceEnding, Request, MachineEnding, output, visible}
+use Rattle.cyc_words.specs.Events.{Event, SourceEvent, SourceEnding, Request, MachineEnding, output, visible}
 use Rattle.cyc_words.proofs.Events.{output_append}
 use Rattle.cyc_tree.specs.Tree.{Program}
 use Rattle.source_meaning.specs.Programs.{source, world_of}
@@ -19,22 +19,9 @@ use Rattle.cyc_host.specs.Hosted.{Written, EndsAs, IsHosted}
 use Rattle.compiled_sources.specs.Promise.{meaning_of, frame_bound_of}
 use Rattle.cycc_driver.specs.Outcome.{WantsRoom, WritesBeginning, WritesAll, EndsAsProgram, IsTextImage, IsTextRun}
 use Rattle.cycc_driver.proofs.Longer.{same_state, runs_before}
+use Rattle.core_frames.proofs.Whole.{cut_begins}
 
 -- ---- output
-
-visible_append : (xs ys : List SourceEvent) → visible (xs ++ ys) ≡ visible xs ++ visible ys
-visible_append [] ys = refl
-visible_append (Visible e ∷ xs) ys = ap (λ (l : List Event). e ∷ l) (visible_append xs ys)
-visible_append (Called f ∷ xs) ys = visible_append xs ys
-visible_append (Returned f ∷ xs) ys = visible_append xs ys
-
--- what was shown at a cut is the beginning of what is meant
-cut_begins : (shown : List Event) (meant : List SourceEvent) (reason : List SourceEvent → SourceEvent → Type 0) → IsCut shown meant reason
-    → IsBeginning shown (visible meant)
-cut_begins shown meant reason cut = (
-  visible (cut.next ∷ cut.rest),
-  ap visible cut.split ∙ visible_append cut.before (cut.next ∷ cut.rest) ∙ ap (λ es. es ++ visible (cut.next ∷ cut.rest)) (sym cut.same),
-)
 
 module _ (bound : List ℕ → ℕ) (n : Areas) where
   -- what a run has shown is the beginning of what is meant

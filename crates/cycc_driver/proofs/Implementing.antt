@@ -1,6 +1,6 @@
 -- From the layers to the whole: an image of a program's placed code and data does what the program does.
 use Rattle.std.specs.Prelude.{slice_index}
-use Rattle.std.proofs.Common.{◌≡◌, ℕ, ◌+◌, ◌^◌, ◌≤◌, ◌<◌, List, [], length, refl, sym, ap, ◌∙◌, subst, arith}
+use Rattle.std.proofs.Common.{◌≡◌, ℕ, ◌+◌, ◌^◌, ◌≤◌, ◌<◌, List, [], length, sym, ap, ◌∙◌, subst, arith}
 use Rattle.arena_laws.specs.Holdings.{Holdings, fresh}
 use Rattle.compiled_sources.specs.Promise.{lines_of}
 use Rattle.compiled_sources.proofs.AcceptedDo.{accepted_do}
@@ -14,16 +14,17 @@ use Rattle.rv32_layout.specs.Placed.{ArePlaced, place_of}
 use Rattle.rv32_layout.proofs.Programs.{too_long}
 use Rattle.cyc_image.specs.Format.{Contents, Fits, IsImage, code_limit, data_limit}
 use Rattle.cyc_tree.specs.Tree.{Program}
-use Rattle.rv32_machine.specs.Arrays.{Arrays, IsStart, areas_of, byte_at, state_of}
+use Rattle.rv32_machine.specs.Arrays.{Arrays, IsStart, areas_of, state_of}
 use Rattle.judged_sources.proofs.Joined.{have_main, never_stuck}
 use Rattle.source_lowering.specs.Programs.{program_code}
 use Rattle.source_typing.specs.Answers.{program_faults}
 use Rattle.accepted_sources.specs.Supported.{supported}
 use Rattle.unique_flow.specs.Accepted.{IsAccepted}
 use Rattle.unique_flow.proofs.Accepted.{no_faults}
-use Rattle.cycc_driver.proofs.Small.{code_small, code_words, data_small, each_small, memory_small}
+use Rattle.cycc_driver.proofs.Small.{code_small, data_small, each_small, memory_small}
 use Rattle.cycc_driver.specs.Outcome.{IsCode, IsImplementedBy, IsTextImage}
 use Rattle.cycc_driver.specs.Texts.{IsAcceptedAs}
+use Rattle.core_frames.proofs.Access.{of_words}
 
 -- What the layers promise of a program: the bytes are its lines', a machine with them has the lines, and the data are its globals'.
 pub record AreLayers (program : Program) (code statics : List ℕ) : Type 0 where
@@ -70,7 +71,7 @@ module _ (program : Program) (code statics : List ℕ) (parts : Contents) (layer
 -- its code begins with a call, and is of whole words
 pub is_code : (program : Program) (code : List ℕ) → length code ≡ code_length (lines_of program) → length code ≤ code_limit → IsCode code
 is_code program code long within =
-    let words = code_words (lines_of program) in
+    let words = of_words (lines_of program) in
     record { some = omega (arith, long); within = within; whole_words = omega (arith, long, words) }
 
 -- code that can't be placed is over the limit

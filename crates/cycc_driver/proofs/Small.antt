@@ -1,14 +1,11 @@
 -- What a machine's memory holds where its code is placed and its data are a program's: bytes.
 use Rattle.std.specs.Prelude.{slice_index}
-use Rattle.std.proofs.Common.{◌≡◌, ℕ, zero, suc, ◌+◌, ◌-◌, ◌*◌, ◌/◌, ◌%◌, ◌<◌, ◌^◌, Bool, true, false, List, [], ◌∷◌, ◌++◌, length, nat_eq, nat_lt, if◌then◌else◌, refl, sym, subst, arith}
-use Rattle.std.proofs.lemmas.Bool.Decides.{nat_tests}
+use Rattle.std.proofs.Common.{◌≡◌, ℕ, zero, suc, ◌+◌, ◌-◌, ◌*◌, ◌/◌, ◌%◌, ◌<◌, ◌^◌, Bool, true, false, List, [], ◌∷◌, ◌++◌, length, nat_eq, nat_lt, if◌then◌else◌, sym, subst, arith}
 use Rattle.arena_laws.specs.Holdings.{arena_base}
 use Rattle.cyc_image.specs.Format.{u32_bytes}
 use Rattle.core_meaning.specs.Memory.{Content, PartShape}
 use Rattle.core_meaning.specs.Core.{Datum}
 use Rattle.core_frames.specs.declared.line.Line.{Line}
-use Rattle.core_frames.specs.declared.line.Line.TheVariants.{Plain, Label, Jump, JumpIfZero, CallTo}
-use Rattle.core_frames.specs.Lines.{code_length, size_of}
 use Rattle.core_frames.specs.Selected.{rounded}
 use Rattle.core_frames.specs.Statics.{data_bytes, datum_bytes, element_bytes, cells_bytes, parts_bytes, number_bytes, number_in, zeros}
 use Rattle.rv32_layout.specs.Placed.{ArePlaced, AreWords, place_of, instructions_from}
@@ -42,18 +39,6 @@ words_small (instr ∷ instrs) bytes (front, rest, parts, is, more) =
 
 pub code_small : (lines : List Line) (bytes : List ℕ) → ArePlaced lines bytes → AreSmall bytes
 code_small lines bytes placed = words_small (instructions_from (place_of lines) 0 lines) bytes placed
-
--- each line takes whole words
-line_words : (line : Line) → size_of line % 4 ≡ 0
-line_words (Plain instr) = refl
-line_words (Label label) = refl
-line_words (Jump label) = refl
-line_words (JumpIfZero register label) = refl
-line_words (CallTo label) = refl
-
-pub code_words : (lines : List Line) → code_length lines % 4 ≡ 0
-code_words [] = refl
-code_words (line ∷ lines) = omega (arith, line_words line, code_words lines)
 
 -- ---- data
 

@@ -2,7 +2,7 @@
 use Rattle.std.specs.Prelude.{◌≡◌, ◌≢◌, ℕ, ◌<◌, ◌≤◌, ◌%◌, ◌⊎◌, List, [], ◌++◌, length, Option, None, Contains}
 use Rattle.std.specs.Io.KnownBytes.{Appends}
 use Rattle.cyc_words.specs.Words.{word}
-use Rattle.cyc_words.specs.Events.{Event, SourceEvent, ByteRead, SourceEnding, Request, output, visible}
+use Rattle.cyc_words.specs.Events.{AreBytes, Event, SourceEvent, ByteRead, SourceEnding, Request, output, visible}
 use Rattle.cyc_tree.specs.Tree.{Program}
 use Rattle.source_meaning.specs.Programs.{source, world_of}
 use Rattle.cyc_image.specs.Format.{Contents, IsImage, code_limit}
@@ -10,7 +10,7 @@ use Rattle.rv32_machine.specs.Arrays.{Arrays, IsStart, areas_of, state_of}
 use Rattle.arena_laws.specs.Holdings.{fresh}
 use Rattle.arena_laws.specs.Lawful.{Answer}
 use Rattle.rv32_machine.specs.State.{State, Areas}
-use Rattle.rv32_machine.specs.Run.{AreBytes, run_steps, from}
+use Rattle.rv32_machine.specs.Run.{run_steps, from}
 use Rattle.rv32_machine.specs.Implements.{Implements, Reaches, IsCut, IsRefused, HasNoFrame, active_after}
 use Rattle.cyc_host.specs.declared.ending.Ending.{Ending}
 use Rattle.cyc_host.specs.declared.ending.Ending.TheVariants as ending
@@ -58,7 +58,8 @@ pub record WritesAll (program : Program) (input : List ℕ) (end : SourceEnding)
   pub ends : (source program input fuel).ending ≡ end
   pub written : Appends old new (output (visible (source program input fuel).events))
 
--- of an event holds that it wants room: a request of the store, or a call whose frame, with those of the active functions, may take more bytes than the stack has
+-- of an event holds that it wants room: a request of the store, or a call whose frame, with those of the active functions, may take more bytes
+-- than the stack has
 abbrev pub WantsRoom : Program → Areas → List SourceEvent → SourceEvent → Type 0
 WantsRoom program n before next =
     ((q : Request) × IsRefused q next) ⊎ HasNoFrame (frame_bound_of (world_of program)) n.stack (active_after [] before) next
@@ -70,8 +71,8 @@ pub record WritesToCut (n : Areas) (program : Program) (input : List ℕ) (old n
   pub cut : IsCut shown (source program input fuel).events (WantsRoom program n)
   pub written : Appends old new (output shown)
 
--- The run ends as the program does on the input, with its output; or it was stopped before, after a beginning of it: where it is exhausted, up to the event that
--- had no room. No run ends at a fault.
+-- The run ends as the program does on the input, with its output; or it was stopped before, after a beginning of it: where it is exhausted, up to the
+-- event that had no room. No run ends at a fault.
 abbrev pub EndsAsProgram : Ending → Areas → Program → List ℕ → Option (List ℕ) → Option (List ℕ) → Type 0
 EndsAsProgram (ending.Ended status) n program input old new = WritesAll program input (SourceEnding.Ended (word status)) old new
 EndsAsProgram (ending.Raised kind) n program input old new = WritesAll program input (SourceEnding.Raised kind) old new
@@ -103,8 +104,8 @@ pub record IsTextRun (text : List ℕ) (pages steps : ℕ) (why : Ending) (reade
   pub hosted : IsHosted why (areas_of start) steps (state_of start) end reader_old reader_new writer_old writer_new
   -- what is written, on the bytes that the reader gave, is the program's, and the ending is its
   pub ends : EndsAsProgram why (areas_of start) program hosted.input writer_old writer_new
-  -- The step limit isn't what ended it where enough steps were given: where, on some input that begins with what was read, and is that where its end was told, the
-  -- image comes to the program's end by a number of steps up to the limit, whatever the store answers.
+  -- The step limit isn't what ended it where enough steps were given: where, on some input that begins with what was read, and is that where its
+  -- end was told, the image comes to the program's end by a number of steps up to the limit, whatever the store answers.
   pub limit : (more : List ℕ)
       → (Contains (run_steps (areas_of start) hosted.count (from (state_of start) hosted.input hosted.answers)).events (ByteRead None) → more ≡ [])
       → (fuel count : ℕ) → IsOver (source program (hosted.input ++ more) fuel).ending

@@ -4,6 +4,7 @@ use Rattle.std.proofs.Common.{◌≡◌, ℕ, Bool, true, false, Option, Some, N
 use Rattle.std.proofs.Common.{List, [], ◌∷◌, refl, sym, ◌∙◌, ap, arith, take, drop, length, true≢false}
 use Rattle.std.proofs.lemmas.List.{append_assoc, append-nil, length-drop, length-take, take-append-drop, take_rest}
 use Rattle.std.proofs.lemmas.Bool.Decides.{nat_tests}
+use Rattle.cyc_types.proofs.Outermost.{base_leads, base_outer}
 use Rattle.cyc_types.specs.Bases.{base_type}
 use Rattle.cyc_types.specs.Layers.{pointed, pointer_to}
 use Rattle.cyc_types.specs.Regions.{region_of, regions_of}
@@ -54,28 +55,6 @@ none_of at (Handle r) k = refl
 none_of at (Key r) k = refl
 none_of at (Struct tag rs) k = ap (λ fs. first_fixing fs k) (fit_none at rs)
 none_of at (Union tag rs) k = ap (λ fs. first_fixing fs k) (fit_none at rs)
-
-base_leads : (c : BaseType) → pointee_of (Some (base_type c)) ≡ None
-base_leads base.Int = refl
-base_leads base.Unsigned = refl
-base_leads base.Char = refl
-base_leads base.Void = refl
-base_leads base.Null = refl
-base_leads (base.Handle r) = refl
-base_leads (base.Key r) = refl
-base_leads (base.Struct tag rs) = refl
-base_leads (base.Union tag rs) = refl
-
-base_outer : (c : BaseType) → outer_region (Some (base_type c)) ≡ Missing
-base_outer base.Int = refl
-base_outer base.Unsigned = refl
-base_outer base.Char = refl
-base_outer base.Void = refl
-base_outer base.Null = refl
-base_outer (base.Handle r) = refl
-base_outer (base.Key r) = refl
-base_outer (base.Struct tag rs) = refl
-base_outer (base.Union tag rs) = refl
 
 -- a pointer's places in what is none
 module _ (at : ℕ) (c : BaseType) (t : StaticType) (k : ℕ) where

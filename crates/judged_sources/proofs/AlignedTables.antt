@@ -4,6 +4,7 @@ use Rattle.std.specs.Prelude.{◌*◌, ◌&&◌, ◌++◌, bytes_eq, if◌then�
 use Rattle.cyc_tree.specs.Tree as tree
 use Rattle.cyc_tree.specs.Tree.{Initial, Item}
 use Rattle.source_meaning.specs.Shapes.{Layout}
+use Rattle.source_typing.proofs.Parts.{each_as}
 use Rattle.source_typing.specs.Declarations.{can_be, converted_to, if_sized, stands_earlier, tag_earlier}
 use Rattle.source_typing.specs.Extents.{fits_bytes, is_named_before, layouts_of, layouts_onto, meant_first, size_by, variable_size}
 use Rattle.source_typing.specs.Functions.{head_of}
@@ -11,8 +12,8 @@ use Rattle.source_typing.specs.Globals.{constant, count_of, fitting_global, fore
 use Rattle.source_typing.specs.Globals.{initial_faults}
 use Rattle.source_typing.specs.Programs.{Judged, builtins, entries, entries_with, named}
 use Rattle.source_typing.specs.Scope.{Value, at_item}
-use Rattle.source_typing.specs.Tables.{Entry, Named, OfBuiltin, OfFunction, OfOther, OfTag, OfValue, Part, Tables, as_tag, begins, each_part, find}
-use Rattle.source_typing.specs.Tables.{has_beginning, if_known, parts_in, parts_of_tag}
+use Rattle.source_typing.specs.Tables.{Entry, Named, OfBuiltin, OfFunction, OfOther, OfTag, OfValue, Tables, as_tag, begins, each_part, find}
+use Rattle.source_typing.specs.Tables.{has_beginning, parts_in, parts_of_tag}
 use Rattle.source_typing.specs.Tags.{settled_alone}
 use Rattle.source_typing.specs.Types.{Char, Fat, Handle, Int, Key, Null, PartialType, StaticType, Struct, Thin, Union, Unique, Unsigned, Void}
 use Rattle.source_typing.specs.Types.{is_element, is_key, is_void}
@@ -137,17 +138,6 @@ layouts_same union g h k = layouts_onto_same union [] (meant_first [] g) (meant_
 
 -- ---- what has a beginning
 
-each_same : (f k : StaticType → Bool) (ps : List Part) → ((t : StaticType) → f t ≡ k t) → each_part f ps ≡ each_part k ps
-each_same f k [] e = refl
-each_same f k (p ∷ ps) e =
-    let a : if_known f p.type ≡ if_known k p.type = by p.type in
-    let b : each_part f ps ≡ each_part k ps = each_same f k ps e in
-    cc
-  where
-    by : (o : Option StaticType) → if_known f o ≡ if_known k o
-    by None = refl
-    by (Some t) = e t
-
 begins_same : (g h : Tables) → SameTags g h → (n : ℕ) (t : StaticType) → begins n g t ≡ begins n h t
 begins_same g h s n Int = refl
 begins_same g h s n Unsigned = refl
@@ -161,7 +151,7 @@ begins_same g h s n (Handle r) = refl
 begins_same g h s n (Key r) = refl
 begins_same g h s zero (Struct tag rs) = refl
 begins_same g h s (suc n) (Struct tag rs) =
-    ap (λ o. each_part (begins n g) (parts_of_tag o)) (s.regions tag) ∙ each_same (begins n g) (begins n h) (parts_in h tag) (λ t. begins_same g h s n t)
+    ap (λ o. each_part (begins n g) (parts_of_tag o)) (s.regions tag) ∙ each_as (begins n g) (begins n h) (parts_in h tag) (λ t. begins_same g h s n t)
 begins_same g h s n (Union tag rs) = refl
 
 pub beginning_same : (g h : Tables) (t : StaticType) → AreAligned g h → has_beginning g t ≡ has_beginning h t
@@ -200,7 +190,8 @@ module _ (g h : Tables) (k : AreAligned g h) (i : ℕ) where
   fitting_same : (at : ℕ) (c : Option ℕ) (native : Bool) (t : StaticType)
       → fitting_global (at_item false g i) at c native t ≡ fitting_global (at_item false h i) at c native t
   fitting_same at c native t =
-      ap (λ (b : Bool). after (if_fits ((native && not (is_key t) && b) && can_be (at_item false g i) c t) at t) (if_sized (fits_bytes (variable_size g c t)) at))
+      ap (λ (b : Bool). after (if_fits ((native && not (is_key t) && b) && can_be (at_item false g i) c t) at t)
+      (if_sized (fits_bytes (variable_size g c t)) at))
       (beginning_same g h t k)
       ∙ (ap (λ (b : Bool). after (if_fits ((native && not (is_key t) && has_beginning h t) && b) at t) (if_sized (fits_bytes (variable_size g c t)) at))
       (can_be_same g h i c t (same_tags g h k))
@@ -217,7 +208,8 @@ module _ (g h : Tables) (k : AreAligned g h) (i : ℕ) where
       let names : List RegionNamed = foreign_names (spots_of h x.of) in
       let s : SameTags g h = same_tags g h k in
       ap (λ (ss : List Spot). global_type_by (at_item false g i) x (foreign_names ss)) (spots_same g h x.of s)
-      ∙ (ap (λ (v : Verdict PartialType). after (after v (settled_alone x.of.at)) (fitting_global (at_item false g i) x.of.at (count_of x.initial) (has_none names)))
+      ∙ (ap (λ (v : Verdict PartialType). after (after v (settled_alone x.of.at))
+      (fitting_global (at_item false g i) x.of.at (count_of x.initial) (has_none names)))
       (written_same g h names x.of s)
       ∙ after_same (after (written h names x.of) (settled_alone x.of.at)) (fitting_global (at_item false g i) x.of.at (count_of x.initial) (has_none names))
       (fitting_global (at_item false h i) x.of.at (count_of x.initial) (has_none names))
@@ -260,5 +252,6 @@ entries_aligned h i (j ∷ js) (tree.FunctionItem f ∷ is) n =
     other_named (OfFunction (head_of false h f).signature) f.name j.entry (entries_with false h (suc i) js is) (entries js) tt n.0
     (entries_aligned h (suc i) js is n.1)
 
-pub tables_aligned : (h : Tables) (js : List Judged) (is : List Item) → AreNamed js is → AreAligned (builtins (entries_with false h 0 js is)) (builtins (entries js))
+pub tables_aligned : (h : Tables) (js : List Judged) (is : List Item) → AreNamed js is
+    → AreAligned (builtins (entries_with false h 0 js is)) (builtins (entries js))
 tables_aligned h js is n = (refl, (inl refl, (refl, (inl refl, entries_aligned h 0 js is n))))

@@ -1,11 +1,23 @@
 -- A global without fault: an object that has a beginning, whose type names no region but the heap.
 use Rattle.std.proofs.Common.{◌≡◌, ℕ, Bool, true, false, Option, Some, None, List, [], ◌∷◌, refl, sym, subst, ap, ◌∙◌}
 use Rattle.std.specs.Prelude.{◌&&◌, not}
+use Rattle.std.proofs.lemmas.Bool.{and_parts}
 use Rattle.cyc_tree.specs.Tree as tree
 use Rattle.cyc_tree.specs.Tree.{Initial, TypeName}
 use Rattle.source_typing.specs.Declarations.{what_after, what_of}
 use Rattle.source_typing.specs.Faults.{Fault}
-use Rattle.source_typing.specs.Globals.{count_of, fitting_global, foreign_names, global_entry, global_faults, global_type, has_none, if_clean, initial_faults, typed_size}
+use Rattle.source_typing.specs.Globals.{
+  count_of,
+  fitting_global,
+  foreign_names,
+  global_entry,
+  global_faults,
+  global_type,
+  has_none,
+  if_clean,
+  initial_faults,
+  typed_size,
+}
 use Rattle.source_typing.specs.Regions.{TheHeap}
 use Rattle.source_typing.specs.Scope.{Env, at_item}
 use Rattle.source_typing.specs.Tables.{OfValue, Stored, Tables, has_beginning}
@@ -15,7 +27,6 @@ use Rattle.source_typing.specs.Taken.{with_regions}
 use Rattle.source_typing.specs.Types.{StaticType, Void, is_key}
 use Rattle.source_typing.specs.Verdicts.{Faulty, Of, Unjudged, Verdict, after, faults_of}
 use Rattle.source_typing.specs.Written.{RegionNamed, Spot, spots_of, written}
-use Rattle.source_typing.proofs.Converting.{and_is}
 use Rattle.source_typing.proofs.Inversion.{none_of_both}
 use Rattle.judged_sources.specs.Good.{NamesBelow, Surely}
 use Rattle.judged_sources.proofs.Constants.{InitialGood, initial_good}
@@ -47,7 +58,7 @@ global_taken k g x t f p =
     let b : takes_type k x.of && takes_initial k x.initial ≡ true =
     if_taken (takes_type k x.of && takes_initial k x.initial) g x (initial_taken k x.of x.initial) e p in
     let c : (takes_type k x.of ≡ true) × (takes_initial k x.initial ≡ true) =
-    and_is (takes_type k x.of) (takes_initial k x.initial) b in
+    and_parts (takes_type k x.of) (takes_initial k x.initial) b in
     record { type = c.0; initial = c.1; form = subst (λ z. form_if z (initial_form k x.initial) ≡ []) b f }
 
 -- ---- types

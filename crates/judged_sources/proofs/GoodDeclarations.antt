@@ -1,6 +1,7 @@
 -- A declaration of a local or of a lexical region without fault, where all is known of each name in scope: it is in order, and all is known after it.
 use Rattle.std.proofs.Common.{◌≡◌, ℕ, Bool, true, false, None, [], refl, sym, subst, ap, ◌∙◌, arith}
 use Rattle.std.specs.Prelude.{◌&&◌, ◌++◌}
+use Rattle.std.proofs.lemmas.Bool.{and_parts}
 use Rattle.cyc_tree.specs.Operands.{DeclarationHasOperands, ExpressionHasOperands}
 use Rattle.cyc_tree.specs.Tree as tree
 use Rattle.cyc_tree.specs.Tree.{Expression, Initializer, TypeName}
@@ -24,7 +25,7 @@ use Rattle.source_typing.specs.Taken.{
 use Rattle.source_typing.specs.Taken.{with_regions}
 use Rattle.source_typing.specs.Types.{Handle, StaticType}
 use Rattle.source_typing.specs.Verdicts.{Of, Verdict, faults_of}
-use Rattle.source_typing.proofs.Converting.{and_is, broken_is, conversion_is}
+use Rattle.source_typing.proofs.Converting.{broken_is, conversion_is}
 use Rattle.source_typing.proofs.Inversion.{none_of_both}
 use Rattle.judged_sources.specs.Good.{ExpressionsJudged, IsGood, IsGoodValue, Surely}
 use Rattle.judged_sources.proofs.Sure.{surely_is}
@@ -156,7 +157,7 @@ module _ (expressions : ExpressionsJudged) where
   declaration_good (tree.Local u x i) g h t o p =
       let k = with_regions in
       let b = local_taken (takes_type k u && takes_initializer k i) g u.at (tree.Local u x (initializer_taken k i)) (tree.Local u x i) t p in
-      let c = and_is (takes_type k u) (takes_initializer k i) b in
+      let c = and_parts (takes_type k u) (takes_initializer k i) b in
       by i c.0 c.1 o p (subst (λ z. declared_if z u.at (tree.Local u x (initializer_taken k i)) ≡ tree.Local u x i) b t)
     where
       by : (i : Initializer) → takes_type with_regions u ≡ true → takes_initializer with_regions i ≡ true → DeclarationHasOperands (tree.Local u x i)

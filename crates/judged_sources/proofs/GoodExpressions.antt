@@ -41,6 +41,7 @@ use Rattle.judged_sources.proofs.GoodScopes.{good_inside}
 use Rattle.judged_sources.proofs.GoodOperators.{applied_judged, both_tested_judged, integer_judged, object_value}
 use Rattle.judged_sources.proofs.GoodPlaces.{arrow_judged, assigned_judged, member_judged, placed, prefixed_judged, valued}
 use Rattle.judged_sources.proofs.Sure.{surely_after, surely_also, surely_both, surely_fits}
+use Rattle.source_typing.proofs.TakenExpressions.{no_unique}
 
 -- an expression of the forms that are taken
 abbrev kept : Expression → Expression
@@ -269,11 +270,6 @@ module _ (g : Env) (good : IsGood g) where
 
 -- ---- handles
 
--- a handle that is none of the unique region stays so
-kept_handle : (b : Bool) (at : ℕ) (e : Expression) → is_unique_region e ≡ false → is_unique_region (if_taken b at e) ≡ false
-kept_handle true at e h = h
-kept_handle false at e h = refl
-
 not_unique : (e : Expression) → is_unique_region e ≡ false → is_unique_region (kept e) ≡ false
 not_unique (Expression.Number at n suffix) h = refl
 not_unique (Expression.Character at byte) h = refl
@@ -287,15 +283,15 @@ not_unique (Expression.MakeUnion tag f e) h = refl
 not_unique (Expression.NumElts at e) h = refl
 not_unique (Expression.Grouped at e) h = not_unique e h
 not_unique (Expression.Suffixed e es) h =
-    kept_handle (are_suffixed es && takes_suffixes with_regions es) (expression_place e) (Expression.Suffixed (kept e) (suffixes_taken with_regions es)) refl
-not_unique (Expression.Prefixed at o e) h = kept_handle (takes_prefix with_regions o) at (Expression.Prefixed at o (kept e)) refl
-not_unique (Expression.New at new) h = kept_handle (takes_made with_regions new) at (Expression.New at (made_taken with_regions new)) refl
+    no_unique (are_suffixed es && takes_suffixes with_regions es) (expression_place e) (Expression.Suffixed (kept e) (suffixes_taken with_regions es)) refl
+not_unique (Expression.Prefixed at o e) h = no_unique (takes_prefix with_regions o) at (Expression.Prefixed at o (kept e)) refl
+not_unique (Expression.New at new) h = no_unique (takes_made with_regions new) at (Expression.New at (made_taken with_regions new)) refl
 not_unique (Expression.NewIn at e new) h =
-    kept_handle (takes_handle with_regions (is_unique_region e) && takes_made with_regions new) at
+    no_unique (takes_handle with_regions (is_unique_region e) && takes_made with_regions new) at
     (Expression.NewIn at (kept e) (made_taken with_regions new)) refl
-not_unique (Expression.Chain e es) h = kept_handle (are_linked es) (expression_place e) (Expression.Chain (kept e) (links_taken with_regions es)) refl
-not_unique (Expression.AllOf e es) h = kept_handle (are_some es) (expression_place e) (Expression.AllOf (kept e) (all_taken with_regions es)) refl
-not_unique (Expression.AnyOf e es) h = kept_handle (are_some es) (expression_place e) (Expression.AnyOf (kept e) (all_taken with_regions es)) refl
+not_unique (Expression.Chain e es) h = no_unique (are_linked es) (expression_place e) (Expression.Chain (kept e) (links_taken with_regions es)) refl
+not_unique (Expression.AllOf e es) h = no_unique (are_some es) (expression_place e) (Expression.AllOf (kept e) (all_taken with_regions es)) refl
+not_unique (Expression.AnyOf e es) h = no_unique (are_some es) (expression_place e) (Expression.AnyOf (kept e) (all_taken with_regions es)) refl
 not_unique (Expression.Assign a b) h = refl
 
 -- a making in the region of a handle

@@ -25,10 +25,11 @@ use Rattle.source_typing.specs.Types.{Int, StaticType, Void, is_void}
 use Rattle.source_typing.specs.Ways.{ways_of_items}
 use Rattle.source_typing.proofs.Inversion.{none_of_both, own_is, test_is}
 use Rattle.judged_sources.specs.Good.{AllGood, BodiesJudged, IsGood, IsGoodEntry}
-use Rattle.judged_sources.proofs.GoodScopes.{good_local, one_more, regions_up}
+use Rattle.judged_sources.proofs.GoodScopes.{good_local, one_more}
 use Rattle.judged_sources.proofs.HeadTypes.{below_more, object_more}
 use Rattle.judged_sources.proofs.GoodTypes.{good_tags}
 use Rattle.judged_sources.proofs.Heads.{HeadGood, head_good}
+use Rattle.source_safety.proofs.Names.{names_up}
 use Rattle.source_safety.proofs.Parameters.{types_up}
 
 -- ---- the scope of its parameters
@@ -104,7 +105,7 @@ outside_good g i f a k =
     let n : ℕ = h.signature.regions in
     record {
       names = tables_more (n + 1) g a;
-      regions = regions_up n h.names k.names;
+      regions = names_up n h.names k.names;
       frame = omega arith;
       enclosing = record { region = TheHeap; is = refl; below = tt };
     }

@@ -2,6 +2,7 @@
 -- that of its initializer, or the heap.
 use Rattle.std.proofs.Common.{◌≡◌, ℕ, Bool, true, false, Option, Some, None, List, [], ◌∷◌, refl, sym, subst, ap, ◌∙◌}
 use Rattle.std.specs.Prelude.{◌&&◌, ◌||◌}
+use Rattle.std.proofs.lemmas.Bool.{and_parts}
 use Rattle.cyc_tree.specs.Tree.{TypeName}
 use Rattle.source_meaning.specs.Shapes as shapes
 use Rattle.source_meaning.specs.Shapes.{ThinShape}
@@ -19,7 +20,6 @@ use Rattle.source_typing.specs.Taken.{takes_type, with_regions}
 use Rattle.source_typing.specs.Types.{Handle, Char, Fat, Int, Null, PartialType, StaticType, Struct, Thin, Unique, Unsigned, Void, shape_of}
 use Rattle.source_typing.specs.Verdicts.{Of, after, if_fits}
 use Rattle.source_typing.specs.Written.{Found, Is, IsUnique, Missing}
-use Rattle.source_typing.proofs.Converting.{and_is}
 use Rattle.judged_sources.specs.Good.{IsGood, IsValueType, Surely}
 use Rattle.judged_sources.proofs.Sure.{surely_after, surely_also}
 use Rattle.judged_sources.proofs.GoodOperators.{object_value}
@@ -117,7 +117,7 @@ pub fitting_is : (g : Env) (at : ℕ) (count : Option ℕ) (fits : Bool) (t : St
 fitting_is g at count fits t = by (fits && can_be g count t) refl (fits_bytes (variable_size g.tables count t))
   where
     by : (b : Bool) → fits && can_be g count t ≡ b → (c : Bool) → Surely (λ u. IsFitting g count fits t u) (after (if_fits b at t) (if_sized c at))
-    by true e true = let a = and_is fits (can_be g count t) e in record { same = refl; fits_it = a.0; can = a.1 }
+    by true e true = let a = and_parts fits (can_be g count t) e in record { same = refl; fits_it = a.0; can = a.1 }
     by true e false = tt
     by false e c = tt
 
@@ -166,7 +166,8 @@ local_good g of at set s p (WritesNothing v e) k =
 pub unset_good : (g : Env) (t : TypeName) → IsGood g → takes_type with_regions t ≡ true → Surely (λ u. IsLocalType g t false u) (unset_type g t None)
 unset_good g t h e =
     surely_after (λ p. IsWritten g.regions.count t p) (λ u. IsLocalType g t false u) (type_in_scope g t) (local_type g t.at None false None)
-    (in_scope_good g.regions.count (in_scope g) g.names t (good_tags g.regions.count (in_scope g) h.names) h.regions e) (λ p w. local_good g t t.at false None p w tt)
+    (in_scope_good g.regions.count (in_scope g) g.names t (good_tags g.regions.count (in_scope g) h.names) h.regions e)
+    (λ p w. local_good g t t.at false None p w tt)
 
 from_good : (g : Env) (of : TypeName) (at : ℕ) (b : Bool) (v : Value) (p : PartialType) → SourceBelow g.regions.count (Some v.type)
     → IsWritten g.regions.count of p
@@ -178,7 +179,8 @@ pub set_good : (g : Env) (t : TypeName) (v : Value) → IsGood g → IsValueType
     → Surely (λ u. IsLocalType g t true u) (set_type g t (Of v))
 set_good g t v h k b e =
     surely_after (λ p. IsWritten g.regions.count t p) (λ u. IsLocalType g t true u) (type_in_scope g t) (taken_from g t.at (misses_region g t) (Of v))
-    (in_scope_good g.regions.count (in_scope g) g.names t (good_tags g.regions.count (in_scope g) h.names) h.regions e) (λ p w. from_good g t t.at (misses_region g t) v p (k, b) w)
+    (in_scope_good g.regions.count (in_scope g) g.names t (good_tags g.regions.count (in_scope g) h.names) h.regions e)
+    (λ p w. from_good g t t.at (misses_region g t) v p (k, b) w)
 
 -- ---- beginnings
 

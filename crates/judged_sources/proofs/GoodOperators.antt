@@ -1,6 +1,7 @@
 -- Operators on objects, `NULL` and nothing: what they give is a word and no place, or they are at fault.
 use Rattle.std.proofs.Common.{◌≡◌, ℕ, Bool, true, false, refl, sym, subst}
 use Rattle.std.specs.Prelude.{◌&&◌, ◌||◌, ◌++◌}
+use Rattle.std.proofs.lemmas.Bool.{and_parts}
 use Rattle.cyc_tree.specs.declared.expression.Operator.{Operator}
 use Rattle.cyc_tree.specs.declared.expression.Operator.TheVariants.{ShiftLeft}
 use Rattle.source_meaning.specs.Memory.{IntegerType}
@@ -44,7 +45,6 @@ use Rattle.source_typing.specs.Types.{
   is_testable,
 }
 use Rattle.source_typing.specs.Verdicts.{after, if_fits}
-use Rattle.source_typing.proofs.Converting.{and_is}
 use Rattle.source_safety.proofs.Entries.{object_plain}
 use Rattle.source_safety.proofs.Integers.{integer_is, on_integers_is}
 use Rattle.source_safety.proofs.Words.{integer_below, integer_object}
@@ -134,7 +134,7 @@ module _ (count : ℕ) (g : Env) where
   joined_judged : (b : Bool) (o : Operator) (at : ℕ) (t u : StaticType) → (is_integer t && is_integer u ≡ b) → IsValueType t → IsValueType u
       → Surely (λ v. IsGoodResult count v) (integers_joined b g o at t u)
   joined_judged true o at t u e h k =
-      let i : (is_integer t ≡ true) × (is_integer u ≡ true) = and_is (is_integer t) (is_integer u) e in
+      let i : (is_integer t ≡ true) × (is_integer u ≡ true) = and_parts (is_integer t) (is_integer u) e in
       integer_judged count at (on_integers o t u) (joined_integer o t u i.0 i.1)
   joined_judged false o at t u e h k = equality_judged (is_equality o) at t u h k
 

@@ -6,7 +6,7 @@ use Rattle.source_safety.specs.Entries.{IsObjectType}
 use Rattle.source_safety.specs.Judged.{extended}
 use Rattle.source_safety.specs.Named.{Below, TypeBelow}
 use Rattle.source_safety.proofs.Lexical.{lexical, names_with}
-use Rattle.source_safety.proofs.Names.{below_up}
+use Rattle.source_safety.proofs.Names.{below_up, names_up}
 use Rattle.source_safety.proofs.Surroundings.{type_up}
 use Rattle.source_typing.specs.Declarations.{name_added}
 use Rattle.source_typing.specs.Faults.{name_rule, test}
@@ -36,10 +36,6 @@ pub entries_up : (n : ℕ) (ns : Tables) → AllGood n ns → AllGood (n + 1) ns
 entries_up n [] h = tt
 entries_up n (x ∷ xs) h = (entry_up n x.entry h.0, entries_up n xs h.1)
 
-pub regions_up : (n : ℕ) (ns : List RegionNamed) → NamesBelow n ns → NamesBelow (n + 1) ns
-regions_up n [] h = tt
-regions_up n (x ∷ xs) h = (below_up n x.id h.0, regions_up n xs h.1)
-
 pub around_up : (n : ℕ) (i : Enclosing) → IsAround n i → IsAround (n + 1) i
 around_up n i h = record { region = h.region; is = h.is; below = below_up n h.region h.below }
 
@@ -49,7 +45,7 @@ around_up n i h = record { region = h.region; is = h.is; below = below_up n h.re
 pub good_block : (g : Env) → IsGood g → IsGood (block_entered g)
 good_block g h = record {
   names = entries_up g.regions.count (in_scope g) h.names;
-  regions = regions_up g.regions.count g.names h.regions;
+  regions = names_up g.regions.count g.names h.regions;
   frame = omega arith;
   enclosing = around_up g.regions.count g.enclosing h.enclosing;
 }
@@ -68,10 +64,10 @@ name_below n names x r false h k = (k, h)
 
 region_names : (r : tree.RegionName) (g : Env) → IsGood g → NamesBelow (g.regions.count + 1) (names_with r g)
 region_names (tree.Named x) g h =
-    name_below (g.regions.count + 1) g.names x (next_region g) (is_some (find_region g.names x.text)) (regions_up g.regions.count g.names h.regions)
+    name_below (g.regions.count + 1) g.names x (next_region g) (is_some (find_region g.names x.text)) (names_up g.regions.count g.names h.regions)
     (omega arith)
-region_names (tree.Heap at) g h = regions_up g.regions.count g.names h.regions
-region_names (tree.Unique at) g h = regions_up g.regions.count g.names h.regions
+region_names (tree.Heap at) g h = names_up g.regions.count g.names h.regions
+region_names (tree.Unique at) g h = names_up g.regions.count g.names h.regions
 
 pub good_region : (r : tree.RegionName) (g : Env) → IsGood g → IsGood (lexical g (names_with r g))
 good_region r g h = record {

@@ -1,7 +1,7 @@
 -- The type of a local of these forms that is in order: an object's, whose region names are in scope, with the shape that it has as it is written.
 use Rattle.std.proofs.Common.{◌≡◌, ℕ, zero, suc, Bool, true, false, Option, Some, None, List, [], ◌∷◌, refl, sym, subst, ap, ◌∙◌}
 use Rattle.std.specs.Prelude.{◌&&◌, ◌++◌, length, map}
-use Rattle.std.proofs.lemmas.Bool.{eqb-true, false≢true}
+use Rattle.std.proofs.lemmas.Bool.{eqb-true, false≢true, and_parts}
 use Rattle.std.proofs.lemmas.List.{length-map, length-replicate}
 use Rattle.cyc_tree.specs.declared.name.Sign.{Sign}
 use Rattle.cyc_tree.specs.declared.name.Sign.TheVariants as sign
@@ -45,7 +45,6 @@ use Rattle.source_typing.specs.Written.{
   written,
   written_with,
 }
-use Rattle.source_typing.proofs.Converting.{and_is}
 use Rattle.judged_sources.specs.Good.{AllGood, IsGoodEntry, NamesBelow, Surely}
 use Rattle.judged_sources.proofs.FoundRegions.{AreAllFound, AreFound, FoundBelow, base_arguments, spots_found}
 use Rattle.judged_sources.proofs.GoodNames.{MeansGood, found_good}
@@ -104,8 +103,8 @@ shared_region k u (Some (tree.Named x)) e = tt
 pub thin_pointers_are : (k : Taken) → k.arrays ≡ false → k.unique ≡ false → (ps : List Pointer) → takes_pointers k ps ≡ true → AreThin ps
 thin_pointers_are k a u [] e = tt
 thin_pointers_are k a u (p ∷ ps) e =
-    let c = and_is (takes_sign k p.sign && takes_region k p.region) (takes_pointers k ps) e in
-    let d = and_is (takes_sign k p.sign) (takes_region k p.region) c.0 in
+    let c = and_parts (takes_sign k p.sign && takes_region k p.region) (takes_pointers k ps) e in
+    let d = and_parts (takes_sign k p.sign) (takes_region k p.region) c.0 in
     ((thin_sign k a p.sign d.0, shared_region k u p.region d.1), thin_pointers_are k a u ps c.1)
 
 -- ---- a type as it is written, whose missing regions aren't found yet
@@ -242,7 +241,8 @@ no_pointer (p ∷ ps) (f ∷ fs) = refl
 -- ---- what is written
 
 -- an object's type; and `void`, which has no pointers
-object_written : (n : ℕ) (t : TypeName) (b : tree.Base) (o : Option PartialType) → AreThin t.pointers → PointedIfSome n (pointed t.pointers (shapes.base_shape b)) o
+object_written : (n : ℕ) (t : TypeName) (b : tree.Base) (o : Option PartialType) → AreThin t.pointers
+    → PointedIfSome n (pointed t.pointers (shapes.base_shape b)) o
     → Surely (λ p. IsWritten n (record { at = t.at; base = b; pointers = t.pointers }) p) (type_built t.at o)
 object_written n t b None k h = absurd h
 object_written n t b (Some p) k h = WritesObject (record { object = h.object; unowned = h.unowned; shape = h.shape })
@@ -265,7 +265,7 @@ pub written_good : (n : ℕ) (g : Tables) (t : TypeName) (fs : List Found) (bad 
     → AreAllFound n (length (base_spots g t.base)) t.pointers fs
     → Surely (λ p. IsWritten n t p) (written_with g t (fs, bad))
 written_good n g t fs bad tags e h =
-    let a = and_is (takes_base with_regions t.base) (takes_pointers with_regions t.pointers) e in
+    let a = and_parts (takes_base with_regions t.base) (takes_pointers with_regions t.pointers) e in
     by t.base a.0 (thin_pointers_are with_regions refl refl t.pointers a.1) h
   where
     with_base : tree.Base → TypeName
@@ -312,7 +312,7 @@ written_good n g t fs bad tags e h =
 pub in_scope_good : (n : ℕ) (g : Tables) (names : List RegionNamed) (t : TypeName) → KnowsTags g → NamesBelow n names
     → takes_type with_regions t ≡ true → Surely (λ p. IsWritten n t p) (written g names t)
 in_scope_good n g names t tags h e =
-    let a = and_is (takes_base with_regions t.base) (takes_pointers with_regions t.pointers) e in
+    let a = and_parts (takes_base with_regions t.base) (takes_pointers with_regions t.pointers) e in
     written_good n g t (all_found names (spots_of g t)).0 (all_found names (spots_of g t)).1 tags e
     (spots_found n names (base_spots g t.base) t.pointers h (base_arguments g t.base) (thin_pointers_are with_regions refl refl t.pointers a.1))
 

@@ -2,6 +2,7 @@
 -- before, or a fresh one.
 use Rattle.std.proofs.Common.{◌≡◌, ℕ, suc, ◌<◌, ◌≤◌, Bool, true, false, Option, Some, None, List, [], ◌∷◌, refl, sym, subst, ◌∙◌, arith}
 use Rattle.std.specs.Prelude.{bytes_eq, if◌then◌else◌, length, map, ◌||◌, ◌++◌}
+use Rattle.std.proofs.lemmas.Bool.{and_parts}
 use Rattle.cyc_tree.specs.Tree as tree
 use Rattle.cyc_tree.specs.Tree.{Pointer, TypeName}
 use Rattle.source_lowering.specs.Taken.{AreThin, IsSharedRegion, IsVoidBase, IsVoidType}
@@ -19,7 +20,6 @@ use Rattle.source_typing.specs.Taken.{takes_base, takes_pointers, takes_type, wi
 use Rattle.source_typing.specs.Types.{Handle, Char, Int, PartialType, StaticType, Struct, Thin, Unsigned, Void, is_void, shape_of}
 use Rattle.source_typing.specs.Verdicts.{after, if_fits}
 use Rattle.source_typing.specs.Written.{Found, Is, IsUnique, Missing, RegionNamed, Spot, base_spots, find_region, spot, spots_of, written, written_with}
-use Rattle.source_typing.proofs.Converting.{and_is}
 use Rattle.judged_sources.specs.Good.{NamesBelow, Surely}
 use Rattle.judged_sources.proofs.FoundRegions.{AreAllFound, AreArguments, FoundBelow, base_arguments}
 use Rattle.judged_sources.proofs.GoodTypes.{IsWritten, KnowsTags, RegionBelow, WritesNothing, WritesObject, in_scope_good}
@@ -130,7 +130,7 @@ spots_good vs (s ∷ ss) ps a k h =
 pub type_spots_good : (g : Tables) (vs : Variables) (t : TypeName) → takes_type with_regions t ≡ true → NamesBelow vs.count vs.names
     → SpotsGood vs (length (base_spots g t.base)) t.pointers (take_spots vs (spots_of g t))
 type_spots_good g vs t e h =
-    let a = and_is (takes_base with_regions t.base) (takes_pointers with_regions t.pointers) e in
+    let a = and_parts (takes_base with_regions t.base) (takes_pointers with_regions t.pointers) e in
     spots_good vs (base_spots g t.base) t.pointers (base_arguments g t.base) (thin_pointers_are with_regions refl refl t.pointers a.1) h
 
 -- ---- a type that takes no missing regions from another one

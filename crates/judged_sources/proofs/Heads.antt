@@ -12,7 +12,21 @@ use Rattle.source_safety.specs.Named.{AllBelow, Below, BoundsBelow, TypesBelow}
 use Rattle.source_typing.specs.Faults.{Fault, is_clean, own_after, test, type_rule}
 use Rattle.source_typing.specs.Functions.{AllSpotted, Parameters, Reading, Variables, all_faults, all_of, and_known, and_parameter, bounds_of, effect_of}
 use Rattle.source_typing.specs.Functions.{effect_region, head_after, if_no_key, pair_of, used_named, used_region}
-use Rattle.source_typing.specs.Functions.{Head, body_scope, end_reached, function_faults, head_judged, head_of, if_parameter, if_result, is_main, key_regions, levels_but, main_faults, main_form}
+use Rattle.source_typing.specs.Functions.{
+  Head,
+  body_scope,
+  end_reached,
+  function_faults,
+  head_judged,
+  head_of,
+  if_parameter,
+  if_result,
+  is_main,
+  key_regions,
+  levels_but,
+  main_faults,
+  main_form,
+}
 use Rattle.source_typing.specs.Functions.{parameter_type, read_parameters, result_type, take_spots, variables}
 use Rattle.source_typing.specs.Regions.{Level, Region, is_among}
 use Rattle.source_typing.specs.Statements.{items_faults}
@@ -28,18 +42,15 @@ use Rattle.source_typing.proofs.Inversion.{none_of_both, of_is, own_is, test_is}
 use Rattle.judged_sources.specs.Good.{IsGoodSignature, NamesBelow}
 use Rattle.judged_sources.proofs.HeadTypes.{PlainGood, ResultGood, SpotsGood, ObjectGood, parameter_good, result_facts, result_good}
 use Rattle.judged_sources.proofs.HeadTypes.{find_below, type_spots_good, object_more}
+use Rattle.judged_sources.proofs.MemberTypes.{AreMembersTaken}
 use Rattle.judged_sources.proofs.GoodTypes.{KnowsTags, RegionBelow}
 use Rattle.judged_sources.proofs.Sure.{surely_is}
 
 -- ---- what isn't taken is at fault
 
-abbrev pub AreTaken : Taken → List tree.Member → Type 0
-AreTaken k [] = Unit {0}
-AreTaken k (m ∷ ms) = (takes_type k m.of ≡ true) × AreTaken k ms
-
 -- a head whose types are taken
 pub record HeadTaken (k : Taken) (f : tree.Function) : Type 0 where
-  pub parameters : AreTaken k f.parameters
+  pub parameters : AreMembersTaken k f.parameters
   pub result : takes_type k f.result ≡ true
 
 parameter_taken : (b : Bool) (g : Tables) (vs : Variables) (t : TypeName) → (if b then t else refused_type t.at) ≡ t
@@ -53,7 +64,7 @@ parameter_taken false g vs t e p = absurd (by (subst (λ z. faults_of (parameter
 
 parameters_taken : (k : Taken) (g : Tables) (vs : Variables) (ms : List tree.Member) → members_taken k ms ++ [] ≡ ms
     → all_faults (read_parameters g vs ms).types ≡ []
-    → AreTaken k ms
+    → AreMembersTaken k ms
 parameters_taken k g vs [] e p = tt
 parameters_taken k g vs (m ∷ ms) e p =
     let f : member_taken k m ≡ m = cc in
@@ -145,7 +156,7 @@ pub record ParametersGood (vs : Variables) (ms : List tree.Member) (ps : Paramet
   pub names : NamesBelow ps.variables_after.count ps.variables_after.names
   pub more : vs.count ≤ ps.variables_after.count
 
-parameters_good : (g : Tables) (vs : Variables) (ms : List tree.Member) → KnowsTags g → AreTaken with_regions ms → NamesBelow vs.count vs.names
+parameters_good : (g : Tables) (vs : Variables) (ms : List tree.Member) → KnowsTags g → AreMembersTaken with_regions ms → NamesBelow vs.count vs.names
     → all_faults (read_parameters g vs ms).types ≡ []
     → ParametersGood vs ms (read_parameters g vs ms)
 parameters_good g vs [] tags t h p =

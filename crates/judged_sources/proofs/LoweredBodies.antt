@@ -1,6 +1,7 @@
 -- Declarations and statements without fault, where all is known of each name in scope: lowering takes them.
 use Rattle.std.proofs.Common.{◌≡◌, ℕ, suc, Bool, true, false, Some, None, List, [], ◌∷◌, refl, sym, subst, ap, ◌∙◌}
 use Rattle.std.specs.Prelude.{◌&&◌, ◌++◌}
+use Rattle.std.proofs.lemmas.Bool.{and_parts}
 use Rattle.cyc_tree.specs.Tree as tree
 use Rattle.cyc_tree.specs.Tree.{BlockItems, Declare, Execute, Expression, Initializer, NoItems, Statement, TypeName}
 use Rattle.source_lowering.specs.Lowerable.{Takes, TakesDeclaration, TakesItems, TakesStatement, TakesValue, HasBeginning}
@@ -23,7 +24,6 @@ use Rattle.source_typing.specs.Types.{Char, Fat, Handle, Int, Key, Null, StaticT
 use Rattle.source_typing.specs.Verdicts.{after, faults_of}
 use Rattle.source_typing.specs.Ways.{ways_of}
 use Rattle.source_typing.specs.Written.{all_found, spots_of}
-use Rattle.source_typing.proofs.Converting.{and_is}
 use Rattle.source_typing.proofs.Inversion.{none_of_both}
 use Rattle.judged_sources.proofs.GoodDeclarations.{local_taken}
 use Rattle.judged_sources.proofs.Known.{IsKnown, IsKnownValue, IsWord, converts_struct, converts_word, testable_word}
@@ -162,7 +162,7 @@ module _ (w : World) where
   declaration_takes (tree.Local u x i) names index g scope t j p =
       let k = with_regions in
       let b = local_taken (takes_type k u && takes_initializer k i) g u.at (tree.Local u x (initializer_taken k i)) (tree.Local u x i) t p in
-      let c = and_is (takes_type k u) (takes_initializer k i) b in
+      let c = and_parts (takes_type k u) (takes_initializer k i) b in
       by i c.0 j p (subst (λ z. declared_if z u.at (tree.Local u x (initializer_taken k i)) ≡ tree.Local u x i) b t)
     where
       by : (i : Initializer) → takes_type with_regions u ≡ true → DeclarationJudged g (tree.Local u x i) → (declare g (tree.Local u x i)).faults ≡ []

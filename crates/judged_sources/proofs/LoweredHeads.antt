@@ -23,7 +23,8 @@ use Rattle.source_typing.specs.Written.{RegionNamed, all_found, spots_of}
 use Rattle.source_typing.proofs.Inversion.{after_is, none_of_both, of_is}
 use Rattle.judged_sources.proofs.Globals.{GlobalGood, GlobalTaken, global_taken}
 use Rattle.judged_sources.proofs.GoodFunctions.{FunctionGood, all_result}
-use Rattle.judged_sources.proofs.Heads.{AreTaken, HeadClean, HeadGood, HeadTaken, head_clean, head_taken}
+use Rattle.judged_sources.proofs.MemberTypes.{AreMembersTaken}
+use Rattle.judged_sources.proofs.Heads.{HeadClean, HeadGood, HeadTaken, head_clean, head_taken}
 use Rattle.judged_sources.proofs.Known.{IsKnown, IsWord}
 use Rattle.judged_sources.proofs.LoweredBodies.{items_takes}
 use Rattle.judged_sources.proofs.LoweredForms.{AreKnown, AreWords, IsGiven, IsKnownScope}
@@ -70,7 +71,7 @@ module _ (structs : List Layout) (g : Tables) (tags : TagsThere structs g) where
     pub words : AreWords ts
     pub known : AreKnown structs ts
 
-  parameters_lowered : (vs : Variables) (ms : List tree.Member) (ts : List StaticType) → AreTaken with_regions ms
+  parameters_lowered : (vs : Variables) (ms : List tree.Member) (ts : List StaticType) → AreMembersTaken with_regions ms
       → all_faults (read_parameters g vs ms).types ≡ [] → map known (read_parameters g vs ms).types ≡ map (λ (t : StaticType). Some t) ts
       → part_shapes (map part_of ms) ≡ map (λ (t : StaticType). shape_of t) ts → AreObjects ts → ParametersLowered ms ts
   parameters_lowered vs [] [] k p q s o = record { takes = tt; words = tt; known = tt }

@@ -1,5 +1,6 @@
 -- A type that is taken, whose tag is one of the program's: each struct in its shape is one too, and lowering takes the type.
 use Rattle.std.proofs.Common.{◌≡◌, ℕ, true, false, Option, Some, None, List, [], ◌∷◌, refl, sym, subst}
+use Rattle.std.proofs.lemmas.Bool.{and_parts}
 use Rattle.cyc_tree.specs.declared.name.Sign.{Sign}
 use Rattle.cyc_tree.specs.declared.name.Sign.TheVariants as sign
 use Rattle.cyc_tree.specs.Tree as tree
@@ -37,7 +38,6 @@ use Rattle.source_typing.specs.Taken.{with_regions, takes_base, takes_pointers, 
 use Rattle.source_typing.specs.Types.{Char, Handle, Int, PartialType, StaticType, Struct, Thin, Unsigned, Void, shape_of}
 use Rattle.source_typing.specs.Verdicts.{Faulty, Verdict, after, faults_of}
 use Rattle.source_typing.specs.Written.{Found, tag_of, written_on, written_with}
-use Rattle.source_typing.proofs.Converting.{and_is}
 use Rattle.judged_sources.proofs.GoodTypes.{owner_shared, signed_open, thin_pointers_are}
 use Rattle.judged_sources.proofs.Known.{IsKnown, IsWord, word_shape}
 use Rattle.judged_sources.proofs.LoweredForms.{IsGiven}
@@ -144,7 +144,7 @@ module _ (structs : List Layout) where
   -- what is written of a type that is taken
   pub type_reached : (t : TypeName) → takes_type with_regions t ≡ true → BaseThere structs t.base → IsReached structs (settled (written t))
   type_reached t e h =
-      let a = and_is (takes_base with_regions t.base) (takes_pointers with_regions t.pointers) e in
+      let a = and_parts (takes_base with_regions t.base) (takes_pointers with_regions t.pointers) e in
       all_reached t.pointers (base_shape t.base) (thin_pointers_are with_regions refl refl t.pointers a.1) (by t.base a.0 h)
     where
       by : (b : tree.Base) → takes_base with_regions b ≡ true → BaseThere structs b → IsReached structs (settled (base_shape b))
@@ -189,7 +189,7 @@ module _ (structs : List Layout) where
   pub object_type : (t : TypeName) (u : StaticType) → takes_type with_regions t ≡ true → BaseThere structs t.base → IsObjectType u
       → settled (written t) ≡ shape_of u → lowering.IsObjectType structs t
   object_type t u e h o s =
-      let a = and_is (takes_base with_regions t.base) (takes_pointers with_regions t.pointers) e in
+      let a = and_parts (takes_base with_regions t.base) (takes_pointers with_regions t.pointers) e in
       let k : IsKnown structs (settled (written t)) = subst (λ z. IsKnown structs z) (sym s) (written_known t u e h o s) in
       record {
         pointers = thin_pointers_are with_regions refl refl t.pointers a.1;
@@ -221,7 +221,7 @@ no_int _ h e = h
 
 void_written : (t : TypeName) → takes_type with_regions t ≡ true → settled (written t) ≡ VoidShape → IsVoidType t
 void_written t e s =
-    let a = and_is (takes_base with_regions t.base) (takes_pointers with_regions t.pointers) e in
+    let a = and_parts (takes_base with_regions t.base) (takes_pointers with_regions t.pointers) e in
     by t.base t.pointers a.0 (thin_pointers_are with_regions refl refl t.pointers a.1) s
   where
     by : (b : tree.Base) (ps : List Pointer) → takes_base with_regions b ≡ true → AreThin ps
@@ -238,7 +238,7 @@ void_written t e s =
 
 pub int_written : (t : TypeName) → takes_type with_regions t ≡ true → settled (written t) ≡ IntShape → IsIntType t
 int_written t e s =
-    let a = and_is (takes_base with_regions t.base) (takes_pointers with_regions t.pointers) e in
+    let a = and_parts (takes_base with_regions t.base) (takes_pointers with_regions t.pointers) e in
     by t.base t.pointers a.0 (thin_pointers_are with_regions refl refl t.pointers a.1) s
   where
     by : (b : tree.Base) (ps : List Pointer) → takes_base with_regions b ≡ true → AreThin ps
@@ -280,7 +280,7 @@ begins_first g _ o e = absurd o
 -- an owner that a type leaves open isn't unique
 pub type_open : (t : TypeName) → takes_type with_regions t ≡ true → IsOpen (written t)
 type_open t e =
-    let a = and_is (takes_base with_regions t.base) (takes_pointers with_regions t.pointers) e in
+    let a = and_parts (takes_base with_regions t.base) (takes_pointers with_regions t.pointers) e in
     all_open t.pointers (base_shape t.base) (thin_pointers_are with_regions refl refl t.pointers a.1) (by t.base a.0)
   where
     all_open : (ps : List Pointer) (s : Shape) → AreThin ps → IsOpen s → IsOpen (pointed ps s)

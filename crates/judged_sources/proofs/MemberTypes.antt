@@ -1,6 +1,7 @@
 -- The members of a struct without fault: they are objects, and a struct among them stands earlier.
 use Rattle.std.proofs.Common.{◌≡◌, ℕ, Bool, true, false, Option, Some, None, List, [], ◌∷◌, refl, sym, subst, ap, ◌∙◌}
 use Rattle.std.specs.Prelude.{◌&&◌, if◌then◌else◌, map}
+use Rattle.std.proofs.lemmas.Bool.{and_parts}
 use Rattle.cyc_tree.specs.declared.name.Sign.{Sign}
 use Rattle.cyc_tree.specs.declared.name.Sign.TheVariants as sign
 use Rattle.cyc_tree.specs.Tree as tree
@@ -21,7 +22,6 @@ use Rattle.source_typing.specs.Taken.{Taken, members_taken, member_taken, refuse
 use Rattle.source_typing.specs.Types.{Char, Fat, Handle, Int, Key, Null, StaticType, Struct, Thin, Union, Unique, Unsigned, Void, shape_of}
 use Rattle.source_typing.specs.Verdicts.{Faulty, Of, Verdict, after, faults_of, if_fits, known}
 use Rattle.source_typing.specs.Written.{Found, all_found, spots_of, tag_of, written, written_on}
-use Rattle.source_typing.proofs.Converting.{and_is}
 use Rattle.source_typing.proofs.Inversion.{none_of_both}
 use Rattle.judged_sources.specs.Good.{NamesBelow, Surely}
 use Rattle.judged_sources.proofs.GoodTypes.{IsWritten, KnowsTags, MeansKnown, in_scope_good, thin_pointers_are}
@@ -62,7 +62,7 @@ member_fits n g at t u (GivesNothing v e) = subst (λ z. Surely (λ y. MemberGoo
 member_fits n g at t u (GivesObject w) = by (fits_member false u && stands_earlier g u) refl
   where
     by : (b : Bool) → fits_member false u && stands_earlier g u ≡ b → Surely (λ z. MemberGood n g t z) (if_fits b at u)
-    by true e = record { good = w; stands = (and_is (fits_member false u) (stands_earlier g u) e).1 }
+    by true e = record { good = w; stands = (and_parts (fits_member false u) (stands_earlier g u) e).1 }
     by false e = tt
 
 pub member_good : (n : ℕ) (g : Env) (t : TypeName) → KnowsTags g.tables → NamesBelow n g.names → takes_type with_regions t ≡ true
@@ -94,7 +94,8 @@ no_struct (ThinShape b o s) tag h e = cc
 no_struct _ tag h e = h
 
 -- a name that is no tag is at fault
-tag_found : (g : Tables) (at : ℕ) (y : List ℕ) (rest : Verdict ℕ → Verdict StaticType) → ((f : Fault) (fs : List Fault) → faults_of (rest (Faulty f fs)) ≡ [] → ⊥)
+tag_found : (g : Tables) (at : ℕ) (y : List ℕ) (rest : Verdict ℕ → Verdict StaticType)
+    → ((f : Fault) (fs : List Fault) → faults_of (rest (Faulty f fs)) ≡ [] → ⊥)
     → KnowsTags g → faults_of (rest (tag_of (find g y) false at)) ≡ [] → (t : Tag) × (find g y ≡ Some (OfTag t))
 tag_found g at y rest faulty tags p = by (find g y) refl (tags y) p
   where
@@ -113,13 +114,14 @@ tag_found g at y rest faulty tags p = by (find g y) refl (tags y) p
 abbrev member_after : Env → TypeName → List Found × List Fault → Verdict ℕ → Verdict StaticType
 member_after g t (fs, bad) v = after (after (written_on t fs bad v) (settled_alone t.at)) (member_fitting g false t.at)
 
-member_faulty : (g : Env) (t : TypeName) (fs : List Found × List Fault) (f : Fault) (others : List Fault) → faults_of (member_after g t fs (Faulty f others)) ≡ [] → ⊥
+member_faulty : (g : Env) (t : TypeName) (fs : List Found × List Fault) (f : Fault) (others : List Fault)
+    → faults_of (member_after g t fs (Faulty f others)) ≡ [] → ⊥
 member_faulty g t (fs, bad) f others p = cc
 
 struct_found : (g : Env) (t : TypeName) (tag : List ℕ) → KnowsTags g.tables → takes_type with_regions t ≡ true
     → shapes.settled (shapes.written t) ≡ StructShape tag → faults_of (member_type g false t) ≡ [] → (z : Tag) × (find g.tables tag ≡ Some (OfTag z))
 struct_found g t tag tags e s p =
-    let a = and_is (takes_base with_regions t.base) (takes_pointers with_regions t.pointers) e in
+    let a = and_parts (takes_base with_regions t.base) (takes_pointers with_regions t.pointers) e in
     by t.base t.pointers a.0 (thin_pointers_are with_regions refl refl t.pointers a.1) s p
   where
     named : (x : tree.Name) → x.text ≡ tag → (z : Tag) × (find g.tables x.text ≡ Some (OfTag z)) → (z : Tag) × (find g.tables tag ≡ Some (OfTag z))

@@ -5,6 +5,7 @@ use Rattle.cyc_tree.specs.Tree.{BlockItems, Expression}
 use Rattle.source_safety.specs.Entries.{AreObjects, IsObjectType, IsPlain}
 use Rattle.source_safety.specs.Judged.{ItemsJudged}
 use Rattle.source_safety.specs.Named.{Below, TypeBelow, TypesBelow}
+pub use Rattle.source_safety.specs.Named.{NamesBelow}
 use Rattle.source_typing.specs.Expressions.{judge}
 use Rattle.source_typing.specs.Regions.{Region}
 use Rattle.source_typing.specs.Scope.{Enclosing, Env, In, InBlock, InRegion, Nowhere, Seat, Value, in_scope, is_place}
@@ -14,7 +15,6 @@ use Rattle.source_typing.specs.Tables.{Entry, OfBuiltin, OfFunction, OfTag, OfVa
 use Rattle.source_typing.specs.Taken.{items_taken, with_regions, taken}
 use Rattle.source_typing.specs.Types.{Null, StaticType, Void}
 use Rattle.source_typing.specs.Verdicts.{Faulty, Of, Unjudged, Verdict}
-use Rattle.source_typing.specs.Written.{RegionNamed}
 
 -- ---- names
 
@@ -50,11 +50,6 @@ IsGoodEntry count _ = ⊥
 abbrev pub AllGood : ℕ → Tables → Type 0
 AllGood count [] = Unit {0}
 AllGood count (n ∷ ns) = IsGoodEntry count n.entry × AllGood count ns
-
--- each region name stands for a region that is in scope
-abbrev pub NamesBelow : ℕ → List RegionNamed → Type 0
-NamesBelow count [] = Unit {0}
-NamesBelow count (n ∷ ns) = Below count n.id × NamesBelow count ns
 
 -- the region of the `rnew` around, or the heap: one that is in scope
 pub record IsAround (count : ℕ) (i : Enclosing) : Type 0 where

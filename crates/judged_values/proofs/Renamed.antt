@@ -2,6 +2,7 @@
 use Rattle.std.specs.Prelude.{map, slice_get, ◌++◌}
 use Rattle.std.proofs.Common.{◌≡◌, ◌<◌, ◌+◌, ℕ, zero, suc, Option, Some, None, List, [], ◌∷◌, refl, sym, ◌∙◌, ap, take, get_or, length}
 use Rattle.std.proofs.lemmas.List.{map-append, take_more}
+use Rattle.cyc_types.proofs.Converting.{pointed_more}
 use Rattle.cyc_types.specs.Layers.{pointed, pointer_to}
 use Rattle.cyc_types.specs.Regions.{region_of, regions_of}
 use Rattle.cyc_types.specs.declared.layer.Layer.{Layer}
@@ -34,10 +35,6 @@ more_renamed f old i all r d h was e =
     ∙ ap (λ q. map f (regions_of (take i old)) ++ q ∷ []) e
     ∙ sym (ap (map f) (map-append region_of (take i old) (get_or old i d ∷ [])) ∙ map-append f (regions_of (take i old)) (region_of (get_or old i d) ∷ []))
     ∙ ap (λ rs. map f (regions_of rs)) (sym (take_more old i d h))
-
-pointed_more : (ls : List Layer) (t : StaticType) (l : Layer) → pointed t (ls ++ l ∷ []) ≡ pointer_to l (pointed t ls)
-pointed_more [] t l = refl
-pointed_more (k ∷ ks) t l = pointed_more ks (pointer_to k t) l
 
 -- one more pointer
 pub more_pointers : (f : Region → Region) (old : List Layer) (i : ℕ) (all : List Layer) (l d : Layer) (t : StaticType) → i < length old

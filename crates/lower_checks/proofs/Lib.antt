@@ -3,7 +3,7 @@ mod Bodies
 mod Items
 mod Linking
 mod Lists
-mod Lowerable
+pub mod Lowerable
 mod Parts
 mod Pointers
 mod Promised

@@ -1,6 +1,6 @@
 -- A member that the code reaches is the one by the definition.
-use Rattle.std.proofs.Common.{◌≡◌, ◌∙◌, ℕ, ◌+◌, refl, ap, subst, Bool, true, false, List, [], ◌∷◌, ◌++◌, if◌then◌else◌}
-use Rattle.std.specs.Prelude.{bytes_eq}
+use Rattle.std.proofs.Common.{◌≡◌, ◌∙◌, ℕ, ◌+◌, ap, subst, false, List, [], ◌∷◌, ◌++◌}
+use Rattle.source_meaning.proofs.Layouts.{no_parts}
 use Rattle.source_meaning.specs.Shapes.{Shape, VoidShape, Part, Layout, has_tag, parts_of, part_shape}
 use Rattle.source_lowering.specs.Lowerable.{IsObject}
 use Rattle.source_meaning.specs.Sizes.{cells_before}
@@ -34,14 +34,7 @@ reached_is w s pointer cells bytes f d r shape_is cells_is bytes_is =
     ∙ ap (λ n. left_at (member_shape w s f) pointer n r.bytes d) cells_is
     ∙ ap (λ n. left_at (member_shape w s f) pointer more_cells n d) bytes_is
 
-no_parts_if : (own other : List Part) (has is : Bool) → (has ≡ false → other ≡ []) → (if is then true else has) ≡ false → (if is then own else other) ≡ []
-no_parts_if own other has true more none = absurd cc none
-no_parts_if own other has false more none = more none
-
 -- where no struct has a tag, none of its members is an object
-no_parts : (structs : List Layout) (tag : List ℕ) → has_tag structs tag ≡ false → parts_of structs tag ≡ []
-no_parts [] tag none = refl
-no_parts (l ∷ ls) tag none = no_parts_if l.parts (parts_of ls tag) (has_tag ls tag) (bytes_eq l.tag tag) (no_parts ls tag) none
 
 pub no_member : (structs : List Layout) (tag f : List ℕ) → has_tag structs tag ≡ false → part_shape (parts_of structs tag) f ≡ VoidShape
 no_member structs tag f none = ap (λ (ps : List Part). part_shape ps f) (no_parts structs tag none)

@@ -1,6 +1,6 @@
 -- What is promised of the Core that a program is lowered to.
 use Rattle.std.specs.Prelude.{◌≡◌, ℕ, ◌+◌, ◌*◌, ◌≤◌, List, Some, slice_get, length}
-use Rattle.cyc_words.specs.Events.{SourceEnding}
+use Rattle.cyc_words.specs.Events.{AreBytes, SourceEnding}
 use Rattle.cyc_tree.specs.Tree.{Program}
 use Rattle.cyc_parser.specs.Phrases.{Tokens}
 use Rattle.cyc_parser.specs.Grammar.{IsProgram}
@@ -8,7 +8,7 @@ use Rattle.source_meaning.specs.Steps.{Routine}
 use Rattle.source_meaning.specs.Programs.{source, world_of}
 use Rattle.core_meaning.specs.Core as core
 use Rattle.core_meaning.specs.Meaning as meaning
-use Rattle.source_lowering.specs.Agreeing.{SameOutcome, AreBytes}
+use Rattle.source_lowering.specs.Agreeing.{SameOutcome}
 use Rattle.source_lowering.specs.Bounds.{core_bound, core_code, frame_bound, regions_left}
 
 -- no run of the source on an input is stuck

@@ -4,6 +4,7 @@ use Rattle.std.specs.List.{list_all}
 use Rattle.std.proofs.lemmas.Nat.{and_mask, and_block}
 use Rattle.std.proofs.lemmas.Bool.{eqb-true, ne_eqb, and_parts, or_cases, ltb-true, not-true}
 use Rattle.std.proofs.lemmas.Bool.Decides.{nat_tests}
+use Rattle.std.proofs.Math.Bool.{and-false}
 use Rattle.rv32_isa.specs.Table.{Row, rows, first_match, decoded}
 use Rattle.rv32_isa.specs.declared.instruction.Instr.{Instr}
 
@@ -179,14 +180,10 @@ other_rows w fits a b d e f g h i j k l =
     let none : is_no_opcode (w % 128) rows ≡ true = simp (ne_eqb _ _ a, ne_eqb _ _ b, ne_eqb _ _ d, ne_eqb _ _ e, ne_eqb _ _ f, ne_eqb _ _ g, ne_eqb _ _ h, ne_eqb _ _ i, ne_eqb _ _ j, ne_eqb _ _ k, ne_eqb _ _ l) in
     decoded_by_fields w fits ∙ no_row (w % 128) (w / 4096 % 8) (w / 33554432) w rows none
 
-and_false : (b : Bool) → (b && false) ≡ false
-and_false true = refl
-and_false false = refl
-
 -- a word of the registers' opcode with any other funct7 is no instruction
 pub register_none_rows : (w : ℕ) → w < 2 ^ 32 → w % 128 ≡ 0x33 → (w / 33554432 % 128 ≡ 0 → ⊥) → (w / 33554432 % 128 ≡ 1 → ⊥) → (w / 33554432 % 128 ≡ 32 → ⊥) → decoded w ≡ None
 register_none_rows w fits a b d e =
     let b' : w / 33554432 ≡ 0 → ⊥ = λ h. b (omega arith) in
     let d' : w / 33554432 ≡ 1 → ⊥ = λ h. d (omega arith) in
     let e' : w / 33554432 ≡ 32 → ⊥ = λ h. e (omega arith) in
-    register_rows w fits a ∙ simp (ne_eqb _ _ b', ne_eqb _ _ d', ne_eqb _ _ e', and_false)
+    register_rows w fits a ∙ simp (ne_eqb _ _ b', ne_eqb _ _ d', ne_eqb _ _ e', and-false)

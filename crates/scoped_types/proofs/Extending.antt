@@ -3,6 +3,7 @@ use Rattle.std.specs.Prelude.{length, nat_eq, nat_lt, slice_get, ◌&&◌, ◌||
 use Rattle.std.proofs.Common.{◌≡◌, ℕ, zero, suc, ◌+◌, ◌<◌, ◌≤◌, Bool, true, false, Option, Some, None, List, [], ◌∷◌, refl, sym, ◌∙◌, ap, subst, arith}
 use Rattle.std.proofs.lemmas.Bool.Decides.{nat_tests}
 use Rattle.std.proofs.lemmas.Option.{slice_get_past}
+use Rattle.source_safety.proofs.Names.{all_up, below_up}
 use Rattle.source_safety.specs.Named.{AllBelow, Below, BoundsBelow}
 use Rattle.source_typing.specs.Regions.{Level, Region, Regions, TheHeap, by_bounds, is_among, opened, reaches, same_id, with_name, with_scope}
 use Rattle.scoped_types.specs.Begun.{begins_live, is_over_heap, is_over_later}
@@ -77,16 +78,6 @@ pub not_reached : (n : ℕ) (bs : List (Region × Region)) → BoundsBelow n bs 
 not_reached n bs b zero k r l e = e
 not_reached n bs b (suc m) k r l e =
     ap (λ c. c || by_bounds bs (Level k) (λ c. reaches m bs c r)) e ∙ no_bound n bs b k l (λ c. reaches m bs c r)
-
--- ---- those that are in scope stay there
-
-pub below_later : (n : ℕ) (r : Region) → Below n r → Below (n + 1) r
-below_later n TheHeap h = tt
-below_later n (Level k) h = grind (arith, h)
-
-pub all_below_later : (n : ℕ) (rs : List Region) → AllBelow n rs → AllBelow (n + 1) rs
-all_below_later n [] h = tt
-all_below_later n (r ∷ rs) h = (below_later n r h.0, all_below_later n rs h.1)
 
 -- ---- the rules' scope with one more name
 
@@ -282,7 +273,7 @@ module _ (s : Scoped) (g : Regions) (h : AreThose s g) where
 
     bounds_later : (cs : List (Region × Region)) → BoundsBelow n cs → BoundsBelow (n + 1) cs
     bounds_later [] l = tt
-    bounds_later ((x, y) ∷ cs) l = (below_later n x l.0, below_later n y l.1, bounds_later cs l.2)
+    bounds_later ((x, y) ∷ cs) l = (below_up n x l.0, below_up n y l.1, bounds_later cs l.2)
 
     are_those : AreThose (with_begun b s) later
     are_those = record {
@@ -290,7 +281,7 @@ module _ (s : Scoped) (g : Regions) (h : AreThose s g) where
       live = live_same;
       order = order_same;
       lasts = lasts_same;
-      opened = subst (λ m. AllBelow m s.opened) (sym e.count) (all_below_later n s.opened h.opened);
+      opened = subst (λ m. AllBelow m s.opened) (sym e.count) (all_up n s.opened h.opened);
       bounds = subst (λ m. BoundsBelow m s.bounds) (sym e.count) (bounds_later s.bounds h.bounds);
     }
 

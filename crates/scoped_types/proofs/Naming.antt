@@ -3,8 +3,6 @@ use Rattle.std.specs.Prelude.{bytes_eq, drop, is_some, length, map, option_map, 
 use Rattle.std.proofs.Common.{◌≡◌, ℕ, zero, suc, Bool, true, false, Bor, Option, Some, None, List, [], ◌∷◌, ◌++◌, cond, refl, sym, ◌∙◌, ap}
 use Rattle.std.proofs.lemmas.List.{drop_at, length-drop, length-map, length-reverse, map-append, reverse-append, take-append-drop}
 use Rattle.std.proofs.lemmas.Slice.Eq.{bytes_eq-Decides}
-use Rattle.std.specs.Cmp.{nat_eq_equiv}
-use Rattle.std.proofs.lemmas.Cmp.{lists_equiv}
 use Rattle.cyc_tree.specs.Tree.{Name}
 use Rattle.cyc_types.specs.Regions.{region_of}
 use Rattle.cyc_types.specs.declared.region.RegionId.{RegionId}
@@ -12,9 +10,7 @@ use Rattle.source_typing.specs.Declarations.{name_added}
 use Rattle.source_typing.specs.Regions.{Region}
 use Rattle.source_typing.specs.Written.{RegionNamed, find_region}
 use Rattle.scoped_types.specs.Names.{AreDistinct, Entry, at, named, names_of}
-
-same_bytes : (x y : List ℕ) → bytes_eq x y ≡ bytes_eq y x
-same_bytes x y = (lists_equiv nat_eq_equiv).symm x y
+use Rattle.cyc_types.proofs.InOrder.{same_bytes}
 
 -- ---- what is found
 

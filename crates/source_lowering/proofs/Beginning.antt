@@ -1,6 +1,7 @@
 -- What a local without an initializer begins with: the source makes it so, and Core's code stores it.
 use Rattle.std.proofs.Common.{◌≡◌, inl, ℕ, zero, suc, ◌+◌, ◌≤◌, List, [], ◌∷◌, Bool, true, false, Option, Some, None, refl, sym, ap, ◌∙◌, subst, arith, eq-eqb}
 use Rattle.std.specs.Prelude.{map, slice_get}
+use Rattle.std.proofs.lemmas.Option.{none-some}
 use Rattle.source_meaning.specs.Shapes.{
   Shape,
   IntShape,
@@ -17,7 +18,6 @@ use Rattle.source_meaning.specs.Shapes.{
 }
 use Rattle.source_meaning.specs.Memory as source
 use Rattle.source_meaning.specs.Memory.{
-  IntegerType,
   AsInt,
   AsUnsigned,
   AsChar,
@@ -27,16 +27,11 @@ use Rattle.source_meaning.specs.Memory.{
   Spot,
   Holds,
   Cell,
-  Object,
-  object_of,
   is_live,
   with_object,
-  blank_object,
-  with_state,
-  Dead,
 }
 use Rattle.source_meaning.specs.Steps as steps
-use Rattle.source_meaning.specs.Steps.{World, Entity, Variable, Fixed, Binding, Scope, Flow, Act, check, ◌>>=◌, ◌>>◌}
+use Rattle.source_meaning.specs.Steps.{World, Variable, Scope, Flow, Act, check}
 use Rattle.source_meaning.specs.Conversions.{cells_of}
 use Rattle.source_meaning.specs.Places.{with_binding}
 use Rattle.source_meaning.specs.Regions.{declared}
@@ -53,7 +48,24 @@ use Rattle.source_lowering.specs.Layouts.{first_part, layout_of}
 use Rattle.source_lowering.specs.Programs.{first_code, unset_code}
 use Rattle.source_lowering.specs.Taken.{HasFirst}
 use Rattle.source_lowering.specs.Lowerable.{IsObject, AreStructs, HasBeginning}
-use Rattle.source_lowering.proofs.Relations.{at, PartIs, PartsHold, ArePending, Shown, Agree, Later, Place, Fits, SameAt, Next, AreKept, around, Bound, activation, within}
+use Rattle.source_lowering.proofs.Relations.{
+  at,
+  PartIs,
+  PartsHold,
+  ArePending,
+  Shown,
+  Agree,
+  Later,
+  Place,
+  Fits,
+  SameAt,
+  Next,
+  AreKept,
+  around,
+  Bound,
+  activation,
+  within,
+}
 use Rattle.core_meaning.proofs.Spots.{spot_self}
 use Rattle.source_lowering.proofs.Keeping.{later_on, fits_later, named_free}
 use Rattle.source_lowering.proofs.Runs.{stuck_same}
@@ -63,7 +75,7 @@ use Rattle.source_lowering.proofs.Making.{local_spot, cell_spot, cell_with, m_ma
 use Rattle.source_lowering.proofs.Values.{kept_temp, put_temp}
 use Rattle.source_lowering.proofs.StructCells.{AreWordShapes, object_cells}
 use Rattle.source_lowering.proofs.Clearing.{element_there, cleared_here, cleared_later, agree_cleared, layout_first, made_at}
-use Rattle.source_lowering.proofs.Declaring.{with_local, part_to_come, local_fits, part_with, put_here, no_cell}
+use Rattle.source_lowering.proofs.Declaring.{with_local, part_to_come, local_fits, part_with, put_here}
 
 -- ---- what a local begins with
 
@@ -122,7 +134,7 @@ pub record IsFirstCell (xs : List Shape) (cell : ℕ) (of : Shape) (v : Scalar) 
 
 pub first_cell_is : (xs : List Shape) (cell : ℕ) (of : Shape) (v : Scalar) → AreWordShapes xs
     → slice_get (map (cell_with source.first_content) xs) cell ≡ Some (record { shape = of; content = Holds v }) → IsFirstCell xs cell of v
-first_cell_is [] cell of v h e = absurd (no_cell _ e)
+first_cell_is [] cell of v h e = absurd (none-some _ e)
 first_cell_is (x ∷ xs) zero of v h e =
     let same : x ≡ of = shape_is x of v (source.first_content x) e in
     record {
@@ -208,7 +220,8 @@ word_begins p n scope name shape shapes then_act next m c rest after world frame
     declared_by p n scope name shape then_act next m code world frame fits.made stored
   where
     code : core_steps.Step
-    code = meaning.statements (MoreStatements (Do (first_code shape p.regions.all)) (MoreStatements (Do (Put 0 p.made (width_of shape) p.regions.all)) rest)) after c
+    code = meaning.statements
+        (MoreStatements (Do (first_code shape p.regions.all)) (MoreStatements (Do (Put 0 p.made (width_of shape) p.regions.all)) rest)) after c
 
     plain : IsPlain p.world shape (width_of shape)
     plain = plain_of p.world shape is_word
@@ -287,7 +300,8 @@ pub struct_begins : (p : Place) (n : ℕ) (scope : Scope) (name tag : List ℕ) 
     → BeginsIn p (with_local p name (StructShape tag) shapes) n m c
     (λ m'. then_act (with_binding scope name (Variable (StructShape tag) (local_spot p.frame p.made))) next m') (meaning.statements rest after)
     → SameAt p n (declared scope name (StructShape tag) (first_object scope.world (StructShape tag)) then_act next m) (meaning.statements
-    (MoreStatements (Do (LocalAddress p.regions.all 0 p.made)) (MoreStatements (Do (Clear p.regions.all (layout_of p.world (StructShape tag)) 1)) rest)) after c)
+    (MoreStatements (Do (LocalAddress p.regions.all 0 p.made))
+    (MoreStatements (Do (Clear p.regions.all (layout_of p.world (StructShape tag)) 1)) rest)) after c)
 struct_begins p n scope name tag shapes then_act next m c rest after world frame structs object pending fits goes =
     declared_by p n scope name shape then_act next m code world frame fits.made stored
   where
@@ -299,7 +313,8 @@ struct_begins p n scope name tag shapes then_act next m c rest after world frame
 
     code : core_steps.Step
     code = meaning.statements
-        (MoreStatements (Do (LocalAddress p.regions.all 0 p.made)) (MoreStatements (Do (Clear p.regions.all (layout_of p.world (StructShape tag)) 1)) rest)) after c
+        (MoreStatements (Do (LocalAddress p.regions.all 0 p.made))
+        (MoreStatements (Do (Clear p.regions.all (layout_of p.world (StructShape tag)) 1)) rest)) after c
 
     spot : Spot
     spot = local_spot p.frame p.made
@@ -362,7 +377,8 @@ pub declared_same : (p : Place) (n : ℕ) (scope : Scope) (name : List ℕ) (sha
     → p.pending ≡ shape ∷ shapes → Fits p m c
     → BeginsIn p (with_local p name shape shapes) n m c (λ m'. then_act (with_binding scope name (Variable shape (local_spot p.frame p.made))) next m')
     (meaning.statements rest after)
-    → SameAt p n (declared scope name shape (first_object scope.world shape) then_act next m) (meaning.statements (put (unset_code p.world shape p.regions.all p.made) rest)
+    → SameAt p n (declared scope name shape (first_object scope.world shape) then_act next m)
+    (meaning.statements (put (unset_code p.world shape p.regions.all p.made) rest)
     after c)
 declared_same p n scope name (StructShape tag) shapes then_act next m c rest after world frame structs object begins pending fits goes =
     struct_begins p n scope name tag shapes then_act next m c rest after world frame structs object pending fits goes

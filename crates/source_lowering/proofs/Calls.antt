@@ -46,7 +46,7 @@ use Rattle.source_meaning.specs.Shapes.{
   part_shapes,
 }
 use Rattle.source_meaning.specs.Memory as source
-use Rattle.source_meaning.specs.Memory.{IntegerType, AsInt, Scalar, Integer}
+use Rattle.source_meaning.specs.Memory.{AsInt, Scalar, Integer}
 use Rattle.source_meaning.specs.Steps as steps
 use Rattle.source_meaning.specs.Steps.{World, Routine, give, invoke, ◌>>=◌, ◌>>◌}
 use Rattle.source_meaning.specs.Conversions.{one, integer}
@@ -81,6 +81,7 @@ use Rattle.source_lowering.proofs.Relations.{
   GivesAs,
   BothVisible,
   IsByte,
+  first_in,
 }
 use Rattle.source_lowering.proofs.Keeping.{IsLess, later_self, later_on, later_less, shown_later, fits_later}
 use Rattle.source_lowering.proofs.Runs.{stuck_same, says_same, reads_same, pays_same, calls_same, less_fuel, put_all}
@@ -340,7 +341,3 @@ write_gives p n d count es code arguments = record {
         subst (λ z. SameAt p n (one z (λ u. integer u (λ x. after x s)) m) (does (Putchar d d) (meaning.statements rest next) c))
         (sym (ap (λ z. z ++ []) (v.alone ∙ ap (λ z. z ∷ []) v.shown.value)))
         (written p n d m0 c0 m c v.shown.word s rest next (ap (first_in (c.temps d)) v.shown.shown) fits later kept goes)
-      where
-        first_in : Content → List Content → Content
-        first_in x [] = x
-        first_in x (y ∷ ys) = y

@@ -52,7 +52,24 @@ use Rattle.core_meaning.specs.Steps as core_steps
 use Rattle.core_meaning.specs.Operations.{fitting}
 use Rattle.source_lowering.specs.Layouts.{layout_of, first_part}
 use Rattle.source_lowering.specs.Lowered.{width_of}
-use Rattle.source_lowering.proofs.Relations.{region_at, at, HasShape, PartIs, AreCells, AreMade, Leads, ANull, APointer, Shown, PartsHold, Agree, Later, Same, Bound}
+use Rattle.source_lowering.proofs.Relations.{
+  region_at,
+  at,
+  HasShape,
+  PartIs,
+  AreCells,
+  AreMade,
+  Leads,
+  ANull,
+  APointer,
+  Shown,
+  PartsHold,
+  Agree,
+  Later,
+  Same,
+  Bound,
+  first_in,
+}
 use Rattle.source_lowering.proofs.Keeping.{later_written, agree_written, m_written}
 use Rattle.source_lowering.proofs.Runs.{stuck_same}
 use Rattle.source_lowering.proofs.Integers.{IsWordShape, IsObject}
@@ -226,10 +243,6 @@ pub record IsWritten (w : World) (m : source.Memory) (c : core.Memory) (shape : 
   pub agree : Agree w (m_written m s shape v) (with_part c (at s) 0 (part_of byte width x))
   pub later : (b : Bound) → Later b m c (m_written m s shape v) (with_part c (at s) 0 (part_of byte width x))
 
-abbrev word_in : Content → List Content → Content
-word_in x [] = x
-word_in x (y ∷ ys) = y
-
 pub write_same : (w : World) (fs : Program) (n : ℕ) (shape : Shape) (width : ℕ) (m : source.Memory) (c : core.Memory) (t : Spot) (byte : ℕ) (v : Scalar)
     (x : Content) (s : Unit {0} → source.Memory → steps.Step) (k : core_steps.Step)
     → IsPlain w shape width → Agree w m c → Leads w m c shape t byte → Shown w m c shape v (x ∷ [])
@@ -240,7 +253,7 @@ write_same w fs n shape width m c t byte v x s k plain agree leads shown go = by
     stored : OneCell m c t byte shape width → is_live m t.region ≡ true → Same w fs n (s tt (m_written m t shape v)) k
     stored here live =
         let word = plain.one m c v (x ∷ []) shown in
-        let same : x ≡ word.word = ap (word_in x) word.is in
+        let same : x ≡ word.word = ap (first_in x) word.is in
         go (record {
           old = here.content;
           live = sym (agree.live t.region) ∙ live;

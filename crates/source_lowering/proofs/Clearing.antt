@@ -1,9 +1,36 @@
 -- Core's part of a struct's beginning: the parts of a local that the source makes next get what they begin with.
-use Rattle.std.proofs.Common.{◌≡◌, ℕ, suc, ◌+◌, ◌<◌, ◌≤◌, List, [], ◌∷◌, ◌++◌, map, length, Bool, true, false, nat_eq, Option, Some, None, refl, sym, ap, ◌∙◌, subst, arith}
+use Rattle.std.proofs.Common.{
+  ◌≡◌,
+  ℕ,
+  suc,
+  ◌+◌,
+  ◌<◌,
+  ◌≤◌,
+  List,
+  [],
+  ◌∷◌,
+  ◌++◌,
+  map,
+  length,
+  Bool,
+  true,
+  false,
+  nat_eq,
+  Option,
+  Some,
+  None,
+  refl,
+  sym,
+  ap,
+  ◌∙◌,
+  subst,
+  arith,
+}
 use Rattle.std.specs.Prelude.{◌&&◌, ◌*◌, ◌-◌, ◌%◌, if◌then◌else◌, nat_lt, nat_le, slice_get}
 use Rattle.std.proofs.Math.Nat.{mod-eq_of_lt}
 use Rattle.std.proofs.lemmas.Bool.{eqb-true, eq-eqb, and_parts}
 use Rattle.std.proofs.lemmas.Bool.Decides.{nat_tests}
+use Rattle.std.proofs.lemmas.Option.{none-some}
 use Rattle.source_meaning.specs.Shapes.{Shape}
 use Rattle.source_meaning.specs.Sizes.{Extent}
 use Rattle.source_meaning.specs.Placing.{Placed}
@@ -136,15 +163,12 @@ pub held_still : (c c' : core.Memory) (t : core.Spot) (j : ℕ) (cs : List Conte
 held_still c c' t j [] e h = tt
 held_still c c' t j (x ∷ xs) e ((q, (is, holds)), others) = ((q, (e j ∙ is, holds)), held_still c c' t (j + 1) xs e others)
 
-no_cell : (y : Cell) → None ≡ Some y → ⊥
-no_cell y e = cc e
-
 -- an object that isn't made yet has no cell
 no_object : (w : World) (m : source.Memory) (c : core.Memory) (k index : ℕ) (s : Spot) (y : Cell) → Agree w m c → m.objects (source.Frame k) ≡ index
     → m.cells s ≡ Some y → s.region ≡ source.Frame k → s.object ≡ index → ⊥
 no_object w m c k index s y a made h r o =
     let none : m.cells s ≡ None = a.unmade s (subst (λ q. m.objects q ≤ s.object) (sym r) (subst (λ z. z ≤ s.object) (sym made) (omega (arith, o)))) in
-    no_cell y (sym none ∙ h)
+    none-some y (sym none ∙ h)
 
 pub new_object : (w : World) (m : source.Memory) (c : core.Memory) (k index : ℕ) (s : Spot) (y : Cell) → Agree w m c → m.objects (source.Frame k) ≡ index
     → m.cells s ≡ Some y → same_object (at s) (at (cell_spot k index 0)) ≡ false
@@ -235,7 +259,8 @@ layout_first w s k shape structs object e =
     (ap (λ z. slice_get z k) has.shapes ∙ e)
 
 -- the parts where a pending object's cells begin
-shaped_first : (c : core.Memory) (t : core.Spot) (b : ℕ) (x : PartShape) (xs : List PartShape) → AreShaped c t b 0 (x ∷ xs) → PartIs c t 0 (b + x.offset) x.width
+shaped_first : (c : core.Memory) (t : core.Spot) (b : ℕ) (x : PartShape) (xs : List PartShape) → AreShaped c t b 0 (x ∷ xs)
+    → PartIs c t 0 (b + x.offset) x.width
 shaped_first c t b x xs h = h.0
 
 pub made_at : (c : core.Memory) (r : core.Region) (index cell b k : ℕ) (xss : List (List PartShape)) (x : PartShape) (xs : List PartShape)

@@ -2,15 +2,10 @@
 use Rattle.std.proofs.Common.{◌≡◌, ℕ, zero, suc, ◌+◌, List, [], ◌∷◌, Bool, true, false, Option, Some, None, refl, sym, ap, ◌∙◌, subst, arith}
 use Rattle.std.specs.Prelude.{map, slice_get}
 use Rattle.std.proofs.lemmas.Bool.{eq-eqb}
+use Rattle.std.proofs.lemmas.Option.{none-some}
 use Rattle.source_meaning.specs.Shapes.{Shape}
 use Rattle.source_meaning.specs.Memory as source
 use Rattle.source_meaning.specs.Memory.{
-  IntegerType,
-  AsInt,
-  AsUnsigned,
-  AsChar,
-  Integer,
-  Thin,
   Scalar,
   Spot,
   Holds,
@@ -20,26 +15,40 @@ use Rattle.source_meaning.specs.Memory.{
   is_live,
   with_object,
   blank_object,
-  with_state,
-  Dead,
 }
 use Rattle.source_meaning.specs.Steps as steps
-use Rattle.source_meaning.specs.Steps.{World, Entity, Variable, Fixed, Binding, Scope, Flow, Act, check, ◌>>=◌, ◌>>◌}
+use Rattle.source_meaning.specs.Steps.{World, Variable, Scope, Flow, Act, check}
 use Rattle.source_meaning.specs.Conversions.{cells_of}
 use Rattle.source_meaning.specs.Values.{write_cells}
 use Rattle.source_meaning.specs.Places.{with_binding}
 use Rattle.source_meaning.specs.Regions.{local_with}
 use Rattle.core_meaning.specs.Memory as core
-use Rattle.core_meaning.specs.Memory.{Content, Word, Null, Pointer, Part, PartShape, Layout, with_part}
+use Rattle.core_meaning.specs.Memory.{Content, Part, with_part}
 use Rattle.core_meaning.specs.Core.{Do, Put, Statements, MoreStatements}
 use Rattle.core_meaning.specs.Steps as core_steps
-use Rattle.core_meaning.specs.Steps.{Config, with_temp, with_memory}
+use Rattle.core_meaning.specs.Steps.{Config, with_memory}
 use Rattle.core_meaning.specs.Operations.{does, fitting}
 use Rattle.core_meaning.specs.Meaning as meaning
 use Rattle.source_lowering.specs.Lowered.{width_of}
 use Rattle.source_lowering.specs.Programs.{named_here}
 use Rattle.source_lowering.specs.Layouts.{first_part}
-use Rattle.source_lowering.proofs.Relations.{at, PartIs, AreMade, ArePending, Shown, IsShown, Later, Place, Fits, activation, within, around, SameAt, Next, AValue}
+use Rattle.source_lowering.proofs.Relations.{
+  at,
+  PartIs,
+  AreMade,
+  ArePending,
+  Shown,
+  IsShown,
+  Later,
+  Place,
+  Fits,
+  activation,
+  within,
+  around,
+  SameAt,
+  Next,
+  AValue,
+}
 use Rattle.source_lowering.proofs.Keeping.{later_on, later_items, shown_later, all_led_later, fits_later, m_written}
 use Rattle.source_lowering.proofs.Runs.{stuck_same}
 use Rattle.source_lowering.proofs.Integers.{IsWordShape}
@@ -69,7 +78,8 @@ with_local p name shape pending = record {
 pub part_to_come : (p : Place) (m : source.Memory) (c : Config) (shape : Shape) (shapes : List Shape) → IsPlain p.world shape (width_of shape)
     → p.pending ≡ shape ∷ shapes → Fits p m c → PartIs c.memory (at (local_spot p.frame p.made)) 0 0 (width_of shape)
 part_to_come p m c shape shapes plain e fits =
-    let all : ArePending p.world c.memory (core.Frame p.frame) p.made (shape ∷ shapes) = subst (λ z. ArePending p.world c.memory (core.Frame p.frame) p.made z) e fits.pending in
+    let all : ArePending p.world c.memory (core.Frame p.frame) p.made (shape ∷ shapes) =
+    subst (λ z. ArePending p.world c.memory (core.Frame p.frame) p.made z) e fits.pending in
     let one : AreMade c.memory (at (local_spot p.frame p.made)) 0 (((record { offset = 0; width = width_of shape; first = first_part shape }) ∷ []) ∷ []) =
     subst (λ z. AreMade c.memory (at (local_spot p.frame p.made)) 0 z) plain.layout all.0 in
     one.0.0
@@ -86,7 +96,8 @@ pub local_fits : (p : Place) (m : source.Memory) (c : Config) (name : List ℕ) 
 local_fits p m c name shape shapes g e fits shown =
     let o : Object = object_with p.world g shape in
     let later = grown_later (around p p.frame) m c.memory p.frame o (omega arith) fits.agree.unmade in
-    let all : ArePending p.world c.memory (core.Frame p.frame) p.made (shape ∷ shapes) = subst (λ z. ArePending p.world c.memory (core.Frame p.frame) p.made z) e fits.pending in
+    let all : ArePending p.world c.memory (core.Frame p.frame) p.made (shape ∷ shapes) =
+    subst (λ z. ArePending p.world c.memory (core.Frame p.frame) p.made z) e fits.pending in
     record {
       agree = agree_made p.world m c.memory p.frame p.made o fits.agree fits.made fits.begun shown;
       blocks = fits.blocks;
@@ -106,7 +117,8 @@ local_fits p m c name shape shapes g e fits shown =
 
 -- what comes after a declaration
 pub record GoesOnIn (p q : Place) (n : ℕ) (m0 : source.Memory) (c0 : Config) (s : source.Memory → steps.Step) (k : Config → core_steps.Step) : Type 0 where
-  pub go : (m : source.Memory) (c : Config) → Fits q m c → Later (around p p.frame) m0 c0.memory m c.memory → ((j : ℕ) → c.temps j ≡ c0.temps j) → activation c ≡ activation c0
+  pub go : (m : source.Memory) (c : Config) → Fits q m c → Later (around p p.frame) m0 c0.memory m c.memory → ((j : ℕ) → c.temps j ≡ c0.temps j)
+      → activation c ≡ activation c0
       → SameAt p n (s m) (k c)
 
 abbrev pub part_with : ℕ → Content → Part
@@ -118,13 +130,10 @@ pub put_here : (c : Config) (d index width frame : ℕ) (outer : List ℕ) (old 
     c)
 put_here c d index width frame outer old next block live part = rw (block, live, part, eq-eqb width width refl) refl
 
-pub no_cell : (y : Cell) → None ≡ Some y → ⊥
-no_cell y e = cc e
-
 -- a blank object holds nothing
 pub blank_holds : (xs : List Shape) (cell : ℕ) (of : Shape) (v : Scalar)
     → slice_get (map (cell_with (λ s. source.Blank)) xs) cell ≡ Some (record { shape = of; content = Holds v }) → ⊥
-blank_holds [] cell of v e = no_cell _ e
+blank_holds [] cell of v e = none-some _ e
 blank_holds (x ∷ xs) zero of v e = no_value x of v e
   where
     content_in : Option Cell → source.Content

@@ -1,8 +1,9 @@
 -- Each expression that is taken does the same as its code, and so does each that is a struct.
-use Rattle.std.proofs.Common.{◌≡◌, ℕ, suc, ◌+◌, ◌<◌, ◌≤◌, List, [], ◌∷◌, ◌++◌, length, max, false, refl, sym, ap, ◌∙◌, subst, arith}
+use Rattle.std.proofs.Common.{ℕ, suc, ◌+◌, ◌<◌, ◌≤◌, List, [], ◌∷◌, ◌++◌, length, max, refl, sym, ap, ◌∙◌, subst, arith}
 use Rattle.std.proofs.lemmas.List.{append_assoc, append-nil}
 use Rattle.cyc_tree.specs.declared.expression.Prefix.TheVariants as prefix
-use Rattle.cyc_tree.specs.Tree.{Expression, Expressions, NoExpressions, MoreExpressions, Links, NoLinks, MoreLinks, Suffixes, Made, One, Array}
+use Rattle.cyc_tree.specs.Tree.{Expression, Expressions, NoExpressions, MoreExpressions, Links, NoLinks, MoreLinks, Made, One, Array}
+use Rattle.source_meaning.proofs.Layouts.{laid_above}
 use Rattle.source_meaning.specs.Shapes.{Shape, IntShape, StructShape, Part, part_shapes, parts_of}
 use Rattle.source_meaning.specs.Sizes.{Extent, rounded_up, laid_out, no_extent}
 use Rattle.source_meaning.specs.Steps.{Act, Scope, ◌>>=◌}
@@ -42,7 +43,8 @@ use Rattle.source_lowering.specs.Lowered.{
 }
 use Rattle.source_lowering.specs.Lowerable.{AreObjects, TakesPlace, Takes, TakesAll, TakesLinks, TakesNew, TakesWhole, TakesMade}
 use Rattle.source_lowering.proofs.Structs.{struct_made as struct_is_made}
-use Rattle.source_lowering.proofs.Members.{HaveCells, have_cells, laid_above}
+use Rattle.source_lowering.proofs.StructCells.{AllHaveCells}
+use Rattle.source_lowering.proofs.Members.{have_cells}
 use Rattle.source_lowering.proofs.Relations.{keeping}
 use Rattle.source_lowering.proofs.Integers.{IsNoStruct, target_taken}
 use Rattle.source_lowering.proofs.Variables.{Agrees, variable_agrees, variable_stores}
@@ -83,7 +85,8 @@ mutual
         stores = variable_stores (place_in scope k) n d name.text known.locals known.words
             known.world.globals single;
       }
-  named_same (Expression.Grouped at inner) scope k h single known n calls d own numbered less = named_same inner scope k h single known n calls d own numbered less
+  named_same (Expression.Grouped at inner) scope k h single known n calls d own numbered less =
+      named_same inner scope k h single known n calls d own numbered less
   named_same (Expression.Prefixed at prefix.Dereference operand) scope k h single known n calls d own numbered less =
       let to = contents_are (place_in scope k) n (d + 1) (sense operand scope) (static_shape scope.world k.names operand)
       (expression_code scope.world k.names operand (d + 1) own) (expression_same operand scope k h known n calls (d + 1) own numbered less) in
@@ -134,7 +137,8 @@ mutual
   expression_same (Expression.Character at byte) scope k h known n calls d own numbered less = character_agrees (place_in scope k) n d byte
   expression_same (Expression.Null at) scope k h known n calls d own numbered less = null_agrees (place_in scope k) n d
   expression_same (Expression.HeapRegion at) scope k h known n calls d own numbered less = heap_agrees (place_in scope k) n d
-  expression_same (Expression.Variable name) scope k h known n calls d own numbered less = variable_agrees (place_in scope k) n d name.text known.locals known.words
+  expression_same (Expression.Variable name) scope k h known n calls d own numbered less =
+      variable_agrees (place_in scope k) n d name.text known.locals known.words
       known.world.globals h
   expression_same (Expression.Call name arguments) scope k h known n calls d own numbered less =
       call_agrees (place_in scope k) n d (count_of arguments) name.text (senses arguments scope) (arguments_code scope.world k.names
@@ -153,18 +157,23 @@ mutual
   expression_same (Expression.Prefixed at prefix.Negate operand) scope k h known n calls d own numbered less =
       negate_agrees (place_in scope k) n d (sense operand scope) (static_shape scope.world k.names operand)
       (expression_code scope.world k.names operand (d + 1) own)
-      (expression_code scope.world k.names operand d own) (place_code scope.world k.names operand d own) (expression_same operand scope k h known n calls (d + 1) own numbered less)
+      (expression_code scope.world k.names operand d own) (place_code scope.world k.names operand d own)
+      (expression_same operand scope k h known n calls (d + 1) own numbered less)
   expression_same (Expression.Prefixed at prefix.Complement operand) scope k h known n calls d own numbered less =
       complement_agrees (place_in scope k) n d (sense operand scope) (static_shape scope.world k.names operand)
       (expression_code scope.world k.names operand (d + 1) own)
-      (expression_code scope.world k.names operand d own) (place_code scope.world k.names operand d own) (expression_same operand scope k h known n calls (d + 1) own numbered less)
+      (expression_code scope.world k.names operand d own) (place_code scope.world k.names operand d own)
+      (expression_same operand scope k h known n calls (d + 1) own numbered less)
   expression_same (Expression.Prefixed at prefix.Not operand) scope k h known n calls d own numbered less =
-      not_agrees (place_in scope k) n d (sense operand scope) (static_shape scope.world k.names operand) (expression_code scope.world k.names operand (d + 1) own)
-      (expression_code scope.world k.names operand d own) (place_code scope.world k.names operand d own) (expression_same operand scope k h known n calls (d + 1) own numbered less)
+      not_agrees (place_in scope k) n d (sense operand scope) (static_shape scope.world k.names operand)
+      (expression_code scope.world k.names operand (d + 1) own)
+      (expression_code scope.world k.names operand d own) (place_code scope.world k.names operand d own)
+      (expression_same operand scope k h known n calls (d + 1) own numbered less)
   expression_same (Expression.Prefixed at prefix.Dereference operand) scope k h known n calls d own numbered less =
       contents_agrees (place_in scope k) n d (sense operand scope) (static_shape scope.world k.names operand)
       (expression_code scope.world k.names operand (d + 1) own)
-      (expression_code scope.world k.names operand d own) (place_code scope.world k.names operand d own) h.1 (expression_same operand scope k h.0 known n calls d own numbered less)
+      (expression_code scope.world k.names operand d own) (place_code scope.world k.names operand d own) h.1
+      (expression_same operand scope k h.0 known n calls d own numbered less)
   expression_same (Expression.Prefixed at prefix.AddressOf operand) scope k h known n calls d own numbered less =
       let to = place_same operand scope k h known n calls d own numbered less in
       address_agrees (place_in scope k) n d (sense operand scope) (static_shape scope.world k.names operand) (place_code scope.world k.names operand d own)
@@ -177,7 +186,8 @@ mutual
       let values = expression_values scope.world k.names handle in
       let behind = own + length values in
       subst (λ z. Agrees (place_in scope k) n d z (new_shape scope.world k.names new)
-      (expression_code scope.world k.names handle d own ++ new_code scope.world k.names new d behind)) (new_in_is new scope handle (takes_one scope.world k.names new h.1.1) h.0)
+      (expression_code scope.world k.names handle d own ++ new_code scope.world k.names new d behind))
+      (new_in_is new scope handle (takes_one scope.world k.names new h.1.1) h.0)
       (new_same new scope k h.1.1 known n calls (handle_maker (sense handle scope)) d behind
       (numbered_after k.owned own values (new_values scope.world k.names new) numbered) (omega (arith, less)) (expression_code scope.world k.names handle d own)
       (handle_gives (place_in scope k) n d (sense handle scope) (static_shape scope.world k.names handle) (expression_code scope.world k.names handle d own)
@@ -352,7 +362,7 @@ mutual
 
   pub members_same : (es : Expressions) (ps : List Part) (scope : Scope) (k : Known) → TakesMade scope.world k.names ps es → IsKnown scope k → (n : ℕ)
       → CallsAs scope.world k.program n → (d value cells total : ℕ) (so_far : Extent) (own : ℕ) → AreObjects scope.world.structs (part_shapes ps)
-      → HaveCells scope.world.unions scope.world.structs ps → (laid_out (extent_of scope.world) so_far ps).size ≤ total → total ≤ 4096 → value < own
+      → AllHaveCells scope.world.unions scope.world.structs ps → (laid_out (extent_of scope.world) so_far ps).size ≤ total → total ≤ 4096 → value < own
       → AreNumbered k.owned own (made_values scope.world k.names ps es)
       → MembersGo (place_in scope k) n d value cells total so_far.size ps (converted_all scope.world (part_shapes ps) (senses es scope))
       (members_code scope.world k.names ps es d cells so_far.size own)

@@ -93,8 +93,8 @@ pub live_in : (q r : source.Region) (b : Bool) (x : source.State) (y : core.Stan
 live_in q r true x y e h = rw (region_as q r, e) refl
 live_in q r false x y e h = rw (region_as q r, e) h
 
-later_frame : (j k : ℕ) → k + 1 ≤ j → nat_eq j k ≡ false
-later_frame j k h = grind (arith, nat_tests)
+pub later_number : (j k : ℕ) → k + 1 ≤ j → nat_eq j k ≡ false
+later_number j k h = grind (arith, nat_tests, h)
 
 pub agree_entered : (w : World) (m : source.Memory) (c : core.Memory) (ls : List Local) → Agree w m c → Agree w (source_in m) (core_in ls c)
 agree_entered w m c ls a = record {
@@ -112,13 +112,13 @@ agree_entered w m c ls a = record {
   unmade = a.unmade;
   unentered = λ k t j h r.
       let less : c.activations + 1 ≤ k = subst (λ z. z ≤ k) (made_activations (core.Frame c.activations) ls (core_opened c)) h in
-      let other : core.same_region t.region (core.Frame c.activations) ≡ false = ap (λ z. core.same_region z (core.Frame c.activations)) r ∙ later_frame k
+      let other : core.same_region t.region (core.Frame c.activations) ≡ false = ap (λ z. core.same_region z (core.Frame c.activations)) r ∙ later_number k
       c.activations less in
       made_parts (core.Frame c.activations) ls (core_opened c) t j other ∙ a.unentered k t j (omega (arith, less)) r;
   unbegun = λ k h.
       let less : c.activations + 1 ≤ k = subst (λ z. z + 1 ≤ k) a.activations h in
       let two = a.unbegun k (omega (arith, h)) in
-      (two.0, made_objects (core.Frame c.activations) ls (core_opened c) (core.Frame k) (later_frame k c.activations less) ∙ two.1);
+      (two.0, made_objects (core.Frame c.activations) ls (core_opened c) (core.Frame k) (later_number k c.activations less) ∙ two.1);
   uncalled = λ k t j h r.
       let less : c.calls ≤ k = subst (λ z. z ≤ k) (made_calls (core.Frame c.activations) ls (core_opened c)) h in
       entered_own c ls k t j r ∙ a.uncalled k t j less r;
@@ -184,7 +184,8 @@ cell_blank l k j xs less is =
 -- the cells of an object, from one on
 
 pub cells_made : (c : core.Memory) (r : core.Region) (index : ℕ) (l : Layout) (k : ℕ) (xs : List (List PartShape)) → k + length xs ≡ length l.cells
-    → ((i : ℕ) → slice_get l.cells (k + i) ≡ slice_get xs i) → ((cell j : ℕ) (p : Part) → blanks l 1 cell j ≡ Some p → PartIs c (spot_in r index cell) j p.offset p.width)
+    → ((i : ℕ) → slice_get l.cells (k + i) ≡ slice_get xs i)
+    → ((cell j : ℕ) (p : Part) → blanks l 1 cell j ≡ Some p → PartIs c (spot_in r index cell) j p.offset p.width)
     → AreMade c (spot_in r index k) 0 xs
 cells_made c r index l k [] count same h = tt
 cells_made c r index l k (x ∷ xs) count same h = (

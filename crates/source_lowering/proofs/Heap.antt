@@ -2,6 +2,7 @@
 use Rattle.std.proofs.Common.{◌≡◌, ℕ, zero, suc, ◌+◌, ◌≤◌, List, [], ◌∷◌, length, map, false, nat_eq, Option, Some, None, refl, sym, ap, ◌∙◌, subst, arith}
 use Rattle.std.specs.Prelude.{slice_get, if◌then◌else◌}
 use Rattle.std.proofs.lemmas.Bool.Decides.{nat_tests}
+use Rattle.std.proofs.lemmas.Option.{none-some}
 use Rattle.cyc_tree.specs.Tree as tree
 use Rattle.cyc_tree.specs.Tree.{Initial, Item}
 use Rattle.source_meaning.specs.Shapes.{
@@ -39,7 +40,7 @@ use Rattle.source_lowering.proofs.Making.{cell_with, spot_of, cells_from}
 use Rattle.source_lowering.proofs.Entering.{spot_in, cells_made}
 use Rattle.source_lowering.proofs.WrittenTypes.{object_settled}
 pub use Rattle.source_lowering.proofs.HeapValues.{part_of, constant_single, shape_kept}
-use Rattle.source_lowering.proofs.HeapValues.{cell_of, datum_is, content_of, object_is, cell_in, no_cell, IsHeapValue, heap_value}
+use Rattle.source_lowering.proofs.HeapValues.{cell_of, datum_is, content_of, object_is, cell_in, IsHeapValue, heap_value}
 
 -- ---- the memories at the start agree
 
@@ -67,7 +68,8 @@ not_zero d = grind (arith, nat_tests)
 abbrev pub heap_of : World → List Item → source.Memory
 heap_of w items = heap_alone (global_objects w items)
 
-pub heap_agrees : (w : World) (items : List Item) → AreStructs w.unions w.structs → TakesProgram w items → Agree w (heap_of w items) (first_memory (data_of w items))
+pub heap_agrees : (w : World) (items : List Item) → AreStructs w.unions w.structs → TakesProgram w items
+    → Agree w (heap_of w items) (first_memory (data_of w items))
 heap_agrees w items structs h = record {
   cells = λ s shape v e. shown_at s.region s.object s.cell shape v e;
   live = λ r. alive r;
@@ -99,10 +101,10 @@ heap_agrees w items structs h = record {
 
     shown_at : (r : source.Region) (object cell : ℕ) (shape : Shape) (v : Scalar) → m.cells (spot r object cell) ≡ Some (cell_of shape (Holds v))
         → IsShown w m c (spot r object cell) shape v
-    shown_at (source.Frame k) object cell shape v e = absurd (no_cell (cell_of shape (Holds v)) e)
+    shown_at (source.Frame k) object cell shape v e = absurd (none-some (cell_of shape (Holds v)) e)
     shown_at (source.Born zero) object cell shape v e = in_heap object cell shape v (heap_value w items object cell shape v structs h e)
     shown_at (source.Born (suc d)) object cell shape v e =
-        absurd (no_cell (cell_of shape (Holds v)) (sym (ap (λ b. if b then cell_in cell (slice_get (global_objects w items) object) else None) (not_zero d)) ∙
+        absurd (none-some (cell_of shape (Holds v)) (sym (ap (λ b. if b then cell_in cell (slice_get (global_objects w items) object) else None) (not_zero d)) ∙
         e))
 
     alive : (r : source.Region) → state_is_live (m.state r) ≡ core.is_live (c.standing (region_at r))

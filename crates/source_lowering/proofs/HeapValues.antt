@@ -1,6 +1,7 @@
 -- What a global's cells hold at the start, in the source and in Core.
 use Rattle.std.proofs.Common.{◌≡◌, ℕ, zero, suc, ◌+◌, List, [], ◌∷◌, length, map, Option, Some, None, refl, sym, ap, ◌∙◌, subst}
 use Rattle.std.specs.Prelude.{◌*◌, ◌/◌, slice_get, option_and_then}
+use Rattle.std.proofs.lemmas.Option.{none-some}
 use Rattle.cyc_tree.specs.Tree as tree
 use Rattle.cyc_tree.specs.Tree.{Initial, Item}
 use Rattle.source_meaning.specs.Shapes.{
@@ -106,9 +107,6 @@ shape_kept (Initial.Given c) s h = refl
 abbrev pub cell_in : ℕ → Option Object → Option Cell
 cell_in cell o = option_and_then (λ f. f cell) o
 
-pub no_cell : (x : Cell) → None ≡ Some x → ⊥
-no_cell x e = cc e
-
 -- a global's cell holds what its part in Core's data has
 pub record IsHeapValue (w : World) (ds : List Datum) (i cell : ℕ) (shape : Shape) (v : Scalar) : Type 0 where
   pub part : Part
@@ -183,7 +181,7 @@ global_value w (Initial.Given c) s ds cell shape v structs h object e = absurd (
 
 pub heap_value : (w : World) (items : List Item) (i cell : ℕ) (shape : Shape) (v : Scalar) → AreStructs w.unions w.structs → TakesProgram w items
     → cell_in cell (slice_get (global_objects w items) i) ≡ Some (cell_of shape (Holds v)) → IsHeapValue w (data_of w items) i cell shape v
-heap_value w [] i cell shape v structs h e = absurd (no_cell (cell_of shape (Holds v)) e)
+heap_value w [] i cell shape v structs h e = absurd (none-some (cell_of shape (Holds v)) e)
 heap_value w (tree.StructItem s ∷ items) i cell shape v structs h e = heap_value w items i cell shape v structs h.1 e
 heap_value w (tree.UnionItem u ∷ items) i cell shape v structs h e = absurd h.0
 heap_value w (tree.FunctionItem f ∷ items) i cell shape v structs h e = heap_value w items i cell shape v structs h.1 e

@@ -29,7 +29,7 @@ use Rattle.core_meaning.specs.Steps as core_steps
 use Rattle.source_lowering.specs.Lowered.{type_of}
 use Rattle.source_lowering.specs.Taken.{IsIntegerShape}
 pub use Rattle.source_lowering.specs.Lowerable.{IsTarget, IsWordShape, IsObject, IsNoStruct}
-use Rattle.source_lowering.proofs.Relations.{at, LiesNear, Leads, Shown, ANull, APointer, AValue, ANothing, Given, Same}
+use Rattle.source_lowering.proofs.Relations.{at, LiesNear, Leads, Shown, ANull, APointer, AValue, ANothing, Given, Same, first_in}
 use Rattle.source_lowering.proofs.Runs.{stuck_same}
 
 -- the shapes of values: a word, or none
@@ -73,10 +73,6 @@ pub record IsWord (shape : Shape) (v : Scalar) (x : Content) : Type 0 where
   pub small : word < limit type
   pub shape_is : shape ≡ integer_shape type
   pub type_is : type_of shape ≡ type
-
-abbrev first_in : Content → List Content → Content
-first_in x [] = x
-first_in x (y ∷ ys) = y
 
 pub integer_word : (s : Shape) → IsIntegerShape s → IsWordShape s
 integer_word IntShape h = tt

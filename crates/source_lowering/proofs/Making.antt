@@ -3,6 +3,7 @@ use Rattle.std.proofs.Common.{◌≡◌, ℕ, suc, ◌+◌, ◌<◌, ◌≤◌, 
 use Rattle.std.specs.Prelude.{◌&&◌, if◌then◌else◌, map, slice_get}
 use Rattle.std.proofs.lemmas.Bool.{eqb-true, eq-eqb, and_parts}
 use Rattle.std.proofs.lemmas.Bool.Decides.{nat_tests}
+use Rattle.std.proofs.lemmas.Option.{none-some}
 use Rattle.source_meaning.specs.Shapes.{Shape}
 use Rattle.source_meaning.specs.Memory as source
 use Rattle.source_meaning.specs.Memory.{Scalar, Spot, Holds, Cell, Object, object_of, same_region, with_object}
@@ -150,7 +151,8 @@ cells_here m k index g xs e = cells_in m (source.Frame k) index g xs e
 -- ---- the relation holds where the new cell's value, if there is one, is in its part
 
 pub agree_made : (w : World) (m : source.Memory) (c : core.Memory) (k index : ℕ) (o : Object) → Agree w m c
-    → m.objects (source.Frame k) ≡ index → k < m.activations → ((cell : ℕ) (shape : Shape) (v : Scalar) → o cell ≡ Some (record { shape = shape; content = Holds v })
+    → m.objects (source.Frame k) ≡ index → k < m.activations
+    → ((cell : ℕ) (shape : Shape) (v : Scalar) → o cell ≡ Some (record { shape = shape; content = Holds v })
     → IsShown w m c (cell_spot k index cell) shape v)
     → Agree w (m_made m k o) c
 agree_made w m c k index o a e begun shown = record {
@@ -246,9 +248,6 @@ agree_ahead w m c s old x a none is = record {
     c' : core.Memory
     c' = with_part c (at s) 0 (record old { content = x })
 
-    no_cell : (y : Cell) → None ≡ Some y → ⊥
-    no_cell y e = cc e
-
     spot_of : (q r : source.Region) → core.same_region (region_at q) (region_at r) ≡ true → q ≡ r
     spot_of q r e = region_is q r (sym (region_as q r) ∙ e)
 
@@ -263,7 +262,7 @@ agree_ahead w m c s old x a none is = record {
 
     by : (b : Bool) (t : Spot) (shape : Shape) (v : Scalar) → core.same_spot (at t) (at s) ≡ b
         → m.cells t ≡ Some (record { shape = shape; content = Holds v }) → IsShown w m c' t shape v
-    by true t shape v e h = absurd (no_cell _ (sym none ∙ ap m.cells (sym (same_as t s e)) ∙ h))
+    by true t shape v e h = absurd (none-some _ (sym none ∙ ap m.cells (sym (same_as t s e)) ∙ h))
     by false t shape v e h =
         let one = a.cells t shape v h in
         record {

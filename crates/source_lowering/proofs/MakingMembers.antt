@@ -38,6 +38,7 @@ use Rattle.source_lowering.proofs.Relations.{
   before_value,
   keeping,
   AValue,
+  first_in,
 }
 use Rattle.source_lowering.proofs.Keeping.{made_later, later_on, later_less, shown_later, free_nothing, fits_on}
 use Rattle.source_lowering.proofs.Runs.{put_all}
@@ -142,10 +143,6 @@ word_member p n d value cells byte shape e from first is_word one = record {
     stores : List Statement
     stores = Do (Store d (distance cells byte (width_of shape)) (d + 1)) ∷ []
 
-    word_in : Content → List Content → Content
-    word_in x [] = x
-    word_in x (y ∷ ys) = y
-
     stored : (m : source.Memory) (c : Config) (s : List Scalar → source.Memory → steps.Step) (rest : Statements) (next : Next)
         → MemberGoesOn p n d value cells m c shape s (meaning.statements rest next) → (m1 : source.Memory) (c1 : Config) (vs : List Scalar) → Fits p m1 c1
         → Later (before_value p value) m c.memory m1 c1.memory → AreBefore p value cells c c1 → AreKept (d + 1) c c1
@@ -162,7 +159,7 @@ word_member p n d value cells byte shape e from first is_word one = record {
         let here : PartIs c1.memory spot 0 (0 + byte) (width_of shape) = subst (λ z. PartIs c1.memory spot 0 z (width_of shape)) close there in
         let old : Part = record { offset = 0 + byte; width = width_of shape; content = here.content } in
         let word = plain.one m1 c1.memory v.value (x ∷ []) v.shown in
-        let same : x ≡ word.word = ap (word_in x) word.is in
+        let same : x ≡ word.word = ap (first_in x) word.is in
         let fitted : fitting (width_of shape) x ≡ x = ap (fitting (width_of shape)) same ∙ word.fits ∙ sym same in
         let c2 : Config = with_memory (with_part c1.memory spot 0 (record old { content = x })) c1 in
         let puts = ahead_later (before_value p value) m1 c1.memory spot old x (own_free p value value (0 + cells) (omega arith)) here.is in

@@ -24,7 +24,8 @@ use Rattle.source_lowering.proofs.Relations.{AreMade, Later, Place, Fits, SameAt
 use Rattle.source_lowering.proofs.Keeping.{made_later, later_self, later_on}
 use Rattle.source_lowering.proofs.Runs.{put_all}
 use Rattle.source_lowering.proofs.Structs.{IsMade, struct_made as struct_is_made}
-use Rattle.source_lowering.proofs.Members.{HaveCells, parts_made, core_beyond_on, core_beyond_zero}
+use Rattle.source_lowering.proofs.StructCells.{AllHaveCells}
+use Rattle.source_lowering.proofs.Members.{parts_made, core_beyond_on, core_beyond_zero}
 use Rattle.source_lowering.proofs.Values.{put_temp, kept_temp, temp_fits}
 use Rattle.source_lowering.proofs.Copying.{AllShown, all_shown_kept}
 use Rattle.source_lowering.proofs.Wholes.{own_spot, IsWhole, value_made}
@@ -65,7 +66,7 @@ no_members p n d value cells total bytes = record {
 }
 
 pub more_members : (p : Place) (n d value cells total : ℕ) (so_far : Extent) (part : Part) (ps : List Part) (act : steps.Act (List Scalar))
-    (acts : steps.Act (List (List Scalar))) (code codes : List Statement) → HaveCells p.world.unions p.world.structs (part ∷ ps)
+    (acts : steps.Act (List (List Scalar))) (code codes : List Statement) → AllHaveCells p.world.unions p.world.structs (part ∷ ps)
     → (laid_out (extent_of p.world) so_far (part ∷ ps)).size ≤ total
     → MemberGoes p n d value cells (rounded_up so_far.size (extent_of p.world part.shape).align) part.shape act code
     → MembersGo p n d value (cells + length (cells_of p.world part.shape)) total

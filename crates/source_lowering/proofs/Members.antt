@@ -1,7 +1,33 @@
 -- A member of an object lies where the struct has it, in the source and in Core.
-use Rattle.std.proofs.Common.{◌≡◌, ℕ, zero, suc, ◌+◌, ◌-◌, ◌≤◌, List, [], ◌∷◌, ◌++◌, map, length, max, Bool, true, false, Some, refl, sym, ap, ◌∙◌, subst, arith}
+use Rattle.std.proofs.Common.{
+  ◌≡◌,
+  ℕ,
+  zero,
+  suc,
+  ◌+◌,
+  ◌-◌,
+  ◌≤◌,
+  List,
+  [],
+  ◌∷◌,
+  ◌++◌,
+  map,
+  length,
+  max,
+  Bool,
+  true,
+  false,
+  Some,
+  refl,
+  sym,
+  ap,
+  ◌∙◌,
+  subst,
+  arith,
+}
 use Rattle.std.specs.Prelude.{bytes_eq}
 use Rattle.std.proofs.lemmas.List.{length-map}
+use Rattle.source_meaning.proofs.Layouts.{laid_above, rounded_above}
 use Rattle.source_meaning.specs.Shapes.{
   Shape,
   IntShape,
@@ -33,8 +59,8 @@ use Rattle.core_meaning.specs.Memory.{Content}
 use Rattle.source_lowering.specs.Layouts.{Piece, pieces_of, part_shape_of, padding, next_at, padded, extent_of, bytes_before}
 use Rattle.source_lowering.specs.Lowered.{width_of, member_shape}
 use Rattle.source_lowering.specs.Lowerable.{IsWordShape, IsObject, AreObjects, AreStructs}
-use Rattle.source_lowering.proofs.Structs.{cells_in, placed_in, extent_in, rounded_above, object_small, IsMade, struct_made}
-use Rattle.source_lowering.proofs.StructCells.{shapes_in, shapes_count, AreWordShapes, HasCells, object_cells}
+use Rattle.source_lowering.proofs.Structs.{cells_in, placed_in, extent_in, object_small, IsMade, struct_made}
+use Rattle.source_lowering.proofs.StructCells.{AllHaveCells, HasCells, shapes_in, shapes_count, AreWordShapes, object_cells}
 use Rattle.source_lowering.proofs.Relations.{at, PartIs, AreShaped, AreMade, AreCells, Leads, LiesNear}
 
 -- ---- the first part
@@ -206,25 +232,13 @@ made_after c t b bytes extent (p ∷ ps) qs h =
     subst (λ z. AreMade c z b (padded extent bytes qs)) (core_beyond_on t 1 (length ps) (suc (length ps)) (omega arith))
     (made_after c (core.beyond t 1) b bytes extent ps qs h.1)
 
-pub laid_above : (extent : Shape → Extent) (s : Extent) (ps : List Part) → s.size ≤ (laid_out extent s ps).size
-laid_above extent s [] = rounded_above s.size s.align
-laid_above extent s (p ∷ ps) =
-    let e = extent p.shape in
-    let further : rounded_up s.size e.align + e.size ≤ (laid_out extent s (p ∷ ps)).size =
-    laid_above extent (record { size = rounded_up s.size e.align + e.size; align = max s.align e.align }) ps in
-    omega (arith, rounded_above s.size e.align, further)
-
--- each of these has cells
-abbrev pub HaveCells : List Layout → List Layout → List Part → Type 0
-HaveCells unions structs [] = Unit {0}
-HaveCells unions structs (p ∷ ps) = HasCells unions structs p.shape × HaveCells unions structs ps
-
-pub have_cells : (unions structs : List Layout) (ps : List Part) → AreStructs unions structs → AreObjects structs (part_shapes ps) → HaveCells unions structs ps
+pub have_cells : (unions structs : List Layout) (ps : List Part) → AreStructs unions structs → AreObjects structs (part_shapes ps)
+    → AllHaveCells unions structs ps
 have_cells unions structs [] h o = tt
 have_cells unions structs (p ∷ ps) h o = (object_cells unions structs p.shape h o.0, have_cells unions structs ps h o.1)
 
 -- what comes after so many bytes begins no earlier
-pub next_after : (unions structs : List Layout) (bytes : ℕ) (so_far : Extent) (ps : List Part) → HaveCells unions structs ps
+pub next_after : (unions structs : List Layout) (bytes : ℕ) (so_far : Extent) (ps : List Part) → AllHaveCells unions structs ps
     → (laid_out (extent_in unions structs) so_far ps).size ≤ bytes
     → so_far.size ≤ next_at bytes (all_placed (placed_in unions structs) (extent_in unions structs) so_far.size ps)
 next_after unions structs bytes so_far [] h room = let more = laid_above (extent_in unions structs) so_far [] in omega (arith, more, room)
@@ -237,7 +251,7 @@ next_after unions structs bytes so_far (p ∷ ps) h room =
 
 -- of members from one on, the first, and those after it
 pub parts_made : (c : core.Memory) (unions structs : List Layout) (bytes : ℕ) (so_far : Extent) (p : Part) (ps : List Part) (t : core.Spot) (b : ℕ)
-    → HaveCells unions structs (p ∷ ps) → (laid_out (extent_in unions structs) so_far (p ∷ ps)).size ≤ bytes
+    → AllHaveCells unions structs (p ∷ ps) → (laid_out (extent_in unions structs) so_far (p ∷ ps)).size ≤ bytes
     → AreMade c t b (padded (extent_in unions structs) bytes (all_placed (placed_in unions structs) (extent_in unions structs) so_far.size (p ∷ ps)))
     → AreMade c t (b + rounded_up so_far.size (extent_in unions structs p.shape).align) (padded (extent_in unions structs)
     (extent_in unions structs p.shape).size (placed_in unions structs p.shape)) × AreMade c (core.beyond t (length (cells_in structs p.shape))) b
@@ -269,7 +283,7 @@ parts_made c unions structs bytes so_far p ps t b h room made = (
     count = length-map (placed_in unions structs p.shape) (moved a) ∙ sym (shapes_count (placed_in unions structs p.shape)) ∙ ap length h.0.shapes
 
 member_made : (c : core.Memory) (unions structs : List Layout) (bytes : ℕ) (so_far : Extent) (ps : List Part) (f : List ℕ) (t : core.Spot) (b : ℕ)
-    → HaveCells unions structs ps → (laid_out (extent_in unions structs) so_far ps).size ≤ bytes
+    → AllHaveCells unions structs ps → (laid_out (extent_in unions structs) so_far ps).size ≤ bytes
     → AreMade c t b (padded (extent_in unions structs) bytes (all_placed (placed_in unions structs) (extent_in unions structs) so_far.size ps))
     → AreMade c (core.beyond t (cells_before (cells_in structs) ps f)) (b + bytes_before (extent_in unions structs) so_far.size ps f)
     (padded (extent_in unions structs) (extent_in unions structs (part_shape ps f)).size (placed_in unions structs (part_shape ps f)))

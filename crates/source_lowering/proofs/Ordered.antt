@@ -1,6 +1,7 @@
 -- The cells of an object lie one after the other, words at multiples of 4.
 use Rattle.std.proofs.Common.{◌≡◌, ⊎_elim, ◌⊎◌, ℕ, ◌+◌, ◌%◌, ◌≤◌, inl, inr, List, [], ◌∷◌, ◌++◌, map, max, Bool, true, false, refl, sym, ap, ◌∙◌, subst, arith}
 use Rattle.std.specs.Prelude.{bytes_eq, if◌then◌else◌}
+use Rattle.std.proofs.lemmas.Bool.{false≢true}
 use Rattle.source_meaning.specs.Shapes.{
   Shape,
   IntShape,
@@ -24,8 +25,9 @@ use Rattle.source_meaning.specs.Placing.{Placed, moved, all_placed, struct_place
 use Rattle.source_lowering.specs.Layouts.{next_at}
 use Rattle.source_lowering.specs.Lowered.{width_of}
 use Rattle.source_lowering.specs.Lowerable.{IsObject, AreObjects, IsStruct, AreStructs}
-use Rattle.source_lowering.proofs.Structs.{placed_in, extent_in, true_false}
-use Rattle.source_lowering.proofs.Members.{next_moved, next_after, HaveCells, have_cells}
+use Rattle.source_lowering.proofs.Structs.{placed_in, extent_in}
+use Rattle.source_lowering.proofs.StructCells.{AllHaveCells}
+use Rattle.source_lowering.proofs.Members.{next_moved, next_after, have_cells}
 
 -- ---- cells one after the other
 
@@ -61,7 +63,7 @@ ordered_moved size bytes a (p ∷ ps) qs h room others =
     let one = h.0 in
     (omega (arith, more, one), ordered_moved size bytes a ps qs h.1 room others)
 
-parts_ordered : (unions structs : List Layout) (bytes : ℕ) (so_far : Extent) (ps : List Part) → AllOrdered unions structs ps → HaveCells unions structs ps
+parts_ordered : (unions structs : List Layout) (bytes : ℕ) (so_far : Extent) (ps : List Part) → AllOrdered unions structs ps → AllHaveCells unions structs ps
     → (laid_out (extent_in unions structs) so_far ps).size ≤ bytes
     → AreOrdered bytes (all_placed (placed_in unions structs) (extent_in unions structs) so_far.size ps)
 parts_ordered unions structs bytes so_far [] h cells room = tt
@@ -179,7 +181,7 @@ struct_as unions structs tag placed extent p e ordered aligned even = record {
 
 struct_ordered : (unions structs : List Layout) → AreStructs unions structs → (tag : List ℕ) → has_tag structs tag ≡ true
     → IsOrdered unions structs (StructShape tag)
-struct_ordered unions [] h tag o = absurd (true_false false o refl)
+struct_ordered unions [] h tag o = absurd (false≢true o)
 struct_ordered unions (l ∷ earlier) h tag o = by (bytes_eq l.tag tag) refl (λ t e. struct_ordered unions earlier h.1 t e)
   where
     one : IsStruct unions earlier l

@@ -25,7 +25,7 @@ use Rattle.std.proofs.Common.{
   arith,
 }
 use Rattle.std.specs.Prelude.{◌&&◌, ◌-◌, if◌then◌else◌, nat_lt, nat_le}
-use Rattle.std.proofs.lemmas.Bool.{eqb-true, and_parts}
+use Rattle.std.proofs.lemmas.Bool.{eqb-true, and_parts, true≢false}
 use Rattle.std.proofs.lemmas.Bool.Decides.{nat_tests}
 use Rattle.source_meaning.specs.Shapes.{Shape}
 use Rattle.source_meaning.specs.Memory as source
@@ -39,7 +39,6 @@ use Rattle.core_meaning.specs.Memory.{Layout}
 use Rattle.core_meaning.specs.Core.{Program}
 use Rattle.core_meaning.specs.Steps as core_steps
 use Rattle.core_meaning.specs.Operations.{same_object, cells_on, copied}
-use Rattle.source_lowering.proofs.Structs.{true_false}
 use Rattle.source_lowering.proofs.Relations.{region_at, at, HasShape, AreCells, IsShown, Agree, Bound, nothing, Later, Same}
 use Rattle.source_lowering.proofs.Keeping.{named_free, region_as, shown_later, shape_kept, unmade_kept, m_written}
 use Rattle.source_lowering.proofs.Runs.{stuck_same}
@@ -146,7 +145,7 @@ all_hold Q m t (x ∷ xs) (u ∷ vs) all others s shape v e =
             cell_by false e = grind (arith, nat_tests, e, l)
             cell_by true e =
                 let same : s ≡ t = λ i. record { region = r i; object = o i; cell = eqb-true s.cell t.cell e i } in
-                absurd (true_false (same_spot s t) (ap (λ z. same_spot z t) same ∙ spot_itself t) g)
+                absurd (true≢false (sym (ap (λ z. same_spot z t) same ∙ spot_itself t) ∙ g))
 
 -- cells of their shapes in a live region are written, or the source is stuck
 pub writes_all : (w : World) (fs : Program) (n : ℕ) (xs : List Shape) (vs : List Scalar) (m : source.Memory) (t : Spot)

@@ -14,7 +14,17 @@ use Rattle.core_meaning.proofs.Spots.{region_same}
 use Rattle.source_lowering.specs.Programs.{locals_of}
 use Rattle.source_lowering.proofs.Relations.{region_at, at, ArePending, IsLexical, Agree, Bound, nothing, IsKept, Later}
 use Rattle.source_lowering.proofs.Keeping.{shown_later, held_same}
-use Rattle.source_lowering.proofs.Entering.{made_parts, made_standing, made_activations, made_calls, made_births, made_objects, held_on, pending_made}
+use Rattle.source_lowering.proofs.Entering.{
+  later_number,
+  made_parts,
+  made_standing,
+  made_activations,
+  made_calls,
+  made_births,
+  made_objects,
+  held_on,
+  pending_made,
+}
 
 live_apart : (r : source.Region) (k : ℕ) (now : core.Standing) (c : core.Memory) → (with_standing c (core.Own k) now).standing (region_at r) ≡ c.standing
     (region_at r)
@@ -23,9 +33,6 @@ live_apart (source.Born j) k now c = refl
 
 other_number : (j k : ℕ) → j < k → nat_eq j k ≡ false
 other_number j k h = grind (arith, nat_tests, h)
-
-later_number : (j k : ℕ) → k + 1 ≤ j → nat_eq j k ≡ false
-later_number j k h = grind (arith, nat_tests, h)
 
 -- ---- a function is left: its own region is dead
 

@@ -2,21 +2,35 @@
 use Rattle.std.proofs.Common.{◌≡◌, ℕ, suc, ◌⊎◌, inl, ⊎_elim, List, [], ◌∷◌, ◌++◌, map, Some, None, refl, sym, ap, ◌∙◌, subst, arith}
 use Rattle.std.proofs.lemmas.List.{append-nil}
 use Rattle.std.specs.Prelude.{codes, slice_get}
-use Rattle.cyc_words.specs.Events.{SourceEnding}
+use Rattle.cyc_words.specs.Events.{AreBytes, SourceEnding}
 use Rattle.step_trees.specs.Trees.{Stops}
 use Rattle.cyc_tree.specs.Tree as tree
 use Rattle.cyc_tree.specs.Tree.{Base, TypeName, Pointer, Member, Function, Item}
 use Rattle.source_meaning.specs.Shapes.{Shape, IntShape, Part, part_of, part_shapes, written, settled}
 use Rattle.source_meaning.specs.Memory as source
-use Rattle.source_meaning.specs.Memory.{Integer, Scalar, Object}
+use Rattle.source_meaning.specs.Memory.{Scalar}
 use Rattle.source_meaning.specs.Steps as steps
 use Rattle.source_meaning.specs.Steps.{World, Routine, need, ◌>>=◌}
 use Rattle.source_meaning.specs.Conversions.{one, integer}
 use Rattle.source_meaning.specs.Calls.{function_of}
 use Rattle.source_meaning.specs.Strings.{program_strings}
-use Rattle.source_meaning.specs.Programs.{global_shape, globals_from, functions_of, routine_of, world_of, globals_stored, global_objects, heap_alone, string_object, first_memory, entered, start, source}
+use Rattle.source_meaning.specs.Programs.{
+  global_shape,
+  globals_from,
+  functions_of,
+  routine_of,
+  world_of,
+  globals_stored,
+  global_objects,
+  heap_alone,
+  string_object,
+  first_memory,
+  entered,
+  start,
+  source,
+}
 use Rattle.core_meaning.specs.Memory as core_memory
-use Rattle.core_meaning.specs.Memory.{Content, Word}
+use Rattle.core_meaning.specs.Memory.{Content}
 use Rattle.core_meaning.specs.Core.{Program}
 use Rattle.core_meaning.specs.Steps as core_steps
 use Rattle.core_meaning.specs.Meaning as meaning
@@ -34,7 +48,7 @@ use Rattle.source_lowering.specs.Lowerable.{
   TakesProgram,
   IsLowerable,
 }
-use Rattle.source_lowering.proofs.Relations.{Agree, AreLed, AreBytes, SameOutcome, Same}
+use Rattle.source_lowering.proofs.Relations.{Agree, AreLed, SameOutcome, Same}
 use Rattle.source_lowering.proofs.Runs.{stuck_same, stops_same}
 use Rattle.source_lowering.proofs.Integers.{IsTaken, word_taken, shown_one, IsWord, IsThin, IsHandle, thin_same}
 use Rattle.source_lowering.proofs.Names.{AreGlobals, AreParameters, IsRoutine, AreRoutines, IsPlainWorld, FoundFunction, find_function}

@@ -1,8 +1,8 @@
 -- The relation between a source's memory and Core's, and when both do the same from there on.
 use Rattle.std.proofs.Common.{◌≡◌, ℕ, suc, ◌+◌, ◌*◌, ◌^◌, ◌<◌, ◌≤◌, ◌⊎◌, List, [], ◌∷◌, length, Bool, true, Option, Some, None}
 use Rattle.std.specs.Prelude.{slice_get}
-use Rattle.cyc_words.specs.Events.{SourceEnding}
-pub use Rattle.source_lowering.specs.Agreeing.{SameEvent, BothVisible, BothCalled, BothReturned, SameEvents, SameOutcome, AreBytes}
+use Rattle.cyc_words.specs.Events.{AreBytes, SourceEnding}
+pub use Rattle.source_lowering.specs.Agreeing.{SameEvent, BothVisible, BothCalled, BothReturned, SameEvents, SameOutcome}
 use Rattle.step_trees.specs.Trees.{run}
 use Rattle.source_meaning.specs.Shapes.{
   Shape,
@@ -30,15 +30,13 @@ use Rattle.source_meaning.specs.Memory.{
   Wide,
   HandleOf,
   KeyOf,
-  Tagged,
   Spot,
   Span,
   Holds,
-  Cell,
   state_is_live,
 }
 use Rattle.source_meaning.specs.Steps as steps
-use Rattle.source_meaning.specs.Steps.{Entity, World, Routine, Binding, Variable, Fixed}
+use Rattle.source_meaning.specs.Steps.{Entity, World, Binding, Variable, Fixed}
 use Rattle.source_meaning.specs.Programs.{source_bodies}
 use Rattle.source_meaning.specs.Conversions.{cells_of, size_of}
 use Rattle.core_meaning.specs.Memory as core
@@ -52,6 +50,13 @@ use Rattle.source_lowering.specs.Lowered.{Named, put}
 use Rattle.source_lowering.specs.Lowerable.{IsObject}
 use Rattle.source_lowering.specs.Programs.{RegionsAround}
 use Rattle.source_lowering.proofs.StructCells.{HasCells}
+
+-- ---- contents
+
+-- the first of these, or else this one
+abbrev pub first_in : Content → List Content → Content
+first_in x [] = x
+first_in x (y ∷ ys) = y
 
 -- ---- spots are equal, number for number
 

@@ -1,7 +1,7 @@
 -- Runs that show the same, a step at a time.
 use Rattle.std.proofs.Common.{◌≡◌, ℕ, zero, suc, ◌≤◌, ◌⊎◌, inl, inr, ⊎_elim, List, [], ◌∷◌, ◌++◌, Option, Some, None, refl, ap, arith}
 use Rattle.cyc_words.specs.Events as events
-use Rattle.cyc_words.specs.Events.{SourceEvent, SourceEnding}
+use Rattle.cyc_words.specs.Events.{AreBytes, SourceEvent, SourceEnding}
 use Rattle.step_trees.specs.Trees.{Stops, Says, Reads, Pays, Calls, Turns, run}
 use Rattle.source_meaning.specs.Memory as source
 use Rattle.source_meaning.specs.Memory.{Scalar}
@@ -15,7 +15,7 @@ use Rattle.core_meaning.specs.Steps as core_steps
 use Rattle.core_meaning.specs.Steps.{Config, Exit}
 use Rattle.core_meaning.specs.Meaning as meaning
 use Rattle.source_lowering.specs.Lowered.{put}
-use Rattle.source_lowering.proofs.Relations.{SameEvent, BothVisible, SameOutcome, AreBytes, IsByte, Same}
+use Rattle.source_lowering.proofs.Relations.{SameEvent, BothVisible, SameOutcome, IsByte, Same}
 
 -- what holds of the outcomes at so much fuel
 abbrev Alike : World → Program → ℕ → List ℕ → steps.Step → core_steps.Step → Type 0

@@ -1,11 +1,29 @@
 -- The cells of objects: as many, placed and not, each a word; the first begins the object.
 use Rattle.std.proofs.Common.{◌≡◌, ℕ, suc, ◌+◌, List, [], ◌∷◌, ◌++◌, map, length, Bool, true, false, refl, sym, ap, ◌∙◌, subst, arith}
 use Rattle.std.specs.Prelude.{bytes_eq, if◌then◌else◌}
-use Rattle.source_meaning.specs.Shapes.{Shape, IntShape, UnsignedShape, CharShape, VoidShape, ThinShape, FatShape, HandleShape, KeyShape, StructShape, UnionShape, ArrayShape, Part, Layout, part_shapes, has_tag}
+use Rattle.std.proofs.lemmas.Bool.{false≢true}
+use Rattle.source_meaning.specs.Shapes.{
+  Shape,
+  IntShape,
+  UnsignedShape,
+  CharShape,
+  VoidShape,
+  ThinShape,
+  FatShape,
+  HandleShape,
+  KeyShape,
+  StructShape,
+  UnionShape,
+  ArrayShape,
+  Part,
+  Layout,
+  part_shapes,
+  has_tag,
+}
 use Rattle.source_meaning.specs.Sizes.{rounded_up, all_cells, struct_cells}
 use Rattle.source_meaning.specs.Placing.{Placed, moved, all_placed, struct_placed}
 use Rattle.source_lowering.specs.Lowerable.{IsWordShape, IsObject, AreObjects, HasMember, IsStruct, AreStructs}
-use Rattle.source_lowering.proofs.Structs.{cells_in, placed_in, extent_in, rounded_zero, true_false}
+use Rattle.source_lowering.proofs.Structs.{cells_in, placed_in, extent_in, rounded_zero}
 
 -- ---- cells
 
@@ -60,7 +78,7 @@ word_cells unions structs s word placed cells = record {
 }
 
 -- where each member has cells
-abbrev AllHaveCells : List Layout → List Layout → List Part → Type 0
+abbrev pub AllHaveCells : List Layout → List Layout → List Part → Type 0
 AllHaveCells unions structs [] = Unit {0}
 AllHaveCells unions structs (p ∷ ps) = HasCells unions structs p.shape × AllHaveCells unions structs ps
 
@@ -158,7 +176,7 @@ struct_still unions earlier l tag e one =
 
 struct_has : (unions structs : List Layout) → AreStructs unions structs → (tag : List ℕ) → has_tag structs tag ≡ true
     → HasCells unions structs (StructShape tag)
-struct_has unions [] h tag o = absurd (true_false false o refl)
+struct_has unions [] h tag o = absurd (false≢true o)
 struct_has unions (l ∷ earlier) h tag o = by (bytes_eq l.tag tag) refl (λ t e. struct_has unions earlier h.1 t e)
   where
     one : IsStruct unions earlier l

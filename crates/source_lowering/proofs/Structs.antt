@@ -1,8 +1,9 @@
 -- The tables of structs: what a struct is made of, where its members lie, and that it begins at its first byte.
 use Rattle.std.proofs.Common.{◌≡◌, ℕ, zero, suc, ◌+◌, ◌*◌, ◌/◌, ◌<◌, ◌≤◌, List, [], ◌∷◌, ◌++◌, map, max, Bool, true, false, refl, sym, ap, ◌∙◌, subst, arith}
 use Rattle.std.specs.Prelude.{bytes_eq, if◌then◌else◌}
-use Rattle.std.proofs.Math.Nat.{lt-div-mul-add, div-eq_of_lt, zero-lt-suc}
+use Rattle.std.proofs.Math.Nat.{div-eq_of_lt}
 use Rattle.std.proofs.lemmas.Slice.Eq.{bytes_eq-Decides}
+use Rattle.std.proofs.lemmas.Bool.{false≢true, true≢false}
 use Rattle.source_meaning.specs.Shapes.{
   Shape,
   IntShape,
@@ -48,9 +49,6 @@ placed_in unions structs s = placed_by (struct_placed unions structs) s
 abbrev pub extent_in : List Layout → List Layout → Shape → Extent
 extent_in unions structs s = extent_by (struct_extent unions structs) (union_extent unions) s
 
-pub true_false : (b : Bool) → b ≡ true → b ≡ false → ⊥
-true_false b e f = cc (e, f)
-
 -- another struct's tag is another
 other_tag : (structs : List Layout) (tag new : List ℕ) → has_tag structs tag ≡ true → has_tag structs new ≡ false → bytes_eq new tag ≡ false
 other_tag structs tag new e f = by (bytes_eq new tag) refl
@@ -59,7 +57,7 @@ other_tag structs tag new e f = by (bytes_eq new tag) refl
     by false g = g
     by true g =
         let same : new ≡ tag = (bytes_eq-Decides new tag).0 g in
-        absurd (true_false (has_tag structs tag) e (ap (has_tag structs) (sym same) ∙ f))
+        absurd (true≢false (sym e ∙ ap (has_tag structs) (sym same) ∙ f))
 
 -- one more struct changes nothing of what is made of earlier ones
 record IsStill (unions earlier : List Layout) (l : Layout) (s : Shape) : Type 0 where
@@ -160,7 +158,7 @@ parts_by b l earlier tag = (if b then l.parts else parts_of earlier tag)
 pub struct_made : (unions structs : List Layout) (tag : List ℕ) → AreStructs unions structs → IsMade unions structs tag
 struct_made unions [] tag h = record {
   members = tt;
-  some = λ e. absurd (true_false false e refl);
+  some = λ e. absurd (false≢true e);
   cells = refl;
   placed = refl;
   extent = refl;
@@ -223,10 +221,6 @@ object_small unions structs HandleShape h o = omega arith
 object_small unions structs KeyShape h o = absurd o
 object_small unions structs (UnionShape tag) h o = absurd o
 object_small unions structs (ArrayShape count of) h o = absurd o
-
-pub rounded_above : (x a : ℕ) → x ≤ rounded_up x a
-rounded_above x zero = omega arith
-rounded_above x (suc a) = let more : x + a < (x + a) / suc a * suc a + suc a = lt-div-mul-add (zero-lt-suc a) in omega (arith, more)
 
 pub rounded_zero : (a : ℕ) → rounded_up 0 a ≡ 0
 rounded_zero zero = refl

@@ -1,6 +1,7 @@
 -- Forms of expressions that are structs.
 use Rattle.std.proofs.Common.{◌≡◌, ℕ, suc, ◌+◌, ◌<◌, ◌≤◌, List, ◌++◌, Bool, true, false, Some, refl, sym, ap, ◌∙◌, arith}
 use Rattle.std.specs.Prelude.{slice_get, bytes_eq, codes, if◌then◌else◌}
+use Rattle.std.proofs.lemmas.Bool.{false≢true}
 use Rattle.source_meaning.specs.Shapes.{
   Shape,
   IntShape,
@@ -24,7 +25,6 @@ use Rattle.core_meaning.specs.Core.{Statement}
 use Rattle.source_lowering.specs.Lowered.{call_shape, values_by}
 use Rattle.source_lowering.specs.Lowerable.{IsObject, AreStructs, IsStructShape, TakesMember}
 use Rattle.source_lowering.specs.Whole.{makes_struct, copied_code, member_code}
-use Rattle.source_lowering.proofs.Structs.{true_false}
 use Rattle.source_lowering.proofs.Relations.{Place, keeping}
 use Rattle.source_lowering.proofs.Variables.{Agrees}
 use Rattle.source_lowering.proofs.Places.{IsPlaced}
@@ -100,7 +100,7 @@ call_whole p n d value name es code makes one =
 
     by : (reads writes tagged : Bool) → bytes_eq name (codes "getchar") ≡ reads → bytes_eq name (codes "putchar") ≡ writes
         → has_tag p.world.structs name ≡ tagged → IsWholeAs p n d value (call_sense p.world name es) (call_shape p.world name) code
-    by true writes tagged e f g = absurd (true_false false (is true writes tagged e f g) refl)
-    by false true tagged e f g = absurd (true_false false (is false true tagged e f g) refl)
-    by false false false e f g = absurd (true_false false (is false false false e f g) refl)
+    by true writes tagged e f g = absurd (false≢true (is true writes tagged e f g))
+    by false true tagged e f g = absurd (false≢true (is false true tagged e f g))
+    by false false false e f g = absurd (false≢true (is false false false e f g))
     by false false true e f g = rw (e, f, g) (record { whole = one g; shape_is = refl })

@@ -1,18 +1,57 @@
 -- The unnamed values of what is taken are structs of the program.
-use Rattle.std.proofs.Common.{◌≡◌, ℕ, suc, Some, List, [], ◌∷◌, ◌++◌, Bool, true, false, refl}
+use Rattle.std.proofs.Common.{◌≡◌, ℕ, suc, Some, List, [], ◌∷◌, ◌++◌, Bool, true, false, refl, sym, ◌∙◌}
 use Rattle.std.specs.Prelude.{bytes_eq, codes, if◌then◌else◌}
+use Rattle.std.proofs.lemmas.Bool.{false≢true, true≢false}
 use Rattle.cyc_tree.specs.Tree as tree
 use Rattle.cyc_tree.specs.declared.expression.Prefix.{Prefix}
 use Rattle.cyc_tree.specs.declared.expression.Prefix.TheVariants as prefix
-use Rattle.cyc_tree.specs.Tree.{Expression, Expressions, NoExpressions, MoreExpressions, Links, NoLinks, MoreLinks, Suffixes, NoSuffixes, Index, Dot, Arrow, Made, One, Array}
+use Rattle.cyc_tree.specs.Tree.{
+  Expression,
+  Expressions,
+  NoExpressions,
+  MoreExpressions,
+  Links,
+  NoLinks,
+  MoreLinks,
+  Suffixes,
+  NoSuffixes,
+  Index,
+  Dot,
+  Arrow,
+  Made,
+  One,
+  Array,
+}
 use Rattle.cyc_tree.specs.Tree.{Initializer, Declaration, Statement, BlockItems, NoItems, Declare, Execute}
 use Rattle.source_meaning.specs.Shapes.{Shape, StructShape, Layout, Part, parts_of, has_tag, written, settled}
 use Rattle.source_meaning.specs.Steps.{World}
 use Rattle.source_lowering.specs.Lowered.{Named, static_shape, values_by, expression_values, all_values, link_values, new_values}
 use Rattle.source_lowering.specs.Whole.{makes_struct, is_made, whole_values, made_values, assigned_values, dropped_values, run_values}
 use Rattle.source_lowering.specs.Programs.{local_shape, named_here, outward, initial_values, declaration_values, statement_values, item_values}
-use Rattle.source_lowering.specs.Lowerable.{IsObject, AreObjects, IsStructShape, Takes, TakesAll, TakesLinks, TakesNew, TakesSuffixes, TakesPrefix, TakesPointer, TakesMember, TakesPlace, TakesWhole, TakesMade, TakesAssigned, TakesDropped, TakesCalled, TakesRun, TakesValue, TakesDeclaration, TakesStatement, TakesItems}
-use Rattle.source_lowering.proofs.Structs.{true_false}
+use Rattle.source_lowering.specs.Lowerable.{
+  IsObject,
+  AreObjects,
+  IsStructShape,
+  Takes,
+  TakesAll,
+  TakesLinks,
+  TakesNew,
+  TakesSuffixes,
+  TakesPrefix,
+  TakesPointer,
+  TakesMember,
+  TakesPlace,
+  TakesWhole,
+  TakesMade,
+  TakesAssigned,
+  TakesDropped,
+  TakesCalled,
+  TakesRun,
+  TakesValue,
+  TakesDeclaration,
+  TakesStatement,
+  TakesItems,
+}
 
 -- ---- expressions
 
@@ -21,8 +60,8 @@ pub made_tag : (w : World) (name : List ℕ) → makes_struct w name ≡ true �
 made_tag w name h = by (bytes_eq name (codes "getchar")) (bytes_eq name (codes "putchar")) h
   where
     by : (reads writes : Bool) → (if reads then false else (if writes then false else has_tag w.structs name)) ≡ true → has_tag w.structs name ≡ true
-    by true writes h = absurd (true_false false h refl)
-    by false true h = absurd (true_false false h refl)
+    by true writes h = absurd (false≢true h)
+    by false true h = absurd (false≢true h)
     by false false h = h
 
 pub struct_object : (structs : List Layout) (s : Shape) → IsStructShape structs s → IsObject structs s
@@ -155,7 +194,7 @@ mutual
 
 -- what is taken whole and isn't made is a place
 pub unmade_place : (w : World) (names : List Named) (e : Expression) → TakesWhole w names e → is_made w e ≡ false → TakesPlace w names e
-unmade_place w names (Expression.Call name arguments) h is = absurd (true_false (makes_struct w name.text) h.0 is)
+unmade_place w names (Expression.Call name arguments) h is = absurd (true≢false (sym h.0 ∙ is))
 unmade_place w names (Expression.Grouped at inner) h is = unmade_place w names inner h is
 unmade_place w names (Expression.Variable name) h is = tt
 unmade_place w names (Expression.Suffixed primary suffixes) h is = h.0

@@ -1,7 +1,7 @@
 -- When a program and its Core show the same and end alike, and the laws of lowering: that they do, and how large frames and code are.
-use Rattle.std.specs.Prelude.{◌≡◌, ℕ, ◌<◌, ◌≤◌, ◌⊎◌, List, [], ◌∷◌, Some, slice_get}
+use Rattle.std.specs.Prelude.{◌≡◌, ℕ, ◌≤◌, ◌⊎◌, List, [], ◌∷◌, Some, slice_get}
 use Rattle.cyc_words.specs.Events as events
-use Rattle.cyc_words.specs.Events.{SourceEnding}
+use Rattle.cyc_words.specs.Events.{AreBytes, SourceEnding}
 use Rattle.cyc_tree.specs.Tree.{Program}
 use Rattle.step_trees.specs.Trees.{Outcome}
 use Rattle.source_meaning.specs.Steps.{Routine, World}
@@ -27,11 +27,6 @@ SameEvents w (e ∷ es) [] = ⊥
 pub record SameOutcome (w : World) (s : Outcome events.SourceEvent) (c : Outcome core_steps.Event) : Type 0 where
   pub events : SameEvents w s.events c.events
   pub ending : s.ending ≡ c.ending
-
--- an input is of bytes
-abbrev pub AreBytes : List ℕ → Type 0
-AreBytes [] = Unit {0}
-AreBytes (b ∷ bs) = (b < 256) × AreBytes bs
 
 -- On each input of bytes and with each amount of fuel a program that is taken is Stuck, or its Core shows the same events, calls and returns too, and ends
 -- alike.

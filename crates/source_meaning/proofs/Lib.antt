@@ -15,6 +15,7 @@ pub mod BeginningSamples
 pub mod StuckSamples
 pub mod MoveSamples
 pub mod Cases
+pub mod Layouts
 pub mod PlainExpressions
 pub mod Quiet
 mod ShapeSamples

@@ -33,14 +33,10 @@ use Rattle.source_safety.proofs.Names.{NameOf}
 use Rattle.source_safety.proofs.Scenes.{Alike, Globals, Scene, scene_later}
 use Rattle.source_safety.proofs.Entries.{Function, Enters, Invokes}
 use Rattle.source_safety.proofs.Surroundings.{surrounds_loop, scene_loop}
-use Rattle.source_safety.proofs.Flows.{FlowOk, Turning, flow_as}
+use Rattle.source_safety.proofs.Flows.{FlowOk, ReturnOk, Turning, flow_as}
 use Rattle.source_safety.proofs.Blocks.{items_leave, statement_leaves}
 use Rattle.source_safety.proofs.Parameters.{landing, inv_landed, grows_landed, flown_moved, with_all, all_shaped, types_alike, types_up, AllBound, all_bound}
 use Rattle.source_safety.proofs.Functions.{FunctionJudged, Sources, entry_scope, entry_names, count_is, variables_alike, surrounds_entry, scene_entry}
-
--- what is returned is of the function's type, whatever block it comes from
-abbrev pub ResultOk : Tables → RunType → List Scalar → Ghost → Type 0
-ResultOk d t vs w = HaveTypes d w (λ c. invariant.Returned c) vs (flat heap d t)
 
 module _ (n : ℕ) (d : Tables) (world : World) (tables : typing.Tables) (sources : Sources d world tables) (invokes : Invokes n d world tables)
     (turns : Turning n d world tables) (x : List ℕ) (s : Signature) (F : Function world x s) (judged : FunctionJudged world tables x s F)
@@ -96,27 +92,33 @@ module _ (n : ℕ) (d : Tables) (world : World) (tables : typing.Tables) (source
             fresh l = omega (arith, l)
 
         body_at : ℕ → Act Flow
-        body_at j = with_arguments F.routine.parameters vss (block_items F.routine.body) (record { world = world; locals = []; frame = j; result = F.routine.result })
+        body_at j = with_arguments F.routine.parameters vss (block_items F.routine.body)
+            (record { world = world; locals = []; frame = j; result = F.routine.result })
 
         inside : Inv d w1 m1 → Runs n (body_at a0) m1 (λ flow. After d k a0 w1 m1 (λ w' m'. Left flow w'))
-        inside i1 = runs_arguments n d world (λ t u. Reached u) k a0 a0 F.routine.parameters (map (renamed f0) F.types) vss w1 m1 start (block_items F.routine.body)
-            (λ flow. After d k a0 w1 m1 (λ w' m'. Left flow w')) (agrees d world tables sources.structs) (λ t u. refl) refl refl (all_shaped f0 F.routine.parameters F.types F.shapes) i1
+        inside i1 = runs_arguments n d world (λ t u. Reached u) k a0 a0 F.routine.parameters (map (renamed f0) F.types) vss w1 m1 start
+            (block_items F.routine.body)
+            (λ flow. After d k a0 w1 m1 (λ w' m'. Left flow w')) (agrees d world tables sources.structs) (λ t u. refl) refl refl
+            (all_shaped f0 F.routine.parameters F.types F.shapes) i1
             (same_here (Frame a0) Live (m.state (Frame a0))) (flown_moved d k w w1 vss (map (renamed f0) F.types) carry
             (subst (λ (ts : List RunType). Flown d w k vss ts) (sym (types_alike s.regions h f0 F.types alike judged.takes_below)) flown))
             (λ ss w2 m2 i2 g2 st cells landed.
-            let all : AllBound d world tables f0 (renamed h F.gives) a0 g0 (with_all F.routine.parameters F.types g0) start (bound_all start F.routine.parameters ss) w2 m2 =
+            let all : AllBound d world tables f0 (renamed h F.gives) a0 g0 (with_all F.routine.parameters F.types g0) start
+            (bound_all start F.routine.parameters ss) w2 m2 =
             all_bound d world tables f0 (renamed h F.gives) a0 F.routine.parameters F.types ss vss g0 start w2 m2
             (surrounds_entry d world tables sources x s F judged h enters.heap_is a0) refl F.objects takes_below F.shapes landed in
             let scene : Scene d g0 start f0 a0 k w2 m2 =
             scene_later d g0 start f0 a0 k w1 m1 w2 m2 i2 g2 (scene_entry d world tables sources x s F judged h k w m i globals enters) in
             record {
               by = λ next q.
-                  (items_leave n d world tables invokes turns a0 (renamed h F.gives) F.routine.body (with_all F.routine.parameters F.types g0) (bound_all start F.routine.parameters ss) f0 all.surrounds judged.body k w2 m2 i2 (all.scene a0 k scene)).by next
+                  (items_leave n d world tables invokes turns a0 (renamed h F.gives) F.routine.body (with_all F.routine.parameters F.types g0)
+                  (bound_all start F.routine.parameters ss) f0 all.surrounds judged.body k w2 m2 i2 (all.scene a0 k scene)).by next
                   (λ flow m3 y. q flow m3 (record {
                     ghost = y.ghost;
                     inv = y.inv;
                     grows = grows_trans g2 y.grows;
-                    holds = flow_as d (renamed h F.gives) g0 (with_all F.routine.parameters F.types g0) (ways_of_items F.routine.body) flow y.ghost all.in_loop all.in_switch y.holds;
+                    holds = flow_as d (renamed h F.gives) g0 (with_all F.routine.parameters F.types g0)
+                        (ways_of_items F.routine.body) flow y.ghost all.in_loop all.in_switch y.holds;
                   }));
             })
 
@@ -124,8 +126,9 @@ module _ (n : ℕ) (d : Tables) (world : World) (tables : typing.Tables) (source
         block = runs_block d n k a0 w m body_at (λ flow w' m'. Left flow w') (λ flow w' m'. Left flow w') i inside (λ flow w2 m2 i2 g2 h. h)
 
         out : (next : List Scalar → Memory → Step)
-            → ((us : List Scalar) (m' : Memory) → After d k b w m (λ w' m2. HaveTypes d w' (flying k 0) us (flat heap d (renamed h F.gives))) m' → Safe n (next us m'))
-            → (m2 : Memory) (w2 : Ghost) → Inv d w2 m2 → Grows k a0 w m w2 m2 → (us : List Scalar) → ResultOk d (renamed h F.gives) us w2
+            → ((us : List Scalar) (m' : Memory) → After d k b w m (λ w' m2. HaveTypes d w' (flying k 0) us (flat heap d (renamed h F.gives))) m'
+            → Safe n (next us m'))
+            → (m2 : Memory) (w2 : Ghost) → Inv d w2 m2 → Grows k a0 w m w2 m2 → (us : List Scalar) → ReturnOk d (renamed h F.gives) us w2
             → Safe n ((say (events.Returned F.routine.name) >> give us) next m2)
         out next q m2 w2 i2 g2 us typed = safe_says n (events.Returned F.routine.name) (next us m2) (q us m2 (record {
           ghost = passing (landing k) w2;
@@ -141,22 +144,26 @@ module _ (n : ℕ) (d : Tables) (world : World) (tables : typing.Tables) (source
 
         -- the end of the body
         ended : (next : List Scalar → Memory → Step) (m2 : Memory) (w2 : Ghost) → (F.gives ≡ Void) ⊎ ((is_main F.routine.name ≡ true) × (F.gives ≡ Int))
-            → ((us : List Scalar) → ResultOk d (renamed h F.gives) us w2 → Safe n (next us m2)) → Safe n (result_at_end F.routine F.routine.result next m2)
+            → ((us : List Scalar) → ReturnOk d (renamed h F.gives) us w2 → Safe n (next us m2)) → Safe n (result_at_end F.routine F.routine.result next m2)
         ended next m2 w2 (inl e) q =
-            subst (λ (y : Shape). Safe n (result_at_end F.routine y next m2)) (sym (F.shape ∙ ap shape_of e)) (q [] (subst (λ (t : StaticType). ResultOk d (renamed h t) [] w2) (sym e) tt))
+            subst (λ (y : Shape). Safe n (result_at_end F.routine y next m2)) (sym (F.shape ∙ ap shape_of e))
+            (q [] (subst (λ (t : StaticType). ReturnOk d (renamed h t) [] w2) (sym e) tt))
         ended next m2 w2 (inr e) q =
             subst (λ (y : Shape). Safe n (result_at_end F.routine y next m2)) (sym (F.shape ∙ ap shape_of e.1))
             (subst (λ (c : Bool). Safe n ((if c then give (Integer AsInt 0 ∷ []) else Rattle.source_meaning.specs.Steps.stuck) next m2)) (sym e.0)
-            (q (Integer AsInt 0 ∷ []) (subst (λ (t : StaticType). ResultOk d (renamed h t) (Integer AsInt 0 ∷ []) w2) (sym e.1) (record { word = 0; is = refl }, tt))))
+            (q (Integer AsInt 0 ∷ [])
+            (subst (λ (t : StaticType). ReturnOk d (renamed h t) (Integer AsInt 0 ∷ []) w2) (sym e.1) (record { word = 0; is = refl }, tt))))
 
         leaves : (next : List Scalar → Memory → Step)
-            → ((us : List Scalar) (m' : Memory) → After d k b w m (λ w' m2. HaveTypes d w' (flying k 0) us (flat heap d (renamed h F.gives))) m' → Safe n (next us m'))
+            → ((us : List Scalar) (m' : Memory) → After d k b w m (λ w' m2. HaveTypes d w' (flying k 0) us (flat heap d (renamed h F.gives))) m'
+            → Safe n (next us m'))
             → (flow : Flow) (m2 : Memory) → After d k a0 w m (λ w' m'. Left flow w') m2
             → Safe n ((result_of F.routine flow >>= λ us. say (events.Returned F.routine.name) >> give us) next m2)
         leaves next q (Returns us) m2 y =
             out next q m2 y.ghost y.inv y.grows us y.holds
         leaves next q Falls m2 y =
-            ended (λ us m3. (say (events.Returned F.routine.name) >> give us) next m3) m2 y.ghost (judged.ends y.holds) (λ us typed. out next q m2 y.ghost y.inv y.grows us typed)
+            ended (λ us m3. (say (events.Returned F.routine.name) >> give us) next m3) m2 y.ghost (judged.ends y.holds)
+            (λ us typed. out next q m2 y.ghost y.inv y.grows us typed)
         leaves next q Breaks m2 y = absurd (
             let z : (judged.outside.in_loop || judged.outside.in_switch) ≡ true = y.holds.1 in
             let u : judged.outside.in_loop ≡ false = judged.no_loop in
@@ -173,24 +180,29 @@ module _ (d : Tables) (world : World) (tables : typing.Tables) (sources : Source
   -- with one more unit
   next_invokes : (n : ℕ) → Invokes n d world tables → Turning n d world tables → Invokes (suc n) d world tables
   next_invokes n invokes turns x s F there h k b w m vss below i globals enters flown = record {
-    by = λ next q. (runs_entered n d world tables sources invokes turns x s F (sources.functions x s F there) h k b w m vss below i globals enters flown).by next
+    by = λ next q. (runs_entered n d world tables sources invokes turns x s F
+        (sources.functions x s F there) h k b w m vss below i globals enters flown).by next
         (λ us m' p. safe_less n (next us m') (q us m' p));
   }
 
   next_turns : (n : ℕ) → Invokes n d world tables → Turning n d world tables → Turning (suc n) d world tables
   next_turns n invokes turns gives g scope f b condition body h c j k w m i z = record {
     by = λ next q.
-        (statement_leaves n d world tables invokes turns b gives body (in_a_loop g) scope f (surrounds_loop d world tables g scope f gives h) j k w m i (scene_loop d g scope f b k w m z)).by
+        (statement_leaves n d world tables invokes turns b gives body (in_a_loop g) scope f (surrounds_loop d world tables g scope f gives h) j k w m i
+        (scene_loop d g scope f b k w m z)).by
         (λ flow. after_turn flow (loop condition body scope) next) (λ flow m1 y. by next q flow m1 y);
   }
     where
-      again : (next : Flow → Memory → Step) → ((flow : Flow) (m' : Memory) → After d k b w m (λ w' m2. FlowOk d gives g (ways true false) flow w') m' → Safe (suc n) (next flow m'))
+      again : (next : Flow → Memory → Step)
+          → ((flow : Flow) (m' : Memory) → After d k b w m (λ w' m2. FlowOk d gives g (ways true false) flow w') m' → Safe (suc n) (next flow m'))
           → (m1 : Memory) (w1 : Ghost) → Inv d w1 m1 → Grows k b w m w1 m1 → Safe n (loop condition body scope next m1)
       again next q m1 w1 i1 g1 =
-          (statement_leaves n d world tables invokes turns b gives (Statement.While 0 condition body) g scope f h (c, j) k w1 m1 i1 (scene_later d g scope f b k w m w1 m1 i1 g1 z)).by next
+          (statement_leaves n d world tables invokes turns b gives (Statement.While 0 condition body) g scope f h (c, j) k w1 m1 i1
+          (scene_later d g scope f b k w m w1 m1 i1 g1 z)).by next
           (λ flow m2 y. safe_less n (next flow m2) (q flow m2 (record { ghost = y.ghost; inv = y.inv; grows = grows_trans g1 y.grows; holds = y.holds })))
 
-      by : (next : Flow → Memory → Step) → ((flow : Flow) (m' : Memory) → After d k b w m (λ w' m2. FlowOk d gives g (ways true false) flow w') m' → Safe (suc n) (next flow m'))
+      by : (next : Flow → Memory → Step)
+          → ((flow : Flow) (m' : Memory) → After d k b w m (λ w' m2. FlowOk d gives g (ways true false) flow w') m' → Safe (suc n) (next flow m'))
           → (flow : Flow) (m1 : Memory) → After d k b w m (λ w' m2. FlowOk d gives (in_a_loop g) (ways_of body) flow w') m1
           → Safe n (after_turn flow (loop condition body scope) next m1)
       by next q Falls m1 y = again next q m1 y.ghost y.inv y.grows

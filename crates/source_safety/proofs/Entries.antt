@@ -1,6 +1,7 @@
 -- What the names of a program mean, and how its functions are called.
 use Rattle.std.proofs.Common.{◌≡◌, ℕ, ◌≤◌, Bool, true, false, Some, List, [], ◌∷◌, refl, sym, subst}
 use Rattle.std.specs.Prelude.{map, ◌||◌}
+use Rattle.std.proofs.lemmas.Bool.{and_parts}
 use Rattle.source_meaning.specs.Shapes.{part_shapes}
 use Rattle.source_meaning.specs.Memory.{Region, Scalar, Memory}
 use Rattle.source_meaning.specs.Steps.{World, Scope, ◌>>=◌, invoke}
@@ -12,7 +13,6 @@ use Rattle.source_typing.specs.Scope.{Env, meant, is_live, outlives}
 use Rattle.source_typing.specs.Tables as typing
 use Rattle.source_typing.specs.Tables.{Entry, OfFunction, Signature, find, argument}
 use Rattle.source_typing.specs.Types.{StaticType, Int, Unsigned, Char, Void, Null, Thin, Fat, Unique, Handle, Key, Struct, Union, renamed}
-use Rattle.source_typing.proofs.Converting.{and_is}
 use Rattle.source_safety.specs.Flat.{Tables, flat}
 pub use Rattle.source_safety.specs.Entries.{IsObjectType, IsPlain, AreObjects, Function, Structure, Builtin, PlainEntry, PlainTables}
 use Rattle.source_safety.proofs.Invariant.{RunType, heap, Ghost, HaveTypes, Known, Inv}
@@ -63,11 +63,13 @@ pub record Enters (s : Signature) (h : NameOf → Region) (k : ℕ) (w : Ghost) 
 -- Each call of a function runs safely, with n units: the arguments are on their way, and so is the result then.
 abbrev pub Invokes : ℕ → Tables → World → typing.Tables → Type 0
 Invokes n d world tables =
-    (x : List ℕ) (s : Signature) (F : Function world x s) → find tables x ≡ Some (OfFunction s) → (h : NameOf → Region) (k b : ℕ) (w : Ghost) (m : Memory) (vss : List (List Scalar))
+    (x : List ℕ) (s : Signature) (F : Function world x s) → find tables x ≡ Some (OfFunction s)
+    → (h : NameOf → Region) (k b : ℕ) (w : Ghost) (m : Memory) (vss : List (List Scalar))
     → b ≤ m.activations → Inv d w m → Globals d tables world w → Enters s h k w m → Flown d w k vss (map (renamed h) F.types)
     → Runs n (invoke F.routine world vss) m (λ us. After d k b w m (λ w' m'. HaveTypes d w' (flying k 0) us (flat heap d (renamed h F.gives))))
 
-objects_twice : (f : NameOf → Region) (h : NameOf → NameOf) (ts : List StaticType) → AreObjects ts → map (renamed f) (map (renamed h) ts) ≡ map (renamed (λ a. f (h a))) ts
+objects_twice : (f : NameOf → Region) (h : NameOf → NameOf) (ts : List StaticType) → AreObjects ts
+    → map (renamed f) (map (renamed h) ts) ≡ map (renamed (λ a. f (h a))) ts
 objects_twice f h [] e = refl
 objects_twice f h (t ∷ ts) e =
     let a : renamed f (renamed h t) ≡ renamed (λ a. f (h a)) t = object_twice f h t e.0 in
@@ -79,12 +81,13 @@ objects_twice f h (t ∷ ts) e =
 pub strictly : (g : Env) (r : NameOf) → g.lenient ≡ false → is_live g r ≡ true → g.regions.live r ≡ true
 strictly g r e h = subst (λ (c : Bool). c || g.regions.live r ≡ true) e h
 
-module _ (d : Tables) (g : Env) (f : NameOf → Region) (k : ℕ) (w : Ghost) (m : Memory) (names : NamesOk g.regions f k w m) (strict : g.lenient ≡ false) (rs : List NameOf)
+module _ (d : Tables) (g : Env) (f : NameOf → Region) (k : ℕ) (w : Ghost) (m : Memory) (names : NamesOk g.regions f k w m) (strict : g.lenient ≡ false)
+    (rs : List NameOf)
   where
     effect_stands : (effect : List NameOf) → all_live g rs effect ≡ true → AllStand (λ a. f (argument rs a)) k w m effect
     effect_stands [] e = tt
     effect_stands (r ∷ others) e =
-        let z : (is_live g (argument rs r) ≡ true) × (all_live g rs others ≡ true) = and_is (is_live g (argument rs r)) (all_live g rs others) e in
+        let z : (is_live g (argument rs r) ≡ true) × (all_live g rs others ≡ true) = and_parts (is_live g (argument rs r)) (all_live g rs others) e in
         let l : g.regions.live (argument rs r) ≡ true = strictly g (argument rs r) strict z.0 in
         (names.live (argument rs r) l, names.stands (argument rs r) l, effect_stands others z.1)
 
@@ -92,7 +95,7 @@ module _ (d : Tables) (g : Env) (f : NameOf → Region) (k : ℕ) (w : Ghost) (m
     bounds_hold [] e = tt
     bounds_hold ((a, c) ∷ others) e =
         let z : (outlives g (argument rs a) (argument rs c) ≡ true) × (all_ordered g rs others ≡ true) =
-        and_is (outlives g (argument rs a) (argument rs c)) (all_ordered g rs others) e in
+        and_parts (outlives g (argument rs a) (argument rs c)) (all_ordered g rs others) e in
         (names.order (argument rs a) (argument rs c) z.0, bounds_hold others z.1)
 
     pub enters : (s : Signature) → AllBelow g.regions.count rs → all_live g rs s.effect ≡ true → all_ordered g rs s.bounds ≡ true
@@ -107,7 +110,8 @@ module _ (d : Tables) (g : Env) (f : NameOf → Region) (k : ℕ) (w : Ghost) (m
 module _ (n : ℕ) (d : Tables) (g : Env) (scope : Scope) (f : NameOf → Region) (b : ℕ) where
   -- a call of one of the program's functions, whose region variables stand for these
   pub gives_called : (x : List ℕ) (s : Signature) (F : Function scope.world x s) (es : List Sense) (rs : List NameOf) → Invokes n d scope.world g.tables
-      → find g.tables x ≡ Some (OfFunction s) → g.lenient ≡ false → AllBelow g.regions.count rs → all_live g rs s.effect ≡ true → all_ordered g rs s.bounds ≡ true
+      → find g.tables x ≡ Some (OfFunction s) → g.lenient ≡ false → AllBelow g.regions.count rs → all_live g rs s.effect ≡ true
+      → all_ordered g rs s.bounds ≡ true
       → AllPass n d g scope f b (part_shapes F.routine.parameters) (map (renamed (argument rs)) F.types) es
       → Gives n d g scope f b (renamed (argument rs) F.gives)
       (converted_all scope.world (part_shapes F.routine.parameters) es >>= λ vss. invoke F.routine scope.world vss)

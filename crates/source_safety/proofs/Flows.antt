@@ -1,5 +1,6 @@
 -- How statements are left, and what they return.
-use Rattle.std.proofs.Common.{◌≡◌, ℕ, Bool, true, false, List, refl, subst}
+use Rattle.std.proofs.Common.{◌≡◌, ℕ, true, false, List, subst}
+use Rattle.std.proofs.lemmas.Bool.{or_left, or_right}
 use Rattle.std.specs.Cmp.Derive.{both_true}
 use Rattle.std.specs.Prelude.{◌&&◌, ◌||◌}
 use Rattle.source_meaning.specs.Memory.{Region, Scalar, Memory}
@@ -37,7 +38,8 @@ Leaves n d gives g scope f b s act = (k : ℕ) (w : Ghost) (m : Memory) → Inv 
 -- Each turn of a loop, and what follows it, runs safely with n units.
 abbrev pub Turning : ℕ → Tables → World → typing.Tables → Type 0
 Turning n d world tables =
-    (gives : RunType) (g : Env) (scope : Scope) (f : NameOf → Region) (b : ℕ) (condition : _) (body : _) → Surrounds d world tables g scope f gives → Condition g condition
+    (gives : RunType) (g : Env) (scope : Scope) (f : NameOf → Region) (b : ℕ) (condition : _) (body : _) → Surrounds d world tables g scope f gives
+    → Condition g condition
     → StatementJudged (in_a_loop g) body → Leaves n d gives g scope f b (ways true false) (take_turn condition body scope)
 
 -- the same in a scope in which loops and results are the same
@@ -48,28 +50,23 @@ flow_as d gives g h s Breaks w a b x = (x.0, subst (λ y. y || g.in_switch ≡ t
 flow_as d gives g h s Continues w a b x = subst (λ y. y ≡ true) a x
 flow_as d gives g h s (Returns vs) w a b x = x
 
-or_left : (a b : Bool) → a ≡ true → a || b ≡ true
-or_left true b e = refl
-or_left false b e = absurd cc
-
-or_right : (a b : Bool) → b ≡ true → a || b ≡ true
-or_right true b e = refl
-or_right false b e = e
-
-pub flow_left : (d : Tables) (gives : RunType) (g : Env) (s t : Ways) (flow : Flow) (w : Ghost) → FlowOk d gives g s flow w → FlowOk d gives g (either_way s t) flow w
+pub flow_left : (d : Tables) (gives : RunType) (g : Env) (s t : Ways) (flow : Flow) (w : Ghost) → FlowOk d gives g s flow w
+    → FlowOk d gives g (either_way s t) flow w
 flow_left d gives g s t Falls w x = or_left s.falls t.falls x
 flow_left d gives g s t Breaks w x = (or_left s.breaks t.breaks x.0, x.1)
 flow_left d gives g s t Continues w x = x
 flow_left d gives g s t (Returns vs) w x = x
 
-pub flow_right : (d : Tables) (gives : RunType) (g : Env) (s t : Ways) (flow : Flow) (w : Ghost) → FlowOk d gives g t flow w → FlowOk d gives g (either_way s t) flow w
+pub flow_right : (d : Tables) (gives : RunType) (g : Env) (s t : Ways) (flow : Flow) (w : Ghost) → FlowOk d gives g t flow w
+    → FlowOk d gives g (either_way s t) flow w
 flow_right d gives g s t Falls w x = or_right s.falls t.falls x
 flow_right d gives g s t Breaks w x = (or_right s.breaks t.breaks x.0, x.1)
 flow_right d gives g s t Continues w x = x
 flow_right d gives g s t (Returns vs) w x = x
 
 -- what follows a statement that falls through
-pub flow_then : (d : Tables) (gives : RunType) (g : Env) (s t : Ways) (flow : Flow) (w : Ghost) → s.falls ≡ true → FlowOk d gives g t flow w → FlowOk d gives g (then_ways s t) flow w
+pub flow_then : (d : Tables) (gives : RunType) (g : Env) (s t : Ways) (flow : Flow) (w : Ghost) → s.falls ≡ true → FlowOk d gives g t flow w
+    → FlowOk d gives g (then_ways s t) flow w
 flow_then d gives g s t Falls w e x = both_true e x
 flow_then d gives g s t Breaks w e x = (or_right s.breaks (s.falls && t.breaks) (both_true e x.0), x.1)
 flow_then d gives g s t Continues w e x = x

@@ -1,7 +1,7 @@
 -- The cells of structs: they are those of their members in order, they agree with the shapes that the program has, and they carry no right.
 use Rattle.std.proofs.Common.{◌≡◌, ◌≤◌, ℕ, zero, suc, Bool, true, false, inl, None, List, [], ◌∷◌, ◌++◌, refl, sym, ◌∙◌, ap, subst, arith}
 use Rattle.std.specs.Prelude.{map, length, bytes_eq, if◌then◌else◌}
-use Rattle.std.proofs.lemmas.Bool.{false≢true}
+use Rattle.std.proofs.lemmas.Bool.{false≢true, and_parts}
 use Rattle.std.proofs.lemmas.List.{map-append}
 use Rattle.std.proofs.lemmas.Slice.Eq.{bytes_eq-Decides}
 use Rattle.source_meaning.specs.Shapes as shapes
@@ -14,7 +14,6 @@ use Rattle.source_typing.specs.Regions as names
 use Rattle.source_typing.specs.Tables as typing
 use Rattle.source_typing.specs.Tables.{parts_in, each_part, if_known, begins, has_beginning}
 use Rattle.source_typing.specs.Types.{StaticType, Int, Unsigned, Char, Void, Null, Thin, Fat, Unique, Handle, Key, Struct, Union, renamed, shape_of}
-use Rattle.source_typing.proofs.Converting.{and_is}
 use Rattle.source_safety.specs.Entries.{IsObjectType, PlainTables}
 use Rattle.source_safety.specs.Flat.{Declared, Tables, filled, flat, flat_by, flat_all, struct_flat}
 use Rattle.source_safety.specs.Structs.{declares, IsMemberType, AreMemberTypes, AreInOrder, AreMembers, AreLaidOut}
@@ -118,7 +117,8 @@ pub struct_is : (ds : List Declared) (tag : List ℕ) (rs : List Region) → Are
 struct_is [] tag rs h = refl
 struct_is (d ∷ ds) tag rs h = by (bytes_eq d.tag tag) (struct_is ds tag rs h.2)
   where
-    by : (b : Bool) → struct_flat heap ds tag rs ≡ flat_all (cells ds) (map (renamed (filled heap rs)) (member_types ds tag)) → (if b then flat_all (cells ds) (map (renamed (filled heap rs)) d.parts) else struct_flat heap ds tag rs)
+    by : (b : Bool) → struct_flat heap ds tag rs ≡ flat_all (cells ds) (map (renamed (filled heap rs)) (member_types ds tag))
+        → (if b then flat_all (cells ds) (map (renamed (filled heap rs)) d.parts) else struct_flat heap ds tag rs)
         ≡ flat_all (cells (d ∷ ds)) (map (renamed (filled heap rs)) (if b then d.parts else member_types ds tag))
     by true others = sym (all_cells_more d ds (filled heap rs) d.parts h.1 h.0)
     by false others =
@@ -127,7 +127,8 @@ struct_is (d ∷ ds) tag rs h = by (bytes_eq d.tag tag) (struct_is ds tag rs h.2
 
 -- ---- the shapes of the program are those of these types
 
-module _ (ls : List Layout) (ds : List Declared) (each : (tag : List ℕ) (rs : List Region) → struct_cells ls tag ≡ map shape_of (struct_flat heap ds tag rs)) where
+module _ (ls : List Layout) (ds : List Declared)
+    (each : (tag : List ℕ) (rs : List Region) → struct_cells ls tag ≡ map shape_of (struct_flat heap ds tag rs)) where
   type_agrees : (t : RunType) → cells_by (struct_cells ls) (shape_of t) ≡ map shape_of (cells ds t)
   type_agrees Int = refl
   type_agrees Unsigned = refl
@@ -163,7 +164,8 @@ structs_agree tables (d ∷ ds) (l ∷ ls) h tag rs =
     ap (λ (x : List ℕ). if bytes_eq x tag then all_cells (cells_by (struct_cells ls)) l.parts else struct_cells ls tag) h.0
     ∙ by (bytes_eq d.tag tag) (structs_agree tables ds ls h.2)
   where
-    by : (b : Bool) → ((x : List ℕ) (qs : List Region) → struct_cells ls x ≡ map shape_of (struct_flat heap ds x qs)) → (if b then all_cells (cells_by (struct_cells ls)) l.parts else struct_cells ls tag)
+    by : (b : Bool) → ((x : List ℕ) (qs : List Region) → struct_cells ls x ≡ map shape_of (struct_flat heap ds x qs))
+        → (if b then all_cells (cells_by (struct_cells ls)) l.parts else struct_cells ls tag)
         ≡ map shape_of (if b then flat_all (cells ds) (map (renamed (filled heap rs)) d.parts) else struct_flat heap ds tag rs)
     by true others = members_agree ls ds others (filled heap rs) (parts_in tables d.tag) l.parts d.parts h.1
     by false others = others tag rs
@@ -212,7 +214,8 @@ copied_member ds each f (Key r) e = absurd e
 copied_member ds each f (Struct tag rs) e = each tag (map f rs)
 copied_member ds each f (Union tag rs) e = absurd e
 
-copied_all : (ds : List Declared) → ((tag : List ℕ) (rs : List Region) → Copied (struct_flat heap ds tag rs)) → (f : names.Region → Region) (ts : List StaticType)
+copied_all : (ds : List Declared) → ((tag : List ℕ) (rs : List Region) → Copied (struct_flat heap ds tag rs))
+    → (f : names.Region → Region) (ts : List StaticType)
     → AreMemberTypes ds ts → Copied (flat_all (cells ds) (map (renamed f) ts))
 copied_all ds each f [] h = tt
 copied_all ds each f (t ∷ ts) h =
@@ -223,7 +226,8 @@ copied_struct : (ds : List Declared) → AreInOrder ds → (tag : List ℕ) (rs 
 copied_struct [] h tag rs = tt
 copied_struct (d ∷ ds) h tag rs = by (bytes_eq d.tag tag) (copied_struct ds h.2)
   where
-    by : (b : Bool) → ((x : List ℕ) (qs : List Region) → Copied (struct_flat heap ds x qs)) → Copied (if b then flat_all (cells ds) (map (renamed (filled heap rs)) d.parts) else struct_flat heap ds tag rs)
+    by : (b : Bool) → ((x : List ℕ) (qs : List Region) → Copied (struct_flat heap ds x qs))
+        → Copied (if b then flat_all (cells ds) (map (renamed (filled heap rs)) d.parts) else struct_flat heap ds tag rs)
     by true others = copied_all ds others (filled heap rs) d.parts h.1
     by false others = others tag rs
 
@@ -283,7 +287,7 @@ module _ (tables : typing.Tables) where
   members_begin ds each n f [] [] [] h o l e = tt
   members_begin ds each n f (p ∷ ps) (q ∷ qs) (t ∷ ts) h o l e =
       let z : (if_known (begins n tables) p.type ≡ true) × (each_part (begins n tables) ps ≡ true) =
-      and_is (if_known (begins n tables) p.type) (each_part (begins n tables) ps) e in
+      and_parts (if_known (begins n tables) p.type) (each_part (begins n tables) ps) e in
       both_begin (cells ds (renamed f t)) (flat_all (cells ds) (map (renamed f) ts))
       (type_begins ds each n f t (member_object ds t o.0) l (sym (ap (if_known (begins n tables)) h.1) ∙ z.0))
       (members_begin ds each n f ps qs ts h.3 o.1 l z.1)

@@ -1,15 +1,15 @@
 -- The region names in scope stand for regions of the memory.
 use Rattle.std.proofs.Common.{◌≡◌, ℕ, zero, suc, ◌+◌, ◌<◌, Bool, true, false, ◌⊎◌, inl, inr, List, [], ◌∷◌, refl, sym, ◌∙◌, ap, subst, arith}
 use Rattle.std.specs.Prelude.{if◌then◌else◌, ◌||◌, ◌&&◌, length}
-use Rattle.std.proofs.lemmas.Bool.{cases_Bool, false≢true, eqb-true, eq-eqb}
+use Rattle.std.proofs.lemmas.Bool.{cases_Bool, false≢true, eqb-true, eq-eqb, and_parts, or_cases}
 use Rattle.source_meaning.specs.Memory.{Region, Live, Memory, same_region}
 use Rattle.source_typing.specs.Regions as names
 use Rattle.source_typing.specs.Regions.{TheHeap, Level, same_id, is_heap, is_among, any_of, by_bounds, reaches, Regions, with_scope, entry_regions}
-use Rattle.source_typing.proofs.Converting.{and_is}
-use Rattle.source_typing.proofs.OperatorsFit.{or_is}
+use Rattle.source_typing.specs.Written.{RegionNamed}
 use Rattle.source_meaning.proofs.Cases.{region_is, region_itself}
 use Rattle.source_safety.specs.Flat.{Tables}
 pub use Rattle.source_safety.specs.Named.{Below, AllBelow, BoundsBelow}
+use Rattle.source_safety.specs.Named.{NamesBelow}
 use Rattle.source_safety.proofs.Facts.{if_cases, at_region, not_region}
 use Rattle.source_safety.proofs.Invariant.{heap, Owner, Nobody, Pinned, Ghost, Steady, ByScope, ByLoan, StateOk, Counted, Known, Inv, Grows}
 use Rattle.source_safety.proofs.Births.{bearing, with_birth, Births}
@@ -56,7 +56,8 @@ outlasts_steady d r k w m i h = elim (cases_Bool (same_region r h.lower)) [
 ]
 
 -- later memories
-pub names_later : (d : Tables) (g : Regions) (f : NameOf → Region) (k b : ℕ) (w : Ghost) (m : Memory) (w' : Ghost) (m' : Memory) → Inv d w' m' → Grows k b w m w' m' → NamesOk g f k w m → NamesOk g f k w' m'
+pub names_later : (d : Tables) (g : Regions) (f : NameOf → Region) (k b : ℕ) (w : Ghost) (m : Memory) (w' : Ghost) (m' : Memory) → Inv d w' m'
+    → Grows k b w m w' m' → NamesOk g f k w m → NamesOk g f k w' m'
 names_later d g f k b w m w' m' i x n = record {
   heap_is = n.heap_is;
   bounded = n.bounded;
@@ -87,7 +88,17 @@ names_later d g f k b w m w' m' i x n = record {
 
 -- more may be on its way
 pub names_more : (g : Regions) (f : NameOf → Region) (k : ℕ) (w : Ghost) (m : Memory) → NamesOk g f k w m → NamesOk g f (suc k) w m
-names_more g f k w m n = record { heap_is = n.heap_is; known = n.known; bounded = n.bounded; live = n.live; order = n.order; stands = λ a l. more (n.stands a l); lasting = λ a l. let z : Below g.count a × Outlasts (f a) k w m = n.lasting a l in (z.0, record { lower = z.1.lower; known = z.1.known; live = z.1.live; stands = more z.1.stands; above = z.1.above }) }
+names_more g f k w m n = record {
+  heap_is = n.heap_is;
+  known = n.known;
+  bounded = n.bounded;
+  live = n.live;
+  order = n.order;
+  stands = λ a l. more (n.stands a l);
+  lasting = λ a l.
+      let z : Below g.count a × Outlasts (f a) k w m = n.lasting a l in
+      (z.0, record { lower = z.1.lower; known = z.1.known; live = z.1.live; stands = more z.1.stands; above = z.1.above });
+}
   where
     more : {o : Owner} → Stands k o → Stands (suc k) o
     more (inl e) = inl e
@@ -112,19 +123,31 @@ pub below_up : (n : ℕ) (a : NameOf) → Below n a → Below (n + 1) a
 below_up n TheHeap h = tt
 below_up n (Level k) h = omega (arith, h)
 
+pub all_up : (n : ℕ) (rs : List NameOf) → AllBelow n rs → AllBelow (n + 1) rs
+all_up n [] h = tt
+all_up n (r ∷ rs) h = (below_up n r h.0, all_up n rs h.1)
+
+pub names_up : (n : ℕ) (ns : List RegionNamed) → NamesBelow n ns → NamesBelow (n + 1) ns
+names_up n [] h = tt
+names_up n (r ∷ rs) h = (below_up n r.id h.0, names_up n rs h.1)
+
 new_below : (n : ℕ) (a : NameOf) → same_id a (Level n) ≡ true → Below (n + 1) a
 new_below n a e = subst (λ (x : NameOf). Below (n + 1) x) (sym (id_is a n e)) (omega arith)
 
 -- what a name stands for, whether it is the new one or another
-named_cases : (f : NameOf → Region) (n : ℕ) (r : Region) (a : NameOf) (P : Region → Type 0) → (same_id a (Level n) ≡ true → P r) → (same_id a (Level n) ≡ false → P (f a)) → P (naming f n r a)
+named_cases : (f : NameOf → Region) (n : ℕ) (r : Region) (a : NameOf) (P : Region → Type 0) → (same_id a (Level n) ≡ true → P r)
+    → (same_id a (Level n) ≡ false → P (f a)) → P (naming f n r a)
 named_cases f n r a P h k = if_cases (same_id a (Level n)) r (f a) P h k
 
 -- a scope begins
-pub names_scope : (d : Tables) (g : Regions) (f : NameOf → Region) (k : ℕ) (w : Ghost) (m : Memory) (x y : ℕ) (r : Region) → Inv d w m → Births w m x y r Live (above_scope w m r) Nobody false → NamesOk g f k w m → NamesOk (with_scope g) (naming f g.count r) k (bearing w r (above_scope w m r) Nobody false) (with_birth m x y r Live)
+pub names_scope : (d : Tables) (g : Regions) (f : NameOf → Region) (k : ℕ) (w : Ghost) (m : Memory) (x y : ℕ) (r : Region) → Inv d w m
+    → Births w m x y r Live (above_scope w m r) Nobody false → NamesOk g f k w m
+    → NamesOk (with_scope g) (naming f g.count r) k (bearing w r (above_scope w m r) Nobody false) (with_birth m x y r Live)
 names_scope d g f k w m x y r i n h = record {
   heap_is = h.heap_is;
   known = λ a l. named_cases f g.count r a (λ q. Counted x y q) (λ e. n.here) (λ e. n.more _ (h.known a (below_more g.count a l e)));
-  bounded = λ a. if_cases (same_id a (Level g.count)) true (g.live a) (λ z. z ≡ true → Below (g.count + 1) a) (λ e l. new_below g.count a e) (λ e l. below_up g.count a (h.bounded a l));
+  bounded = λ a. if_cases (same_id a (Level g.count)) true (g.live a) (λ z. z ≡ true → Below (g.count + 1) a) (λ e l. new_below g.count a e)
+      (λ e l. below_up g.count a (h.bounded a l));
   live = λ a. elim (cases_Bool (same_id a (Level g.count))) [
     | inl e ↦ (λ l. new_live a e)
     | inr e ↦ (λ l. old_live a e (h.live a (was a e l)))
@@ -155,7 +178,8 @@ names_scope d g f k w m x y r i n h = record {
     by_end q a b = (if q then (if same_id a (Level g.count) then true else g.lasts a) else (if same_id a (Level g.count) then false else g.order a b))
 
     new_live : (a : NameOf) → same_id a (Level g.count) ≡ true → m1.state (naming f g.count r a) ≡ Live
-    new_live a e = subst (λ (b : Bool). m1.state (if b then r else f a) ≡ Live) (sym e) (at_region m.state r Live r (λ q. q ≡ Live) (λ z. refl) (λ z. absurd (z refl)))
+    new_live a e = subst (λ (b : Bool). m1.state (if b then r else f a) ≡ Live) (sym e)
+        (at_region m.state r Live r (λ q. q ≡ Live) (λ z. refl) (λ z. absurd (z refl)))
 
     new_stands : (a : NameOf) → same_id a (Level g.count) ≡ true → Stands k (w1.owner (naming f g.count r a))
     new_stands a e = subst (λ (b : Bool). Stands k (w1.owner (if b then r else f a))) (sym e)
@@ -165,7 +189,8 @@ names_scope d g f k w m x y r i n h = record {
     old_live a e l = subst (λ (b : Bool). m1.state (if b then r else f a) ≡ Live) (sym e) (at_region m.state r Live (f a) (λ q. q ≡ Live) (λ z. refl) (λ z. l))
 
     old_stands : (a : NameOf) → same_id a (Level g.count) ≡ false → Stands k (w.owner (f a)) → Stands k (w1.owner (naming f g.count r a))
-    old_stands a e l = subst (λ (b : Bool). Stands k (w1.owner (if b then r else f a))) (sym e) (at_region w.owner r Nobody (f a) (λ q. Stands k q) (λ z. inl refl) (λ z. l))
+    old_stands a e l = subst (λ (b : Bool). Stands k (w1.owner (if b then r else f a))) (sym e)
+        (at_region w.owner r Nobody (f a) (λ q. Stands k q) (λ z. inl refl) (λ z. l))
 
     old_lasts : (a : NameOf) → same_id a (Level g.count) ≡ false → (if same_id a (Level g.count) then true else g.lasts a) ≡ true → g.lasts a ≡ true
     old_lasts a e l = subst (λ (b : Bool). (if b then true else g.lasts a) ≡ true) e l
@@ -191,7 +216,8 @@ names_scope d g f k w m x y r i n h = record {
       known = n.more z.lower z.known;
       live = at_region m.state r Live z.lower (λ q. q ≡ Live) (λ y. refl) (λ y. z.live);
       stands = at_region w.owner r Nobody z.lower (λ q. Stands k q) (λ y. inl refl) (λ y. z.stands);
-      above = at_region (λ q. w.above (f a) q) r (above_scope w m r (f a)) z.lower (λ q. q ≡ true) (λ y. absurd (n.new (subst (λ (q : Region). Known m q) y z.known))) (λ y. z.above);
+      above = at_region (λ q. w.above (f a) q) r (above_scope w m r (f a)) z.lower (λ q. q ≡ true)
+          (λ y. absurd (n.new (subst (λ (q : Region). Known m q) y z.known))) (λ y. z.above);
     })
 
     new_upper : (a : NameOf) → (if same_id a (Level g.count) then true else g.lasts a) ≡ true → w1.above (naming f g.count r a) r ≡ true
@@ -207,7 +233,8 @@ names_scope d g f k w m x y r i n h = record {
       | inl e ↦ (λ v. absurd (false≢true (subst (λ (q : Bool). (if q then false else g.order a b) ≡ true) e v)))
       | inr e ↦ (λ v. (let o : w.above (f a) (f b) ≡ true = h.order a b (subst (λ (q : Bool). (if q then false else g.order a b) ≡ true) e v) in
           subst (λ (q : Bool). w1.above (if q then r else f a) (f b) ≡ true) (sym e)
-          (at_region (λ q. w.above (f a) (f b)) r (above_scope w m r (f a)) (f b) (λ q. q ≡ true) (λ z. absurd (n.new (subst (λ (q : Region). Known m q) z (i.born_lower _ _ o)))) (λ z. o))))
+          (at_region (λ q. w.above (f a) (f b)) r (above_scope w m r (f a)) (f b) (λ q. q ≡ true)
+          (λ z. absurd (n.new (subst (λ (q : Region). Known m q) z (i.born_lower _ _ o)))) (λ z. o))))
     ]
 
 -- ---- names by their tests
@@ -223,22 +250,23 @@ same_only (Level j) TheHeap e = absurd (false≢true e)
 same_only (Level j) (Level k) e = ap Level (eqb-true j k e)
 
 first_below : (count : ℕ) (a b : NameOf) → Below count b → is_heap a || same_id a b ≡ true → Below count a
-first_below count a b l e = elim (or_is (is_heap a) (same_id a b) e) [
+first_below count a b l e = elim (or_cases (is_heap a) (same_id a b) e) [
   | inl z ↦ subst (λ (q : NameOf). Below count q) (sym (heap_only a z)) tt
   | inr z ↦ subst (λ (q : NameOf). Below count q) (sym (same_only a b z)) l
 ]
 
-bounds_below : (count : ℕ) (bs : List (NameOf × NameOf)) (a : NameOf) (further : NameOf → Bool) → BoundsBelow count bs → by_bounds bs a further ≡ true → Below count a
+bounds_below : (count : ℕ) (bs : List (NameOf × NameOf)) (a : NameOf) (further : NameOf → Bool) → BoundsBelow count bs → by_bounds bs a further ≡ true
+    → Below count a
 bounds_below count [] a further h e = absurd (false≢true e)
-bounds_below count ((x, y) ∷ bs) a further h e = elim (or_is (same_id x a && further y) (by_bounds bs a further) e) [
-  | inl z ↦ subst (λ (q : NameOf). Below count q) (same_only x a (and_is (same_id x a) (further y) z).0) h.0
+bounds_below count ((x, y) ∷ bs) a further h e = elim (or_cases (same_id x a && further y) (by_bounds bs a further) e) [
+  | inl z ↦ subst (λ (q : NameOf). Below count q) (same_only x a (and_parts (same_id x a) (further y) z).0) h.0
   | inr z ↦ bounds_below count bs a further h.2 z
 ]
 
 -- what outlives a name by bounds was declared too
 reaches_below : (count n : ℕ) (bs : List (NameOf × NameOf)) (a b : NameOf) → BoundsBelow count bs → Below count b → reaches n bs a b ≡ true → Below count a
 reaches_below count zero bs a b h l e = first_below count a b l e
-reaches_below count (suc n) bs a b h l e = elim (or_is (is_heap a || same_id a b) (by_bounds bs a (λ c. reaches n bs c b)) e) [
+reaches_below count (suc n) bs a b h l e = elim (or_cases (is_heap a || same_id a b) (by_bounds bs a (λ c. reaches n bs c b)) e) [
   | inl z ↦ first_below count a b l z
   | inr z ↦ bounds_below count bs a (λ c. reaches n bs c b) h z
 ]
@@ -266,9 +294,10 @@ module _ (d : Tables) (h : NameOf → Region) (k : ℕ) (w : Ghost) (m : Memory)
 
   any_is : (count : ℕ) (rs : List NameOf) (holds : NameOf → Bool) → AllBelow count rs → AllStand h k w m rs → any_of rs holds ≡ true → Member count rs holds
   any_is count [] holds b s e = absurd (false≢true e)
-  any_is count (r ∷ rs) holds b s e = elim (or_is (holds r) (any_of rs holds) e) [
+  any_is count (r ∷ rs) holds b s e = elim (or_cases (holds r) (any_of rs holds) e) [
     | inl z ↦ record { name = r; below = b.0; live = s.0; stands = s.1; is = z }
-    | inr z ↦ (let q : Member count rs holds = any_is count rs holds b.1 s.2 z in record { name = q.name; below = q.below; live = q.live; stands = q.stands; is = q.is })
+    | inr z ↦ (let q : Member count rs holds = any_is count rs holds b.1 s.2 z in
+        record { name = q.name; below = q.below; live = q.live; stands = q.stands; is = q.is })
   ]
 
   among_any : (rs : List NameOf) (a : NameOf) → is_among rs a ≡ true → any_of rs (λ q. same_id q a) ≡ true
@@ -281,7 +310,7 @@ module _ (d : Tables) (h : NameOf → Region) (k : ℕ) (w : Ghost) (m : Memory)
 
   module _ (heap_is : h TheHeap ≡ heap) (known : (a : NameOf) → Known m (h a)) where
     first_above : (a b : NameOf) → is_heap a || same_id a b ≡ true → w.above (h a) (h b) ≡ true
-    first_above a b e = elim (or_is (is_heap a) (same_id a b) e) [
+    first_above a b e = elim (or_cases (is_heap a) (same_id a b) e) [
       | inl z ↦ subst (λ (q : Region). w.above q (h b) ≡ true) (sym (ap h (heap_only a z) ∙ heap_is)) (i.under_heap (h b) (known b))
       | inr z ↦ subst (λ (q : NameOf). w.above (h a) (h q) ≡ true) (same_only a b z) (i.itself (h a) (known a))
     ]
@@ -289,15 +318,15 @@ module _ (d : Tables) (h : NameOf → Region) (k : ℕ) (w : Ghost) (m : Memory)
     bounds_above : (bs : List (NameOf × NameOf)) (a b : NameOf) (further : NameOf → Bool) → AllOrdered h w bs
         → ((c : NameOf) → further c ≡ true → w.above (h c) (h b) ≡ true) → by_bounds bs a further ≡ true → w.above (h a) (h b) ≡ true
     bounds_above [] a b further o up e = absurd (false≢true e)
-    bounds_above ((x, y) ∷ bs) a b further o up e = elim (or_is (same_id x a && further y) (by_bounds bs a further) e) [
-      | inl z ↦ (let q : (same_id x a ≡ true) × (further y ≡ true) = and_is (same_id x a) (further y) z in
+    bounds_above ((x, y) ∷ bs) a b further o up e = elim (or_cases (same_id x a && further y) (by_bounds bs a further) e) [
+      | inl z ↦ (let q : (same_id x a ≡ true) × (further y ≡ true) = and_parts (same_id x a) (further y) z in
           i.along (h a) (h y) (h b) (subst (λ (c : NameOf). w.above (h c) (h y) ≡ true) (same_only x a q.0) o.0) (up y q.1))
       | inr z ↦ bounds_above bs a b further o.1 up z
     ]
 
     reaches_above : (n : ℕ) (bs : List (NameOf × NameOf)) (a b : NameOf) → AllOrdered h w bs → reaches n bs a b ≡ true → w.above (h a) (h b) ≡ true
     reaches_above zero bs a b o e = first_above a b e
-    reaches_above (suc n) bs a b o e = elim (or_is (is_heap a || same_id a b) (by_bounds bs a (λ c. reaches n bs c b)) e) [
+    reaches_above (suc n) bs a b o e = elim (or_cases (is_heap a || same_id a b) (by_bounds bs a (λ c. reaches n bs c b)) e) [
       | inl z ↦ first_above a b z
       | inr z ↦ bounds_above bs a b (λ c. reaches n bs c b) o (λ c q. reaches_above n bs c b o q) z
     ]
@@ -311,7 +340,7 @@ module _ (d : Tables) (h : NameOf → Region) (k : ℕ) (w : Ghost) (m : Memory)
       bounded = λ a l. (stays a l).0;
       live = λ a l. (stays a l).1;
       stands = λ a l. (stays a l).2;
-      lasting = λ a l. lasting a (or_is (reaches (length bounds) bounds a TheHeap) (any_of effect (reaches (length bounds) bounds a)) l);
+      lasting = λ a l. lasting a (or_cases (reaches (length bounds) bounds a TheHeap) (any_of effect (reaches (length bounds) bounds a)) l);
       order = λ a b e. reaches_above (length bounds) bounds a b o e;
     }
       where
@@ -322,8 +351,9 @@ module _ (d : Tables) (h : NameOf → Region) (k : ℕ) (w : Ghost) (m : Memory)
         heap_stands = inl (ap w.owner heap_is ∙ i.heap_is_free)
 
         stays : (a : NameOf) → is_heap a || is_among effect a ≡ true → Below count a × (m.state (h a) ≡ Live) × Stands k (w.owner (h a))
-        stays a l = elim (or_is (is_heap a) (is_among effect a) l) [
-          | inl z ↦ subst (λ (q : NameOf). Below count q × (m.state (h q) ≡ Live) × Stands k (w.owner (h q))) (sym (heap_only a z)) (tt, heap_lives, heap_stands)
+        stays a l = elim (or_cases (is_heap a) (is_among effect a) l) [
+          | inl z ↦ subst (λ (q : NameOf). Below count q × (m.state (h q) ≡ Live) × Stands k (w.owner (h q))) (sym (heap_only a z))
+              (tt, heap_lives, heap_stands)
           | inr z ↦ (let q : Member count effect (λ q. same_id q a) = any_is count effect (λ q. same_id q a) eb s (among_any effect a z) in
               subst (λ (c : NameOf). Below count c × (m.state (h c) ≡ Live) × Stands k (w.owner (h c))) (same_only q.name a q.is) (q.below, q.live, q.stands))
         ]

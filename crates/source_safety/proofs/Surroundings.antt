@@ -20,7 +20,7 @@ use Rattle.source_safety.proofs.Invariant.{RunType, heap, Ghost, Laid, Inv}
 use Rattle.source_safety.proofs.Values.{laid_kept}
 use Rattle.source_safety.proofs.Layouts.{Structs}
 use Rattle.source_safety.proofs.Scopes.{block_ghost, block_memory, frame_births}
-use Rattle.source_safety.proofs.Names.{NameOf, Below, below_up, naming, names_scope}
+use Rattle.source_safety.proofs.Names.{NameOf, Below, all_up, below_up, naming, names_scope}
 use Rattle.source_safety.proofs.Scenes.{AllBelow, TypeBelow, Alike, renamed_alike, Bound, bound_alike, Binds, Scene}
 use Rattle.source_safety.proofs.Entries.{IsObjectType, PlainEntry, MeansPlain}
 
@@ -73,7 +73,8 @@ scene_loop d g scope f b k w m h = record { names = h.names; base = h.base; vari
 -- ---- a local is declared
 
 module _ (d : Tables) (world : World) (tables : typing.Tables) (g : Env) (scope : Scope) (f : NameOf → Region) (x : tree.Name) (t : StaticType) (at : Spot)
-    (gives : RunType) (h : Surrounds d world tables g scope f gives) (object : IsObjectType t) (below : TypeBelow g.regions.count t) (there : at.region ≡ Frame scope.frame)
+    (gives : RunType) (h : Surrounds d world tables g scope f gives) (object : IsObjectType t) (below : TypeBelow g.regions.count t)
+    (there : at.region ≡ Frame scope.frame)
   where
     -- the scope of the meaning with the local
     abbrev pub bound_scope : Scope
@@ -125,7 +126,8 @@ module _ (d : Tables) (world : World) (tables : typing.Tables) (g : Env) (scope 
       frame_below = h.frame_below;
     }
 
-    variable_laid : (b k : ℕ) (w : Ghost) (m : Memory) → Scene d g scope f b k w m → Laid w at (flat heap d (renamed f t)) → (y : List ℕ) (u : StaticType) (r : NameOf)
+    variable_laid : (b k : ℕ) (w : Ghost) (m : Memory) → Scene d g scope f b k w m → Laid w at (flat heap d (renamed f t))
+        → (y : List ℕ) (u : StaticType) (r : NameOf)
         (s : Spot) (c : Bool) → (if c then Some (OfValue (Stored t g.frame)) else meant g y) ≡ Some (OfValue (Stored u r))
         → or_else (if c then Some (Variable (shape_of t) at) else bound_to scope.locals y) (bound_to scope.world.globals y) ≡ Some (Variable (shape_of u) s)
         → Laid w s (flat heap d (renamed f u))
@@ -144,10 +146,6 @@ module _ (d : Tables) (world : World) (tables : typing.Tables) (g : Env) (scope 
     }
 
 -- ---- a block is entered
-
-all_up : (n : ℕ) (rs : List NameOf) → AllBelow n rs → AllBelow (n + 1) rs
-all_up n [] h = tt
-all_up n (r ∷ rs) h = (below_up n r h.0, all_up n rs h.1)
 
 pub type_up : (n : ℕ) (t : StaticType) → TypeBelow n t → TypeBelow (n + 1) t
 type_up n Int h = tt
@@ -197,7 +195,8 @@ naming_alike f n r (Level k) h = elim (eqb_tells k n) [
 pub naming_itself : (f : NameOf → Region) (n : ℕ) (r : Region) → naming f n r (Level n) ≡ r
 naming_itself f n r = ap (λ (c : Bool). if c then r else f (Level n)) (eq-eqb n n refl)
 
-module _ (d : Tables) (world : World) (tables : typing.Tables) (g : Env) (scope : Scope) (f : NameOf → Region) (gives : RunType) (h : Surrounds d world tables g scope f gives) (a : ℕ) where
+module _ (d : Tables) (world : World) (tables : typing.Tables) (g : Env) (scope : Scope) (f : NameOf → Region) (gives : RunType)
+    (h : Surrounds d world tables g scope f gives) (a : ℕ) where
   -- what the names stand for in the block
   abbrev pub block_names : NameOf → Region
   block_names = naming f g.regions.count (Frame a)
@@ -208,7 +207,8 @@ module _ (d : Tables) (world : World) (tables : typing.Tables) (g : Env) (scope 
     world_is = h.world_is;
     structs = h.structs;
     binds = record {
-      variables = λ y u r e. bound_alike g.regions.count (g.regions.count + 1) f block_names (entity_of scope y) u r (below_up g.regions.count) (type_up g.regions.count)
+      variables = λ y u r e. bound_alike g.regions.count (g.regions.count + 1) f block_names (entity_of scope y) u r (below_up g.regions.count)
+          (type_up g.regions.count)
           (naming_alike f g.regions.count (Frame a)) (h.binds.variables y u r e);
       live = λ y u r e. if_cases (same_id r (Level g.regions.count)) true (g.regions.live r) (λ z. z ≡ true) (λ z. refl) (λ z. h.binds.live y u r e);
       globals = h.binds.globals;
@@ -228,7 +228,8 @@ module _ (d : Tables) (world : World) (tables : typing.Tables) (g : Env) (scope 
     frame_below = omega arith;
   }
 
-pub scene_block : (d : Tables) (world : World) (tables : typing.Tables) (g : Env) (scope : Scope) (f : NameOf → Region) (gives : RunType) (b k : ℕ) (w : Ghost) (m : Memory)
+pub scene_block : (d : Tables) (world : World) (tables : typing.Tables) (g : Env) (scope : Scope) (f : NameOf → Region) (gives : RunType) (b k : ℕ) (w : Ghost)
+    (m : Memory)
     → Surrounds d world tables g scope f gives → Inv d w m → Scene d g scope f b k w m
     → Scene d (block_entered g) (record scope { frame = m.activations }) (naming f g.regions.count (Frame m.activations)) b k (block_ghost w m) (block_memory m)
 scene_block d world tables g scope f gives b k w m h i z = record {
@@ -236,7 +237,8 @@ scene_block d world tables g scope f gives b k w m h i z = record {
   base = let l : b ≤ m.activations = z.base in omega (arith, l);
   variables = λ y u r s e q.
       subst (λ (t : RunType). Laid (block_ghost w m) s (flat heap d t))
-      (sym (renamed_alike g.regions.count f (naming f g.regions.count (Frame m.activations)) u (naming_alike f g.regions.count (Frame m.activations)) (h.binds.variables y u r e).below))
+      (sym (renamed_alike g.regions.count f (naming f g.regions.count (Frame m.activations)) u (naming_alike f g.regions.count (Frame m.activations))
+      (h.binds.variables y u r e).below))
       (laid_kept w (block_ghost w m) s (flat heap d (renamed f u)) (λ p v l. l) (z.variables y u r s e q));
   globals = λ y u r s e q. laid_kept w (block_ghost w m) s (flat heap d (renamed (λ a. heap) u)) (λ p v l. l) (z.globals y u r s e q);
 }

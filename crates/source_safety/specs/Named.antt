@@ -2,6 +2,7 @@
 use Rattle.std.specs.Prelude.{ℕ, ◌<◌, List, [], ◌∷◌}
 use Rattle.source_typing.specs.Regions.{Region, TheHeap, Level}
 use Rattle.source_typing.specs.Types.{StaticType, Int, Unsigned, Char, Void, Null, Thin, Fat, Unique, Handle, Key, Struct, Union}
+use Rattle.source_typing.specs.Written.{RegionNamed}
 
 -- a name that was declared before so many
 abbrev pub Below : ℕ → Region → Type 0
@@ -12,6 +13,11 @@ Below count (Level k) = k < count
 abbrev pub AllBelow : ℕ → List Region → Type 0
 AllBelow n [] = Unit {0}
 AllBelow n (r ∷ rs) = Below n r × AllBelow n rs
+
+-- so were those that names in scope are of
+abbrev pub NamesBelow : ℕ → List RegionNamed → Type 0
+NamesBelow n [] = Unit {0}
+NamesBelow n (r ∷ rs) = Below n r.id × NamesBelow n rs
 
 -- both regions of each bound were
 abbrev pub BoundsBelow : ℕ → List (Region × Region) → Type 0

@@ -1,8 +1,8 @@
 -- What has no fault converts.
 use Rattle.std.proofs.Common.{◌≡◌, ℕ, Bool, true, false, Option, Some, None, List, [], ◌∷◌, refl, ap, subst}
-use Rattle.std.proofs.lemmas.Bool.{eqb-true}
+use Rattle.std.proofs.lemmas.Bool.{eqb-true, and_parts}
 use Rattle.std.proofs.lemmas.Slice.Eq.{bytes_eq-Decides}
-use Rattle.std.specs.Prelude.{bytes_eq, ◌&&◌}
+use Rattle.std.specs.Prelude.{bytes_eq}
 use Rattle.source_typing.specs.Faults.{region_rule, outlives_rule}
 use Rattle.source_typing.specs.Regions.{Region, TheHeap, Level, same_id, Regions}
 use Rattle.source_typing.specs.Types.{StaticType, Int, Unsigned, Char, Void, Null, Thin, Fat, Unique, Handle, Key, Struct, Union, is_integer}
@@ -37,16 +37,12 @@ id_is TheHeap (Level k) e = absurd cc
 id_is (Level k) TheHeap e = absurd cc
 id_is (Level j) (Level k) e = ap (λ (n : ℕ). Level n) (eqb-true j k e)
 
-pub and_is : (a b : Bool) → a && b ≡ true → (a ≡ true) × (b ≡ true)
-and_is true b e = (refl, e)
-and_is false b e = absurd cc
-
 ids_are : (rs qs : List Region) → same_ids rs qs ≡ true → rs ≡ qs
 ids_are [] [] e = refl
 ids_are [] (q ∷ qs) e = absurd cc
 ids_are (r ∷ rs) [] e = absurd cc
 ids_are (r ∷ rs) (q ∷ qs) e =
-    let a : (same_id r q ≡ true) × (same_ids rs qs ≡ true) = and_is (same_id r q) (same_ids rs qs) e in
+    let a : (same_id r q ≡ true) × (same_ids rs qs ≡ true) = and_parts (same_id r q) (same_ids rs qs) e in
     let b : r ≡ q = id_is r q a.0 in let c : rs ≡ qs = ids_are rs qs a.1 in cc
 
 tags_match : (a b : List ℕ) (rs qs : List Region) → only (bytes_eq a b) (matched (same_ids rs qs) Equals) ≡ Equals → (a ≡ b) × (rs ≡ qs)

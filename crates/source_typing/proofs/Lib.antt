@@ -2,6 +2,7 @@ pub mod TakenWhole
 pub mod Inversion
 pub mod Entries
 pub mod Converting
+pub mod Parts
 pub mod PlacesFit
 pub mod OperatorsFit
 pub mod CallsFit

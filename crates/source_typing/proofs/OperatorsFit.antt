@@ -1,6 +1,7 @@
 -- What no fault says of operators.
 use Rattle.std.proofs.Common.{◌≡◌, ℕ, Bool, true, false, ◌⊎◌, inl, inr, List, [], refl, sym, ap, subst}
 use Rattle.std.specs.Prelude.{◌&&◌, ◌||◌, ◌++◌}
+use Rattle.std.proofs.lemmas.Bool.{and_parts, or_cases}
 use Rattle.cyc_tree.specs.declared.expression.Operator.{Operator}
 use Rattle.source_typing.specs.Faults.{Fault, test, outlives_rule, region_rule}
 use Rattle.source_typing.specs.Verdicts.{Of, after, if_fits}
@@ -14,7 +15,7 @@ use Rattle.source_typing.specs.Operators.{promoted, on_integers, is_equality, is
 use Rattle.source_typing.specs.Operators.{applied_to}
 use Rattle.source_typing.specs.Operators.{tested_both, tested, signed, is_fat, counted}
 use Rattle.source_typing.proofs.Inversion.{of_is, unless_is, test_is, none_of_both}
-use Rattle.source_typing.proofs.Converting.{and_is, compare_is}
+use Rattle.source_typing.proofs.Converting.{compare_is}
 
 -- what an operator takes and gives: two integers; a fat pointer that is moved; a pointer and `NULL`; two thin pointers into live regions in order
 pub data Operates (g : Env) (o : Operator) : StaticType → StaticType → StaticType → Type 0 where
@@ -26,10 +27,6 @@ pub data Operates (g : Env) (o : Operator) : StaticType → StaticType → Stati
       → (outlives g r q ≡ true) ⊎ (outlives g q r ≡ true) → Operates g o (Thin n r t) (Thin m q t) Int
 
 -- ---- helpers
-
-pub or_is : (a b : Bool) → a || b ≡ true → (a ≡ true) ⊎ (b ≡ true)
-or_is true b e = inl refl
-or_is false b e = inr e
 
 null_is : (t : StaticType) → is_null t ≡ true → t ≡ Null
 null_is Int e = absurd cc
@@ -57,14 +54,14 @@ fitted false at at' t w e = absurd cc
 
 with_null : (g : Env) (o : Operator) (a b u : StaticType) → is_equality o ≡ true → (is_pointer a && is_null b) || (is_null a && is_pointer b) ≡ true → u ≡ Int
     → Operates g o a b u
-with_null g o a b u q c k = by_sides (or_is (is_pointer a && is_null b) (is_null a && is_pointer b) c)
+with_null g o a b u q c k = by_sides (or_cases (is_pointer a && is_null b) (is_null a && is_pointer b) c)
   where
     by_sides : (is_pointer a && is_null b ≡ true) ⊎ (is_null a && is_pointer b ≡ true) → Operates g o a b u
     by_sides (inl l) =
-        let x : (is_pointer a ≡ true) × (is_null b ≡ true) = and_is (is_pointer a) (is_null b) l in
+        let x : (is_pointer a ≡ true) × (is_null b ≡ true) = and_parts (is_pointer a) (is_null b) l in
         subst (λ (v : StaticType). Operates g o a b v) (sym k) (subst (λ (v : StaticType). Operates g o a v Int) (sym (null_is b x.1)) (WithNull q x.0))
     by_sides (inr r) =
-        let x : (is_null a ≡ true) × (is_pointer b ≡ true) = and_is (is_null a) (is_pointer b) r in
+        let x : (is_null a ≡ true) × (is_pointer b ≡ true) = and_parts (is_null a) (is_pointer b) r in
         subst (λ (v : StaticType). Operates g o a b v) (sym k) (subst (λ (v : StaticType). Operates g o v b Int) (sym (null_is a x.0)) (NullWith q x.1))
 
 null_compared : (g : Env) (o : Operator) (at : ℕ) (a b : StaticType) (w : Value) → is_equality o ≡ true
@@ -93,9 +90,9 @@ thin_compared g o at n m true r q t u w k c e = by_tests (unless_is (ordered ++ 
     by_tests : (ordered ++ both_live ≡ []) × (value at Int ≡ Of w) → Operates g o (Thin n r t) (Thin m q u) w.type
     by_tests (z, v) =
         let x : (ordered ≡ []) × (both_live ≡ []) = none_of_both ordered both_live z in
-        let l : (is_live g r ≡ true) × (is_live g q ≡ true) = and_is (is_live g r) (is_live g q) (test_is (is_live g r && is_live g q) region_rule at x.1) in
+        let l : (is_live g r ≡ true) × (is_live g q ≡ true) = and_parts (is_live g r) (is_live g q) (test_is (is_live g r && is_live g q) region_rule at x.1) in
         let y : (outlives g r q ≡ true) ⊎ (outlives g q r ≡ true) =
-        or_is (outlives g r q) (outlives g q r) (test_is (outlives g r q || outlives g q r) outlives_rule at x.0) in
+        or_cases (outlives g r q) (outlives g q r) (test_is (outlives g r q || outlives g q r) outlives_rule at x.0) in
         let s : t ≡ u = compare_is t u (same_is (compare t u) c) in
         subst (λ (a : StaticType). Operates g o (Thin n r t) (Thin m q u) a) (sym (value_is at Int w v))
         (subst (λ (a : StaticType). Operates g o (Thin n r t) (Thin m q a) Int) s (OnThin k l.0 l.1 y))
@@ -135,14 +132,14 @@ equality_is false g o at a b w k e = absurd cc
 fat_is : (c : Bool) (g : Env) (o : Operator) (at : ℕ) (r : Region) (t b : StaticType) (w : Value) → is_move o && is_integer b ≡ c
     → fat_moved c g o at (Fat r t) b ≡ Of w → Operates g o (Fat r t) b w.type
 fat_is true g o at r t b w k e =
-    let x : (is_move o ≡ true) × (is_integer b ≡ true) = and_is (is_move o) (is_integer b) k in
+    let x : (is_move o ≡ true) × (is_integer b ≡ true) = and_parts (is_move o) (is_integer b) k in
     subst (λ (u : StaticType). Operates g o (Fat r t) b u) (sym (value_is at (Fat r t) w e)) (OnFat x.0 x.1)
 fat_is false g o at r t b w k e = equality_is (is_equality o) g o at (Fat r t) b w refl e
 
 joined_is : (c : Bool) (g : Env) (o : Operator) (at : ℕ) (a b : StaticType) (w : Value) → is_integer a && is_integer b ≡ c
     → integers_joined c g o at a b ≡ Of w → Operates g o a b w.type
 joined_is true g o at a b w k e =
-    let x : (is_integer a ≡ true) × (is_integer b ≡ true) = and_is (is_integer a) (is_integer b) k in
+    let x : (is_integer a ≡ true) × (is_integer b ≡ true) = and_parts (is_integer a) (is_integer b) k in
     subst (λ (u : StaticType). Operates g o a b u) (sym (value_is at (on_integers o a b) w e)) (OnIntegers x.0 x.1)
 joined_is false g o at a b w k e = equality_is (is_equality o) g o at a b w refl e
 
@@ -164,7 +161,7 @@ applied_to_is g o at (Union tag rs) b w e = joined_is (is_integer (Union tag rs)
 pub tested_both_is : (a b w : Value) → tested_both a b ≡ Of w → (is_testable a.type ≡ true) × (is_testable b.type ≡ true) × (w.type ≡ Int)
 tested_both_is a b w e =
     let x : (is_testable a.type && is_testable b.type ≡ true) × (w.type ≡ Int) = fitted (is_testable a.type && is_testable b.type) a.at a.at Int w e in
-    let y : (is_testable a.type ≡ true) × (is_testable b.type ≡ true) = and_is (is_testable a.type) (is_testable b.type) x.0 in
+    let y : (is_testable a.type ≡ true) × (is_testable b.type ≡ true) = and_parts (is_testable a.type) (is_testable b.type) x.0 in
     (y.0, y.1, x.1)
 
 -- `!`

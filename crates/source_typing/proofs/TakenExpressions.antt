@@ -71,7 +71,7 @@ kept g true at x y e f = f e
 kept g false at x y e f = absurd cc
 
 -- `unique_region` stands for itself alone
-no_unique : (b : Bool) (at : ℕ) (x : Expression) → is_unique_region x ≡ false → is_unique_region (if_taken b at x) ≡ false
+pub no_unique : (b : Bool) (at : ℕ) (x : Expression) → is_unique_region x ≡ false → is_unique_region (if_taken b at x) ≡ false
 no_unique true at x e = e
 no_unique false at x e = refl
 

@@ -64,7 +64,7 @@ pub if_is : {A : Type 0} (b : Bool) (x y : A) → b ≡ true → (if b then x el
 if_is true x y p = refl
 if_is false x y p = absurd cc
 
-type_whole : (t : TypeName) → type_taken whole t ≡ t
+pub type_whole : (t : TypeName) → type_taken whole t ≡ t
 type_whole t = if_is (takes_type whole t) t (refused_type t.at) (takes_type_whole t)
 
 suffixes_are_taken : (es : Suffixes) → takes_suffixes whole es ≡ true

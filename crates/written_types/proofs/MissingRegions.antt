@@ -8,11 +8,11 @@ use Rattle.source_typing.specs.Regions.{Region}
 use Rattle.source_typing.specs.Written.{Found}
 use Rattle.source_typing.specs.Types.{PartialType, StaticType}
 use Rattle.cyc_types.proofs.Converting.{by_outer}
+use Rattle.cyc_types.proofs.Outermost.{base_leads, base_outer}
 use Rattle.cyc_types.specs.Bases.{base_type}
 use Rattle.cyc_types.specs.Layers.{last_or, outermost, pointed, pointer_to}
 use Rattle.cyc_types.specs.Regions.{region_of, regions_of}
 use Rattle.cyc_types.specs.declared.base.BaseType.{BaseType}
-use Rattle.cyc_types.specs.declared.base.BaseType.TheVariants as base
 use Rattle.cyc_types.specs.declared.layer.Layer.{Layer}
 use Rattle.cyc_types.specs.declared.layer.Layer.TheVariants as pointer
 use Rattle.cyc_types.specs.declared.region.RegionId.{RegionId}
@@ -24,29 +24,6 @@ use Rattle.written_types.specs.declared.layer.WrittenLayer.{WrittenLayer}
 use Rattle.written_types.specs.declared.layer.WrittenLayer.TheVariants as code
 
 -- ---- what a type leads to
-
--- no pointer leads to anything
-base_leads : (b : BaseType) → pointee_of (Some (base_type b)) ≡ None
-base_leads base.Int = refl
-base_leads base.Unsigned = refl
-base_leads base.Char = refl
-base_leads base.Void = refl
-base_leads base.Null = refl
-base_leads (base.Handle r) = refl
-base_leads (base.Key r) = refl
-base_leads (base.Struct tag rs) = refl
-base_leads (base.Union tag rs) = refl
-
-base_outer : (b : BaseType) → outer_found None ≡ outer_region (Some (base_type b))
-base_outer base.Int = refl
-base_outer base.Unsigned = refl
-base_outer base.Char = refl
-base_outer base.Void = refl
-base_outer base.Null = refl
-base_outer (base.Handle r) = refl
-base_outer (base.Key r) = refl
-base_outer (base.Struct tag rs) = refl
-base_outer (base.Union tag rs) = refl
 
 pointer_leads : (l : Layer) (t : StaticType) → pointee_of (Some (pointer_to l t)) ≡ Some t
 pointer_leads (pointer.Thin n r) t = refl
@@ -123,7 +100,7 @@ whole_taken (l ∷ ls) = ap (λ ks. l ∷ ks) (whole_taken ls)
 -- the outermost pointer of what a type leads to through so many
 pub outer_reached : (m : ℕ) (ks : List Layer) (b : BaseType)
     → outer_found (outermost (take (length ks - m) ks)) ≡ outer_region (reached m (Some (pointed (base_type b) ks)))
-outer_reached zero [] b = ap (λ ls. outer_found (outermost ls)) (none_taken (length (let ls : List Layer = [] in ls) - 0)) ∙ base_outer b
+outer_reached zero [] b = ap (λ ls. outer_found (outermost ls)) (none_taken (length (let ls : List Layer = [] in ls) - 0)) ∙ sym (base_outer b)
 outer_reached zero (k ∷ ks) b =
     let all : length (k ∷ ks) - 0 ≡ length (k ∷ ks) = omega arith in
     ap (λ n. outer_found (outermost (take n (k ∷ ks)))) all ∙ ap (λ ls. outer_found (outermost ls)) (whole_taken (k ∷ ks))

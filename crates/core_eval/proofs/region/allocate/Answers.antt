@@ -1,7 +1,7 @@
 use Rattle.std.specs.Prelude.{option_map}
+use Rattle.std.proofs.lemmas.Result.{on_ok_weaker}
 use Rattle.std.proofs.Common.{◌<◌, ◌≤◌, length, ap, sym, rules}
 use Rattle.core_eval.specs.Regions.{grown_held, block_cells}
-use Rattle.core_eval.proofs.Lists.{ok_then}
 use Rattle.core_eval.proofs.Regions.{changed_some, no_region}
 use Rattle.core_eval.proofs.region.allocate.Goals as goal
 
@@ -9,9 +9,10 @@ pub returns-in-Some-clause-regions : goal.returns-in-Some-clause-regions
 returns-in-Some-clause-regions c =
     let rs = c.args.regions.now.items in
     let within : c.args.number < length rs = search rules in
-    ok_then c.allocate.result c.allocate.ensures.held
+    on_ok_weaker c.allocate.result
     (λ grown. changed_some rs c.args.number (grown_held (block_cells c.args.layout.now c.args.count)) c.in-Some.region.now c.allocate.new.self within
     c.in-Some.ensures.value grown)
+    c.allocate.ensures.held
 
 pub returns-in-None-clause-number : goal.returns-in-None-clause-number
 returns-in-None-clause-number c =

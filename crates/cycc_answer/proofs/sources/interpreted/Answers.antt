@@ -1,12 +1,13 @@
 use Rattle.std.proofs.Common.{◌≡◌, ℕ, inl}
+use Rattle.std.proofs.lemmas.Result.{IfOk-weaker}
 use Rattle.cycc_answer.specs.Statuses.{evaluated_status}
 use Rattle.cycc_answer.specs.Answers.{IsEval}
-use Rattle.cycc_answer.proofs.Counts.{weakened, of_evaluation}
+use Rattle.cycc_answer.proofs.Counts.{of_evaluation}
 use Rattle.cycc_answer.proofs.sources.interpreted.Goals as goal
 
 pub returns-in-Ok-clause-evaluated : goal.returns-in-Ok-clause-evaluated
 returns-in-Ok-clause-evaluated g c =
-    weakened c.evaluated.result (λ (status : ℕ). status ≡ evaluated_status c.in-Ok.ending)
+    IfOk-weaker c.evaluated.result (λ (status : ℕ). status ≡ evaluated_status c.in-Ok.ending)
     (IsEval c.args.file.now c.args.fuel (g.R.Read.remaining c.args.reader.now) (g.R.Read.remaining c.evaluate.new.reader)
     (g.W.Write.contents c.args.writer.now) (g.W.Write.contents c.evaluate.new.writer))
     (λ status shown. inl (record { why = c.in-Ok.ending; evaluated = c.in-Ok.ensures.run; shown = shown })) c.evaluated.ensures

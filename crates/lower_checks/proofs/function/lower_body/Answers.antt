@@ -10,9 +10,10 @@ use Rattle.source_lowering.specs.Programs.{RegionsAround, no_regions, block_shap
 use Rattle.source_lowering.specs.Lowerable.{AreObjects, TakesItems}
 use Rattle.lower_checks.specs.Views.{regions_tree, shape_tree}
 use Rattle.lower_checks.specs.Visible.{names_of}
-use Rattle.lower_checks.proofs.Taken.{block_objects, parameter_objects}
+use Rattle.lower_checks.proofs.Taken.{parameter_objects}
 use Rattle.lower_checks.proofs.Bodies.{as_many_shapes, inside_of, body_of}
 use Rattle.lower_checks.proofs.function.lower_body.Goals as goal
+use Rattle.source_lowering.proofs.EachDeclaration.{block_objects}
 
 pub returns-clause-code : goal.returns-clause-code
 returns-clause-code c =

@@ -38,7 +38,7 @@ use Rattle.lower_checks.proofs.Items.{
   values_executed,
 }
 use Rattle.lower_checks.proofs.Lists.{on_ok, choice_of, loop_of}
-use Rattle.lower_checks.proofs.Taken.{block_objects}
+use Rattle.source_lowering.proofs.EachDeclaration.{block_objects}
 use Rattle.lower_checks.proofs.Wholes.{grown}
 use Rattle.lower_checks.proofs.statement.+statement.Goals as goal
 use Rattle.lower_checks.proofs.statement.+statement.Goals.{

@@ -1,4 +1,4 @@
-"""Texts to time the passes on: statements of one `main`, and whole programs of small functions."""
+"""Texts to time the passes on: statements of one `main`, and whole programs of small functions, of integers or of structs and pointers."""
 import itertools
 
 
@@ -64,3 +64,35 @@ def functions(lines):
         text.append(FUNCTION.format(number=number, kind=["int", "unsigned", "char"][number % 3], bound=number % 90, before=number - 1,
                                     earlier=number * 7 // 11, letter="abcdefghij"[number % 10]))
     return "".join(text) + tail.format(last=count)
+
+
+STRUCTURE = """\
+struct Node{number} {{ int value; struct Node{number} *next; struct Node{before} *other; }};
+int visit{number}(struct Node{number} *node, int *count) {{
+    struct Node{number} *rest = node;
+    struct Node{number} last = *node;
+    int *place = &last.value;
+    int sum = 0;
+    while (rest != NULL) {{
+        *place = rest->value + sum;
+        *count = *count + 1;
+        sum = *place;
+        rest = rest->next;
+    }}
+    if (last.other != NULL) {{ sum = sum + visit{before}(last.other, &sum); }}
+    return sum;
+}}
+"""
+
+
+def pointers(length):
+    """A program of so many bytes: structs that point to each other, and functions that follow such pointers."""
+    head = "struct Node0 { int value; };\nint visit0(struct Node0 *node, int *count) { *count = node->value; return *count; }\n"
+    tail = "int main() { return 0; }\n"
+    taken, room = [], length - len(head) - len(tail)
+    for number in itertools.count(1):
+        part = STRUCTURE.format(number=number, before=number - 1)
+        if len(part) > room:
+            return head + "".join(taken) + " " * room + tail
+        taken.append(part)
+        room -= len(part)

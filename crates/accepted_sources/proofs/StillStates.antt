@@ -21,39 +21,15 @@ use Rattle.source_typing.specs.Left.{
 }
 use Rattle.source_typing.specs.Moves.{Use, nothing, tested_use, value_use}
 use Rattle.source_typing.specs.Scope.{Env}
-use Rattle.source_typing.specs.States.{
-  Gone,
-  Held,
-  Lent,
-  Passed,
-  Plain,
-  State,
-  States,
-  iterate,
-  loop_head,
-  meet,
-  meet_all,
-  meet_ways,
-  or_entry,
-  passed,
-}
+use Rattle.source_typing.specs.States.{Passed, States, loop_head, meet_all, meet_ways, or_entry, passed}
 use Rattle.source_typing.proofs.Inversion.{both_none}
+use Rattle.source_typing.proofs.Meeting.{meet_all_itself, same_turns}
 
 -- ---- uses
 
 -- nothing is done to any local, however the expression is used
 abbrev pub idle : Use
 idle = value_use nothing
-
-meet_itself : (a : State) → meet a a ≡ a
-meet_itself Plain = refl
-meet_itself Held = refl
-meet_itself Gone = refl
-meet_itself Lent = refl
-
-meet_all_itself : (s : States) → meet_all s s ≡ s
-meet_all_itself [] = refl
-meet_all_itself (a ∷ s) = ap₂ (λ b t. b ∷ t) (meet_itself a) (meet_all_itself s)
 
 -- an operand of `&&` or `||` that may be evaluated or not
 pub tested_idle : tested_use idle idle ≡ idle
@@ -116,10 +92,6 @@ sequence_still s a rest h k = by a.falls h.falls
     by (Some t) e = subst (λ u. IsStill s (joined a (rest u) (rest u).falls)) (sym e) (joined_still s a (rest s) (rest s).falls h (k s) (k s).falls)
 
 -- ---- loops
-
-same_turns : (n : ℕ) (turn : States → States) (s : States) → turn s ≡ s → iterate n turn s ≡ s
-same_turns zero turn s e = refl
-same_turns (suc n) turn s e = ap (λ t. iterate n turn t) e ∙ same_turns n turn s e
 
 entry_itself : (s : States) (w : Option States) → IsReachedIn s w → or_entry s w ≡ s
 entry_itself s None h = refl

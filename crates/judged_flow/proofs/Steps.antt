@@ -1,6 +1,5 @@
 -- One more part of a phrase whose parts come one after another.
 use Rattle.std.proofs.Common.{List, ap, ap₂, drop, get_or, length, map, sym, ℕ, ◌+◌, ◌<◌, ◌∙◌, ◌∷◌, ◌≡◌}
-use Rattle.std.proofs.lemmas.List.{drop_more}
 use Rattle.cyc_tree.proofs.Forms.{link_parts}
 use Rattle.cyc_tree.specs.View.{expression_tree, expressions_of, link_tree, links_of, suffix_tree}
 use Rattle.cyc_tree.specs.declared.expression.Expression as code
@@ -13,10 +12,8 @@ use Rattle.source_typing.specs.Scope.{Env, Value}
 use Rattle.source_typing.specs.Taken.{Taken, all_taken, links_taken, taken}
 use Rattle.type_verdicts.specs.Verdicts.{Short}
 use Rattle.judged_expressions.specs.Suffixes.{short_suffix}
+use Rattle.program_types.proofs.Items.{next_of}
 use Rattle.judged_flow.specs.Folded.{all_short_uses, passed_all, passed_links, passed_tests, short_uses}
-
-item_next : {A : Type 0} (es : List A) (i : ℕ) (e : A) → i < length es → e ≡ get_or es i e → drop i es ≡ e ∷ drop (i + 1) es
-item_next es i e h is_item = drop_more es i e h ∙ ap (λ y. y ∷ drop (i + 1) es) (sym is_item)
 
 module _ (k : Taken) (g : Env) where
   abbrev all_from : Passage → List code.Expression → Passage
@@ -26,7 +23,7 @@ module _ (k : Taken) (g : Env) where
       → q ≡ in_turn p (uses_of g (taken k (expression_tree e))).value
       → passed_all g q (all_taken k (expressions_of (map expression_tree (drop (i + 1) es))))
       ≡ passed_all g p (all_taken k (expressions_of (map expression_tree (drop i es))))
-  all_step es i e p q h is_item same = ap (λ u. all_from u (drop (i + 1) es)) same ∙ ap (all_from p) (sym (item_next es i e h is_item))
+  all_step es i e p q h is_item same = ap (λ u. all_from u (drop (i + 1) es)) same ∙ ap (all_from p) (sym (next_of es i e h is_item))
 
   abbrev tests_from : Passage → List code.Expression → Passage
   tests_from p es = passed_tests g p (all_taken k (expressions_of (map expression_tree es)))
@@ -35,7 +32,7 @@ module _ (k : Taken) (g : Env) where
       → q ≡ in_turn_or_not p (uses_of g (taken k (expression_tree e))).look
       → passed_tests g q (all_taken k (expressions_of (map expression_tree (drop (i + 1) es))))
       ≡ passed_tests g p (all_taken k (expressions_of (map expression_tree (drop i es))))
-  tests_step es i e p q h is_item same = ap (λ u. tests_from u (drop (i + 1) es)) same ∙ ap (tests_from p) (sym (item_next es i e h is_item))
+  tests_step es i e p q h is_item same = ap (λ u. tests_from u (drop (i + 1) es)) same ∙ ap (tests_from p) (sym (next_of es i e h is_item))
 
   abbrev links_from : Passage → List code_link.Link → Passage
   links_from p ls = passed_links g p (links_taken k (links_of (map link_tree ls)))
@@ -46,11 +43,11 @@ module _ (k : Taken) (g : Env) where
   links_step ls i l p q h is_item same =
       ap (λ u. links_from u (drop (i + 1) ls)) same
       ∙ ap (λ o. passed_links g p (links_taken k (links_of (o ∷ map link_tree (drop (i + 1) ls))))) (sym (link_parts l))
-      ∙ ap (links_from p) (sym (item_next ls i l h is_item))
+      ∙ ap (links_from p) (sym (next_of ls i l h is_item))
 
   pub suffixes_step : (xs : List code_suffix.Suffix) (i : ℕ) (x : code_suffix.Suffix) (s t : Short Value) (u v : Uses) → i < length xs → x ≡ get_or xs i x
       → t ≡ short_suffix k g s (suffix_tree x) → v ≡ short_uses k g s u (suffix_tree x)
       → all_short_uses k g t v (map suffix_tree (drop (i + 1) xs)) ≡ all_short_uses k g s u (map suffix_tree (drop i xs))
   suffixes_step xs i x s t u v h is_item judged used =
       ap₂ (λ a b. all_short_uses k g a b (map suffix_tree (drop (i + 1) xs))) judged used
-      ∙ ap (λ ys. all_short_uses k g s u (map suffix_tree ys)) (sym (item_next xs i x h is_item))
+      ∙ ap (λ ys. all_short_uses k g s u (map suffix_tree ys)) (sym (next_of xs i x h is_item))

@@ -3,7 +3,9 @@ use Rattle.std.proofs.Common.{◌≡◌, ℕ, Bool, true, false, List, [], ◌�
 use Rattle.std.proofs.lemmas.List.{append-nil}
 use Rattle.std.proofs.lemmas.Slice.Eq.{bytes_eq-Decides}
 use Rattle.std.specs.Prelude.{None, Option, Some, bytes_eq, if◌then◌else◌, is_some, not, ◌&&◌, ◌||◌}
-use Rattle.source_typing.specs.Programs.{Judged, all_tag_faults, entries}
+use Rattle.source_meaning.specs.Places.{or_else}
+use Rattle.source_typing.proofs.Entries.{find_both}
+use Rattle.source_typing.specs.Programs.{Judged, all_tag_faults}
 use Rattle.source_typing.specs.Tables.{Entry, Tables, find}
 use Rattle.written_types.specs.Naming.{has_tag_name, tag_named}
 use Rattle.written_types.specs.Tagged.{tag_name_of}
@@ -11,23 +13,6 @@ use Rattle.written_types.specs.declared.tag_names.TagNames.{TagNames}
 use Rattle.written_types.specs.declared.tagged.TagName.{TagName}
 
 -- ---- lists
-
-abbrev pub or_else : Option Entry → Option Entry → Option Entry
-or_else None o = o
-or_else (Some e) o = Some e
-
-pub find_both : (g h : Tables) (x : List ℕ) → find (g ++ h) x ≡ or_else (find g x) (find h x)
-find_both [] h x = refl
-find_both (n ∷ ns) h x = by (bytes_eq n.name x) (find_both ns h x)
-  where
-    by : (b : Bool) → find (ns ++ h) x ≡ or_else (find ns x) (find h x)
-        → (if b then Some n.entry else find (ns ++ h) x) ≡ or_else (if b then Some n.entry else find ns x) (find h x)
-    by true others = refl
-    by false others = others
-
-pub entries_more : (js : List Judged) (j : Judged) → entries (js ++ j ∷ []) ≡ entries js ++ j.entry ∷ []
-entries_more [] j = refl
-entries_more (i ∷ js) j = ap (λ es. i.entry ∷ es) (entries_more js j)
 
 pub faults_more : (js : List Judged) (j : Judged) → all_tag_faults (js ++ j ∷ []) ≡ all_tag_faults js ++ j.faults
 faults_more [] j = append-nil j.faults

@@ -5,6 +5,7 @@ use Rattle.std.specs.Prelude.{Option, Some, bytes_eq, if◌then◌else◌, is_so
 use Rattle.cyc_types.proofs.FirstTags.{first_again, first_new}
 use Rattle.cyc_types.specs.FirstTags.{tags_first}
 use Rattle.cyc_types.specs.Tables.{tables_of}
+use Rattle.source_typing.proofs.Entries.{entries_more}
 use Rattle.source_typing.specs.Faults.{earliest}
 use Rattle.source_typing.specs.Programs.{Judged, all_tag_faults, builtins, entries}
 use Rattle.source_typing.specs.Tables.{Tables, find}
@@ -14,7 +15,7 @@ use Rattle.type_verdicts.specs.declared.fault.Fault as code
 use Rattle.written_types.specs.Naming.{has_tag_name, tag_named}
 use Rattle.written_types.specs.Tagged.{tag_name_of}
 use Rattle.written_types.specs.declared.tagged.TagName.{TagName}
-use Rattle.judged_tags.proofs.NextNames.{entries_more, faults_more, known_next, names_next}
+use Rattle.judged_tags.proofs.NextNames.{faults_more, known_next, names_next}
 use Rattle.judged_tags.specs.Tags.{AreJudged, tag_if}
 use Rattle.judged_tags.specs.declared.tags.JudgedTags.{JudgedTags}
 

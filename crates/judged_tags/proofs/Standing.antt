@@ -10,6 +10,8 @@ use Rattle.cyc_types.specs.FirstTags.{AreEmpty, AreOwn, IsOwn}
 use Rattle.cyc_types.proofs.WrittenTags.{parts_declared}
 use Rattle.cyc_types.specs.Known.{has_declared}
 use Rattle.cyc_types.specs.Tables.{tables_of}
+use Rattle.source_meaning.specs.Places.{or_else}
+use Rattle.source_typing.proofs.Entries.{entries_more, find_both, judged_name}
 use Rattle.source_typing.specs.Declarations.{tag_earlier}
 use Rattle.source_typing.specs.Programs.{Judged, builtins, entries, first_entry, first_from, judged_tag, name_of}
 use Rattle.source_typing.specs.Tables.{Entry, Named, OfBuiltin, OfFunction, OfOther, OfTag, OfValue, Tables, Tag, as_tag, each_part, find, parts_of_tag, tag_in}
@@ -21,7 +23,6 @@ use Rattle.written_types.specs.Naming.{has_tag_name, tag_named}
 use Rattle.written_types.specs.Tagged.{IsNamed, tag_name_of}
 use Rattle.written_types.specs.declared.tag_names.TagNames.{TagNames}
 use Rattle.written_types.specs.declared.tagged.TagName.{TagName}
-use Rattle.judged_tags.proofs.NextNames.{entries_more, find_both, or_else}
 use Rattle.judged_tags.specs.FirstKnown.{AreNames, AreSince, bare_tags, first_tags}
 use Rattle.judged_tags.specs.Tags.{AreAllJudged, AreBefore, AreJudged, IsBefore, IsFound, JudgedTo, StandsAt, found_parts, known_name, or_first}
 use Rattle.judged_tags.specs.declared.structure.JudgedTag.{JudgedTag}
@@ -201,12 +202,6 @@ judged_before k g i (tree.StructItem s) = (refl, below_next i)
 judged_before k g i (tree.UnionItem s) = (refl, below_next i)
 judged_before k g i (tree.GlobalItem x) = tt
 judged_before k g i (tree.FunctionItem f) = tt
-
-pub judged_name : (g : Tables) (i : ℕ) (item : Item) → (judged_tag g i item).entry.name ≡ (name_of item).text
-judged_name g i (tree.StructItem s) = refl
-judged_name g i (tree.UnionItem s) = refl
-judged_name g i (tree.GlobalItem x) = refl
-judged_name g i (tree.FunctionItem f) = refl
 
 module _ (k : code_taken.Taken) (all : Program) (i : ℕ) (item : Item) (items : Program) (done next : JudgedTags)
     (to : JudgedTo all i (only_taken (taken_of k) (item ∷ items)) done) where

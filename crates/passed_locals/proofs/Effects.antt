@@ -2,7 +2,8 @@
 use Rattle.std.specs.Prelude.{drop, length, nat_eq, nat_lt, option_map, ◌+◌, ◌<◌, ◌≤◌, ◌++◌, if◌then◌else◌}
 use Rattle.std.proofs.Common.{◌≡◌, ℕ, zero, suc, Bool, true, false, Option, Some, None, [], ◌∷◌, refl, sym, ap, ap₂, ◌∙◌, arith}
 use Rattle.std.proofs.lemmas.Bool.Decides.{nat_tests}
-use Rattle.source_typing.specs.States.{Lent, Plain, State, States, iterate, loop_head, meet, meet_all, meet_ways, or_entry}
+use Rattle.source_typing.specs.States.{Lent, Plain, State, States, loop_head, meet, meet_all, meet_ways, or_entry}
+use Rattle.source_typing.proofs.Meeting.{meet_all_itself, same_turns}
 use Rattle.passed_locals.specs.Effects.{Effect, Effects, Holds, Keeps, Loses, MayLose, becomes, below, effects_below, met_effect, met_effects, met_ways, no_effects, states_after}
 use Rattle.passed_locals.specs.Effects.{then_effect, then_effects, then_way, to_head, way_below, with_number}
 use Rattle.passed_locals.specs.Laws.{way_after}
@@ -58,13 +59,6 @@ one_turn Holds = elim [ Plain ↦ refl | _ ↦ refl ]
 one_turn Loses = elim [ Plain ↦ refl | _ ↦ refl ]
 one_turn MayLose = elim [ Plain ↦ refl | _ ↦ refl ]
 
-meet_itself : (a : State) → meet a a ≡ a
-meet_itself = elim [ Plain ↦ refl | _ ↦ refl ]
-
-meet_all_itself : (s : States) → meet_all s s ≡ s
-meet_all_itself [] = refl
-meet_all_itself (a ∷ s) = ap₂ (λ b t. b ∷ t) (meet_itself a) (meet_all_itself s)
-
 -- ---- all locals
 
 pub none_after : (n : ℕ) (s : States) → states_after n no_effects s ≡ s
@@ -94,10 +88,6 @@ ways_met n (Some d) None s = refl
 ways_met n (Some d) (Some e) s = ap Some (after_met n d e s)
 
 -- ---- loops
-
-same_turns : (k : ℕ) (turn : States → States) (s : States) → turn s ≡ s → iterate k turn s ≡ s
-same_turns zero turn s e = refl
-same_turns (suc k) turn s e = ap (λ t. iterate k turn t) e ∙ same_turns k turn s e
 
 -- where a turn begins, by where the one before it did
 abbrev turned : ℕ → Effects → States → States → States

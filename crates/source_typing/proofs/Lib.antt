@@ -1,5 +1,6 @@
 pub mod TakenWhole
 pub mod Inversion
+pub mod Meeting
 pub mod Entries
 pub mod Converting
 pub mod Parts

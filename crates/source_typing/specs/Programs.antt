@@ -36,7 +36,7 @@ abbrev pub bare_from : ℕ → List Item → Tables
 bare_from i [] = []
 bare_from i (item ∷ items) = named (name_of item) (bare_entry i item) ∷ bare_from (suc i) items
 
--- the same, and whether a tag has faults that hang on no other tag
+-- the same, and whether a tag has faults that hang on no tag among its members
 abbrev pub first_entry : Tables → ℕ → Item → Entry
 first_entry g i (tree.StructItem s) = head_entry g i false s
 first_entry g i (tree.UnionItem s) = head_entry g i true s

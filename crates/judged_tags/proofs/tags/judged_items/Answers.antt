@@ -2,12 +2,13 @@ use Rattle.std.proofs.Common.{arith, ◌+◌, ◌∷◌, ◌∙◌, ◌++◌, ap
 use Rattle.std.proofs.lemmas.List.{drop_all, drop_more}
 use Rattle.cyc_tree.specs.View.{program_item_tree, program_tree}
 use Rattle.cyc_types.specs.Tables.{tables_of}
+use Rattle.source_typing.proofs.Entries.{judged_name}
 use Rattle.source_typing.specs.Programs.{builtins, entries, first_from, judged_tag}
 use Rattle.source_typing.specs.Taken.{item_taken, only_taken}
 use Rattle.type_verdicts.specs.Taken.{taken_of}
 use Rattle.judged_tags.specs.FirstKnown.{bare_tags}
 use Rattle.judged_tags.specs.Tags.{IsFound, JudgedTo, StandsAt}
-use Rattle.judged_tags.proofs.Standing.{declared_at, judged_first, judged_last, judged_name, judged_next, new_at, stands_at}
+use Rattle.judged_tags.proofs.Standing.{declared_at, judged_first, judged_last, judged_next, new_at, stands_at}
 use Rattle.judged_tags.proofs.tags.judged_items.Goals as goal
 
 pub add-requires-clause-new : goal.add-requires-clause-new

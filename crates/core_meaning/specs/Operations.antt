@@ -1,5 +1,5 @@
 -- What each operation of Core does.
-use Rattle.std.specs.Prelude.{ℕ, zero, suc, ◌+◌, ◌-◌, ◌*◌, ◌%◌, ◌^◌, Bool, true, false, not, ◌&&◌, List, [], ◌∷◌, nat_eq, nat_lt, nat_le, if◌then◌else◌, Option, Some, None, slice_get, length}
+use Rattle.std.specs.Prelude.{ℕ, zero, suc, ◌+◌, ◌-◌, ◌*◌, ◌%◌, ◌^◌, Bool, true, false, not, ◌&&◌, ◌||◌, List, [], ◌∷◌, nat_eq, nat_lt, nat_le, if◌then◌else◌, Option, Some, None, slice_get, length}
 use Rattle.cyc_words.specs.Events as events
 use Rattle.step_trees.specs.Trees.{Says, Reads, Pays}
 use Rattle.core_meaning.specs.Memory.{
@@ -126,9 +126,19 @@ same_place m (Birth d) y next = stuck
 abbrev pub saturated : ℕ → ℕ
 saturated n = (if nat_lt n (2 ^ 32) then n else 2 ^ 32 - 1)
 
--- no object has so many bytes: a pointer goes no further from where its object begins
+-- no object that is granted has so many bytes
 abbrev pub too_far : ℕ
 too_far = 2 ^ 25
+
+-- a part lies so many bytes on
+abbrev pub lies_at : Option Part → ℕ → Bool
+lies_at None b = false
+lies_at (Some p) b = nat_eq p.offset b
+
+-- A pointer goes less than too far from where its object begins, or to where a part lies. That is asked of parts whether or not their region is live: a pointer into
+-- a region that ended may go on within its object.
+abbrev pub reaches : Memory → Spot → ℕ → Bool
+reaches m s b = nat_lt b too_far || lies_at (m.parts s 0) b
 
 -- ---- whole objects
 
@@ -229,9 +239,10 @@ does (LocalAddress t out local) next c =
 does (OwnAddress t object) next c = next (with_temp t (Pointer (record { region = Own c.own; object = object; cell = 0 }) 0) c)
 does (DataAddress t object) next c = next (with_temp t (Pointer (record { region = Born 0; object = object; cell = 0 }) 0) c)
 does (Offset t p cells bytes) next c =
-    pointer_of (c.temps p) (λ s b. checked (nat_lt (b + bytes) too_far) (next (with_temp t (Pointer (beyond s cells) (b + bytes)) c)))
+    pointer_of (c.temps p) (λ s b. checked (reaches c.memory (beyond s cells) (b + bytes)) (next (with_temp t (Pointer (beyond s cells) (b + bytes)) c)))
 does (Element t p i cells bytes) next c =
-    pointer_of (c.temps p) (λ s b. word_of (c.temps i) (λ n. next (with_temp t (Pointer (beyond s (n * cells)) (b + n * bytes)) c)))
+    pointer_of (c.temps p) (λ s b. word_of (c.temps i) (λ n. checked (reaches c.memory (beyond s (n * cells)) (b + n * bytes))
+    (next (with_temp t (Pointer (beyond s (n * cells)) (b + n * bytes)) c))))
 does (Get t out local width) next c =
     needed (slice_get c.blocks out) (λ k. reached c.memory (at_once width) (local_spot k local) 0 (λ there part. next (with_temp t part.content c)))
 does (Put out local width x) next c =

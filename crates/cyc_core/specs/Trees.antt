@@ -1,9 +1,11 @@
 -- The code's programs as programs of Core.
-use Rattle.std.specs.Prelude.{ℕ, zero, suc, ◌+◌, Option, Some, None, List, [], ◌∷◌, map, slice_get}
+use Rattle.std.specs.Prelude.{ℕ, zero, suc, ◌+◌, ◌%◌, Option, Some, None, List, [], ◌∷◌, ◌++◌, map, length, slice_get}
 use Rattle.core_meaning.specs.Memory.{PartShape, Layout, Content, shape_in}
 use Rattle.core_meaning.specs.Memory as memory
 use Rattle.core_meaning.specs.Core as core
 use Rattle.cyc_core.specs.declared.operation.Temporary.{Temporary}
+use Rattle.cyc_core.specs.declared.operation.Words.{Words}
+use Rattle.cyc_core.specs.declared.operation.Words.TheVariants as words
 use Rattle.cyc_core.specs.declared.operation.Width.{Width}
 use Rattle.cyc_core.specs.declared.operation.Width.TheVariants as width
 use Rattle.cyc_core.specs.declared.operation.Cell.{Cell}
@@ -30,58 +32,85 @@ abbrev pub bytes_of : Width → ℕ
 bytes_of width.Byte = 1
 bytes_of width.Word = 4
 
--- how wide a local or a global is: a pointer is a word, and so is a handle
+-- how wide each part of a cell is: a pointer is a word, each part of a fat one is, and so is a handle
 abbrev pub cell_width : Cell → Width
 cell_width cell.Byte = width.Byte
 cell_width cell.Word = width.Word
 cell_width cell.Pointer = width.Word
+cell_width cell.Fat = width.Word
 cell_width cell.Handle = width.Word
 
--- what it begins as: a pointer is NULL, a number is 0, and a handle has no beginning
+-- what its first part begins as: a pointer is NULL, a number is 0, and a handle has no beginning
 abbrev pub cell_first : Cell → Content
 cell_first cell.Byte = memory.Word 0
 cell_first cell.Word = memory.Word 0
 cell_first cell.Pointer = memory.Null
+cell_first cell.Fat = memory.Null
 cell_first cell.Handle = memory.Blank
 
--- an object of one cell of one part
+-- how many bytes it takes
+abbrev pub cell_bytes : Cell → ℕ
+cell_bytes cell.Byte = 1
+cell_bytes cell.Word = 4
+cell_bytes cell.Pointer = 4
+cell_bytes cell.Fat = 12
+cell_bytes cell.Handle = 4
+
+-- the parts behind its first, from a byte on: a fat pointer has its count and its index, which begin as 0
+abbrev pub further_parts : Cell → ℕ → List PartShape
+further_parts cell.Byte at = []
+further_parts cell.Word at = []
+further_parts cell.Pointer at = []
+further_parts cell.Fat at = record { offset = at; width = 4; first = memory.Word 0 } ∷ record { offset = at + 4; width = 4; first = memory.Word 0 } ∷ []
+further_parts cell.Handle at = []
+
+-- the parts of what it is made for, from a byte on
+abbrev pub made_parts : Cell → ℕ → List PartShape
+made_parts c at = record { offset = at; width = bytes_of (cell_width c); first = cell_first c } ∷ further_parts c (at + 4)
+
+-- an object of one cell
 abbrev pub part_layout : Cell → Layout
-part_layout c = record {
-  cells = (record { offset = 0; width = bytes_of (cell_width c); first = cell_first c } ∷ []) ∷ [];
-  bytes = bytes_of (cell_width c);
-}
+part_layout c = record { cells = made_parts c 0 ∷ []; bytes = cell_bytes c }
 
 -- parts of one byte that hold nothing, from a byte on
 abbrev pub padding_parts : ℕ → ℕ → List PartShape
 padding_parts at zero = []
 padding_parts at (suc n) = record { offset = at; width = 1; first = memory.Blank } ∷ padding_parts (at + 1) n
 
--- a cell has the part that it is made for, and the bytes behind that
+-- a cell has the parts that it is made of, and the bytes behind these
 abbrev pub cell_parts : CellLayout → List PartShape
-cell_parts c =
-    record { offset = c.offset; width = bytes_of (cell_width c.cell); first = cell_first c.cell }
-    ∷ padding_parts (c.offset + bytes_of (cell_width c.cell)) c.padding
+cell_parts c = made_parts c.cell c.offset ++ padding_parts (c.offset + cell_bytes c.cell) c.padding
 
 abbrev pub layout_tree : code_layout.Layout → Layout
 layout_tree l = record { cells = map cell_parts l.cells.items; bytes = l.bytes }
 
 abbrev pub local_layout : Local → Layout
 local_layout (local.Scalar c) = part_layout c
-local_layout (local.Whole l) = layout_tree l.value
+local_layout (local.Whole l count) = layout_tree l.value
+
+-- of how many elements it is
+abbrev pub local_count : Local → ℕ
+local_count (local.Scalar c) = 1
+local_count (local.Whole l count) = count
 
 abbrev pub local_tree : Local → core.Local
-local_tree l = record { layout = local_layout l; count = 1 }
+local_tree l = record { layout = local_layout l; count = local_count l }
 
 abbrev pub distance_tree : Distance → core.Distance
-distance_tree d = record { cells = d.cells; bytes = d.bytes; part = 0; width = bytes_of d.width }
+distance_tree d = record { cells = d.cells; bytes = d.bytes; part = d.part; width = bytes_of d.width }
 
 abbrev pub temporary_tree : Temporary → ℕ
 temporary_tree t = t.0
 
--- one temporary, or none
-abbrev pub optional_tree : Option Temporary → List ℕ
+-- the temporaries of a value
+abbrev pub words_tree : Words → List ℕ
+words_tree (words.One t) = t.0 ∷ []
+words_tree (words.Three t u v) = t.0 ∷ u.0 ∷ v.0 ∷ []
+
+-- those of a value, or none
+abbrev pub optional_tree : Option Words → List ℕ
 optional_tree None = []
-optional_tree (Some t) = t.0 ∷ []
+optional_tree (Some ws) = words_tree ws
 
 abbrev pub binary_tree : Binary → core.Binary
 binary_tree binary.Add = core.Add
@@ -113,6 +142,7 @@ operation_tree (operation.Apply o t x y) = core.Apply (binary_tree o) t.0 x.0 y.
 operation_tree (operation.LocalAddress t v) = core.LocalAddress t.0 v.out v.index
 operation_tree (operation.OwnAddress t object) = core.OwnAddress t.0 object
 operation_tree (operation.DataAddress t object) = core.DataAddress t.0 object
+operation_tree (operation.Element t p i cells bytes) = core.Element t.0 p.0 i.0 cells bytes
 operation_tree (operation.Get t v w) = core.Get t.0 v.out v.index (bytes_of w)
 operation_tree (operation.Put v w x) = core.Put v.out v.index (bytes_of w) x.0
 operation_tree (operation.Offset t p cells bytes) = core.Offset t.0 p.0 cells bytes
@@ -133,7 +163,7 @@ statements_of (s ∷ ss) = core.MoreStatements s (statements_of ss)
 abbrev pub statement_step : Statement-F core.Statement → core.Statement
 statement_step (Statement-F.Do o) = core.Do (operation_tree o)
 statement_step (Statement-F.Copy to from l) = core.Do (core.Copy to.0 from.0 (layout_tree l.value))
-statement_step (Statement-F.Clear p l) = core.Do (core.Clear p.0 (layout_tree l.value) 1)
+statement_step (Statement-F.Clear p l count) = core.Do (core.Clear p.0 (layout_tree l.value) count)
 statement_step (Statement-F.RegionAlloc t h n l) = core.Do (core.RegionAlloc t.0 h.0 n.0 (layout_tree l.value))
 statement_step (Statement-F.If t these those) = core.If t.0 (statements_of these.items) (statements_of those.items)
 statement_step (Statement-F.While test t body) = core.While (statements_of test.items) t.0 (statements_of body.items)
@@ -164,7 +194,14 @@ abbrev pub datum_layout : Datum → Layout
 datum_layout (datum.Byte b) = part_layout cell.Byte
 datum_layout (datum.Word w) = part_layout cell.Word
 datum_layout datum.Null = part_layout cell.Pointer
-datum_layout (datum.Whole l) = layout_tree l.value
+datum_layout (datum.Whole l count) = layout_tree l.value
+
+-- of how many elements it is
+abbrev pub datum_count : Datum → ℕ
+datum_count (datum.Byte b) = 1
+datum_count (datum.Word w) = 1
+datum_count datum.Null = 1
+datum_count (datum.Whole l count) = count
 
 -- what a part begins as
 abbrev pub part_first : Option PartShape → Content
@@ -176,10 +213,11 @@ abbrev pub datum_first : Datum → ℕ → ℕ → Content
 datum_first (datum.Byte b) k j = memory.Word b
 datum_first (datum.Word w) k j = memory.Word w
 datum_first datum.Null k j = memory.Null
-datum_first (datum.Whole l) k j = part_first (shape_in (slice_get (layout_tree l.value).cells k) j)
+datum_first (datum.Whole l count) k j =
+    part_first (shape_in (slice_get (layout_tree l.value).cells (k % length (layout_tree l.value).cells)) j)
 
 abbrev pub datum_tree : Datum → core.Datum
-datum_tree d = record { layout = datum_layout d; count = 1; first = datum_first d }
+datum_tree d = record { layout = datum_layout d; count = datum_count d; first = datum_first d }
 
 abbrev pub program_tree : Program → core.Program
 program_tree p = record {

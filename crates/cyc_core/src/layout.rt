@@ -28,6 +28,6 @@ pub struct Layout {
 pub enum Local {
     /// An object of one cell.
     Scalar(Cell),
-    /// An object with this layout.
-    Whole(Rc<Layout>),
+    /// An object of so many elements with this layout, one behind the other.
+    Whole(Rc<Layout>, u32),
 }

@@ -1,7 +1,7 @@
 //! Core programs as the code has them: functions of structured statements over flat operations.
 //!
 //! A contract sees a `Program` as one of `core_meaning`, by the folds of specs/Trees: `program_tree`
-//! and its kin. It has the forms that lowering makes today; docs/CORE.md lists them all. Stands on
+//! and its kin. It has the forms that have instructions; docs/CORE.md lists them all. Stands on
 //! the definitions of `core_meaning`.
 #![tactic(auto)]
 
@@ -11,6 +11,6 @@ mod program;
 mod statement;
 
 pub use layout::{CellLayout, Layout, Local};
-pub use operation::{Binary, Cell, Distance, Operation, Temporary, Variable, Width};
+pub use operation::{Binary, Cell, Distance, Operation, Temporary, Variable, Width, Words};
 pub use program::{Datum, Function, Program};
 pub use statement::Statement;

@@ -1,7 +1,7 @@
 // Temporaries, locals, and the operations on them.
 
 ghost use Rattle.std.specs.Prelude.{◌≡◌};
-ghost use Rattle.cyc_core.specs.Trees.{cell_width};
+ghost use Rattle.cyc_core.specs.Trees.{cell_bytes, cell_width};
 
 /// A temporary of a function: a word or a pointer, named by its number.
 #[derive(Clone, Copy, PartialEq, Eq, Debug)]
@@ -25,7 +25,7 @@ pub enum Width {
     Word,
 }
 
-/// What a local or a global is made for.
+/// What a cell of a local, a global or a block is made for.
 #[derive(Clone, Copy, PartialEq, Eq, Debug)]
 pub enum Cell {
     /// A number of one byte.
@@ -34,18 +34,31 @@ pub enum Cell {
     Word,
     /// A pointer, of four bytes.
     Pointer,
+    /// A fat pointer, of three words: its first element, how many it has, and the index of the one that it leads to.
+    Fat,
     /// The handle of a region, of four bytes.
     Handle,
 }
 
 impl Cell {
-    /// How wide it is.
+    /// How wide each of its parts is.
     pub fn width(self) -> Width
         ensures { result ≡ cell_width self }
     {
         match self {
             Cell::Byte => Width::Byte,
-            Cell::Word | Cell::Pointer | Cell::Handle => Width::Word,
+            Cell::Word | Cell::Pointer | Cell::Fat | Cell::Handle => Width::Word,
+        }
+    }
+
+    /// How many bytes it takes.
+    pub fn bytes(self) -> u32
+        ensures { result ≡ cell_bytes self }
+    {
+        match self {
+            Cell::Byte => 1,
+            Cell::Word | Cell::Pointer | Cell::Handle => 4,
+            Cell::Fat => 12,
         }
     }
 }
@@ -57,21 +70,33 @@ pub struct Distance {
     pub cells: u32,
     /// How many bytes of its object lie between.
     pub bytes: u32,
-    /// How wide the part is, which is the first of its cell.
+    /// The number of the part in its cell: 0, and of a fat pointer up to 2.
+    pub part: u32,
+    /// How wide the part is.
     pub width: Width,
 }
 
 impl Distance {
     /// Right where a pointer leads.
     pub fn at_once(width: Width) -> Self
-        ensures { result ≡ record { cells = 0; bytes = 0; width = width } }
+        ensures { result ≡ record { cells = 0; bytes = 0; part = 0; width = width } }
     {
         Distance {
             cells: 0,
             bytes: 0,
+            part: 0,
             width,
         }
     }
+}
+
+/// The temporaries of a value: one, or the three of a fat pointer, which are its first element, how many it has, and its index.
+#[derive(Clone, Copy, PartialEq, Eq, Debug)]
+pub enum Words {
+    /// A value of one word.
+    One(Temporary),
+    /// A fat pointer.
+    Three(Temporary, Temporary, Temporary),
 }
 
 /// An operation on two words.
@@ -142,6 +167,9 @@ pub enum Operation {
     Put(Variable, Width, Temporary),
     /// The first temporary gets a pointer that leads so many cells and so many bytes further than the second one's.
     Offset(Temporary, Temporary, u32, u32),
+    /// The first temporary gets a pointer to that element which the third's word says, from the element on to which the second one's pointer leads. An element has
+    /// so many cells and so many bytes.
+    Element(Temporary, Temporary, Temporary, u32, u32),
     /// The first temporary gets the part at the distance from where the second points.
     Load(Temporary, Temporary, Distance),
     /// The part at the distance from where the first temporary points gets what the second holds, or the lowest byte of its word.

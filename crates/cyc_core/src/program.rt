@@ -28,8 +28,8 @@ pub enum Datum {
     Word(u32),
     /// NULL.
     Null,
-    /// An object that begins as the cells of its layout do: numbers with 0, pointers with NULL.
-    Whole(Rc<Layout>),
+    /// An object of so many elements of a layout, which begins as the layout's cells do: numbers with 0, pointers with NULL.
+    Whole(Rc<Layout>, u32),
 }
 
 /// A program of Core.

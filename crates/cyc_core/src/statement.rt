@@ -1,7 +1,7 @@
 // Statements of a function.
 
 use crate::layout::{Layout, Local};
-use crate::operation::{Operation, Temporary};
+use crate::operation::{Operation, Temporary, Words};
 use cyc_words::Kind;
 use std::rc::Rc;
 
@@ -13,8 +13,8 @@ pub enum Statement {
     Do(Operation),
     /// The object of this layout that the first temporary points to gets what that holds which the second points to.
     Copy(Temporary, Temporary, Rc<Layout>),
-    /// The object of this layout that the temporary points to gets what it begins as: numbers 0, and pointers NULL.
-    Clear(Temporary, Rc<Layout>),
+    /// So many elements of this layout, from where the temporary points on, get what they begin as: numbers 0, and pointers NULL.
+    Clear(Temporary, Rc<Layout>, u32),
     /// The first temporary gets a pointer to a new block in the region whose handle the second holds: as many objects of this layout as the third's word
     /// says, which hold nothing.
     RegionAlloc(Temporary, Temporary, Temporary, Rc<Layout>),
@@ -28,10 +28,10 @@ pub enum Statement {
     Break,
     /// The innermost loop goes on with its test.
     Continue,
-    /// The function with this number is called with what the last temporaries hold, and the first one gets its result, if it has one.
-    Call(Option<Temporary>, u32, Vec<Temporary>),
-    /// The function returns, with what the temporary holds if it has a result.
-    Return(Option<Temporary>),
+    /// The function with this number is called with what the last temporaries hold, and the first ones get its result, if it has one.
+    Call(Option<Words>, u32, Vec<Temporary>),
+    /// The function returns, with what the temporaries hold if it has a result.
+    Return(Option<Words>),
     /// The program ends with this exception.
     Raise(Kind),
 }

@@ -1,7 +1,7 @@
 -- Each operation's code does as the operation means, whatever goes on behind it.
-use Rattle.std.specs.Prelude.{slice_get, length, nat_lt, not, ◌&&◌, if◌then◌else◌}
-use Rattle.std.proofs.Common.{◌≡◌, ℕ, ◌+◌, ◌%◌, ◌^◌, ◌<◌, true, List, ◌∷◌, ◌++◌, Option, Some, None, refl, sym, ap, subst, ◌∙◌, arith}
-use Rattle.std.proofs.lemmas.Bool.{ltb-true, not-true, and_parts, eq-eqb}
+use Rattle.std.specs.Prelude.{slice_get, length, not, ◌&&◌, if◌then◌else◌}
+use Rattle.std.proofs.Common.{◌≡◌, ℕ, ◌+◌, ◌*◌, ◌%◌, ◌^◌, ◌<◌, ◌≤◌, ⊎_elim, true, List, ◌∷◌, ◌++◌, Option, Some, None, refl, sym, ap, subst, ◌∙◌, arith}
+use Rattle.std.proofs.lemmas.Bool.{not-true, and_parts, eq-eqb, cases_lt}
 use Rattle.cyc_words.specs.Events.{ByteWritten}
 use Rattle.rv32_machine.specs.State.{data_base}
 use Rattle.step_trees.specs.Trees.{Pays, Says}
@@ -9,7 +9,7 @@ use Rattle.core_meaning.specs.Memory.{Spot, Frame, Own, Born, Content, Word, Nul
 use Rattle.core_meaning.specs.Core.{Operation, Constant, NullPointer, Move, Narrow, Apply, LocalAddress, OwnAddress, DataAddress, Offset, Element, Get, Put, Load, Store, Copy, Clear, IsNull, SamePlace, Getchar, Putchar, HeapHandle, RegionNew, RegionAlloc, RegionFree, UniqueAlloc, UniqueFree, KeyNew, KeyOpen, KeyClose, KeyFree}
 use Rattle.core_meaning.specs.Words.{two}
 use Rattle.core_meaning.specs.Steps.{Config, Step, Exit, Falls, with_temp, with_memory, word_of, pointer_of, needed, checked, stuck}
-use Rattle.core_meaning.specs.Operations.{does, reached, local_spot, at_once, fitting, too_far, are_elements, is_there, same_object, copied, cleared}
+use Rattle.core_meaning.specs.Operations.{does, reaches, reached, local_spot, at_once, fitting, too_far, are_elements, is_there, same_object, copied, cleared}
 use Rattle.core_frames.specs.declared.line.Line.{Line}
 use Rattle.core_frames.specs.Machines.{Machine}
 use Rattle.core_frames.specs.Lines.{code_length}
@@ -19,7 +19,8 @@ use Rattle.core_frames.specs.Selected.{Surroundings, nth, nth_block, constant_co
 use Rattle.core_frames.specs.Lies.{Maps, Activation}
 use Rattle.core_frames.specs.Selectable.{Scope, HasCode, IsLocal}
 use Rattle.core_frames.proofs.Relations.{back_of, FrameShows, World, IsInOrder, Has, Waiting, At, Goes, active_of}
-use Rattle.core_frames.proofs.Moving.{Comes, comes_then, comes_as, goes_from}
+use Rattle.core_frames.proofs.Moving.{Comes, comes_then, comes_as, goes_from, goes_nowhere}
+use Rattle.core_frames.proofs.Knowing.{reaches_near}
 use Rattle.core_frames.proofs.Bodies.{with_config, IsIn, GoesFrom, GoesHolding}
 use Rattle.core_frames.proofs.Registers.{AtWith, AtHolding, InRegister}
 use Rattle.core_frames.proofs.Forms.{at_config}
@@ -30,6 +31,7 @@ use Rattle.core_frames.proofs.Parts.{load, store, get, put, object_address}
 use Rattle.core_frames.proofs.Streams.{putchar_goes, getchar_goes}
 use Rattle.core_frames.proofs.Needing.{word_goes, pointer_goes, null_goes, checked_goes, block_goes, places_go, reached_goes}
 use Rattle.core_frames.proofs.Offsets.{offset}
+use Rattle.core_frames.proofs.Elements.{element}
 use Rattle.core_frames.proofs.Copying.{copy}
 use Rattle.core_frames.proofs.Clearing.{clear}
 use Rattle.core_frames.proofs.Comparing.{GivesTruth, compare_places, two_nulls, null_and_pointer, pointer_and_null, two_pointers}
@@ -153,6 +155,14 @@ module _ (w : World) (order : IsInOrder w) (x : Waiting) (outer : List Waiting) 
   abbrev saving_of : ℕ → ℕ → List Line
   saving_of r t = save_code r (slot_of x.fn.passed t)
 
+  -- a pointer that goes so far doesn't go too far: no part lies there
+  reaches_goes : (c : Config) (s : Spot) (b : ℕ) (step : Step) → (b < too_far → Goes w fuel step (At_first c) active)
+      → Goes w fuel (checked (reaches c.memory s b) step) (At_first c) active
+  reaches_goes c s b step goes = checked_goes w (At_first c) active fuel (reaches c.memory s b) step (λ reach.
+      ⊎_elim goes (λ (far : too_far ≤ b). goes_nowhere w (At_first c) active fuel step (λ q a.
+      let few = reaches_near a.maps c.memory q.store s b a.stands.known reach in omega (arith, few, far)))
+      (cases_lt b too_far))
+
   -- where the code looks for a local, it lies
   local_few : (out local : ℕ) → IsLocal ns out local → nth (nth_block oss out) local < 2 ^ 25
   local_few out local has_local = local_small ns x.nest oss out local are has_local
@@ -246,11 +256,18 @@ module _ (w : World) (order : IsInOrder w) (x : Waiting) (outer : List Waiting) 
       (data_address w order (with_config x c) outer c.memory t object place named.0 named.1 small has) ends
   operation_goes (Offset t p cells bytes) named has ends c is =
       pointer_goes w (At_first c) active fuel (c.temps p)
-      (λ s b. checked (nat_lt (b + bytes) too_far) (next (with_temp t (Pointer (beyond s cells) (b + bytes)) c))) (λ s b e.
-      checked_goes w (At_first c) active fuel (nat_lt (b + bytes) too_far) (next (with_temp t (Pointer (beyond s cells) (b + bytes)) c)) (λ few.
+      (λ s b. checked (reaches c.memory (beyond s cells) (b + bytes)) (next (with_temp t (Pointer (beyond s cells) (b + bytes)) c))) (λ s b e.
+      reaches_goes c (beyond s cells) (b + bytes) (next (with_temp t (Pointer (beyond s cells) (b + bytes)) c)) (λ near.
       sets c t (Pointer (beyond s cells) (b + bytes)) (operation_code u (Offset t p cells bytes)) is
-      (offset w order (with_config x c) outer c.memory t p cells bytes b s place named.0 named.1 e (ltb-true (b + bytes) too_far few) has) ends))
-  operation_goes (Element t p i cells bytes) named has ends c is = absurd named
+      (offset w order (with_config x c) outer c.memory t p cells bytes b s place named.0 named.1 e near has) ends))
+  operation_goes (Element t p i cells bytes) named has ends c is =
+      pointer_goes w (At_first c) active fuel (c.temps p) (λ s b. word_of (c.temps i) (λ n. checked (reaches c.memory (beyond s (n * cells)) (b + n * bytes))
+      (next (with_temp t (Pointer (beyond s (n * cells)) (b + n * bytes)) c)))) (λ s b e.
+      word_goes w (At_first c) active fuel (c.temps i) (λ n. checked (reaches c.memory (beyond s (n * cells)) (b + n * bytes))
+      (next (with_temp t (Pointer (beyond s (n * cells)) (b + n * bytes)) c))) (λ n e'.
+      reaches_goes c (beyond s (n * cells)) (b + n * bytes) (next (with_temp t (Pointer (beyond s (n * cells)) (b + n * bytes)) c)) (λ near.
+      sets c t (Pointer (beyond s (n * cells)) (b + n * bytes)) (operation_code u (Element t p i cells bytes)) is
+      (element w order (with_config x c) outer c.memory p i cells bytes n b s named.1 named.2 e e' named.3 near t place named.0 has) ends)))
   operation_goes (Get t out local width) named has ends c is =
       block_goes w (At_first c) active fuel (slice_get c.blocks out)
       (λ k. reached c.memory (at_once width) (local_spot k local) 0 (λ there part. next (with_temp t part.content c))) (λ k e.

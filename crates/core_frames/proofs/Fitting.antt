@@ -25,6 +25,10 @@ pub use Rattle.core_frames.proofs.Alike.{if_split, shows_on, extends_self, exten
 abbrev pub IsWidth : ℕ → Type 0
 IsWidth width = (width ≡ 1) ⊎ (width ≡ 4)
 
+pub width_some : (width : ℕ) → IsWidth width → 1 ≤ width
+width_some width (inl e) = omega (arith, e)
+width_some width (inr e) = omega (arith, e)
+
 -- some bytes at an address have become a value, and all others are as they were
 pub record Writes (b b' : ℕ → ℕ) (at width x : ℕ) : Type 0 where
   pub same : read b' at width ≡ x

@@ -11,6 +11,7 @@ use Rattle.arena_laws.specs.Lawful.{is_clear, is_in_room, is_lawful_room, with_r
 use Rattle.arena_laws.proofs.Rooms.{outside}
 use Rattle.rv32_machine.specs.State.{Areas}
 use Rattle.core_meaning.specs.Memory.{Region, Frame, Own, Born, Content, Part, Memory, is_live, with_object}
+use Rattle.core_meaning.specs.Operations.{too_far}
 use Rattle.core_frames.specs.Machines.{Store}
 use Rattle.core_frames.specs.Lies.{
   Maps,
@@ -30,7 +31,7 @@ use Rattle.core_frames.specs.Lies.{
   HoldsBlocks,
   Stacked,
 }
-use Rattle.core_frames.proofs.Fitting.{inside}
+use Rattle.core_frames.proofs.Fitting.{width_some, inside}
 use Rattle.core_frames.proofs.Growing.{placed, placed_extends, ObjectFits, grow_fits, grow_known}
 
 -- ---- rooms
@@ -125,7 +126,7 @@ module _ (n : Areas) (few : n.statics ≤ 2 ^ 20) (m : Maps) (fs : List Activati
   region_away (Born q) at width some (inr g) = block_away g.block g.among at width some g.low g.high
 
   away : (y : Name) (at width : ℕ) (v : Content) → Lies m fs mem y at width v → (at + width ≤ x) ⊎ (x + bytes ≤ at)
-  away y at width v l = by y (⊎_elim (λ e. omega (arith, e)) (λ e. omega (arith, e)) (f.aligned y at width v l).0) (f.ground y at width v l)
+  away y at width v l = by y (width_some width (f.aligned y at width v l).0) (f.ground y at width v l)
     where
       by : (y : Name) → 1 ≤ width → Ground n fs st y at width → (at + width ≤ x) ⊎ (x + bytes ≤ at)
       by (Slot g j) some gr =
@@ -181,9 +182,18 @@ module _ (n : Areas) (few : n.statics ≤ 2 ^ 20) (m : Maps) (fs : List Activati
   its_low : n.pages ≤ 4096 → x < 2 ^ 31
   its_low few_pages = let high = its_room.high in let pages = holds_blocks.pages in omega (arith, high, pages, few_pages)
 
+  its_few : n.pages ≤ 4096 → bytes ≤ too_far
+  its_few few_pages =
+      let low = its_room.low in
+      let high = its_room.high in
+      let pages = holds_blocks.pages in
+      let bound = room_bound bytes in
+      omega (arith, low, high, pages, bound, few_pages)
+
   pub granted_known : n.pages ≤ 4096 → Known granted_maps (with_object mem (Born d) o) granting
   granted_known few_pages =
-      grow_known n m fs mem b st granting (Born d) o bytes x f fresh fits even away ground_new ground_on (its_low few_pages) live refl refl refl k
+      grow_known n m fs mem b st granting (Born d) o bytes x f fresh fits even away ground_new ground_on (its_low few_pages) (its_few few_pages) live refl
+      refl refl k
 
   -- ---- what the store holds
 

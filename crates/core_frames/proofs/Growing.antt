@@ -29,6 +29,7 @@ use Rattle.std.proofs.Common.{
 use Rattle.std.proofs.lemmas.Bool.{eqb-true, ne_eqb, eq-eqb, and_parts, and_right, and_left, and_from}
 use Rattle.std.proofs.lemmas.Option.{same_Some, none-some}
 use Rattle.core_meaning.specs.Memory.{Region, Frame, Own, Born, Dead, Spot, Content, Blank, Part, Memory, same_region, same_spot, is_live, with_object}
+use Rattle.core_meaning.specs.Operations.{too_far}
 use Rattle.core_frames.specs.Machines.{Store}
 use Rattle.rv32_machine.specs.State.{Areas}
 use Rattle.core_frames.specs.Lies.{
@@ -51,7 +52,7 @@ use Rattle.core_frames.specs.Lies.{
   IsNumber,
   TagOf,
 }
-use Rattle.core_frames.proofs.Fitting.{region_same, shows_on, IsWidth}
+use Rattle.core_frames.proofs.Fitting.{region_same, shows_on, IsWidth, width_some}
 
 -- ---- maps
 
@@ -229,9 +230,9 @@ module _ (n : Areas) (m : Maps) (fs : List Activation) (mem : Memory) (b : ℕ �
   }
 
   -- and what is known grows with it, whatever the store now holds of blocks
-  pub grow_known : x < 2 ^ 31 → is_live (mem.standing r) ≡ true → st'.ledger.births ≡ st.ledger.births → st'.ledger.birth_of ≡ st.ledger.birth_of
+  pub grow_known : x < 2 ^ 31 → bytes ≤ too_far → is_live (mem.standing r) ≡ true → st'.ledger.births ≡ st.ledger.births → st'.ledger.birth_of ≡ st.ledger.birth_of
       → st'.holdings.standing ≡ st.holdings.standing → Known m mem st → Known m' mem' st'
-  grow_known below live births birth_of standing k = record {
+  grow_known below few live births birth_of standing k = record {
     births = ap (λ c. c + 1) births ∙ k.births;
     heap = k.heap;
     no_zero = ap (λ hs. hs 0) standing ∙ k.no_zero;
@@ -245,6 +246,7 @@ module _ (n : Areas) (m : Maps) (fs : List Activation) (mem : Memory) (b : ℕ �
     zero_is_heap = k.zero_is_heap;
     heap_is_zero = ap (λ g. g 0) birth_of ∙ k.heap_is_zero;
     based = λ s j p e. based s j p e (same_region s.region r && nat_eq s.object (mem.objects r)) refl;
+    near = λ s j p e. near s j p e (same_region s.region r && nat_eq s.object (mem.objects r)) refl;
     low = λ q c y e. low q c y e (same_region q r && nat_eq c (mem.objects r)) refl;
     unmade = λ q c le. unmade q c le (same_region q r) refl;
     unborn = λ d le. let u = k.unborn d le in (u.0, other_count (Born d) u.0 ∙ u.1, u.2);
@@ -258,6 +260,15 @@ module _ (n : Areas) (m : Maps) (fs : List Activation) (mem : Memory) (b : ℕ �
       based s j p e false is =
           let old = k.based s j p (ap (λ c. if c then o s.cell j else mem.parts s j) (sym is) ∙ e) in
           (old.0, ap (λ c. if c then Some x else m.base s.region s.object) is ∙ old.1)
+
+      near : (s : Spot) (j : ℕ) (p : Part) → mem'.parts s j ≡ Some p → (c : Bool) → (same_region s.region r && nat_eq s.object (mem.objects r)) ≡ c
+          → p.offset < too_far
+      near s j p e true is =
+          let its : o s.cell j ≡ Some p = ap (λ c. if c then o s.cell j else mem.parts s j) (sym is) ∙ e in
+          let within = fits.within s.cell j p its in
+          let wide = width_some p.width (fits.wide s.cell j p its).0 in
+          omega (arith, within, wide, few)
+      near s j p e false is = k.near s j p (ap (λ c. if c then o s.cell j else mem.parts s j) (sym is) ∙ e)
 
       low : (q : Region) (c y : ℕ) → m'.base q c ≡ Some y → (t : Bool) → (same_region q r && nat_eq c (mem.objects r)) ≡ t → y < 2 ^ 31
       low q c y e true is =

@@ -1,9 +1,10 @@
 -- What is known of births, objects and numbers, when a function is entered and when a frame's regions end.
-use Rattle.std.specs.Prelude.{if◌then◌else◌}
-use Rattle.std.proofs.Common.{◌≡◌, ℕ, ◌+◌, Bool, true, false, Some, refl, sym, ap, ◌∙◌, subst, arith}
-use Rattle.std.proofs.lemmas.Bool.{ne_eqb}
+use Rattle.std.specs.Prelude.{nat_lt, if◌then◌else◌}
+use Rattle.std.proofs.Common.{◌≡◌, ℕ, ◌+◌, ◌<◌, ⊎_elim, Bool, true, false, Option, Some, None, refl, sym, ap, ◌∙◌, subst, arith}
+use Rattle.std.proofs.lemmas.Bool.{ltb-true, eqb-true, ne_eqb, or_cases}
 use Rattle.std.proofs.lemmas.Option.{none-some}
 use Rattle.core_meaning.specs.Memory.{Region, Frame, Own, Born, Standing, Live, Dead, Spot, Part, Memory, same_region, with_standing}
+use Rattle.core_meaning.specs.Operations.{too_far, lies_at, reaches}
 use Rattle.core_frames.specs.Machines.{Store}
 use Rattle.core_frames.specs.Lies.{Maps, Known, TagOf}
 use Rattle.core_frames.proofs.Fitting.{region_same}
@@ -18,6 +19,17 @@ born_other : (d : ℕ) (r : Region) → IsOfFrame r → same_region (Born d) r �
 born_other d (Frame k) i = refl
 born_other d (Own k) i = refl
 born_other d (Born e) i = absurd i
+
+-- a pointer that goes so far goes less than too far: so does what a part lies at
+pub reaches_near : (m : Maps) (mem : Memory) (st : Store) (s : Spot) (b : ℕ) → Known m mem st → reaches mem s b ≡ true → b < too_far
+reaches_near m mem st s b k reach = ⊎_elim
+    (λ (near : nat_lt b too_far ≡ true). ltb-true b too_far near)
+    (λ (lies : lies_at (mem.parts s 0) b ≡ true). by (mem.parts s 0) refl lies)
+    (or_cases (nat_lt b too_far) (lies_at (mem.parts s 0) b) reach)
+  where
+    by : (found : Option Part) → mem.parts s 0 ≡ found → lies_at found b ≡ true → b < too_far
+    by None is lies = cc lies
+    by (Some p) is lies = subst (λ k. k < too_far) (eqb-true p.offset b lies) (k.near s 0 p is)
 
 -- it ends
 pub known_death : (m : Maps) (mem : Memory) (st : Store) (r : Region) → IsOfFrame r → Known m mem st → Known m (with_standing mem r Dead) st
@@ -34,6 +46,7 @@ known_death m mem st r frame k = record {
   zero_is_heap = k.zero_is_heap;
   heap_is_zero = k.heap_is_zero;
   based = k.based;
+  near = k.near;
   low = k.low;
   unmade = k.unmade;
   unborn = λ d le. let u = k.unborn d le in (born d ∙ u.0, u.1, u.2);
@@ -75,6 +88,7 @@ known_called m mem st k = record {
   zero_is_heap = k.zero_is_heap;
   heap_is_zero = k.heap_is_zero;
   based = k.based;
+  near = k.near;
   low = k.low;
   unmade = k.unmade;
   unborn = k.unborn;
@@ -95,6 +109,7 @@ known_block m mem st k = record {
   zero_is_heap = k.zero_is_heap;
   heap_is_zero = k.heap_is_zero;
   based = k.based;
+  near = k.near;
   low = k.low;
   unmade = k.unmade;
   unborn = k.unborn;

@@ -26,6 +26,7 @@ pub mod Laying
 pub mod Owning
 pub mod Forms
 pub mod Data
+mod DataParts
 pub mod Start
 pub mod Recursive
 pub mod Locals
@@ -62,9 +63,11 @@ pub mod Copying
 pub mod Clearing
 mod Needing
 pub mod Offsets
+mod Elements
 pub mod EachOperation
 pub mod EachStatement
 pub mod DoesAsCore
+mod NoLabels
 pub mod LabelsOnce
 pub mod DataBytes
 pub mod Unnamed

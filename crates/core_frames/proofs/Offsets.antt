@@ -11,7 +11,7 @@ use Rattle.core_frames.specs.Lines.{code_length}
 use Rattle.core_frames.specs.Frames.{is_short, lower_of, word_code}
 use Rattle.core_frames.specs.Selected.{further_code}
 use Rattle.core_frames.specs.Lies.{Maps, Shows, Points}
-use Rattle.core_frames.proofs.Relations.{World, IsInOrder, Has, Waiting, At}
+use Rattle.core_frames.proofs.Relations.{World, IsInOrder, Has, Waiting}
 use Rattle.core_frames.proofs.Moving.{Comes, comes_then, comes_as}
 use Rattle.core_frames.proofs.Words.{short_word}
 use Rattle.core_frames.proofs.Slots.{Kept, set_here, set_there}

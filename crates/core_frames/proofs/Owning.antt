@@ -35,6 +35,7 @@ use Rattle.rv32_machine.specs.State.{Areas}
 use Rattle.core_meaning.specs.Memory.{Region, Frame, Own, Born, Content, Part, Memory, is_live, blanks, with_object}
 use Rattle.core_meaning.specs.Core.{Local}
 use Rattle.core_meaning.specs.Meaning.{with_objects}
+use Rattle.core_meaning.specs.Operations.{too_far}
 use Rattle.core_frames.specs.Machines.{Store}
 use Rattle.core_frames.specs.Lies.{Maps, Extends, Activation, Name, Slot, Cell, Lies, Among, InFrame, InOwn, CellGround, Fits, Known, Zoned, Laid, Stacked}
 use Rattle.core_frames.proofs.Fitting.{inside, below_end, extends_self, extends_on}
@@ -132,6 +133,9 @@ module _ (n : Areas) (few : n.statics ≤ 2 ^ 20) (m : Maps) (a : Activation) (f
   at_low : a.at + offset < 2 ^ 31
   at_low = let end = below_end (a.at + a.bytes) fs stacked.1 in omega (arith, end, room)
 
+  bytes_few : bytes ≤ too_far
+  bytes_few = let end = below_end (a.at + a.bytes) fs stacked.1 in omega (arith, end, room)
+
   at_even : (a.at + offset) % 4 ≡ 0
   at_even = let e = laid.even in let e' = laid.there in omega (arith, e, e', even)
 
@@ -151,7 +155,7 @@ module _ (n : Areas) (few : n.statics ≤ 2 ^ 20) (m : Maps) (a : Activation) (f
 
   pub owned_known : Known maps (with_object mem (Own k) o) st
   owned_known = grow_known n m (after ∷ fs) mem b st st (Own k) o bytes (a.at + offset) raised_fits fresh fits at_even away new_ground (λ y at width g. g)
-      at_low live refl refl refl known
+      at_low bytes_few live refl refl refl known
 
   pub owned_stacked : Stacked sp (after ∷ fs)
   owned_stacked = (

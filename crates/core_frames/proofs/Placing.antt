@@ -29,6 +29,7 @@ use Rattle.std.proofs.Common.{
 }
 use Rattle.core_meaning.specs.Memory.{Region, Frame, Own, Born, Content, Part, Memory, is_live, blanks, with_object}
 use Rattle.core_meaning.specs.Core.{Local}
+use Rattle.core_meaning.specs.Operations.{too_far}
 use Rattle.core_frames.specs.Machines.{Store}
 use Rattle.rv32_machine.specs.State.{Areas}
 use Rattle.core_frames.specs.Lies.{
@@ -215,6 +216,9 @@ module _ (n : Areas) (few : n.statics ≤ 2 ^ 20) (m : Maps) (a : Activation) (f
   at_low : a.at + offset < 2 ^ 31
   at_low = let end = below_end (a.at + a.bytes) fs stacked.1 in omega (arith, end, room)
 
+  bytes_few : bytes ≤ too_far
+  bytes_few = let end = below_end (a.at + a.bytes) fs stacked.1 in omega (arith, end, room)
+
   at_even : (a.at + offset) % 4 ≡ 0
   at_even = let e = laid.even in let e' = laid.there in omega (arith, e, e', even)
 
@@ -236,7 +240,7 @@ module _ (n : Areas) (few : n.statics ≤ 2 ^ 20) (m : Maps) (a : Activation) (f
 
   pub laid_known : Known maps (with_object mem (Frame k) o) st
   laid_known = grow_known n m (after ∷ fs) mem b st st (Frame k) o bytes (a.at + offset) raised_fits fresh fits at_even away new_ground
-      (λ y at width g. g) at_low live refl refl refl known
+      (λ y at width g. g) at_low bytes_few live refl refl refl known
 
   pub laid_stacked : Stacked sp (after ∷ fs)
   laid_stacked = (

@@ -5,7 +5,7 @@ use Rattle.std.proofs.Math.Nat.{mul-le-mul_right}
 use Rattle.std.proofs.lemmas.Option.{same_Some}
 use Rattle.rv32_machine.specs.State.{Areas}
 use Rattle.core_meaning.specs.Memory.{Spot, Content, Part, Layout, Memory, is_live}
-use Rattle.core_meaning.specs.Operations.{are_elements}
+use Rattle.core_meaning.specs.Operations.{are_elements, too_far}
 use Rattle.core_meaning.proofs.Wholes.{IsAmong, elements_in}
 use Rattle.core_frames.specs.Machines.{Machine, Store}
 use Rattle.core_frames.specs.Lies.{Maps, Shows, read, Activation, Name, Slot, Cell, PartLies, Lies, Fits, Known}
@@ -139,6 +139,8 @@ module _ (n : Areas) (m : Maps) (fs : List Activation) (mem : Memory) (bytes : �
     heap_is_zero = k.heap_is_zero;
     based = λ u j p e. ⊎_elim (λ (r : Stays mem l count s u j p). k.based u j p r.was)
         (λ (r : Renewed m mem l count s v u j p). k.based u j r.old r.was) (cases u j p e);
+    near = λ u j p e. ⊎_elim (λ (r : Stays mem l count s u j p). k.near u j p r.was)
+        (λ (r : Renewed m mem l count s v u j p). subst (λ q. q < too_far) (sym r.same_offset) (k.near u j r.old r.was)) (cases u j p e);
     low = k.low;
     unmade = k.unmade;
     unborn = k.unborn;

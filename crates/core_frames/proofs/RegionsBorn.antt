@@ -201,6 +201,7 @@ module _ (n : Areas) (m : Maps) (fs : List Activation) (mem : Memory) (b : ℕ �
     zero_is_heap = numbered_extends.number 0 0 k.zero_is_heap;
     heap_is_zero = other_birth 0 (λ e. omega (arith, e, low)) ∙ k.heap_is_zero;
     based = k.based;
+    near = k.near;
     low = k.low;
     unmade = k.unmade;
     unborn = λ e le.

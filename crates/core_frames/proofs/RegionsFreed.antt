@@ -185,6 +185,7 @@ module _ (n : Areas) (m : Maps) (fs : List Activation) (mem : Memory) (b : ℕ �
     zero_is_heap = k.zero_is_heap;
     heap_is_zero = k.heap_is_zero;
     based = k.based;
+    near = k.near;
     low = k.low;
     unmade = k.unmade;
     unborn = λ e le. let u = k.unborn e le in (dead_still e u.0, u.1, u.2);

@@ -1,9 +1,10 @@
 -- What a store leaves: what is known of the memory, and what a byte of a word shows.
 use Rattle.std.specs.Prelude.{nat_eq}
-use Rattle.std.proofs.Common.{◌≡◌, ℕ, ◌%◌, ⊎_elim, true, false, Some, sym, ap, subst}
+use Rattle.std.proofs.Common.{◌≡◌, ℕ, ◌%◌, ◌<◌, ⊎_elim, true, false, Some, sym, ap, subst}
 use Rattle.std.proofs.lemmas.Bool.{ne_eqb, eq-eqb}
+use Rattle.std.proofs.lemmas.Option.{same_Some}
 use Rattle.core_meaning.specs.Memory.{Spot, Content, Blank, Word, Null, Pointer, Birth, Part, Memory, Standing, Dead, is_live, with_part}
-use Rattle.core_meaning.specs.Operations.{low_byte}
+use Rattle.core_meaning.specs.Operations.{too_far, low_byte}
 use Rattle.core_frames.specs.Machines.{Store}
 use Rattle.core_frames.specs.Lies.{Maps, Shows, Known}
 use Rattle.core_frames.proofs.Fitting.{Writes, writes_word, writes_byte, store_fits, part_change, allowed, IsWidth, if_split}
@@ -28,6 +29,11 @@ known_part m mem st s j old v is k = record {
       let same = Rattle.core_frames.proofs.Fitting.spot_same t s q.0 in
       subst (λ (u : Spot). (y : ℕ) × (m.base u.region u.object ≡ Some y)) (sym same) (k.based s j old is))
       (λ (x : (_ ≡ false) × (mem.parts t i ≡ Some p)). k.based t i p x.1)
+      (if_split _ (Some (record old { content = v })) (mem.parts t i) (Some p) e);
+  near = λ t i p e. ⊎_elim
+      (λ (x : (_ ≡ true) × (Some (record old { content = v }) ≡ Some p)).
+      subst (λ (q : Part). q.offset < too_far) (same_Some (record old { content = v }) p x.1) (k.near s j old is))
+      (λ (x : (_ ≡ false) × (mem.parts t i ≡ Some p)). k.near t i p x.1)
       (if_split _ (Some (record old { content = v })) (mem.parts t i) (Some p) e);
   low = k.low;
   unmade = k.unmade;

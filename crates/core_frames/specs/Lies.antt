@@ -29,6 +29,7 @@ use Rattle.core_meaning.specs.Memory.{
   Memory,
   same_spot,
 }
+use Rattle.core_meaning.specs.Operations.{too_far}
 use Rattle.core_frames.specs.Machines.{Store}
 
 -- where the stack ends: it is 2^20 bytes long
@@ -226,7 +227,9 @@ pub record Known (m : Maps) (mem : Memory) (st : Store) : Type 0 where
   pub heap_is_zero : st.ledger.birth_of 0 ≡ 0
   -- each object's parts have an address
   pub based : (s : Spot) (j : ℕ) (p : Part) → mem.parts s j ≡ Some p → (x : ℕ) × (m.base s.region s.object ≡ Some x)
-  -- none is in the upper half of all addresses
+  -- and none of them lies too far on, whatever its region's standing is
+  pub near : (s : Spot) (j : ℕ) (p : Part) → mem.parts s j ≡ Some p → p.offset < too_far
+  -- no object begins in the upper half of all addresses
   pub low : (r : Region) (o x : ℕ) → m.base r o ≡ Some x → x < 2 ^ 31
   -- what is to come has none
   pub unmade : (r : Region) (o : ℕ) → mem.objects r ≤ o → m.base r o ≡ None

@@ -1,5 +1,5 @@
 -- What has code: layouts whose parts lie apart, and functions whose numbers name what there is.
-use Rattle.std.specs.Prelude.{◌≡◌, ℕ, zero, suc, ◌≤◌, ◌<◌, List, [], ◌∷◌, Some, slice_get, length}
+use Rattle.std.specs.Prelude.{◌≡◌, ℕ, zero, suc, ◌≤◌, ◌<◌, ◌^◌, List, [], ◌∷◌, Some, slice_get, length}
 use Rattle.core_meaning.specs.Core.{
   Operation,
   Constant,
@@ -93,7 +93,7 @@ HasCode u (LocalAddress t out local) = (t < u.temporaries) × IsLocal u.blocks o
 HasCode u (OwnAddress t object) = (t < u.temporaries) × (object < u.unnamed)
 HasCode u (DataAddress t object) = (t < u.temporaries) × (object < u.data_objects)
 HasCode u (Offset t p cells bytes) = (t < u.temporaries) × (p < u.temporaries)
-HasCode u (Element t p i cells bytes) = ⊥
+HasCode u (Element t p i cells bytes) = (t < u.temporaries) × (p < u.temporaries) × (i < u.temporaries) × (bytes < 2 ^ 32)
 HasCode u (Get t out local width) = (t < u.temporaries) × IsLocal u.blocks out local
 HasCode u (Put out local width x) = (x < u.temporaries) × IsLocal u.blocks out local
 HasCode u (Load t p d) = (t < u.temporaries) × (p < u.temporaries)

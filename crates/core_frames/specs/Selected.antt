@@ -276,7 +276,7 @@ bytes_code bytes =
     word_code 6 (saturated bytes)
     ++ (Plain (instr.Mulhu 11 5 6) ∷ Plain (instr.Mul 5 5 6) ∷ Plain (instr.Sltu 11 0 11) ∷ Plain (instr.Sub 11 0 11) ∷ Plain (instr.Or 11 11 5) ∷ [])
 
--- The code of an operation. The heap's number is 0. Those on unique blocks and keys, and on elements have none as yet.
+-- The code of an operation. The heap's number is 0. Those on unique blocks and keys have none as yet.
 abbrev pub operation_code : Surroundings → Operation → List Line
 operation_code u (Constant t w) = constant_code (w % 2 ^ 32) ++ to_temp u 5 t
 operation_code u (NullPointer t) = to_temp u 0 t
@@ -287,7 +287,8 @@ operation_code u (LocalAddress t out local) = address_code (local_offset u out l
 operation_code u (OwnAddress t object) = address_code (nth u.own object) ++ to_temp u 5 t
 operation_code u (DataAddress t object) = constant_code (data_base + nth u.statics object) ++ to_temp u 5 t
 operation_code u (Offset t p cells bytes) = from_temp u 5 p ++ further_code 5 bytes ++ to_temp u 5 t
-operation_code u (Element t p i cells bytes) = []
+operation_code u (Element t p i cells bytes) =
+    from_temp u 5 i ++ word_code 6 (bytes % 2 ^ 32) ++ (Plain (instr.Mul 5 5 6) ∷ []) ++ from_temp u 6 p ++ (Plain (instr.Add 5 5 6) ∷ []) ++ to_temp u 5 t
 operation_code u (Get t out local width) = read_code width 2 (local_offset u out local) ++ to_temp u 5 t
 operation_code u (Put out local width x) = from_temp u 6 x ++ write_code width 2 (local_offset u out local)
 operation_code u (Load t p d) = from_temp u 5 p ++ read_code d.width 5 d.bytes ++ to_temp u 5 t

@@ -1,4 +1,4 @@
-//! Tests of words, images, instructions and placed lines: what no clause of theirs says.
+//! Tests of words, images, instructions, and selected and placed lines: what no clause of theirs says.
 //!
 //! A crate with tests is proved twice, so those of the crates that take long stand here, where nothing
 //! else is proved.
@@ -14,5 +14,7 @@ mod instructions;
 mod placed_lines;
 #[cfg(test)]
 mod printed_names;
+#[cfg(test)]
+mod selected_lines;
 #[cfg(test)]
 mod word_arithmetic;

@@ -1,5 +1,6 @@
 // The code of lines with labels, and the bytes of globals, by words worked out by hand.
 
+use crate::selected_lines::fat;
 use core_frames::Line;
 use cyc_core::{Cell, CellLayout, Datum, Layout, Program};
 use rv32_isa::{Instr, Register, Signed12};
@@ -94,7 +95,7 @@ fn three_members(alloc: Global) -> Result<Rc<Layout>, AllocError> {
 
 #[test]
 fn a_struct_begins_with_zeros_for_its_members_and_its_padding(rt: HostRuntime) -> Result<(), Fail> {
-    let whole = Datum::Whole(three_members(rt.alloc())?);
+    let whole = Datum::Whole(three_members(rt.alloc())?, 1);
     let globals = vec![in rt.alloc(); Datum::Byte(7), whole, Datum::Byte(9)]?;
     let program = Program {
         functions: Vec::new(rt.alloc()),
@@ -103,6 +104,25 @@ fn a_struct_begins_with_zeros_for_its_members_and_its_padding(rt: HostRuntime) -
     };
     let bytes = data(rt.alloc(), &program);
     let want: [u8; 17] = [7, 0, 0, 0, 0, 0, 0, 0, 0, 0, 0, 0, 0, 0, 0, 0, 9];
+    assert!(rt; bytes.is_ok_and(|bytes| bytes.as_slice() == want.as_slice()));
+    Ok(())
+}
+
+#[test]
+fn elements_begin_with_zeros_one_behind_the_other(rt: HostRuntime) -> Result<(), Fail> {
+    let structs = Datum::Whole(three_members(rt.alloc())?, 3);
+    let pointers = Datum::Whole(fat(rt.alloc())?, 2);
+    let none = Datum::Whole(fat(rt.alloc())?, 0);
+    let globals = vec![in rt.alloc(); Datum::Byte(7), structs, pointers, none, Datum::Byte(9)]?;
+    let program = Program {
+        functions: Vec::new(rt.alloc()),
+        main: 0,
+        globals,
+    };
+    let bytes = data(rt.alloc(), &program);
+    let mut want = [0; 65];
+    want[0] = 7;
+    want[64] = 9;
     assert!(rt; bytes.is_ok_and(|bytes| bytes.as_slice() == want.as_slice()));
     Ok(())
 }

@@ -1,28 +1,32 @@
 -- The bytes of a global, and of those behind it.
 use Rattle.std.specs.Prelude.{length, slice_get}
-use Rattle.std.proofs.Common.{◌≡◌, ℕ, suc, ◌+◌, ◌-◌, ◌<◌, ◌≤◌, ◌^◌, inl, inr, List, [], ◌∷◌, ◌++◌}
+use Rattle.std.proofs.Common.{◌≡◌, ℕ, suc, ◌+◌, ◌-◌, ◌*◌, ◌%◌, ◌<◌, ◌≤◌, ◌^◌, inl, inr, List, [], ◌∷◌, ◌++◌}
 use Rattle.std.proofs.Common.{map, refl, sym, ap, subst, ◌∙◌, arith, append_assoc, length-append}
-use Rattle.std.proofs.lemmas.List.{append-nil}
-use Rattle.core_meaning.specs.Memory.{Word, Null, shape_in}
+use Rattle.core_meaning.specs.Memory.{Content, Word, Null, shape_in}
 use Rattle.core_meaning.specs.Core as core
 use Rattle.cyc_core.specs.declared.layout.Layout.{Layout}
 use Rattle.cyc_core.specs.declared.program.Datum.{Datum}
 use Rattle.cyc_core.specs.declared.program.Datum.TheVariants as datum
-use Rattle.cyc_core.specs.Trees.{cell_parts, layout_tree, part_first, datum_tree}
+use Rattle.cyc_core.specs.Trees.{layout_tree, part_first, datum_tree}
 use Rattle.core_frames.specs.Selected.{rounded}
-use Rattle.core_frames.specs.Statics.{zeros, cells_bytes, element_bytes, datum_bytes, data_bytes, AreCellsJoined, cells_end, IsPlainDatum, ArePlainData}
+use Rattle.core_frames.specs.Layouts.{IsNothing}
+use Rattle.core_frames.specs.Statics.{zeros, element_bytes, datum_bytes, data_bytes, AreCellsJoined, cells_end, IsPlainDatum, ArePlainData}
 use Rattle.core_frames.proofs.DataBytes.{zeros_length, one_part_plain, zero_plain}
 use Rattle.rv32_layout.specs.Sizes.{cells_size, datum_size}
-use Rattle.rv32_layout.proofs.Cells.{begins_with_nothing, cells_are_zeros}
+use Rattle.rv32_layout.proofs.Cells.{begins_with_nothing}
+use Rattle.rv32_layout.proofs.Elements.{elements_are_zeros}
 
--- ---- objects of many cells
+-- ---- elements of a layout
 
-pub whole_zeros : (l : Layout) → element_bytes (layout_tree l).cells (λ k j. part_first (shape_in (slice_get (layout_tree l).cells k) j)) 0 1
-    ≡ zeros (cells_size l.cells.items)
-whole_zeros l =
-    let cells = map cell_parts l.cells.items in
-    let first = λ (k j : ℕ). part_first (shape_in (slice_get cells k) j) in
-    append-nil (cells_bytes first 0 cells) ∙ cells_are_zeros first (λ k j. begins_with_nothing l.cells.items k j) 0 l.cells.items
+-- what their parts begin as
+abbrev whole_first : Layout → ℕ → ℕ → Content
+whole_first l k j = part_first (shape_in (slice_get (layout_tree l).cells (k % length (layout_tree l).cells)) j)
+
+first_is_nothing : (l : Layout) (k j : ℕ) → IsNothing (whole_first l k j)
+first_is_nothing l k j = begins_with_nothing l.cells.items (k % length (layout_tree l).cells) j
+
+pub whole_zeros : (l : Layout) (count : ℕ) → element_bytes (layout_tree l).cells (whole_first l) 0 count ≡ zeros (count * cells_size l.cells.items)
+whole_zeros l count = elements_are_zeros (whole_first l) (first_is_nothing l) 0 count l.cells.items
 
 -- ---- how many they are
 
@@ -30,7 +34,7 @@ datum_length : (d : Datum) → length (datum_bytes (datum_tree d)) ≡ datum_siz
 datum_length (datum.Byte b) = refl
 datum_length (datum.Word w) = refl
 datum_length datum.Null = refl
-datum_length (datum.Whole l) = ap length (whole_zeros l.value) ∙ zeros_length (cells_size l.value.cells.items)
+datum_length (datum.Whole l count) = ap length (whole_zeros l.value count) ∙ zeros_length (count * cells_size l.value.cells.items)
 
 -- as many as those of the others, behind its end
 data_more : (at next : ℕ) (d : Datum) (ds : List core.Datum) → next ≡ rounded at + datum_size d
@@ -97,11 +101,10 @@ word_is_plain w small = one_part_plain 4 (Word 0) (datum_tree (datum.Word w)) (i
 pub null_is_plain : IsPlainDatum (datum_tree datum.Null)
 null_is_plain = one_part_plain 4 Null (datum_tree datum.Null) (inr refl) refl (λ cell. tt)
 
-pub whole_is_plain : (l : Layout) → AreCellsJoined 0 (layout_tree l).cells → cells_end 0 (layout_tree l).cells ≡ l.bytes
-    → IsPlainDatum (record { layout = layout_tree l; count = 1; first = λ k j. part_first (shape_in (slice_get (layout_tree l).cells k) j) })
-whole_is_plain l joined whole =
-    zero_plain (record { layout = layout_tree l; count = 1; first = λ k j. part_first (shape_in (slice_get (layout_tree l).cells k) j) }) joined whole
-    (λ k j. begins_with_nothing l.cells.items k j)
+pub whole_is_plain : (l : Layout) (count : ℕ) → AreCellsJoined 0 (layout_tree l).cells → cells_end 0 (layout_tree l).cells ≡ l.bytes
+    → IsPlainDatum (record { layout = layout_tree l; count = count; first = whole_first l })
+whole_is_plain l count joined whole =
+    zero_plain (record { layout = layout_tree l; count = count; first = whole_first l }) joined whole (first_is_nothing l)
 
 -- what follows a list of globals that fit, with one more
 pub more_plain : (globals : List Datum) (d : Datum) (others all : List Datum) → globals ≡ d ∷ others → IsPlainDatum (datum_tree d)

@@ -1,13 +1,13 @@
 -- How many bytes globals take, cell by cell.
-use Rattle.std.specs.Prelude.{ℕ, ◌+◌, List, [], ◌∷◌}
+use Rattle.std.specs.Prelude.{ℕ, ◌+◌, ◌*◌, List, [], ◌∷◌}
 use Rattle.cyc_core.specs.declared.layout.CellLayout.{CellLayout}
 use Rattle.cyc_core.specs.declared.program.Datum.{Datum}
 use Rattle.cyc_core.specs.declared.program.Datum.TheVariants as datum
-use Rattle.cyc_core.specs.Trees.{bytes_of, cell_width}
+use Rattle.cyc_core.specs.Trees.{cell_bytes}
 
 -- a cell, with the bytes behind it that hold nothing
 abbrev pub cell_size : CellLayout → ℕ
-cell_size c = bytes_of (cell_width c.cell) + c.padding
+cell_size c = cell_bytes c.cell + c.padding
 
 abbrev pub cells_size : List CellLayout → ℕ
 cells_size [] = 0
@@ -17,4 +17,4 @@ abbrev pub datum_size : Datum → ℕ
 datum_size (datum.Byte b) = 1
 datum_size (datum.Word w) = 4
 datum_size datum.Null = 4
-datum_size (datum.Whole l) = cells_size l.value.cells.items
+datum_size (datum.Whole l count) = count * cells_size l.value.cells.items

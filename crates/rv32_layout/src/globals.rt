@@ -1,6 +1,6 @@
 // The bytes of globals.
 
-ghost use Rattle.std.specs.Prelude.{◌≡◌, ◌-◌, ◌<◌, ◌≤◌, ◌↔◌, ◌++◌, ◌+◌, ◌^◌, Err, IfOk, IfSome, IfNone, OnOk, IsTrue, length, map, vec_len};
+ghost use Rattle.std.specs.Prelude.{◌≡◌, ◌-◌, ◌<◌, ◌≤◌, ◌↔◌, ◌++◌, ◌+◌, ◌*◌, ◌^◌, Err, IfOk, IfSome, IfNone, OnOk, IsTrue, length, map, vec_len};
 ghost use Rattle.cyc_image.specs.Format.{data_limit};
 ghost use Rattle.cyc_core.specs.Trees.{datum_tree, layout_tree, program_tree};
 ghost use Rattle.core_frames.specs.Selected.{rounded};
@@ -9,7 +9,7 @@ ghost use Rattle.rv32_layout.specs.Sizes.{cell_size, cells_size, datum_size};
 
 use crate::fault::PlaceFault;
 use crate::words::word_bytes;
-use cyc_core::{CellLayout, Datum, Layout, Program, Width};
+use cyc_core::{CellLayout, Datum, Layout, Program};
 use cyc_image::DATA_LIMIT;
 use std::alloc::{AllocError, Global};
 
@@ -18,11 +18,7 @@ fn cell_size(cell: CellLayout) -> usize
     ensures size { result ≡ cell_size cell }
     ensures small { result < 2 ^ 33 }
 {
-    let width = match cell.cell.width() {
-        Width::Byte => 1,
-        Width::Word => 4,
-    };
-    width + cell.padding as usize
+    cell.cell.bytes() as usize + cell.padding as usize
 }
 
 /// An offset, if it is within the limit.
@@ -53,6 +49,22 @@ fn cells_end(start: usize, cells: &[CellLayout]) -> Option<usize>
     Some(at)
 }
 
+/// Where so many elements of a layout end that lie one behind the other from an offset on, if that is within the limit.
+#[tactic(auto, using(crate::proofs::Elements::one_or_more, crate::proofs::Elements::product_small))]
+fn elements_end(start: usize, layout: &Layout, count: u32) -> Option<usize>
+    requires { start ≤ data_limit }
+    ensures some { IfSome result (λ end. (end ≡ start + count * cells_size layout.now.cells.items) × (end ≤ data_limit)) }
+    ensures none { IfNone result (data_limit < start + count * cells_size layout.now.cells.items) }
+{
+    if count == 0 {
+        return Some(start);
+    }
+    let Some(element) = cells_end(0, &layout.cells) else {
+        return None;
+    };
+    within(start + count as usize * element)
+}
+
 /// Where a global ends that begins at an offset, if that is within the limit.
 fn global_end(start: usize, global: &Datum) -> Option<usize>
     requires { start ≤ data_limit }
@@ -62,7 +74,7 @@ fn global_end(start: usize, global: &Datum) -> Option<usize>
     match global {
         Datum::Byte(_) => within(start + 1),
         Datum::Word(_) | Datum::Null => within(start + 4),
-        Datum::Whole(layout) => cells_end(start, &layout.as_ref().cells),
+        Datum::Whole(layout, count) => elements_end(start, layout.as_ref(), *count),
     }
 }
 
@@ -100,7 +112,7 @@ fn put_zeros(bytes: &mut Vec<u8>, count: usize) -> Result<(), AllocError>
 
 /// The bytes of a layout, if each of its cells lies right behind the one before it and the last one ends where it does.
 #[tactic(auto, using(crate::proofs::Cells::more_joined, crate::proofs::Cells::more_end, crate::proofs::Cells::end_is))]
-fn joined_bytes(layout: &Layout) -> Option<usize>
+fn joined_bytes(layout: &Layout) -> Option<u32>
     ensures { IfSome result (λ bytes. AreCellsJoined 0 (layout_tree layout.now).cells × (cells_end 0 (layout_tree layout.now).cells ≡ layout.now.bytes)
         × (bytes ≡ cells_size layout.now.cells.items)) }
 {
@@ -113,20 +125,20 @@ fn joined_bytes(layout: &Layout) -> Option<usize>
         at += cell_size(*cell);
     }
     if at == layout.bytes as usize {
-        Some(at)
+        Some(layout.bytes)
     } else {
         None
     }
 }
 
-/// Appends the zeros of an object of many cells. Fails also where its cells don't lie one behind the other: no lowered program has such.
-fn put_whole(bytes: &mut Vec<u8>, layout: &Layout) -> Result<(), AllocError>
-    ensures bytes { OnOk result (bytes.new.items ≡ bytes.old.items ++ zeros (cells_size layout.now.cells.items)) }
+/// Appends the zeros of so many elements of a layout. Fails also where its cells don't lie one behind the other: no lowered program has such.
+fn put_whole(bytes: &mut Vec<u8>, layout: &Layout, count: u32) -> Result<(), AllocError>
+    ensures bytes { OnOk result (bytes.new.items ≡ bytes.old.items ++ zeros (count * cells_size layout.now.cells.items)) }
     ensures joined { OnOk result (AreCellsJoined 0 (layout_tree layout.now).cells) }
     ensures whole { OnOk result (cells_end 0 (layout_tree layout.now).cells ≡ layout.now.bytes) }
 {
     match joined_bytes(layout) {
-        Some(size) => put_zeros(bytes, size),
+        Some(element) => put_zeros(bytes, count as usize * element as usize),
         None => Err(AllocError),
     }
 }
@@ -141,7 +153,7 @@ fn put_datum(bytes: &mut Vec<u8>, global: &Datum) -> Result<(), AllocError>
         Datum::Byte(byte) => bytes.push(*byte)?,
         Datum::Word(word) => bytes.extend_from_slice(&word_bytes(*word))?,
         Datum::Null => put_zeros(bytes, 4)?,
-        Datum::Whole(layout) => put_whole(bytes, layout.as_ref())?,
+        Datum::Whole(layout, count) => put_whole(bytes, layout.as_ref(), *count)?,
     }
     Ok(())
 }

@@ -1,21 +1,18 @@
 // Where the unnamed values of functions, the locals of blocks and the globals lie.
 
-ghost use Rattle.std.specs.Prelude.{◌≡◌, ◌+◌, ◌<◌, ◌^◌, ◌≤◌, IfOk, OnOk, map, true};
+ghost use Rattle.std.specs.Prelude.{◌≡◌, ◌+◌, ◌*◌, ◌<◌, ◌^◌, ◌≤◌, IfOk, OnOk, map, true};
 ghost use Rattle.core_frames.specs.Selected as selected;
 ghost use Rattle.core_frames.specs.Selected.{slots_of, rounded, offsets_from, end_from, greater, highest, highest_of, datum_local, datum_locals};
-ghost use Rattle.cyc_core.specs.Trees.{bytes_of, local_tree, datum_tree, statement_tree, body_tree, function_tree};
+ghost use Rattle.cyc_core.specs.Trees.{local_tree, datum_tree, statement_tree, body_tree, function_tree};
 
-use cyc_core::{Datum, Function, Local, Statement, Width};
+use cyc_core::{Datum, Function, Layout, Local, Statement};
 use std::alloc::{AllocError, Global};
 
-/// The bytes of a width.
-fn bytes(width: Width) -> u64
-    ensures { result ≡ bytes_of width }
+/// The bytes of so many elements of a layout.
+fn whole_bytes(layout: &Layout, count: u32) -> u64
+    ensures { result ≡ count * layout.now.bytes }
 {
-    match width {
-        Width::Byte => 1,
-        Width::Word => 4,
-    }
+    u64::from(count) * u64::from(layout.bytes)
 }
 
 /// The bytes of a local.
@@ -23,8 +20,8 @@ fn local_bytes(local: &Local) -> u64
     ensures { result ≡ selected.bytes_of (local_tree local.now) }
 {
     match local {
-        Local::Scalar(cell) => bytes(cell.width()),
-        Local::Whole(layout) => u64::from(layout.bytes),
+        Local::Scalar(cell) => u64::from(cell.bytes()),
+        Local::Whole(layout, count) => whole_bytes(layout.as_ref(), *count),
     }
 }
 
@@ -35,7 +32,7 @@ fn datum_bytes(global: &Datum) -> u64
     match global {
         Datum::Byte(_) => 1,
         Datum::Word(_) | Datum::Null => 4,
-        Datum::Whole(layout) => u64::from(layout.bytes),
+        Datum::Whole(layout, count) => whole_bytes(layout.as_ref(), *count),
     }
 }
 

@@ -10,7 +10,7 @@ ghost use Rattle.rv32_machine.specs.State.{data_base};
 
 use crate::emit::{
     OPERAND, RESULT, put, put_address, put_constant, put_environment, put_further, put_load,
-    put_read, put_save, put_write,
+    put_read, put_save, put_word, put_write,
 };
 use crate::layout::sum;
 use crate::place::Place;
@@ -151,6 +151,14 @@ fn put_pointer_operation(
             put_further(lines, RESULT, u64::from(bytes))?;
             put_to(lines, place, RESULT, to)
         }
+        Operation::Element(to, pointer, index, _, bytes) => {
+            put_from(lines, place, RESULT, index)?;
+            put_word(lines, OPERAND, u64::from(bytes))?;
+            put(lines, Instr::Mul(RESULT, RESULT, OPERAND))?;
+            put_from(lines, place, OPERAND, pointer)?;
+            put(lines, Instr::Add(RESULT, RESULT, OPERAND))?;
+            put_to(lines, place, RESULT, to)
+        }
         Operation::IsNull(to, pointer) => {
             put_from(lines, place, RESULT, pointer)?;
             put(lines, Instr::Sltiu(RESULT, RESULT, Signed12::new(1)))?;
@@ -264,6 +272,7 @@ pub fn held_behind(operation: Operation) -> Option<u32>
         | Operation::OwnAddress(to, _)
         | Operation::DataAddress(to, _)
         | Operation::Offset(to, _, _, _)
+        | Operation::Element(to, _, _, _, _)
         | Operation::Get(to, _, _)
         | Operation::Load(to, _, _)
         | Operation::IsNull(to, _)
@@ -297,6 +306,7 @@ pub fn put_operation(
         | Operation::Apply(..) => { put_word_operation(lines, place, operation) }
         Operation::NullPointer(..)
         | Operation::Offset(..)
+        | Operation::Element(..)
         | Operation::IsNull(..)
         | Operation::SamePlace(..) => { put_pointer_operation(lines, place, operation) }
         Operation::LocalAddress(..)

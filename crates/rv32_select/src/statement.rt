@@ -14,7 +14,7 @@ use crate::operation::{held_behind, put_from, put_operation, put_to};
 use crate::place::Place;
 use crate::whole::{put_clear, put_copy, put_region_alloc};
 use core_frames::Line;
-use cyc_core::{Local, Statement, Temporary};
+use cyc_core::{Local, Statement, Temporary, Words};
 use cyc_words::Kind;
 use rv32_isa::{Instr, Register, Signed12};
 use rv32_machine::RAISE;
@@ -82,11 +82,26 @@ fn put_arguments(
     Ok(())
 }
 
+/// Appends the saves of a call's result, which comes in the registers of arguments.
+fn put_results(lines: &mut Vec<Line>, place: &Place, to: Option<Words>) -> Result<(), AllocError>
+    ensures { OnOk result (lines.new.items ≡ lines.old.items ++ result_code place.now.passed 9 (optional_tree to)) }
+{
+    match to {
+        Some(Words::One(to)) => put_to(lines, place, Register::ARGUMENT_0, to),
+        Some(Words::Three(first, count, index)) => {
+            put_to(lines, place, Register::ARGUMENT_0, first)?;
+            put_to(lines, place, Register::ARGUMENT_1, count)?;
+            put_to(lines, place, Register::ARGUMENT_2, index)
+        }
+        None => Ok(()),
+    }
+}
+
 /// Appends a call: its arguments, the jump, and its result.
 fn put_call(
     lines: &mut Vec<Line>,
     place: &Place,
-    to: Option<Temporary>,
+    to: Option<Words>,
     function: u32,
     arguments: &[Temporary],
 ) -> Result<(), AllocError>
@@ -94,10 +109,7 @@ fn put_call(
 {
     put_arguments(lines, place, arguments)?;
     put_lines(lines, &[Line::CallTo(function as usize)])?;
-    match to {
-        Some(to) => put_to(lines, place, Register::ARGUMENT_0, to),
-        None => Ok(()),
-    }
+    put_results(lines, place, to)
 }
 
 /// Appends the end of an activation: the stack pointer goes back over its frame, and the return.
@@ -114,18 +126,31 @@ fn put_leave(lines: &mut Vec<Line>, bytes: u64) -> Result<(), AllocError>
     )
 }
 
-/// Appends a return, with a temporary's word where there is one.
+/// Appends the loads of a function's result into the registers in which it comes.
+fn put_values(lines: &mut Vec<Line>, place: &Place, value: Option<Words>) -> Result<(), AllocError>
+    ensures { OnOk result (lines.new.items ≡ lines.old.items ++ values_code place.now.passed 9 (optional_tree value)) }
+{
+    match value {
+        Some(Words::One(from)) => put_from(lines, place, Register::ARGUMENT_0, from),
+        Some(Words::Three(first, count, index)) => {
+            put_from(lines, place, Register::ARGUMENT_0, first)?;
+            put_from(lines, place, Register::ARGUMENT_1, count)?;
+            put_from(lines, place, Register::ARGUMENT_2, index)
+        }
+        None => Ok(()),
+    }
+}
+
+/// Appends a return, with what temporaries hold where it has a value.
 fn put_return(
     lines: &mut Vec<Line>,
     place: &Place,
     bytes: u64,
-    value: Option<Temporary>,
+    value: Option<Words>,
 ) -> Result<(), AllocError>
     ensures { OnOk result (lines.new.items ≡ lines.old.items ++ return_code bytes place.now.passed (optional_tree value)) }
 {
-    if let Some(from) = value {
-        put_from(lines, place, Register::ARGUMENT_0, from)?;
-    }
+    put_values(lines, place, value)?;
     put_leave(lines, bytes)
 }
 
@@ -170,7 +195,9 @@ fn put_statement(
             return Ok(next);
         }
         Statement::Copy(to, from, layout) => put_copy(lines, place, *to, *from, layout.as_ref())?,
-        Statement::Clear(pointer, layout) => put_clear(lines, place, *pointer, layout.as_ref())?,
+        Statement::Clear(pointer, layout, count) => {
+            put_clear(lines, place, *pointer, layout.as_ref(), *count)?;
+        }
         Statement::RegionAlloc(to, handle, count, layout) => {
             put_region_alloc(lines, place, *to, *handle, *count, layout.as_ref())?;
         }

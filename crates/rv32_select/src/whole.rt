@@ -3,7 +3,7 @@
 ghost use Rattle.std.specs.Prelude.{◌≡◌, ◌++◌, OnOk};
 ghost use Rattle.core_meaning.specs.Core as core;
 ghost use Rattle.core_frames.specs.Loops.{are_word_parts, are_words, copy_loop, clear_loop};
-ghost use Rattle.core_frames.specs.Selected.{further_code, bytes_code, operation_code};
+ghost use Rattle.core_frames.specs.Selected.{further_code, bytes_in, bytes_code, operation_code};
 ghost use Rattle.cyc_core.specs.Trees.{cell_parts, layout_tree};
 ghost use Rattle.rv32_select.specs.Places.{surroundings};
 
@@ -19,7 +19,7 @@ use std::alloc::AllocError;
 /// The register by way of which each unit is copied.
 const UNIT: Register = Register::TEMPORARY_3;
 
-/// Whether a cell is a word and no bytes more.
+/// Whether a cell is words and no bytes more.
 fn is_word(cell: CellLayout) -> bool
     ensures { result ≡ are_word_parts (cell_parts cell) }
 {
@@ -42,11 +42,11 @@ fn are_words(layout: &Layout) -> bool
     true
 }
 
-/// Appends what puts the end of an object, which begins where the register of results says, into the register that ends are compared with.
-fn put_end(lines: &mut Vec<Line>, layout: &Layout) -> Result<(), AllocError>
-    ensures { OnOk result (lines.new.items ≡ lines.old.items ++ further_code 7 (layout_tree layout.now).bytes) }
+/// Appends what puts the end of so many bytes, which begin where the register of results says, into the register that ends are compared with.
+fn put_end(lines: &mut Vec<Line>, bytes: u32) -> Result<(), AllocError>
+    ensures { OnOk result (lines.new.items ≡ lines.old.items ++ further_code 7 bytes) }
 {
-    put_further(lines, ADDRESS, u64::from(layout.bytes))
+    put_further(lines, ADDRESS, u64::from(bytes))
 }
 
 /// Appends the loop that copies an object, from its first word or byte on to its last.
@@ -107,24 +107,33 @@ pub fn put_copy(
     }
     put_from(lines, place, RESULT, to)?;
     put_from(lines, place, OPERAND, from)?;
-    put_end(lines, layout)?;
+    put_end(lines, layout.bytes)?;
     put_copy_loop(lines, are_words(layout))
 }
 
-/// Appends what gives the object of a layout that a temporary points to what it begins as: nothing for an object of no bytes.
+/// The bytes of so many elements of a layout, as a word.
+fn bytes_in(layout: &Layout, count: u32) -> u32
+    ensures { result ≡ bytes_in (layout_tree layout.now) count }
+{
+    count.wrapping_mul(layout.bytes)
+}
+
+/// Appends what gives so many elements of a layout, from where a temporary points on, what they begin as: nothing where they have no bytes.
 pub fn put_clear(
     lines: &mut Vec<Line>,
     place: &Place,
     pointer: Temporary,
     layout: &Layout,
+    count: u32,
 ) -> Result<(), AllocError>
-    ensures { OnOk result (lines.new.items ≡ lines.old.items ++ operation_code (surroundings place.now) (core.Clear pointer.0 (layout_tree layout.now) 1)) }
+    ensures { OnOk result (lines.new.items ≡ lines.old.items ++ operation_code (surroundings place.now) (core.Clear pointer.0 (layout_tree layout.now) count)) }
 {
-    if layout.bytes == 0 {
+    let bytes = bytes_in(layout, count);
+    if bytes == 0 {
         return Ok(());
     }
     put_from(lines, place, RESULT, pointer)?;
-    put_end(lines, layout)?;
+    put_end(lines, bytes)?;
     put_clear_loop(lines, are_words(layout))
 }
 

@@ -1,4 +1,4 @@
-use Rattle.std.proofs.Common.{◌≡◌, ◌+◌, ◌<◌, ◌∷◌, [], length, map, drop, get_or, sym, ap, ◌∙◌, subst, arith}
+use Rattle.std.proofs.Common.{◌≡◌, ◌+◌, ◌<◌, [], length, map, drop, get_or, sym, ap, ◌∙◌, subst, arith}
 use Rattle.std.proofs.lemmas.List.{drop_more, drop_all}
 use Rattle.cyc_core.specs.declared.operation.Cell.TheVariants as cell
 use Rattle.cyc_core.specs.declared.layout.CellLayout.{CellLayout}
@@ -37,4 +37,4 @@ returns-then-at-layout c =
     sym (ap (λ cs. cells_end c.each.at (map cell_parts cs)) done) ∙ c.each.invariant.ends ∙ ap (λ cs. cells_end 0 (map cell_parts cs)) value in
     let size = end_is 0 items in
     let whole : c.each.at ≡ cells_size items = omega (arith, ends, size) in
-    (subst (λ cs. AreCellsJoined 0 (map cell_parts cs)) value joined, sym ends ∙ c.if-at-layout.true, whole)
+    (subst (λ cs. AreCellsJoined 0 (map cell_parts cs)) value joined, sym ends ∙ c.if-at-layout.true, sym c.if-at-layout.true ∙ whole)

@@ -1,4 +1,4 @@
-use Rattle.std.proofs.Common.{◌≡◌, ◌++◌, sym, ap, ◌∙◌, subst}
+use Rattle.std.proofs.Common.{◌≡◌, ◌*◌, ◌++◌, sym, ap, ◌∙◌, subst}
 use Rattle.cyc_core.specs.declared.layout.Layout.{Layout}
 use Rattle.cyc_core.specs.Trees.{layout_tree, datum_tree}
 use Rattle.core_frames.specs.Statics.{zeros, datum_bytes, AreCellsJoined, cells_end, IsPlainDatum}
@@ -9,11 +9,12 @@ use Rattle.rv32_layout.proofs.globals.put_datum.Goals as goal
 pub returns-in_ok-put_whole-in-Whole-clause-bytes : goal.returns-in_ok-put_whole-in-Whole-clause-bytes
 returns-in_ok-put_whole-in-Whole-clause-bytes c =
     let old = c.args.bytes.now.items in
-    c.in_ok-put_whole-in-Whole.ensures.bytes ∙ ap (λ (l : Layout). old ++ zeros (cells_size l.cells.items)) c.as_ref.ensures ∙
-    ap (λ xs. old ++ xs) (sym (whole_zeros c.in-Whole.layout.value)) ∙ ap (λ d. old ++ datum_bytes (datum_tree d)) (sym c.in-Whole.is)
+    let count = c.in-Whole.count in
+    c.in_ok-put_whole-in-Whole.ensures.bytes ∙ ap (λ (l : Layout). old ++ zeros (count * cells_size l.cells.items)) c.as_ref.ensures ∙
+    ap (λ xs. old ++ xs) (sym (whole_zeros c.in-Whole.layout.value count)) ∙ ap (λ d. old ++ datum_bytes (datum_tree d)) (sym c.in-Whole.is)
 
 pub returns-in_ok-put_whole-in-Whole-clause-plain : goal.returns-in_ok-put_whole-in-Whole-clause-plain
 returns-in_ok-put_whole-in-Whole-clause-plain c =
     let joined = subst (λ (l : Layout). AreCellsJoined 0 (layout_tree l).cells) c.as_ref.ensures c.in_ok-put_whole-in-Whole.ensures.joined in
     let whole = subst (λ (l : Layout). cells_end 0 (layout_tree l).cells ≡ l.bytes) c.as_ref.ensures c.in_ok-put_whole-in-Whole.ensures.whole in
-    subst (λ d. IsPlainDatum (datum_tree d)) (sym c.in-Whole.is) (whole_is_plain c.in-Whole.layout.value joined whole)
+    subst (λ d. IsPlainDatum (datum_tree d)) (sym c.in-Whole.is) (whole_is_plain c.in-Whole.layout.value c.in-Whole.count joined whole)

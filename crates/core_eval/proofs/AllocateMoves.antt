@@ -1,6 +1,6 @@
 -- A region gets a block, as Core does it.
 use Rattle.std.specs.Prelude.{slice_get, slice_set, option_map}
-use Rattle.std.proofs.Common.{◌≡◌, ℕ, zero, suc, ◌+◌, ◌*◌, Option, Some, None, List, [], ◌∷◌, ◌++◌, length, refl, ap, ◌∙◌, sym, subst, arith}
+use Rattle.std.proofs.Common.{◌≡◌, ℕ, zero, suc, ◌*◌, false, Option, Some, None, List, [], ◌∷◌, ◌++◌, length, refl, ap, ◌∙◌, sym, subst, arith}
 use Rattle.cyc_words.specs.Events as events
 use Rattle.core_meaning.specs.Memory as memory
 use Rattle.core_meaning.specs.Memory.{Region, Born, Content, Pointer, Part, is_live, with_object, blanks, first_spot}
@@ -16,7 +16,8 @@ use Rattle.core_eval.specs.declared.value.Value.{Value}
 use Rattle.core_eval.specs.declared.value.Value.TheVariants as value
 use Rattle.core_eval.specs.declared.value.Slot.{Slot}
 use Rattle.core_eval.specs.Values.{region_of, spot_of, content_of, temp_of, part_in, Shows}
-use Rattle.core_eval.specs.Regions.{Regions, region_at, block_cells, grown_held, area_of, block_place}
+use Rattle.core_eval.specs.Regions.{Regions, region_at, grown_held, area_of, block_place}
+use Rattle.core_eval.specs.Elements.{block_cells}
 use Rattle.core_eval.specs.Blocks.{Stored, born_objects, next_place, grown}
 use Rattle.core_eval.specs.Whole.{is_still}
 use Rattle.core_eval.specs.Pendings.{Execute, Leave, Wait, Go, Wrong, Mark}
@@ -124,7 +125,7 @@ module _ (known : Known) (ws : List Wait) (x : ℕ) (u : Value) (read : content_
 
     -- what is known then
     abbrev pub with_more : Known
-    with_more = with_stored known (grown (stored_in known) d (block_cells l count))
+    with_more = with_stored known (grown (stored_in known) d (block_cells false l count))
 
     block_placed : (temps : List Value) (p : Place) (held : Option (List (List Slot))) → born_objects (stored_in known) d ≡ held
         → option_map (λ objects. block_place d (length objects)) held ≡ Some p → Gives t (content_of (value.Pointer p)) known.temps temps
@@ -145,7 +146,7 @@ module _ (known : Known) (ws : List Wait) (x : ℕ) (u : Value) (read : content_
         agrees_given with_more temps ws t (Pointer (first_spot c.memory (Born d)) 0)
         (subst (λ (w : Content). Gives t w known.temps temps) leads gives) marks
         (with_memory (with_object c.memory (Born d) (blanks tree count)) c)
-        (grown_agrees known ws marks c h d objects has (blanks tree count) (block_cells l count) (block_parts l count)))
+        (grown_agrees known ws marks c h d objects has (blanks tree count) (block_cells false l count) (block_parts l count)))
 
     pub allocate_moves : (temps : List Value) (p : Place) → next_place (stored_in known) d ≡ Some p → Gives t (content_of (value.Pointer p)) known.temps temps
         → IsMove (Execute (core.Do (core.RegionAlloc t x y tree))) ws known (Go (Leave steps.Falls)) ws (given with_more temps)

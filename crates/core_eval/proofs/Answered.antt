@@ -44,7 +44,7 @@ use Rattle.core_eval.specs.declared.frame.Frame.{Frame}
 use Rattle.core_eval.specs.declared.pending.Due.{Due}
 use Rattle.core_eval.specs.declared.memory.Memory.{Memory}
 use Rattle.core_eval.specs.declared.value.Slot.{Slot}
-use Rattle.core_eval.specs.Values.{content_of, temp_of, cells_of, value_of}
+use Rattle.core_eval.specs.Values.{content_of, temp_of, cells_of, is_kept, keeps, value_of}
 use Rattle.core_eval.specs.Regions.{held_objects}
 use Rattle.core_eval.specs.Blocks.{Activation, AreOrdered, activation_of, slot_in, put_local, stored_of, put_to}
 use Rattle.core_eval.specs.Pendings.{Task, Execute, Leave, Wait, Next, Go, Wrong, next_of}
@@ -124,12 +124,12 @@ set_same (y ∷ xs) (suc k) x h e = ap (λ l. y ∷ l) (set_same xs k x (omega (
 -- what is read at a distance
 pub value_there : (m : Memory) (p : Place) (d : Distance) (cell byte : ℕ) (slot : Option Slot) (r o : Option Value) → cell ≡ p.cell + d.cells
     → byte ≡ p.byte + d.bytes
-    → slot ≡ slot_in (stored_of m) p.area p.object cell → r ≡ value_of byte d.width slot → r ≡ o
-    → value_of (p.byte + d.bytes) d.width (slot_in (stored_of m) p.area p.object (p.cell + d.cells)) ≡ o
+    → slot ≡ slot_in (stored_of m) p.area p.object cell → r ≡ value_of byte d.part d.width slot → r ≡ o
+    → value_of (p.byte + d.bytes) d.part d.width (slot_in (stored_of m) p.area p.object (p.cell + d.cells)) ≡ o
 value_there m p d cell byte slot r o further later there read is =
-    ap (λ b. value_of b d.width (slot_in (stored_of m) p.area p.object (p.cell + d.cells))) (sym later)
-    ∙ ap (λ k. value_of byte d.width (slot_in (stored_of m) p.area p.object k)) (sym further)
-    ∙ ap (value_of byte d.width) (sym there) ∙ sym read ∙ is
+    ap (λ b. value_of b d.part d.width (slot_in (stored_of m) p.area p.object (p.cell + d.cells))) (sym later)
+    ∙ ap (λ k. value_of byte d.part d.width (slot_in (stored_of m) p.area p.object k)) (sym further)
+    ∙ ap (value_of byte d.part d.width) (sym there) ∙ sym read ∙ is
 
 -- ---- stores
 
@@ -181,23 +181,23 @@ module _ (f : Frame) (m m' : Memory) (x : ℕ) (v : Value) (is_there : Bool) (re
         (put_wrong (known_of f m) ws x v read out i w (put ∙ ap (λ b. stored_if b (blocks_of m')) missing))
 
   module _ (y : ℕ) (u : Value) (place : content_of u ≡ temp_of f.temps.items y) (p : Place) (is_place : u ≡ value.Pointer p) (d : Distance) (cell byte : ℕ)
-      (further : cell ≡ p.cell + d.cells) (later : byte ≡ p.byte + d.bytes)
-      (put : AreOrdered m → put_to (stored_of m) p.area p.object cell byte d.width v ≡ stored_if is_there (stored_of m')) where
+      (kept : is_kept d.part d.width ≡ true) (keep : keeps d.part v ≡ true) (further : cell ≡ p.cell + d.cells) (later : byte ≡ p.byte + d.bytes)
+      (put : AreOrdered m → put_to (stored_of m) p.area p.object cell byte d.part d.width v ≡ stored_if is_there (stored_of m')) where
     at_distance : AreOrdered m
-        → put_to (stored_of m) p.area p.object (p.cell + d.cells) (p.byte + d.bytes) d.width v ≡ stored_if is_there (stored_of m')
+        → put_to (stored_of m) p.area p.object (p.cell + d.cells) (p.byte + d.bytes) d.part d.width v ≡ stored_if is_there (stored_of m')
     at_distance h =
-        ap (λ k. put_to (stored_of m) p.area p.object k (p.byte + d.bytes) d.width v) (sym further)
-        ∙ ap (λ b. put_to (stored_of m) p.area p.object cell b d.width v) (sym later) ∙ put h
+        ap (λ k. put_to (stored_of m) p.area p.object k (p.byte + d.bytes) d.part d.width v) (sym further)
+        ∙ ap (λ b. put_to (stored_of m) p.area p.object cell b d.part d.width v) (sym later) ∙ put h
 
     pub store_answer : is_there ≡ true
         → IsMove (Execute (core.Do (core.Store y (distance_tree d) x))) ws (known_of f m) (Go (Leave steps.Falls)) ws (known_of f m')
     store_answer stored =
         move_as _ ws (known_of f m) (Go (Leave steps.Falls)) _ ws (with_stored (known_of f m) (stored_of m')) (known_of f m')
         refl (stored_known f m m' entered called)
-        (store_moves (known_of f m) ws x v read y u place p is_place d (stored_of m') (λ h. at_distance h ∙ ap (λ b. stored_if b (stored_of m')) stored))
+        (store_moves (known_of f m) ws x v read y u place p is_place d kept keep (stored_of m') (λ h. at_distance h ∙ ap (λ b. stored_if b (stored_of m')) stored))
 
     pub unstore_answer : is_there ≡ false → stored_of m' ≡ stored_of m
         → IsMove (Execute (core.Do (core.Store y (distance_tree d) x))) ws (known_of f m) Wrong ws (known_of f m')
     unstore_answer missing same =
         move_as _ ws (known_of f m) Wrong _ ws (known_of f m) (known_of f m') refl (unstored_known f m m' same entered called)
-        (store_wrong (known_of f m) ws x v read y u place p is_place d (λ h. at_distance h ∙ ap (λ b. stored_if b (stored_of m')) missing))
+        (store_wrong (known_of f m) ws x v read y u place p is_place d kept keep (λ h. at_distance h ∙ ap (λ b. stored_if b (stored_of m')) missing))

@@ -34,14 +34,16 @@ use Rattle.core_meaning.specs.Core.{Local, Statements}
 use Rattle.core_meaning.specs.Steps.{Config, Exit}
 use Rattle.core_meaning.specs.Meaning.{with_objects, in_block, out_of_block}
 use Rattle.cyc_core.specs.declared.layout.Local as code
-use Rattle.cyc_core.specs.Trees.{local_tree, local_layout}
+use Rattle.cyc_core.specs.Trees.{local_tree, local_layout, local_count}
 use Rattle.core_eval.specs.declared.value.Slot.{Slot}
-use Rattle.core_eval.specs.Values.{spot_of, Shows, blank_object}
+use Rattle.core_eval.specs.Values.{spot_of, Shows}
+use Rattle.core_eval.specs.Elements.{blank_object}
 use Rattle.core_eval.specs.Blocks.{Activation, position_of}
 use Rattle.core_eval.specs.Pendings.{Execute, Follow, Leave, Wait, Block, Go, Mark, rest_of}
 use Rattle.core_eval.specs.Standing.{Holds, Known, Agrees, Stands, IsFresh, AreNested, AreAllLive, AreOwned, AreAllOwned, AreBorn}
 use Rattle.core_eval.specs.Costs.{IsMove}
-use Rattle.core_eval.proofs.Memories.{blank_part, other_number, shows_standing, shows_objects, shows_grown}
+use Rattle.core_eval.proofs.Elements.{blank_part}
+use Rattle.core_eval.proofs.Memories.{other_number, shows_standing, shows_objects, shows_grown}
 use Rattle.core_eval.proofs.Lists.{length_more}
 use Rattle.core_eval.proofs.Nested.{nested_still}
 use Rattle.core_eval.proofs.Owned.{owned_still}
@@ -113,11 +115,11 @@ pub all_shown : (r : Region) (locals : List code.Local) (m : Memory) (objects : 
     → Shows (with_objects r (map local_tree locals) m) r (objects ++ map blank_object locals)
 all_shown r [] m objects shows counted = subst (λ (os : List (List Slot)). Shows m r os) (sym (append-nil objects)) shows
 all_shown r (w ∷ locals) m objects shows counted =
-    let m1 = with_object m r (blanks (local_layout w) 1) in
+    let m1 = with_object m r (blanks (local_layout w) (local_count w)) in
     let more : m1.objects r ≡ length (objects ++ blank_object w ∷ []) =
     ap (λ b. if b then m.objects r + 1 else m.objects r) (region_self r) ∙ ap (λ n. n + 1) counted ∙ length_more objects (blank_object w) in
     subst (λ (os : List (List Slot)). Shows (with_objects r (map local_tree locals) m1) r os) (append_assoc objects (blank_object w ∷ []) (map blank_object locals))
-    (all_shown r locals m1 (objects ++ blank_object w ∷ []) (shows_grown shows counted (blanks (local_layout w) 1) (blank_object w) (blank_part w)) more)
+    (all_shown r locals m1 (objects ++ blank_object w ∷ []) (shows_grown shows counted (blanks (local_layout w) (local_count w)) (blank_object w) (blank_part w)) more)
 
 -- ---- a block is entered
 

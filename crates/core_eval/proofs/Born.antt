@@ -1,30 +1,6 @@
 -- The heap and lexical regions, in a changed memory.
 use Rattle.std.specs.Prelude.{if◌then◌else◌, slice_get, slice_set, nat_eq}
-use Rattle.std.proofs.Common.{
-  ◌≡◌,
-  ◌≢◌,
-  ℕ,
-  suc,
-  ◌+◌,
-  ◌≤◌,
-  Bool,
-  true,
-  false,
-  Option,
-  Some,
-  None,
-  List,
-  [],
-  ◌∷◌,
-  ◌++◌,
-  length,
-  refl,
-  ap,
-  ◌∙◌,
-  sym,
-  subst,
-  arith,
-}
+use Rattle.std.proofs.Common.{◌≡◌, ◌≢◌, ℕ, suc, Bool, true, false, Option, Some, None, List, [], ◌∷◌, ◌++◌, length, refl, ap, ◌∙◌, sym, subst, arith}
 use Rattle.std.proofs.lemmas.Bool.Decides.{nat_tests}
 use Rattle.std.proofs.lemmas.List.{length-set}
 use Rattle.core_meaning.specs.Memory.{Region, Frame, Own, Born, Memory, is_live}
@@ -34,7 +10,7 @@ use Rattle.core_eval.specs.Values.{spot_of, Shows}
 use Rattle.core_eval.specs.Regions.{Regions, still_held, region_at}
 use Rattle.core_eval.specs.Pendings.{Wait, Mark}
 use Rattle.core_eval.specs.Standing.{Known, Agrees, ShowsBlocks, AreBorn}
-use Rattle.core_eval.proofs.Lists.{get_set, get_grown, get_less, get_past}
+use Rattle.core_eval.proofs.Lists.{get_set, get_grown, get_less}
 use Rattle.core_eval.proofs.Nested.{nested_still}
 use Rattle.core_eval.proofs.Owned.{owned_still}
 

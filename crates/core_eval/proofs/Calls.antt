@@ -1,48 +1,28 @@
 -- A call begins, and a program.
-use Rattle.std.specs.Prelude.{if◌then◌else◌, slice_get, slice_index_or, nat_eq, nat_lt}
-use Rattle.std.proofs.Common.{◌≡◌, ◌≢◌, ℕ, zero, suc, ◌+◌, ◌<◌, ◌≤◌, Bool, true, false, Option, Some, None, List, [], ◌∷◌, length, map, refl, ap, ◌∙◌, sym, subst, arith}
+use Rattle.std.specs.Prelude.{if◌then◌else◌, slice_get, slice_index_or, nat_eq}
+use Rattle.std.proofs.Common.{◌≡◌, ◌≢◌, ℕ, zero, suc, ◌+◌, ◌<◌, ◌≤◌, true, false, Option, Some, None, List, [], ◌∷◌, length, map, refl, ap, ◌∙◌, sym, subst, arith}
 use Rattle.std.proofs.lemmas.Bool.Decides.{nat_tests}
 use Rattle.std.proofs.lemmas.List.{length-map}
 use Rattle.step_trees.specs.Trees as trees
 use Rattle.core_meaning.specs.Memory as memory
-use Rattle.core_meaning.specs.Memory.{Region, Frame, Own, Born, Live, Dead, is_live, same_region, Memory, Content, Part, PartShape, with_standing, shape_in, blanks}
+use Rattle.core_meaning.specs.Memory.{Region, Frame, Own, Born, Live, Dead, is_live, same_region, Memory, Content, with_standing}
 use Rattle.core_meaning.specs.Core.{Function}
 use Rattle.core_meaning.specs.Steps.{Config, Called, Step, checked}
 use Rattle.core_meaning.specs.Meaning.{with_objects, entered, called, body_of, first_memory, status_of, start}
 use Rattle.cyc_core.specs.declared.program.Function as code
-use Rattle.cyc_core.specs.declared.program.Datum.{Datum}
-use Rattle.cyc_core.specs.declared.program.Datum.TheVariants as datum
 use Rattle.cyc_core.specs.declared.program.Program as code_program
-use Rattle.cyc_core.specs.declared.operation.Cell.{Cell}
-use Rattle.cyc_core.specs.declared.operation.Cell.TheVariants as cell
-use Rattle.cyc_core.specs.declared.layout.CellLayout.{CellLayout}
 use Rattle.cyc_core.specs.declared.layout.Local as local_code
-use Rattle.cyc_core.specs.declared.layout.Local.TheVariants as local
-use Rattle.cyc_core.specs.Trees.{
-  bytes_of,
-  cell_width,
-  cell_parts,
-  padding_parts,
-  part_first,
-  local_tree,
-  function_tree,
-  datum_layout,
-  datum_first,
-  datum_tree,
-  body_tree,
-  program_tree,
-}
+use Rattle.cyc_core.specs.Trees.{local_tree, function_tree, datum_tree, body_tree, program_tree}
 use Rattle.core_eval.specs.declared.value.Value.{Value}
-use Rattle.core_eval.specs.declared.value.Value.TheVariants as value
-use Rattle.core_eval.specs.Values.{spot_of, content_of, part_of, part_in, slot_at, Shows, blank_slot, blank_object}
-use Rattle.core_eval.specs.declared.frame.Frame as frame_code
-use Rattle.core_eval.specs.declared.memory.Memory as memory_code
+use Rattle.core_eval.specs.Values.{content_of, Shows}
+use Rattle.core_eval.specs.Elements.{blank_object, first_object}
 use Rattle.core_eval.specs.declared.value.Slot.{Slot}
 use Rattle.core_eval.specs.Regions.{Regions}
 use Rattle.core_eval.specs.Blocks.{position_of}
 use Rattle.core_eval.specs.Pendings.{Follow, Wait, Caller, Go, Wrong, Mark, rest_of, coming, returned_to}
-use Rattle.core_eval.specs.Standing.{Known, IsFresh, Agrees, AreBorn, Stands, IsCall, first_slot, scalar, first_object, first_known}
-use Rattle.core_eval.proofs.Memories.{padding_part, blank_part, cell_begins, other_number, shows_standing, shows_objects}
+use Rattle.core_eval.specs.Standing.{Known, IsFresh, Agrees, AreBorn, Stands, IsCall, first_known}
+use Rattle.core_eval.proofs.Memories.{other_number, shows_standing, shows_objects}
+use Rattle.core_eval.proofs.Globals.{first_part}
 use Rattle.core_eval.proofs.BlockMoves.{
   objects_other,
   parts_other,
@@ -228,64 +208,6 @@ module _ (functions : List code.Function) (results : List ℕ) (n : ℕ) (argume
       (rest_of main for_callee (record { number = c.memory.calls; outside = c } ∷ marks)) (callee f (map content_of arguments) c.memory)))) no)
 
 -- ---- a program
-
--- what a part begins as
-abbrev filled : Option Part → Content → Option Part
-filled None v = None
-filled (Some p) v = Some (record p { content = v })
-
-begun_if : (b : Bool) (at : ℕ) (first : Option PartShape) → first ≡ (if b then Some (record { offset = at; width = 1; first = memory.Blank }) else None)
-    → filled (if b then Some (record { offset = at; width = 1; content = memory.Blank }) else None) (part_first first)
-    ≡ (if b then Some (record { offset = at; width = 1; content = memory.Blank }) else None)
-begun_if true at first is = ap (λ f. Some (record { offset = at; width = 1; content = part_first f })) is
-begun_if false at first is = refl
-
-begun_cell : (c : CellLayout) (j : ℕ) → filled (part_of (blank_slot c) j) (part_first (slice_get (cell_parts c) j)) ≡ part_of (first_slot c) j
-begun_cell c zero = ap (λ v. Some (record { offset = c.offset; width = bytes_of (blank_slot c).width; content = v })) (cell_begins c)
-begun_cell c (suc j) =
-    begun_if (nat_lt j c.padding) (c.offset + bytes_of (blank_slot c).width + j) (slice_get (padding_parts (c.offset + bytes_of (blank_slot c).width) c.padding) j)
-    (padding_part (c.offset + bytes_of (blank_slot c).width) c.padding j)
-
-begun_cells : (cs : List CellLayout) (k j : ℕ)
-    → filled (part_in (slice_get (map blank_slot cs) k) j) (part_first (shape_in (slice_get (map cell_parts cs) k) j))
-    ≡ part_in (slice_get (map first_slot cs) k) j
-begun_cells [] k j = refl
-begun_cells (c ∷ cs) zero j = begun_cell c j
-begun_cells (c ∷ cs) (suc k) j = begun_cells cs k j
-
--- a global of one cell
-scalar_part : (c : Cell) (v : Value) (k j : ℕ) → filled (part_in (slice_get (blank_object (local.Scalar c)) k) j) (content_of v)
-    ≡ part_in (slice_get (scalar c v) k) j
-scalar_part c v zero zero = refl
-scalar_part c v zero (suc j) = ap (λ b. filled (if b then Some (record { offset = 0 + bytes_of (cell_width c) + j; width = 1; content = memory.Blank }) else None)
-    (content_of v)) (none_below j) ∙ sym (ap (λ b. if b then Some (record { offset = 0 + bytes_of (cell_width c) + j; width = 1; content = memory.Blank }) else None)
-    (none_below j))
-  where
-    none_below : (j : ℕ) → nat_lt j 0 ≡ false
-    none_below j = grind (arith, nat_tests)
-scalar_part c v (suc k) j = refl
-
-datum_part : (d : Datum) (k j : ℕ) → filled (blanks (datum_layout d) 1 k j) (datum_first d k j) ≡ part_in (slice_get (first_object d) k) j
-datum_part (datum.Byte b) k j =
-    ap (λ p. filled p (memory.Word b)) (blank_part (local.Scalar cell.Byte) k j) ∙ scalar_part cell.Byte (value.Word b) k j
-datum_part (datum.Word w) k j =
-    ap (λ p. filled p (memory.Word w)) (blank_part (local.Scalar cell.Word) k j) ∙ scalar_part cell.Word (value.Word w) k j
-datum_part datum.Null k j =
-    ap (λ p. filled p memory.Null) (blank_part (local.Scalar cell.Pointer) k j) ∙ scalar_part cell.Pointer value.Null k j
-datum_part (datum.Whole l) k j =
-    ap (λ p. filled p (part_first (shape_in (slice_get (map cell_parts l.value.cells.items) k) j))) (blank_part (local.Whole l) k j)
-    ∙ begun_cells l.value.cells.items k j
-
-filled_same : (d : Datum) (k j : ℕ) (p : Option Part) → blanks (datum_layout d) 1 k j ≡ p
-    → (first_memory (datum_tree d ∷ [])).parts (spot_of (Born 0) 0 k) j ≡ filled p (datum_first d k j)
-filled_same d k j None e = rw e refl
-filled_same d k j (Some p) e = rw e refl
-
-first_part : (ds : List Datum) (i k j : ℕ)
-    → (first_memory (map datum_tree ds)).parts (spot_of (Born 0) i k) j ≡ part_in (slot_at (map first_object ds) i k) j
-first_part [] i k j = refl
-first_part (d ∷ ds) zero k j = filled_same d k j (blanks (datum_layout d) 1 k j) refl ∙ datum_part d k j
-first_part (d ∷ ds) (suc i) k j = first_part ds i k j
 
 module _ (p : code_program.Program) where
   abbrev begin_memory : Memory

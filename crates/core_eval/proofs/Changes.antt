@@ -1,6 +1,6 @@
 -- A change of one area's objects, and what is known after it.
 use Rattle.std.specs.Prelude.{if◌then◌else◌, slice_get, slice_set, ◌&&◌, nat_eq}
-use Rattle.std.proofs.Common.{◌≡◌, ℕ, suc, false, Option, Some, None, List, length, refl, ap, ◌∙◌, sym, subst, arith}
+use Rattle.std.proofs.Common.{◌≡◌, ℕ, suc, false, Option, Some, List, length, refl, ap, ◌∙◌, sym, subst, arith}
 use Rattle.core_meaning.specs.Memory.{Region, Frame, Own, Born, Spot, Part, Memory, same_region, with_part}
 use Rattle.core_meaning.specs.Steps.{Config, with_memory}
 use Rattle.core_eval.specs.declared.value.Area.{Area}

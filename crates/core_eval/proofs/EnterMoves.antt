@@ -77,18 +77,20 @@ module _ (known : Known) (ws : List Wait) where
         refl,
       )) (omega arith)
 
-  pub return_leaves : IsMove (Execute (core.Return [])) ws known (Go (Leave (steps.Returns []))) ws known
-  return_leaves = same_state _ ws _ ws known (λ main marks c h. (h, refl)) (omega arith)
+  values_same : (temps temps' : ℕ → Content) (ts : List ℕ) → ((k : ℕ) → temps k ≡ temps' k) → values_of temps ts ≡ values_of temps' ts
+  values_same temps temps' [] h = refl
+  values_same temps temps' (t ∷ ts) h = ap (λ x. x ∷ values_of temps ts) (h t) ∙ ap (λ xs. temps' t ∷ xs) (values_same temps temps' ts h)
+
+  pub return_leaves : (ts : List ℕ) (vs : List Content) → values_of (temp_of known.temps) ts ≡ vs
+      → IsMove (Execute (core.Return ts)) ws known (Go (Leave (steps.Returns vs))) ws known
+  return_leaves ts vs read =
+      same_state (Execute (core.Return ts)) ws (Go (Leave (steps.Returns vs))) ws known
+      (λ main marks c h. (h, ap (λ xs. rest_of main ws marks (steps.Returns xs) c) (values_same c.temps (temp_of known.temps) ts h.temps ∙ read))) (omega arith)
 
   pub raise_ends : (kind : Kind) → IsMove (Execute (core.Raise kind)) ws known (Raised kind) ws known
   raise_ends kind = same_state (Execute (core.Raise kind)) ws (Raised kind) ws known (λ main marks c h. (h, refl)) (omega arith)
 
   module _ (t : ℕ) (v : Value) (read : content_of v ≡ temp_of known.temps t) where
-    pub value_leaves : IsMove (Execute (core.Return (t ∷ []))) ws known (Go (Leave (steps.Returns (content_of v ∷ [])))) ws known
-    value_leaves =
-        same_state (Execute (core.Return (t ∷ []))) ws (Go (Leave (steps.Returns (content_of v ∷ [])))) ws known
-        (λ main marks c h. (h, ap (λ x. rest_of main ws marks (steps.Returns (x ∷ [])) c) (h.temps t ∙ sym read))) (omega arith)
-
     pub if_goes : (these those : Statements) (b : Bool) → truth_of v ≡ Some b
         → IsMove (Execute (core.If t these those)) ws known (Go (Follow (if b then these else those))) ws known
     if_goes these those true is =
@@ -104,10 +106,6 @@ module _ (known : Known) (ws : List Wait) where
         (λ main marks c h. (h, branches (c.temps t) v None _ _ (h.temps t ∙ sym read) is)) (omega arith)
 
   -- ---- calls
-
-  values_same : (temps temps' : ℕ → Content) (ts : List ℕ) → ((k : ℕ) → temps k ≡ temps' k) → values_of temps ts ≡ values_of temps' ts
-  values_same temps temps' [] h = refl
-  values_same temps temps' (t ∷ ts) h = ap (λ x. x ∷ values_of temps ts) (h t) ∙ ap (λ xs. temps' t ∷ xs) (values_same temps temps' ts h)
 
   pub call_comes : (results : List ℕ) (f : ℕ) (ts : List ℕ) (values : List Value) → AreRead known.temps ts values
       → IsMove (Execute (core.Call results f ts)) ws known (CallDue results f (map content_of values)) ws known

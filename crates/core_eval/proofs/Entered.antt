@@ -13,7 +13,8 @@ use Rattle.cyc_core.specs.Trees.{local_tree, statement_step, statement_tree, bod
 use Rattle.core_eval.specs.declared.frame.Frame.{Frame}
 use Rattle.core_eval.specs.declared.memory.Memory.{Memory}
 use Rattle.core_eval.specs.declared.pending.Due.{Due}
-use Rattle.core_eval.specs.Values.{cells_of, blank_object}
+use Rattle.core_eval.specs.Values.{cells_of}
+use Rattle.core_eval.specs.Elements.{blank_object}
 use Rattle.core_eval.specs.Regions.{held_objects}
 use Rattle.core_eval.specs.Blocks.{activation_of}
 use Rattle.core_eval.specs.Pendings as specs

@@ -1,92 +1,169 @@
 -- Cells that lie as a layout's, as Core tests it.
 use Rattle.std.specs.Prelude.{if◌then◌else◌, ◌&&◌, nat_eq, nat_le, nat_lt, map, slice_get, option_map}
-use Rattle.std.proofs.Common.{◌≡◌, ℕ, zero, suc, ◌+◌, ◌≤◌, ◌<◌, Bool, true, false, Option, Some, None, List, [], ◌∷◌, refl, ap, ◌∙◌, sym, subst, arith}
+use Rattle.std.proofs.Common.{
+  ◌≡◌,
+  ℕ,
+  zero,
+  suc,
+  ◌+◌,
+  ◌≤◌,
+  Bool,
+  true,
+  false,
+  Option,
+  Some,
+  None,
+  List,
+  [],
+  ◌∷◌,
+  length,
+  refl,
+  ap,
+  ◌∙◌,
+  sym,
+  arith,
+}
+use Rattle.std.proofs.Math.Bool.{and-false}
+use Rattle.std.proofs.Math.Dec.{eqb-suc-zero}
 use Rattle.std.proofs.lemmas.Bool.Decides.{nat_tests}
+use Rattle.std.proofs.lemmas.List.{length-map}
 use Rattle.core_meaning.specs.Memory as memory
-use Rattle.core_meaning.specs.Memory.{Region, Frame, Own, Born, Live, Part, PartShape, Memory, is_live, part_at}
+use Rattle.core_meaning.specs.Memory.{Region, Frame, Own, Born, Spot, PartShape, Memory, is_live}
 use Rattle.core_meaning.specs.Steps.{Config}
 use Rattle.core_meaning.specs.Operations.{is_part, are_parts, is_there}
 use Rattle.core_meaning.specs.Operations as operations
-use Rattle.cyc_core.specs.declared.operation.Width.{Width}
-use Rattle.cyc_core.specs.declared.operation.Width.TheVariants as width
 use Rattle.cyc_core.specs.declared.layout.CellLayout.{CellLayout}
-use Rattle.cyc_core.specs.Trees.{bytes_of, cell_width, cell_first, cell_parts, padding_parts}
+use Rattle.cyc_core.specs.declared.layout.Layout.{Layout}
+use Rattle.cyc_core.specs.Trees.{cell_parts, padding_parts, layout_tree}
 use Rattle.core_eval.specs.declared.value.Area.{Area}
 use Rattle.core_eval.specs.declared.value.Area.TheVariants as area
 use Rattle.core_eval.specs.declared.value.Place.{Place}
+use Rattle.core_eval.specs.declared.value.Value.{Value}
 use Rattle.core_eval.specs.declared.value.Slot.{Slot}
-use Rattle.core_eval.specs.Values.{region_of, spot_of, place_spot, part_in, same_width}
+use Rattle.core_eval.specs.declared.held.Held.{Held}
+use Rattle.core_eval.specs.declared.held.Held.TheVariants as held
+use Rattle.core_eval.specs.Values.{region_of, spot_of, place_spot, content_of, bound_value, first_held, parts_from, part_in}
 use Rattle.core_eval.specs.Blocks.{Activation, position_of, slot_in}
 use Rattle.core_eval.specs.Regions.{region_at}
-use Rattle.core_eval.specs.Whole.{is_cell, are_cells, slots_of, is_found, is_still, is_held, are_laid}
+use Rattle.core_eval.specs.Whole.{has_parts, is_cell, are_cells, are_elements, slots_of, is_found, is_still, is_held, are_laid, has_elements}
 use Rattle.core_eval.specs.Pendings.{Wait, Mark}
 use Rattle.core_eval.specs.Standing.{Known, Agrees, ShowsBlocks}
+use Rattle.core_eval.proofs.Parts.{nothing_at, shape_of, shapes_by, cell_shapes, parts_as}
 use Rattle.core_eval.proofs.Nested.{position_there}
 use Rattle.core_eval.proofs.Changes.{stored_in}
 use Rattle.core_eval.proofs.MemoryMoves.{shown, shown_values, area_part}
 
-same_bytes : (a w : Width) → nat_eq (bytes_of a) (bytes_of w) ≡ same_width a w
-same_bytes width.Byte width.Byte = refl
-same_bytes width.Byte width.Word = refl
-same_bytes width.Word width.Byte = refl
-same_bytes width.Word width.Word = refl
-
-width_is : (a w : Width) → same_width a w ≡ true → a ≡ w
-width_is width.Byte width.Byte h = refl
-width_is width.Byte width.Word h = cc
-width_is width.Word width.Byte h = cc
-width_is width.Word width.Word h = refl
-
 -- ---- one cell
 
-module _ (m : Memory) (r : Region) (i x b : ℕ) (s : Slot) (there : (j : ℕ) → m.parts (spot_of r i x) j ≡ part_in (Some s) j) where
-  -- the bytes behind it, from the j-th on
-  paddings_are : (n j at : ℕ) → b + at ≡ s.offset + bytes_of s.width + j → j ≤ s.padding
-      → are_parts m (spot_of r i x) b (suc j) (padding_parts at n) ≡ nat_le (j + n) s.padding
-  paddings_are zero j at from le = let e : nat_le (j + 0) s.padding ≡ true = grind (arith, nat_tests, le) in sym e
-  paddings_are (suc n) j at from le =
-      ap (λ o. is_part o b (record { offset = at; width = 1; first = memory.Blank }) && are_parts m (spot_of r i x) b (suc (suc j)) (padding_parts (at + 1) n))
-      (there (suc j))
-      ∙ by (are_parts m (spot_of r i x) b (suc (suc j)) (padding_parts (at + 1) n)) (λ more. paddings_are n (suc j) (at + 1) (omega (arith, from)) more)
-      (nat_lt j s.padding) refl
+module _ (m : Memory) (t : Spot) (b : ℕ) where
+  -- bytes that hold nothing, from the j-th behind some part on
+  paddings_are : (up : ℕ → ℕ) → ((j : ℕ) → up (suc j) ≡ suc (up j)) → (from n : ℕ) → ((q : ℕ) → m.parts t (up q) ≡ nothing_at (nat_lt q n) (from + q))
+      → (k j at : ℕ) → b + at ≡ from + j → j ≤ n → are_parts m t b (up j) (padding_parts at k) ≡ nat_le (j + k) n
+  paddings_are up next from n there zero j at starts le = let e : nat_le (j + 0) n ≡ true = grind (arith, nat_tests, le) in sym e
+  paddings_are up next from n there (suc k) j at starts le =
+      ap (λ o. is_part o b (record { offset = at; width = 1; first = memory.Blank }) && are_parts m t b (suc (up j)) (padding_parts (at + 1) k)) (there j)
+      ∙ ap (λ x. is_part (nothing_at (nat_lt j n) (from + j)) b (record { offset = at; width = 1; first = memory.Blank })
+      && are_parts m t b x (padding_parts (at + 1) k)) (sym (next j))
+      ∙ by (are_parts m t b (up (suc j)) (padding_parts (at + 1) k))
+      (λ more. paddings_are up next from n there k (suc j) (at + 1) (omega (arith, starts)) more)
+      (nat_lt j n) refl
     where
-      by : (rest : Bool) → (suc j ≤ s.padding → rest ≡ nat_le (suc j + n) s.padding) → (t : Bool) → nat_lt j s.padding ≡ t
-          → (is_part (if t then Some (record { offset = s.offset + bytes_of s.width + j; width = 1; content = memory.Blank }) else None) b
-          (record { offset = at; width = 1; first = memory.Blank }) && rest)
-          ≡ nat_le (j + suc n) s.padding
+      by : (rest : Bool) → (suc j ≤ n → rest ≡ nat_le (suc j + k) n) → (is : Bool) → nat_lt j n ≡ is
+          → (is_part (nothing_at is (from + j)) b (record { offset = at; width = 1; first = memory.Blank }) && rest) ≡ nat_le (j + suc k) n
       by rest others true less =
-          let same : nat_eq (s.offset + bytes_of s.width + j) (b + at) ≡ true = grind (arith, nat_tests, from) in
-          let more : suc j ≤ s.padding = grind (arith, nat_tests, less) in
-          let one : suc j + n ≡ j + suc n = omega arith in
-          ap (λ t. (t && true) && rest) same ∙ others more ∙ ap (λ k. nat_le k s.padding) one
-      by rest others false none = let e : nat_le (j + suc n) s.padding ≡ false = grind (arith, nat_tests, none) in sym e
+          let same : nat_eq (from + j) (b + at) ≡ true = grind (arith, nat_tests, starts) in
+          let more : suc j ≤ n = grind (arith, nat_tests, less) in
+          let one : suc j + k ≡ j + suc k = omega arith in
+          ap (λ t. (t && true) && rest) same ∙ others more ∙ ap (λ k. nat_le k n) one
+      by rest others false none = let e : nat_le (j + suc k) n ≡ false = grind (arith, nat_tests, none) in sym e
 
-  some_cell : (c : CellLayout) → are_parts m (spot_of r i x) b 0 (cell_parts c) ≡ is_cell (Some s) b c
-  some_cell c =
-      ap (λ o. is_part o b (record { offset = c.offset; width = bytes_of (cell_width c.cell); first = cell_first c.cell })
-      && are_parts m (spot_of r i x) b 1 (padding_parts (c.offset + bytes_of (cell_width c.cell)) c.padding))
-      (there 0)
-      ∙ ap (λ w. (nat_eq s.offset (b + c.offset) && w)
-      && are_parts m (spot_of r i x) b 1 (padding_parts (c.offset + bytes_of (cell_width c.cell)) c.padding)) (same_bytes s.width (cell_width c.cell))
-      ∙ by (are_parts m (spot_of r i x) b 1 (padding_parts (c.offset + bytes_of (cell_width c.cell)) c.padding))
-      (λ starts bytes. paddings_are c.padding 0 (c.offset + bytes_of (cell_width c.cell)) (omega (arith, starts, bytes)) (omega arith)
-      ∙ ap (λ k. nat_le k s.padding) (let z : 0 + c.padding ≡ c.padding = omega arith in z))
-      (nat_eq s.offset (b + c.offset)) (same_width s.width (cell_width c.cell)) refl refl
+  -- all of them
+  paddings_all : (up : ℕ → ℕ) → ((j : ℕ) → up (suc j) ≡ suc (up j)) → (from n : ℕ) → ((q : ℕ) → m.parts t (up q) ≡ nothing_at (nat_lt q n) (from + q))
+      → (k at : ℕ) → b + at ≡ from → are_parts m t b (up 0) (padding_parts at k) ≡ nat_le k n
+  paddings_all up next from n there k at starts =
+      paddings_are up next from n there k 0 at (omega (arith, starts)) (omega arith) ∙ ap (λ x. nat_le x n) (let z : 0 + k ≡ k = omega arith in z)
+
+  -- a first part that lies there, and what is behind it
+  heads_same : (rest enough : Bool) (offset at : ℕ) → (offset ≡ b + at → rest ≡ enough)
+      → ((nat_eq offset (b + at) && true) && rest) ≡ (nat_eq offset (b + at) && enough)
+  heads_same rest enough offset at others = by (nat_eq offset (b + at)) refl
     where
-      by : (rest : Bool) → (s.offset ≡ b + c.offset → bytes_of s.width ≡ bytes_of (cell_width c.cell) → rest ≡ nat_le c.padding s.padding) → (t w : Bool)
-          → nat_eq s.offset (b + c.offset) ≡ t → same_width s.width (cell_width c.cell) ≡ w → ((t && w) && rest) ≡ (t && (w && nat_le c.padding s.padding))
-      by rest others true true at wide =
-          let starts : s.offset ≡ b + c.offset = grind (arith, nat_tests, at) in
-          others starts (ap bytes_of (width_is s.width (cell_width c.cell) wide))
-      by rest others true false at wide = refl
-      by rest others false w at wide = refl
+      by : (is : Bool) → nat_eq offset (b + at) ≡ is → ((is && true) && rest) ≡ (is && enough)
+      by true e = others (let same : offset ≡ b + at = grind (arith, nat_tests, e) in same)
+      by false e = refl
 
-one_cell : (m : Memory) (r : Region) (i x b : ℕ) (o : Option Slot) (c : CellLayout) → ((j : ℕ) → m.parts (spot_of r i x) j ≡ part_in o j)
-    → are_parts m (spot_of r i x) b 0 (cell_parts c) ≡ is_cell o b c
-one_cell m r i x b None c there =
-    ap (λ p. is_part p b (record { offset = c.offset; width = bytes_of (cell_width c.cell); first = cell_first c.cell })
-    && are_parts m (spot_of r i x) b 1 (padding_parts (c.offset + bytes_of (cell_width c.cell)) c.padding)) (there 0)
-one_cell m r i x b (Some s) c there = some_cell m r i x b s there c
+  heads_differ : (is rest : Bool) → ((is && false) && rest) ≡ (is && false)
+  heads_differ true rest = refl
+  heads_differ false rest = refl
+
+  -- no byte that holds nothing is as wide as a word, and no word as narrow
+  nothing_wide : (is : Bool) (x at : ℕ) (v : Value) (rest : Bool) → (is_part (nothing_at is x) b (shape_of at 4 v) && rest) ≡ false
+  nothing_wide true x at v rest = ap (λ t. t && rest) (and-false (nat_eq x (b + at)))
+  nothing_wide false x at v rest = refl
+
+  word_there : (x at : ℕ) → x ≡ b + at → nat_eq x (b + at) ≡ true
+  word_there x at e = grind (arith, nat_tests, e)
+
+  one_is : (wide offset n at k : ℕ) (v u : Value) → nat_eq wide wide ≡ true → ((j : ℕ) → m.parts t j ≡ parts_from offset wide n (v ∷ []) j)
+      → are_parts m t b 0 (shape_of at wide u ∷ padding_parts (at + wide) k) ≡ (nat_eq offset (b + at) && nat_le k n)
+  one_is wide offset n at k v u same there =
+      ap (λ o. is_part o b (shape_of at wide u) && are_parts m t b 1 (padding_parts (at + wide) k)) (there 0)
+      ∙ ap (λ w. (nat_eq offset (b + at) && w) && are_parts m t b 1 (padding_parts (at + wide) k)) same
+      ∙ heads_same (are_parts m t b 1 (padding_parts (at + wide) k)) (nat_le k n) offset at
+      (λ starts. paddings_all suc (λ j. refl) (offset + wide) n (λ q. there (suc q)) k (at + wide) (omega (arith, starts)))
+
+  -- where the first parts have other widths
+  other_width : (wide own offset at : ℕ) (v u : Value) (rest : List PartShape) → nat_eq own wide ≡ false
+      → m.parts t 0 ≡ Some (record { offset = offset; width = own; content = content_of v })
+      → are_parts m t b 0 (shape_of at wide u ∷ rest) ≡ (nat_eq offset (b + at) && false)
+  other_width wide own offset at v u rest differ there =
+      ap (λ o. is_part o b (shape_of at wide u) && are_parts m t b 1 rest) there
+      ∙ ap (λ w. (nat_eq offset (b + at) && w) && are_parts m t b 1 rest) differ
+      ∙ heads_differ (nat_eq offset (b + at)) (are_parts m t b 1 rest)
+
+  cell_is : (h g : Held) (offset n at k : ℕ) → ((j : ℕ) → m.parts t j ≡ parts_as h offset n j)
+      → are_parts m t b 0 (shapes_by at g k) ≡ (nat_eq offset (b + at) && has_parts h n g k)
+  cell_is (held.Byte v) (held.Byte u) offset n at k there = one_is 1 offset n at k v u refl there
+  cell_is (held.Byte v) (held.Word u) offset n at k there = other_width 4 1 offset at v u (padding_parts (at + 4) k) refl (there 0)
+  cell_is (held.Byte v) (held.Fat u x y) offset n at k there =
+      other_width 4 1 offset at v u (shape_of (at + 4) 4 (bound_value x) ∷ shape_of (at + 4 + 4) 4 (bound_value y) ∷ padding_parts (at + 12) k) refl (there 0)
+  cell_is (held.Word v) (held.Byte u) offset n at k there = other_width 1 4 offset at v u (padding_parts (at + 1) k) refl (there 0)
+  cell_is (held.Word v) (held.Word u) offset n at k there = one_is 4 offset n at k v u refl there
+  cell_is (held.Word v) (held.Fat u x y) offset n at k there =
+      let rest = are_parts m t b 2 (shape_of (at + 4 + 4) 4 (bound_value y) ∷ padding_parts (at + 12) k) in
+      ap (λ o. is_part o b (shape_of at 4 u) && (is_part (m.parts t 1) b (shape_of (at + 4) 4 (bound_value x)) && rest)) (there 0)
+      ∙ heads_same (is_part (m.parts t 1) b (shape_of (at + 4) 4 (bound_value x)) && rest) false offset at
+      (λ starts. ap (λ o. is_part o b (shape_of (at + 4) 4 (bound_value x)) && rest) (there 1) ∙ nothing_wide (nat_lt 0 n) (offset + 4 + 0) (at + 4) (bound_value x) rest)
+  cell_is (held.Fat v c d) (held.Byte u) offset n at k there = other_width 1 4 offset at v u (padding_parts (at + 1) k) refl (there 0)
+  cell_is (held.Fat v c d) (held.Word u) offset n at zero there =
+      ap (λ o. is_part o b (shape_of at 4 u) && true) (there 0) ∙ heads_same true true offset at (λ starts. refl)
+  cell_is (held.Fat v c d) (held.Word u) offset n at (suc k) there =
+      let rest = are_parts m t b 2 (padding_parts (at + 4 + 1) k) in
+      let narrow : PartShape = record { offset = at + 4; width = 1; first = memory.Blank } in
+      ap (λ o. is_part o b (shape_of at 4 u) && (is_part (m.parts t 1) b narrow && rest)) (there 0)
+      ∙ heads_same (is_part (m.parts t 1) b narrow && rest) (nat_eq (suc k) 0) offset at
+      (λ starts. ap (λ o. is_part o b narrow && rest) (there 1) ∙ ap (λ x. x && rest) (and-false (nat_eq (offset + 4) (b + (at + 4)))) ∙ sym (eqb-suc-zero k))
+  cell_is (held.Fat v c d) (held.Fat u x y) offset n at k there =
+      let paddings = are_parts m t b 3 (padding_parts (at + 12) k) in
+      ap (λ o. is_part o b (shape_of at 4 u)
+      && (is_part (m.parts t 1) b (shape_of (at + 4) 4 (bound_value x)) && (is_part (m.parts t 2) b (shape_of (at + 4 + 4) 4 (bound_value y)) && paddings))) (there 0)
+      ∙ heads_same (is_part (m.parts t 1) b (shape_of (at + 4) 4 (bound_value x)) && (is_part (m.parts t 2) b (shape_of (at + 4 + 4) 4 (bound_value y)) && paddings)) (nat_le k n) offset at
+      (λ starts.
+      ap (λ o. is_part o b (shape_of (at + 4) 4 (bound_value x)) && (is_part (m.parts t 2) b (shape_of (at + 4 + 4) 4 (bound_value y)) && paddings)) (there 1)
+      ∙ ap (λ e. (e && true) && (is_part (m.parts t 2) b (shape_of (at + 4 + 4) 4 (bound_value y)) && paddings)) (word_there (offset + 4) (at + 4) (omega (arith, starts)))
+      ∙ ap (λ o. is_part o b (shape_of (at + 4 + 4) 4 (bound_value y)) && paddings) (there 2)
+      ∙ ap (λ e. (e && true) && paddings) (word_there (offset + 4 + 4) (at + 4 + 4) (omega (arith, starts)))
+      ∙ paddings_all (λ j. suc (suc (suc j))) (λ j. refl) (offset + 4 + 4 + 4) n (λ q. there (suc (suc (suc q)))) k (at + 12) (omega (arith, starts)))
+
+  no_cell : (g : Held) (at k : ℕ) → m.parts t 0 ≡ None → are_parts m t b 0 (shapes_by at g k) ≡ false
+  no_cell (held.Byte u) at k none = ap (λ o. is_part o b (shape_of at 1 u) && are_parts m t b 1 (padding_parts (at + 1) k)) none
+  no_cell (held.Word u) at k none = ap (λ o. is_part o b (shape_of at 4 u) && are_parts m t b 1 (padding_parts (at + 4) k)) none
+  no_cell (held.Fat u x y) at k none =
+      ap (λ o. is_part o b (shape_of at 4 u) && are_parts m t b 1 (shape_of (at + 4) 4 (bound_value x) ∷ shape_of (at + 4 + 4) 4 (bound_value y) ∷ padding_parts (at + 12) k)) none
+
+  one_cell : (o : Option Slot) (c : CellLayout) → ((j : ℕ) → m.parts t j ≡ part_in o j) → are_parts m t b 0 (cell_parts c) ≡ is_cell o b c
+  one_cell None c there = ap (are_parts m t b 0) (cell_shapes c) ∙ no_cell (first_held c.cell) c.offset c.padding (there 0)
+  one_cell (Some s) c there = ap (are_parts m t b 0) (cell_shapes c) ∙ cell_is s.held (first_held c.cell) s.offset s.padding c.offset c.padding there
 
 -- ---- the cells of an object
 
@@ -95,8 +172,19 @@ cells_are : (m : Memory) (r : Region) (i b : ℕ) (slots : ℕ → Option Slot) 
     → operations.are_laid m (spot_of r i k) b (map cell_parts cs) ≡ are_cells slots k b cs
 cells_are m r i b slots [] k there = refl
 cells_are m r i b slots (c ∷ cs) k there =
-    ap (λ t. t && operations.are_laid m (spot_of r i (k + 1)) b (map cell_parts cs)) (one_cell m r i k b (slots k) c (there k))
+    ap (λ t. t && operations.are_laid m (spot_of r i (k + 1)) b (map cell_parts cs)) (one_cell m (spot_of r i k) b (slots k) c (there k))
     ∙ ap (λ t. is_cell (slots k) b c && t) (cells_are m r i b slots cs (k + 1) there)
+
+-- and those of so many elements
+elements_are : (m : Memory) (r : Region) (i : ℕ) (slots : ℕ → Option Slot) (l : Layout) (n k b : ℕ) → ((x j : ℕ) → m.parts (spot_of r i x) j ≡ part_in (slots x) j)
+    → operations.are_elements m (spot_of r i k) b (layout_tree l) n ≡ are_elements slots k b l.cells.items l.bytes n
+elements_are m r i slots l zero k b there = refl
+elements_are m r i slots l (suc n) k b there =
+    ap (λ t. t && operations.are_elements m (spot_of r i (k + length (map cell_parts l.cells.items))) (b + l.bytes) (layout_tree l) n)
+    (cells_are m r i b slots l.cells.items k there)
+    ∙ ap (λ x. are_cells slots k b l.cells.items && operations.are_elements m (spot_of r i (k + x)) (b + l.bytes) (layout_tree l) n)
+    (length-map l.cells.items cell_parts)
+    ∙ ap (λ t. are_cells slots k b l.cells.items && t) (elements_are m r i slots l n (k + length l.cells.items) (b + l.bytes) there)
 
 module _ (known : Known) (ws : List Wait) (marks : List Mark) (c : Config) (h : Agrees known ws marks c) where
   block_at : (n p : ℕ) (o : Option Activation) → position_of known.blocks n ≡ Some p → slice_get known.blocks p ≡ o → is_live (c.memory.standing (Frame n)) ≡ true
@@ -153,4 +241,18 @@ module _ (known : Known) (ws : List Wait) (marks : List Mark) (c : Config) (h : 
           → b && operations.are_laid c.memory (place_spot p) p.byte (map cell_parts cs) ≡ b && are_cells (slots_of (stored_in known) p) p.cell p.byte cs
       by true held =
           cells_are c.memory (region_of p.area) p.object p.byte (slots_of (stored_in known) p) cs p.cell (λ x j. held_part p.area p.object x j held)
+      by false gone = refl
+
+  pub elements_is : (p : Place) (l : Layout) (count : ℕ)
+      → (is_live (c.memory.standing (region_of p.area)) && operations.are_elements c.memory (place_spot p) p.byte (layout_tree l) count)
+      ≡ has_elements (stored_in known) p l count
+  elements_is p l count =
+      ap (λ b. b && operations.are_elements c.memory (place_spot p) p.byte (layout_tree l) count) (live_is p.area) ∙ by (is_held (stored_in known) p.area) refl
+    where
+      by : (b : Bool) → is_held (stored_in known) p.area ≡ b
+          → b && operations.are_elements c.memory (place_spot p) p.byte (layout_tree l) count
+          ≡ b && are_elements (slots_of (stored_in known) p) p.cell p.byte l.cells.items l.bytes count
+      by true held =
+          elements_are c.memory (region_of p.area) p.object (slots_of (stored_in known) p) l count p.cell p.byte
+          (λ x j. held_part p.area p.object x j held)
       by false gone = refl

@@ -1,20 +1,42 @@
 -- What goes on at the end of a statement.
 use Rattle.std.specs.Prelude.{if◌then◌else◌, nat_eq, option_map, drop}
 use Rattle.std.proofs.lemmas.Bool.Decides.{nat_tests}
-use Rattle.std.proofs.Common.{◌≡◌, ℕ, suc, Bool, true, false, Some, None, List, [], ◌∷◌, refl, ap, ◌∙◌, sym, arith}
+use Rattle.std.proofs.Common.{◌≡◌, ℕ, suc, ◌+◌, ◌≤◌, Bool, true, false, Option, Some, None, List, [], ◌∷◌, refl, ap, ◌∙◌, sym, arith}
+use Rattle.step_trees.specs.Trees.{Says}
 use Rattle.core_meaning.specs.Memory as memory
-use Rattle.core_meaning.specs.Memory.{Own, Born, Dead, Content, is_live, with_standing}
+use Rattle.core_meaning.specs.Memory.{Own, Born, Dead, Content, Memory, is_live, with_standing}
 use Rattle.core_meaning.specs.Core.{Statements}
 use Rattle.core_meaning.specs.Steps as steps
-use Rattle.core_meaning.specs.Steps.{Config, with_temp, with_memory, Exit, Returned, stuck}
-use Rattle.core_eval.specs.declared.value.Place.{Place}
+use Rattle.core_meaning.specs.Steps.{Config, set_temp, with_temp, with_memory, Exit, Step, stuck}
+use Rattle.core_meaning.specs.Meaning.{with_results, status_of}
 use Rattle.core_eval.specs.declared.value.Value.{Value}
 use Rattle.core_eval.specs.declared.value.Value.TheVariants as value
-use Rattle.core_eval.specs.Values.{content_of, temp_of, truth_of}
+use Rattle.core_eval.specs.declared.pending.Returned.{Returned}
+use Rattle.core_eval.specs.declared.pending.Returned.TheVariants as returned
+use Rattle.core_eval.specs.Values.{content_of, bound_value, temp_of, truth_of}
 use Rattle.core_eval.specs.Blocks.{Activation, position_of}
-use Rattle.core_eval.specs.Pendings.{Follow, Leave, Wait, Then, Test, Body, Caller, Saved, Next, Go, TurnDue, Over, Wrong, Mark, rest_of}
-use Rattle.core_eval.specs.Standing.{Known, Agrees, Stands, AreNested, AreOwned, Gives}
-use Rattle.core_eval.specs.Costs.{IsMove}
+use Rattle.core_eval.specs.Pendings.{
+  Follow,
+  Leave,
+  Wait,
+  Then,
+  Test,
+  Body,
+  Caller,
+  Saved,
+  Next,
+  Go,
+  TurnDue,
+  Over,
+  Wrong,
+  Mark,
+  optional_value,
+  word_returned,
+  rest_of,
+  coming,
+}
+use Rattle.core_eval.specs.Standing.{Known, Agrees, Stands, AreNested, AreOwned, are_as_many, set_temps, Takes}
+use Rattle.core_eval.specs.Costs.{next_cost, IsMove}
 use Rattle.core_eval.proofs.Memories.{other_number, shows_standing}
 use Rattle.core_eval.proofs.Nested.{nested_still}
 use Rattle.core_eval.proofs.Owned.{owned_still}
@@ -40,6 +62,28 @@ behind : (w : Wait) (known : Known) (ws : List Wait) (marks : List Mark) (c : Co
     → Agrees known ws marks c
 behind w known ws marks c h drops keeps =
     record { temps = h.temps; fresh = h.fresh; globals = h.globals; nested = drops h.nested; entered = h.entered; live = h.live; owned = keeps h.owned; called = h.called; values_live = h.values_live; born = h.born }
+
+-- ---- results
+
+results_are : (ts : List ℕ) (vs : List Content) (c : Config) (next : Config → Step) → are_as_many ts vs ≡ true
+    → with_results ts vs c next ≡ next (record c { temps = set_temps ts vs c.temps })
+results_are [] [] c next e = refl
+results_are [] (v ∷ vs) c next e = cc
+results_are (t ∷ ts) [] c next e = cc
+results_are (t ∷ ts) (v ∷ vs) c next e = results_are ts vs (with_temp t v c) next e
+
+results_unfit : (ts : List ℕ) (vs : List Content) (c : Config) (next : Config → Step) → are_as_many ts vs ≡ false → with_results ts vs c next ≡ stuck
+results_unfit [] [] c next e = cc
+results_unfit [] (v ∷ vs) c next e = refl
+results_unfit (t ∷ ts) [] c next e = refl
+results_unfit (t ∷ ts) (v ∷ vs) c next e = results_unfit ts vs (with_temp t v c) next e
+
+set_same : (ts : List ℕ) (vs : List Content) (temps temps' : ℕ → Content) → ((k : ℕ) → temps k ≡ temps' k) → (k : ℕ)
+    → set_temps ts vs temps k ≡ set_temps ts vs temps' k
+set_same [] vs temps temps' h k = h k
+set_same (t ∷ ts) [] temps temps' h k = h k
+set_same (t ∷ ts) (v ∷ vs) temps temps' h k =
+    set_same ts vs (set_temp t v temps) (set_temp t v temps') (λ l. ap (λ x. if nat_eq l t then v else x) (h l)) k
 
 module _ (known : Known) (ws : List Wait) where
   -- ---- statements after one another
@@ -199,37 +243,22 @@ module _ (known : Known) (ws : List Wait) where
         wrong_exit steps.Continues h main mark marks c = refl
         wrong_exit (steps.Returns vs) h main mark marks c = absurd h
 
-  -- with no result, and none to take
-  pub none_returned : (f : ℕ) (saved : Saved) → IsMove (Leave (steps.Returns [])) (Caller [] f saved ∷ ws) known (Go (Leave steps.Falls)) ws (back [] f saved)
-  none_returned f saved = record {
-    still = all_stand (Go (Leave (steps.Returns []))) (Caller [] f saved ∷ ws) known (Go (Leave steps.Falls)) ws (back [] f saved)
-        (marked [] f saved (Go (Leave steps.Falls)) (back [] f saved) (steps.Returns []) (λ main mark marks c h. record {
-          said = Returned f ∷ [];
-          silent = (tt, tt);
-          marks = marks;
-          config = resumed [] f saved mark c;
-          agrees = resumed_agrees [] f saved mark marks c h;
-          same = refl;
-        }));
-    fewer = omega arith;
-  }
-
-  -- with a result, and a temporary that gets it
-  pub one_returned : (f t : ℕ) (v : Content) (saved : Saved) (temps : List Value) → Gives t v saved.temps temps
-      → IsMove (Leave (steps.Returns (v ∷ []))) (Caller (t ∷ []) f saved ∷ ws) known (Go (Leave steps.Falls)) ws
+  -- with a result that its temporaries take
+  pub result_taken : (ts : List ℕ) (f : ℕ) (vs : List Content) (saved : Saved) (temps : List Value) → are_as_many ts vs ≡ true → Takes ts vs saved.temps temps
+      → IsMove (Leave (steps.Returns vs)) (Caller ts f saved ∷ ws) known (Go (Leave steps.Falls)) ws
       (record known { temps = temps; base = saved.base; owns = drop 1 known.owns })
-  one_returned f t v saved temps gives = record {
-    still = all_stand (Go (Leave (steps.Returns (v ∷ [])))) (Caller (t ∷ []) f saved ∷ ws) known (Go (Leave steps.Falls)) ws
+  result_taken ts f vs saved temps fits takes = record {
+    still = all_stand (Go (Leave (steps.Returns vs))) (Caller ts f saved ∷ ws) known (Go (Leave steps.Falls)) ws
         (record known { temps = temps; base = saved.base; owns = drop 1 known.owns })
-        (marked (t ∷ []) f saved (Go (Leave steps.Falls)) _ (steps.Returns (v ∷ [])) (λ main mark marks c h.
-        let was = resumed_agrees (t ∷ []) f saved mark marks c h in
+        (marked ts f saved (Go (Leave steps.Falls)) _ (steps.Returns vs) (λ main mark marks c h.
+        let was = resumed_agrees ts f saved mark marks c h in
         record {
-          said = Returned f ∷ [];
+          said = steps.Returned f ∷ [];
           silent = (tt, tt);
           marks = marks;
-          config = with_temp t v (resumed (t ∷ []) f saved mark c);
+          config = record (resumed ts f saved mark c) { temps = set_temps ts vs mark.outside.temps };
           agrees = record {
-            temps = λ k. ap (λ x. if nat_eq k t then v else x) (was.temps k) ∙ sym (gives k);
+            temps = λ k. set_same ts vs mark.outside.temps (temp_of saved.temps) was.temps k ∙ sym (takes k);
             fresh = was.fresh;
             globals = was.globals;
             nested = was.nested;
@@ -240,120 +269,70 @@ module _ (known : Known) (ws : List Wait) where
             values_live = was.values_live;
             born = was.born;
           };
-          same = refl;
+          same = ap (λ s. Says (steps.Returned f) s) (results_are ts vs (resumed ts f saved mark c) (rest_of main ws marks steps.Falls) fits);
         }));
     fewer = omega arith;
   }
 
-  -- with a result that nothing takes, or none
-  pub result_untaken : (f : ℕ) (v : Content) (saved : Saved) → IsMove (Leave (steps.Returns (v ∷ []))) (Caller [] f saved ∷ ws) known Wrong ws (back [] f saved)
-  result_untaken f v saved = record {
-    still = all_stand (Go (Leave (steps.Returns (v ∷ [])))) (Caller [] f saved ∷ ws) known Wrong ws (back [] f saved)
-        (marked [] f saved Wrong (back [] f saved) (steps.Returns (v ∷ [])) (λ main mark marks c h. record {
-          said = Returned f ∷ [];
+  -- with a result of another number of words
+  pub result_unfit : (ts : List ℕ) (f : ℕ) (vs : List Content) (saved : Saved) → are_as_many ts vs ≡ false
+      → IsMove (Leave (steps.Returns vs)) (Caller ts f saved ∷ ws) known Wrong ws (back ts f saved)
+  result_unfit ts f vs saved unfit = record {
+    still = all_stand (Go (Leave (steps.Returns vs))) (Caller ts f saved ∷ ws) known Wrong ws (back ts f saved)
+        (marked ts f saved Wrong (back ts f saved) (steps.Returns vs) (λ main mark marks c h. record {
+          said = steps.Returned f ∷ [];
           silent = (tt, tt);
           marks = marks;
-          config = resumed [] f saved mark c;
-          agrees = resumed_agrees [] f saved mark marks c h;
-          same = refl;
-        }));
-    fewer = omega arith;
-  }
-
-  pub result_missing : (f t : ℕ) (saved : Saved) → IsMove (Leave (steps.Returns [])) (Caller (t ∷ []) f saved ∷ ws) known Wrong ws (back (t ∷ []) f saved)
-  result_missing f t saved = record {
-    still = all_stand (Go (Leave (steps.Returns []))) (Caller (t ∷ []) f saved ∷ ws) known Wrong ws (back (t ∷ []) f saved)
-        (marked (t ∷ []) f saved Wrong (back (t ∷ []) f saved) (steps.Returns []) (λ main mark marks c h. record {
-          said = Returned f ∷ [];
-          silent = (tt, tt);
-          marks = marks;
-          config = resumed (t ∷ []) f saved mark c;
-          agrees = resumed_agrees (t ∷ []) f saved mark marks c h;
-          same = refl;
+          config = resumed ts f saved mark c;
+          agrees = resumed_agrees ts f saved mark marks c h;
+          same = ap (λ s. Says (steps.Returned f) s) (results_unfit ts vs (resumed ts f saved mark c) (rest_of main ws marks steps.Falls) unfit);
         }));
     fewer = omega arith;
   }
 
 -- ---- `main` is left
 
+-- what comes of the word that it returned
+abbrev pub ends_as : Option ℕ → Next
+ends_as None = Wrong
+ends_as (Some n) = Over n
+
+no_status : (u v : Content) (vs : List Content) (m : Memory) → status_of (u ∷ v ∷ vs) m ≡ stuck
+no_status memory.Blank v vs m = refl
+no_status (memory.Word n) v vs m = refl
+no_status memory.Null v vs m = refl
+no_status (memory.Pointer s b) v vs m = refl
+no_status (memory.Birth d) v vs m = refl
+
+status_is : (r : Option Returned) (m : Memory) (next : Exit → Config → Step) (c : Config)
+    → status_of (optional_value r) m ≡ coming (ends_as (word_returned r)) next c
+status_is None m next c = refl
+status_is (Some (returned.One value.Blank)) m next c = refl
+status_is (Some (returned.One (value.Word n))) m next c = refl
+status_is (Some (returned.One value.Null)) m next c = refl
+status_is (Some (returned.One (value.Pointer p))) m next c = refl
+status_is (Some (returned.One (value.Birth d))) m next c = refl
+status_is (Some (returned.Three u v w)) m next c = no_status (content_of u) (content_of (bound_value v)) (content_of (bound_value w) ∷ []) m
+
 module _ (known : Known) where
-  pub main_ends : (n : ℕ) → IsMove (Leave (steps.Returns (memory.Word n ∷ []))) [] known (Over n) [] known
-  main_ends n = record {
-    still = all_stand (Go (Leave (steps.Returns (memory.Word n ∷ [])))) [] known (Over n) [] known (λ main marks c h. record {
-      said = Returned main ∷ [];
+  pub main_ends : (r : Option Returned) (o : Option ℕ) → word_returned r ≡ o
+      → IsMove (Leave (steps.Returns (optional_value r))) [] known (ends_as o) [] known
+  main_ends r o is = record {
+    still = all_stand (Go (Leave (steps.Returns (optional_value r)))) [] known (ends_as o) [] known (λ main marks c h. record {
+      said = steps.Returned main ∷ [];
       silent = (tt, tt);
       marks = marks;
       config = c;
       agrees = h;
-      same = refl;
+      same = ap (λ s. Says (steps.Returned main) s) (status_is r (with_standing c.memory (Own 0) Dead) (rest_of main [] marks) c
+          ∙ ap (λ o. coming (ends_as o) (rest_of main [] marks) c) is);
     });
-    fewer = omega arith;
+    fewer = none_left o;
   }
-
-  pub main_none : IsMove (Leave (steps.Returns [])) [] known Wrong [] known
-  main_none = record {
-    still = all_stand (Go (Leave (steps.Returns []))) [] known Wrong [] known (λ main marks c h. record {
-      said = Returned main ∷ [];
-      silent = (tt, tt);
-      marks = marks;
-      config = c;
-      agrees = h;
-      same = refl;
-    });
-    fewer = omega arith;
-  }
-
-  pub main_blank : IsMove (Leave (steps.Returns (content_of value.Blank ∷ []))) [] known Wrong [] known
-  main_blank = record {
-    still = all_stand (Go (Leave (steps.Returns (content_of value.Blank ∷ [])))) [] known Wrong [] known (λ main marks c h. record {
-      said = Returned main ∷ [];
-      silent = (tt, tt);
-      marks = marks;
-      config = c;
-      agrees = h;
-      same = refl;
-    });
-    fewer = omega arith;
-  }
-
-  pub main_null : IsMove (Leave (steps.Returns (content_of value.Null ∷ []))) [] known Wrong [] known
-  main_null = record {
-    still = all_stand (Go (Leave (steps.Returns (content_of value.Null ∷ [])))) [] known Wrong [] known (λ main marks c h. record {
-      said = Returned main ∷ [];
-      silent = (tt, tt);
-      marks = marks;
-      config = c;
-      agrees = h;
-      same = refl;
-    });
-    fewer = omega arith;
-  }
-
-  pub main_place : (p : Place) → IsMove (Leave (steps.Returns (content_of (value.Pointer p) ∷ []))) [] known Wrong [] known
-  main_place p = record {
-    still = all_stand (Go (Leave (steps.Returns (content_of (value.Pointer p) ∷ [])))) [] known Wrong [] known (λ main marks c h. record {
-      said = Returned main ∷ [];
-      silent = (tt, tt);
-      marks = marks;
-      config = c;
-      agrees = h;
-      same = refl;
-    });
-    fewer = omega arith;
-  }
-
-  pub main_birth : (d : ℕ) → IsMove (Leave (steps.Returns (content_of (value.Birth d) ∷ []))) [] known Wrong [] known
-  main_birth d = record {
-    still = all_stand (Go (Leave (steps.Returns (content_of (value.Birth d) ∷ [])))) [] known Wrong [] known (λ main marks c h. record {
-      said = Returned main ∷ [];
-      silent = (tt, tt);
-      marks = marks;
-      config = c;
-      agrees = h;
-      same = refl;
-    });
-    fewer = omega arith;
-  }
+    where
+      none_left : (o : Option ℕ) → next_cost (ends_as o) + 0 ≤ 0
+      none_left None = omega arith
+      none_left (Some n) = omega arith
 
   pub main_wrong : (exit : Exit) → IsNoReturn exit → IsMove (Leave exit) [] known Wrong [] known
   main_wrong steps.Falls h = same_state (Leave steps.Falls) [] Wrong [] known (λ main marks c h. (h, refl)) (omega arith)

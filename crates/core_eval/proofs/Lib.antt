@@ -1,5 +1,6 @@
 mod Lists
 mod Regions
+mod Parts
 mod Elements
 mod Positions
 mod Memories
@@ -14,6 +15,7 @@ mod MemoryMoves
 mod StoreMoves
 mod RegionMoves
 mod Laid
+mod Leading
 mod AllocateMoves
 mod Filled
 mod WholeParts
@@ -24,6 +26,7 @@ mod BlockMoves
 mod LeaveMoves
 mod Entered
 mod Taken
+mod Globals
 mod Calls
 mod CalledAs
 mod Quiet

@@ -9,6 +9,7 @@ use Rattle.core_meaning.specs.Meaning.{values_of}
 use Rattle.cyc_core.specs.declared.operation.Width.{Width}
 use Rattle.core_eval.specs.declared.value.Value.{Value}
 use Rattle.core_eval.specs.declared.value.Value.TheVariants as value
+use Rattle.core_eval.specs.declared.held.Held.{Held}
 use Rattle.core_eval.specs.declared.blocks.Block.{Block}
 use Rattle.core_eval.specs.declared.value.Object.{Object}
 use Rattle.core_eval.specs.Values.{content_of, temp_of, cells_of, put_cell, put_object, put_in}
@@ -96,21 +97,21 @@ set_block (c ∷ bs) zero b = refl
 set_block (c ∷ bs) (suc k) b = ap (λ l. activation_of c ∷ l) (set_block bs k b)
 
 -- a store to a cell of an object of one of the blocks
-module _ (bs : List Block) (n i k byte : ℕ) (w : Width) (v : Value) where
+module _ (bs : List Block) (n i k byte j : ℕ) (w : Width) (v : Value) where
   pub put_some : (b new : Block) (is_there : Bool) → n < length bs → b ≡ slice_index_or bs n b → new.number ≡ b.number
-      → put_in (map cells_of b.objects.items) i k byte w v ≡ (if is_there then Some (map cells_of new.objects.items) else None)
-      → put_through (map activation_of bs) (Some n) i k byte w v ≡ (if is_there then Some (map activation_of (slice_set bs n new)) else None)
+      → put_in (map cells_of b.objects.items) i k byte j w v ≡ (if is_there then Some (map cells_of new.objects.items) else None)
+      → put_through (map activation_of bs) (Some n) i k byte j w v ≡ (if is_there then Some (map activation_of (slice_set bs n new)) else None)
   put_some b new true h e same put =
-      ap (put_among (map activation_of bs) n i k byte w v) (get_block bs n b h e)
+      ap (put_among (map activation_of bs) n i k byte j w v) (get_block bs n b h e)
       ∙ ap (option_map (put_block (map activation_of bs) n (activation_of b))) put
       ∙ ap (λ x. Some (slice_set (map activation_of bs) n (record { number = x; objects = map cells_of new.objects.items }))) (sym same)
       ∙ ap Some (sym (set_block bs n new))
   put_some b new false h e same put =
-      ap (put_among (map activation_of bs) n i k byte w v) (get_block bs n b h e)
+      ap (put_among (map activation_of bs) n i k byte j w v) (get_block bs n b h e)
       ∙ ap (option_map (put_block (map activation_of bs) n (activation_of b))) put
 
-  pub put_none : length bs ≤ n → put_through (map activation_of bs) (Some n) i k byte w v ≡ None
-  put_none h = ap (put_among (map activation_of bs) n i k byte w v) (no_block bs n h)
+  pub put_none : length bs ≤ n → put_through (map activation_of bs) (Some n) i k byte j w v ≡ None
+  put_none h = ap (put_among (map activation_of bs) n i k byte j w v) (no_block bs n h)
 
 -- no store
 pub kept_block : (bs : List Block) (n : ℕ) (b new : Block) → n < length bs → b ≡ slice_index_or bs n b → new.number ≡ b.number
@@ -133,22 +134,22 @@ set_object [] i o = refl
 set_object (p ∷ os) zero o = refl
 set_object (p ∷ os) (suc i) o = ap (λ l. cells_of p ∷ l) (set_object os i o)
 
-module _ (os : List Object) (i k byte : ℕ) (w : Width) (v : Value) where
+module _ (os : List Object) (i k byte j : ℕ) (w : Width) (v : Value) where
   pub put_object_some : (o new : Object) (is_there : Bool) → i < length os → o ≡ slice_index_or os i o
-      → put_cell (cells_of o) k byte w v ≡ (if is_there then Some (cells_of new) else None)
-      → put_in (map cells_of os) i k byte w v ≡ (if is_there then Some (map cells_of (slice_set os i new)) else None)
+      → put_cell (cells_of o) k byte j w v ≡ (if is_there then Some (cells_of new) else None)
+      → put_in (map cells_of os) i k byte j w v ≡ (if is_there then Some (map cells_of (slice_set os i new)) else None)
   put_object_some o new true h e put =
-      ap (put_object (map cells_of os) i k byte w v) (get_object os i o h e) ∙ ap (option_map (slice_set (map cells_of os) i)) put
+      ap (put_object (map cells_of os) i k byte j w v) (get_object os i o h e) ∙ ap (option_map (slice_set (map cells_of os) i)) put
       ∙ ap Some (sym (set_object os i new))
   put_object_some o new false h e put =
-      ap (put_object (map cells_of os) i k byte w v) (get_object os i o h e) ∙ ap (option_map (slice_set (map cells_of os) i)) put
+      ap (put_object (map cells_of os) i k byte j w v) (get_object os i o h e) ∙ ap (option_map (slice_set (map cells_of os) i)) put
 
-  pub put_object_none : length os ≤ i → put_in (map cells_of os) i k byte w v ≡ None
-  put_object_none h = ap (put_object (map cells_of os) i k byte w v) (get_past (map cells_of os) i (let e = length-map os cells_of in omega (arith, h, e)))
+  pub put_object_none : length os ≤ i → put_in (map cells_of os) i k byte j w v ≡ None
+  put_object_none h = ap (put_object (map cells_of os) i k byte j w v) (get_past (map cells_of os) i (let e = length-map os cells_of in omega (arith, h, e)))
 
 -- ---- cells that get other values
 
-module _ (os : List Object) (i k : ℕ) (vs : List Value) where
+module _ (os : List Object) (i k : ℕ) (vs : List Held) where
   pub fill_object_some : (o new : Object) → i < length os → o ≡ slice_index_or os i o → cells_of new ≡ fill_cells (cells_of o) k vs
       → map cells_of (slice_set os i new) ≡ fill_in (map cells_of os) i k vs
   fill_object_some o new h e filled =
@@ -158,7 +159,7 @@ module _ (os : List Object) (i k : ℕ) (vs : List Value) where
   fill_object_none h =
       sym (ap (fill_object (map cells_of os) i k vs) (get_past (map cells_of os) i (let e = length-map os cells_of in omega (arith, h, e))))
 
-module _ (bs : List Block) (n i k : ℕ) (vs : List Value) where
+module _ (bs : List Block) (n i k : ℕ) (vs : List Held) where
   pub fill_some : (b new : Block) → n < length bs → b ≡ slice_index_or bs n b → new.number ≡ b.number
       → map cells_of new.objects.items ≡ fill_in (map cells_of b.objects.items) i k vs
       → map activation_of (slice_set bs n new) ≡ fill_through (map activation_of bs) (Some n) i k vs

@@ -1,5 +1,5 @@
 -- What Core's memory shows after each change of it.
-use Rattle.std.specs.Prelude.{if◌then◌else◌, slice_get, slice_set, nat_eq, nat_lt, ◌&&◌, option_map, map}
+use Rattle.std.specs.Prelude.{if◌then◌else◌, slice_get, slice_set, nat_eq, nat_lt, ◌&&◌, ◌||◌, option_map}
 use Rattle.std.proofs.Common.{
   ◌≡◌,
   ◌≢◌,
@@ -8,10 +8,6 @@ use Rattle.std.proofs.Common.{
   suc,
   ◌+◌,
   ◌*◌,
-  ◌/◌,
-  ◌%◌,
-  ◌<◌,
-  ◌≤◌,
   Bool,
   true,
   false,
@@ -29,8 +25,8 @@ use Rattle.std.proofs.Common.{
   sym,
   arith,
 }
+use Rattle.std.proofs.Math.Bool.{and-false}
 use Rattle.std.proofs.Math.Dec.{eqb-suc-zero}
-use Rattle.std.proofs.Math.Nat.{div-eq_of_lt, mod-eq_of_lt}
 use Rattle.std.proofs.lemmas.Bool.Decides.{nat_tests}
 use Rattle.core_meaning.specs.Memory as memory
 use Rattle.core_meaning.specs.Memory.{
@@ -38,8 +34,6 @@ use Rattle.core_meaning.specs.Memory.{
   Standing,
   Spot,
   Part,
-  PartShape,
-  Layout,
   Memory,
   is_live,
   same_region,
@@ -47,8 +41,6 @@ use Rattle.core_meaning.specs.Memory.{
   with_standing,
   with_part,
   with_object,
-  shape_in,
-  blank_of,
   blanks,
 }
 use Rattle.core_meaning.specs.Core.{Local}
@@ -57,48 +49,52 @@ use Rattle.core_meaning.specs.Operations.{reached}
 use Rattle.core_meaning.specs.Meaning.{with_objects}
 use Rattle.cyc_core.specs.declared.operation.Width.{Width}
 use Rattle.cyc_core.specs.declared.operation.Width.TheVariants as width
-use Rattle.cyc_core.specs.declared.operation.Cell.{Cell}
-use Rattle.cyc_core.specs.declared.operation.Cell.TheVariants as cell
-use Rattle.cyc_core.specs.declared.layout.CellLayout.{CellLayout}
-use Rattle.cyc_core.specs.declared.layout.Local as code
-use Rattle.cyc_core.specs.declared.layout.Local.TheVariants as local
-use Rattle.cyc_core.specs.Trees.{bytes_of, cell_first, cell_parts, padding_parts, local_layout}
+use Rattle.cyc_core.specs.Trees.{bytes_of}
 use Rattle.core_eval.specs.declared.value.Value.{Value}
 use Rattle.core_eval.specs.declared.value.Slot.{Slot}
+use Rattle.core_eval.specs.declared.held.Held.{Held}
+use Rattle.core_eval.specs.declared.held.Held.TheVariants as held
 use Rattle.core_eval.specs.Values.{
   spot_of,
   content_of,
+  width_of,
+  bound_value,
+  keeps,
+  first_of,
+  values_in,
+  put_part,
   same_width,
-  part_of,
   part_in,
   cell_in,
   slot_at,
   Shows,
   fitted,
   is_fit,
-  with_value,
+  is_kept,
+  with_held,
   put_slot,
   put_object,
   put_in,
-  blank_slot,
-  blank_object,
-  local_cells,
 }
-use Rattle.core_eval.specs.Regions.{slot_from}
-use Rattle.core_eval.specs.Standing.{first_value}
 use Rattle.core_eval.proofs.Lists.{get_set, get_grown}
+use Rattle.core_eval.proofs.Parts.{nothing_at, valued_part, part_set, part_missing}
 use Rattle.core_meaning.proofs.Spots.{region_self}
 
 -- ---- reading
 
--- the part that a cell is made for
-abbrev pub first_part : Slot → Part
-first_part s = record { offset = s.offset; width = bytes_of s.width; content = content_of s.value }
+-- what comes of a part of a cell, if there is one
+abbrev pub found_step : Slot → ℕ → (Part → Step) → Option Value → Step
+found_step s j next None = stuck
+found_step s j next (Some v) = next (valued_part s j v)
 
--- what comes of a cell, where there is one, and it lies there and is so wide
-abbrev pub found : ℕ → Width → (Part → Step) → Option Slot → Step
-found byte w next None = stuck
-found byte w next (Some s) = (if is_fit byte w s then next (first_part s) else stuck)
+-- what comes of it where it has to lie there, and to be so wide
+abbrev pub found : (byte j : ℕ) → Width → (Part → Step) → Option Slot → Step
+found byte j w next None = stuck
+found byte j w next (Some s) = (if is_fit byte j w s then found_step s j next (slice_get (values_in s.held) j) else stuck)
+
+-- what a part has to be
+abbrev reads : ℕ → ℕ → (Part → Step) → Part → Step
+reads byte width next p = checked (nat_eq p.offset byte && nat_eq p.width width) (next p)
 
 found_width : (b : Bool) (a w : Width) (next : Step) → checked (b && nat_eq (bytes_of a) (bytes_of w)) next ≡ (if b && same_width a w then next else stuck)
 found_width true width.Byte width.Byte next = refl
@@ -107,73 +103,122 @@ found_width true width.Word width.Byte next = refl
 found_width true width.Word width.Word next = refl
 found_width false a w next = refl
 
-found_part : (o : Option Slot) (byte : ℕ) (w : Width) (next : Part → Step)
-    → needed (part_in o 0) (λ p. checked (nat_eq p.offset byte && nat_eq p.width (bytes_of w)) (next p)) ≡ found byte w next o
-found_part None byte w next = refl
-found_part (Some s) byte w next = found_width (nat_eq s.offset byte) s.width w (next (first_part s))
+-- one that has a value
+found_there : (s : Slot) (byte j at : ℕ) (w : Width) (v : Value) (next : Part → Step) → at ≡ s.offset + j * bytes_of (width_of s.held)
+    → reads byte (bytes_of w) next (record { offset = at; width = bytes_of (width_of s.held); content = content_of v })
+    ≡ (if is_fit byte j w s then next (valued_part s j v) else stuck)
+found_there s byte j at w v next is =
+    ap (λ (o : ℕ). reads byte (bytes_of w) next (record { offset = o; width = bytes_of (width_of s.held); content = content_of v })) is
+    ∙ found_width (nat_eq (s.offset + j * bytes_of (width_of s.held)) byte) (width_of s.held) w (next (valued_part s j v))
+
+no_fit : (b : Bool) → stuck ≡ (if b then stuck else stuck)
+no_fit true = refl
+no_fit false = refl
+
+-- none that is a byte which holds nothing is as wide as a word
+found_nothing : (byte at : ℕ) (there fit : Bool) (next : Part → Step)
+    → needed (nothing_at there at) (reads byte 4 next) ≡ (if fit then stuck else stuck)
+found_nothing byte at true fit next =
+    ap (λ b. checked b (next (record { offset = at; width = 1; content = memory.Blank }))) (and-false (nat_eq at byte)) ∙ no_fit fit
+found_nothing byte at false fit next = no_fit fit
+
+found_part : (o : Option Slot) (byte j : ℕ) (w : Width) (next : Part → Step) → is_kept j w ≡ true
+    → needed (part_in o j) (reads byte (bytes_of w) next) ≡ found byte j w next o
+found_part None byte j w next kept = refl
+found_part (Some s) byte zero w next kept = found_there s byte 0 s.offset w (first_of s.held) next (omega arith)
+found_part (Some s) byte (suc j) width.Byte next kept =
+    absurd (let none : is_kept (suc j) width.Byte ≡ false = ap (λ b. b || false) (eqb-suc-zero j) in let no : false ≡ true = sym none ∙ kept in cc)
+found_part (Some s) byte (suc j) width.Word next kept = by s.offset s.padding s.held j
+  where
+    by : (offset padding : ℕ) (h : Held) (j : ℕ) → let s : Slot = record { offset = offset; padding = padding; held = h } in
+        needed (part_in (Some s) (suc j)) (reads byte 4 next) ≡ found byte (suc j) width.Word next (Some s)
+    by offset padding (held.Byte v) j =
+        let s : Slot = record { offset = offset; padding = padding; held = held.Byte v } in
+        found_nothing byte (offset + 1 + j) (nat_lt j padding) (is_fit byte (suc j) width.Word s) next
+    by offset padding (held.Word v) j =
+        let s : Slot = record { offset = offset; padding = padding; held = held.Word v } in
+        found_nothing byte (offset + 4 + j) (nat_lt j padding) (is_fit byte (suc j) width.Word s) next
+    by offset padding (held.Fat u v w) zero =
+        let s : Slot = record { offset = offset; padding = padding; held = held.Fat u v w } in
+        found_there s byte 1 (offset + 4) width.Word (bound_value v) next (omega arith)
+    by offset padding (held.Fat u v w) (suc zero) =
+        let s : Slot = record { offset = offset; padding = padding; held = held.Fat u v w } in
+        found_there s byte 2 (offset + 4 + 4) width.Word (bound_value w) next (omega arith)
+    by offset padding (held.Fat u v w) (suc (suc j)) =
+        let s : Slot = record { offset = offset; padding = padding; held = held.Fat u v w } in
+        found_nothing byte (offset + 4 + 4 + 4 + j) (nat_lt j padding) (is_fit byte (suc (suc (suc j))) width.Word s) next
 
 -- a part that is a cell's
-pub reached_at : (m : Memory) (r : Region) (i k b cells bytes : ℕ) (o : Option Slot) (w : Width) (next : Spot → Part → Step)
-    → part_at m (spot_of r i (k + cells)) 0 ≡ part_in o 0
-    → reached m (record { cells = cells; bytes = bytes; part = 0; width = bytes_of w }) (spot_of r i k) b next
-    ≡ found (b + bytes) w (next (spot_of r i (k + cells))) o
-reached_at m r i k b cells bytes o w next there =
-    ap (λ part. needed part (λ p. checked (nat_eq p.offset (b + bytes) && nat_eq p.width (bytes_of w)) (next (spot_of r i (k + cells)) p))) there
-    ∙ found_part o (b + bytes) w (next (spot_of r i (k + cells)))
+pub reached_at : (m : Memory) (r : Region) (i k b cells bytes j : ℕ) (o : Option Slot) (w : Width) (next : Spot → Part → Step) → is_kept j w ≡ true
+    → part_at m (spot_of r i (k + cells)) j ≡ part_in o j
+    → reached m (record { cells = cells; bytes = bytes; part = j; width = bytes_of w }) (spot_of r i k) b next
+    ≡ found (b + bytes) j w (next (spot_of r i (k + cells))) o
+reached_at m r i k b cells bytes j o w next kept there =
+    ap (λ part. needed part (reads (b + bytes) (bytes_of w) (next (spot_of r i (k + cells))))) there
+    ∙ found_part o (b + bytes) j w (next (spot_of r i (k + cells))) kept
 
 module _ {m : Memory} {r : Region} {objects : List (List Slot)} (shows : Shows m r objects) where
-  pub part_there : (i k j : ℕ) → part_at m (spot_of r i k) j ≡ part_in (slot_at objects i k) j
-  part_there i k j = ap (λ now. if is_live now then m.parts (spot_of r i k) j else None) shows.live ∙ shows.holds i k j
+  pub shown_part : (i k j : ℕ) → part_at m (spot_of r i k) j ≡ part_in (slot_at objects i k) j
+  shown_part i k j = ap (λ now. if is_live now then m.parts (spot_of r i k) j else None) shows.live ∙ shows.holds i k j
 
 -- ---- storing
 
--- a store to a cell of one of these objects leads to those
-pub record IsPut (objects : List (List Slot)) (i k byte : ℕ) (w : Width) (v : Value) (objects' : List (List Slot)) : Type 0 where
+-- a store to a part of a cell of one of these objects leads to those
+pub record IsPut (objects : List (List Slot)) (i k byte j : ℕ) (w : Width) (v : Value) (objects' : List (List Slot)) : Type 0 where
   pub cells : List Slot
   pub old : Slot
+  pub holds : Held
   pub object : slice_get objects i ≡ Some cells
   pub there : slice_get cells k ≡ Some old
-  pub fits : is_fit byte w old ≡ true
-  pub after : objects' ≡ slice_set objects i (slice_set cells k (with_value old (fitted w v)))
+  pub fits : is_fit byte j w old ≡ true
+  pub set : put_part old.held j (fitted w v) ≡ Some holds
+  pub after : objects' ≡ slice_set objects i (slice_set cells k (with_held old holds))
 
-module _ (objects : List (List Slot)) (i k byte : ℕ) (w : Width) (v : Value) where
-  put_where : (objects' : List (List Slot)) (cells : List Slot) (s : Slot) (fits : Bool) → slice_get objects i ≡ Some cells → slice_get cells k ≡ Some s
-      → is_fit byte w s ≡ fits
-      → option_map (slice_set objects i) (if fits then Some (slice_set cells k (with_value s (fitted w v))) else None) ≡ Some objects'
-      → IsPut objects i k byte w v objects'
-  put_where objects' cells s true object at fits e = record { cells = cells; old = s; object = object; there = at; fits = fits; after = cc }
-  put_where objects' cells s false object at fits e = cc
+module _ (objects : List (List Slot)) (i k byte j : ℕ) (w : Width) (v : Value) where
+  -- the cells with what one of them holds then
+  abbrev put_to_cell : List Slot → Slot → Option Held → Option (List Slot)
+  put_to_cell cells s h = option_map (λ h. slice_set cells k (with_held s h)) h
+
+  put_where : (objects' : List (List Slot)) (cells : List Slot) (s : Slot) (fits : Bool) (h : Option Held) → slice_get objects i ≡ Some cells
+      → slice_get cells k ≡ Some s → is_fit byte j w s ≡ fits → put_part s.held j (fitted w v) ≡ h
+      → option_map (slice_set objects i) (if fits then put_to_cell cells s h else None) ≡ Some objects'
+      → IsPut objects i k byte j w v objects'
+  put_where objects' cells s true (Some h) object at fits set e =
+      record { cells = cells; old = s; holds = h; object = object; there = at; fits = fits; set = set; after = cc }
+  put_where objects' cells s true None object at fits set e = cc
+  put_where objects' cells s false h object at fits set e = cc
 
   put_case : (objects' : List (List Slot)) (cells : List Slot) (o : Option Slot) → slice_get objects i ≡ Some cells → slice_get cells k ≡ o
-      → option_map (slice_set objects i) (put_slot cells k byte w v o) ≡ Some objects' → IsPut objects i k byte w v objects'
+      → option_map (slice_set objects i) (put_slot cells k byte j w v o) ≡ Some objects' → IsPut objects i k byte j w v objects'
   put_case objects' cells None object at e = cc
-  put_case objects' cells (Some s) object at e = put_where objects' cells s (is_fit byte w s) object at refl e
+  put_case objects' cells (Some s) object at e = put_where objects' cells s (is_fit byte j w s) (put_part s.held j (fitted w v)) object at refl refl e
 
-  put_found : (objects' : List (List Slot)) (o : Option (List Slot)) → slice_get objects i ≡ o → put_object objects i k byte w v o ≡ Some objects'
-      → IsPut objects i k byte w v objects'
+  put_found : (objects' : List (List Slot)) (o : Option (List Slot)) → slice_get objects i ≡ o → put_object objects i k byte j w v o ≡ Some objects'
+      → IsPut objects i k byte j w v objects'
   put_found objects' None object e = cc
   put_found objects' (Some cells) object e = put_case objects' cells (slice_get cells k) object refl e
 
-  pub put_is : (objects' : List (List Slot)) → put_in objects i k byte w v ≡ Some objects' → IsPut objects i k byte w v objects'
+  pub put_is : (objects' : List (List Slot)) → put_in objects i k byte j w v ≡ Some objects' → IsPut objects i k byte j w v objects'
   put_is objects' e = put_found objects' (slice_get objects i) refl e
 
-  missing_where : (cells : List Slot) (next : Part → Step) (s : Slot) (fits : Bool)
-      → option_map (slice_set objects i) (if fits then Some (slice_set cells k (with_value s (fitted w v))) else None) ≡ None
-      → (if fits then next (first_part s) else stuck) ≡ stuck
-  missing_where cells next s true e = cc
-  missing_where cells next s false e = refl
+  missing_where : (cells : List Slot) (next : Part → Step) (s : Slot) (fits : Bool) (h : Option Held) → put_part s.held j (fitted w v) ≡ h
+      → option_map (slice_set objects i) (if fits then put_to_cell cells s h else None) ≡ None
+      → (if fits then found_step s j next (slice_get (values_in s.held) j) else stuck) ≡ stuck
+  missing_where cells next s true (Some h) set e = cc
+  missing_where cells next s true None set e = ap (found_step s j next) (part_missing (fitted w v) s.held j set)
+  missing_where cells next s false h set e = refl
 
-  missing_case : (cells : List Slot) (next : Part → Step) (o : Option Slot) → option_map (slice_set objects i) (put_slot cells k byte w v o) ≡ None
-      → found byte w next o ≡ stuck
+  missing_case : (cells : List Slot) (next : Part → Step) (o : Option Slot) → option_map (slice_set objects i) (put_slot cells k byte j w v o) ≡ None
+      → found byte j w next o ≡ stuck
   missing_case cells next None e = refl
-  missing_case cells next (Some s) e = missing_where cells next s (is_fit byte w s) e
+  missing_case cells next (Some s) e = missing_where cells next s (is_fit byte j w s) (put_part s.held j (fitted w v)) refl e
 
-  missing_object : (next : Part → Step) (o : Option (List Slot)) → put_object objects i k byte w v o ≡ None → found byte w next (cell_in o k) ≡ stuck
+  missing_object : (next : Part → Step) (o : Option (List Slot)) → put_object objects i k byte j w v o ≡ None → found byte j w next (cell_in o k) ≡ stuck
   missing_object next None e = refl
   missing_object next (Some cells) e = missing_case cells next (slice_get cells k) e
 
   -- no store, and no read
-  pub unput_is : (next : Part → Step) → put_in objects i k byte w v ≡ None → found byte w next (slot_at objects i k) ≡ stuck
+  pub unput_is : (next : Part → Step) → put_in objects i k byte j w v ≡ None → found byte j w next (slot_at objects i k) ≡ stuck
   unput_is next e = missing_object next (slice_get objects i) e
 
 -- ---- regions
@@ -208,104 +253,6 @@ shows_objects q r objects other [] m shows = shows
 shows_objects q r objects other (l ∷ ls) m shows =
     shows_objects q r objects other ls (with_object m r (blanks l.layout l.count)) (shows_object shows r other (blanks l.layout l.count))
 
--- ---- an object that holds nothing as yet
-
-less_suc : (j n : ℕ) → nat_lt j n ≡ nat_lt (suc j) (suc n)
-less_suc j n = grind (arith, nat_tests)
-
-pub padding_part : (at n j : ℕ) → slice_get (padding_parts at n) j ≡ (if nat_lt j n then Some (record { offset = at + j; width = 1; first = memory.Blank }) else None)
-padding_part at zero j = let e : nat_lt j 0 ≡ false = grind (arith, nat_tests) in
-    ap (λ b. if b then Some (record { offset = at + j; width = 1; first = memory.Blank }) else None) (sym e)
-padding_part at (suc n) zero = let e : nat_lt 0 (suc n) ≡ true = grind (arith, nat_tests) in
-    let z : at ≡ at + 0 = omega arith in
-    ap (λ (x : ℕ). Some (record { offset = x; width = 1; first = memory.Blank })) z
-    ∙ ap (λ b. if b then Some (record { offset = at + 0; width = 1; first = memory.Blank }) else None) (sym e)
-padding_part at (suc n) (suc j) =
-    let z : at + 1 + j ≡ at + suc j = omega arith in
-    padding_part (at + 1) n j
-    ∙ ap (λ (x : ℕ). if nat_lt j n then Some (record { offset = x; width = 1; first = memory.Blank }) else None) z
-    ∙ ap (λ b. if b then Some (record { offset = at + suc j; width = 1; first = memory.Blank }) else None) (less_suc j n)
-
-padding_if : (b : Bool) (at before on : ℕ) → before + at ≡ on → blank_of before (if b then Some (record { offset = at; width = 1; first = memory.Blank }) else None)
-    ≡ (if b then Some (record { offset = on; width = 1; content = memory.Blank }) else None)
-padding_if true at before on is = ap (λ (x : ℕ). Some (record { offset = x; width = 1; content = memory.Blank })) is
-padding_if false at before on is = refl
-
-blank_cell : (c : CellLayout) (before j : ℕ) → blank_of before (slice_get (cell_parts c) j) ≡ part_of (slot_from before c) j
-blank_cell c before zero = refl
-blank_cell c before (suc j) =
-    ap (blank_of before) (padding_part (c.offset + bytes_of (blank_slot c).width) c.padding j)
-    ∙ padding_if (nat_lt j c.padding) (c.offset + bytes_of (blank_slot c).width + j) before (before + c.offset + bytes_of (blank_slot c).width + j)
-    (omega arith)
-
--- the cells of an element that lies so many bytes on
-pub blank_cells : (cs : List CellLayout) (before k j : ℕ)
-    → blank_of before (shape_in (slice_get (map cell_parts cs) k) j) ≡ part_in (slice_get (map (slot_from before) cs) k) j
-blank_cells [] before k j = refl
-blank_cells (c ∷ cs) before zero j = blank_cell c before j
-blank_cells (c ∷ cs) before (suc k) j = blank_cells cs before k j
-
--- the first element
-first_cells : (cs : List CellLayout) → map (slot_from 0) cs ≡ map blank_slot cs
-first_cells [] = refl
-first_cells (c ∷ cs) =
-    let z : 0 + c.offset ≡ c.offset = omega arith in
-    ap (λ (x : ℕ). record (blank_slot c) { offset = x } ∷ map (slot_from 0) cs) z ∙ ap (λ l. blank_slot c ∷ l) (first_cells cs)
-
--- a cell that there isn't
-no_cell : (shapes : List (List PartShape)) (k j before : ℕ) → length shapes ≤ k → blank_of before (shape_in (slice_get shapes k) j) ≡ None
-no_cell [] k j before le = refl
-no_cell (s ∷ shapes) zero j before le = absurd (omega (arith, le))
-no_cell (s ∷ shapes) (suc k) j before le = no_cell shapes k j before (omega (arith, le))
-
-quotient_more : (n k q : ℕ) → k / n ≡ q → 0 < n → n ≤ k → 1 ≤ q
-quotient_more n k zero e some le = absurd (let none : n * (k / n) ≡ n * 0 = ap (λ x. n * x) e in omega (arith, none))
-quotient_more n k (suc q) e some le = omega arith
-
--- one element of a layout is its cells
-pub one_element : (l : Layout) (k j : ℕ) → blanks l 1 k j ≡ blank_of 0 (shape_in (slice_get l.cells k) j)
-one_element l k j = by (length l.cells) refl (nat_lt k (length l.cells)) refl
-  where
-    at_last : (n : ℕ) → length l.cells ≡ n → n ≤ k → blanks l 1 k j ≡ None
-    at_last zero e le = by_now (nat_lt (k / length l.cells) 1)
-      where
-        by_now : (b : Bool) → (if b then blank_of (k / length l.cells * l.bytes) (shape_in (slice_get l.cells (k % length l.cells)) j) else None) ≡ None
-        by_now true = no_cell l.cells (k % length l.cells) j (k / length l.cells * l.bytes) (omega (arith, e))
-        by_now false = refl
-    at_last (suc n) e le =
-        let more = quotient_more (length l.cells) k (k / length l.cells) refl (omega (arith, e)) (omega (arith, e, le)) in
-        let no : nat_lt (k / length l.cells) 1 ≡ false = grind (arith, nat_tests, more) in
-        ap (λ b. if b then blank_of (k / length l.cells * l.bytes) (shape_in (slice_get l.cells (k % length l.cells)) j) else None) no
-
-    by : (n : ℕ) → length l.cells ≡ n → (b : Bool) → nat_lt k (length l.cells) ≡ b → blanks l 1 k j ≡ blank_of 0 (shape_in (slice_get l.cells k) j)
-    by n e true within =
-        let less : k < length l.cells = grind (arith, nat_tests, within) in
-        ap (λ (x : ℕ). if nat_lt x 1 then blank_of (x * l.bytes) (shape_in (slice_get l.cells (k % length l.cells)) j) else None) (div-eq_of_lt less)
-        ∙ ap (λ (x : ℕ). blank_of x (shape_in (slice_get l.cells (k % length l.cells)) j)) (let z : 0 * l.bytes ≡ 0 = omega arith in z)
-        ∙ ap (λ (x : ℕ). blank_of 0 (shape_in (slice_get l.cells x) j)) (mod-eq_of_lt less)
-    by n e false past =
-        let le : length l.cells ≤ k = grind (arith, nat_tests, past) in
-        at_last n e (omega (arith, e, le)) ∙ sym (no_cell l.cells k j 0 le)
-
-local_parts : (l : code.Local) → (local_layout l).cells ≡ map cell_parts (local_cells l)
-local_parts (local.Scalar c) = refl
-local_parts (local.Whole l) = refl
-
-pub blank_part : (l : code.Local) (k j : ℕ) → blanks (local_layout l) 1 k j ≡ part_in (slice_get (blank_object l) k) j
-blank_part l k j =
-    one_element (local_layout l) k j ∙ ap (λ cells. blank_of 0 (shape_in (slice_get cells k) j)) (local_parts l)
-    ∙ blank_cells (local_cells l) 0 k j ∙ ap (λ cells. part_in (slice_get cells k) j) (first_cells (local_cells l))
-
--- what a cell begins as
-pub cell_begins : (c : CellLayout) → cell_first c.cell ≡ content_of (first_value c.cell)
-cell_begins c = by c.cell
-  where
-    by : (k : Cell) → cell_first k ≡ content_of (first_value k)
-    by cell.Byte = refl
-    by cell.Word = refl
-    by cell.Pointer = refl
-    by cell.Handle = refl
-
 -- ---- a store to an object
 
 -- what a cell of an object is after a store to one
@@ -325,28 +272,28 @@ slot_put objects i k cells old s x y object there =
     by false e = refl
 
 module _ {m : Memory} {r : Region} {objects : List (List Slot)} (shows : Shows m r objects) where
-  pub parts_put : (i k : ℕ) (cells : List Slot) (old : Slot) (v : Value) → slice_get objects i ≡ Some cells → slice_get cells k ≡ Some old → (x y z : ℕ)
-      → (with_part m (spot_of r i k) 0 (first_part (with_value old v))).parts (spot_of r x y) z
-      ≡ part_in (slot_at (slice_set objects i (slice_set cells k (with_value old v))) x y) z
-  parts_put i k cells old v object there x y z =
-      ap (λ b. if (b && (nat_eq x i && nat_eq y k)) && nat_eq z 0 then Some (first_part (with_value old v)) else m.parts (spot_of r x y) z) (region_self r)
-      ∙ by (nat_eq x i && nat_eq y k) refl z
-      ∙ ap (λ o. part_in o z) (sym (slot_put objects i k cells old (with_value old v) x y object there))
+  pub parts_put : (i k j : ℕ) (cells : List Slot) (old : Slot) (v : Value) (h : Held) → slice_get objects i ≡ Some cells → slice_get cells k ≡ Some old
+      → keeps j v ≡ true → put_part old.held j v ≡ Some h → (x y z : ℕ)
+      → (with_part m (spot_of r i k) j (valued_part old j v)).parts (spot_of r x y) z
+      ≡ part_in (slot_at (slice_set objects i (slice_set cells k (with_held old h))) x y) z
+  parts_put i k j cells old v h object there kept set x y z =
+      ap (λ b. if (b && (nat_eq x i && nat_eq y k)) && nat_eq z j then Some (valued_part old j v) else m.parts (spot_of r x y) z) (region_self r)
+      ∙ by (nat_eq x i && nat_eq y k) refl
+      ∙ ap (λ o. part_in o z) (sym (slot_put objects i k cells old (with_held old h) x y object there))
     where
-      here : (b : Bool) → nat_eq x i && nat_eq y k ≡ b → b ≡ true → slot_at objects x y ≡ Some old
-      here b e is =
-          let both : nat_eq x i && nat_eq y k ≡ true = e ∙ is in
+      here : nat_eq x i && nat_eq y k ≡ true → slot_at objects x y ≡ Some old
+      here both =
           let first : x ≡ i = grind (arith, nat_tests, both) in
           let second : y ≡ k = grind (arith, nat_tests, both) in
           ap (λ n. slot_at objects n y) first ∙ ap (λ n. slot_at objects i n) second ∙ ap (λ o. cell_in o k) object ∙ there
 
-      by : (b : Bool) → nat_eq x i && nat_eq y k ≡ b → (z : ℕ)
-          → (if b && nat_eq z 0 then Some (first_part (with_value old v)) else m.parts (spot_of r x y) z)
-          ≡ part_in (if b then Some (with_value old v) else slot_at objects x y) z
-      by true e zero = refl
-      by true e (suc z) = ap (λ t. if t then Some (first_part (with_value old v)) else m.parts (spot_of r x y) (suc z)) (eqb-suc-zero z)
-          ∙ shows.holds x y (suc z) ∙ ap (λ o. part_in o (suc z)) (here true e refl)
-      by false e z = shows.holds x y z
+      by : (b : Bool) → nat_eq x i && nat_eq y k ≡ b
+          → (if b && nat_eq z j then Some (valued_part old j v) else m.parts (spot_of r x y) z)
+          ≡ part_in (if b then Some (with_held old h) else slot_at objects x y) z
+      by true e =
+          ap (λ p. if nat_eq z j then Some (valued_part old j v) else p) (shows.holds x y z ∙ ap (λ o. part_in o z) (here e))
+          ∙ sym (part_set v old j h kept set z)
+      by false e = shows.holds x y z
 
   -- one more object
   pub shows_grown : m.objects r ≡ length objects → (o : ℕ → ℕ → Option Part) (cells : List Slot) → ((k j : ℕ) → o k j ≡ part_in (slice_get cells k) j)

@@ -3,11 +3,11 @@ use Rattle.std.specs.Prelude.{if◌then◌else◌, slice_get, nat_eq, ◌&&◌, 
 use Rattle.std.proofs.Common.{◌≡◌, ℕ, suc, ◌+◌, Bool, true, false, Option, Some, None, List, ◌∷◌, refl, ap, ◌∙◌, sym, subst}
 use Rattle.std.proofs.Math.Dec.{eqb-suc-suc, eqb-zero-suc, eqb-suc-zero}
 use Rattle.core_meaning.specs.Memory as memory
-use Rattle.core_meaning.specs.Memory.{Region, Frame, Own, Born, Content, Pointer, Part, Memory, Spot, is_live, part_at, same_spot, same_region}
+use Rattle.core_meaning.specs.Memory.{Region, Frame, Own, Born, Content, Pointer, Part, Spot, is_live, part_at, same_spot, same_region}
 use Rattle.core_meaning.specs.Core as core
 use Rattle.core_meaning.specs.Words.{truth}
 use Rattle.core_meaning.specs.Steps as steps
-use Rattle.core_meaning.specs.Steps.{Config, with_temp, with_memory, Step, stuck, needed, checked, pointer_of}
+use Rattle.core_meaning.specs.Steps.{Config, with_temp, Step, stuck, needed, checked, pointer_of}
 use Rattle.core_meaning.specs.Operations.{does, reached, at_once, local_spot, same_place}
 use Rattle.cyc_core.specs.declared.operation.Width.{Width}
 use Rattle.cyc_core.specs.declared.operation.Distance.{Distance}
@@ -18,7 +18,7 @@ use Rattle.core_eval.specs.declared.value.Place.{Place}
 use Rattle.core_eval.specs.declared.value.Value.{Value}
 use Rattle.core_eval.specs.declared.value.Value.TheVariants as value
 use Rattle.core_eval.specs.declared.value.Slot.{Slot}
-use Rattle.core_eval.specs.Values.{region_of, spot_of, place_spot, content_of, temp_of, part_in, slot_at, Shows, is_fit, value_of, same_area, same_cell}
+use Rattle.core_eval.specs.Values.{region_of, spot_of, place_spot, content_of, temp_of, part_in, slot_at, Shows, values_in, is_fit, is_kept, value_of, same_area, same_cell}
 use Rattle.core_eval.specs.Regions.{region_at, slot_within}
 use Rattle.core_eval.specs.Blocks.{
   Activation,
@@ -41,7 +41,7 @@ use Rattle.core_eval.specs.Blocks.{
 use Rattle.core_eval.specs.Pendings.{Execute, Leave, Wait, Go, Wrong, Mark}
 use Rattle.core_eval.specs.Standing.{Known, Agrees, ShowsBlocks, Gives}
 use Rattle.core_eval.specs.Costs.{IsMove}
-use Rattle.core_eval.proofs.Memories.{first_part, found, reached_at, part_there}
+use Rattle.core_eval.proofs.Memories.{found_step, found, reached_at, shown_part}
 use Rattle.core_eval.proofs.Owned.{owned_first, owned_descends, owned_shows}
 use Rattle.core_eval.proofs.Changes.{stored_in}
 use Rattle.core_eval.proofs.Nested.{nested_descends, nested_shows, nested_own, position_there}
@@ -78,14 +78,16 @@ abbrev pub value_step : (Content → Step) → Option Value → Step
 value_step next None = stuck
 value_step next (Some v) = next (content_of v)
 
-value_wide : (b : Bool) (s : Slot) (next : Content → Step)
-    → (if b then next (content_of s.value) else stuck) ≡ value_step next (if b then Some s.value else None)
-value_wide true s next = refl
-value_wide false s next = refl
+value_wide : (b : Bool) (s : Slot) (j : ℕ) (o : Option Value) (next : Content → Step)
+    → (if b then found_step s j (λ p. next p.content) o else stuck) ≡ value_step next (if b then o else None)
+value_wide true s j None next = refl
+value_wide true s j (Some v) next = refl
+value_wide false s j o next = refl
 
-found_value : (o : Option Slot) (byte : ℕ) (w : Width) (next : Content → Step) → found byte w (λ p. next p.content) o ≡ value_step next (value_of byte w o)
-found_value None byte w next = refl
-found_value (Some s) byte w next = value_wide (is_fit byte w s) s next
+found_value : (o : Option Slot) (byte j : ℕ) (w : Width) (next : Content → Step)
+    → found byte j w (λ p. next p.content) o ≡ value_step next (value_of byte j w o)
+found_value None byte j w next = refl
+found_value (Some s) byte j w next = value_wide (is_fit byte j w s) s j (slice_get (values_in s.held) j) next
 
 module _ (known : Known) (ws : List Wait) (marks : List Mark) (c : Config) (h : Agrees known ws marks c) where
   -- a part of the block that stands there
@@ -99,7 +101,7 @@ module _ (known : Known) (ws : List Wait) (marks : List Mark) (c : Config) (h : 
       by (Some b) at e =
           let same : b.number ≡ n = cc in
           subst (λ (x : ℕ). part_at c.memory (spot_of (Frame x) i k) j ≡ part_in (slot_at b.objects i k) j) same
-          (part_there (shown known ws marks c h p b at) i k j)
+          (shown_part (shown known ws marks c h p b at) i k j)
 
   -- a part of a block by its number
   number_part : (n i k j : ℕ) → part_at c.memory (spot_of (Frame n) i k) j ≡ part_in (slot_through known.blocks (position_of known.blocks n) i k) j
@@ -119,7 +121,7 @@ module _ (known : Known) (ws : List Wait) (marks : List Mark) (c : Config) (h : 
       there p (Some b) at e =
           let same : b.number ≡ n = cc in
           subst (λ (x : ℕ). part_at c.memory (spot_of (Own x) i k) j ≡ part_in (slot_at b.objects i k) j) same
-          (part_there (shown_values known ws marks c h p b at) i k j)
+          (shown_part (shown_values known ws marks c h p b at) i k j)
 
       by : (o : Option ℕ) → position_of known.owns n ≡ o → part_at c.memory (spot_of (Own n) i k) j ≡ part_in (slot_through known.owns o i k) j
       by None e = ap (λ b. if b then c.memory.parts (spot_of (Own n) i k) j else None) (h.values_live n e)
@@ -132,56 +134,56 @@ module _ (known : Known) (ws : List Wait) (marks : List Mark) (c : Config) (h : 
       by : (held : Option (List (List Slot))) → ShowsBlocks c.memory (Born (suc n)) held
           → part_at c.memory (spot_of (Born (suc n)) i k) j ≡ part_in (slot_within held i k) j
       by None dead = ap (λ now. if is_live now then c.memory.parts (spot_of (Born (suc n)) i k) j else None) dead
-      by (Some objects) (shows, counted) = part_there shows i k j
+      by (Some objects) (shows, counted) = shown_part shows i k j
 
   -- a part of an object of an area
   pub area_part : (a : Area) (i k j : ℕ) → part_at c.memory (spot_of (region_of a) i k) j ≡ part_in (slot_in (stored_in known) a i k) j
-  area_part area.Globals i k j = part_there h.globals i k j
+  area_part area.Globals i k j = shown_part h.globals i k j
   area_part (area.Region n) i k j = region_part n i k j
   area_part (area.Block n) i k j = number_part n i k j
   area_part (area.Own n) i k j = value_part n i k j
 
   -- what is reached from a place on
-  pub placed : (p : Place) (d : Distance) (next : Spot → Part → Step)
+  pub placed : (p : Place) (d : Distance) (next : Spot → Part → Step) → is_kept d.part d.width ≡ true
       → reached c.memory (distance_tree d) (place_spot p) p.byte next
-      ≡ found (p.byte + d.bytes) d.width (next (spot_of (region_of p.area) p.object (p.cell + d.cells)))
+      ≡ found (p.byte + d.bytes) d.part d.width (next (spot_of (region_of p.area) p.object (p.cell + d.cells)))
       (slot_in (stored_in known) p.area p.object (p.cell + d.cells))
-  placed p d next =
-      reached_at c.memory (region_of p.area) p.object p.cell p.byte d.cells d.bytes (slot_in (stored_in known) p.area p.object (p.cell + d.cells))
-      d.width next (area_part p.area p.object (p.cell + d.cells) 0)
+  placed p d next kept =
+      reached_at c.memory (region_of p.area) p.object p.cell p.byte d.cells d.bytes d.part (slot_in (stored_in known) p.area p.object (p.cell + d.cells))
+      d.width next kept (area_part p.area p.object (p.cell + d.cells) d.part)
 
   pub own_is : (out i : ℕ) (w : Width) (next : Spot → Part → Step)
       → needed (slice_get c.blocks out) (λ k. reached c.memory (at_once (bytes_of w)) (local_spot k i) 0 next)
       ≡ needed (number_through known.blocks (own_position known.base known.blocks out)) (λ k.
-      found 0 w (next (local_spot k i)) (local_slot known.base known.blocks out i))
+      found 0 0 w (next (local_spot k i)) (local_slot known.base known.blocks out i))
   own_is out i w next =
       ap (λ n. needed n (λ k. reached c.memory (at_once (bytes_of w)) (local_spot k i) 0 next)) (own_number known ws marks c h out)
       ∙ by (own_position known.base known.blocks out)
     where
       within : (p : ℕ) (n : Option ℕ) → number_through known.blocks (Some p) ≡ n
           → needed n (λ k. reached c.memory (at_once (bytes_of w)) (local_spot k i) 0 next)
-          ≡ needed n (λ k. found 0 w (next (local_spot k i)) (slot_through known.blocks (Some p) i 0))
+          ≡ needed n (λ k. found 0 0 w (next (local_spot k i)) (slot_through known.blocks (Some p) i 0))
       within p None e = refl
-      within p (Some n) e = reached_at c.memory (Frame n) i 0 0 0 0 (slot_through known.blocks (Some p) i 0) w next (through_part n p i 0 0 e)
+      within p (Some n) e = reached_at c.memory (Frame n) i 0 0 0 0 0 (slot_through known.blocks (Some p) i 0) w next refl (through_part n p i 0 0 e)
 
       by : (o : Option ℕ) → needed (number_through known.blocks o) (λ k. reached c.memory (at_once (bytes_of w)) (local_spot k i) 0 next)
-          ≡ needed (number_through known.blocks o) (λ k. found 0 w (next (local_spot k i)) (slot_through known.blocks o i 0))
+          ≡ needed (number_through known.blocks o) (λ k. found 0 0 w (next (local_spot k i)) (slot_through known.blocks o i 0))
       by None = refl
       by (Some p) = within p (number_through known.blocks (Some p)) refl
 
   -- what a local holds
   own_value : (out i : ℕ) (w : Width) (next : Content → Step)
       → needed (slice_get c.blocks out) (λ k. reached c.memory (at_once (bytes_of w)) (local_spot k i) 0 (λ there p. next p.content))
-      ≡ value_step next (value_of 0 w (local_slot known.base known.blocks out i))
+      ≡ value_step next (value_of 0 0 w (local_slot known.base known.blocks out i))
   own_value out i w next = own_is out i w (λ there p. next p.content) ∙ by (own_position known.base known.blocks out)
     where
       among : (o : Option Activation)
-          → needed (option_map (λ b. b.number) o) (λ k. found 0 w (λ p. next p.content) (slot_among o i 0)) ≡ value_step next (value_of 0 w (slot_among o i 0))
+          → needed (option_map (λ b. b.number) o) (λ k. found 0 0 w (λ p. next p.content) (slot_among o i 0)) ≡ value_step next (value_of 0 0 w (slot_among o i 0))
       among None = refl
-      among (Some b) = found_value (slot_at b.objects i 0) 0 w next
+      among (Some b) = found_value (slot_at b.objects i 0) 0 0 w next
 
-      by : (o : Option ℕ) → needed (number_through known.blocks o) (λ k. found 0 w (λ p. next p.content) (slot_through known.blocks o i 0))
-          ≡ value_step next (value_of 0 w (slot_through known.blocks o i 0))
+      by : (o : Option ℕ) → needed (number_through known.blocks o) (λ k. found 0 0 w (λ p. next p.content) (slot_through known.blocks o i 0))
+          ≡ value_step next (value_of 0 0 w (slot_through known.blocks o i 0))
       by None = refl
       by (Some p) = among (slice_get known.blocks p)
 
@@ -257,17 +259,17 @@ module _ (known : Known) (ws : List Wait) (marks : List Mark) (c : Config) (h : 
 
 module _ (known : Known) (ws : List Wait) where
   got : (t out i : ℕ) (w : Width) (marks : List Mark) (c : Config) → Agrees known ws marks c → (next : Config → Step)
-      → does (core.Get t out i (bytes_of w)) next c ≡ value_step (λ u. next (with_temp t u c)) (value_of 0 w (local_slot known.base known.blocks out i))
+      → does (core.Get t out i (bytes_of w)) next c ≡ value_step (λ u. next (with_temp t u c)) (value_of 0 0 w (local_slot known.base known.blocks out i))
   got t out i w marks c h next = own_value known ws marks c h out i w (λ u. next (with_temp t u c))
 
-  pub get_moves : (temps : List Value) (t out i : ℕ) (w : Width) (v : Value) → value_of 0 w (local_slot known.base known.blocks out i) ≡ Some v
+  pub get_moves : (temps : List Value) (t out i : ℕ) (w : Width) (v : Value) → value_of 0 0 w (local_slot known.base known.blocks out i) ≡ Some v
       → Gives t (content_of v) known.temps temps
       → IsMove (Execute (core.Do (core.Get t out i (bytes_of w)))) ws known (Go (Leave steps.Falls)) ws (given known temps)
   get_moves temps t out i w v is gives =
       given_moves known temps ws (core.Get t out i (bytes_of w)) t (content_of v) gives
       (λ marks c h next. got t out i w marks c h next ∙ ap (value_step (λ u. next (with_temp t u c))) is)
 
-  pub get_wrong : (t out i : ℕ) (w : Width) → value_of 0 w (local_slot known.base known.blocks out i) ≡ None
+  pub get_wrong : (t out i : ℕ) (w : Width) → value_of 0 0 w (local_slot known.base known.blocks out i) ≡ None
       → IsMove (Execute (core.Do (core.Get t out i (bytes_of w)))) ws known Wrong ws known
   get_wrong t out i w is =
       goes_wrong (core.Get t out i (bytes_of w)) ws known
@@ -326,32 +328,32 @@ module _ (known : Known) (ws : List Wait) where
   -- ---- through a pointer
 
   module _ (x : ℕ) (v : Value) (read : content_of v ≡ temp_of known.temps x) (p : Place) (is_place : v ≡ value.Pointer p) where
-    loaded : (t : ℕ) (d : Distance) (marks : List Mark) (c : Config) → Agrees known ws marks c → (next : Config → Step)
+    loaded : (t : ℕ) (d : Distance) → is_kept d.part d.width ≡ true → (marks : List Mark) (c : Config) → Agrees known ws marks c → (next : Config → Step)
         → does (core.Load t x (distance_tree d)) next c
         ≡ value_step (λ u. next (with_temp t u c))
-        (value_of (p.byte + d.bytes) d.width (slot_in (stored_in known) p.area p.object (p.cell + d.cells)))
-    loaded t d marks c h next =
+        (value_of (p.byte + d.bytes) d.part d.width (slot_in (stored_in known) p.area p.object (p.cell + d.cells)))
+    loaded t d kept marks c h next =
         ap (λ (u : Content). pointer_of u (λ s b. reached c.memory (distance_tree d) s b (λ there part. next (with_temp t part.content c))))
         (h.temps x ∙ sym read ∙ ap content_of is_place)
-        ∙ placed known ws marks c h p d (λ there part. next (with_temp t part.content c))
-        ∙ found_value (slot_in (stored_in known) p.area p.object (p.cell + d.cells)) (p.byte + d.bytes) d.width (λ u. next (with_temp t u c))
+        ∙ placed known ws marks c h p d (λ there part. next (with_temp t part.content c)) kept
+        ∙ found_value (slot_in (stored_in known) p.area p.object (p.cell + d.cells)) (p.byte + d.bytes) d.part d.width (λ u. next (with_temp t u c))
 
-    pub load_moves : (temps : List Value) (t : ℕ) (d : Distance) (u : Value)
+    pub load_moves : (temps : List Value) (t : ℕ) (d : Distance) (u : Value) → is_kept d.part d.width ≡ true
         → (AreInOrder known
-        → value_of (p.byte + d.bytes) d.width (slot_in (stored_in known) p.area p.object (p.cell + d.cells)) ≡ Some u)
+        → value_of (p.byte + d.bytes) d.part d.width (slot_in (stored_in known) p.area p.object (p.cell + d.cells)) ≡ Some u)
         → Gives t (content_of u) known.temps temps
         → IsMove (Execute (core.Do (core.Load t x (distance_tree d)))) ws known (Go (Leave steps.Falls)) ws (given known temps)
-    load_moves temps t d u there gives =
+    load_moves temps t d u kept there gives =
         given_moves known temps ws (core.Load t x (distance_tree d)) t (content_of u) gives
-        (λ marks c h next. loaded t d marks c h next ∙ ap (value_step (λ u. next (with_temp t u c))) (there (ordered known ws marks c h)))
+        (λ marks c h next. loaded t d kept marks c h next ∙ ap (value_step (λ u. next (with_temp t u c))) (there (ordered known ws marks c h)))
 
-    pub load_wrong : (t : ℕ) (d : Distance)
+    pub load_wrong : (t : ℕ) (d : Distance) → is_kept d.part d.width ≡ true
         → (AreInOrder known
-        → value_of (p.byte + d.bytes) d.width (slot_in (stored_in known) p.area p.object (p.cell + d.cells)) ≡ None)
+        → value_of (p.byte + d.bytes) d.part d.width (slot_in (stored_in known) p.area p.object (p.cell + d.cells)) ≡ None)
         → IsMove (Execute (core.Do (core.Load t x (distance_tree d)))) ws known Wrong ws known
-    load_wrong t d none =
+    load_wrong t d kept none =
         goes_wrong (core.Load t x (distance_tree d)) ws known
-        (λ marks c h next. loaded t d marks c h next ∙ ap (value_step (λ u. next (with_temp t u c))) (none (ordered known ws marks c h)))
+        (λ marks c h next. loaded t d kept marks c h next ∙ ap (value_step (λ u. next (with_temp t u c))) (none (ordered known ws marks c h)))
 
   -- ---- two pointers
 

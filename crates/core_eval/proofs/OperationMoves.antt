@@ -1,7 +1,6 @@
 -- Each operation, as the evaluator does it.
-use Rattle.std.specs.Prelude.{if◌then◌else◌, nat_eq, nat_lt}
-use Rattle.std.proofs.lemmas.Bool.Decides.{nat_tests}
-use Rattle.std.proofs.Common.{◌≡◌, ℕ, ◌+◌, ◌%◌, ◌^◌, ◌<◌, ◌≤◌, Bool, true, false, Option, Some, None, List, refl, ap, ◌∙◌, sym, arith}
+use Rattle.std.specs.Prelude.{if◌then◌else◌, nat_eq}
+use Rattle.std.proofs.Common.{◌≡◌, ℕ, ◌%◌, ◌^◌, ◌<◌, Bool, Option, Some, None, List, refl, ap, ◌∙◌, sym, arith}
 use Rattle.cyc_words.specs.Events as events
 use Rattle.step_trees.specs.Trees.{Pays}
 use Rattle.core_meaning.specs.Memory as memory
@@ -10,11 +9,10 @@ use Rattle.core_meaning.specs.Core as core
 use Rattle.core_meaning.specs.Words.{truth, two}
 use Rattle.core_meaning.specs.Steps as steps
 use Rattle.core_meaning.specs.Steps.{Config, with_temp, with_memory, Step, stuck, word_of, pointer_of, needed, checked}
-use Rattle.core_meaning.specs.Operations.{does, is_null, says, too_far}
+use Rattle.core_meaning.specs.Operations.{does, is_null, says}
 use Rattle.core_eval.specs.declared.value.Value.{Value}
 use Rattle.core_eval.specs.declared.value.Value.TheVariants as value
-use Rattle.core_eval.specs.declared.value.Place.{Place}
-use Rattle.core_eval.specs.Values.{content_of, place_spot, temp_of, null_of}
+use Rattle.core_eval.specs.Values.{content_of, temp_of, null_of}
 use Rattle.core_eval.specs.Blocks.{global_place}
 use Rattle.core_eval.specs.Pendings.{Execute, Leave, Wait, Go, GetcharDue, PutcharDue, Wrong, Mark}
 use Rattle.core_eval.specs.Standing.{Known, Agrees, Gives}
@@ -91,21 +89,6 @@ module _ (known : Known) (temps : List Value) (ws : List Wait) where
         given_moves (core.Narrow t x) t (memory.Word (n % 256)) gives
         (λ marks c h next. ap (λ (u : Content). word_of u (λ k. next (with_temp t (memory.Word (k % 256)) c))) (holds_it marks c h ∙ ap content_of is))
 
-    -- a pointer that leads further
-    pub offset_moves : (t cells bytes : ℕ) (p q : Place) → v ≡ value.Pointer p → content_of (value.Pointer q)
-        ≡ Pointer (beyond (place_spot p) cells) (p.byte + bytes)
-        → p.byte + bytes < too_far
-        → Gives t (content_of (value.Pointer q)) known.temps temps
-        → IsMove (Execute (core.Do (core.Offset t x cells bytes))) ws known (Go (Leave steps.Falls)) ws (given known temps)
-    offset_moves t cells bytes p q is leads near gives =
-        let within : nat_lt (p.byte + bytes) too_far ≡ true = grind (arith, nat_tests, near) in
-        given_moves (core.Offset t x cells bytes) t (content_of (value.Pointer q)) gives
-        (λ marks c h next.
-        ap (λ (u : Content). pointer_of u (λ s b. checked (nat_lt (b + bytes) too_far) (next (with_temp t (Pointer (beyond s cells) (b + bytes)) c))))
-        (holds_it marks c h ∙ ap content_of is)
-        ∙ ap (λ b. checked b (next (with_temp t (Pointer (beyond (place_spot p) cells) (p.byte + bytes)) c))) within
-        ∙ ap (λ (u : Content). next (with_temp t u c)) (sym leads))
-
     pub test_moves : (t : ℕ) (b : Bool) → null_of v ≡ Some b → Gives t (memory.Word (truth b)) known.temps temps
         → IsMove (Execute (core.Do (core.IsNull t x))) ws known (Go (Leave steps.Falls)) ws (given known temps)
     test_moves t b is gives =
@@ -167,17 +150,11 @@ module _ (known : Known) (ws : List Wait) (x : ℕ) (v : Value) (read : content_
       goes_wrong o ws known (λ marks c h next. is c next ∙ ap (λ (u : Content). pointer_of u (next' c next)) (h.temps x ∙ sym read)
       ∙ no_place v (next' c next) none)
 
-  pub offset_wrong : (t cells bytes : ℕ) → IsNoPlace v → IsMove (Execute (core.Do (core.Offset t x cells bytes))) ws known Wrong ws known
-  offset_wrong t cells bytes none = no_place_wrong (core.Offset t x cells bytes) _ (λ c next. refl) none
+  pub offset_nowhere : (t cells bytes : ℕ) → IsNoPlace v → IsMove (Execute (core.Do (core.Offset t x cells bytes))) ws known Wrong ws known
+  offset_nowhere t cells bytes none = no_place_wrong (core.Offset t x cells bytes) _ (λ c next. refl) none
 
-  pub offset_far : (t cells bytes : ℕ) (p : Place) → v ≡ value.Pointer p → too_far ≤ p.byte + bytes
-      → IsMove (Execute (core.Do (core.Offset t x cells bytes))) ws known Wrong ws known
-  offset_far t cells bytes p is far =
-      let over : nat_lt (p.byte + bytes) too_far ≡ false = grind (arith, nat_tests, far) in
-      goes_wrong (core.Offset t x cells bytes) ws known (λ marks c h next.
-      ap (λ (u : Content). pointer_of u (λ s b. checked (nat_lt (b + bytes) too_far) (next (with_temp t (Pointer (beyond s cells) (b + bytes)) c))))
-      (h.temps x ∙ sym read ∙ ap content_of is)
-      ∙ ap (λ b. checked b (next (with_temp t (Pointer (beyond (place_spot p) cells) (p.byte + bytes)) c))) over)
+  pub element_nowhere : (t i cells bytes : ℕ) → IsNoPlace v → IsMove (Execute (core.Do (core.Element t x i cells bytes))) ws known Wrong ws known
+  element_nowhere t i cells bytes none = no_place_wrong (core.Element t x i cells bytes) _ (λ c next. refl) none
 
   pub load_nowhere : (t : ℕ) (d : core.Distance) → IsNoPlace v → IsMove (Execute (core.Do (core.Load t x d))) ws known Wrong ws known
   load_nowhere t d none = no_place_wrong (core.Load t x d) _ (λ c next. refl) none

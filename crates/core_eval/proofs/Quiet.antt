@@ -162,7 +162,8 @@ does_quiet (core.LocalAddress t out local) next h c = needed_quiet _ _ (λ k. h 
 does_quiet (core.OwnAddress t object) next h c = h _
 does_quiet (core.DataAddress t object) next h c = h _
 does_quiet (core.Offset t p cells bytes) next h c = pointer_quiet (c.temps p) _ (λ s b. checked_quiet _ _ (h _))
-does_quiet (core.Element t p i cells bytes) next h c = pointer_quiet (c.temps p) _ (λ s b. word_quiet (c.temps i) _ (λ n. h _))
+does_quiet (core.Element t p i cells bytes) next h c =
+    pointer_quiet (c.temps p) _ (λ s b. word_quiet (c.temps i) _ (λ n. checked_quiet _ _ (h _)))
 does_quiet (core.Get t out local width) next h c =
     needed_quiet _ _ (λ k. reached_quiet c.memory (at_once width) (local_spot k local) 0 _ (λ there part. h (with_temp t part.content c)))
 does_quiet (core.Put out local width x) next h c =

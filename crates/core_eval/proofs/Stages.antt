@@ -1,5 +1,5 @@
 -- A run between a reader and a writer: where it stands, and how far it has come.
-use Rattle.std.proofs.Common.{◌≡◌, ℕ, ◌+◌, ◌-◌, ◌<◌, Bool, false, List, [], ◌∷◌, ◌++◌, map, Option, IfSome, refl, sym, ap, ◌∙◌, subst, arith}
+use Rattle.std.proofs.Common.{◌≡◌, ℕ, ◌+◌, ◌-◌, ◌<◌, Bool, false, List, [], ◌∷◌, ◌++◌, map, Option, IfSome, refl, sym, ap, subst, arith}
 use Rattle.std.specs.Io.KnownBytes.{Keeps}
 use Rattle.std.proofs.KnownBytes.{Appends-nil, Consumes-nil}
 use Rattle.core_meaning.specs.Memory.{Content, Word}
@@ -14,11 +14,12 @@ use Rattle.cyc_core.specs.declared.layout.Local.{Local}
 use Rattle.core_eval.specs.declared.frame.Frame as frame_code
 use Rattle.core_eval.specs.declared.memory.Memory as memory_code
 use Rattle.core_eval.specs.declared.value.Value.{Value}
-use Rattle.core_eval.specs.Values.{cells_of, blank_object}
+use Rattle.core_eval.specs.Values.{cells_of}
+use Rattle.core_eval.specs.Elements.{blank_object, first_object}
 use Rattle.core_eval.specs.Regions.{held_objects}
 use Rattle.core_eval.specs.Blocks.{activation_of}
 use Rattle.core_eval.specs.Pendings.{Follow, Leave, Wait, Body, Next, Go, GetcharDue, PutcharDue, TurnDue, CallDue, Mark, rest_of, returned_to, coming}
-use Rattle.core_eval.specs.Standing.{Known, Agrees, Stands, StandsStill, Gives, IsCall, first_object, first_known, known_of}
+use Rattle.core_eval.specs.Standing.{Known, Agrees, Stands, StandsStill, Gives, IsCall, first_known, known_of}
 use Rattle.core_eval.proofs.Known.{known_same}
 use Rattle.core_eval.proofs.OperationMoves.{given, agrees_given}
 use Rattle.core_eval.proofs.Progress.{Progress, settled, put_one, turned_once, called_once, wrote, kept, answered}

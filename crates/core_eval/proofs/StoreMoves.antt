@@ -1,8 +1,9 @@
 -- What the evaluator stores to locals and globals, as Core does it.
-use Rattle.std.specs.Prelude.{if◌then◌else◌, slice_get, slice_set, ◌&&◌, nat_eq, option_map}
-use Rattle.std.proofs.Common.{◌≡◌, ℕ, ◌+◌, Bool, true, false, Option, Some, None, List, length, refl, ap, ◌∙◌, sym, subst, arith}
+use Rattle.std.specs.Prelude.{if◌then◌else◌, slice_get, slice_set, ◌||◌, option_map}
+use Rattle.std.proofs.Common.{◌≡◌, ℕ, zero, suc, ◌+◌, true, false, Option, Some, None, List, length, refl, ap, ◌∙◌, sym, arith}
+use Rattle.std.proofs.Math.Dec.{eqb-suc-zero}
 use Rattle.std.proofs.lemmas.List.{length-set}
-use Rattle.core_meaning.specs.Memory.{Region, Frame, Born, Content, Spot, Part, Memory, same_region, with_part}
+use Rattle.core_meaning.specs.Memory.{Region, Frame, Content, Part, Memory, with_part}
 use Rattle.core_meaning.specs.Core as core
 use Rattle.core_meaning.specs.Steps as steps
 use Rattle.core_meaning.specs.Steps.{Config, with_memory, Step, stuck, needed, pointer_of}
@@ -17,7 +18,23 @@ use Rattle.core_eval.specs.declared.value.Place.{Place}
 use Rattle.core_eval.specs.declared.value.Value.{Value}
 use Rattle.core_eval.specs.declared.value.Value.TheVariants as value
 use Rattle.core_eval.specs.declared.value.Slot.{Slot}
-use Rattle.core_eval.specs.Values.{region_of, spot_of, content_of, temp_of, part_in, cell_in, slot_at, Shows, is_fit, fitted, with_value, put_in}
+use Rattle.core_eval.specs.Values.{
+  region_of,
+  spot_of,
+  content_of,
+  temp_of,
+  values_in,
+  part_in,
+  cell_in,
+  slot_at,
+  Shows,
+  is_fit,
+  is_kept,
+  keeps,
+  fitted,
+  with_held,
+  put_in,
+}
 use Rattle.core_eval.specs.Regions.{region_at, slot_within, put_held, put_region}
 use Rattle.core_eval.specs.Blocks.{
   Activation,
@@ -36,9 +53,10 @@ use Rattle.core_eval.specs.Blocks.{
   put_to,
 }
 use Rattle.core_eval.specs.Pendings.{Execute, Leave, Wait, Go, Wrong, Mark, rest_of}
-use Rattle.core_eval.specs.Standing.{Known, Agrees, Stands}
+use Rattle.core_eval.specs.Standing.{Known, Agrees}
 use Rattle.core_eval.specs.Costs.{IsMove}
-use Rattle.core_eval.proofs.Memories.{first_part, found, reached_at, part_there, IsPut, put_is, unput_is, parts_put}
+use Rattle.core_eval.proofs.Parts.{valued_part, part_there}
+use Rattle.core_eval.proofs.Memories.{found_step, found, reached_at, shown_part, IsPut, put_is, unput_is, parts_put}
 use Rattle.core_eval.proofs.Nested.{position_is}
 use Rattle.core_eval.proofs.Born.{held_there}
 use Rattle.core_eval.proofs.Changes.{stored_in, with_stored, Replaces, replaced_shows, replaced_agrees, part_elsewhere}
@@ -55,107 +73,111 @@ fits width.Byte (value.Pointer p) = refl
 fits width.Byte (value.Birth d) = refl
 fits width.Word v = refl
 
-found_put : (byte : ℕ) (w : Width) (s : Slot) (v : Value) (u : Content) (next : Part → Step) → is_fit byte w s ≡ true → u ≡ content_of v
-    → found byte w (λ p. next (record p { content = fitting (bytes_of w) u })) (Some s) ≡ next (first_part (with_value s (fitted w v)))
-found_put byte w s v u next fit is =
-    ap (λ b. if b then next (record { offset = s.offset; width = bytes_of s.width; content = fitting (bytes_of w) u }) else stuck) fit
-    ∙ ap (λ z. next (record { offset = s.offset; width = bytes_of s.width; content = fitting (bytes_of w) z })) is
-    ∙ ap (λ z. next (record { offset = s.offset; width = bytes_of s.width; content = z })) (fits w v)
+found_put : (byte j : ℕ) (w : Width) (s : Slot) (old v : Value) (u : Content) (next : Part → Step) → is_fit byte j w s ≡ true
+    → slice_get (values_in s.held) j ≡ Some old → u ≡ content_of v
+    → found byte j w (λ p. next (record p { content = fitting (bytes_of w) u })) (Some s) ≡ next (valued_part s j (fitted w v))
+found_put byte j w s old v u next fit there is =
+    let put : Content → Part → Step = λ z p. next (record p { content = fitting (bytes_of w) z }) in
+    ap (λ b. if b then found_step s j (put u) (slice_get (values_in s.held) j) else stuck) fit
+    ∙ ap (found_step s j (put u)) there
+    ∙ ap (λ z. put z (valued_part s j old)) is
+    ∙ ap (λ z. next (record (valued_part s j old) { content = z })) (fits w v)
 
 -- Core's memory after a store
-abbrev stored : Memory → Region → (i k : ℕ) → Slot → Memory
-stored m r i k s = with_part m (spot_of r i k) 0 (first_part s)
+abbrev stored : Memory → Region → (i k j : ℕ) → Slot → Value → Memory
+stored m r i k j s v = with_part m (spot_of r i k) j (valued_part s j v)
 
 -- what a store does where the region shows the cell
-store_is : {m : Memory} {r : Region} {objects objects' : List (List Slot)} (shows : Shows m r objects) (i k b cells bytes : ℕ) (w : Width) (v : Value)
-    → (put : IsPut objects i (k + cells) (b + bytes) w v objects')
+store_is : {m : Memory} {r : Region} {objects objects' : List (List Slot)} (shows : Shows m r objects) (i k b cells bytes j : ℕ) (w : Width) (v : Value)
+    → is_kept j w ≡ true → keeps j (fitted w v) ≡ true → (put : IsPut objects i (k + cells) (b + bytes) j w v objects')
     → (u : Content) → u ≡ content_of v → (next : Memory → Step)
-    → reached m (record { cells = cells; bytes = bytes; part = 0; width = bytes_of w }) (spot_of r i k) b
-    (λ there p. next (with_part m there 0 (record p { content = fitting (bytes_of w) u })))
-    ≡ next (stored m r i (k + cells) (with_value put.old (fitted w v)))
-store_is {m} {r} {objects} {objects'} shows i k b cells bytes w v put u is next =
-    reached_at m r i k b cells bytes (slot_at objects i (k + cells)) w (λ there p. next (with_part m there 0 (record p { content = fitting (bytes_of w) u })))
-    (part_there shows i (k + cells) 0)
-    ∙ ap (found (b + bytes) w (λ p. next (with_part m (spot_of r i (k + cells)) 0 (record p { content = fitting (bytes_of w) u }))))
+    → reached m (record { cells = cells; bytes = bytes; part = j; width = bytes_of w }) (spot_of r i k) b
+    (λ there p. next (with_part m there j (record p { content = fitting (bytes_of w) u })))
+    ≡ next (stored m r i (k + cells) j put.old (fitted w v))
+store_is {m} {r} {objects} {objects'} shows i k b cells bytes j w v kept keep put u is next =
+    let (was, old) = part_there (fitted w v) put.old.held j put.holds keep put.set in
+    reached_at m r i k b cells bytes j (slot_at objects i (k + cells)) w (λ there p. next (with_part m there j (record p { content = fitting (bytes_of w) u })))
+    kept (shown_part shows i (k + cells) j)
+    ∙ ap (found (b + bytes) j w (λ p. next (with_part m (spot_of r i (k + cells)) j (record p { content = fitting (bytes_of w) u }))))
     (ap (λ o. cell_in o (k + cells)) put.object ∙ put.there)
-    ∙ found_put (b + bytes) w put.old v u (λ p. next (with_part m (spot_of r i (k + cells)) 0 p)) put.fits is
+    ∙ found_put (b + bytes) j w put.old was v u (λ p. next (with_part m (spot_of r i (k + cells)) j p)) put.fits old is
 
 -- ---- a store to a local
 
 -- a store to a cell of a local of the block that stands there
-record IsBlockPut (blocks : List Activation) (p i k byte : ℕ) (w : Width) (v : Value) (blocks' : List Activation) : Type 0 where
+record IsBlockPut (blocks : List Activation) (p i k byte j : ℕ) (w : Width) (v : Value) (blocks' : List Activation) : Type 0 where
   pub block : Activation
   pub objects' : List (List Slot)
   pub there : slice_get blocks p ≡ Some block
-  pub put : IsPut block.objects i k byte w v objects'
+  pub put : IsPut block.objects i k byte j w v objects'
   pub after : blocks' ≡ slice_set blocks p (record { number = block.number; objects = objects' })
 
-module _ (blocks : List Activation) (i k byte : ℕ) (w : Width) (v : Value) where
+module _ (blocks : List Activation) (i k byte j : ℕ) (w : Width) (v : Value) where
   put_there : (p : ℕ) (blocks' : List Activation) (b : Activation) (o : Option (List (List Slot))) → slice_get blocks p ≡ Some b
-      → put_in b.objects i k byte w v ≡ o
-      → option_map (put_block blocks p b) o ≡ Some blocks' → IsBlockPut blocks p i k byte w v blocks'
+      → put_in b.objects i k byte j w v ≡ o
+      → option_map (put_block blocks p b) o ≡ Some blocks' → IsBlockPut blocks p i k byte j w v blocks'
   put_there p blocks' b None at put e = cc
   put_there p blocks' b (Some objects') at put e =
-      record { block = b; objects' = objects'; there = at; put = put_is b.objects i k byte w v objects' put; after = cc }
+      record { block = b; objects' = objects'; there = at; put = put_is b.objects i k byte j w v objects' put; after = cc }
 
-  put_case : (p : ℕ) (blocks' : List Activation) (o : Option Activation) → slice_get blocks p ≡ o → put_among blocks p i k byte w v o ≡ Some blocks'
-      → IsBlockPut blocks p i k byte w v blocks'
+  put_case : (p : ℕ) (blocks' : List Activation) (o : Option Activation) → slice_get blocks p ≡ o → put_among blocks p i k byte j w v o ≡ Some blocks'
+      → IsBlockPut blocks p i k byte j w v blocks'
   put_case p blocks' None at e = cc
-  put_case p blocks' (Some b) at e = put_there p blocks' b (put_in b.objects i k byte w v) at refl e
+  put_case p blocks' (Some b) at e = put_there p blocks' b (put_in b.objects i k byte j w v) at refl e
 
-  block_put_is : (p : ℕ) (blocks' : List Activation) → put_through blocks (Some p) i k byte w v ≡ Some blocks' → IsBlockPut blocks p i k byte w v blocks'
+  block_put_is : (p : ℕ) (blocks' : List Activation) → put_through blocks (Some p) i k byte j w v ≡ Some blocks' → IsBlockPut blocks p i k byte j w v blocks'
   block_put_is p blocks' e = put_case p blocks' (slice_get blocks p) refl e
 
   no_put_block : (p : ℕ) (b : Activation) (o : Option (List (List Slot))) → option_map (put_block blocks p b) o ≡ None → o ≡ None
   no_put_block p b None e = refl
   no_put_block p b (Some objects) e = cc
 
-  unput_among : (p : ℕ) (o : Option Activation) (next : Part → Step) → put_among blocks p i k byte w v o ≡ None → found byte w next (slot_among o i k) ≡ stuck
+  unput_among : (p : ℕ) (o : Option Activation) (next : Part → Step) → put_among blocks p i k byte j w v o ≡ None → found byte j w next (slot_among o i k) ≡ stuck
   unput_among p None next e = refl
-  unput_among p (Some b) next e = unput_is b.objects i k byte w v next (no_put_block p b (put_in b.objects i k byte w v) e)
+  unput_among p (Some b) next e = unput_is b.objects i k byte j w v next (no_put_block p b (put_in b.objects i k byte j w v) e)
 
   -- where nothing is stored nothing is found
-  unput_found : (o : Option ℕ) (next : Part → Step) → put_through blocks o i k byte w v ≡ None → found byte w next (slot_through blocks o i k) ≡ stuck
+  unput_found : (o : Option ℕ) (next : Part → Step) → put_through blocks o i k byte j w v ≡ None → found byte j w next (slot_through blocks o i k) ≡ stuck
   unput_found None next e = refl
   unput_found (Some p) next e = unput_among p (slice_get blocks p) next e
 
 -- ---- a store to an object of an area
 
-pub record IsStored (known : Known) (a : Area) (i k byte : ℕ) (w : Width) (v : Value) (after : Stored) : Type 0 where
+pub record IsStored (known : Known) (a : Area) (i k byte j : ℕ) (w : Width) (v : Value) (after : Stored) : Type 0 where
   pub objects : List (List Slot)
   pub objects' : List (List Slot)
-  pub put : IsPut objects i k byte w v objects'
+  pub put : IsPut objects i k byte j w v objects'
   pub replaces : Replaces known a objects objects' after
 
-module _ (known : Known) (i k byte : ℕ) (w : Width) (v : Value) where
-  global_stored : (after : Stored) (o : Option (List (List Slot))) → put_in known.globals i k byte w v ≡ o
-      → option_map (λ globals. record (stored_in known) { globals = globals }) o ≡ Some after → IsStored known area.Globals i k byte w v after
+module _ (known : Known) (i k byte j : ℕ) (w : Width) (v : Value) where
+  global_stored : (after : Stored) (o : Option (List (List Slot))) → put_in known.globals i k byte j w v ≡ o
+      → option_map (λ globals. record (stored_in known) { globals = globals }) o ≡ Some after → IsStored known area.Globals i k byte j w v after
   global_stored after None put e = cc
   global_stored after (Some globals) put e = record {
     objects = known.globals;
     objects' = globals;
-    put = put_is known.globals i k byte w v globals put;
+    put = put_is known.globals i k byte j w v globals put;
     replaces = (refl, cc);
   }
 
   region_stored : (n : ℕ) (after : Stored) (held : Option (List (List Slot))) (o : Option (Option (List (List Slot)))) → region_at known.regions n ≡ held
-      → put_held i k byte w v held ≡ o
+      → put_held i k byte j w v held ≡ o
       → option_map (λ regions. record (stored_in known) { regions = regions }) (option_map (slice_set known.regions n) o) ≡ Some after
-      → IsStored known (area.Region n) i k byte w v after
+      → IsStored known (area.Region n) i k byte j w v after
   region_stored n after None None at put e = cc
   region_stored n after None (Some held') at put e = cc
-  region_stored n after (Some objects) o at put e = by (put_in objects i k byte w v) refl put e
+  region_stored n after (Some objects) o at put e = by (put_in objects i k byte j w v) refl put e
     where
-      by : (p : Option (List (List Slot))) → put_in objects i k byte w v ≡ p → option_map Some p ≡ o
+      by : (p : Option (List (List Slot))) → put_in objects i k byte j w v ≡ p → option_map Some p ≡ o
           → option_map (λ regions. record (stored_in known) { regions = regions }) (option_map (slice_set known.regions n) o) ≡ Some after
-          → IsStored known (area.Region n) i k byte w v after
+          → IsStored known (area.Region n) i k byte j w v after
       by None stored is e =
           absurd (let none : option_map (λ regions. record (stored_in known) { regions = regions }) (option_map (slice_set known.regions n) None) ≡ Some after =
           ap (λ o. option_map (λ regions. record (stored_in known) { regions = regions }) (option_map (slice_set known.regions n) o)) is ∙ e in cc)
       by (Some objects') stored is e = record {
         objects = objects;
         objects' = objects';
-        put = put_is objects i k byte w v objects' stored;
+        put = put_is objects i k byte j w v objects' stored;
         replaces = (
           held_there known.regions n objects at,
           (let same : Some (record (stored_in known) { regions = slice_set known.regions n (Some objects') }) ≡ Some after =
@@ -164,12 +186,12 @@ module _ (known : Known) (i k byte : ℕ) (w : Width) (v : Value) where
       }
 
   block_stored : (n : ℕ) (after : Stored) (p : Option ℕ) (o : Option (List Activation)) → position_of known.blocks n ≡ p
-      → put_through known.blocks p i k byte w v ≡ o
-      → option_map (λ blocks. record (stored_in known) { blocks = blocks }) o ≡ Some after → IsStored known (area.Block n) i k byte w v after
+      → put_through known.blocks p i k byte j w v ≡ o
+      → option_map (λ blocks. record (stored_in known) { blocks = blocks }) o ≡ Some after → IsStored known (area.Block n) i k byte j w v after
   block_stored n after None o at put e = cc
   block_stored n after (Some p) None at put e = cc
   block_stored n after (Some p) (Some blocks) at put e =
-      let is = block_put_is known.blocks i k byte w v p blocks put in record {
+      let is = block_put_is known.blocks i k byte j w v p blocks put in record {
         objects = is.block.objects;
         objects' = is.objects';
         put = is.put;
@@ -185,12 +207,12 @@ module _ (known : Known) (i k byte : ℕ) (w : Width) (v : Value) where
       }
 
   values_stored : (n : ℕ) (after : Stored) (p : Option ℕ) (o : Option (List Activation)) → position_of known.owns n ≡ p
-      → put_through known.owns p i k byte w v ≡ o
-      → option_map (λ owns. record (stored_in known) { owns = owns }) o ≡ Some after → IsStored known (area.Own n) i k byte w v after
+      → put_through known.owns p i k byte j w v ≡ o
+      → option_map (λ owns. record (stored_in known) { owns = owns }) o ≡ Some after → IsStored known (area.Own n) i k byte j w v after
   values_stored n after None o at put e = cc
   values_stored n after (Some p) None at put e = cc
   values_stored n after (Some p) (Some owns) at put e =
-      let is = block_put_is known.owns i k byte w v p owns put in record {
+      let is = block_put_is known.owns i k byte j w v p owns put in record {
         objects = is.block.objects;
         objects' = is.objects';
         put = is.put;
@@ -205,89 +227,90 @@ module _ (known : Known) (i k byte : ℕ) (w : Width) (v : Value) where
         );
       }
 
-  pub put_stored : (a : Area) (after : Stored) → put_to (stored_in known) a i k byte w v ≡ Some after → IsStored known a i k byte w v after
-  put_stored area.Globals after e = global_stored after (put_in known.globals i k byte w v) refl e
+  pub put_stored : (a : Area) (after : Stored) → put_to (stored_in known) a i k byte j w v ≡ Some after → IsStored known a i k byte j w v after
+  put_stored area.Globals after e = global_stored after (put_in known.globals i k byte j w v) refl e
   put_stored (area.Region n) after e =
-      region_stored n after (region_at known.regions n) (put_held i k byte w v (region_at known.regions n)) refl refl e
+      region_stored n after (region_at known.regions n) (put_held i k byte j w v (region_at known.regions n)) refl refl e
   put_stored (area.Block n) after e =
-      block_stored n after (position_of known.blocks n) (put_through known.blocks (position_of known.blocks n) i k byte w v) refl refl e
+      block_stored n after (position_of known.blocks n) (put_through known.blocks (position_of known.blocks n) i k byte j w v) refl refl e
   put_stored (area.Own n) after e =
-      values_stored n after (position_of known.owns n) (put_through known.owns (position_of known.owns n) i k byte w v) refl refl e
+      values_stored n after (position_of known.owns n) (put_through known.owns (position_of known.owns n) i k byte j w v) refl refl e
 
   none_mapped : {A B : Type 0} (f : A → B) (o : Option A) → option_map f o ≡ None → o ≡ None
   none_mapped f None e = refl
   none_mapped f (Some x) e = cc
 
-  unput_held : (next : Part → Step) (held : Option (List (List Slot))) → put_held i k byte w v held ≡ None → found byte w next (slot_within held i k) ≡ stuck
+  unput_held : (next : Part → Step) (held : Option (List (List Slot))) → put_held i k byte j w v held ≡ None → found byte j w next (slot_within held i k) ≡ stuck
   unput_held next None e = refl
-  unput_held next (Some objects) e = unput_is objects i k byte w v next (none_mapped Some (put_in objects i k byte w v) e)
+  unput_held next (Some objects) e = unput_is objects i k byte j w v next (none_mapped Some (put_in objects i k byte j w v) e)
 
-  pub unput_stored : (a : Area) (next : Part → Step) → put_to (stored_in known) a i k byte w v ≡ None
-      → found byte w next (slot_in (stored_in known) a i k) ≡ stuck
+  pub unput_stored : (a : Area) (next : Part → Step) → put_to (stored_in known) a i k byte j w v ≡ None
+      → found byte j w next (slot_in (stored_in known) a i k) ≡ stuck
   unput_stored area.Globals next e =
-      unput_is known.globals i k byte w v next (none_mapped (λ globals. record (stored_in known) { globals = globals }) (put_in known.globals i k byte w v) e)
+      unput_is known.globals i k byte j w v next (none_mapped (λ globals. record (stored_in known) { globals = globals }) (put_in known.globals i k byte j w v) e)
   unput_stored (area.Region n) next e =
-      unput_held next (region_at known.regions n) (none_mapped (slice_set known.regions n) (put_held i k byte w v (region_at known.regions n))
-      (none_mapped (λ regions. record (stored_in known) { regions = regions }) (put_region known.regions n i k byte w v) e))
+      unput_held next (region_at known.regions n) (none_mapped (slice_set known.regions n) (put_held i k byte j w v (region_at known.regions n))
+      (none_mapped (λ regions. record (stored_in known) { regions = regions }) (put_region known.regions n i k byte j w v) e))
   unput_stored (area.Block n) next e =
-      unput_found known.blocks i k byte w v (position_of known.blocks n) next
-      (none_mapped (λ blocks. record (stored_in known) { blocks = blocks }) (put_through known.blocks (position_of known.blocks n) i k byte w v) e)
+      unput_found known.blocks i k byte j w v (position_of known.blocks n) next
+      (none_mapped (λ blocks. record (stored_in known) { blocks = blocks }) (put_through known.blocks (position_of known.blocks n) i k byte j w v) e)
   unput_stored (area.Own n) next e =
-      unput_found known.owns i k byte w v (position_of known.owns n) next
-      (none_mapped (λ owns. record (stored_in known) { owns = owns }) (put_through known.owns (position_of known.owns n) i k byte w v) e)
+      unput_found known.owns i k byte j w v (position_of known.owns n) next
+      (none_mapped (λ owns. record (stored_in known) { owns = owns }) (put_through known.owns (position_of known.owns n) i k byte j w v) e)
 
 -- ---- moves
 
 module _ (known : Known) (ws : List Wait) (x : ℕ) (v : Value) (read : content_of v ≡ temp_of known.temps x) where
   -- the memory after a store to an object of an area
-  abbrev after_put : Config → Region → (i k : ℕ) → Slot → Config
-  after_put c r i k s = with_memory (stored c.memory r i k s) c
+  abbrev after_put : Config → Region → (i k j : ℕ) → Slot → Value → Config
+  after_put c r i k j s v = with_memory (stored c.memory r i k j s v) c
 
-  stored_agrees : (a : Area) (i k byte : ℕ) (w : Width) (after : Stored) (is : IsStored known a i k byte w v after) (marks : List Mark) (c : Config)
-      → Agrees known ws marks c
-      → Agrees (with_stored known after) ws marks (after_put c (region_of a) i k (with_value is.put.old (fitted w v)))
-  stored_agrees a i k byte w after is marks c h =
-      replaced_agrees known ws marks c h (stored c.memory (region_of a) i k (with_value is.put.old (fitted w v))).parts a is.objects is.objects' after is.replaces
-      (ap length is.put.after ∙ length-set is.objects i (slice_set is.put.cells k (with_value is.put.old (fitted w v))))
-      (λ t j other. part_elsewhere c.memory (region_of a) i k 0 (first_part (with_value is.put.old (fitted w v))) t j other)
-      (λ y z j.
-      parts_put (replaced_shows known ws marks c h a is.objects is.objects' after is.replaces) i k is.put.cells is.put.old (fitted w v) is.put.object is.put.there y
-      z j
-      ∙ ap (λ os. part_in (slot_at os y z) j) (sym is.put.after))
+  stored_agrees : (a : Area) (i k byte j : ℕ) (w : Width) (after : Stored) (is : IsStored known a i k byte j w v after) (marks : List Mark) (c : Config)
+      → Agrees known ws marks c → keeps j (fitted w v) ≡ true
+      → Agrees (with_stored known after) ws marks (after_put c (region_of a) i k j is.put.old (fitted w v))
+  stored_agrees a i k byte j w after is marks c h keep =
+      replaced_agrees known ws marks c h (stored c.memory (region_of a) i k j is.put.old (fitted w v)).parts a is.objects is.objects' after is.replaces
+      (ap length is.put.after ∙ length-set is.objects i (slice_set is.put.cells k (with_held is.put.old is.put.holds)))
+      (λ t x other. part_elsewhere c.memory (region_of a) i k j (valued_part is.put.old j (fitted w v)) t x other)
+      (λ y z x.
+      parts_put (replaced_shows known ws marks c h a is.objects is.objects' after is.replaces) i k j is.put.cells is.put.old (fitted w v) is.put.holds
+      is.put.object is.put.there keep is.put.set y z x
+      ∙ ap (λ os. part_in (slot_at os y z) x) (sym is.put.after))
 
-  stored_step : (a : Area) (i k b cells bytes : ℕ) (w : Width) (after : Stored) (is : IsStored known a i (k + cells) (b + bytes) w v after) (marks : List Mark)
-      (c : Config)
-      → Agrees known ws marks c → (next : Memory → Step)
-      → reached c.memory (record { cells = cells; bytes = bytes; part = 0; width = bytes_of w }) (spot_of (region_of a) i k) b
-      (λ at q. next (with_part c.memory at 0 (record q { content = fitting (bytes_of w) (c.temps x) })))
-      ≡ next (stored c.memory (region_of a) i (k + cells) (with_value is.put.old (fitted w v)))
-  stored_step a i k b cells bytes w after is marks c h next =
-      store_is (replaced_shows known ws marks c h a is.objects is.objects' after is.replaces) i k b cells bytes w v is.put (c.temps x) (h.temps x ∙ sym read) next
+  stored_step : (a : Area) (i k b cells bytes j : ℕ) (w : Width) (after : Stored) (is : IsStored known a i (k + cells) (b + bytes) j w v after)
+      (marks : List Mark) (c : Config)
+      → Agrees known ws marks c → is_kept j w ≡ true → keeps j (fitted w v) ≡ true → (next : Memory → Step)
+      → reached c.memory (record { cells = cells; bytes = bytes; part = j; width = bytes_of w }) (spot_of (region_of a) i k) b
+      (λ at q. next (with_part c.memory at j (record q { content = fitting (bytes_of w) (c.temps x) })))
+      ≡ next (stored c.memory (region_of a) i (k + cells) j is.put.old (fitted w v))
+  stored_step a i k b cells bytes j w after is marks c h kept keep next =
+      store_is (replaced_shows known ws marks c h a is.objects is.objects' after is.replaces) i k b cells bytes j w v kept keep is.put (c.temps x)
+      (h.temps x ∙ sym read) next
 
   -- a store to a local, as a store to an object of its block
   own_stored : (p i : ℕ) (w : Width) (blocks : List Activation) (b : Activation) → slice_get known.blocks p ≡ Some b
       → position_of known.blocks b.number ≡ Some p
-      → put_through known.blocks (Some p) i 0 0 w v ≡ Some blocks
-      → IsStored known (area.Block b.number) i 0 0 w v (record (stored_in known) { blocks = blocks })
+      → put_through known.blocks (Some p) i 0 0 0 w v ≡ Some blocks
+      → IsStored known (area.Block b.number) i 0 0 0 w v (record (stored_in known) { blocks = blocks })
   own_stored p i w blocks b there at e =
-      block_stored known i 0 0 w v b.number (record (stored_in known) { blocks = blocks }) (Some p) (Some blocks) at e refl
+      block_stored known i 0 0 0 w v b.number (record (stored_in known) { blocks = blocks }) (Some p) (Some blocks) at e refl
 
   own_put : (out i : ℕ) (w : Width) (blocks : List Activation) (o : Option ℕ) → own_position known.base known.blocks out ≡ o
-      → put_through known.blocks o i 0 0 w v ≡ Some blocks
+      → put_through known.blocks o i 0 0 0 w v ≡ Some blocks
       → IsMove (Execute (core.Do (core.Put out i (bytes_of w) x))) ws known (Go (Leave steps.Falls)) ws (record known { blocks = blocks })
   own_put out i w blocks None own e = cc
   own_put out i w blocks (Some p) own e =
-      let is = block_put_is known.blocks i 0 0 w v p blocks e in
+      let is = block_put_is known.blocks i 0 0 0 w v p blocks e in
       record {
         still = all_stand _ ws known _ ws (record known { blocks = blocks }) (λ main marks c h.
             let at = position_is known.entered known.blocks p is.block (ordered known ws marks c h).0 is.there in
             let s = own_stored p i w blocks is.block is.there at e in
-            goes_here main marks (after_put c (Frame is.block.number) i 0 (with_value s.put.old (fitted w v))) _ _ ws (record known { blocks = blocks })
-            (stored_agrees (area.Block is.block.number) i 0 0 w (record (stored_in known) { blocks = blocks }) s marks c h)
+            goes_here main marks (after_put c (Frame is.block.number) i 0 0 s.put.old (fitted w v)) _ _ ws (record known { blocks = blocks })
+            (stored_agrees (area.Block is.block.number) i 0 0 0 w (record (stored_in known) { blocks = blocks }) s marks c h refl)
             (ap (λ n. needed n (λ k. reached c.memory (at_once (bytes_of w)) (local_spot k i) 0 (λ at q.
             rest_of main ws marks steps.Falls (with_memory (with_part c.memory at 0 (record q { content = fitting (bytes_of w) (c.temps x) })) c))))
             (own_number known ws marks c h out ∙ ap (number_through known.blocks) own ∙ ap (option_map (λ b. b.number)) is.there)
-            ∙ stored_step (area.Block is.block.number) i 0 0 0 0 w (record (stored_in known) { blocks = blocks }) s marks c h
+            ∙ stored_step (area.Block is.block.number) i 0 0 0 0 0 w (record (stored_in known) { blocks = blocks }) s marks c h refl refl
             (λ m. rest_of main ws marks steps.Falls (with_memory m c))));
         fewer = omega arith;
       }
@@ -306,41 +329,52 @@ module _ (known : Known) (ws : List Wait) (x : ℕ) (v : Value) (read : content_
       goes_wrong (core.Put out i (bytes_of w) x) ws known (λ marks c h next.
       own_is known ws marks c h out i w (λ at q. next (with_memory (with_part c.memory at 0 (record q { content = fitting (bytes_of w) (c.temps x) })) c))
       ∙ stuck_found (number_through known.blocks (own_position known.base known.blocks out))
-      (λ k. found 0 w (λ q. next (with_memory (with_part c.memory (local_spot k i) 0 (record q { content = fitting (bytes_of w) (c.temps x) })) c))
+      (λ k. found 0 0 w (λ q. next (with_memory (with_part c.memory (local_spot k i) 0 (record q { content = fitting (bytes_of w) (c.temps x) })) c))
       (local_slot known.base known.blocks out i))
-      (λ k. unput_found known.blocks i 0 0 w v (own_position known.base known.blocks out)
+      (λ k. unput_found known.blocks i 0 0 0 w v (own_position known.base known.blocks out)
       (λ q. next (with_memory (with_part c.memory (local_spot k i) 0 (record q { content = fitting (bytes_of w) (c.temps x) })) c)) e))
 
   -- ---- through a pointer
 
-  module _ (y : ℕ) (u : Value) (read_place : content_of u ≡ temp_of known.temps y) (p : Place) (is_place : u ≡ value.Pointer p) (d : Distance) where
+  module _ (y : ℕ) (u : Value) (read_place : content_of u ≡ temp_of known.temps y) (p : Place) (is_place : u ≡ value.Pointer p) (d : Distance)
+      (kept : is_kept d.part d.width ≡ true) (keep : keeps d.part v ≡ true) where
+    -- what is kept of it
+    keep_fitted : keeps d.part (fitted d.width v) ≡ true
+    keep_fitted = by d.part d.width kept keep
+      where
+        by : (j : ℕ) (w : Width) → is_kept j w ≡ true → keeps j v ≡ true → keeps j (fitted w v) ≡ true
+        by zero w kept keep = refl
+        by (suc j) width.Word kept keep = keep
+        by (suc j) width.Byte kept keep =
+            absurd (let none : is_kept (suc j) width.Byte ≡ false = ap (λ b. b || false) (eqb-suc-zero j) in let no : false ≡ true = sym none ∙ kept in cc)
+
     -- what a store does to each state
     abbrev stores : (c : Config) → (Config → Step) → Content → Step
     stores c next z = pointer_of z (λ s b. reached c.memory (distance_tree d) s b (λ at q.
-        next (with_memory (with_part c.memory at 0 (record q { content = fitting (bytes_of d.width) (c.temps x) })) c)))
+        next (with_memory (with_part c.memory at d.part (record q { content = fitting (bytes_of d.width) (c.temps x) })) c)))
 
     pub store_moves : (after : Stored)
-        → (AreInOrder known → put_to (stored_in known) p.area p.object (p.cell + d.cells) (p.byte + d.bytes) d.width v ≡ Some after)
+        → (AreInOrder known → put_to (stored_in known) p.area p.object (p.cell + d.cells) (p.byte + d.bytes) d.part d.width v ≡ Some after)
         → IsMove (Execute (core.Do (core.Store y (distance_tree d) x))) ws known (Go (Leave steps.Falls)) ws (with_stored known after)
     store_moves after e = record {
       still = all_stand _ ws known _ ws (with_stored known after) (λ main marks c h.
-          let is = put_stored known p.object (p.cell + d.cells) (p.byte + d.bytes) d.width v p.area after (e (ordered known ws marks c h)) in
-          goes_here main marks (after_put c (region_of p.area) p.object (p.cell + d.cells) (with_value is.put.old (fitted d.width v))) _ _ ws
+          let is = put_stored known p.object (p.cell + d.cells) (p.byte + d.bytes) d.part d.width v p.area after (e (ordered known ws marks c h)) in
+          goes_here main marks (after_put c (region_of p.area) p.object (p.cell + d.cells) d.part is.put.old (fitted d.width v)) _ _ ws
           (with_stored known after)
-          (stored_agrees p.area p.object (p.cell + d.cells) (p.byte + d.bytes) d.width after is marks c h)
+          (stored_agrees p.area p.object (p.cell + d.cells) (p.byte + d.bytes) d.part d.width after is marks c h keep_fitted)
           (ap (stores c (rest_of main ws marks steps.Falls)) (h.temps y ∙ sym read_place ∙ ap content_of is_place)
-          ∙ stored_step p.area p.object p.cell p.byte d.cells d.bytes d.width after is marks c h (λ m. rest_of main ws marks steps.Falls (with_memory m c))));
+          ∙ stored_step p.area p.object p.cell p.byte d.cells d.bytes d.part d.width after is marks c h kept keep_fitted (λ m. rest_of main ws marks steps.Falls (with_memory m c))));
       fewer = omega arith;
     }
 
-    pub store_wrong : (AreInOrder known → put_to (stored_in known) p.area p.object (p.cell + d.cells) (p.byte + d.bytes) d.width v ≡ None)
+    pub store_wrong : (AreInOrder known → put_to (stored_in known) p.area p.object (p.cell + d.cells) (p.byte + d.bytes) d.part d.width v ≡ None)
         → IsMove (Execute (core.Do (core.Store y (distance_tree d) x))) ws known Wrong ws known
     store_wrong e =
         goes_wrong (core.Store y (distance_tree d) x) ws known (λ marks c h next.
         ap (stores c next) (h.temps y ∙ sym read_place ∙ ap content_of is_place)
         ∙ placed known ws marks c h p d
-        (λ at q. next (with_memory (with_part c.memory at 0 (record q { content = fitting (bytes_of d.width) (c.temps x) })) c))
-        ∙ unput_stored known p.object (p.cell + d.cells) (p.byte + d.bytes) d.width v p.area
-        (λ q. next (with_memory (with_part c.memory (spot_of (region_of p.area) p.object (p.cell + d.cells)) 0
+        (λ at q. next (with_memory (with_part c.memory at d.part (record q { content = fitting (bytes_of d.width) (c.temps x) })) c)) kept
+        ∙ unput_stored known p.object (p.cell + d.cells) (p.byte + d.bytes) d.part d.width v p.area
+        (λ q. next (with_memory (with_part c.memory (spot_of (region_of p.area) p.object (p.cell + d.cells)) d.part
         (record q { content = fitting (bytes_of d.width) (c.temps x) })) c))
         (e (ordered known ws marks c h)))

@@ -1,20 +1,21 @@
 -- From what the code that goes on answers to a move.
-use Rattle.std.proofs.Common.{◌≡◌, ℕ, List, [], ◌∷◌, map, drop, Result, Ok, Err, IfOk, refl, ap, ◌∙◌, sym, subst}
+use Rattle.std.proofs.Common.{◌≡◌, ℕ, true, false, List, [], ◌∷◌, map, drop, Result, Ok, Err, IfOk, refl, ap, ◌∙◌, sym, subst}
+use Rattle.core_meaning.specs.Memory.{Content}
 use Rattle.core_meaning.specs.Steps as steps
 use Rattle.core_meaning.specs.Steps.{Exit}
 use Rattle.core_eval.specs.declared.value.Value.{Value}
 use Rattle.core_eval.specs.declared.frame.Frame.{Frame}
 use Rattle.core_eval.specs.declared.memory.Memory.{Memory}
 use Rattle.core_eval.specs.declared.pending.Due.{Due}
-use Rattle.core_eval.specs.Values.{content_of, cells_of}
+use Rattle.core_eval.specs.Values.{cells_of}
 use Rattle.core_eval.specs.Regions.{held_objects}
 use Rattle.core_eval.specs.Blocks.{activation_of}
-use Rattle.core_eval.specs.Pendings.{Task, Leave, Wait, Block, Caller, Next, Go, next_of, saved_of}
-use Rattle.core_eval.specs.Standing.{Known, Gives, LeavesCall, known_of}
+use Rattle.core_eval.specs.Pendings.{Task, Leave, Wait, Block, Caller, Next, Go, Wrong, next_of, saved_of}
+use Rattle.core_eval.specs.Standing.{Known, Takes, LeavesCall, are_as_many, known_of}
 use Rattle.core_eval.specs.Costs.{IsMove}
 use Rattle.core_eval.proofs.Known.{known_same}
 use Rattle.core_eval.proofs.BlockMoves.{outside_of, block_leaves}
-use Rattle.core_eval.proofs.LeaveMoves.{one_returned}
+use Rattle.core_eval.proofs.LeaveMoves.{result_taken, result_unfit}
 
 -- how it is left, and what waited, said in another way
 pub left_as : (exit exit' : Exit) (ws ws' : List Wait) (known : Known) (next : Next) (rest : List Wait) (known' : Known) → exit' ≡ exit → ws' ≡ ws
@@ -61,18 +62,26 @@ block_left exit ws f m m' blocks entered owns called globals regions =
     (ap (λ gs. map cells_of gs.items) globals) (ap (λ rs. map held_objects rs.items) regions)))
     (block_leaves exit ws (known_of f m))
 
--- a temporary of the caller gets the result
-pub result_taken : (exit : Exit) (results : List ℕ) (n t : ℕ) (v : Value) (saved f f' : Frame) (ws : List Wait) (m m' : Memory) → LeavesCall m m' → exit
-    ≡ steps.Returns (content_of v ∷ [])
-    → results ≡ t ∷ [] → Gives t (content_of v) saved.temps.items f'.temps.items → f'.base ≡ saved.base
-    → IsMove (Leave exit) (Caller results n (saved_of saved) ∷ ws) (known_of f m) (Go (Leave steps.Falls)) ws (known_of f' m')
-result_taken exit results n t v saved f f' ws m m' left is to gives base =
-    left_to (steps.Returns (content_of v ∷ [])) exit (Caller (t ∷ []) n (saved_of saved) ∷ ws) (Caller results n (saved_of saved) ∷ ws)
-    (known_of f m) _ ws _ (known_of f' m') is
-    (ap (λ r. Caller r n (saved_of saved) ∷ ws) to)
-    (left_known f f' m m' left
-    ∙ ap (λ b. record (known_of f m) { temps = f'.temps.items; base = b; owns = drop 1 (map activation_of m.owns.items) }) base)
-    (one_returned (known_of f m) ws n t (content_of v) (saved_of saved) f'.temps.items gives)
+module _ (exit : Exit) (results : List ℕ) (n : ℕ) (vs : List Content) (saved f f' : Frame) (ws : List Wait) (m m' : Memory) (left : LeavesCall m m')
+    (is : exit ≡ steps.Returns vs) (base : f'.base ≡ saved.base) where
+  abbrev back_known : List Value → ℕ → Known
+  back_known temps b = record (known_of f m) { temps = temps; base = b; owns = drop 1 (map activation_of m.owns.items) }
+
+  -- the temporaries of the caller get the result
+  pub result_given : are_as_many results vs ≡ true → Takes results vs saved.temps.items f'.temps.items
+      → IsMove (Leave exit) (Caller results n (saved_of saved) ∷ ws) (known_of f m) (Go (Leave steps.Falls)) ws (known_of f' m')
+  result_given fits takes =
+      left_to (steps.Returns vs) exit (Caller results n (saved_of saved) ∷ ws) (Caller results n (saved_of saved) ∷ ws) (known_of f m) _ ws _ (known_of f' m') is refl
+      (left_known f f' m m' left ∙ ap (λ b. back_known f'.temps.items b) base)
+      (result_taken (known_of f m) ws results n vs (saved_of saved) f'.temps.items fits takes)
+
+  -- it is of another number of words
+  pub result_ungiven : are_as_many results vs ≡ false → f'.temps.items ≡ saved.temps.items
+      → IsMove (Leave exit) (Caller results n (saved_of saved) ∷ ws) (known_of f m) Wrong ws (known_of f' m')
+  result_ungiven unfit kept =
+      left_to (steps.Returns vs) exit (Caller results n (saved_of saved) ∷ ws) (Caller results n (saved_of saved) ∷ ws) (known_of f m) _ ws _ (known_of f' m') is refl
+      (left_known f f' m m' left ∙ ap (λ b. back_known f'.temps.items b) base ∙ ap (λ ts. back_known ts saved.base) kept)
+      (result_unfit (known_of f m) ws results n vs (saved_of saved) unfit)
 
 -- nothing waits
 pub main_left : (exit : Exit) (ws rest : List Wait) (known : Known) (next : Next) → ws ≡ [] → rest ≡ [] → IsMove (Leave exit) [] known next [] known

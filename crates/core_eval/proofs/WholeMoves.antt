@@ -1,12 +1,13 @@
 -- Whole objects copied and cleared, as Core does it.
-use Rattle.std.specs.Prelude.{if◌then◌else◌, not, ◌&&◌, nat_eq, nat_le, nat_lt, map, slice_get, slice_set, option_map}
+use Rattle.std.specs.Prelude.{if◌then◌else◌, not, ◌&&◌, nat_eq, nat_le, nat_lt, slice_get, slice_set, option_map}
 use Rattle.std.proofs.Common.{
   ◌≡◌,
   ℕ,
   ◌+◌,
   ◌-◌,
   ◌*◌,
-  ◌<◌,
+  ◌/◌,
+  ◌%◌,
   Bool,
   true,
   false,
@@ -24,10 +25,9 @@ use Rattle.std.proofs.Common.{
 }
 use Rattle.std.proofs.lemmas.Bool.{and_parts}
 use Rattle.std.proofs.lemmas.List.{length-map}
-use Rattle.std.proofs.Math.Bool.{and-false, and-true}
-use Rattle.std.proofs.Math.Nat.{mod-eq_of_lt}
-use Rattle.core_meaning.specs.Memory as memory
-use Rattle.core_meaning.specs.Memory.{Region, Content, Pointer, Spot, Part, PartShape, Layout, Memory, is_live, shape_in}
+use Rattle.std.proofs.lemmas.Nat.{div-add-mod'}
+use Rattle.std.proofs.Math.Bool.{and-false}
+use Rattle.core_meaning.specs.Memory.{Content, Spot, Part, PartShape, Layout, Memory, is_live, shape_in}
 use Rattle.core_meaning.specs.Core as core
 use Rattle.core_meaning.specs.Steps as steps
 use Rattle.core_meaning.specs.Steps.{Config, with_memory, Step, checked, pointer_of}
@@ -50,18 +50,24 @@ use Rattle.core_eval.specs.declared.value.Area.TheVariants as area
 use Rattle.core_eval.specs.declared.value.Place.{Place}
 use Rattle.core_eval.specs.declared.value.Value.{Value}
 use Rattle.core_eval.specs.declared.value.Value.TheVariants as value
+use Rattle.core_eval.specs.declared.held.Held.{Held}
 use Rattle.core_eval.specs.declared.value.Slot.{Slot}
-use Rattle.core_eval.specs.Values.{region_of, spot_of, place_spot, content_of, temp_of, part_in}
-use Rattle.core_eval.specs.Blocks.{Activation, Stored, position_of}
-use Rattle.core_eval.specs.Regions.{region_at}
+use Rattle.core_eval.specs.Values.{region_of, spot_of, place_spot, content_of, temp_of, part_in, slot_at}
+use Rattle.core_eval.specs.Blocks.{Activation, Stored, position_of, slot_in, slot_among, slot_through}
+use Rattle.core_eval.specs.Regions.{region_at, still_held, slot_within}
+use Rattle.core_eval.specs.Whole as whole
 use Rattle.core_eval.specs.Whole.{
+  are_cells,
   slots_of,
   is_found,
   is_still,
   is_held,
+  is_cell,
   are_laid,
+  has_elements,
   same_object,
   values_from,
+  first_elements,
   fill_in,
   fill_held,
   fill_among,
@@ -69,14 +75,13 @@ use Rattle.core_eval.specs.Whole.{
   fill_to,
 }
 use Rattle.core_eval.specs.Pendings.{Execute, Leave, Wait, Go, Wrong, Mark, rest_of}
-use Rattle.core_eval.specs.Standing.{Known, Agrees, first_held}
+use Rattle.core_eval.specs.Standing.{Known, Agrees}
 use Rattle.core_eval.specs.Costs.{IsMove}
-use Rattle.core_eval.proofs.Lists.{get_less}
 use Rattle.core_eval.proofs.Nested.{position_there}
 use Rattle.core_eval.proofs.Born.{held_there}
 use Rattle.core_eval.proofs.Changes.{stored_in, with_stored, Replaces, replaced_shows, replaced_agrees}
 use Rattle.core_eval.proofs.MemoryMoves.{AreInOrder, ordered, same_regions}
-use Rattle.core_eval.proofs.Laid.{held_part, laid_is}
+use Rattle.core_eval.proofs.Laid.{held_part, laid_is, elements_is}
 use Rattle.core_eval.proofs.Filled.{filled_slot, fill_length, object_changed}
 use Rattle.core_eval.proofs.WholeParts.{
   copied_by,
@@ -89,13 +94,15 @@ use Rattle.core_eval.proofs.WholeParts.{
   cell_at,
   cell_copied,
   cell_cleared,
-  held_first,
+  element_laid,
+  first_at,
+  first_long,
 }
 use Rattle.core_eval.proofs.Moves.{all_stand, goes_here, goes_wrong}
 
 -- ---- an area whose cells get other values
 
-module _ (known : Known) (i k : ℕ) (vs : List Value) where
+module _ (known : Known) (i k : ℕ) (vs : List Held) where
   block_filled : (n p : ℕ) (o : Option Activation) → position_of known.blocks n ≡ Some p → slice_get known.blocks p ≡ o
       → (objects : List (List Slot))
       × Replaces known (area.Block n) objects (fill_in objects i k vs) (record (stored_in known) { blocks = fill_among known.blocks p i k vs o })
@@ -138,20 +145,35 @@ module _ (known : Known) (i k : ℕ) (vs : List Value) where
       by None e held = absurd (cc)
       by (Some p) e held = values_filled n p (slice_get known.owns p) e refl
 
+-- the cells of the area's objects
+replaced_slots : (known : Known) (a : Area) (objects objects' : List (List Slot)) (after : Stored) → Replaces known a objects objects' after → (i k : ℕ)
+    → slot_in (stored_in known) a i k ≡ slot_at objects i k
+replaced_slots known area.Globals objects objects' after (same, is) i k = ap (λ os. slot_at os i k) (sym same)
+replaced_slots known (area.Region n) objects objects' after (at, is) i k = ap (λ o. slot_within (still_held o) i k) at
+replaced_slots known (area.Block n) objects objects' after (p, b, at, there, same, is) i k =
+    ap (λ o. slot_through known.blocks o i k) at ∙ ap (λ o. slot_among o i k) there ∙ ap (λ os. slot_at os i k) (sym same)
+replaced_slots known (area.Own n) objects objects' after (p, b, at, there, same, is) i k =
+    ap (λ o. slot_through known.owns o i k) at ∙ ap (λ o. slot_among o i k) there ∙ ap (λ os. slot_at os i k) (sym same)
+
 -- after a change of the parts of as many cells as there are values, which gives each its value, all is known as it is stored
-module _ (known : Known) (ws : List Wait) (marks : List Mark) (c : Config) (h : Agrees known ws marks c) (p : Place) (vs : List Value)
+module _ (known : Known) (ws : List Wait) (marks : List Mark) (c : Config) (h : Agrees known ws marks c) (p : Place) (vs : List Held)
     (held : is_held (stored_in known) p.area ≡ true)
     (change : Option ℕ → ℕ → Option Part → Option Part) (n : ℕ) (long : length vs ≡ n)
     (none : (j : ℕ) (o : Option Part) → change None j o ≡ o)
-    (some : (q j : ℕ) (o : Option Slot) (v : Value) → slice_get vs q ≡ Some v → change (Some q) j (part_in o j) ≡ part_in (filled_slot (Some v) o) j) where
+    (some : (q j : ℕ) (v : Held) → slice_get vs q ≡ Some v
+    → change (Some q) j (part_in (slots_of (stored_in known) p (p.cell + q)) j) ≡ part_in (filled_slot (Some v) (slots_of (stored_in known) p (p.cell + q))) j) where
   change_agrees : (parts' : Spot → ℕ → Option Part) → ((t : Spot) (j : ℕ) → parts' t j ≡ change (cells_on n (place_spot p) t) j (c.memory.parts t j))
       → Agrees (with_stored known (fill_to (stored_in known) p.area p.object p.cell vs)) ws marks (with_memory (record c.memory { parts = parts' }) c)
   change_agrees parts' is =
       let (objects, replaces) = replaced known p.object p.cell vs p.area held in
-      let shows = replaced_shows known ws marks c h p.area objects (fill_in objects p.object p.cell vs) (fill_to (stored_in known) p.area p.object p.cell vs)
-      replaces in
-      replaced_agrees known ws marks c h parts' p.area objects (fill_in objects p.object p.cell vs)
-      (fill_to (stored_in known) p.area p.object p.cell vs) replaces
+      let after : Stored = fill_to (stored_in known) p.area p.object p.cell vs in
+      let shows = replaced_shows known ws marks c h p.area objects (fill_in objects p.object p.cell vs) after replaces in
+      let own : (q j : ℕ) (v : Held) → slice_get vs q ≡ Some v
+      → change (Some q) j (part_in (slot_at objects p.object (p.cell + q)) j) ≡ part_in (filled_slot (Some v) (slot_at objects p.object (p.cell + q))) j =
+      λ q j v e. subst
+      (λ (o : Option Slot). change (Some q) j (part_in o j) ≡ part_in (filled_slot (Some v) o) j)
+      (replaced_slots known p.area objects (fill_in objects p.object p.cell vs) after replaces p.object (p.cell + q)) (some q j v e) in
+      replaced_agrees known ws marks c h parts' p.area objects (fill_in objects p.object p.cell vs) after replaces
       (fill_length objects p.object p.cell vs)
       (λ t j other.
       is t j
@@ -162,7 +184,7 @@ module _ (known : Known) (ws : List Wait) (marks : List Mark) (c : Config) (h : 
       (λ x y j.
       is (spot_of (region_of p.area) x y) j
       ∙ ap (change (cells_on n (place_spot p) (spot_of (region_of p.area) x y)) j) (shows.holds x y j)
-      ∙ object_changed change n vs long none some objects (region_of p.area) p.object p.cell x y j)
+      ∙ object_changed change n vs long none objects p.object p.cell own (region_of p.area) x y j)
 
 -- ---- moves
 
@@ -214,7 +236,7 @@ module _ (known : Known) (ws : List Wait) (x : ℕ) (u : Value) (read : content_
         (next (with_memory (copied tree (place_spot p) (place_spot q) c.memory) c)))
         (same_regions p.area q.area)
 
-    abbrev pub copied_values : List Value
+    abbrev pub copied_values : List Held
     copied_values = values_from (slots_of (stored_in known) q) q.cell cs
 
     copied_agrees : (marks : List Mark) (c : Config) → Agrees known ws marks c → are_laid (stored_in known) p cs ≡ true
@@ -236,15 +258,21 @@ module _ (known : Known) (ws : List Wait) (x : ℕ) (u : Value) (read : content_
         unchanged None w = refl
         unchanged (Some z) w = refl
 
-        one : (n j : ℕ) (o : Option Slot) (w : Value) → slice_get copied_values n ≡ Some w
-            → copied_by (part_in o j) (part_of tree (Some n) j) (c.memory.parts (on_from (place_spot q) (Some n)) j) ≡ part_in (filled_slot (Some w) o) j
-        one n j o w e =
+        one : (n j : ℕ) (w : Held) → slice_get copied_values n ≡ Some w
+            → copied_by (part_in (slots_of (stored_in known) p (p.cell + n)) j) (part_of tree (Some n) j)
+            (c.memory.parts (on_from (place_spot q) (Some n)) j)
+            ≡ part_in (filled_slot (Some w) (slots_of (stored_in known) p (p.cell + n))) j
+        one n j w e =
+            let o : Option Slot = slots_of (stored_in known) p (p.cell + n) in
             let (d, at, same) = values_at (slots_of (stored_in known) q) cs q.cell n w e in
             let (held, cells) = and_parts _ _ laid_from in
+            let cells_to = (and_parts (is_held (stored_in known) p.area) (are_cells (slots_of (stored_in known) p) p.cell p.byte cs) laid).1 in
             ap (λ (z : Option PartShape). copied_by (part_in o j) z (c.memory.parts (on_from (place_spot q) (Some n)) j))
             (ap (λ z. shape_in z j) (cell_at cs n d at))
             ∙ ap (copied_by (part_in o j) (slice_get (cell_parts d) j)) (held_part known ws marks c h q.area q.object (q.cell + n) j held)
-            ∙ cell_copied o d (slots_of (stored_in known) q (q.cell + n)) q.byte j (cell_there (slots_of (stored_in known) q) q.byte cs q.cell n d cells at)
+            ∙ cell_copied o d (slots_of (stored_in known) q (q.cell + n)) p.byte q.byte j
+            (cell_there (slots_of (stored_in known) p) p.byte cs p.cell n d cells_to at)
+            (cell_there (slots_of (stored_in known) q) q.byte cs q.cell n d cells at)
             ∙ ap (λ z. part_in (filled_slot (Some z) o) j) (sym same)
 
     pub copy_moves : (after : Stored) → (AreInOrder known → can_copy ≡ true)
@@ -272,61 +300,71 @@ module _ (known : Known) (ws : List Wait) (x : ℕ) (u : Value) (read : content_
 
   -- ---- a clearing
 
-  abbrev clears : Memory → Config → (Config → Step) → Content → Step
-  clears m c next z = pointer_of z (λ s b.
-      checked (is_live (m.standing s.region) && are_elements m s b tree 1) (next (with_memory (cleared tree 1 s m) c)))
+  module _ (count : ℕ) where
+    abbrev clears : Memory → Config → (Config → Step) → Content → Step
+    clears m c next z = pointer_of z (λ s b.
+        checked (is_live (m.standing s.region) && are_elements m s b tree count) (next (with_memory (cleared tree count s m) c)))
 
-  clears_is : (marks : List Mark) (c : Config) → Agrees known ws marks c → (next : Config → Step)
-      → clears c.memory c next (c.temps x) ≡ checked (are_laid (stored_in known) p cs) (next (with_memory (cleared tree 1 (place_spot p) c.memory) c))
-  clears_is marks c h next =
-      ap (clears c.memory c next) (h.temps x ∙ sym read ∙ ap content_of is)
-      ∙ ap (λ b. checked (is_live (c.memory.standing (region_of p.area)) && b) (next (with_memory (cleared tree 1 (place_spot p) c.memory) c)))
-      (and-true (operations.are_laid c.memory (place_spot p) p.byte tree.cells))
-      ∙ ap (λ b. checked b (next (with_memory (cleared tree 1 (place_spot p) c.memory) c))) (laid_is known ws marks c h p cs l.bytes)
+    clears_is : (marks : List Mark) (c : Config) → Agrees known ws marks c → (next : Config → Step)
+        → clears c.memory c next (c.temps x)
+        ≡ checked (has_elements (stored_in known) p l count) (next (with_memory (cleared tree count (place_spot p) c.memory) c))
+    clears_is marks c h next =
+        ap (clears c.memory c next) (h.temps x ∙ sym read ∙ ap content_of is)
+        ∙ ap (λ b. checked b (next (with_memory (cleared tree count (place_spot p) c.memory) c))) (elements_is known ws marks c h p l count)
 
-  cleared_agrees : (marks : List Mark) (c : Config) → Agrees known ws marks c → are_laid (stored_in known) p cs ≡ true
-      → Agrees (with_stored known (fill_to (stored_in known) p.area p.object p.cell (map first_held cs))) ws marks
-      (with_memory (cleared tree 1 (place_spot p) c.memory) c)
-  cleared_agrees marks c h laid =
-      change_agrees known ws marks c h p (map first_held cs) (and_parts _ _ laid).0
-      (λ k j o. cleared_by o (part_of tree (in_element tree k) j))
-      (1 * length tree.cells)
-      (let a = length-map cs first_held in let b = length-map cs cell_parts in omega (arith, a, b))
-      (λ j o. unchanged o)
-      one
-      (cleared tree 1 (place_spot p) c.memory).parts
-      (λ t j. cleared_part tree c.memory (place_spot p) t j (c.memory.parts t j) refl)
-    where
-      unchanged : (o : Option Part) → cleared_by o None ≡ o
-      unchanged None = refl
-      unchanged (Some z) = refl
+    cleared_agrees : (marks : List Mark) (c : Config) → Agrees known ws marks c → has_elements (stored_in known) p l count ≡ true
+        → Agrees (with_stored known (fill_to (stored_in known) p.area p.object p.cell (first_elements cs count))) ws marks
+        (with_memory (cleared tree count (place_spot p) c.memory) c)
+    cleared_agrees marks c h laid =
+        change_agrees known ws marks c h p (first_elements cs count) (and_parts _ _ laid).0
+        (λ k j o. cleared_by o (part_of tree (in_element tree k) j))
+        (count * length tree.cells)
+        (first_long cs 0 count ∙ ap (λ n. count * n) (sym (length-map cs cell_parts)))
+        (λ j o. unchanged o)
+        one
+        (cleared tree count (place_spot p) c.memory).parts
+        (λ t j. cleared_part tree c.memory (place_spot p) count t j (c.memory.parts t j) refl)
+      where
+        unchanged : (o : Option Part) → cleared_by o None ≡ o
+        unchanged None = refl
+        unchanged (Some z) = refl
 
-      one : (n j : ℕ) (o : Option Slot) (w : Value) → slice_get (map first_held cs) n ≡ Some w
-          → cleared_by (part_in o j) (part_of tree (in_element tree (Some n)) j) ≡ part_in (filled_slot (Some w) o) j
-      one n j o w e =
-          let (d, at, same) = held_first cs n w e in
-          let less : n < length (map cell_parts cs) = get_less (map cell_parts cs) n (cell_parts d) (cell_at cs n d at) in
-          ap (λ k. cleared_by (part_in o j) (shape_in (slice_get tree.cells k) j)) (mod-eq_of_lt less)
-          ∙ ap (λ (z : Option (List PartShape)). cleared_by (part_in o j) (shape_in z j)) (cell_at cs n d at)
-          ∙ cell_cleared o d j ∙ ap (λ z. part_in (filled_slot (Some z) o) j) (sym same)
+        one : (n j : ℕ) (w : Held) → slice_get (first_elements cs count) n ≡ Some w
+            → cleared_by (part_in (slots_of (stored_in known) p (p.cell + n)) j) (part_of tree (in_element tree (Some n)) j)
+            ≡ part_in (filled_slot (Some w) (slots_of (stored_in known) p (p.cell + n))) j
+        one n j w e =
+            let o : Option Slot = slots_of (stored_in known) p (p.cell + n) in
+            let f = first_at cs count n w e in
+            let elements =
+            (and_parts (is_held (stored_in known) p.area) (whole.are_elements (slots_of (stored_in known) p) p.cell p.byte cs l.bytes count) laid).1 in
+            let element = n / length cs in
+            let whole : element * length cs + n % length cs ≡ n = div-add-mod' n (length cs) in
+            let at : p.cell + element * length cs + n % length cs ≡ p.cell + n = omega (arith, whole) in
+            let laid_there : is_cell o (p.byte + element * l.bytes) f.cell ≡ true =
+            sym (ap (λ k. is_cell (slots_of (stored_in known) p k) (p.byte + element * l.bytes) f.cell) at)
+            ∙ cell_there (slots_of (stored_in known) p) (p.byte + element * l.bytes) cs (p.cell + element * length cs) (n % length cs) f.cell
+            (element_laid (slots_of (stored_in known) p) cs l.bytes count element p.cell p.byte f.within elements) f.there in
+            ap (λ k. cleared_by (part_in o j) (shape_in (slice_get tree.cells (n % k)) j)) (length-map cs cell_parts)
+            ∙ ap (λ (z : Option (List PartShape)). cleared_by (part_in o j) (shape_in z j)) (cell_at cs (n % length cs) f.cell f.there)
+            ∙ cell_cleared o f.cell (p.byte + element * l.bytes) j laid_there ∙ ap (λ z. part_in (filled_slot (Some z) o) j) (sym f.value)
 
-  pub clear_moves : (after : Stored) → (AreInOrder known → are_laid (stored_in known) p cs ≡ true)
-      → (AreInOrder known → after ≡ fill_to (stored_in known) p.area p.object p.cell (map first_held cs))
-      → IsMove (Execute (core.Do (core.Clear x tree 1))) ws known (Go (Leave steps.Falls)) ws (with_stored known after)
-  clear_moves after laid gives = record {
-    still = all_stand _ ws known _ ws (with_stored known after) (λ main marks c h.
-        goes_here main marks (with_memory (cleared tree 1 (place_spot p) c.memory) c) _ _ ws (with_stored known after)
-        (subst (λ (s : Stored). Agrees (with_stored known s) ws marks (with_memory (cleared tree 1 (place_spot p) c.memory) c))
-        (sym (gives (ordered known ws marks c h))) (cleared_agrees marks c h (laid (ordered known ws marks c h))))
-        (clears_is marks c h (rest_of main ws marks steps.Falls)
-        ∙ ap (λ b. checked b (rest_of main ws marks steps.Falls (with_memory (cleared tree 1 (place_spot p) c.memory) c)))
-        (laid (ordered known ws marks c h))));
-    fewer = omega arith;
-  }
+    pub clear_moves : (after : Stored) → (AreInOrder known → has_elements (stored_in known) p l count ≡ true)
+        → (AreInOrder known → after ≡ fill_to (stored_in known) p.area p.object p.cell (first_elements cs count))
+        → IsMove (Execute (core.Do (core.Clear x tree count))) ws known (Go (Leave steps.Falls)) ws (with_stored known after)
+    clear_moves after laid gives = record {
+      still = all_stand _ ws known _ ws (with_stored known after) (λ main marks c h.
+          goes_here main marks (with_memory (cleared tree count (place_spot p) c.memory) c) _ _ ws (with_stored known after)
+          (subst (λ (s : Stored). Agrees (with_stored known s) ws marks (with_memory (cleared tree count (place_spot p) c.memory) c))
+          (sym (gives (ordered known ws marks c h))) (cleared_agrees marks c h (laid (ordered known ws marks c h))))
+          (clears_is marks c h (rest_of main ws marks steps.Falls)
+          ∙ ap (λ b. checked b (rest_of main ws marks steps.Falls (with_memory (cleared tree count (place_spot p) c.memory) c)))
+          (laid (ordered known ws marks c h))));
+      fewer = omega arith;
+    }
 
-  pub clear_wrong : (AreInOrder known → are_laid (stored_in known) p cs ≡ false)
-      → IsMove (Execute (core.Do (core.Clear x tree 1))) ws known Wrong ws known
-  clear_wrong unlaid =
-      goes_wrong (core.Clear x tree 1) ws known (λ marks c h next.
-      clears_is marks c h next
-      ∙ ap (λ b. checked b (next (with_memory (cleared tree 1 (place_spot p) c.memory) c))) (unlaid (ordered known ws marks c h)))
+    pub clear_wrong : (AreInOrder known → has_elements (stored_in known) p l count ≡ false)
+        → IsMove (Execute (core.Do (core.Clear x tree count))) ws known Wrong ws known
+    clear_wrong unlaid =
+        goes_wrong (core.Clear x tree count) ws known (λ marks c h next.
+        clears_is marks c h next
+        ∙ ap (λ b. checked b (next (with_memory (cleared tree count (place_spot p) c.memory) c))) (unlaid (ordered known ws marks c h)))

@@ -1,12 +1,15 @@
 -- What the parts of a cell are after a copy, and after a clearing.
-use Rattle.std.specs.Prelude.{if◌then◌else◌, ◌&&◌, nat_lt, map, slice_get}
+use Rattle.std.specs.Prelude.{if◌then◌else◌, ◌&&◌, nat_eq, nat_lt, map, slice_get, option_map}
 use Rattle.std.proofs.Common.{
   ◌≡◌,
   ℕ,
   zero,
   suc,
   ◌+◌,
+  ◌-◌,
   ◌*◌,
+  ◌/◌,
+  ◌%◌,
   ◌<◌,
   Bool,
   true,
@@ -22,19 +25,27 @@ use Rattle.std.proofs.Common.{
   ap,
   ◌∙◌,
   sym,
+  suc-mul,
   arith,
 }
-use Rattle.core_meaning.specs.Memory as memory
+use Rattle.std.proofs.Math.Dec.{eqb-suc-zero}
+use Rattle.std.proofs.lemmas.Bool.{and_parts}
+use Rattle.std.proofs.lemmas.Bool.Decides.{nat_tests}
+use Rattle.std.proofs.lemmas.List.{length-map, length-append}
 use Rattle.core_meaning.specs.Memory.{Spot, Part, PartShape, Layout, Memory}
 use Rattle.core_meaning.specs.Operations.{cells_on, part_of, content_from, on_from, copied, in_element, begun, cleared}
 use Rattle.cyc_core.specs.declared.layout.CellLayout.{CellLayout}
-use Rattle.cyc_core.specs.Trees.{bytes_of, cell_width, cell_parts, padding_parts}
-use Rattle.core_eval.specs.declared.value.Value.{Value}
+use Rattle.cyc_core.specs.Trees.{cell_parts, padding_parts}
+use Rattle.core_eval.specs.declared.value.Place.{Place}
 use Rattle.core_eval.specs.declared.value.Slot.{Slot}
-use Rattle.core_eval.specs.Values.{part_in}
-use Rattle.core_eval.specs.Whole.{is_cell, are_cells, held_by, values_from}
-use Rattle.core_eval.specs.Standing.{first_held}
-use Rattle.core_eval.proofs.Memories.{padding_part, cell_begins}
+use Rattle.core_eval.specs.declared.held.Held.{Held}
+use Rattle.core_eval.specs.declared.held.Held.TheVariants as held
+use Rattle.core_eval.specs.Values.{part_in, first_held, refilled}
+use Rattle.core_eval.specs.Elements.{each_element}
+use Rattle.core_eval.specs.Blocks.{Stored, slot_in}
+use Rattle.core_eval.specs.Whole.{has_parts, is_cell, are_cells, are_elements, slots_of, held_as, held_by, values_from, begins_as, first_elements}
+use Rattle.core_eval.proofs.Parts.{nothing_at, padding_shape, padding_part, shapes_by, cell_shapes, parts_as}
+use Rattle.core_eval.proofs.Elements.{element_at, no_element}
 use Rattle.core_eval.proofs.Filled.{filled_slot}
 
 -- ---- what a copy and what a clearing change
@@ -56,21 +67,21 @@ module _ (l : Layout) (m : Memory) (to : Spot) where
   copied_part from t j (Some p) None e f = rw (e, f) refl
   copied_part from t j (Some p) (Some s) e f = rw (e, f) refl
 
-  pub cleared_part : (t : Spot) (j : ℕ) (o : Option Part) → m.parts t j ≡ o
-      → (cleared l 1 to m).parts t j ≡ cleared_by o (part_of l (in_element l (cells_on (1 * length l.cells) to t)) j)
-  cleared_part t j None e = rw e refl
-  cleared_part t j (Some p) e = rw e refl
+  pub cleared_part : (count : ℕ) (t : Spot) (j : ℕ) (o : Option Part) → m.parts t j ≡ o
+      → (cleared l count to m).parts t j ≡ cleared_by o (part_of l (in_element l (cells_on (count * length l.cells) to t)) j)
+  cleared_part count t j None e = rw e refl
+  cleared_part count t j (Some p) e = rw e refl
 
 -- ---- the values of a copy
 
 -- where a list of values comes from
-pub values_at : (slots : ℕ → Option Slot) (cs : List CellLayout) (k q : ℕ) (v : Value) → slice_get (values_from slots k cs) q ≡ Some v
-    → (c : CellLayout) × (slice_get cs q ≡ Some c) × (v ≡ held_by (slots (k + q)))
+pub values_at : (slots : ℕ → Option Slot) (cs : List CellLayout) (k q : ℕ) (v : Held) → slice_get (values_from slots k cs) q ≡ Some v
+    → (c : CellLayout) × (slice_get cs q ≡ Some c) × (v ≡ held_by c (slots (k + q)))
 values_at slots [] k q v e = absurd (cc)
 values_at slots (c ∷ cs) k zero v e =
-    let same : held_by (slots k) ≡ v = cc in (c, refl, sym same ∙ ap (λ n. held_by (slots n)) (let z : k ≡ k + 0 = omega arith in z))
+    let same : held_by c (slots k) ≡ v = cc in (c, refl, sym same ∙ ap (λ n. held_by c (slots n)) (let z : k ≡ k + 0 = omega arith in z))
 values_at slots (c ∷ cs) k (suc q) v e =
-    let (d, at, is) = values_at slots cs (k + 1) q v e in (d, at, is ∙ ap (λ n. held_by (slots n)) (let z : k + 1 + q ≡ k + suc q = omega arith in z))
+    let (d, at, is) = values_at slots cs (k + 1) q v e in (d, at, is ∙ ap (λ n. held_by d (slots n)) (let z : k + 1 + q ≡ k + suc q = omega arith in z))
 
 pub values_long : (slots : ℕ → Option Slot) (cs : List CellLayout) (k : ℕ) → length (values_from slots k cs) ≡ length (map cell_parts cs)
 values_long slots [] k = refl
@@ -101,52 +112,187 @@ cell_at [] q c e = cc
 cell_at (d ∷ cs) zero c e = let same : d ≡ c = cc in ap (λ x. Some (cell_parts x)) same
 cell_at (d ∷ cs) (suc q) c e = cell_at cs q c e
 
--- bytes that hold nothing stay so
-padding_copied : (a b : Bool) (p : Part) (shape : Option PartShape) (from : Part) → p.content ≡ memory.Blank → from.content ≡ memory.Blank
-    → copied_by (if a then Some p else None) shape (if b then Some from else None) ≡ (if a then Some p else None)
-padding_copied false b p shape from blank none = refl
-padding_copied true b p None from blank none = refl
-padding_copied true false p (Some s) from blank none = refl
-padding_copied true true p (Some s) from blank none = ap (λ z. Some (record p { content = z })) (none ∙ sym blank)
+-- ---- the values of a clearing
 
-padding_cleared : (a : Bool) (p : Part) (shape : Option PartShape) → p.content ≡ memory.Blank
-    → ((s : PartShape) → shape ≡ Some s → s.first ≡ memory.Blank)
-    → cleared_by (if a then Some p else None) shape ≡ (if a then Some p else None)
-padding_cleared false p shape blank nothing = refl
-padding_cleared true p None blank nothing = refl
-padding_cleared true p (Some s) blank nothing = ap (λ z. Some (record p { content = z })) (nothing s refl ∙ sym blank)
+-- each element's cells lie as they have to
+pub element_laid : (slots : ℕ → Option Slot) (cs : List CellLayout) (bytes n e k byte : ℕ) → e < n → are_elements slots k byte cs bytes n ≡ true
+    → are_cells slots (k + e * length cs) (byte + e * bytes) cs ≡ true
+element_laid slots cs bytes zero e k byte less laid = absurd (omega (arith, less))
+element_laid slots cs bytes (suc n) zero k byte less laid =
+    ap (λ (x : ℕ). are_cells slots x (byte + 0 * bytes) cs) (let z : k + 0 * length cs ≡ k = omega arith in z)
+    ∙ ap (λ (x : ℕ). are_cells slots k x cs) (let z : byte + 0 * bytes ≡ byte = omega arith in z)
+    ∙ (and_parts _ _ laid).0
+element_laid slots cs bytes (suc n) (suc e) k byte less laid =
+    let cells : k + suc e * length cs ≡ k + length cs + e * length cs = (let times = suc-mul e (length cs) in omega (arith, times)) in
+    let more : byte + suc e * bytes ≡ byte + bytes + e * bytes = (let times = suc-mul e bytes in omega (arith, times)) in
+    ap (λ (x : ℕ). are_cells slots x (byte + suc e * bytes) cs) cells
+    ∙ ap (λ (x : ℕ). are_cells slots (k + length cs + e * length cs) x cs) more
+    ∙ element_laid slots cs bytes n e (k + length cs) (byte + bytes) (omega (arith, less)) (and_parts _ _ laid).1
+
+-- two places of one object
+pub cells_at : (stored : Stored) (p q : Place) (cs : List CellLayout) (k byte : ℕ) → q.area ≡ p.area → q.object ≡ p.object
+    → are_cells (slots_of stored p) k byte cs ≡ are_cells (slots_of stored q) k byte cs
+cells_at stored p q cs k byte area object =
+    ap (λ a. are_cells (λ x. slot_in stored a p.object x) k byte cs) (sym area) ∙ ap (λ o. are_cells (λ x. slot_in stored q.area o x) k byte cs) (sym object)
+
+-- elements that are tested one after the other
+module _ (slots : ℕ → Option Slot) (cs : List CellLayout) (bytes k byte n count : ℕ) (whole : Bool) (less : n < count)
+    (so_far : are_elements slots k byte cs bytes (count - n) ≡ whole) where
+  one_more : (are_cells slots k byte cs && are_elements slots (k + length cs) (byte + bytes) cs bytes (count - (n + 1))) ≡ whole
+  one_more =
+      let left : count - n ≡ suc (count - (n + 1)) = omega (arith, less) in
+      sym (ap (are_elements slots k byte cs bytes) left) ∙ so_far
+
+  pub element_passed : (k' byte' : ℕ) → are_cells slots k byte cs ≡ true → k' ≡ k + length cs → byte' ≡ byte + bytes
+      → are_elements slots k' byte' cs bytes (count - (n + 1)) ≡ whole
+  element_passed k' byte' laid cells more =
+      ap (λ x. are_elements slots x byte' cs bytes (count - (n + 1))) cells
+      ∙ ap (λ x. are_elements slots (k + length cs) x cs bytes (count - (n + 1))) more
+      ∙ sym (ap (λ b. b && are_elements slots (k + length cs) (byte + bytes) cs bytes (count - (n + 1))) laid) ∙ one_more
+
+  pub element_failed : are_cells slots k byte cs ≡ false → false ≡ whole
+  element_failed unlaid =
+      sym (ap (λ b. b && are_elements slots (k + length cs) (byte + bytes) cs bytes (count - (n + 1))) unlaid) ∙ one_more
+
+-- the cell that begins as a value
+pub record IsFirst (cs : List CellLayout) (count q : ℕ) (v : Held) : Type 0 where
+  pub cell : CellLayout
+  pub there : slice_get cs (q % length cs) ≡ Some cell
+  pub value : v ≡ first_held cell.cell
+  pub within : q / length cs < count
+
+pub first_at : (cs : List CellLayout) (count q : ℕ) (v : Held) → slice_get (first_elements cs count) q ≡ Some v → IsFirst cs count q v
+first_at cs count q v e = by cs refl
+  where
+    from_element : (b : Bool) (o : Option CellLayout) → nat_lt (q / length cs) count ≡ b → slice_get cs (q % length cs) ≡ o
+        → (if b then option_map begins_as o else None) ≡ Some v → IsFirst cs count q v
+    from_element false o less at is = cc
+    from_element true None less at is = cc
+    from_element true (Some c) less at is = record {
+      cell = c;
+      there = at;
+      value = (let same : begins_as c ≡ v = cc in sym same);
+      within = grind (arith, nat_tests, less);
+    }
+
+    by : (ds : List CellLayout) → cs ≡ ds → IsFirst cs count q v
+    by [] none = absurd (let no : None ≡ Some v = sym (ap (λ l. slice_get l q) (no_element (λ e. begins_as) cs 0 count none)) ∙ e in cc)
+    by (d ∷ ds) some =
+        let long : length cs ≡ suc (length ds) = ap length some in
+        from_element (nat_lt (q / length cs) count) (slice_get cs (q % length cs)) refl refl
+        (sym (element_at (λ e. begins_as) cs 0 count q (omega (arith, long))) ∙ e)
+
+pub first_long : (cs : List CellLayout) (e count : ℕ) → length (each_element (λ e. begins_as) cs e count) ≡ count * length cs
+first_long cs e zero = let z : 0 ≡ 0 * length cs = omega arith in z
+first_long cs e (suc count) =
+    let others = first_long cs (suc e) count in
+    let one = length-map cs begins_as in
+    let both = length-append (map begins_as cs) (each_element (λ e. begins_as) cs (suc e) count) in
+    let times = suc-mul count (length cs) in
+    omega (arith, others, one, both, times)
+
+-- ---- what a cell gets
+
+-- bytes that hold nothing stay so
+padding_copied : (a b : Bool) (x y : ℕ) (shape : Option PartShape) → copied_by (nothing_at a x) shape (nothing_at b y) ≡ nothing_at a x
+padding_copied false b x y shape = refl
+padding_copied true b x y None = refl
+padding_copied true false x y (Some s) = refl
+padding_copied true true x y (Some s) = refl
+
+padding_cleared : (a : Bool) (x at m j : ℕ) → cleared_by (nothing_at a x) (slice_get (padding_parts at m) j) ≡ nothing_at a x
+padding_cleared a x at m j = ap (cleared_by (nothing_at a x)) (padding_part at m j) ∙ by a (nat_lt j m)
+  where
+    by : (a b : Bool) → cleared_by (nothing_at a x) (padding_shape b (at + j)) ≡ nothing_at a x
+    by false b = refl
+    by true false = refl
+    by true true = refl
+
+-- where a layout has no part nothing changes
+uncopied : (o p : Option Part) → copied_by o None p ≡ o
+uncopied None p = refl
+uncopied (Some q) p = refl
+
+uncleared : (o : Option Part) → cleared_by o None ≡ o
+uncleared None = refl
+uncleared (Some q) = refl
+
+-- a layout without bytes behind
+no_padding : (m at j : ℕ) → nat_eq m 0 ≡ true → slice_get (padding_parts at m) j ≡ None
+no_padding zero at j none = refl
+no_padding (suc m) at j none = absurd (let no : false ≡ true = sym (eqb-suc-zero m) ∙ none in cc)
+
+held_copied : (h g f : Held) (offset n at m from l j : ℕ) → has_parts h n g m ≡ true → has_parts f l g m ≡ true
+    → copied_by (parts_as h offset n j) (slice_get (shapes_by at g m) j) (parts_as f from l j) ≡ parts_as (refilled h (held_as g f)) offset n j
+held_copied (held.Byte u) (held.Byte v) (held.Byte w) offset n at m from l zero has has_from = refl
+held_copied (held.Byte u) (held.Byte v) (held.Byte w) offset n at m from l (suc j) has has_from =
+    padding_copied (nat_lt j n) (nat_lt j l) (offset + 1 + j) (from + 1 + j) (slice_get (padding_parts (at + 1) m) j)
+held_copied (held.Byte u) (held.Byte v) (held.Word w) offset n at m from l j has has_from = cc
+held_copied (held.Byte u) (held.Byte v) (held.Fat w x y) offset n at m from l j has has_from = cc
+held_copied (held.Byte u) (held.Word v) f offset n at m from l j has has_from = cc
+held_copied (held.Byte u) (held.Fat v c d) f offset n at m from l j has has_from = cc
+held_copied (held.Word u) (held.Byte v) f offset n at m from l j has has_from = cc
+held_copied (held.Word u) (held.Word v) (held.Byte w) offset n at m from l j has has_from = cc
+held_copied (held.Word u) (held.Word v) (held.Word w) offset n at m from l zero has has_from = refl
+held_copied (held.Word u) (held.Word v) (held.Word w) offset n at m from l (suc j) has has_from =
+    padding_copied (nat_lt j n) (nat_lt j l) (offset + 4 + j) (from + 4 + j) (slice_get (padding_parts (at + 4) m) j)
+held_copied (held.Word u) (held.Word v) (held.Fat w x y) offset n at m from l zero has has_from = refl
+held_copied (held.Word u) (held.Word v) (held.Fat w x y) offset n at m from l (suc j) has has_from =
+    ap (λ s. copied_by (nothing_at (nat_lt j n) (offset + 4 + j)) s (parts_as (held.Fat w x y) from l (suc j))) (no_padding m (at + 4) j has_from)
+    ∙ uncopied (nothing_at (nat_lt j n) (offset + 4 + j)) (parts_as (held.Fat w x y) from l (suc j))
+held_copied (held.Word u) (held.Fat v c d) f offset n at m from l j has has_from = cc
+held_copied (held.Fat u a b) (held.Byte v) f offset n at m from l j has has_from = cc
+held_copied (held.Fat u a b) (held.Word v) (held.Byte w) offset n at m from l j has has_from = cc
+held_copied (held.Fat u a b) (held.Word v) (held.Word w) offset n at m from l zero has has_from = refl
+held_copied (held.Fat u a b) (held.Word v) (held.Word w) offset n at m from l (suc j) has has_from =
+    ap (λ s. copied_by (parts_as (held.Fat u a b) offset n (suc j)) s (parts_as (held.Word w) from l (suc j))) (no_padding m (at + 4) j has)
+    ∙ uncopied (parts_as (held.Fat u a b) offset n (suc j)) (parts_as (held.Word w) from l (suc j))
+held_copied (held.Fat u a b) (held.Word v) (held.Fat w x y) offset n at m from l zero has has_from = refl
+held_copied (held.Fat u a b) (held.Word v) (held.Fat w x y) offset n at m from l (suc j) has has_from =
+    ap (λ s. copied_by (parts_as (held.Fat u a b) offset n (suc j)) s (parts_as (held.Fat w x y) from l (suc j))) (no_padding m (at + 4) j has)
+    ∙ uncopied (parts_as (held.Fat u a b) offset n (suc j)) (parts_as (held.Fat w x y) from l (suc j))
+held_copied (held.Fat u a b) (held.Fat v c d) (held.Byte w) offset n at m from l j has has_from = cc
+held_copied (held.Fat u a b) (held.Fat v c d) (held.Word w) offset n at m from l j has has_from = cc
+held_copied (held.Fat u a b) (held.Fat v c d) (held.Fat w x y) offset n at m from l zero has has_from = refl
+held_copied (held.Fat u a b) (held.Fat v c d) (held.Fat w x y) offset n at m from l (suc zero) has has_from = refl
+held_copied (held.Fat u a b) (held.Fat v c d) (held.Fat w x y) offset n at m from l (suc (suc zero)) has has_from = refl
+held_copied (held.Fat u a b) (held.Fat v c d) (held.Fat w x y) offset n at m from l (suc (suc (suc j))) has has_from =
+    padding_copied (nat_lt j n) (nat_lt j l) (offset + 4 + 4 + 4 + j) (from + 4 + 4 + 4 + j) (slice_get (padding_parts (at + 12) m) j)
+
+held_cleared : (h g : Held) (offset n at m j : ℕ) → has_parts h n g m ≡ true
+    → cleared_by (parts_as h offset n j) (slice_get (shapes_by at g m) j) ≡ parts_as (refilled h g) offset n j
+held_cleared (held.Byte u) (held.Byte v) offset n at m zero has = refl
+held_cleared (held.Byte u) (held.Byte v) offset n at m (suc j) has = padding_cleared (nat_lt j n) (offset + 1 + j) (at + 1) m j
+held_cleared (held.Byte u) (held.Word v) offset n at m j has = cc
+held_cleared (held.Byte u) (held.Fat v c d) offset n at m j has = cc
+held_cleared (held.Word u) (held.Byte v) offset n at m j has = cc
+held_cleared (held.Word u) (held.Word v) offset n at m zero has = refl
+held_cleared (held.Word u) (held.Word v) offset n at m (suc j) has = padding_cleared (nat_lt j n) (offset + 4 + j) (at + 4) m j
+held_cleared (held.Word u) (held.Fat v c d) offset n at m j has = cc
+held_cleared (held.Fat u a b) (held.Byte v) offset n at m j has = cc
+held_cleared (held.Fat u a b) (held.Word v) offset n at m zero has = refl
+held_cleared (held.Fat u a b) (held.Word v) offset n at m (suc j) has =
+    ap (cleared_by (parts_as (held.Fat u a b) offset n (suc j))) (no_padding m (at + 4) j has) ∙ uncleared (parts_as (held.Fat u a b) offset n (suc j))
+held_cleared (held.Fat u a b) (held.Fat v c d) offset n at m zero has = refl
+held_cleared (held.Fat u a b) (held.Fat v c d) offset n at m (suc zero) has = refl
+held_cleared (held.Fat u a b) (held.Fat v c d) offset n at m (suc (suc zero)) has = refl
+held_cleared (held.Fat u a b) (held.Fat v c d) offset n at m (suc (suc (suc j))) has =
+    padding_cleared (nat_lt j n) (offset + 4 + 4 + 4 + j) (at + 12) m j
 
 -- what a cell gets from another one
-pub cell_copied : (o : Option Slot) (c : CellLayout) (from : Option Slot) (byte j : ℕ) → is_cell from byte c ≡ true
-    → copied_by (part_in o j) (slice_get (cell_parts c) j) (part_in from j) ≡ part_in (filled_slot (Some (held_by from)) o) j
-cell_copied o c None byte j laid = absurd (cc)
-cell_copied None c (Some from) byte j laid = refl
-cell_copied (Some s) c (Some from) byte zero laid = refl
-cell_copied (Some s) c (Some from) byte (suc j) laid =
-    padding_copied (nat_lt j s.padding) (nat_lt j from.padding) (record { offset = s.offset + bytes_of s.width + j; width = 1; content = memory.Blank })
-    (slice_get (padding_parts (c.offset + bytes_of (cell_width c.cell)) c.padding) j)
-    (record { offset = from.offset + bytes_of from.width + j; width = 1; content = memory.Blank }) refl refl
+pub cell_copied : (o : Option Slot) (c : CellLayout) (from : Option Slot) (byte more j : ℕ) → is_cell o byte c ≡ true → is_cell from more c ≡ true
+    → copied_by (part_in o j) (slice_get (cell_parts c) j) (part_in from j) ≡ part_in (filled_slot (Some (held_by c from)) o) j
+cell_copied None c from byte more j laid laid_from = refl
+cell_copied (Some s) c None byte more j laid laid_from = absurd (cc)
+cell_copied (Some s) c (Some from) byte more j laid laid_from =
+    ap (λ shapes. copied_by (part_in (Some s) j) (slice_get shapes j) (part_in (Some from) j)) (cell_shapes c)
+    ∙ held_copied s.held (first_held c.cell) from.held s.offset s.padding c.offset c.padding from.offset from.padding j
+    (and_parts _ _ laid).1 (and_parts _ _ laid_from).1
 
 -- what a cell begins with
-pub cell_cleared : (o : Option Slot) (c : CellLayout) (j : ℕ)
-    → cleared_by (part_in o j) (slice_get (cell_parts c) j) ≡ part_in (filled_slot (Some (first_held c)) o) j
-cell_cleared None c j = refl
-cell_cleared (Some s) c zero = ap (λ z. Some (record { offset = s.offset; width = bytes_of s.width; content = z })) (cell_begins c)
-cell_cleared (Some s) c (suc j) =
-    padding_cleared (nat_lt j s.padding) (record { offset = s.offset + bytes_of s.width + j; width = 1; content = memory.Blank })
-    (slice_get (padding_parts (c.offset + bytes_of (cell_width c.cell)) c.padding) j) refl
-    (λ shape is. by (nat_lt j c.padding) shape (sym (padding_part (c.offset + bytes_of (cell_width c.cell)) c.padding j) ∙ is))
-  where
-    by : (b : Bool) (shape : PartShape)
-        → (if b then Some (record { offset = c.offset + bytes_of (cell_width c.cell) + j; width = 1; first = memory.Blank }) else None) ≡ Some shape
-        → shape.first ≡ memory.Blank
-    by true shape is =
-        let same : record { offset = c.offset + bytes_of (cell_width c.cell) + j; width = 1; first = memory.Blank } ≡ shape = cc in
-        ap (λ (s : PartShape). s.first) (sym same)
-    by false shape is = cc
-
-pub held_first : (cs : List CellLayout) (q : ℕ) (v : Value) → slice_get (map first_held cs) q ≡ Some v
-    → (c : CellLayout) × (slice_get cs q ≡ Some c) × (v ≡ first_held c)
-held_first [] q v e = absurd (cc)
-held_first (c ∷ cs) zero v e = let same : first_held c ≡ v = cc in (c, refl, sym same)
-held_first (c ∷ cs) (suc q) v e = held_first cs q v e
+pub cell_cleared : (o : Option Slot) (c : CellLayout) (byte j : ℕ) → is_cell o byte c ≡ true
+    → cleared_by (part_in o j) (slice_get (cell_parts c) j) ≡ part_in (filled_slot (Some (first_held c.cell)) o) j
+cell_cleared None c byte j laid = refl
+cell_cleared (Some s) c byte j laid =
+    ap (λ shapes. cleared_by (part_in (Some s) j) (slice_get shapes j)) (cell_shapes c)
+    ∙ held_cleared s.held (first_held c.cell) s.offset s.padding c.offset c.padding j (and_parts _ _ laid).1

@@ -154,28 +154,28 @@ same_values stored _ v = None
 abbrev pub put_block : List Activation → ℕ → Activation → List (List Slot) → List Activation
 put_block blocks position b objects = slice_set blocks position (record { number = b.number; objects = objects })
 
-abbrev pub put_among : List Activation → (position i k byte : ℕ) → Width → Value → Option Activation → Option (List Activation)
-put_among blocks position i k byte w v None = None
-put_among blocks position i k byte w v (Some b) = option_map (put_block blocks position b) (put_in b.objects i k byte w v)
+abbrev pub put_among : List Activation → (position i k byte j : ℕ) → Width → Value → Option Activation → Option (List Activation)
+put_among blocks position i k byte j w v None = None
+put_among blocks position i k byte j w v (Some b) = option_map (put_block blocks position b) (put_in b.objects i k byte j w v)
 
--- the blocks after a store to a cell of a local of the block that stands there, where there is one, and it lies there and is so wide
-abbrev pub put_through : List Activation → Option ℕ → (i k byte : ℕ) → Width → Value → Option (List Activation)
-put_through blocks None i k byte w v = None
-put_through blocks (Some position) i k byte w v = put_among blocks position i k byte w v (slice_get blocks position)
+-- the blocks after a store to a part of a cell of a local of the block that stands there, where there is one, and it lies there and is so wide
+abbrev pub put_through : List Activation → Option ℕ → (i k byte j : ℕ) → Width → Value → Option (List Activation)
+put_through blocks None i k byte j w v = None
+put_through blocks (Some position) i k byte j w v = put_among blocks position i k byte j w v (slice_get blocks position)
 
--- the same for the first cell of a local of the block so many out
+-- the same for the first part of a local of the block so many out
 abbrev pub put_local : ℕ → List Activation → (out index : ℕ) → Width → Value → Option (List Activation)
-put_local base blocks out index w v = put_through blocks (own_position base blocks out) index 0 0 w v
+put_local base blocks out index w v = put_through blocks (own_position base blocks out) index 0 0 0 w v
 
--- what is stored after a store to a cell of an object of an area, where there is one, and it lies there and is so wide
-abbrev pub put_to : Stored → Area → (i k byte : ℕ) → Width → Value → Option Stored
-put_to stored area.Globals i k byte w v = option_map (λ globals. record stored { globals = globals }) (put_in stored.globals i k byte w v)
-put_to stored (area.Region n) i k byte w v =
-    option_map (λ regions. record stored { regions = regions }) (put_region stored.regions n i k byte w v)
-put_to stored (area.Block n) i k byte w v =
-    option_map (λ blocks. record stored { blocks = blocks }) (put_through stored.blocks (position_of stored.blocks n) i k byte w v)
-put_to stored (area.Own n) i k byte w v =
-    option_map (λ owns. record stored { owns = owns }) (put_through stored.owns (position_of stored.owns n) i k byte w v)
+-- what is stored after a store to a part of a cell of an object of an area, where there is one, and it lies there and is so wide
+abbrev pub put_to : Stored → Area → (i k byte j : ℕ) → Width → Value → Option Stored
+put_to stored area.Globals i k byte j w v = option_map (λ globals. record stored { globals = globals }) (put_in stored.globals i k byte j w v)
+put_to stored (area.Region n) i k byte j w v =
+    option_map (λ regions. record stored { regions = regions }) (put_region stored.regions n i k byte j w v)
+put_to stored (area.Block n) i k byte j w v =
+    option_map (λ blocks. record stored { blocks = blocks }) (put_through stored.blocks (position_of stored.blocks n) i k byte j w v)
+put_to stored (area.Own n) i k byte j w v =
+    option_map (λ owns. record stored { owns = owns }) (put_through stored.owns (position_of stored.owns n) i k byte j w v)
 
 -- ---- requests
 

@@ -1,7 +1,9 @@
 pub mod Values
+pub mod Elements
 pub mod Regions
 pub mod Blocks
 pub mod Whole
+pub mod Leading
 pub mod Pendings
 pub mod Standing
 pub mod Costs

@@ -14,7 +14,10 @@ use Rattle.core_meaning.specs.Operations.{byte_word, says}
 use Rattle.core_meaning.specs.Meaning.{falls_to, branch, with_results, out_of_block, after_turn, statement, statements, left, status_of}
 use Rattle.cyc_core.specs.Trees.{optional_tree, statement_tree, body_tree}
 use Rattle.core_eval.specs.declared.value.Value.{Value}
+use Rattle.core_eval.specs.declared.value.Value.TheVariants as value
 use Rattle.core_eval.specs.declared.frame.Frame.{Frame}
+use Rattle.core_eval.specs.declared.pending.Returned as code_returned
+use Rattle.core_eval.specs.declared.pending.Returned.TheVariants as returned
 use Rattle.core_eval.specs.declared.pending.Flow as code_flow
 use Rattle.core_eval.specs.declared.pending.Flow.TheVariants as flow
 use Rattle.core_eval.specs.declared.pending.Now as code_now
@@ -23,7 +26,7 @@ use Rattle.core_eval.specs.declared.pending.Pending as code_pending
 use Rattle.core_eval.specs.declared.pending.Pending.TheVariants as pending
 use Rattle.core_eval.specs.declared.pending.Due as code_due
 use Rattle.core_eval.specs.declared.pending.Due.TheVariants as due
-use Rattle.core_eval.specs.Values.{content_of}
+use Rattle.core_eval.specs.Values.{content_of, bound_value}
 
 -- ---- what is to do
 
@@ -59,9 +62,26 @@ pub data Next : Type 0 where
 
 -- ---- what the code has
 
-abbrev pub optional_value : Option Value → List Content
+abbrev pub returned_values : code_returned.Returned → List Content
+returned_values (returned.One v) = content_of v ∷ []
+returned_values (returned.Three u v w) = content_of u ∷ content_of (bound_value v) ∷ content_of (bound_value w) ∷ []
+
+abbrev pub optional_value : Option code_returned.Returned → List Content
 optional_value None = []
-optional_value (Some v) = content_of v ∷ []
+optional_value (Some r) = returned_values r
+
+-- the word that was returned, if it is one
+abbrev pub word_returned : Option code_returned.Returned → Option ℕ
+word_returned None = None
+word_returned (Some (returned.One v)) = word_in v
+  where
+    word_in : Value → Option ℕ
+    word_in value.Blank = None
+    word_in (value.Word n) = Some n
+    word_in value.Null = None
+    word_in (value.Pointer p) = None
+    word_in (value.Birth d) = None
+word_returned (Some (returned.Three u v w)) = None
 
 abbrev pub exit_of : code_flow.Flow → Exit
 exit_of flow.Falls = steps.Falls

@@ -1,14 +1,10 @@
 -- Lexical regions, by how many were born before each, the heap not among them; and the blocks of regions.
-use Rattle.std.specs.Prelude.{ℕ, zero, suc, ◌+◌, ◌*◌, Option, Some, None, List, [], ◌∷◌, ◌++◌, map, slice_get, slice_set, option_map}
+use Rattle.std.specs.Prelude.{ℕ, zero, suc, Option, Some, None, List, [], ◌∷◌, ◌++◌, map, slice_get, slice_set, option_map}
 use Rattle.cyc_core.specs.declared.operation.Width.{Width}
-use Rattle.cyc_core.specs.declared.layout.CellLayout.{CellLayout}
-use Rattle.cyc_core.specs.declared.layout.Layout.{Layout}
-use Rattle.cyc_core.specs.Trees.{cell_width}
 use Rattle.core_eval.specs.declared.value.Area.{Area}
 use Rattle.core_eval.specs.declared.value.Area.TheVariants as area
 use Rattle.core_eval.specs.declared.value.Place.{Place}
 use Rattle.core_eval.specs.declared.value.Value.{Value}
-use Rattle.core_eval.specs.declared.value.Value.TheVariants as value
 use Rattle.core_eval.specs.declared.value.Slot.{Slot}
 use Rattle.core_eval.specs.declared.region.Region as code
 use Rattle.core_eval.specs.declared.region.Region.TheVariants as region
@@ -36,14 +32,14 @@ abbrev pub slot_within : Option (List (List Slot)) → (i k : ℕ) → Option Sl
 slot_within None i k = None
 slot_within (Some objects) i k = slot_at objects i k
 
--- what a region has after a store to a cell of one of its objects
-abbrev pub put_held : (i k byte : ℕ) → Width → Value → Option (List (List Slot)) → Option (Option (List (List Slot)))
-put_held i k byte w v None = None
-put_held i k byte w v (Some objects) = option_map Some (put_in objects i k byte w v)
+-- what a region has after a store to a part of a cell of one of its objects
+abbrev pub put_held : (i k byte j : ℕ) → Width → Value → Option (List (List Slot)) → Option (Option (List (List Slot)))
+put_held i k byte j w v None = None
+put_held i k byte j w v (Some objects) = option_map Some (put_in objects i k byte j w v)
 
--- the regions after a store to a cell of an object of the one with a number
-abbrev pub put_region : Regions → (n i k byte : ℕ) → Width → Value → Option Regions
-put_region regions n i k byte w v = option_map (slice_set regions n) (put_held i k byte w v (region_at regions n))
+-- the regions after a store to a part of a cell of an object of the one with a number
+abbrev pub put_region : Regions → (n i k byte j : ℕ) → Width → Value → Option Regions
+put_region regions n i k byte j w v = option_map (slice_set regions n) (put_held i k byte j w v (region_at regions n))
 
 -- ---- what is freed
 
@@ -61,19 +57,6 @@ freed regions zero = None
 freed regions (suc n) = free_region regions n
 
 -- ---- blocks
-
--- a cell that holds nothing as yet, of an element that lies so many bytes on
-abbrev pub slot_from : ℕ → CellLayout → Slot
-slot_from from c = record { offset = from + c.offset; width = cell_width c.cell; padding = c.padding; value = value.Blank }
-
--- the cells of so many elements, of which the first has the number e
-abbrev pub elements_from : List CellLayout → (bytes e count : ℕ) → List Slot
-elements_from cells bytes e zero = []
-elements_from cells bytes e (suc n) = map (slot_from (e * bytes)) cells ++ elements_from cells bytes (suc e) n
-
--- a block of so many elements of a layout
-abbrev pub block_cells : Layout → ℕ → List Slot
-block_cells l count = elements_from l.cells.items l.bytes 0 count
 
 -- what a region has with a block more
 abbrev pub grown_held : List Slot → Option (List (List Slot)) → Option (List (List Slot))

@@ -1,5 +1,5 @@
 -- When an evaluator's state stands for a step of Core.
-use Rattle.std.specs.Prelude.{◌≡◌, ℕ, suc, ◌<◌, ◌≤◌, false, Option, Some, None, List, [], ◌∷◌, length, map, drop}
+use Rattle.std.specs.Prelude.{◌≡◌, ℕ, suc, ◌<◌, ◌≤◌, Bool, true, false, Option, Some, None, List, [], ◌∷◌, length, map, drop}
 use Rattle.cyc_words.specs.Events.{ByteRead, ByteWritten}
 use Rattle.step_trees.specs.Trees.{Says}
 use Rattle.core_meaning.specs.Memory as memory
@@ -8,18 +8,13 @@ use Rattle.core_meaning.specs.Steps.{Config, set_temp, Event, Visible, Step}
 use Rattle.core_meaning.specs.Core.{Function}
 use Rattle.core_meaning.specs.Meaning.{called}
 use Rattle.cyc_core.specs.declared.program.Datum.{Datum}
-use Rattle.cyc_core.specs.declared.program.Datum.TheVariants as datum
-use Rattle.cyc_core.specs.declared.operation.Cell.{Cell}
-use Rattle.cyc_core.specs.declared.operation.Cell.TheVariants as cell
-use Rattle.cyc_core.specs.declared.layout.CellLayout.{CellLayout}
 use Rattle.cyc_core.specs.declared.layout.Local.{Local}
-use Rattle.cyc_core.specs.Trees.{cell_width}
 use Rattle.core_eval.specs.declared.value.Value.{Value}
-use Rattle.core_eval.specs.declared.value.Value.TheVariants as value
 use Rattle.core_eval.specs.declared.value.Slot.{Slot}
 use Rattle.core_eval.specs.declared.frame.Frame.{Frame}
 use Rattle.core_eval.specs.declared.memory.Memory as code
-use Rattle.core_eval.specs.Values.{spot_of, temp_of, cells_of, blank_object, Shows, with_value, blank_slot}
+use Rattle.core_eval.specs.Values.{spot_of, temp_of, cells_of, Shows}
+use Rattle.core_eval.specs.Elements.{blank_object, first_object}
 use Rattle.core_eval.specs.Regions.{Regions, held_objects, region_at}
 use Rattle.core_eval.specs.Blocks.{Activation, activation_of, position_of}
 use Rattle.core_eval.specs.Pendings.{Wait, Block, Caller, Next, Mark, rest_of, returned_to, coming}
@@ -143,6 +138,23 @@ StandsStill next ws known next' ws' known' = (main : ℕ) (s : Step) → Stands 
 abbrev pub Gives : ℕ → Content → List Value → List Value → Type 0
 Gives t v temps temps' = (k : ℕ) → temp_of temps' k ≡ set_temp t v (temp_of temps) k
 
+-- whether there are as many temporaries as values
+abbrev pub are_as_many : List ℕ → List Content → Bool
+are_as_many [] [] = true
+are_as_many [] (v ∷ vs) = false
+are_as_many (t ∷ ts) [] = false
+are_as_many (t ∷ ts) (v ∷ vs) = are_as_many ts vs
+
+-- temporaries that are given values, one after the other
+abbrev pub set_temps : List ℕ → List Content → (ℕ → Content) → ℕ → Content
+set_temps [] vs temps = temps
+set_temps (t ∷ ts) [] temps = temps
+set_temps (t ∷ ts) (v ∷ vs) temps = set_temps ts vs (set_temp t v temps)
+
+-- some temporaries got these values, and no other one changed
+abbrev pub Takes : List ℕ → List Content → List Value → List Value → Type 0
+Takes ts vs temps temps' = (k : ℕ) → temp_of temps' k ≡ set_temps ts vs (temp_of temps) k
+
 -- what an activation and what is stored are known as
 abbrev pub known_of : Frame → code.Memory → Known
 known_of frame m = record {
@@ -172,30 +184,6 @@ IsCall functions results f arguments ws known next ws' known' =
     → Stands main (called functions (record { function = f; arguments = arguments }) (returned_to results c (rest_of main ws marks)) c.memory) next ws' known'
 
 -- ---- the beginning
-
--- what a cell begins as
-abbrev pub first_value : Cell → Value
-first_value cell.Byte = value.Word 0
-first_value cell.Word = value.Word 0
-first_value cell.Pointer = value.Null
-first_value cell.Handle = value.Blank
-
-abbrev pub first_held : CellLayout → Value
-first_held c = first_value c.cell
-
-abbrev pub first_slot : CellLayout → Slot
-first_slot c = with_value (blank_slot c) (first_held c)
-
--- an object of one cell
-abbrev pub scalar : Cell → Value → List Slot
-scalar c v = record { offset = 0; width = cell_width c; padding = 0; value = v } ∷ []
-
--- what a global begins as
-abbrev pub first_object : Datum → List Slot
-first_object (datum.Byte b) = scalar cell.Byte (value.Word b)
-first_object (datum.Word w) = scalar cell.Word (value.Word w)
-first_object datum.Null = scalar cell.Pointer value.Null
-first_object (datum.Whole l) = map first_slot l.value.cells.items
 
 -- what is known at first, where `main` has these unnamed values
 abbrev pub first_known : List Datum → List Local → Known

@@ -5,8 +5,10 @@ use Rattle.std.specs.Prelude.{
   zero,
   suc,
   ◌+◌,
+  ◌*◌,
   ◌%◌,
   ◌&&◌,
+  ◌||◌,
   Bool,
   true,
   false,
@@ -31,15 +33,17 @@ use Rattle.core_meaning.specs.Meaning.{passed_in, values_of}
 use Rattle.cyc_core.specs.declared.operation.Cell.{Cell}
 use Rattle.cyc_core.specs.declared.operation.Width.{Width}
 use Rattle.cyc_core.specs.declared.operation.Width.TheVariants as width
-use Rattle.cyc_core.specs.declared.layout.CellLayout.{CellLayout}
-use Rattle.cyc_core.specs.declared.layout.Local.{Local}
-use Rattle.cyc_core.specs.declared.layout.Local.TheVariants as local
-use Rattle.cyc_core.specs.Trees.{bytes_of, cell_width}
+use Rattle.cyc_core.specs.declared.operation.Cell.TheVariants as cell
+use Rattle.cyc_core.specs.Trees.{bytes_of}
 use Rattle.core_eval.specs.declared.value.Area.{Area}
 use Rattle.core_eval.specs.declared.value.Area.TheVariants as area
 use Rattle.core_eval.specs.declared.value.Place.{Place}
 use Rattle.core_eval.specs.declared.value.Value.{Value}
 use Rattle.core_eval.specs.declared.value.Value.TheVariants as value
+use Rattle.core_eval.specs.declared.held.Bound.{Bound}
+use Rattle.core_eval.specs.declared.held.Bound.TheVariants as bound
+use Rattle.core_eval.specs.declared.held.Held.{Held}
+use Rattle.core_eval.specs.declared.held.Held.TheVariants as held
 use Rattle.core_eval.specs.declared.value.Slot.{Slot}
 use Rattle.core_eval.specs.declared.value.Object.{Object}
 use Rattle.core_eval.specs.declared.value.Object.TheVariants as object
@@ -71,6 +75,79 @@ content_of (value.Birth d) = memory.Birth d
 abbrev pub temp_of : List Value → ℕ → Content
 temp_of vs = passed_in (map content_of vs)
 
+-- ---- what cells hold
+
+-- how wide each part of a cell is
+abbrev pub width_of : Held → Width
+width_of (held.Byte v) = width.Byte
+width_of (held.Word v) = width.Word
+width_of (held.Fat u v w) = width.Word
+
+-- A count or an index is a word, or nothing as yet.
+abbrev pub bound_value : Bound → Value
+bound_value bound.Blank = value.Blank
+bound_value (bound.Word n) = value.Word n
+
+abbrev pub bound_of : Value → Bound
+bound_of (value.Word n) = bound.Word n
+bound_of _ = bound.Blank
+
+abbrev pub is_bound : Value → Bool
+is_bound value.Blank = true
+is_bound (value.Word n) = true
+is_bound value.Null = false
+is_bound (value.Pointer p) = false
+is_bound (value.Birth d) = false
+
+-- whether a value is kept of the part j
+abbrev pub keeps : ℕ → Value → Bool
+keeps j v = nat_eq j 0 || is_bound v
+
+-- what its first part holds, and what those behind that do
+abbrev pub first_of : Held → Value
+first_of (held.Byte v) = v
+first_of (held.Word v) = v
+first_of (held.Fat u v w) = u
+
+abbrev pub further_of : Held → List Value
+further_of (held.Byte v) = []
+further_of (held.Word v) = []
+further_of (held.Fat u v w) = bound_value v ∷ bound_value w ∷ []
+
+abbrev pub values_in : Held → List Value
+values_in h = first_of h ∷ further_of h
+
+-- with another value in one of its parts, or what is kept of it there, if it has so many
+abbrev pub put_part : Held → ℕ → Value → Option Held
+put_part (held.Byte u) j v = (if nat_eq j 0 then Some (held.Byte v) else None)
+put_part (held.Word u) j v = (if nat_eq j 0 then Some (held.Word v) else None)
+put_part (held.Fat a b c) j v =
+    (if nat_eq j 0 then Some (held.Fat v b c)
+    else (if nat_eq j 1 then Some (held.Fat a (bound_of v) c)
+    else (if nat_eq j 2 then Some (held.Fat a b (bound_of v)) else None)))
+
+-- with other values in as many of its parts as these are
+abbrev pub refilled : Held → Held → Held
+refilled (held.Byte u) h = held.Byte (first_of h)
+refilled (held.Word u) h = held.Word (first_of h)
+refilled (held.Fat a b c) (held.Byte v) = held.Fat v b c
+refilled (held.Fat a b c) (held.Word v) = held.Fat v b c
+refilled (held.Fat a b c) (held.Fat u v w) = held.Fat u v w
+
+-- what a cell begins as
+abbrev pub first_held : Cell → Held
+first_held cell.Byte = held.Byte (value.Word 0)
+first_held cell.Word = held.Word (value.Word 0)
+first_held cell.Pointer = held.Word value.Null
+first_held cell.Fat = held.Fat value.Null (bound.Word 0) (bound.Word 0)
+first_held cell.Handle = held.Word value.Blank
+
+-- a cell of the same parts, which hold nothing
+abbrev pub blanked : Held → Held
+blanked (held.Byte v) = held.Byte value.Blank
+blanked (held.Word v) = held.Word value.Blank
+blanked (held.Fat u v w) = held.Fat value.Blank bound.Blank bound.Blank
+
 -- ---- objects: the cells of each
 
 abbrev pub cells_of : Object → List Slot
@@ -83,11 +160,14 @@ same_width width.Byte width.Word = false
 same_width width.Word width.Byte = false
 same_width width.Word width.Word = true
 
--- a cell has the part that it is made for, and behind it the bytes that hold nothing
+-- the parts of a cell from a byte on, each so wide and with its value, and behind them so many bytes that hold nothing
+abbrev pub parts_from : (at wide padding : ℕ) → List Value → ℕ → Option Part
+parts_from at wide n [] j = (if nat_lt j n then Some (record { offset = at + j; width = 1; content = memory.Blank }) else None)
+parts_from at wide n (v ∷ vs) zero = Some (record { offset = at; width = wide; content = content_of v })
+parts_from at wide n (v ∷ vs) (suc j) = parts_from (at + wide) wide n vs j
+
 abbrev pub part_of : Slot → ℕ → Option Part
-part_of s zero = Some (record { offset = s.offset; width = bytes_of s.width; content = content_of s.value })
-part_of s (suc j) =
-    (if nat_lt j s.padding then Some (record { offset = s.offset + bytes_of s.width + j; width = 1; content = memory.Blank }) else None)
+part_of s j = parts_from s.offset (bytes_of (width_of s.held)) s.padding (values_in s.held) j
 
 abbrev pub part_in : Option Slot → ℕ → Option Part
 part_in None j = None
@@ -106,7 +186,7 @@ pub record Shows (m : Memory) (r : Region) (objects : List (List Slot)) : Type 0
   pub live : m.standing r ≡ Live
   pub holds : (i k j : ℕ) → m.parts (spot_of r i k) j ≡ part_in (slot_at objects i k) j
 
--- what a cell of a width can hold: a byte has the low bits of a word, and nothing else
+-- what a part of a width can hold: a byte has the low bits of a word, and nothing else
 abbrev pub low_byte : Value → Value
 low_byte (value.Word n) = value.Word (n % 256)
 low_byte _ = value.Blank
@@ -115,48 +195,39 @@ abbrev pub fitted : Width → Value → Value
 fitted width.Byte v = low_byte v
 fitted width.Word v = v
 
--- whether a cell lies so many bytes on, and is so wide
-abbrev pub is_fit : ℕ → Width → Slot → Bool
-is_fit byte w s = nat_eq s.offset byte && same_width s.width w
+-- whether the part j of a cell lies so many bytes on, and is so wide
+abbrev pub is_fit : (byte j : ℕ) → Width → Slot → Bool
+is_fit byte j w s = nat_eq (s.offset + j * bytes_of (width_of s.held)) byte && same_width (width_of s.held) w
 
--- what a cell holds, where there is one, and it lies there and is so wide
-abbrev pub value_of : ℕ → Width → Option Slot → Option Value
-value_of byte w None = None
-value_of byte w (Some s) = (if is_fit byte w s then Some s.value else None)
+-- what it holds, where there is one, and it lies there and is so wide
+abbrev pub value_of : (byte j : ℕ) → Width → Option Slot → Option Value
+value_of byte j w None = None
+value_of byte j w (Some s) = (if is_fit byte j w s then slice_get (values_in s.held) j else None)
 
--- the cell with another value
-abbrev pub with_value : Slot → Value → Slot
-with_value s v = record s { value = v }
+-- whether a part may be one that has a value: behind the first part of a cell a byte is one that holds nothing
+abbrev pub is_kept : ℕ → Width → Bool
+is_kept j w = nat_eq j 0 || same_width w width.Word
 
--- the cells after a store to one of them, where there is one, and it lies there and is so wide
-abbrev pub put_slot : List Slot → (k byte : ℕ) → Width → Value → Option Slot → Option (List Slot)
-put_slot cells k byte w v None = None
-put_slot cells k byte w v (Some s) = (if is_fit byte w s then Some (slice_set cells k (with_value s (fitted w v))) else None)
+-- the cell with other values
+abbrev pub with_held : Slot → Held → Slot
+with_held s h = record s { held = h }
 
-abbrev pub put_cell : List Slot → (k byte : ℕ) → Width → Value → Option (List Slot)
-put_cell cells k byte w v = put_slot cells k byte w v (slice_get cells k)
+-- the cells after a store to a part of one of them, where there is one, and it lies there and is so wide
+abbrev pub put_slot : List Slot → (k byte j : ℕ) → Width → Value → Option Slot → Option (List Slot)
+put_slot cells k byte j w v None = None
+put_slot cells k byte j w v (Some s) =
+    (if is_fit byte j w s then option_map (λ h. slice_set cells k (with_held s h)) (put_part s.held j (fitted w v)) else None)
 
--- the objects after a store to one of their cells
-abbrev pub put_object : List (List Slot) → (i k byte : ℕ) → Width → Value → Option (List Slot) → Option (List (List Slot))
-put_object objects i k byte w v None = None
-put_object objects i k byte w v (Some cells) = option_map (slice_set objects i) (put_cell cells k byte w v)
+abbrev pub put_cell : List Slot → (k byte j : ℕ) → Width → Value → Option (List Slot)
+put_cell cells k byte j w v = put_slot cells k byte j w v (slice_get cells k)
 
-abbrev pub put_in : List (List Slot) → (i k byte : ℕ) → Width → Value → Option (List (List Slot))
-put_in objects i k byte w v = put_object objects i k byte w v (slice_get objects i)
+-- the objects after a store to a part of one of their cells
+abbrev pub put_object : List (List Slot) → (i k byte j : ℕ) → Width → Value → Option (List Slot) → Option (List (List Slot))
+put_object objects i k byte j w v None = None
+put_object objects i k byte j w v (Some cells) = option_map (slice_set objects i) (put_cell cells k byte j w v)
 
--- ---- what a local begins as
-
--- the cells of a local
-abbrev pub local_cells : Local → List CellLayout
-local_cells (local.Scalar c) = record { offset = 0; cell = c; padding = 0 } ∷ []
-local_cells (local.Whole l) = l.value.cells.items
-
--- a cell that holds nothing as yet
-abbrev pub blank_slot : CellLayout → Slot
-blank_slot c = record { offset = c.offset; width = cell_width c.cell; padding = c.padding; value = value.Blank }
-
-abbrev pub blank_object : Local → List Slot
-blank_object l = map blank_slot (local_cells l)
+abbrev pub put_in : List (List Slot) → (i k byte j : ℕ) → Width → Value → Option (List (List Slot))
+put_in objects i k byte j w v = put_object objects i k byte j w v (slice_get objects i)
 
 -- ---- what a condition and a call read
 

@@ -4,6 +4,7 @@ ghost use Rattle.std.specs.Prelude.{◌≡◌, ℕ, Some, None, false, if◌then
 ghost use Rattle.core_eval.specs.Blocks.{Descends, activation_of, position_of, put_through, slot_through};
 ghost use Rattle.core_eval.specs.Whole.{fill_through};
 
+use crate::held::Held;
 use crate::value::{Object, Slot, Value, fill_in, put_in, slot_in};
 use cyc_core::Width;
 use std::alloc::{AllocError, Global};
@@ -50,7 +51,7 @@ pub fn slot_by(blocks: &VecDeque<Block>, number: u64, index: u32, cell: u64) -> 
     }
 }
 
-/// Stores a value to a cell of an object of the one that stands there, if there is one that lies so many bytes on and is so wide, and
+/// Stores a value to a part of a cell of an object of the one that stands there, if there is one that lies so many bytes on and is so wide, and
 /// answers whether there is.
 pub fn set_at(
     blocks: &mut VecDeque<Block>,
@@ -58,20 +59,21 @@ pub fn set_at(
     index: u32,
     cell: u64,
     byte: u64,
+    part: u32,
     width: Width,
     value: Value,
 ) -> bool
-    ensures put { put_through (map activation_of blocks.old.items) (Some position) index cell byte width value
+    ensures put { put_through (map activation_of blocks.old.items) (Some position) index cell byte part width value
         ≡ (if result then Some (map activation_of blocks.new.items) else None) }
     ensures kept { result ≡ false → map activation_of blocks.new.items ≡ map activation_of blocks.old.items }
 {
     match blocks.get_mut(position) {
-        Some(block) => put_in(&mut block.objects, index, cell, byte, width, value),
+        Some(block) => put_in(&mut block.objects, index, cell, byte, part, width, value),
         None => false,
     }
 }
 
-/// Stores a value to a cell of an object of the one with this number, if it isn't left yet and there is one that lies so many bytes on
+/// Stores a value to a part of a cell of an object of the one with this number, if it isn't left yet and there is one that lies so many bytes on
 /// and is so wide, and answers whether there is.
 pub fn set_by(
     blocks: &mut VecDeque<Block>,
@@ -79,16 +81,17 @@ pub fn set_by(
     index: u32,
     cell: u64,
     byte: u64,
+    part: u32,
     width: Width,
     value: Value,
 ) -> bool
     ensures put { (bound : ℕ) → Descends bound (map activation_of blocks.old.items)
-        → put_through (map activation_of blocks.old.items) (position_of (map activation_of blocks.old.items) number) index cell byte width value
+        → put_through (map activation_of blocks.old.items) (position_of (map activation_of blocks.old.items) number) index cell byte part width value
         ≡ (if result then Some (map activation_of blocks.new.items) else None) }
     ensures kept { result ≡ false → map activation_of blocks.new.items ≡ map activation_of blocks.old.items }
 {
     match position_of(blocks, number) {
-        Some(position) => set_at(blocks, position, index, cell, byte, width, value),
+        Some(position) => set_at(blocks, position, index, cell, byte, part, width, value),
         None => false,
     }
 }
@@ -100,7 +103,7 @@ fn fill_at(
     position: usize,
     index: u32,
     cell: u64,
-    values: &[Value],
+    values: &[Held],
 ) -> Result<(), AllocError>
     ensures { OnOk result (map activation_of blocks.new.items
         ≡ fill_through (map activation_of blocks.old.items) (Some position) index cell values.now) }
@@ -118,7 +121,7 @@ pub fn fill_by(
     number: u64,
     index: u32,
     cell: u64,
-    values: &[Value],
+    values: &[Held],
 ) -> Result<(), AllocError>
     ensures { OnOk result ((bound : ℕ) → Descends bound (map activation_of blocks.old.items)
         → map activation_of blocks.new.items

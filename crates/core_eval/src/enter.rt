@@ -1,21 +1,25 @@
 // The first move of each statement.
 
 ghost use Rattle.std.specs.Prelude.{◌≡◌, ◌∷◌, ◌+◌, IfOk, OnOk, map};
-ghost use Rattle.cyc_core.specs.Trees.{body_tree, statement_tree, temporary_tree};
-ghost use Rattle.core_eval.specs.Values.{AreRead, blank_object, blank_slot, cells_of, truth_of};
+ghost use Rattle.core_meaning.specs.Meaning.{values_of};
+ghost use Rattle.cyc_core.specs.Trees.{body_tree, optional_tree, statement_tree, temporary_tree};
+ghost use Rattle.core_eval.specs.Values.{AreRead, bound_value, content_of, temp_of, truth_of};
+ghost use Rattle.core_eval.specs.Elements.{blank_object};
 ghost use Rattle.core_eval.specs.Blocks.{activation_of};
-ghost use Rattle.core_eval.specs.Pendings.{Block, Execute, Follow, Go, Test, next_of, wait_of, waits_of};
+ghost use Rattle.core_eval.specs.Pendings.{Block, Execute, Follow, Go, Test, next_of, optional_value, wait_of, waits_of};
 ghost use Rattle.core_eval.specs.Standing.{Known, known_of};
 ghost use Rattle.core_eval.specs.Costs.{IsMove};
 
 use crate::frame::Frame;
+use crate::held::Bound;
 use crate::memory::Memory;
+use crate::object::blank_objects;
 use crate::operation::operate;
-use crate::pending::{Due, Flow, Now, Pending};
+use crate::pending::{Due, Flow, Now, Pending, Returned};
 use crate::request::allocate;
-use crate::value::{Object, Slot, Value};
+use crate::value::Value;
 use crate::whole::{clear, copy};
-use cyc_core::{CellLayout, Local, Statement, Temporary};
+use cyc_core::{Local, Statement, Temporary, Words};
 use std::alloc::{AllocError, Global};
 
 /// Puts what waits on top of the stack.
@@ -39,54 +43,6 @@ pub fn truth(value: Value) -> Option<bool>
     }
 }
 
-/// A cell that holds nothing as yet.
-fn blank_slot(cell: CellLayout) -> Slot
-    ensures { result ≡ blank_slot cell }
-{
-    Slot {
-        offset: cell.offset,
-        width: cell.cell.width(),
-        padding: cell.padding,
-        value: Value::Blank,
-    }
-}
-
-/// Cells that hold nothing as yet.
-fn blank_slots(alloc: Global, cells: &[CellLayout]) -> Result<Vec<Slot>, AllocError>
-    ensures { IfOk result (λ slots. slots.items ≡ map blank_slot cells.now) }
-{
-    let mut slots = Vec::new(alloc);
-    'each: for cell in cells {
-        slots.push(blank_slot(*cell))?;
-    }
-    Ok(slots)
-}
-
-/// A local, which holds nothing as yet.
-fn blank_object(alloc: Global, local: &Local) -> Result<Object, AllocError>
-    ensures { IfOk result (λ object. cells_of object ≡ blank_object local.now) }
-{
-    match local {
-        Local::Scalar(cell) => Ok(Object::Scalar(blank_slot(CellLayout {
-            offset: 0,
-            cell: *cell,
-            padding: 0,
-        }))),
-        Local::Whole(layout) => Ok(Object::Whole(blank_slots(alloc, &layout.as_ref().cells)?)),
-    }
-}
-
-/// These locals, which hold nothing as yet.
-pub fn blank_objects(alloc: Global, locals: &[Local]) -> Result<Vec<Object>, AllocError>
-    ensures { IfOk result (λ objects. map cells_of objects.items ≡ map blank_object locals.now) }
-{
-    let mut objects = Vec::new(alloc);
-    'each: for local in locals {
-        objects.push(blank_object(alloc, local)?)?;
-    }
-    Ok(objects)
-}
-
 /// What these temporaries hold.
 #[tactic(auto, using(crate::proofs::Lists::read_one))]
 fn arguments_of(
@@ -101,6 +57,31 @@ fn arguments_of(
         values.push(frame.temp(*argument))?;
     }
     Ok(values)
+}
+
+/// What a temporary holds, if it is a count or an index. Fails where it is a pointer or a handle, which nothing is kept of there.
+fn bound_of(frame: &Frame, temporary: Temporary) -> Result<Bound, AllocError>
+    ensures { IfOk result (λ bound. content_of (bound_value bound) ≡ temp_of frame.now.temps.items temporary.0) }
+{
+    match Bound::kept(frame.temp(temporary)) {
+        Some(bound) => Ok(bound),
+        None => Err(AllocError),
+    }
+}
+
+/// What the temporaries of a result hold. Fails only where a pointer or a handle would be a count or an index.
+fn returned(frame: &Frame, words: Option<Words>) -> Result<Option<Returned>, AllocError>
+    ensures { IfOk result (λ returned. values_of (temp_of frame.now.temps.items) (optional_tree words) ≡ optional_value returned) }
+{
+    match words {
+        None => Ok(None),
+        Some(Words::One(from)) => Ok(Some(Returned::One(frame.temp(from)))),
+        Some(Words::Three(first, second, third)) => Ok(Some(Returned::Three(
+            frame.temp(first),
+            bound_of(frame, second)?,
+            bound_of(frame, third)?,
+        ))),
+    }
 }
 
 /// The first move of a loop, and of each further turn: its test is next.
@@ -141,8 +122,9 @@ fn enter_block<'p>(
     Ok(Due::Go(Now::Follow(body)))
 }
 
-/// The first move of a statement. Fails only where no host memory is left, 2^64 - 1 blocks were entered, there would be a cell with a
-/// number over 2^64 - 1, a block of a region would have a cell behind 2^32 - 1 bytes, or a region 2^32 blocks and one more.
+/// The first move of a statement. Fails only where an operation does, no host memory is left, 2^64 - 1 blocks were entered, there would be a
+/// cell with a number over 2^64 - 1, an object would have a cell behind 2^32 - 1 bytes, a region 2^32 blocks and one more, or a pointer or a
+/// handle would be a count or an index.
 pub fn enter_statement<'p>(
     alloc: Global,
     statement: &'p Statement,
@@ -158,7 +140,9 @@ pub fn enter_statement<'p>(
         Statement::Copy(to, from, layout) => {
             copy(alloc, frame, memory, *to, *from, layout.as_ref())
         }
-        Statement::Clear(place, layout) => clear(alloc, frame, memory, *place, layout.as_ref()),
+        Statement::Clear(place, layout, count) => {
+            clear(alloc, frame, memory, *place, layout.as_ref(), *count)
+        }
         Statement::RegionAlloc(to, region, count, layout) => allocate(
             alloc,
             frame,
@@ -180,9 +164,8 @@ pub fn enter_statement<'p>(
             let values = arguments_of(alloc, frame, arguments)?;
             Ok(Due::Call(*result, *function, values))
         }
-        Statement::Return(None) => Ok(Due::Go(Now::Leave(Flow::Returns(None)))),
-        Statement::Return(Some(from)) => {
-            Ok(Due::Go(Now::Leave(Flow::Returns(Some(frame.temp(*from))))))
+        Statement::Return(words) => {
+            Ok(Due::Go(Now::Leave(Flow::Returns(returned(frame, *words)?))))
         }
         Statement::Raise(kind) => Ok(Due::Raised(*kind)),
     }

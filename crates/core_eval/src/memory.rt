@@ -4,7 +4,8 @@
 ghost use Rattle.std.specs.Prelude.{◌≡◌, ◌∷◌, ◌++◌, ◌+◌, suc, [], Some, None, false, if◌then◌else◌, drop, map, length, IfOk, OnOk};
 ghost use Rattle.core_eval.specs.Values.{cells_of, value_of};
 ghost use Rattle.core_eval.specs.Whole.{fill_to, is_held};
-ghost use Rattle.core_eval.specs.Regions.{block_cells, freed, held_objects};
+ghost use Rattle.core_eval.specs.Elements.{block_cells};
+ghost use Rattle.core_eval.specs.Regions.{freed, held_objects};
 ghost use Rattle.core_eval.specs.Blocks.{
   AreOrdered,
   activation_of,
@@ -17,17 +18,14 @@ ghost use Rattle.core_eval.specs.Blocks.{
   own_position,
   put_local,
   put_to,
-  same_places,
-  same_values,
   slot_in,
   stored_of,
 };
 
 use crate::blocks::{Block, fill_by, position_of, set_at, set_by, slot_at, slot_by};
+use crate::held::Held;
 use crate::region::{self, Region};
-use crate::value::{
-    Area, Object, Place, Slot, Value, fill_in, is_null, is_same_cell, put_in, slot_in, value_of,
-};
+use crate::value::{Area, Object, Place, Slot, Value, fill_in, put_in, slot_in, value_of};
 use cyc_core::{Layout, Variable, Width};
 use std::alloc::{AllocError, Global};
 use std::collections::VecDeque;
@@ -150,13 +148,14 @@ impl Memory {
         }
     }
 
-    /// What a local holds, for a function outside of which there are so many blocks, if there is one whose first cell is so wide.
+    /// What the first part of a local holds, for a function outside of which there are so many blocks, if there is one so wide.
     pub fn local(&self, base: usize, variable: Variable, width: Width) -> Option<Value>
-        ensures { result ≡ value_of 0 width (local_slot base (map activation_of self.now.blocks.items) variable.out variable.index) }
+        ensures { result ≡ value_of 0 0 width (local_slot base (map activation_of self.now.blocks.items) variable.out variable.index) }
     {
         match self.own_position(base, variable.out) {
             Some(position) => value_of(
                 slot_at(&self.blocks, position, variable.index, 0),
+                0,
                 0,
                 width,
             ),
@@ -222,7 +221,7 @@ impl Memory {
     }
 
     /// Whether a place leads to a cell that is there.
-    fn is_there(&self, place: Place) -> bool
+    pub fn is_there(&self, place: Place) -> bool
         ensures { AreOrdered self.now → result ≡ is_there place.byte (slot_in (stored_of self.now) place.area place.object place.cell) }
     {
         match self.slot(place.area, place.object, place.cell) {
@@ -231,31 +230,8 @@ impl Memory {
         }
     }
 
-    /// Whether two places are the same cell, if both are there.
-    fn same_places(&self, first: Place, second: Place) -> Option<bool>
-        ensures { AreOrdered self.now → result ≡ same_places (stored_of self.now) first second }
-    {
-        if self.is_there(first) && self.is_there(second) {
-            Some(is_same_cell(first, second))
-        } else {
-            None
-        }
-    }
-
-    /// Whether two values are the same pointer, if both are pointers, each NULL or to what there is.
-    pub fn same_place(&self, first: Value, second: Value) -> Option<bool>
-        ensures { AreOrdered self.now → result ≡ same_values (stored_of self.now) first second }
-    {
-        match (first, second) {
-            (Value::Null, _) => is_null(second),
-            (Value::Pointer(_), Value::Null) => Some(false),
-            (Value::Pointer(place), Value::Pointer(other)) => self.same_places(place, other),
-            _ => None,
-        }
-    }
-
-    /// Stores a value to a local, for a function outside of which there are so many blocks, if there is one whose first cell is so
-    /// wide, and answers whether there is.
+    /// Stores a value to the first part of a local, for a function outside of which there are so many blocks, if there is one so wide,
+    /// and answers whether there is.
     pub fn set_local(&mut self, base: usize, variable: Variable, width: Width, value: Value) -> bool
         ensures blocks { put_local base (map activation_of self.old.blocks.items) variable.out variable.index width value
             ≡ (if result then Some (map activation_of self.new.blocks.items) else None) }
@@ -273,6 +249,7 @@ impl Memory {
                 variable.index,
                 0,
                 0,
+                0,
                 width,
                 value,
             ),
@@ -280,34 +257,52 @@ impl Memory {
         }
     }
 
-    /// Stores a value to a cell of an object of an area, if there is one that lies so many bytes on and is so wide, and answers whether
+    /// Stores a value to a part of a cell of an object of an area, if there is one that lies so many bytes on and is so wide, and answers whether
     /// there is.
-    pub fn put_to(&mut self, place: Place, cell: u64, byte: u64, width: Width, value: Value) -> bool
+    pub fn put_to(
+        &mut self,
+        place: Place,
+        cell: u64,
+        byte: u64,
+        part: u32,
+        width: Width,
+        value: Value,
+    ) -> bool
         ensures put { AreOrdered self.old
-            → put_to (stored_of self.old) place.area place.object cell byte width value ≡ (if result then Some (stored_of self.new) else None) }
+            → put_to (stored_of self.old) place.area place.object cell byte part width value ≡ (if result then Some (stored_of self.new) else None) }
         ensures kept { result ≡ false → stored_of self.new ≡ stored_of self.old }
         ensures entered { self.new.entered ≡ self.old.entered }
         ensures called { self.new.called ≡ self.old.called }
     {
         let object = place.object;
         match place.area {
-            Area::Globals => put_in(&mut self.globals, object, cell, byte, width, value),
+            Area::Globals => put_in(&mut self.globals, object, cell, byte, part, width, value),
             Area::Region(number) => region::put_to(
                 &mut self.regions,
                 number,
                 object,
                 cell,
                 byte,
+                part,
                 width,
                 value,
             ),
-            Area::Block(block) => set_by(&mut self.blocks, block, object, cell, byte, width, value),
-            Area::Own(call) => set_by(&mut self.owns, call, object, cell, byte, width, value),
+            Area::Block(block) => set_by(
+                &mut self.blocks,
+                block,
+                object,
+                cell,
+                byte,
+                part,
+                width,
+                value,
+            ),
+            Area::Own(call) => set_by(&mut self.owns, call, object, cell, byte, part, width, value),
         }
     }
 
     /// The cells from a place on get these values. Fails only where there would be a cell with a number over 2^64 - 1.
-    pub fn fill_to(&mut self, place: Place, values: &[Value]) -> Result<(), AllocError>
+    pub fn fill_to(&mut self, place: Place, values: &[Held]) -> Result<(), AllocError>
         ensures stored { OnOk result (AreOrdered self.old
             → stored_of self.new ≡ fill_to (stored_of self.old) place.area place.object place.cell values.now) }
         ensures entered { OnOk result (self.new.entered ≡ self.old.entered) }
@@ -371,7 +366,7 @@ impl Memory {
         count: u32,
     ) -> Result<Option<Place>, AllocError>
         ensures place { IfOk result (λ place. place ≡ next_place (stored_of self.old) birth) }
-        ensures stored { OnOk result (stored_of self.new ≡ grown (stored_of self.old) birth (block_cells layout.now count)) }
+        ensures stored { OnOk result (stored_of self.new ≡ grown (stored_of self.old) birth (block_cells false layout.now count)) }
         ensures entered { OnOk result (self.new.entered ≡ self.old.entered) }
         ensures called { OnOk result (self.new.called ≡ self.old.called) }
     {

@@ -1,25 +1,30 @@
 // What each operation does to what is known.
 
-ghost use Rattle.std.specs.Prelude.{◌≡◌, ℕ, List, IfOk, OnOk};
+ghost use Rattle.std.specs.Prelude.{◌≡◌, ℕ, List, IfOk, OnOk, None, true};
 ghost use Rattle.core_meaning.specs.Core as core;
 ghost use Rattle.core_meaning.specs.Steps.{Falls};
 ghost use Rattle.cyc_core.specs.Trees.{binary_tree, bytes_of, distance_tree, operation_tree};
 ghost use Rattle.core_eval.specs.declared.memory.Memory.{Memory as TheMemory};
 ghost use Rattle.core_eval.specs.Values.{content_of};
+ghost use Rattle.core_eval.specs.Blocks.{AreOrdered, stored_of};
+ghost use Rattle.core_eval.specs.Whole.{is_held};
+ghost use Rattle.core_eval.specs.Leading.{lead_on};
 ghost use Rattle.core_eval.specs.Pendings.{Execute, Go, Leave, Wait, next_of};
 ghost use Rattle.core_eval.specs.Standing.{Gives, known_of};
 ghost use Rattle.core_eval.specs.Costs.{IsMove};
 
 use crate::arithmetic::{apply, truth};
 use crate::frame::Frame;
+use crate::held::keeps;
 use crate::memory::Memory;
 use crate::pending::{Due, Flow, Now};
+use crate::pointer::{is_null, same_place};
 use crate::request::{free_region, make_region};
-use crate::value::{Area, Place, Value, further, is_null, value_of};
+use crate::value::{Area, Place, Value, further, is_kept, value_of};
 use cyc_core::{Binary, Distance, Operation, Temporary, Variable, Width};
 use std::alloc::{AllocError, Global};
 
-/// No object has so many bytes.
+/// No object that is granted has so many bytes.
 const TOO_FAR: u64 = 0x0200_0000;
 
 /// Gives a temporary a value, which is all that the operation does. Fails only where no host memory is left.
@@ -149,34 +154,94 @@ fn put<'p>(
     }
 }
 
+/// The place so many cells and so many bytes on, if a pointer may lead there: where that is less than too far from where its object begins, or
+/// a cell is there. Fails only where there would be a cell with a number over 2^64 - 1 or a byte behind 2^32 - 1, or where what had the object is
+/// gone, so that nobody knows whether a cell was there.
+fn lead_on(
+    memory: &Memory,
+    place: Place,
+    cells: u64,
+    bytes: u64,
+) -> Result<Option<Place>, AllocError>
+    ensures leads { IfOk result (λ there. AreOrdered memory.now → there ≡ lead_on (stored_of memory.now) place cells bytes) }
+    ensures held { IfOk result (λ there. there ≡ None → AreOrdered memory.now → is_held (stored_of memory.now) place.area ≡ true) }
+{
+    let Some(cell) = place.cell.checked_add(cells) else {
+        return Err(AllocError);
+    };
+    let Some(byte) = u64::from(place.byte).checked_add(bytes) else {
+        return Err(AllocError);
+    };
+    if byte > u64::from(u32::MAX) {
+        return Err(AllocError);
+    }
+    let there = Place {
+        byte: byte as u32,
+        cell,
+        ..place
+    };
+    if byte < TOO_FAR || memory.is_there(there) {
+        Ok(Some(there))
+    } else if memory.is_held(place.area) {
+        Ok(None)
+    } else {
+        Err(AllocError)
+    }
+}
+
 /// Gives a temporary a pointer that leads so many cells and bytes further than another one's.
 fn offset<'p>(
     frame: &mut Frame,
+    memory: &Memory,
     to: Temporary,
     from: Temporary,
     cells: u32,
     bytes: u32,
 ) -> Result<Due<'p>, AllocError>
-    ensures { IfOk result (λ due. (ws : List Wait) (memory : TheMemory) →
-        IsMove (Execute (core.Do (core.Offset to.0 from.0 cells bytes))) ws (known_of frame.old memory) (next_of due) ws (known_of frame.new memory)) }
+    ensures { IfOk result (λ due. (ws : List Wait) →
+        IsMove (Execute (core.Do (core.Offset to.0 from.0 cells bytes))) ws (known_of frame.old memory.now) (next_of due) ws
+        (known_of frame.new memory.now)) }
 {
     let Value::Pointer(place) = frame.temp(from) else {
         return Ok(Due::Wrong);
     };
-    let byte = u64::from(place.byte) + u64::from(bytes);
-    if byte >= TOO_FAR {
-        return Ok(Due::Wrong);
+    match lead_on(memory, place, u64::from(cells), u64::from(bytes))? {
+        Some(there) => give(frame, to, Value::Pointer(there)),
+        None => Ok(Due::Wrong),
     }
-    let there = Place {
-        area: place.area,
-        object: place.object,
-        byte: byte as u32,
-        cell: further(place.cell, cells)?,
-    };
-    give(frame, to, Value::Pointer(there))
 }
 
-/// Gives a temporary the part at a distance from where another one points.
+/// Gives a temporary a pointer to an element of so many cells and bytes, from the one on to which another one's pointer leads: to that which a
+/// third one's word says.
+fn element<'p>(
+    frame: &mut Frame,
+    memory: &Memory,
+    to: Temporary,
+    from: Temporary,
+    index: Temporary,
+    cells: u32,
+    bytes: u32,
+) -> Result<Due<'p>, AllocError>
+    ensures { IfOk result (λ due. (ws : List Wait) →
+        IsMove (Execute (core.Do (core.Element to.0 from.0 index.0 cells bytes))) ws (known_of frame.old memory.now) (next_of due) ws
+        (known_of frame.new memory.now)) }
+{
+    let Value::Pointer(place) = frame.temp(from) else {
+        return Ok(Due::Wrong);
+    };
+    let Value::Word(count) = frame.temp(index) else {
+        return Ok(Due::Wrong);
+    };
+    let cells = u64::from(count) * u64::from(cells);
+    let bytes = u64::from(count) * u64::from(bytes);
+    match lead_on(memory, place, cells, bytes)? {
+        Some(there) => give(frame, to, Value::Pointer(there)),
+        None => Ok(Due::Wrong),
+    }
+}
+
+/// Gives a temporary the part at a distance from where another one points. Fails only where no host memory is left, there would be a cell
+/// with a number over 2^64 - 1, or the part is a byte behind the first part of its cell, of which nothing is kept.
 fn load<'p>(
     frame: &mut Frame,
     memory: &Memory,
@@ -191,11 +256,15 @@ fn load<'p>(
     let Value::Pointer(place) = frame.temp(place) else {
         return Ok(Due::Wrong);
     };
+    if !is_kept(distance.part, distance.width) {
+        return Err(AllocError);
+    }
     let cell = further(place.cell, distance.cells)?;
     let byte = u64::from(place.byte) + u64::from(distance.bytes);
     match value_of(
         memory.slot(place.area, place.object, cell),
         byte,
+        distance.part,
         distance.width,
     ) {
         Some(value) => give(frame, to, value),
@@ -203,7 +272,9 @@ fn load<'p>(
     }
 }
 
-/// Stores what a temporary holds to the part at a distance from where another one points.
+/// Stores what a temporary holds to the part at a distance from where another one points. Fails only where there would be a cell with a
+/// number over 2^64 - 1, the part is a byte behind the first part of its cell, of which nothing is kept, or it is a count or an index and
+/// would get a pointer or a handle.
 fn store<'p>(
     frame: &Frame,
     memory: &mut Memory,
@@ -219,9 +290,15 @@ fn store<'p>(
     let Value::Pointer(place) = frame.temp(place) else {
         return Ok(Due::Wrong);
     };
+    if !is_kept(distance.part, distance.width) {
+        return Err(AllocError);
+    }
+    if !keeps(distance.part, value) {
+        return Err(AllocError);
+    }
     let cell = further(place.cell, distance.cells)?;
     let byte = u64::from(place.byte) + u64::from(distance.bytes);
-    if memory.put_to(place, cell, byte, distance.width, value) {
+    if memory.put_to(place, cell, byte, distance.part, distance.width, value) {
         Ok(Due::Go(Now::Leave(Flow::Falls)))
     } else {
         Ok(Due::Wrong)
@@ -252,7 +329,7 @@ fn test_same<'p>(
         (known_of frame.new memory.now)) }
 {
     let (first, second) = (frame.temp(left), frame.temp(right));
-    match memory.same_place(first, second) {
+    match same_place(memory, first, second) {
         Some(is_same) => give(frame, to, Value::Word(truth(is_same))),
         None => Ok(Due::Wrong),
     }
@@ -269,7 +346,8 @@ fn putchar<'p>(frame: &Frame, to: Temporary, from: Temporary) -> Due<'p>
     }
 }
 
-/// The move of an operation. Fails only where no host memory is left, or there would be a cell with a number over 2^64 - 1.
+/// The move of an operation. Fails only where no host memory is left, there would be a cell with a number over 2^64 - 1 or a byte behind
+/// 2^32 - 1, a pointer would lead 2^25 bytes or further into what is gone, or a part is read or stored of which nothing is kept.
 pub fn operate<'p>(
     alloc: Global,
     operation: Operation,
@@ -292,7 +370,12 @@ pub fn operate<'p>(
         Operation::LocalAddress(to, of) => address(frame, memory, to, of),
         Operation::OwnAddress(to, object) => own_address(frame, memory, to, object),
         Operation::DataAddress(to, object) => global_address(frame, to, object),
-        Operation::Offset(to, from, cells, bytes) => offset(frame, to, from, cells, bytes),
+        Operation::Offset(to, from, cells, bytes) => {
+            offset(frame, memory, to, from, cells, bytes)
+        }
+        Operation::Element(to, from, index, cells, bytes) => {
+            element(frame, memory, to, from, index, cells, bytes)
+        }
         Operation::Get(to, from, width) => get(frame, memory, to, from, width),
         Operation::Put(to, width, from) => Ok(put(frame, memory, to, width, from)),
         Operation::Load(to, place, distance) => load(frame, memory, to, place, distance),

@@ -1,9 +1,17 @@
 // What an evaluator does next, and what is still to be done after that.
 
 use crate::frame::Frame;
+use crate::held::Bound;
 use crate::value::Value;
-use cyc_core::{Statement, Temporary};
+use cyc_core::{Statement, Temporary, Words};
 use cyc_words::Kind;
+
+/// What a function returns: a word, or the three of a fat pointer, which are its first element, how many it has, and its index.
+#[derive(Clone, Copy, Drop)]
+pub enum Returned {
+    One(Value),
+    Three(Value, Bound, Bound),
+}
 
 /// How a statement is left.
 #[derive(Clone, Copy, Drop)]
@@ -11,7 +19,7 @@ pub enum Flow {
     Falls,
     Breaks,
     Continues,
-    Returns(Option<Value>),
+    Returns(Option<Returned>),
 }
 
 /// What is done next.
@@ -36,8 +44,8 @@ pub enum Pending<'p> {
     Body(&'p [Statement], Temporary, &'p [Statement]),
     /// The end of a block.
     Block,
-    /// The caller of the function with this number: the temporary that gets the result, and what the caller had.
-    Caller(Option<Temporary>, u32, Frame),
+    /// The caller of the function with this number: the temporaries that get the result, and what the caller had.
+    Caller(Option<Words>, u32, Frame),
 }
 
 /// What a move leads to: another one, a unit of fuel that is due, or the end.
@@ -50,8 +58,8 @@ pub enum Due<'p> {
     Putchar(Temporary, u8),
     /// A unit for a turn of a loop.
     Turn(&'p [Statement], Temporary, &'p [Statement]),
-    /// A unit for a call: the temporary that gets the result, the function's number, and what it is passed.
-    Call(Option<Temporary>, u32, Vec<Value>),
+    /// A unit for a call: the temporaries that get the result, the function's number, and what it is passed.
+    Call(Option<Words>, u32, Vec<Value>),
     /// The end of the program, with its status.
     Over(u32),
     /// The end of the program, with an exception.

@@ -2,8 +2,8 @@
 
 ghost use Rattle.std.specs.Prelude.{◌≡◌, ◌++◌, ◌∷◌, [], Some, None, false, if◌then◌else◌, map, length, option_map, IfOk, OnOk};
 ghost use Rattle.core_eval.specs.Values.{cells_of};
+ghost use Rattle.core_eval.specs.Elements.{block_cells};
 ghost use Rattle.core_eval.specs.Regions.{
-  block_cells,
   free_held,
   free_region,
   grown_held,
@@ -12,13 +12,14 @@ ghost use Rattle.core_eval.specs.Regions.{
   put_held,
   put_region,
   region_at,
-  slot_from,
   slot_within,
 };
 ghost use Rattle.core_eval.specs.Whole.{fill_held, fill_region, is_still};
 
+use crate::held::Held;
+use crate::object::block_cells;
 use crate::value::{Object, Slot, Value, fill_in, put_in, slot_in};
-use cyc_core::{CellLayout, Layout, Width};
+use cyc_core::{Layout, Width};
 use std::alloc::{AllocError, Global};
 
 /// A lexical region.
@@ -30,46 +31,6 @@ pub enum Region {
     Freed,
 }
 
-/// A cell that holds nothing as yet, of an element that lies so many bytes on. Fails only where the cell would lie behind 2^32 - 1 bytes.
-fn slot_from(from: u32, cell: CellLayout) -> Result<Slot, AllocError>
-    ensures { IfOk result (λ slot. slot ≡ slot_from from cell) }
-{
-    match from.checked_add(cell.offset) {
-        Some(offset) => Ok(Slot {
-            offset,
-            width: cell.cell.width(),
-            padding: cell.padding,
-            value: Value::Blank,
-        }),
-        None => Err(AllocError),
-    }
-}
-
-/// An element more, which lies so many bytes on.
-fn push_element(slots: &mut Vec<Slot>, from: u32, cells: &[CellLayout]) -> Result<(), AllocError>
-    ensures { OnOk result (slots.new.items ≡ slots.old.items ++ map (slot_from from) cells.now) }
-{
-    'each: for cell in cells {
-        slots.push(slot_from(from, *cell)?)?;
-    }
-    Ok(())
-}
-
-/// The cells of a block of so many elements of a layout.
-fn block_cells(alloc: Global, layout: &Layout, count: u32) -> Result<Vec<Slot>, AllocError>
-    ensures { IfOk result (λ slots. slots.items ≡ block_cells layout.now count) }
-{
-    let cells: &[CellLayout] = &layout.cells;
-    let mut slots = Vec::with_capacity(alloc, cells.len().saturating_mul(count as usize))?;
-    'each: for element in 0..count {
-        let Some(from) = element.checked_mul(layout.bytes) else {
-            return Err(AllocError);
-        };
-        push_element(&mut slots, from, cells)?;
-    }
-    Ok(slots)
-}
-
 /// A block more, of so many elements of a layout, which hold nothing as yet: how many there were before. Fails only where no host memory
 /// is left, the block would have a cell behind 2^32 - 1 bytes, or there would be 2^32 blocks and one more.
 pub fn push_block(
@@ -79,33 +40,41 @@ pub fn push_block(
     count: u32,
 ) -> Result<u32, AllocError>
     ensures number { IfOk result (λ before. before ≡ length objects.old.items) }
-    ensures objects { OnOk result (map cells_of objects.new.items ≡ map cells_of objects.old.items ++ block_cells layout.now count ∷ []) }
+    ensures objects { OnOk result (map cells_of objects.new.items ≡ map cells_of objects.old.items ++ block_cells false layout.now count ∷ []) }
 {
     let before = objects.len();
     if before > u32::MAX as usize {
         return Err(AllocError);
     }
-    let slots = block_cells(alloc, layout, count)?;
+    let slots = block_cells(alloc, false, layout, count)?;
     objects.push(Object::Whole(slots))?;
     Ok(before as u32)
 }
 
 impl Region {
-    /// Stores a value to a cell of a block, if it isn't freed and there is one that lies so many bytes on and is so wide, and answers
+    /// Stores a value to a part of a cell of a block, if it isn't freed and there is one that lies so many bytes on and is so wide, and answers
     /// whether there is.
-    fn put(&mut self, index: u32, cell: u64, byte: u64, width: Width, value: Value) -> bool
-        ensures put { put_held index cell byte width value (held_objects self.old) ≡ (if result then Some (held_objects self.new) else None) }
+    fn put(
+        &mut self,
+        index: u32,
+        cell: u64,
+        byte: u64,
+        part: u32,
+        width: Width,
+        value: Value,
+    ) -> bool
+        ensures put { put_held index cell byte part width value (held_objects self.old) ≡ (if result then Some (held_objects self.new) else None) }
         ensures kept { result ≡ false → held_objects self.new ≡ held_objects self.old }
     {
         match self {
-            Region::Held(objects) => put_in(objects, index, cell, byte, width, value),
+            Region::Held(objects) => put_in(objects, index, cell, byte, part, width, value),
             Region::Freed => false,
         }
     }
 
     /// The cells of a block get these values, from one on, if it isn't freed. Fails only where there would be a cell with a number over
     /// 2^64 - 1.
-    fn fill(&mut self, index: u32, cell: u64, values: &[Value]) -> Result<(), AllocError>
+    fn fill(&mut self, index: u32, cell: u64, values: &[Held]) -> Result<(), AllocError>
         ensures { OnOk result (held_objects self.new ≡ fill_held index cell values.now (held_objects self.old)) }
     {
         match self {
@@ -136,7 +105,7 @@ impl Region {
         count: u32,
     ) -> Result<Option<u32>, AllocError>
         ensures number { IfOk result (λ before. before ≡ option_map length (held_objects self.old)) }
-        ensures held { OnOk result (held_objects self.new ≡ grown_held (block_cells layout.now count) (held_objects self.old)) }
+        ensures held { OnOk result (held_objects self.new ≡ grown_held (block_cells false layout.now count) (held_objects self.old)) }
     {
         match self {
             Region::Held(objects) => Ok(Some(push_block(alloc, objects, layout, count)?)),
@@ -165,7 +134,7 @@ pub fn is_held(regions: &[Region], number: u64) -> bool
     }
 }
 
-/// Stores a value to a cell of a block of the region with this number, if it isn't freed yet and there is one that lies so many bytes on
+/// Stores a value to a part of a cell of a block of the region with this number, if it isn't freed yet and there is one that lies so many bytes on
 /// and is so wide, and answers whether there is.
 pub fn put_to(
     regions: &mut Vec<Region>,
@@ -173,15 +142,16 @@ pub fn put_to(
     index: u32,
     cell: u64,
     byte: u64,
+    part: u32,
     width: Width,
     value: Value,
 ) -> bool
-    ensures put { put_region (map held_objects regions.old.items) number index cell byte width value
+    ensures put { put_region (map held_objects regions.old.items) number index cell byte part width value
         ≡ (if result then Some (map held_objects regions.new.items) else None) }
     ensures kept { result ≡ false → map held_objects regions.new.items ≡ map held_objects regions.old.items }
 {
     match regions.get_mut(number as usize) {
-        Some(region) => region.put(index, cell, byte, width, value),
+        Some(region) => region.put(index, cell, byte, part, width, value),
         None => false,
     }
 }
@@ -193,7 +163,7 @@ pub fn fill_to(
     number: u64,
     index: u32,
     cell: u64,
-    values: &[Value],
+    values: &[Held],
 ) -> Result<(), AllocError>
     ensures { OnOk result (map held_objects regions.new.items
         ≡ fill_region (map held_objects regions.old.items) number index cell values.now) }
@@ -226,7 +196,7 @@ pub fn allocate(
 ) -> Result<Option<u32>, AllocError>
     ensures number { IfOk result (λ before. before ≡ option_map length (region_at (map held_objects regions.old.items) number)) }
     ensures regions { OnOk result (map held_objects regions.new.items
-        ≡ grown_region (map held_objects regions.old.items) number (block_cells layout.now count)) }
+        ≡ grown_region (map held_objects regions.old.items) number (block_cells false layout.now count)) }
 {
     match regions.get_mut(number as usize) {
         Some(region) => region.allocate(alloc, layout, count),

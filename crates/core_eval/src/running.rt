@@ -12,11 +12,12 @@ ghost use Rattle.core_eval.specs.Resting.{EndsNow, IsAtRest, IsPayable};
 ghost use Rattle.core_eval.specs.Evaluated.{IsEvaluated, IsNeverStuck, Wrote, reads_failed, writes_failed};
 ghost use Rattle.core_eval.specs.Fetched.{FetchFault, fetch_reads_failed, fetch_writes_failed};
 
-use crate::call::{enter_call, first_objects, start};
+use crate::call::{enter_call, start};
 use crate::ending::EvalEnding;
-use crate::enter::{blank_objects, enter_statement, enter_statements, wait};
+use crate::enter::{enter_statement, enter_statements, wait};
 use crate::frame::Frame;
 use crate::memory::Memory;
+use crate::object::{blank_objects, first_objects};
 use crate::operation::give;
 use crate::pending::{Due, Now, Pending};
 use crate::take::take_flow;
@@ -152,10 +153,12 @@ fn finish<W: Output>(gathered: &mut Gathered, writer: &mut W, ending: EvalEnding
 /// Ends as the definition does: with the program's status, with `Running` where a unit is due and none is left, or
 /// `Stuck`. `WriteFault` comes in place of any other ending, where a write failed or took no byte; `ReadFault` where a
 /// read failed; `HostMemory` where the host has no memory for what is still to be done or for a block of a region,
-/// 2^64 - 1 blocks or functions were entered, a pointer would lead to a cell with a number over 2^64 - 1, a block of a
-/// region would have a cell behind 2^32 - 1 bytes, or a region 2^32 blocks and one more. After a failed call neither
-/// device is called again. Output is written when 4,096 bytes are gathered, before each read and at each ending. Each
-/// byte that is taken from the reader was asked for.
+/// 2^64 - 1 blocks or functions were entered, a pointer would lead to a cell with a number over 2^64 - 1, to a byte
+/// behind 2^32 - 1, or 2^25 bytes or further into an object that is gone, an object would have a cell behind 2^32 - 1
+/// bytes, a region 2^32 blocks and one more, or a program that no source becomes would store or return a pointer as a
+/// count or an index, or reach a byte behind the first part of a cell. After a failed call neither device is called
+/// again. Output is written when 4,096 bytes are gathered, before each read and at each ending. Each byte that is taken
+/// from the reader was asked for.
 pub fn evaluate_core<R: Input, W: Output>(
     alloc: Global,
     program: &Program,

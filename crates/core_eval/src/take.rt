@@ -1,19 +1,33 @@
 // What goes on at the end of a statement.
 
-ghost use Rattle.std.specs.Prelude.{◌≡◌, ◌∷◌, [], ℕ, List, IfOk, IfSome, IfNone, map, drop};
+ghost use Rattle.std.specs.Prelude.{◌≡◌, ◌∷◌, [], ℕ, List, IfOk, OnOk, IfSome, IfNone, map, drop, true, false};
 ghost use Rattle.cyc_core.specs.Trees.{body_tree, optional_tree};
 ghost use Rattle.core_eval.specs.declared.frame.Frame.{Frame as TheFrame};
 ghost use Rattle.core_eval.specs.declared.memory.Memory.{Memory as TheMemory};
-ghost use Rattle.core_eval.specs.Pendings.{Block, Body, Caller, Leave, Test, Wait, exit_of, next_of, saved_of, wait_of, waits_of};
-ghost use Rattle.core_eval.specs.Standing.{Known, LeavesCall, known_of};
+ghost use Rattle.core_eval.specs.Pendings.{
+  Block,
+  Body,
+  Caller,
+  Leave,
+  Test,
+  Wait,
+  exit_of,
+  next_of,
+  optional_value,
+  saved_of,
+  wait_of,
+  waits_of,
+  word_returned,
+};
+ghost use Rattle.core_eval.specs.Standing.{Known, LeavesCall, Takes, are_as_many, known_of};
 ghost use Rattle.core_eval.specs.Costs.{IsMove};
 
 use crate::enter::{enter_loop, truth};
 use crate::frame::Frame;
 use crate::memory::Memory;
-use crate::pending::{Due, Flow, Now, Pending};
+use crate::pending::{Due, Flow, Now, Pending, Returned};
 use crate::value::Value;
-use cyc_core::{Statement, Temporary};
+use cyc_core::{Statement, Temporary, Words};
 use std::alloc::AllocError;
 
 /// What is on top of the stack, which is taken off.
@@ -75,10 +89,38 @@ fn take_block<'p>(flow: Flow, memory: &mut Memory) -> Due<'p>
     Due::Go(Now::Leave(flow))
 }
 
-/// A caller goes on with what it had, and one of its temporaries gets the result, if there is one.
+/// The temporaries of a result get what was returned, if that is as many words, and the answer is whether it is. Fails only where no host
+/// memory is left.
+fn take_result(
+    frame: &mut Frame,
+    to: Option<Words>,
+    returned: Option<Returned>,
+) -> Result<bool, AllocError>
+    ensures fits { IfOk result (λ fits. fits ≡ are_as_many (optional_tree to) (optional_value returned)) }
+    ensures taken { IfOk result (λ fits. fits ≡ true → Takes (optional_tree to) (optional_value returned) frame.old.temps.items frame.new.temps.items) }
+    ensures kept { IfOk result (λ fits. fits ≡ false → frame.new.temps.items ≡ frame.old.temps.items) }
+    ensures base { OnOk result (frame.new.base ≡ frame.old.base) }
+{
+    match (to, returned) {
+        (None, None) => Ok(true),
+        (Some(Words::One(to)), Some(Returned::One(value))) => {
+            frame.set_temp(to, value)?;
+            Ok(true)
+        }
+        (Some(Words::Three(first, second, third)), Some(Returned::Three(to, count, index))) => {
+            frame.set_temp(first, to)?;
+            frame.set_temp(second, count.value())?;
+            frame.set_temp(third, index.value())?;
+            Ok(true)
+        }
+        _ => Ok(false),
+    }
+}
+
+/// A caller goes on with what it had, and its temporaries get the result, if there is one.
 fn take_caller<'p>(
     flow: Flow,
-    to: Option<Temporary>,
+    to: Option<Words>,
     saved: Frame,
     frame: &mut Frame,
 ) -> Result<Due<'p>, AllocError>
@@ -87,20 +129,27 @@ fn take_caller<'p>(
 {
     *frame = saved;
     match flow {
-        Flow::Returns(None) => match to {
-            None => Ok(Due::Go(Now::Leave(Flow::Falls))),
-            Some(_) => Ok(Due::Wrong),
-        },
-        Flow::Returns(Some(value)) => match to {
-            Some(to) => {
-                frame.set_temp(to, value)?;
+        Flow::Returns(returned) => {
+            let fits = take_result(frame, to, returned)?;
+            if fits {
                 Ok(Due::Go(Now::Leave(Flow::Falls)))
+            } else {
+                Ok(Due::Wrong)
             }
-            None => Ok(Due::Wrong),
-        },
+        }
         Flow::Falls => Ok(Due::Wrong),
         Flow::Breaks => Ok(Due::Wrong),
         Flow::Continues => Ok(Due::Wrong),
+    }
+}
+
+/// The word that was returned, if it is one.
+fn word_returned(returned: Option<Returned>) -> Option<u32>
+    ensures { result ≡ word_returned returned }
+{
+    match returned {
+        Some(Returned::One(Value::Word(word))) => Some(word),
+        _ => None,
     }
 }
 
@@ -109,14 +158,10 @@ fn status<'p>(flow: Flow) -> Due<'p>
     ensures { (known : Known) → IsMove (Leave (exit_of flow)) [] known (next_of result) [] known }
 {
     match flow {
-        Flow::Returns(Some(value)) => match value {
-            Value::Word(word) => Due::Over(word),
-            Value::Blank => Due::Wrong,
-            Value::Null => Due::Wrong,
-            Value::Pointer(_) => Due::Wrong,
-            Value::Birth(_) => Due::Wrong,
+        Flow::Returns(returned) => match word_returned(returned) {
+            Some(word) => Due::Over(word),
+            None => Due::Wrong,
         },
-        Flow::Returns(None) => Due::Wrong,
         Flow::Falls => Due::Wrong,
         Flow::Breaks => Due::Wrong,
         Flow::Continues => Due::Wrong,

@@ -1,11 +1,12 @@
 // What temporaries and objects hold.
 
 ghost use Rattle.std.specs.Prelude.{◌≡◌, ◌+◌, IfOk, OnOk, Some, None, false, if◌then◌else◌, map, slice_get, slice_set};
-ghost use Rattle.core_eval.specs.Values.{cells_of, fitted, is_fit, null_of, put_cell, put_in, same_area, same_cell, same_width, slot_at, value_of};
-ghost use Rattle.core_eval.specs.Standing.{first_value};
+ghost use Rattle.cyc_core.specs.Trees.{bytes_of};
+ghost use Rattle.core_eval.specs.Values.{cells_of, fitted, is_fit, is_kept, put_cell, put_in, same_width, slot_at, value_of};
 ghost use Rattle.core_eval.specs.Whole.{fill_cells, fill_in, fill_slot};
 
-use cyc_core::{Cell, Width};
+use crate::held::Held;
+use cyc_core::Width;
 use std::alloc::{AllocError, Global};
 
 /// What has objects.
@@ -54,12 +55,10 @@ pub enum Value {
 pub struct Slot {
     /// How many bytes of the object lie before it.
     pub offset: u32,
-    /// How wide it is.
-    pub width: Width,
-    /// How many bytes behind it hold nothing.
+    /// How many bytes behind its parts hold nothing.
     pub padding: u32,
     /// What it holds.
-    pub value: Value,
+    pub held: Held,
 }
 
 /// A local, an unnamed value, a global or a block of a region.
@@ -103,38 +102,50 @@ impl Object {
         }
     }
 
-    /// The cell with this number gets a value, if there is one.
-    fn fill_one(&mut self, cell: u64, value: Value)
-        ensures { cells_of self.new ≡ fill_slot (cells_of self.old) cell value (slice_get (cells_of self.old) cell) }
+    /// The cell with this number gets other values in as many of its parts as these are, if there is one.
+    fn fill_one(&mut self, cell: u64, held: Held)
+        ensures { cells_of self.new ≡ fill_slot (cells_of self.old) cell held (slice_get (cells_of self.old) cell) }
     {
         if let Some(slot) = self.slot(cell) {
-            self.set(cell, Slot { value, ..slot });
+            self.set(
+                cell,
+                Slot {
+                    held: slot.held.refilled(held),
+                    ..slot
+                },
+            );
         }
     }
 
     /// The cells from one on get these values. Fails only where there would be a cell with a number over 2^64 - 1.
-    fn fill(&mut self, cell: u64, values: &[Value]) -> Result<(), AllocError>
+    fn fill(&mut self, cell: u64, values: &[Held]) -> Result<(), AllocError>
         ensures { OnOk result (cells_of self.new ≡ fill_cells (cells_of self.old) cell values.now) }
     {
         let mut at = cell;
-        'each: for value in values {
-            self.fill_one(at, *value);
+        'each: for held in values {
+            self.fill_one(at, *held);
             at = further(at, 1)?;
         }
         Ok(())
     }
 
-    /// Stores a value to the cell with this number, if there is one that lies so many bytes on and is so wide, and answers whether there is.
-    fn put(&mut self, cell: u64, byte: u64, width: Width, value: Value) -> bool
-        ensures put { put_cell (cells_of self.old) cell byte width value ≡ (if result then Some (cells_of self.new) else None) }
+    /// Stores a value to a part of the cell with this number, if there is one that lies so many bytes on and is so wide, and answers
+    /// whether there is.
+    fn put(&mut self, cell: u64, byte: u64, part: u32, width: Width, value: Value) -> bool
+        ensures put { put_cell (cells_of self.old) cell byte part width value ≡ (if result then Some (cells_of self.new) else None) }
         ensures kept { result ≡ false → self.new ≡ self.old }
     {
         match self.slot(cell) {
-            Some(slot) if is_fit(byte, width, slot) => {
-                let value = fitted(width, value);
-                self.set(cell, Slot { value, ..slot });
-                true
-            }
+            Some(slot) if is_fit(byte, part, width, slot) => match slot
+                .held
+                .with_part(part, fitted(width, value))
+            {
+                Some(held) => {
+                    self.set(cell, Slot { held, ..slot });
+                    true
+                }
+                None => false,
+            },
             _ => false,
         }
     }
@@ -150,7 +161,7 @@ pub fn is_same(first: Width, second: Width) -> bool
     }
 }
 
-/// What a cell of a width can hold of a value: a byte has the low bits of a word, and nothing else.
+/// What a part of a width can hold of a value: a byte has the low bits of a word, and nothing else.
 fn fitted(width: Width, value: Value) -> Value
     ensures { result ≡ fitted width value }
 {
@@ -171,39 +182,58 @@ pub fn slot_in(objects: &[Object], index: u32, cell: u64) -> Option<Slot>
     }
 }
 
-/// Whether a cell lies so many bytes on, and is so wide.
-fn is_fit(byte: u64, width: Width, slot: Slot) -> bool
-    ensures { result ≡ is_fit byte width slot }
+/// How many bytes a width is.
+fn bytes_of(width: Width) -> u64
+    ensures { result ≡ bytes_of width }
 {
-    u64::from(slot.offset) == byte && is_same(slot.width, width)
+    match width {
+        Width::Byte => 1,
+        Width::Word => 4,
+    }
 }
 
-/// What a cell holds, if there is one, and it lies so many bytes on and is so wide.
-pub fn value_of(slot: Option<Slot>, byte: u64, width: Width) -> Option<Value>
-    ensures { result ≡ value_of byte width slot }
+/// Whether the part of a cell with this number lies so many bytes on, and is so wide.
+fn is_fit(byte: u64, part: u32, width: Width, slot: Slot) -> bool
+    ensures { result ≡ is_fit byte part width slot }
+{
+    let own = slot.held.width();
+    u64::from(slot.offset) + u64::from(part) * bytes_of(own) == byte && is_same(own, width)
+}
+
+/// Whether the part of a cell with this number may be one that has a value: behind the first part of a cell a byte is one that holds nothing.
+pub fn is_kept(part: u32, width: Width) -> bool
+    ensures { result ≡ is_kept part width }
+{
+    part == 0 || is_same(width, Width::Word)
+}
+
+/// What a part of a cell holds, if there is one, and it lies so many bytes on and is so wide.
+pub fn value_of(slot: Option<Slot>, byte: u64, part: u32, width: Width) -> Option<Value>
+    ensures { result ≡ value_of byte part width slot }
 {
     match slot {
-        Some(slot) if is_fit(byte, width, slot) => Some(slot.value),
+        Some(slot) if is_fit(byte, part, width, slot) => slot.held.part(part),
         _ => None,
     }
 }
 
-/// Stores a value to a cell of the object with this number, if there is one that lies so many bytes on and is so wide, and answers
-/// whether there is.
+/// Stores a value to a part of a cell of the object with this number, if there is one that lies so many bytes on and is so wide, and
+/// answers whether there is.
 pub fn put_in(
     objects: &mut Vec<Object>,
     index: u32,
     cell: u64,
     byte: u64,
+    part: u32,
     width: Width,
     value: Value,
 ) -> bool
-    ensures put { put_in (map cells_of objects.old.items) index cell byte width value
+    ensures put { put_in (map cells_of objects.old.items) index cell byte part width value
         ≡ (if result then Some (map cells_of objects.new.items) else None) }
     ensures kept { result ≡ false → objects.new.items ≡ objects.old.items }
 {
     match objects.get_mut(index as usize) {
-        Some(object) => object.put(cell, byte, width, value),
+        Some(object) => object.put(cell, byte, part, width, value),
         None => false,
     }
 }
@@ -214,24 +244,13 @@ pub fn fill_in(
     objects: &mut Vec<Object>,
     index: u32,
     cell: u64,
-    values: &[Value],
+    values: &[Held],
 ) -> Result<(), AllocError>
     ensures { OnOk result (map cells_of objects.new.items ≡ fill_in (map cells_of objects.old.items) index cell values.now) }
 {
     match objects.get_mut(index as usize) {
         Some(object) => object.fill(cell, values),
         None => Ok(()),
-    }
-}
-
-/// What a cell begins as.
-pub fn first_value(cell: Cell) -> Value
-    ensures { result ≡ first_value cell }
-{
-    match cell {
-        Cell::Byte | Cell::Word => Value::Word(0),
-        Cell::Pointer => Value::Null,
-        Cell::Handle => Value::Blank,
     }
 }
 
@@ -243,37 +262,4 @@ pub fn further(cell: u64, cells: u32) -> Result<u64, AllocError>
         Some(sum) => Ok(sum),
         None => Err(AllocError),
     }
-}
-
-/// Whether a value is NULL, if it is a pointer.
-pub fn is_null(value: Value) -> Option<bool>
-    ensures { result ≡ null_of value }
-{
-    match value {
-        Value::Blank | Value::Word(_) | Value::Birth(_) => None,
-        Value::Null => Some(true),
-        Value::Pointer(_) => Some(false),
-    }
-}
-
-/// Whether two areas are the same.
-pub fn is_same_area(first: Area, second: Area) -> bool
-    ensures { result ≡ same_area first second }
-{
-    match (first, second) {
-        (Area::Globals, Area::Globals) => true,
-        (Area::Region(region), Area::Region(other)) => region == other,
-        (Area::Block(block), Area::Block(other)) => block == other,
-        (Area::Own(call), Area::Own(other)) => call == other,
-        _ => false,
-    }
-}
-
-/// Whether two places are the same cell.
-pub fn is_same_cell(first: Place, second: Place) -> bool
-    ensures { result ≡ same_cell first second }
-{
-    is_same_area(first.area, second.area)
-        && first.object == second.object
-        && first.cell == second.cell
 }

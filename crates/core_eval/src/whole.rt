@@ -1,20 +1,49 @@
 // Copies of whole objects, and objects that begin anew.
 
-ghost use Rattle.std.specs.Prelude.{◌≡◌, List, IfOk, map};
+ghost use Rattle.std.specs.Prelude.{◌≡◌, ◌+◌, ◌++◌, List, IfOk, OnOk, map};
 ghost use Rattle.core_meaning.specs.Core as core;
 ghost use Rattle.cyc_core.specs.Trees.{layout_tree};
 ghost use Rattle.core_eval.specs.Blocks.{AreOrdered, stored_of};
 ghost use Rattle.core_eval.specs.Pendings.{Execute, Wait, next_of};
-ghost use Rattle.core_eval.specs.Standing.{first_held, known_of};
+ghost use Rattle.core_eval.specs.Standing.{known_of};
 ghost use Rattle.core_eval.specs.Costs.{IsMove};
-ghost use Rattle.core_eval.specs.Whole.{are_laid, held_by, is_cell, same_object, slots_of, values_from};
+ghost use Rattle.core_eval.specs.Whole.{
+  are_cells,
+  are_laid,
+  begins_as,
+  first_elements,
+  has_elements,
+  has_parts,
+  held_as,
+  held_by,
+  is_cell,
+  same_object,
+  slots_of,
+  values_from,
+};
 
 use crate::frame::Frame;
+use crate::held::Held;
 use crate::memory::Memory;
 use crate::pending::{Due, Flow, Now};
-use crate::value::{Place, Slot, Value, first_value, further, is_same, is_same_area};
+use crate::pointer::is_same_area;
+use crate::value::{Place, Slot, Value, further};
 use cyc_core::{CellLayout, Layout, Temporary};
 use std::alloc::{AllocError, Global};
+
+/// Whether what a cell holds has the parts that another has, where so many bytes lie behind the one, and so many behind the other, that
+/// hold nothing. A fat pointer begins with the one part of a word.
+fn has_parts(own: Held, padding: u32, held: Held, behind: u32) -> bool
+    ensures { result ≡ has_parts own padding held behind }
+{
+    match (own, held) {
+        (Held::Byte(_), Held::Byte(_)) => behind <= padding,
+        (Held::Word(_), Held::Word(_)) => behind <= padding,
+        (Held::Fat(_, _, _), Held::Fat(_, _, _)) => behind <= padding,
+        (Held::Fat(_, _, _), Held::Word(_)) => behind == 0,
+        _ => false,
+    }
+}
 
 /// Whether there is a cell that lies where a layout has it, from a byte on, and is made as it.
 fn is_cell(slot: Option<Slot>, byte: u32, cell: CellLayout) -> bool
@@ -23,21 +52,22 @@ fn is_cell(slot: Option<Slot>, byte: u32, cell: CellLayout) -> bool
     match slot {
         Some(slot) => {
             u64::from(slot.offset) == u64::from(byte) + u64::from(cell.offset)
-                && is_same(slot.width, cell.cell.width())
-                && cell.padding <= slot.padding
+                && has_parts(
+                    slot.held,
+                    slot.padding,
+                    Held::first(cell.cell),
+                    cell.padding,
+                )
         }
         None => false,
     }
 }
 
-/// Whether a place leads to cells that lie as a layout's. Fails only where there would be a cell with a number over 2^64 - 1.
-fn are_laid(memory: &Memory, place: Place, cells: &[CellLayout]) -> Result<bool, AllocError>
+/// Whether the cells from a place on lie as a layout's. Fails only where there would be a cell with a number over 2^64 - 1.
+fn are_cells(memory: &Memory, place: Place, cells: &[CellLayout]) -> Result<bool, AllocError>
     ensures { IfOk result (λ laid. AreOrdered memory.now
-        → laid ≡ are_laid (stored_of memory.now) place cells.now) }
+        → laid ≡ are_cells (slots_of (stored_of memory.now) place) place.cell place.byte cells.now) }
 {
-    if !memory.is_held(place.area) {
-        return Ok(false);
-    }
     let mut at = place.cell;
     'each: for cell in cells {
         if !is_cell(memory.slot(place.area, place.object, at), place.byte, *cell) {
@@ -48,13 +78,80 @@ fn are_laid(memory: &Memory, place: Place, cells: &[CellLayout]) -> Result<bool,
     Ok(true)
 }
 
-/// What a cell holds, if there is one.
-fn held_by(slot: Option<Slot>) -> Value
-    ensures { result ≡ held_by slot }
+/// Whether a place leads to cells that lie as a layout's. Fails only where there would be a cell with a number over 2^64 - 1.
+fn are_laid(memory: &Memory, place: Place, cells: &[CellLayout]) -> Result<bool, AllocError>
+    ensures { IfOk result (λ laid. AreOrdered memory.now
+        → laid ≡ are_laid (stored_of memory.now) place cells.now) }
 {
+    if memory.is_held(place.area) {
+        are_cells(memory, place, cells)
+    } else {
+        Ok(false)
+    }
+}
+
+/// The place behind an element with so many cells and bytes. Fails only where that has over 2^64 - 1 cells or 2^32 - 1 bytes before it.
+fn next_element(place: Place, cells: usize, bytes: u32) -> Result<Place, AllocError>
+    ensures { IfOk result (λ next. next
+        ≡ record { area = place.area; object = place.object; byte = place.byte + bytes; cell = place.cell + cells }) }
+{
+    match (
+        place.cell.checked_add(cells as u64),
+        place.byte.checked_add(bytes),
+    ) {
+        (Some(cell), Some(byte)) => Ok(Place {
+            byte,
+            cell,
+            ..place
+        }),
+        _ => Err(AllocError),
+    }
+}
+
+/// Whether a place leads to so many elements of a layout. Fails only where a place behind one of them has over 2^64 - 1 cells or
+/// 2^32 - 1 bytes before it.
+fn has_elements(
+    memory: &Memory,
+    place: Place,
+    layout: &Layout,
+    count: u32,
+) -> Result<bool, AllocError>
+    ensures { IfOk result (λ laid. AreOrdered memory.now
+        → laid ≡ has_elements (stored_of memory.now) place layout.now count) }
+{
+    if !memory.is_held(place.area) {
+        return Ok(false);
+    }
+    let cells: &[CellLayout] = &layout.cells;
+    let mut at = place;
+    'each: for _ in 0..count {
+        if !are_cells(memory, at, cells)? {
+            return Ok(false);
+        }
+        at = next_element(at, cells.len(), layout.bytes)?;
+    }
+    Ok(true)
+}
+
+/// As much of what a cell holds as another has parts: all of a fat pointer, or its first part.
+fn held_as(form: Held, held: Held) -> Held
+    ensures { result ≡ held_as form held }
+{
+    match form {
+        Held::Byte(_) => Held::Byte(held.value()),
+        Held::Word(_) => Held::Word(held.value()),
+        Held::Fat(_, _, _) => held,
+    }
+}
+
+/// What a cell holds of what a layout's does, if there is one.
+fn held_by(cell: CellLayout, slot: Option<Slot>) -> Held
+    ensures { result ≡ held_by cell slot }
+{
+    let form = Held::first(cell.cell);
     match slot {
-        Some(slot) => slot.value,
-        None => Value::Blank,
+        Some(slot) => held_as(form, slot.held),
+        None => form.blanked(),
     }
 }
 
@@ -64,26 +161,37 @@ fn values_from(
     memory: &Memory,
     place: Place,
     cells: &[CellLayout],
-) -> Result<Vec<Value>, AllocError>
+) -> Result<Vec<Held>, AllocError>
     ensures { IfOk result (λ values. AreOrdered memory.now
         → values.items ≡ values_from (slots_of (stored_of memory.now) place) place.cell cells.now) }
 {
     let mut values = Vec::new(alloc);
     let mut at = place.cell;
-    'each: for _ in cells {
-        values.push(held_by(memory.slot(place.area, place.object, at)))?;
+    'each: for cell in cells {
+        let slot = memory.slot(place.area, place.object, at);
+        values.push(held_by(*cell, slot))?;
         at = further(at, 1)?;
     }
     Ok(values)
 }
 
-/// What the cells of a layout begin as.
-fn first_values(alloc: Global, cells: &[CellLayout]) -> Result<Vec<Value>, AllocError>
-    ensures { IfOk result (λ values. values.items ≡ map first_held cells.now) }
+/// What the cells of an element more begin as.
+fn push_element(values: &mut Vec<Held>, cells: &[CellLayout]) -> Result<(), AllocError>
+    ensures { OnOk result (values.new.items ≡ values.old.items ++ map begins_as cells.now) }
+{
+    'each: for cell in cells {
+        values.push(Held::first(cell.cell))?;
+    }
+    Ok(())
+}
+
+/// What the cells of so many elements begin as.
+fn first_elements(alloc: Global, cells: &[CellLayout], count: u32) -> Result<Vec<Held>, AllocError>
+    ensures { IfOk result (λ values. values.items ≡ first_elements cells.now count) }
 {
     let mut values = Vec::new(alloc);
-    'each: for cell in cells {
-        values.push(first_value(cell.cell))?;
+    'each: for _ in 0..count {
+        push_element(&mut values, cells)?;
     }
     Ok(values)
 }
@@ -131,27 +239,27 @@ pub fn copy<'p>(
     Ok(Due::Go(Now::Leave(Flow::Falls)))
 }
 
-/// An object gets what it begins with.
+/// So many elements get what they begin with.
 pub fn clear<'p>(
     alloc: Global,
     frame: &Frame,
     memory: &mut Memory,
     place: Temporary,
     layout: &Layout,
+    count: u32,
 ) -> Result<Due<'p>, AllocError>
     ensures { IfOk result (λ due. (ws : List Wait) →
-        IsMove (Execute (core.Do (core.Clear place.0 (layout_tree layout.now) 1))) ws (known_of frame.now memory.old) (next_of due) ws
+        IsMove (Execute (core.Do (core.Clear place.0 (layout_tree layout.now) count))) ws (known_of frame.now memory.old) (next_of due) ws
         (known_of frame.now memory.new)) }
 {
     let Value::Pointer(target) = frame.temp(place) else {
         return Ok(Due::Wrong);
     };
-    let cells: &[CellLayout] = &layout.cells;
-    let is_there = are_laid(memory, target, cells)?;
+    let is_there = has_elements(memory, target, layout, count)?;
     if !is_there {
         return Ok(Due::Wrong);
     }
-    let values = first_values(alloc, cells)?;
+    let values = first_elements(alloc, &layout.cells, count)?;
     memory.fill_to(target, &values)?;
     Ok(Due::Go(Now::Leave(Flow::Falls)))
 }

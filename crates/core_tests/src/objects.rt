@@ -37,6 +37,7 @@ pub fn member(width: Width) -> Distance {
         Width::Word => Distance {
             cells: 1,
             bytes: 4,
+            part: 0,
             width,
         },
     }
@@ -48,8 +49,8 @@ fn with_pairs(alloc: Global, layout: &Rc<Layout>, then: Statement) -> Result<Pro
     let body = vec![in alloc;
         address(0, 0),
         address(1, 1),
-        Statement::Clear(Temporary(0), layout.clone()?),
-        Statement::Clear(Temporary(1), layout.clone()?),
+        Statement::Clear(Temporary(0), layout.clone()?, 1),
+        Statement::Clear(Temporary(1), layout.clone()?, 1),
         constant(2, 0x107),
         run(Operation::Store(Temporary(0), member(Width::Byte), Temporary(2))),
         run(Operation::Store(Temporary(0), member(Width::Word), Temporary(2))),
@@ -61,8 +62,8 @@ fn with_pairs(alloc: Global, layout: &Rc<Layout>, then: Statement) -> Result<Pro
         give(4),
     ]?;
     let locals = vec![in alloc;
-        Local::Whole(layout.clone()?),
-        Local::Whole(layout.clone()?),
+        Local::Whole(layout.clone()?, 1),
+        Local::Whole(layout.clone()?, 1),
     ]?;
     let main = vec![in alloc; Statement::Block(locals, body)]?;
     Ok(program(alloc, vec![in alloc; function(alloc, 0, main)]?))
@@ -79,7 +80,7 @@ fn a_whole_object_is_copied_and_cleared(rt: HostRuntime) -> Result<(), Fail> {
         Statement::Copy(second, first, layout.clone()?),
     )?;
     assert_eq!(rt; ending_of(alloc, &copied), EvalEnding::Ended(256));
-    let cleared = with_pairs(alloc, &layout, Statement::Clear(first, layout.clone()?))?;
+    let cleared = with_pairs(alloc, &layout, Statement::Clear(first, layout.clone()?, 1))?;
     assert_eq!(rt; ending_of(alloc, &cleared), EvalEnding::Ended(0));
     Ok(())
 }

@@ -28,7 +28,7 @@ pub fn address(to: u32, index: u32) -> Statement {
     run(Operation::LocalAddress(Temporary(to), local(index)))
 }
 
-fn put(index: u32, from: u32) -> Statement {
+pub fn put(index: u32, from: u32) -> Statement {
     run(Operation::Put(local(index), Width::Word, Temporary(from)))
 }
 

@@ -1,7 +1,7 @@
 // Programs of Core, made by hand.
 
 use cyc_core::{
-    Binary, Datum, Distance, Function, Operation, Program, Statement, Temporary, Width,
+    Binary, Datum, Distance, Function, Operation, Program, Statement, Temporary, Width, Words,
 };
 use std::alloc::{AllocError, Global};
 
@@ -32,7 +32,7 @@ pub fn constant(to: u32, word: u32) -> Statement {
 
 /// A return of what a temporary holds.
 pub fn give(from: u32) -> Statement {
-    Statement::Return(Some(Temporary(from)))
+    Statement::Return(Some(Words::One(Temporary(from))))
 }
 
 /// `int main() { putchar(65); return 0; }`
@@ -51,14 +51,14 @@ pub fn deep(alloc: Global, count: u32) -> Result<Program, AllocError> {
     let arguments = vec![in alloc; Temporary(0)]?;
     let main = vec![in alloc;
         constant(0, count),
-        Statement::Call(Some(Temporary(0)), 1, arguments),
+        Statement::Call(Some(Words::One(Temporary(0))), 1, arguments),
         give(0),
     ]?;
     let passed = vec![in alloc; Temporary(2)]?;
     let these = vec![in alloc;
         constant(1, 1),
         Statement::Do(Operation::Apply(Binary::Subtract, Temporary(2), Temporary(0), Temporary(1))),
-        Statement::Call(Some(Temporary(3)), 1, passed),
+        Statement::Call(Some(Words::One(Temporary(3))), 1, passed),
         Statement::Do(Operation::Apply(Binary::Add, Temporary(3), Temporary(3), Temporary(1))),
         give(3),
     ]?;

@@ -9,7 +9,7 @@ use std::rc::Rc;
 use std::test::Fail;
 
 // `int`
-fn word(alloc: Global) -> Result<Rc<Layout>, AllocError> {
+pub fn word(alloc: Global) -> Result<Rc<Layout>, AllocError> {
     let cell = CellLayout {
         offset: 0,
         cell: Cell::Word,

@@ -4,7 +4,9 @@ use crate::objects::{member, pair};
 use crate::pointers::{address, ending_of, run};
 use crate::programs::{constant, function, give, program};
 use core_eval::EvalEnding;
-use cyc_core::{Binary, Function, Layout, Local, Operation, Program, Statement, Temporary, Width};
+use cyc_core::{
+    Binary, Function, Layout, Local, Operation, Program, Statement, Temporary, Width, Words,
+};
 use std::alloc::{AllocError, Global};
 use std::rc::Rc;
 use std::test::Fail;
@@ -29,7 +31,7 @@ fn with_pair(
     body: Vec<Statement>,
 ) -> Result<Function, AllocError> {
     let mut function = function(alloc, parameters, body);
-    function.own.push(Local::Whole(layout.clone()?))?;
+    function.own.push(Local::Whole(layout.clone()?, 1))?;
     Ok(function)
 }
 
@@ -54,16 +56,16 @@ fn a_struct_goes_through_an_unnamed_value(rt: HostRuntime) -> Result<(), Fail> {
     let body = vec![in alloc;
         address(1, 0),
         Statement::Copy(kept, own, layout.clone()?),
-        Statement::Clear(own, layout.clone()?),
+        Statement::Clear(own, layout.clone()?, 1),
         load(2, 1, Width::Word),
         load(3, 1, Width::Byte),
         run(Operation::Apply(Binary::Subtract, Temporary(2), Temporary(2), Temporary(3))),
         give(2),
     ]?;
-    let locals = vec![in alloc; Local::Whole(layout.clone()?)]?;
+    let locals = vec![in alloc; Local::Whole(layout.clone()?, 1)]?;
     let main = vec![in alloc;
         own_address(0, 0),
-        Statement::Clear(own, layout.clone()?),
+        Statement::Clear(own, layout.clone()?, 1),
         constant(1, 0x107),
         store(0, 1, Width::Word),
         store(0, 1, Width::Byte),
@@ -117,7 +119,7 @@ fn an_unnamed_value_is_gone_with_its_call(rt: HostRuntime) -> Result<(), Fail> {
         let passed = vec![in alloc; Temporary(1)]?;
         let main = vec![in alloc;
             constant(1, 5),
-            Statement::Call(Some(Temporary(0)), 1, passed),
+            Statement::Call(Some(Words::One(Temporary(0))), 1, passed),
             operation,
             give(1),
         ]?;

@@ -1,7 +1,8 @@
 use Rattle.std.proofs.Common.{◌≡◌, ◌≢◌, ◌∷◌, length, map, ap, ◌∙◌, sym, rules}
 use Rattle.std.proofs.lemmas.List.{length-map}
 use Rattle.cyc_core.specs.Trees.{function_tree, optional_tree, body_tree}
-use Rattle.core_eval.specs.Values.{content_of, blank_object}
+use Rattle.core_eval.specs.Values.{content_of}
+use Rattle.core_eval.specs.Elements.{blank_object}
 use Rattle.core_eval.specs.Blocks.{activation_of}
 use Rattle.core_eval.specs.Pendings.{Go, Follow, Caller, saved_of, waits_of}
 use Rattle.core_eval.specs.Standing.{known_of}

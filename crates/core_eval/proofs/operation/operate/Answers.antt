@@ -49,8 +49,16 @@ returns-in-Offset c =
     let f' = c.offset.new.frame in
     let m = c.args.memory.now in
     for_operation c.offset.result c.args.operation (operation.Offset c.in-Offset.to c.in-Offset.from c.in-Offset.cells c.in-Offset.bytes) (known_of f m)
-    (known_of f' m) c.in-Offset.is
-    (with_memory c.offset.result f f' _ m c.offset.ensures)
+    (known_of f' m) c.in-Offset.is c.offset.ensures
+
+pub returns-in-Element : goal.returns-in-Element
+returns-in-Element c =
+    let f = c.args.frame.now in
+    let f' = c.element.new.frame in
+    let m = c.args.memory.now in
+    for_operation c.element.result c.args.operation
+    (operation.Element c.in-Element.to c.in-Element.from c.in-Element.index c.in-Element.cells c.in-Element.bytes) (known_of f m) (known_of f' m)
+    c.in-Element.is c.element.ensures
 
 pub returns-in-Narrow : goal.returns-in-Narrow
 returns-in-Narrow c =

@@ -5,10 +5,11 @@ use Rattle.core_meaning.specs.Steps as steps
 use Rattle.cyc_core.specs.declared.program.Function.{Function}
 use Rattle.cyc_core.specs.Trees.{program_tree, function_tree, optional_tree, body_tree}
 use Rattle.core_eval.specs.Values.{content_of, cells_of}
+use Rattle.core_eval.specs.Elements.{first_object}
 use Rattle.core_eval.specs.declared.pending.Due.{Due}
 use Rattle.core_eval.specs.declared.ending.EvalEnding.TheVariants as ending
 use Rattle.core_eval.specs.Pendings.{Follow, Leave, Go, GetcharDue, PutcharDue, TurnDue, CallDue, next_of, waits_of}
-use Rattle.core_eval.specs.Standing.{Gives, IsCall, first_object, first_known, known_of}
+use Rattle.core_eval.specs.Standing.{Gives, IsCall, first_known, known_of}
 use Rattle.cyc_host.proofs.Transfers.{of_err, of_ok, counted_ok, all_written}
 use Rattle.core_eval.proofs.Answered.{given_known}
 use Rattle.core_eval.proofs.Stages.{begun, stage_still, stage_put, stage_get, stage_turn, stage_call, stage_wrote, stage_as, first_is}

@@ -1,0 +1,133 @@
+// How objects begin.
+
+ghost use Rattle.std.specs.Prelude.{◌≡◌, ◌++◌, false, true, map, IfOk, OnOk};
+ghost use Rattle.core_eval.specs.Values.{cells_of};
+ghost use Rattle.core_eval.specs.Elements.{blank_object, block_cells, first_object, held_first, scalar, slot_from};
+
+use crate::held::Held;
+use crate::value::{Object, Slot, Value};
+use cyc_core::{Cell, CellLayout, Datum, Layout, Local};
+use std::alloc::{AllocError, Global};
+
+/// An object of one cell.
+fn scalar(held: Held) -> Object
+    ensures { cells_of result ≡ scalar held }
+{
+    Object::Scalar(Slot {
+        offset: 0,
+        padding: 0,
+        held,
+    })
+}
+
+/// What a cell holds at first: what it begins as, or nothing as yet.
+fn held_first(is_begun: bool, cell: Cell) -> Held
+    ensures { result ≡ held_first is_begun cell }
+{
+    let first = Held::first(cell);
+    if is_begun { first } else { first.blanked() }
+}
+
+/// A cell of an element that lies so many bytes on. Fails only where the cell would lie behind 2^32 - 1 bytes.
+fn slot_from(is_begun: bool, from: u32, cell: CellLayout) -> Result<Slot, AllocError>
+    ensures { IfOk result (λ slot. slot ≡ slot_from is_begun from cell) }
+{
+    match from.checked_add(cell.offset) {
+        Some(offset) => Ok(Slot {
+            offset,
+            padding: cell.padding,
+            held: held_first(is_begun, cell.cell),
+        }),
+        None => Err(AllocError),
+    }
+}
+
+/// An element more, which lies so many bytes on.
+fn push_element(
+    slots: &mut Vec<Slot>,
+    is_begun: bool,
+    from: u32,
+    cells: &[CellLayout],
+) -> Result<(), AllocError>
+    ensures { OnOk result (slots.new.items ≡ slots.old.items ++ map (slot_from is_begun from) cells.now) }
+{
+    'each: for cell in cells {
+        slots.push(slot_from(is_begun, from, *cell)?)?;
+    }
+    Ok(())
+}
+
+/// The cells of so many elements of a layout, which hold what they begin as, or nothing as yet. Fails only where no host memory is left,
+/// or there would be a cell behind 2^32 - 1 bytes.
+pub fn block_cells(
+    alloc: Global,
+    is_begun: bool,
+    layout: &Layout,
+    count: u32,
+) -> Result<Vec<Slot>, AllocError>
+    ensures { IfOk result (λ slots. slots.items ≡ block_cells is_begun layout.now count) }
+{
+    let cells: &[CellLayout] = &layout.cells;
+    let mut slots = Vec::with_capacity(alloc, cells.len().saturating_mul(count as usize))?;
+    'each: for element in 0..count {
+        let Some(from) = element.checked_mul(layout.bytes) else {
+            return Err(AllocError);
+        };
+        push_element(&mut slots, is_begun, from, cells)?;
+    }
+    Ok(slots)
+}
+
+/// A local, which holds nothing as yet.
+fn blank_object(alloc: Global, local: &Local) -> Result<Object, AllocError>
+    ensures { IfOk result (λ object. cells_of object ≡ blank_object local.now) }
+{
+    match local {
+        Local::Scalar(cell) => Ok(scalar(Held::first(*cell).blanked())),
+        Local::Whole(layout, count) => Ok(Object::Whole(block_cells(
+            alloc,
+            false,
+            layout.as_ref(),
+            *count,
+        )?)),
+    }
+}
+
+/// These locals, which hold nothing as yet.
+pub fn blank_objects(alloc: Global, locals: &[Local]) -> Result<Vec<Object>, AllocError>
+    ensures { IfOk result (λ objects. map cells_of objects.items ≡ map blank_object locals.now) }
+{
+    let mut objects = Vec::new(alloc);
+    'each: for local in locals {
+        objects.push(blank_object(alloc, local)?)?;
+    }
+    Ok(objects)
+}
+
+/// What a global begins as.
+fn first_object(alloc: Global, datum: &Datum) -> Result<Object, AllocError>
+    ensures { IfOk result (λ object. cells_of object ≡ first_object datum.now) }
+{
+    match datum {
+        Datum::Byte(byte) => Ok(scalar(Held::Byte(Value::Word(*byte as u32)))),
+        Datum::Word(word) => Ok(scalar(Held::Word(Value::Word(*word)))),
+        Datum::Null => Ok(scalar(Held::Word(Value::Null))),
+        Datum::Whole(layout, count) => Ok(Object::Whole(block_cells(
+            alloc,
+            true,
+            layout.as_ref(),
+            *count,
+        )?)),
+    }
+}
+
+/// What the globals begin as.
+pub fn first_objects(alloc: Global, globals: &[Datum]) -> Result<Vec<Object>, AllocError>
+    ensures { IfOk result (λ objects. map cells_of objects.items ≡ map first_object globals.now) }
+{
+    let mut objects = Vec::new(alloc);
+    'each: for datum in globals {
+        objects.push(first_object(alloc, datum)?)?;
+    }
+    Ok(objects)
+}

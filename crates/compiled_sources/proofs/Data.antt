@@ -1,6 +1,6 @@
 -- The data of a program that is taken are numbers and NULL, each in a word or byte, one behind the other; and a struct begins with nothing but zeros.
-use Rattle.std.proofs.Common.{◌≡◌, ℕ, ◌^◌, ◌<◌, Bool, Option, Some, None, List, [], ◌∷◌, inl, inr, refl, sym, subst, arith}
-use Rattle.std.specs.Prelude.{slice_get}
+use Rattle.std.proofs.Common.{◌≡◌, ℕ, ◌%◌, ◌^◌, ◌<◌, Bool, Option, Some, None, List, [], ◌∷◌, inl, inr, refl, sym, subst, arith}
+use Rattle.std.specs.Prelude.{slice_get, length}
 use Rattle.cyc_tree.specs.Tree as tree
 use Rattle.cyc_tree.specs.Tree.{Initial, Item}
 use Rattle.source_meaning.specs.Shapes.{
@@ -103,7 +103,8 @@ datum_plain w i (ThinShape may_be_null owner to) k h t =
     one_part_plain 4 Null (global_datum w i (ThinShape may_be_null owner to)) (inr refl) refl (λ cell. pointer_plain i may_be_null owner to t)
 datum_plain w i (StructShape tag) k h t =
     let l : IsObjectLayout (layout_of w (StructShape tag)) = object_layout w (StructShape tag) k h in
-    zero_plain (global_datum w i (StructShape tag)) l.joined l.whole (parts_zero (layout_of w (StructShape tag)) l.nothing)
+    zero_plain (global_datum w i (StructShape tag)) l.joined l.whole
+    (λ cell part. parts_zero (layout_of w (StructShape tag)) l.nothing (cell % length (layout_of w (StructShape tag)).cells) part)
 datum_plain w i VoidShape k h t = absurd h
 datum_plain w i (FatShape to) k h t = absurd h
 datum_plain w i HandleShape k h t = absurd (no_handle i t)

@@ -94,7 +94,7 @@ datum_bytes w i HandleShape = omega arith
 datum_bytes w i KeyShape = omega arith
 datum_bytes w i (StructShape tag) = omega arith
 datum_bytes w i (UnionShape tag) = omega arith
-datum_bytes w i (ArrayShape count of) = omega arith
+datum_bytes w i (ArrayShape count of) = refl
 
 -- an object behind a multiple of 4
 next_rounded : (low so_far bytes : ℕ) → rounded low ≤ so_far → rounded (rounded low + bytes) ≤ so_far + rounded_up bytes 8

@@ -1,5 +1,5 @@
 -- The code of statements, functions and globals of a program that is taken names what there is: the program can be selected.
-use Rattle.std.proofs.Common.{◌≡◌, ℕ, zero, suc, ◌+◌, ◌<◌, ◌≤◌, List, [], ◌∷◌, ◌++◌, length, Some, None, refl, sym, ap, subst, arith, length-append}
+use Rattle.std.proofs.Common.{◌≡◌, ℕ, zero, suc, ◌+◌, ◌<◌, ◌≤◌, List, [], ◌∷◌, ◌++◌, length, Some, None, refl, sym, ap, ◌∙◌, subst, arith, length-append}
 use Rattle.cyc_tree.specs.Tree as tree
 use Rattle.cyc_tree.specs.Tree.{Expression, Initializer, Declaration, Statement, BlockItems, NoItems, Declare, Execute, Item}
 use Rattle.source_meaning.specs.Shapes.{Shape, VoidShape, ThinShape, StructShape, Part, part_shapes, written, settled}
@@ -44,6 +44,7 @@ use Rattle.source_lowering.proofs.Names.{AreParameters, IsRoutine}
 use Rattle.source_lowering.proofs.EachDeclaration.{block_objects}
 use Rattle.source_lowering.proofs.WrittenTypes.{object_settled}
 use Rattle.source_lowering.proofs.WholeObjects.{item_objects}
+use Rattle.source_lowering.proofs.Cells.{object_local}
 use Rattle.source_lowering.proofs.Heap.{laid_out_as}
 use Rattle.source_lowering.proofs.PartCosts.{results_many}
 use Rattle.compiled_sources.specs.Naming.{AreNaming, CodeNames}
@@ -57,7 +58,10 @@ use Rattle.compiled_sources.proofs.WholeNames.{source_names, run_names}
 
 layouts_taken : (w : World) (ss : List Shape) → AreStructs w.unions w.structs → AreObjects w.structs ss → AreLayouts (locals_of w ss)
 layouts_taken w [] structs h = tt
-layouts_taken w (s ∷ ss) structs h = ((object_layout w s structs h.0).lies, layouts_taken w ss structs h.1)
+layouts_taken w (s ∷ ss) structs h = (
+  subst (λ (l : core.Local). IsLayout l.layout) (sym (object_local w s h.0)) (object_layout w s structs h.0).lies,
+  layouts_taken w ss structs h.1,
+)
 
 -- the parameters are objects
 parameters_objects : (w : World) (ps : List Part) (ss : List Shape) → AreParameters ps → AreObjects w.structs ss
@@ -285,7 +289,9 @@ data_layouts w (tree.StructItem s ∷ items) structs h = data_layouts w items st
 data_layouts w (tree.UnionItem u ∷ items) structs h = absurd h.0
 data_layouts w (tree.FunctionItem g ∷ items) structs h = data_layouts w items structs h.1
 data_layouts w (tree.GlobalItem g ∷ items) structs h = (
-  subst IsLayout (sym (laid_out_as w g.initial (settled (written g.of))).layout)
+  subst IsLayout
+      (sym ((laid_out_as w g.initial (settled (written g.of))).layout
+      ∙ ap (λ (l : core.Local). l.layout) (object_local w (settled (written g.of)) (object_settled w.structs g.of h.0.0))))
       (object_layout w (settled (written g.of)) structs (object_settled w.structs g.of h.0.0)).lies,
   data_layouts w items structs h.1,
 )

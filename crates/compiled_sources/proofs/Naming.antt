@@ -88,7 +88,13 @@ has_code u (LocalAddress t out local) h f = (f, h)
 has_code u (OwnAddress t object) h f = (f, h)
 has_code u (DataAddress t object) h f = (f, h)
 has_code u (Offset t p cells bytes) h f = (max_first (suc t) (suc p) u.temporaries f, max_second (suc t) (suc p) u.temporaries f)
-has_code u (Element t p i cells bytes) h f = absurd h
+has_code u (Element t p i cells bytes) h f =
+    let g = max_second (suc t) (max (suc p) (suc i)) u.temporaries f in (
+      max_first (suc t) (max (suc p) (suc i)) u.temporaries f,
+      max_first (suc p) (suc i) u.temporaries g,
+      max_second (suc p) (suc i) u.temporaries g,
+      h,
+    )
 has_code u (Get t out local width) h f = (f, h)
 has_code u (Put out local width x) h f = (f, h)
 has_code u (Load t p d) h f = (max_first (suc t) (suc p) u.temporaries f, max_second (suc t) (suc p) u.temporaries f)

@@ -7,7 +7,7 @@ use Rattle.rv32_machine.specs.State.{data_base}
 use Rattle.core_frames.specs.declared.line.Line.{Line}
 use Rattle.core_frames.specs.declared.line.Line.TheVariants.{Plain}
 use Rattle.core_frames.specs.Lines.{code_length}
-use Rattle.core_frames.specs.Frames.{lower_of, is_short, load_code, save_code, slot_of, environment_code}
+use Rattle.core_frames.specs.Frames.{lower_of, is_short, word_code, load_code, save_code, slot_of, environment_code}
 use Rattle.core_frames.specs.Loops.{are_words, copy_loop, clear_loop}
 use Rattle.core_frames.specs.Selected.{Surroundings, nth, local_offset, from_temp, to_temp, constant_code, far_code, read_line, read_code, write_line, write_code, binary_code, address_code, bytes_code, further_code, bytes_in, operation_code}
 use Rattle.core_frames.proofs.Access.{length_of_both}
@@ -145,7 +145,15 @@ operation_within u (DataAddress t object) =
 operation_within u (Offset t p cells bytes) =
     to_within 24 u 5 t (from_temp u 5 p ++ further_code 5 bytes) (omega arith)
     (both_within 12 12 (from_temp u 5 p) (further_code 5 bytes) (from_within u 5 p) (further_within 5 bytes))
-operation_within u (Element t p i cells bytes) = nothing_within 64
+operation_within u (Element t p i cells bytes) =
+    let factors = from_temp u 5 i ++ word_code 6 (bytes % 2 ^ 32) in
+    let product = factors ++ (Plain (instr.Mul 5 5 6) ∷ []) in
+    to_within 40 u 5 t (product ++ from_temp u 6 p ++ (Plain (instr.Add 5 5 6) ∷ [])) (omega arith)
+    (both_within 36 4 (product ++ from_temp u 6 p) (Plain (instr.Add 5 5 6) ∷ [])
+    (both_within 24 12 product (from_temp u 6 p)
+    (both_within 20 4 factors (Plain (instr.Mul 5 5 6) ∷ [])
+    (both_within 12 8 (from_temp u 5 i) (word_code 6 (bytes % 2 ^ 32)) (from_within u 5 i) (record { is = omega arith })) (record { is = omega arith }))
+    (from_within u 6 p)) (record { is = omega arith }))
 operation_within u (Get t out local width) =
     to_within 12 u 5 t (read_code width 2 (local_offset u out local)) (omega arith) (read_within width 2 (local_offset u out local))
 operation_within u (Put out local width x) =

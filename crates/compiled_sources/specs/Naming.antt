@@ -1,5 +1,6 @@
--- What code of Core names beside its temporaries: locals of the blocks around it, unnamed values, and objects of the data.
-use Rattle.std.specs.Prelude.{ℕ, ◌≤◌, ◌<◌, List, [], ◌∷◌, length}
+-- What code of Core names beside its temporaries: locals of the blocks around it, unnamed values, and objects of the data; layouts are in order, and elements
+-- have no more bytes than a word says.
+use Rattle.std.specs.Prelude.{ℕ, ◌≤◌, ◌<◌, ◌^◌, List, [], ◌∷◌, length}
 use Rattle.core_meaning.specs.Core.{
   Operation,
   Constant,
@@ -14,6 +15,7 @@ use Rattle.core_meaning.specs.Core.{
   Load,
   Store,
   Offset,
+  Element,
   Copy,
   Clear,
   IsNull,
@@ -56,6 +58,7 @@ NamesIn blocks own objects (Put out local width x) = IsLocal blocks out local
 NamesIn blocks own objects (Load t p d) = Unit {0}
 NamesIn blocks own objects (Store p d x) = Unit {0}
 NamesIn blocks own objects (Offset t p cells bytes) = Unit {0}
+NamesIn blocks own objects (Element t p i cells bytes) = bytes < 2 ^ 32
 NamesIn blocks own objects (Copy to from layout) = IsLayout layout × IsFull layout
 NamesIn blocks own objects (Clear p layout count) = IsLayout layout × IsFull layout × IsZero layout
 NamesIn blocks own objects (IsNull t p) = Unit {0}

@@ -8,7 +8,7 @@ use Rattle.source_meaning.specs.Steps.{World}
 use Rattle.core_meaning.specs.Memory.{Blank, Content, PartShape, Layout, Null, Word}
 use Rattle.source_lowering.specs.Layouts as rules
 use Rattle.source_lowering.specs.Layouts.{extent_of, layout_of, next_at, padded, padding}
-use Rattle.cyc_core.specs.Trees.{bytes_of, cell_first, cell_parts, cell_width, layout_tree, padding_parts}
+use Rattle.cyc_core.specs.Trees.{cell_bytes, cell_parts, layout_tree, made_parts, padding_parts}
 use Rattle.cyc_core.specs.declared.layout.CellLayout.{CellLayout}
 use Rattle.cyc_core.specs.declared.operation.Cell.{Cell}
 use Rattle.cyc_core.specs.declared.operation.Cell.TheVariants as cell
@@ -22,34 +22,48 @@ padding_same at zero = refl
 padding_same at (suc n) = ap (λ ps. record { offset = at; width = 1; first = Blank } ∷ ps) (padding_same (at + 1) n)
 
 -- a part, and the bytes behind it
-abbrev part_and : ℕ → ℕ → ℕ → Content → List PartShape → List PartShape
-part_and offset width next first behind = record { offset = offset; width = width; first = first } ∷ behind
+abbrev part_and : ℕ → ℕ → Content → List PartShape → List PartShape
+part_and offset width first behind = record { offset = offset; width = width; first = first } ∷ behind
 
 parts_same : (at width next : ℕ) (first : Content)
-    → part_and at width next first (padding_parts (at + width) (next - (at + width)))
-    ≡ part_and (at + 0) width next first (padding (at + width) (next - (at + width)))
+    → part_and at width first (padding_parts (at + width) (next - (at + width)))
+    ≡ part_and (at + 0) width first (padding (at + width) (next - (at + width)))
 parts_same at width next first =
     let here : at ≡ at + 0 = omega arith in
-    ap (part_and at width next first) (padding_same (at + width) (next - (at + width)))
-    ∙ ap (λ n. part_and n width next first (padding (at + width) (next - (at + width)))) here
+    ap (part_and at width first) (padding_same (at + width) (next - (at + width)))
+    ∙ ap (λ n. part_and n width first (padding (at + width) (next - (at + width)))) here
+
+-- the parts of a fat pointer, and the bytes behind them
+abbrev fat_and : ℕ → ℕ → ℕ → List PartShape → List PartShape
+fat_and first count index behind = part_and first 4 Null (part_and count 4 (Word 0) (part_and index 4 (Word 0) behind))
+
+fat_same : (at next : ℕ)
+    → fat_and at (at + 4) (at + 4 + 4) (padding_parts (at + 12) (next - (at + 12)))
+    ≡ fat_and (at + 0) (at + 4) (at + 8) (padding (at + 12) (next - (at + 12)))
+fat_same at next =
+    let here : at ≡ at + 0 = omega arith in
+    let behind : at + 4 + 4 ≡ at + 8 = omega arith in
+    ap (fat_and at (at + 4) (at + 4 + 4)) (padding_same (at + 12) (next - (at + 12)))
+    ∙ ap (λ n. fat_and n (at + 4) (at + 4 + 4) (padding (at + 12) (next - (at + 12)))) here
+    ∙ ap (λ n. fat_and (at + 0) (at + 4) n (padding (at + 12) (next - (at + 12)))) behind
 
 -- a cell in code, up to where the next one begins
-abbrev made_parts : ℕ → ℕ → Cell → List PartShape
-made_parts at next c = part_and at (bytes_of (cell_width c)) next (cell_first c) (padding_parts (at + bytes_of (cell_width c)) (next - (at + bytes_of (cell_width c))))
+abbrev parts_up_to : ℕ → ℕ → Cell → List PartShape
+parts_up_to at next c = made_parts c at ++ padding_parts (at + cell_bytes c) (next - (at + cell_bytes c))
 
 -- a cell of a shape, up to where the next one begins
 abbrev shape_parts : World → ℕ → ℕ → Shape → List PartShape
 shape_parts w at next s =
     rules.cell_parts (record { offset = at; shape = s }) ++ padding (at + (extent_of w s).size) (next - (at + (extent_of w s).size))
 
-shape_same : (w : World) (at next : ℕ) (s : Shape) (c : Cell) → cell_for s ≡ Some c → made_parts at next c ≡ shape_parts w at next s
-shape_same w at next IntShape c is = let c_is : c ≡ cell.Word = cc is in ap (made_parts at next) c_is ∙ parts_same at 4 next (Word 0)
-shape_same w at next UnsignedShape c is = let c_is : c ≡ cell.Word = cc is in ap (made_parts at next) c_is ∙ parts_same at 4 next (Word 0)
-shape_same w at next CharShape c is = let c_is : c ≡ cell.Byte = cc is in ap (made_parts at next) c_is ∙ parts_same at 1 next (Word 0)
+shape_same : (w : World) (at next : ℕ) (s : Shape) (c : Cell) → cell_for s ≡ Some c → parts_up_to at next c ≡ shape_parts w at next s
+shape_same w at next IntShape c is = let c_is : c ≡ cell.Word = cc is in ap (parts_up_to at next) c_is ∙ parts_same at 4 next (Word 0)
+shape_same w at next UnsignedShape c is = let c_is : c ≡ cell.Word = cc is in ap (parts_up_to at next) c_is ∙ parts_same at 4 next (Word 0)
+shape_same w at next CharShape c is = let c_is : c ≡ cell.Byte = cc is in ap (parts_up_to at next) c_is ∙ parts_same at 1 next (Word 0)
 shape_same w at next VoidShape c is = absurd cc is
-shape_same w at next (ThinShape n o t) c is = let c_is : c ≡ cell.Pointer = cc is in ap (made_parts at next) c_is ∙ parts_same at 4 next Null
-shape_same w at next (FatShape t) c is = absurd cc is
-shape_same w at next HandleShape c is = let c_is : c ≡ cell.Handle = cc is in ap (made_parts at next) c_is ∙ parts_same at 4 next Blank
+shape_same w at next (ThinShape n o t) c is = let c_is : c ≡ cell.Pointer = cc is in ap (parts_up_to at next) c_is ∙ parts_same at 4 next Null
+shape_same w at next (FatShape t) c is = let c_is : c ≡ cell.Fat = cc is in ap (parts_up_to at next) c_is ∙ fat_same at next
+shape_same w at next HandleShape c is = let c_is : c ≡ cell.Handle = cc is in ap (parts_up_to at next) c_is ∙ parts_same at 4 next Blank
 shape_same w at next KeyShape c is = absurd cc is
 shape_same w at next (StructShape tag) c is = absurd cc is
 shape_same w at next (UnionShape tag) c is = absurd cc is
@@ -75,8 +89,8 @@ cells_same w bytes (p ∷ ps) (c ∷ cs) is =
     let others : map placed_cell ps ≡ map laid_cell cs = cc is in
     let at_is : c.offset ≡ p.offset = ap (λ (x : CellAt). x.offset) (sym first) in
     let cell_is : cell_for p.shape ≡ Some c.cell = ap (λ (x : CellAt). x.cell) first in
-    ap (λ n. made_parts n (next_cell bytes cs) c.cell ∷ map cell_parts (all_filled bytes cs)) at_is
-    ∙ ap (λ n. made_parts p.offset n c.cell ∷ map cell_parts (all_filled bytes cs)) (next_is bytes ps cs others)
+    ap (λ n. parts_up_to n (next_cell bytes cs) c.cell ∷ map cell_parts (all_filled bytes cs)) at_is
+    ∙ ap (λ n. parts_up_to p.offset n c.cell ∷ map cell_parts (all_filled bytes cs)) (next_is bytes ps cs others)
     ∙ ap (λ these. these ∷ map cell_parts (all_filled bytes cs)) (shape_same w p.offset (next_at bytes ps) p.shape c.cell cell_is)
     ∙ ap (λ rest. shape_parts w p.offset (next_at bytes ps) p.shape ∷ rest) (cells_same w bytes ps cs others)
 

@@ -102,7 +102,7 @@ module _ (table : Structs) (structs : List Layout) (knows : Knows table structs)
   room_same unions CharShape laid = refl
   room_same unions VoidShape laid = absurd cc laid
   room_same unions (ThinShape n o t) laid = refl
-  room_same unions (FatShape t) laid = absurd cc laid
+  room_same unions (FatShape t) laid = refl
   room_same unions HandleShape laid = refl
   room_same unions KeyShape laid = absurd cc laid
   room_same unions (StructShape tag) laid = found_room structs unions tag (struct_in table tag) (knows.knows tag) laid
@@ -115,7 +115,7 @@ module _ (table : Structs) (structs : List Layout) (knows : Knows table structs)
   cells_same unions CharShape laid = refl
   cells_same unions VoidShape laid = absurd cc laid
   cells_same unions (ThinShape n o t) laid = refl
-  cells_same unions (FatShape t) laid = absurd cc laid
+  cells_same unions (FatShape t) laid = refl
   cells_same unions HandleShape laid = refl
   cells_same unions KeyShape laid = absurd cc laid
   cells_same unions (StructShape tag) laid = found_cells structs unions tag (struct_in table tag) (knows.knows tag) laid
@@ -128,7 +128,7 @@ module _ (table : Structs) (structs : List Layout) (knows : Knows table structs)
   count_same CharShape laid = refl
   count_same VoidShape laid = absurd cc laid
   count_same (ThinShape n o t) laid = refl
-  count_same (FatShape t) laid = absurd cc laid
+  count_same (FatShape t) laid = refl
   count_same HandleShape laid = refl
   count_same KeyShape laid = absurd cc laid
   count_same (StructShape tag) laid = found_count structs tag (struct_in table tag) (knows.knows tag) laid

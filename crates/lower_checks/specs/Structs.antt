@@ -2,10 +2,10 @@
 use Rattle.std.specs.Prelude.{◌≡◌, ℕ, ◌+◌, ◌-◌, false, true, List, [], ◌∷◌, ◌++◌, length, map, Option, Some, None, bytes_eq, is_some}
 use Rattle.indexmap.specs.IndexMap.{get_by}
 use Rattle.cyc_tree.specs.View.{member_tree}
-use Rattle.source_meaning.specs.Shapes.{Shape, IntShape, UnsignedShape, CharShape, ThinShape, HandleShape, StructShape, Part, Layout, part_of, parts_of, has_tag}
+use Rattle.source_meaning.specs.Shapes.{Shape, IntShape, UnsignedShape, CharShape, ThinShape, FatShape, HandleShape, StructShape, Part, Layout, part_of, parts_of, has_tag}
 use Rattle.source_meaning.specs.Sizes.{Extent, rounded_up, struct_cells, struct_extent}
 use Rattle.source_meaning.specs.Placing.{Placed, struct_placed}
-use Rattle.cyc_core.specs.Trees.{bytes_of, cell_width}
+use Rattle.cyc_core.specs.Trees.{bytes_of, cell_bytes}
 use Rattle.cyc_core.specs.declared.layout.CellLayout.{CellLayout}
 use Rattle.cyc_core.specs.declared.operation.Cell.{Cell}
 use Rattle.cyc_core.specs.declared.operation.Cell.TheVariants as cell
@@ -13,12 +13,13 @@ use Rattle.lower_checks.specs.declared.layouts.Known.{Known}
 use Rattle.lower_checks.specs.declared.layouts.Room.{Room}
 use Rattle.lower_checks.specs.declared.layouts.Structs.{Structs}
 
--- what a cell of a shape is made for; nothing where it is no integer, no thin pointer and no handle
+-- what a cell of a shape is made for; nothing where it is no integer, no pointer and no handle
 abbrev pub cell_for : Shape → Option Cell
 cell_for IntShape = Some cell.Word
 cell_for UnsignedShape = Some cell.Word
 cell_for CharShape = Some cell.Byte
 cell_for (ThinShape may_be_null owner to) = Some cell.Pointer
+cell_for (FatShape to) = Some cell.Fat
 cell_for HandleShape = Some cell.Handle
 cell_for _ = None
 
@@ -50,7 +51,7 @@ next_cell bytes (c ∷ cs) = c.offset
 
 -- a cell with the bytes up to a place
 abbrev pub filled : CellLayout → ℕ → CellLayout
-filled c next = record { offset = c.offset; cell = c.cell; padding = next - (c.offset + bytes_of (cell_width c.cell)) }
+filled c next = record { offset = c.offset; cell = c.cell; padding = next - (c.offset + cell_bytes c.cell) }
 
 -- cells with the bytes up to the next one, or to the object's end
 abbrev pub all_filled : ℕ → List CellLayout → List CellLayout
@@ -59,7 +60,7 @@ all_filled bytes (c ∷ cs) = filled c (next_cell bytes cs) ∷ all_filled bytes
 
 -- ---- what has room
 
--- an integer, a thin pointer, a handle, or one of these structs
+-- an integer, a pointer, a handle, or one of these structs
 abbrev pub HasRoom : List Layout → Shape → Type 0
 HasRoom structs (StructShape tag) = (has_tag structs tag ≡ true)
 HasRoom structs s = (is_some (cell_for s) ≡ true)
@@ -112,6 +113,7 @@ cells_if (Some k) = map laid_cell k.layout.value.cells.items
 
 abbrev pub room_in : Structs → Shape → Extent
 room_in table CharShape = bytes_and 1 1
+room_in table (FatShape to) = bytes_and 12 4
 room_in table (StructShape tag) = room_if (struct_in table tag)
 room_in table s = bytes_and 4 4
 
@@ -119,7 +121,7 @@ abbrev pub cells_in : Structs → Shape → List CellAt
 cells_in table (StructShape tag) = cells_if (struct_in table tag)
 cells_in table s = record { offset = 0; cell = cell_for s } ∷ []
 
--- an integer, a thin pointer, a handle, or a struct of the table
+-- an integer, a pointer, a handle, or a struct of the table
 abbrev pub IsLaid : Structs → Shape → Type 0
 IsLaid table (StructShape tag) = (is_some (struct_in table tag) ≡ true)
 IsLaid table s = (is_some (cell_for s) ≡ true)

@@ -65,7 +65,7 @@ pub fn emit_clear(
         (map statement_tree body.new.items ≡ map statement_tree body.old.items ++ core.Do (core.Clear pointer.0 (layout_tree layout.value) 1) ∷ []) }
     ensures taken { NeverRefused result }
 {
-    emit(body, Statement::Clear(pointer, layout))
+    emit(body, Statement::Clear(pointer, layout, 1))
 }
 
 /// Appends what asks for a block of as many objects of a layout as the third temporary says, in the region of the handle in the second,

@@ -22,7 +22,7 @@ use crate::shape::Shape;
 use crate::statement::lower_items;
 use crate::table::Table;
 use crate::usage::{passed, temporaries};
-use cyc_core::{Function, Operation, Statement, Temporary, Variable};
+use cyc_core::{Function, Operation, Statement, Temporary, Variable, Words};
 use cyc_tree::{Function as Source, Member};
 use std::alloc::Global;
 
@@ -60,7 +60,7 @@ fn lower_end(body: &mut Vec<Statement>, shape: Shape<'_>) -> Result<(), LowerFau
         Shape::Void => emit(body, Statement::Return(None)),
         _ => {
             emit_operation(body, Operation::Constant(Temporary(0), 0))?;
-            emit(body, Statement::Return(Some(Temporary(0))))
+            emit(body, Statement::Return(Some(Words::One(Temporary(0)))))
         }
     }
 }

@@ -64,7 +64,7 @@ struct Laying {
     room: Room,
 }
 
-/// What a cell of a shape is made for. Refuses what is no integer, no thin pointer and no handle.
+/// What a cell of a shape is made for. Refuses what is no integer, no pointer and no handle.
 fn cell_of(shape: Shape<'_>) -> Result<Cell, LowerFault>
     ensures cell { IfOk result (λ cell. cell_for (shape_tree shape.entry) ≡ Some cell) }
     ensures taken { is_some (cell_for (shape_tree shape.entry)) ≡ true → NeverRefused result }
@@ -73,6 +73,7 @@ fn cell_of(shape: Shape<'_>) -> Result<Cell, LowerFault>
         Shape::Char => Ok(Cell::Byte),
         Shape::Int | Shape::Unsigned => Ok(Cell::Word),
         Shape::Thin(_, _, _) | Shape::Address(_, _) => Ok(Cell::Pointer),
+        Shape::Fat(_) => Ok(Cell::Fat),
         Shape::Handle => Ok(Cell::Handle),
         _ => Err(LowerFault::NotTaken),
     }
@@ -141,14 +142,12 @@ fn push_moved(cells: &mut Vec<CellLayout>, by: u32, more: &[CellLayout]) -> Resu
 fn fill(cell: CellLayout, next: u32) -> CellLayout
     ensures { result ≡ filled cell next }
 {
-    let width = match cell.cell.width() {
-        Width::Byte => 1,
-        Width::Word => 4,
-    };
     CellLayout {
         offset: cell.offset,
         cell: cell.cell,
-        padding: next.saturating_sub(cell.offset).saturating_sub(width),
+        padding: next
+            .saturating_sub(cell.offset)
+            .saturating_sub(cell.cell.bytes()),
     }
 }
 
@@ -218,7 +217,7 @@ impl<'p> Structs<'p> {
         self.by_tag.get(tag)
     }
 
-    /// The bytes of a shape. Refuses what is no integer, no thin pointer, no handle and no struct that is known.
+    /// The bytes of a shape. Refuses what is no integer, no pointer, no handle and no struct that is known.
     fn room(&self, shape: Shape<'_>) -> Result<Room, LowerFault>
         ensures room { IfOk result (λ room. room_tree room ≡ room_in self.now (shape_tree shape.entry)) }
         ensures laid { OnOk result (IsLaid self.now (shape_tree shape.entry)) }
@@ -233,19 +232,14 @@ impl<'p> Structs<'p> {
                 None => Err(LowerFault::NotTaken),
             };
         }
-        match cell_of(shape)?.width() {
-            Width::Byte => Ok(Room {
-                size: 1,
-                align: Width::Byte,
-            }),
-            Width::Word => Ok(Room {
-                size: 4,
-                align: Width::Word,
-            }),
-        }
+        let cell = cell_of(shape)?;
+        Ok(Room {
+            size: cell.bytes(),
+            align: cell.width(),
+        })
     }
 
-    /// Appends the cells of a shape, so many bytes on. Refuses what is no integer, no thin pointer, no handle and no struct that is known.
+    /// Appends the cells of a shape, so many bytes on. Refuses what is no integer, no pointer, no handle and no struct that is known.
     fn push_shape(
         &self,
         cells: &mut Vec<CellLayout>,
@@ -273,7 +267,7 @@ impl<'p> Structs<'p> {
         )
     }
 
-    /// Lays one more member. Refuses what is no integer, no thin pointer, no handle and no struct that is known.
+    /// Lays one more member. Refuses what is no integer, no pointer, no handle and no struct that is known.
     fn lay(&self, laying: &mut Laying, shape: Shape<'_>) -> Result<(), LowerFault>
         ensures size { let room = room_in self.now (shape_tree shape.entry) in
             OnOk result (laying.new.room.size ≡ rounded_up laying.old.room.size room.align + room.size) }
@@ -298,7 +292,7 @@ impl<'p> Structs<'p> {
         Ok(())
     }
 
-    /// Lays members. Refuses what is no integer, no thin pointer, no handle and no struct that is known.
+    /// Lays members. Refuses what is no integer, no pointer, no handle and no struct that is known.
     fn lay_all(&self, alloc: Global, members: &[Member]) -> Result<Laying, LowerFault>
         ensures room { let parts = map part_of (map member_tree members.now) in
             IfOk result (λ laying.
@@ -322,7 +316,7 @@ impl<'p> Structs<'p> {
         Ok(laying)
     }
 
-    /// Adds a struct behind the others. Refuses one whose tag another one has, and one with a member that is no integer, no thin
+    /// Adds a struct behind the others. Refuses one whose tag another one has, and one with a member that is no integer, no
     /// pointer, no handle and no earlier struct.
     #[tactic(auto, using(crate::proofs::Structs::new_tag, crate::proofs::Structs::members_laid))]
     pub fn add(&mut self, alloc: Global, structure: &'p Structure) -> Result<(), LowerFault>

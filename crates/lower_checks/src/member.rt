@@ -36,7 +36,7 @@ pub struct Reached<'p> {
     pub bytes: u32,
 }
 
-/// The bytes of a shape. Refuses what is no integer, no thin pointer, no handle and no struct.
+/// The bytes of a shape. Refuses what is no integer, no pointer, no handle and no struct.
 pub fn extent(program: &Table<'_>, shape: Shape<'_>) -> Result<Room, LowerFault>
     ensures room { IfOk result (λ room. room_tree room ≡ extent_of (world_of program.now) (shape_tree shape.entry)) }
     ensures taken { HasRoom (world_of program.now).structs (shape_tree shape.entry) → NeverRefused result }
@@ -54,6 +54,10 @@ pub fn extent(program: &Table<'_>, shape: Shape<'_>) -> Result<Room, LowerFault>
             size: 4,
             align: Width::Word,
         }),
+        Shape::Fat(_) => Ok(Room {
+            size: 12,
+            align: Width::Word,
+        }),
         Shape::Struct(tag) => match program.struct_of(tag) {
             Some(known) => Ok(Room {
                 size: known.layout.bytes,
@@ -65,7 +69,7 @@ pub fn extent(program: &Table<'_>, shape: Shape<'_>) -> Result<Room, LowerFault>
     }
 }
 
-/// How many cells a shape has. Refuses what is no integer, no thin pointer, no handle and no struct.
+/// How many cells a shape has. Refuses what is no integer, no pointer, no handle and no struct.
 pub fn count(program: &Table<'_>, shape: Shape<'_>) -> Result<u32, LowerFault>
     ensures count { IfOk result (λ count. count ≡ length (cells_of (world_of program.now) (shape_tree shape.entry))) }
     ensures taken { HasRoom (world_of program.now).structs (shape_tree shape.entry) → NeverRefused result }
@@ -76,6 +80,7 @@ pub fn count(program: &Table<'_>, shape: Shape<'_>) -> Result<u32, LowerFault>
         | Shape::Unsigned
         | Shape::Thin(_, _, _)
         | Shape::Address(_, _)
+        | Shape::Fat(_)
         | Shape::Handle => Ok(1),
         Shape::Struct(tag) => match program.struct_of(tag) {
             Some(known) => number(known.layout.cells.len()),
@@ -192,6 +197,7 @@ fn arrow<'p>(
     let distance = Distance {
         cells: reached.cells,
         bytes: reached.bytes,
+        part: 0,
         width: shape.width(),
     };
     emit_operation(&mut way.code, Operation::Load(to, to, distance))?;
@@ -239,6 +245,7 @@ fn distance_of(reached: Reached<'_>) -> Distance
     Distance {
         cells: reached.cells,
         bytes: reached.bytes,
+        part: 0,
         width: reached.shape.width(),
     }
 }

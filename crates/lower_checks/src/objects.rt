@@ -12,7 +12,7 @@ ghost use Rattle.lower_checks.specs.Refusals.{NeverRefused};
 use crate::fault::LowerFault;
 use crate::shape::Shape;
 use crate::table::Table;
-use cyc_core::{Cell, CellLayout, Layout, Local, Width};
+use cyc_core::{Cell, CellLayout, Layout, Local};
 use std::alloc::Global;
 use std::rc::Rc;
 
@@ -35,10 +35,7 @@ fn cell_layout(alloc: Global, cell: Cell) -> Result<Rc<Layout>, LowerFault>
     ensures layout { IfOk result (λ layout. layout_tree layout.value ≡ part_layout cell) }
     ensures taken { NeverRefused result }
 {
-    let bytes = match cell.width() {
-        Width::Byte => 1,
-        Width::Word => 4,
-    };
+    let bytes = cell.bytes();
     let mut cells = Vec::new(alloc);
     let first = CellLayout {
         offset: 0,
@@ -54,7 +51,7 @@ fn cell_layout(alloc: Global, cell: Cell) -> Result<Rc<Layout>, LowerFault>
     }
 }
 
-/// The layout of an object of a shape. Refuses what is no integer, no thin pointer, no handle and no struct of the program.
+/// The layout of an object of a shape. Refuses what is no integer, no pointer, no handle and no struct of the program.
 pub fn object_layout(
     alloc: Global,
     program: &Table<'_>,
@@ -67,13 +64,14 @@ pub fn object_layout(
         Shape::Char => cell_layout(alloc, Cell::Byte),
         Shape::Int | Shape::Unsigned => cell_layout(alloc, Cell::Word),
         Shape::Thin(_, _, _) | Shape::Address(_, _) => cell_layout(alloc, Cell::Pointer),
+        Shape::Fat(_) => cell_layout(alloc, Cell::Fat),
         Shape::Handle => cell_layout(alloc, Cell::Handle),
         Shape::Struct(_) => struct_layout(program, shape),
         _ => Err(LowerFault::NotTaken),
     }
 }
 
-/// A local of a shape. Refuses what is no integer, no thin pointer, no handle and no struct of the program.
+/// A local of a shape. Refuses what is no integer, no pointer, no handle and no struct of the program.
 fn local_of(program: &Table<'_>, shape: Shape<'_>) -> Result<Local, LowerFault>
     ensures local { IfOk result (λ local. local_tree local ≡ local_of (world_of program.now) (shape_tree shape.entry)) }
     ensures taken { IsObject (world_of program.now).structs (shape_tree shape.entry) → NeverRefused result }
@@ -82,13 +80,14 @@ fn local_of(program: &Table<'_>, shape: Shape<'_>) -> Result<Local, LowerFault>
         Shape::Char => Ok(Local::Scalar(Cell::Byte)),
         Shape::Int | Shape::Unsigned => Ok(Local::Scalar(Cell::Word)),
         Shape::Thin(_, _, _) | Shape::Address(_, _) => Ok(Local::Scalar(Cell::Pointer)),
+        Shape::Fat(_) => Ok(Local::Scalar(Cell::Fat)),
         Shape::Handle => Ok(Local::Scalar(Cell::Handle)),
-        Shape::Struct(_) => Ok(Local::Whole(struct_layout(program, shape)?)),
+        Shape::Struct(_) => Ok(Local::Whole(struct_layout(program, shape)?, 1)),
         _ => Err(LowerFault::NotTaken),
     }
 }
 
-/// Locals of these shapes. Refuses what is no integer, no thin pointer, no handle and no struct of the program.
+/// Locals of these shapes. Refuses what is no integer, no pointer, no handle and no struct of the program.
 pub fn locals_of(
     alloc: Global,
     program: &Table<'_>,

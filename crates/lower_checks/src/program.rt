@@ -75,7 +75,7 @@ fn first_datum(
         },
         Shape::Char => Ok(Datum::Byte((initial_word(initial)? % 256) as u8)),
         Shape::Int | Shape::Unsigned => Ok(Datum::Word(initial_word(initial)?)),
-        Shape::Struct(_) => Ok(Datum::Whole(struct_layout(program, shape)?)),
+        Shape::Struct(_) => Ok(Datum::Whole(struct_layout(program, shape)?, 1)),
         _ => Err(LowerFault::NotTaken),
     }
 }

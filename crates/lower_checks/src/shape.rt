@@ -11,7 +11,7 @@ ghost use Rattle.lower_checks.specs.Refusals.{NeverRefused};
 
 use crate::fault::LowerFault;
 use crate::names::after;
-use cyc_core::{Temporary, Width};
+use cyc_core::{Temporary, Width, Words};
 use cyc_tree::{Base, Pointer, RegionName, Sign, TypeName};
 
 /// Whether what a pointer leads to is owned by it alone.
@@ -214,12 +214,12 @@ impl<'p> Shape<'p> {
     }
 
     /// Where a result of the shape goes.
-    pub fn result_in(self, to: Temporary) -> Option<Temporary>
+    pub fn result_in(self, to: Temporary) -> Option<Words>
         ensures { optional_tree result ≡ results_in (shape_tree self.entry) to.0 }
     {
         match self {
             Shape::Void => None,
-            _ => Some(to),
+            _ => Some(Words::One(to)),
         }
     }
 }

@@ -4,7 +4,7 @@ ghost use Rattle.std.specs.Prelude.{◌≡◌, suc, max, map};
 ghost use Rattle.cyc_core.specs.Trees.{temporary_tree, optional_tree, operation_tree, statement_tree, body_tree};
 ghost use Rattle.source_lowering.specs.Programs.{last_of, operation_temporaries, statement_temporaries, temporaries_of, statement_passes, passed_by};
 
-use cyc_core::{Operation, Statement, Temporary};
+use cyc_core::{Operation, Statement, Temporary, Words};
 
 /// How many temporaries there are up to one.
 fn up_to(temporary: Temporary) -> u64
@@ -24,12 +24,13 @@ fn last(temporaries: &[Temporary]) -> u64
     last
 }
 
-/// How many temporaries there are up to one, where there is one.
-fn up_to_optional(temporary: Option<Temporary>) -> u64
-    ensures { result ≡ last_of (optional_tree temporary) }
+/// How many temporaries there are up to the last of a value, where there is one.
+fn up_to_value(value: Option<Words>) -> u64
+    ensures { result ≡ last_of (optional_tree value) }
 {
-    match temporary {
-        Some(temporary) => up_to(temporary),
+    match value {
+        Some(Words::One(t)) => up_to(t),
+        Some(Words::Three(t, u, v)) => u64::max(up_to(t), u64::max(up_to(u), up_to(v))),
         None => 0,
     }
 }
@@ -56,9 +57,9 @@ fn of_operation(operation: Operation) -> u64
         | Operation::Store(t, _, x)
         | Operation::IsNull(t, x)
         | Operation::Putchar(t, x) => u64::max(up_to(t), up_to(x)),
-        Operation::Apply(_, t, x, y) | Operation::SamePlace(t, x, y) => {
-            u64::max(up_to(t), u64::max(up_to(x), up_to(y)))
-        }
+        Operation::Apply(_, t, x, y)
+        | Operation::SamePlace(t, x, y)
+        | Operation::Element(t, x, y, _, _) => { u64::max(up_to(t), u64::max(up_to(x), up_to(y))) }
         Operation::Move(_, _) => 0,
     }
 }
@@ -78,15 +79,13 @@ fn of_statement(statement: &Statement) -> u64
         }
         Statement::Block(_, body) => temporaries(body),
         Statement::Copy(to, from, _) => u64::max(up_to(*to), up_to(*from)),
-        Statement::Clear(pointer, _) => up_to(*pointer),
+        Statement::Clear(pointer, _, _) => up_to(*pointer),
         Statement::RegionAlloc(to, handle, count, _) => {
             u64::max(up_to(*to), u64::max(up_to(*handle), up_to(*count)))
         }
         Statement::Break | Statement::Continue | Statement::Raise(_) => 0,
-        Statement::Call(result, _, arguments) => {
-            u64::max(up_to_optional(*result), last(arguments))
-        }
-        Statement::Return(value) => up_to_optional(*value),
+        Statement::Call(result, _, arguments) => { u64::max(up_to_value(*result), last(arguments)) }
+        Statement::Return(value) => up_to_value(*value),
     }
 }
 

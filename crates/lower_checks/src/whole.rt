@@ -120,6 +120,7 @@ fn lower_word_member(
     let distance = Distance {
         cells: slot.cells,
         bytes: slot.bytes,
+        part: 0,
         width: shape.width(),
     };
     emit_operation(body, Operation::Store(slot.to, distance, value))

@@ -50,7 +50,7 @@ use Rattle.core_meaning.specs.Memory.{Content, Word, Null, Pointer, Birth, Part,
 use Rattle.core_meaning.specs.Core.{Program}
 use Rattle.core_meaning.specs.Steps as core_steps
 use Rattle.core_meaning.specs.Operations.{fitting}
-use Rattle.source_lowering.specs.Layouts.{layout_of, first_part}
+use Rattle.source_lowering.specs.Layouts.{layout_of, local_of, first_part}
 use Rattle.source_lowering.specs.Lowered.{width_of}
 use Rattle.source_lowering.proofs.Relations.{
   region_at,
@@ -164,6 +164,20 @@ object_variable w HandleShape h s = refl
 object_variable w KeyShape h s = absurd h
 object_variable w (UnionShape tag) h s = absurd h
 object_variable w (ArrayShape count of) h s = absurd h
+
+-- an object is a local of one element
+pub object_local : (w : World) (shape : Shape) → IsObject w.structs shape → local_of w shape ≡ record { layout = layout_of w shape; count = 1 }
+object_local w (StructShape tag) h = refl
+object_local w IntShape h = refl
+object_local w UnsignedShape h = refl
+object_local w CharShape h = refl
+object_local w VoidShape h = absurd h
+object_local w (ThinShape may_be_null owner to) h = refl
+object_local w (FatShape to) h = absurd h
+object_local w HandleShape h = refl
+object_local w KeyShape h = absurd h
+object_local w (UnionShape tag) h = absurd h
+object_local w (ArrayShape count of) h = absurd h
 
 -- the one cell of a plain place, and its one part
 pub record OneCell (m : source.Memory) (c : core.Memory) (s : Spot) (byte : ℕ) (shape : Shape) (width : ℕ) : Type 0 where

@@ -38,7 +38,7 @@ use Rattle.source_lowering.proofs.Relations.{
   at,
   Leads,
   ANull,
-  LiesNear,
+  IsTakenObject,
   APointer,
   Place,
   Fits,
@@ -107,7 +107,7 @@ null_converts p n d false false o q to from m0 c0 m c s rest next fits later kep
 -- another pointer stays as it is
 spot_converts : (p : Place) (n d : ℕ) (a b : Bool) (o q : Owner) (to from : Shape) (m0 : source.Memory) (c0 : Config) (m : source.Memory) (c : Config)
     (t : Spot) (byte : ℕ) (s : List Scalar → source.Memory → steps.Step) (rest : Statements) (next : Next) → Fits p m c → LaterAt p m0 c0 m c
-    → AreKept d c0 c → c.temps d ≡ Pointer (at t) byte → LiesNear p.world to byte → Leads p.world m c.memory to t byte
+    → AreKept d c0 c → c.temps d ≡ Pointer (at t) byte → IsTakenObject p.world to → Leads p.world m c.memory to t byte
     → GoesOn p n d m0 c0 (ThinShape a o to) s (meaning.statements rest next)
     → SameAt p n (thin_to_thin a (Some t) (λ r. s (r ∷ [])) m) (meaning.statements (put (conversion_code (ThinShape a o to) (ThinShape b q from) d) rest)
     next c)
@@ -155,7 +155,7 @@ thin_converts p n d a b o q to from = record {
         let same : from ≡ to = sym (shapes_same to from ((and_parts (goes_to o (ThinShape b q from)) (same_shape to from) e).1)) in
         rw e
         (spot_converts p n d a b o q to from m0 c0 m c z.spot z.byte s rest next fits later kept (pointer_is p.world m c.memory from (c.temps d) v z)
-        (subst (λ y. LiesNear p.world y z.byte) same z.lies) (subst (λ y. Leads p.world m c.memory y z.spot z.byte) same z.leads) goes)
+        (subst (λ y. IsTakenObject p.world y) same z.lies) (subst (λ y. Leads p.world m c.memory y z.spot z.byte) same z.leads) goes)
 
 -- ---- handles
 

@@ -3,7 +3,6 @@ use Rattle.std.proofs.Common.{ℕ, suc, ◌+◌, ◌<◌, ◌≤◌, List, [], �
 use Rattle.std.proofs.lemmas.List.{append_assoc, append-nil}
 use Rattle.cyc_tree.specs.declared.expression.Prefix.TheVariants as prefix
 use Rattle.cyc_tree.specs.Tree.{Expression, Expressions, NoExpressions, MoreExpressions, Links, NoLinks, MoreLinks, Made, One, Array}
-use Rattle.source_meaning.proofs.Layouts.{laid_above}
 use Rattle.source_meaning.specs.Shapes.{Shape, IntShape, StructShape, Part, part_shapes, parts_of}
 use Rattle.source_meaning.specs.Sizes.{Extent, rounded_up, laid_out, no_extent}
 use Rattle.source_meaning.specs.Steps.{Act, Scope, ◌>>=◌}
@@ -313,14 +312,13 @@ mutual
   whole_same (Expression.Call name arguments) scope k h known n calls d value numbered =
       let made = struct_is_made scope.world.unions scope.world.structs name.text known.world.structs in
       let parts = parts_of scope.world.structs name.text in
-      let small = made.small in
       call_whole (place_in scope k) n d value name.text (senses arguments scope) (whole_code scope.world k.names (Expression.Call name arguments) d value) h.0
       (λ tag.
       made_whole (place_in scope k) n d value name.text (senses arguments scope) (members_code scope.world k.names parts arguments d 0 0 (suc value))
       known.world.structs tag (numbered_one k.owned value (StructShape name.text) (made_values scope.world k.names parts arguments) numbered)
       (members_same arguments parts scope k h.1 known n calls d value 0 (extent_of scope.world (StructShape name.text)).size (no_extent name.text) (suc value)
       made.members (have_cells scope.world.unions scope.world.structs parts known.world.structs made.members)
-      (subst (λ z. z.size ≤ (extent_of scope.world (StructShape name.text)).size) made.extent (omega arith)) small (omega arith)
+      (subst (λ z. z.size ≤ (extent_of scope.world (StructShape name.text)).size) made.extent (omega arith)) (omega arith)
       (numbered_more k.owned value (StructShape name.text) (made_values scope.world k.names parts arguments) numbered)))
   whole_same (Expression.Grouped at inner) scope k h known n calls d value numbered = whole_same inner scope k h known n calls d value numbered
   whole_same (Expression.Variable name) scope k h known n calls d value numbered =
@@ -362,20 +360,19 @@ mutual
 
   pub members_same : (es : Expressions) (ps : List Part) (scope : Scope) (k : Known) → TakesMade scope.world k.names ps es → IsKnown scope k → (n : ℕ)
       → CallsAs scope.world k.program n → (d value cells total : ℕ) (so_far : Extent) (own : ℕ) → AreObjects scope.world.structs (part_shapes ps)
-      → AllHaveCells scope.world.unions scope.world.structs ps → (laid_out (extent_of scope.world) so_far ps).size ≤ total → total ≤ 4096 → value < own
+      → AllHaveCells scope.world.unions scope.world.structs ps → (laid_out (extent_of scope.world) so_far ps).size ≤ total → value < own
       → AreNumbered k.owned own (made_values scope.world k.names ps es)
       → MembersGo (place_in scope k) n d value cells total so_far.size ps (converted_all scope.world (part_shapes ps) (senses es scope))
       (members_code scope.world k.names ps es d cells so_far.size own)
-  members_same NoExpressions [] scope k h known n calls d value cells total so_far own objects have room small less numbered =
+  members_same NoExpressions [] scope k h known n calls d value cells total so_far own objects have room less numbered =
       no_members (place_in scope k) n d value cells total so_far.size
-  members_same (MoreExpressions e es) [] scope k h known n calls d value cells total so_far own objects have room small less numbered = absurd h
-  members_same NoExpressions (p ∷ ps) scope k h known n calls d value cells total so_far own objects have room small less numbered = absurd h
-  members_same (MoreExpressions e es) (p ∷ ps) scope k h known n calls d value cells total so_far own objects have room small less numbered =
+  members_same (MoreExpressions e es) [] scope k h known n calls d value cells total so_far own objects have room less numbered = absurd h
+  members_same NoExpressions (p ∷ ps) scope k h known n calls d value cells total so_far own objects have room less numbered = absurd h
+  members_same (MoreExpressions e es) (p ∷ ps) scope k h known n calls d value cells total so_far own objects have room less numbered =
       let extent = extent_of scope.world p.shape in
       let at : ℕ = rounded_up so_far.size extent.align in
       let next : Extent = record { size = at + extent.size; align = max so_far.align extent.align } in
       let values = values_by p.shape (whole_values scope.world k.names e) (expression_values scope.world k.names e) in
-      let above = laid_above (extent_of scope.world) next ps in
       let others = made_values scope.world k.names ps es in
       more_members (place_in scope k) n d value cells total so_far p ps ((sense e scope).value >>= converted scope.world p.shape (sense e scope).shape)
       (converted_all scope.world (part_shapes ps) (senses es scope))
@@ -385,9 +382,9 @@ mutual
       (member_same (place_in scope k) n d value cells at own p.shape (sense e scope) (static_shape scope.world k.names e)
       (whole_values scope.world k.names e) (expression_values scope.world k.names e) (whole_code scope.world k.names e (d + 1) own)
       (expression_code scope.world k.names e (d + 1) own) (TakesWhole scope.world k.names e) (Takes scope.world k.names e) known.world.structs objects.0
-      (omega (arith, above, room, small)) less h.0 (numbered_first k.owned own values others numbered)
+      less h.0 (numbered_first k.owned own values others numbered)
       (λ g nums. (whole_same e scope k g known n calls (d + 1) own nums).whole)
       (λ g nums. expression_same e scope (known_keeping k (suc value)) g (keeping_known scope k (suc value) known) n calls (d + 1) own nums
       (omega (arith, less))))
       (members_same es ps scope k h.1 known n calls d value (cells + length (cells_of scope.world p.shape)) total next (own + length values) objects.1 have.1
-      room small (omega (arith, less)) (numbered_after k.owned own values others numbered))
+      room (omega (arith, less)) (numbered_after k.owned own values others numbered))

@@ -1,10 +1,23 @@
 -- A block is entered: its region is live in both, and Core makes the blank objects of all its locals at once.
-use Rattle.std.proofs.Common.{◌≡◌, ℕ, suc, ◌+◌, ◌<◌, ◌≤◌, List, [], ◌∷◌, Bool, true, false, nat_eq, Some, None, refl, sym, ap, ◌∙◌, subst, arith}
+use Rattle.std.proofs.Common.{◌≡◌, ℕ, suc, ◌+◌, ◌<◌, ◌≤◌, List, [], ◌∷◌, Bool, true, false, nat_eq, Option, Some, None, refl, sym, ap, ◌∙◌, subst, arith}
 use Rattle.std.specs.Prelude.{◌&&◌, ◌*◌, ◌/◌, ◌%◌, if◌then◌else◌, nat_lt, length, slice_get}
 use Rattle.std.proofs.Math.Nat.{div-eq_of_lt, mod-eq_of_lt}
 use Rattle.std.proofs.lemmas.Bool.{eq-eqb}
 use Rattle.std.proofs.lemmas.Bool.Decides.{nat_tests}
-use Rattle.source_meaning.specs.Shapes.{Shape}
+use Rattle.source_meaning.specs.Shapes.{
+  Shape,
+  IntShape,
+  UnsignedShape,
+  CharShape,
+  VoidShape,
+  ThinShape,
+  FatShape,
+  HandleShape,
+  KeyShape,
+  StructShape,
+  UnionShape,
+  ArrayShape,
+}
 use Rattle.source_meaning.specs.Memory as source
 use Rattle.source_meaning.specs.Memory.{Spot, same_region, with_state, state_is_live}
 use Rattle.source_meaning.specs.Steps.{World}
@@ -12,7 +25,7 @@ use Rattle.core_meaning.specs.Memory as core
 use Rattle.core_meaning.specs.Memory.{Content, Part, PartShape, Layout, shape_in, blank_of, with_object, with_standing, blanks}
 use Rattle.core_meaning.specs.Core.{Local}
 use Rattle.core_meaning.specs.Meaning.{with_objects}
-use Rattle.source_lowering.specs.Layouts.{layout_of}
+use Rattle.source_lowering.specs.Layouts.{layout_of, local_of}
 use Rattle.source_lowering.specs.Programs.{locals_of}
 use Rattle.source_lowering.proofs.Relations.{region_at, at, PartIs, AreShaped, AreMade, ArePending, PartsHold, IsLexical, Agree, Bound, nothing, Later}
 use Rattle.core_meaning.proofs.Spots.{region_same, region_self}
@@ -213,29 +226,65 @@ cells_made c r index l k (x ∷ xs) count same h = (
     one_on : (k i : ℕ) → suc k + i ≡ k + suc i
     one_on k i = omega arith
 
+-- the parts of an object of so many elements lie there
+abbrev pub HasBlanks : core.Memory → core.Region → ℕ → Layout → ℕ → Type 0
+HasBlanks c r index l count = (cell j : ℕ) (p : Part) → blanks l count cell j ≡ Some p → PartIs c (spot_in r index cell) j p.offset p.width
+
+-- one element
+one_made : (c : core.Memory) (r : core.Region) (index : ℕ) (l : Layout) → HasBlanks c r index l 1 → AreMade c (spot_in r index 0) 0 l.cells
+one_made c r index l here = cells_made c r index l 0 l.cells (omega arith) (λ i. ap (slice_get l.cells) (zero_on i)) here
+  where
+    zero_on : (i : ℕ) → 0 + i ≡ i
+    zero_on i = omega arith
+
+-- a local or a global
+pub local_made : (w : World) (s : Shape) (c : core.Memory) (r : core.Region) (index : ℕ)
+    → HasBlanks c r index (local_of w s).layout (local_of w s).count → AreMade c (spot_in r index 0) 0 (layout_of w s).cells
+local_made w IntShape c r index here = one_made c r index (layout_of w IntShape) here
+local_made w UnsignedShape c r index here = one_made c r index (layout_of w UnsignedShape) here
+local_made w CharShape c r index here = one_made c r index (layout_of w CharShape) here
+local_made w VoidShape c r index here = one_made c r index (layout_of w VoidShape) here
+local_made w (ThinShape b owner to) c r index here = one_made c r index (layout_of w (ThinShape b owner to)) here
+local_made w (FatShape to) c r index here = one_made c r index (layout_of w (FatShape to)) here
+local_made w HandleShape c r index here = one_made c r index (layout_of w HandleShape) here
+local_made w KeyShape c r index here = one_made c r index (layout_of w KeyShape) here
+local_made w (StructShape tag) c r index here = one_made c r index (layout_of w (StructShape tag)) here
+local_made w (UnionShape tag) c r index here = one_made c r index (layout_of w (UnionShape tag)) here
+local_made w (ArrayShape count of) c r index here = tt
+
+-- what was made last
+last_made : (c : core.Memory) (r : core.Region) (index : ℕ) (o : ℕ → ℕ → Option Part) → c.objects r ≡ index → (cell j : ℕ)
+    → (with_object c r o).parts (spot_in r index cell) j ≡ o cell j
+last_made c r index o e cell j =
+    ap (λ z. if z && nat_eq index (c.objects r) then o cell j else c.parts (spot_in r index cell) j) (region_self r) ∙
+    ap (λ z. if z then o cell j else c.parts (spot_in r index cell) j) (eq-eqb index (c.objects r) (sym e))
+
+pub block_made : (c : core.Memory) (r : core.Region) (index : ℕ) (l : Layout) → c.objects r ≡ index
+    → AreMade (with_object c r (blanks l 1)) (spot_in r index 0) 0 l.cells
+block_made c r index l e =
+    one_made (with_object c r (blanks l 1)) r index l (λ cell j p f. record { content = p.content; is = last_made c r index (blanks l 1) e cell j ∙ f })
+
 pub pending_made : (w : World) (ss : List Shape) (c : core.Memory) (r : core.Region) (index : ℕ) → c.objects r ≡ index
     → ArePending w (with_objects r (locals_of w ss) c) r index ss
 pending_made w [] c r index e = tt
 pending_made w (s ∷ ss) c r index e = (
-  cells_made (with_objects r (locals_of w ss) more) r index (layout_of w s) 0 (layout_of w s).cells (omega arith)
-      (λ i. ap (slice_get (layout_of w s).cells) (zero_on i)) (λ cell j p e. record { content = p.content; is = here cell j ∙ e }),
+  local_made w s (with_objects r (locals_of w ss) more) r index
+      (λ cell j p f. record {
+        content = p.content;
+        is = made_before r (locals_of w ss) more (spot_in r index cell) j (subst (λ z. index < z) (sym next) (omega arith)) ∙ last_made c r index fresh e cell j
+            ∙ f;
+      }),
   pending_made w ss more r (suc index) next,
 )
   where
+    fresh : ℕ → ℕ → Option Part
+    fresh = blanks (local_of w s).layout (local_of w s).count
+
     more : core.Memory
-    more = with_object c r (blanks (layout_of w s) 1)
+    more = with_object c r fresh
 
     next : more.objects r ≡ suc index
     next = ap (λ z. if z then c.objects r + 1 else c.objects r) (region_self r) ∙ ap (λ z. z + 1) e ∙ omega arith
-
-    zero_on : (i : ℕ) → 0 + i ≡ i
-    zero_on i = omega arith
-
-    here : (cell j : ℕ) → (with_objects r (locals_of w ss) more).parts (spot_in r index cell) j ≡ blanks (layout_of w s) 1 cell j
-    here cell j =
-        made_before r (locals_of w ss) more (spot_in r index cell) j (subst (λ z. index < z) (sym next) (omega arith)) ∙
-        ap (λ z. if z && nat_eq index (c.objects r) then blanks (layout_of w s) 1 cell j else c.parts (spot_in r index cell) j) (region_self r) ∙
-        ap (λ z. if z then blanks (layout_of w s) 1 cell j else c.parts (spot_in r index cell) j) (eq-eqb index (c.objects r) (sym e))
 
 -- a block's locals are all to come
 pub pending_entered : (w : World) (m : source.Memory) (c : core.Memory) (ss : List Shape) → Agree w m c

@@ -30,14 +30,14 @@ use Rattle.core_meaning.specs.Memory as core
 use Rattle.core_meaning.specs.Memory.{Part, blanks}
 use Rattle.core_meaning.specs.Core.{Datum}
 use Rattle.core_meaning.specs.Meaning.{datum_parts, first_memory}
-use Rattle.source_lowering.specs.Layouts.{layout_of}
+use Rattle.source_lowering.specs.Layouts.{layout_of, local_of}
 use Rattle.source_lowering.specs.Lowered.{width_of}
 use Rattle.source_lowering.specs.Programs.{constant_content, initial_content, datum_of, global_datum, data_of}
 use Rattle.source_lowering.specs.Lowerable.{IsObject, AreStructs, TakesGlobal, TakesProgram}
-use Rattle.source_lowering.proofs.Relations.{region_at, at, PartIs, AreMade, Leads, IsShown, IsLexical, Agree, AreLed}
+use Rattle.source_lowering.proofs.Relations.{region_at, at, AreMade, Leads, IsShown, IsLexical, Agree, AreLed}
 use Rattle.source_lowering.proofs.Integers.{IsWordShape, object_word}
 use Rattle.source_lowering.proofs.Making.{cell_with, spot_of, cells_from}
-use Rattle.source_lowering.proofs.Entering.{spot_in, cells_made}
+use Rattle.source_lowering.proofs.Entering.{spot_in, local_made}
 use Rattle.source_lowering.proofs.WrittenTypes.{object_settled}
 pub use Rattle.source_lowering.proofs.HeapValues.{part_of, constant_single, shape_kept}
 use Rattle.source_lowering.proofs.HeapValues.{cell_of, datum_is, content_of, object_is, cell_in, IsHeapValue, heap_value}
@@ -145,43 +145,38 @@ datum_filled : (d : Datum) (ds : List Datum) (cell j : ℕ) (p : Part) → blank
     → datum_parts (d ∷ ds) 0 cell j ≡ Some (record p { content = d.first cell j })
 datum_filled d ds cell j p e = rw e refl
 
+-- it is laid out as a local of its shape
 pub record IsLaidOut (w : World) (s : Shape) (d : Datum) : Type 0 where
-  pub layout : d.layout ≡ layout_of w s
-  pub one : d.count ≡ 1
+  pub layout : d.layout ≡ (local_of w s).layout
+  pub count : d.count ≡ (local_of w s).count
 
 pub laid_out_as : (w : World) (initial : Initial) (s : Shape) → IsLaidOut w s (global_datum w initial s)
-laid_out_as w initial (StructShape tag) = record { layout = refl; one = refl }
-laid_out_as w initial IntShape = record { layout = refl; one = refl }
-laid_out_as w initial UnsignedShape = record { layout = refl; one = refl }
-laid_out_as w initial CharShape = record { layout = refl; one = refl }
-laid_out_as w initial VoidShape = record { layout = refl; one = refl }
-laid_out_as w initial (ThinShape b owner to) = record { layout = refl; one = refl }
-laid_out_as w initial (FatShape to) = record { layout = refl; one = refl }
-laid_out_as w initial HandleShape = record { layout = refl; one = refl }
-laid_out_as w initial KeyShape = record { layout = refl; one = refl }
-laid_out_as w initial (UnionShape tag) = record { layout = refl; one = refl }
-laid_out_as w initial (ArrayShape count of) = record { layout = refl; one = refl }
+laid_out_as w initial (StructShape tag) = record { layout = refl; count = refl }
+laid_out_as w initial IntShape = record { layout = refl; count = refl }
+laid_out_as w initial UnsignedShape = record { layout = refl; count = refl }
+laid_out_as w initial CharShape = record { layout = refl; count = refl }
+laid_out_as w initial VoidShape = record { layout = refl; count = refl }
+laid_out_as w initial (ThinShape b owner to) = record { layout = refl; count = refl }
+laid_out_as w initial (FatShape to) = record { layout = refl; count = refl }
+laid_out_as w initial HandleShape = record { layout = refl; count = refl }
+laid_out_as w initial KeyShape = record { layout = refl; count = refl }
+laid_out_as w initial (UnionShape tag) = record { layout = refl; count = refl }
+laid_out_as w initial (ArrayShape count of) = record { layout = refl; count = refl }
 
 global_made : (w : World) (initial : Initial) (s : Shape) (ds : List Datum) (c : core.Memory) (k : ℕ)
     → ((cell j : ℕ) → c.parts (spot_in (core.Born 0) k cell) j ≡ datum_parts (global_datum w initial s ∷ ds) 0 cell j)
     → AreMade c (at (heap_spot k)) 0 (layout_of w s).cells
-global_made w initial s ds c k h = cells_made c (core.Born 0) k (layout_of w s) 0 (layout_of w s).cells (omega arith)
-    (λ i. ap (slice_get (layout_of w s).cells) (zero_on i)) there
+global_made w initial s ds c k h = local_made w s c (core.Born 0) k (λ cell j p e. record {
+  content = d.first cell j;
+  is = h cell j ∙
+      datum_filled d ds cell j p (ap (λ z. blanks z d.count cell j) laid.layout ∙ ap (λ z. blanks (local_of w s).layout z cell j) laid.count ∙ e);
+})
   where
     d : Datum
     d = global_datum w initial s
 
     laid : IsLaidOut w s d
     laid = laid_out_as w initial s
-
-    zero_on : (i : ℕ) → 0 + i ≡ i
-    zero_on i = omega arith
-
-    there : (cell j : ℕ) (p : Part) → blanks (layout_of w s) 1 cell j ≡ Some p → PartIs c (spot_in (core.Born 0) k cell) j p.offset p.width
-    there cell j p e = record {
-      content = d.first cell j;
-      is = h cell j ∙ datum_filled d ds cell j p (ap (λ z. blanks z d.count cell j) laid.layout ∙ ap (λ z. blanks (layout_of w s) z cell j) laid.one ∙ e);
-    }
 
 -- a global's part has the constant that it is given
 abbrev pub IsStored : core.Memory → Initial → Shape → ℕ → Type 0
@@ -207,6 +202,8 @@ none_on i = omega arith
 
 pub word_datum : (w : World) (initial : Initial) (s : Shape) → IsWordShape s → global_datum w initial s ≡ datum_of w s (initial_content initial s)
 word_datum w initial (StructShape tag) h = absurd h
+word_datum w initial (FatShape to) h = absurd h
+word_datum w initial (ArrayShape count of) h = absurd h
 word_datum w initial _ h = refl
 
 is_stored : (w : World) (c : core.Memory) (initial : Initial) (s : Shape) (ds : List Datum) (k : ℕ) → TakesGlobal s initial → IsObject w.structs s

@@ -1,6 +1,7 @@
 -- What a global's cells hold at the start, in the source and in Core.
 use Rattle.std.proofs.Common.{◌≡◌, ℕ, zero, suc, ◌+◌, List, [], ◌∷◌, length, map, Option, Some, None, refl, sym, ap, ◌∙◌, subst}
 use Rattle.std.specs.Prelude.{◌*◌, ◌/◌, slice_get, option_and_then}
+use Rattle.std.proofs.Math.Nat.{mod-eq_of_lt}
 use Rattle.std.proofs.lemmas.Option.{none-some}
 use Rattle.cyc_tree.specs.Tree as tree
 use Rattle.cyc_tree.specs.Tree.{Initial, Item}
@@ -141,7 +142,9 @@ struct_value : (w : World) (tag : List ℕ) (ds : List Datum) (cell : ℕ) (shap
     → IsHeapValue w (global_datum w Initial.Unset (StructShape tag) ∷ ds) 0 cell shape v
 struct_value w tag ds cell shape v structs object e = record {
   part = record { offset = cell / length layout.cells * layout.bytes + first.offset; width = width_of shape; content = first_part shape };
-  is = rw (cell_blank layout cell 0 _ first.less first.is) (ap filled (ap (λ z. first_content (core.shape_in z 0)) first.is));
+  is = rw (cell_blank layout cell 0 _ first.less first.is)
+      (ap (λ z. filled (first_content (core.shape_in (slice_get layout.cells z) 0))) (mod-eq_of_lt first.less) ∙
+      ap (λ z. filled (first_content (core.shape_in z 0))) first.is);
   shown = λ m c. first_shown w m c shape v o.word o.holds;
 }
   where

@@ -29,7 +29,7 @@ use Rattle.core_meaning.specs.Steps as core_steps
 use Rattle.source_lowering.specs.Lowered.{type_of}
 use Rattle.source_lowering.specs.Taken.{IsIntegerShape}
 pub use Rattle.source_lowering.specs.Lowerable.{IsTarget, IsWordShape, IsObject, IsNoStruct}
-use Rattle.source_lowering.proofs.Relations.{at, LiesNear, Leads, Shown, ANull, APointer, AValue, ANothing, Given, Same, first_in}
+use Rattle.source_lowering.proofs.Relations.{at, IsTakenObject, Leads, Shown, ANull, APointer, AValue, ANothing, Given, Same, first_in}
 use Rattle.source_lowering.proofs.Runs.{stuck_same}
 
 -- the shapes of values: a word, or none
@@ -283,7 +283,7 @@ one_same w fs n shape m c vs x s k taken given go_word go_thin go_handle = ⊎_e
 pub thin_same : (w : World) (fs : Program) (n : ℕ) (shape : Shape) (m : source.Memory) (c : core.Memory) (v : Scalar) (x : Content)
     (s : Scalar → source.Memory → steps.Step) (k : core_steps.Step) (o : IsThin w m c shape v x)
     → (x ≡ Null → o.may_be_null ≡ true → Same w fs n (s (Thin None) m) k)
-    → ((t : Spot) (byte : ℕ) → x ≡ Pointer (at t) byte → LiesNear w o.to byte → Leads w m c o.to t byte → Same w fs n (s (Thin (Some t)) m) k)
+    → ((t : Spot) (byte : ℕ) → x ≡ Pointer (at t) byte → IsTakenObject w o.to → Leads w m c o.to t byte → Same w fs n (s (Thin (Some t)) m) k)
     → Same w fs n (s v m) k
 thin_same w fs n shape m c v x s k o go_null go_spot =
     ⊎_elim

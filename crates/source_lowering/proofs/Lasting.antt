@@ -201,8 +201,9 @@ shown_later b w m m' c c' (FatShape to) v cs l h =
       byte = p.byte;
       value = p.value;
       shown = p.shown;
-      small =
-          p.small;
+      small = p.small;
+      few = p.few;
+      lies = p.lies;
       leads = λ k less. leads_later b w m m' c c' to _ _ l (p.leads k less);
     })) h
 shown_later b w m m' c c' HandleShape v cs l h = h

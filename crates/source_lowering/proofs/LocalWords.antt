@@ -15,17 +15,29 @@ use Rattle.source_meaning.specs.Shapes.{
   ArrayShape,
 }
 use Rattle.source_meaning.specs.Steps.{World}
-use Rattle.source_lowering.specs.Layouts.{extent_of}
+use Rattle.source_lowering.specs.Layouts.{extent_of, local_of}
 use Rattle.source_lowering.specs.Programs.{locals_of}
 use Rattle.source_lowering.specs.Bounds.{words_of, shape_words, value_words, local_words}
 use Rattle.source_lowering.proofs.Integers.{IsWordShape}
 
+-- a local has all bytes of its shape
+local_bytes : (w : World) (s : Shape) → (local_of w s).count * (local_of w s).layout.bytes ≡ (extent_of w s).size
+local_bytes w IntShape = refl
+local_bytes w UnsignedShape = refl
+local_bytes w CharShape = refl
+local_bytes w VoidShape = refl
+local_bytes w (ThinShape b owner to) = refl
+local_bytes w (FatShape to) = refl
+local_bytes w HandleShape = refl
+local_bytes w KeyShape = refl
+local_bytes w (StructShape tag) = omega arith
+local_bytes w (UnionShape tag) = omega arith
+local_bytes w (ArrayShape count of) = refl
+
 pub many_words : (w : World) (ss : List Shape) → local_words (locals_of w ss) ≡ value_words w ss
 many_words w [] = refl
 many_words w (s ∷ ss) =
-    let a : 1 * (extent_of w s).size ≡ (extent_of w s).size = omega arith in
-    let b = many_words w ss in
-    ap (λ z. words_of z + local_words (locals_of w ss)) a ∙ ap (λ z. shape_words w s + z) b
+    ap (λ z. words_of z + local_words (locals_of w ss)) (local_bytes w s) ∙ ap (λ z. shape_words w s + z) (many_words w ss)
 
 -- a word takes one
 pub word_words : (w : World) (s : Shape) → IsWordShape s → shape_words w s ≡ 1

@@ -1,6 +1,6 @@
 -- A struct is made of its members: one after the other each is converted, and goes where it lies in the unnamed value.
 use Rattle.std.proofs.Common.{◌≡◌, ℕ, suc, ◌+◌, ◌<◌, List, [], ◌∷◌, ◌++◌, length, Bool, true, false, nat_eq, Some, None, refl, sym, ap, ◌∙◌, subst, arith}
-use Rattle.std.specs.Prelude.{◌&&◌, if◌then◌else◌, nat_lt, nat_le}
+use Rattle.std.specs.Prelude.{◌&&◌, if◌then◌else◌, nat_le}
 use Rattle.std.proofs.lemmas.Bool.{eqb-true, eq-eqb, and_parts}
 use Rattle.std.proofs.lemmas.Bool.Decides.{nat_tests}
 use Rattle.source_meaning.specs.Shapes.{Shape, StructShape}
@@ -15,7 +15,7 @@ use Rattle.core_meaning.specs.Memory.{Content, Pointer, Part, Layout, with_part}
 use Rattle.core_meaning.specs.Core.{Statement, Do, Offset, Copy, Store, Statements}
 use Rattle.core_meaning.specs.Steps as core_steps
 use Rattle.core_meaning.specs.Steps.{Config, with_temp, with_memory}
-use Rattle.core_meaning.specs.Operations.{does, are_laid, same_object, cells_on, copied, fitting, too_far}
+use Rattle.core_meaning.specs.Operations.{does, are_laid, same_object, cells_on, copied, fitting, reaches}
 use Rattle.core_meaning.specs.Meaning as meaning
 use Rattle.core_meaning.proofs.Spots.{spot_same, spot_self}
 use Rattle.source_lowering.specs.Layouts.{layout_of}
@@ -50,6 +50,8 @@ use Rattle.source_lowering.proofs.Variables.{Agrees, value_of}
 use Rattle.source_lowering.proofs.Conversions.{converted_gives}
 use Rattle.source_lowering.proofs.Clearing.{laid_there}
 use Rattle.source_lowering.proofs.Copying.{AllShown, copied_later, copied_nowhere, whole_copied}
+use Rattle.source_lowering.proofs.StructCells.{object_cells}
+use Rattle.source_lowering.proofs.Members.{first_part_of, first_reached}
 use Rattle.source_lowering.proofs.SameShapes.{shapes_same}
 use Rattle.source_lowering.proofs.Initialising.{converted_whole}
 use Rattle.source_lowering.proofs.Wholes.{own_spot, IsWhole, fits_keeping, fits_kept, before_less, own_free, agree_parts, agree_own_copied, value_made}
@@ -187,14 +189,14 @@ word_member p n d value cells byte shape e from first is_word one = record {
 -- ---- a struct
 
 member_copied : (c : Config) (d own value cells byte other : ℕ) (l : Layout) (next : Config → core_steps.Step)
-    → c.temps d ≡ Pointer (own_spot own value 0) 0 → 0 + byte < too_far → c.temps (d + 1) ≡ Pointer (own_spot own other 0) 0
+    → c.temps d ≡ Pointer (own_spot own value 0) 0 → reaches c.memory (member_spot own value cells) (0 + byte) ≡ true
+    → c.temps (d + 1) ≡ Pointer (own_spot own other 0) 0
     → core.is_live (c.memory.standing (core.Own own)) ≡ true → are_laid c.memory (member_spot own value cells) (0 + byte) l.cells ≡ true
     → are_laid c.memory (own_spot own other 0) 0 l.cells ≡ true → same_object (member_spot own value cells) (own_spot own other 0) ≡ false
     → does (Offset (d + 2) d cells byte) (does (Copy (d + 2) (d + 1) l) next) c
     ≡ next (with_memory (copied l (member_spot own value cells) (own_spot own other 0) c.memory)
     (with_temp (d + 2) (Pointer (member_spot own value cells) (0 + byte)) c))
-member_copied c d own value cells byte other l next temp less there live laid laid_t apart =
-    let near : nat_lt (0 + byte) too_far ≡ true = grind (arith, nat_tests, less) in
+member_copied c d own value cells byte other l next temp near there live laid laid_t apart =
     let here : nat_eq (d + 2) (d + 2) ≡ true = eq-eqb (d + 2) (d + 2) refl in
     let below : nat_eq (d + 1) (d + 2) ≡ false = grind (arith, nat_tests) in
     rw (temp, near, here, below, there, live, laid, laid_t, apart) refl
@@ -209,10 +211,10 @@ cells_before_copied own value i cells count less =
     let no : nat_le (0 + cells) (0 + i) ≡ false = grind (arith, nat_tests, less) in rw (eq-eqb own own refl, eq-eqb value value refl, no) refl
 
 pub struct_member : (p : Place) (n d value cells byte other : ℕ) (tag : List ℕ) (e : Sense) (code : List Statement) → AreStructs p.world.unions p.world.structs
-    → IsObject p.world.structs (StructShape tag) → value < other → 0 + byte < too_far → IsWhole p n (d + 1) other e code
+    → IsObject p.world.structs (StructShape tag) → value < other → IsWhole p n (d + 1) other e code
     → MemberGoes p n d value cells byte (StructShape tag) (e.value >>= converted p.world (StructShape tag) e.shape)
     (code ++ struct_member_code p.world (StructShape tag) d cells byte)
-struct_member p n d value cells byte other tag e code structs object after near one = record {
+struct_member p n d value cells byte other tag e code structs object after one = record {
   same = λ m c s rest next fits temp made goes.
       subst (λ z. SameAt p n (e.value (λ vs. converted p.world shape e.shape vs s) m) (meaning.statements z next c)) (sym (put_all code copies rest))
       (one.same m c (λ vs. converted p.world shape e.shape vs s) (put copies rest) next fits (record {
@@ -254,8 +256,10 @@ struct_member p n d value cells byte other tag e code structs object after near 
         let copying = copied_later (before_value p value) m1 c1.memory layout spot from (own_free p value value (0 + cells) (omega arith)) in
         let around_copying = copied_later (around p (suc p.frame)) m1 c1.memory layout spot from (own_free p 0 value (0 + cells) (omega arith)) in
         let agree = agree_own_copied p.world m1 c1.memory layout p.own value (0 + cells) from fits1.agree in
+        let first = first_part_of p.world c1.memory shape spot (0 + byte) (object_cells p.world.unions p.world.structs shape structs object) made in
         subst (λ z. SameAt p n (s vs m1) z)
-        (sym (member_copied c1 d p.own value cells byte other layout (meaning.statements rest next) temp near there fits1.stands
+        (sym (member_copied c1 d p.own value cells byte other layout (meaning.statements rest next) temp
+        (first_reached c1.memory spot (0 + byte) first) there fits1.stands
         (laid_there c1.memory spot (0 + byte) layout.cells made) (laid_there c1.memory from 0 layout.cells made_t)
         (values_apart p.own value cells other after)))
         (goes.go m1 c2 vs (fits_on p m1 m1 middle c2 (temp_fits p m1 c1 (d + 2) (Pointer spot (0 + byte)) fits1) agree around_copying refl)

@@ -25,7 +25,8 @@ use Rattle.std.proofs.Common.{
   subst,
   arith,
 }
-use Rattle.std.specs.Prelude.{bytes_eq}
+use Rattle.std.specs.Prelude.{bytes_eq, nat_lt}
+use Rattle.std.proofs.lemmas.Bool.{eq-eqb, or_right}
 use Rattle.std.proofs.lemmas.List.{length-map}
 use Rattle.source_meaning.proofs.Layouts.{laid_above, rounded_above}
 use Rattle.source_meaning.specs.Shapes.{
@@ -56,16 +57,17 @@ use Rattle.source_meaning.specs.Conversions.{cells_of}
 use Rattle.source_meaning.specs.Places.{struct_parts}
 use Rattle.core_meaning.specs.Memory as core
 use Rattle.core_meaning.specs.Memory.{Content}
-use Rattle.source_lowering.specs.Layouts.{Piece, pieces_of, part_shape_of, padding, next_at, padded, extent_of, bytes_before}
+use Rattle.core_meaning.specs.Operations.{too_far, lies_at, reaches}
+use Rattle.source_lowering.specs.Layouts.{Piece, piece, pieces_of, first_part, part_shape_of, padding, next_at, padded, layout_of, extent_of, bytes_before}
 use Rattle.source_lowering.specs.Lowered.{width_of, member_shape}
 use Rattle.source_lowering.specs.Lowerable.{IsWordShape, IsObject, AreObjects, AreStructs}
-use Rattle.source_lowering.proofs.Structs.{cells_in, placed_in, extent_in, object_small, IsMade, struct_made}
+use Rattle.source_lowering.proofs.Structs.{cells_in, placed_in, extent_in, IsMade, struct_made}
 use Rattle.source_lowering.proofs.StructCells.{AllHaveCells, HasCells, shapes_in, shapes_count, AreWordShapes, object_cells}
-use Rattle.source_lowering.proofs.Relations.{at, PartIs, AreShaped, AreMade, AreCells, Leads, LiesNear}
+use Rattle.source_lowering.proofs.Relations.{at, PartIs, AreShaped, AreMade, AreCells, Leads, IsTakenObject}
 
 -- ---- the first part
 
-pub word_pieces : (s : Shape) → IsWordShape s → pieces_of s ≡ (record { offset = 0; width = width_of s }) ∷ []
+pub word_pieces : (s : Shape) → IsWordShape s → pieces_of s ≡ piece 0 (width_of s) (first_part s) ∷ []
 word_pieces IntShape h = refl
 word_pieces UnsignedShape h = refl
 word_pieces CharShape h = refl
@@ -84,17 +86,14 @@ pub record FirstPart (c : core.Memory) (t : core.Spot) (byte : ℕ) : Type 0 whe
   pub content : Content
   pub is : c.parts t 0 ≡ Some (record { offset = byte; width = width; content = content })
 
-pub first_part_of : (w : World) (m : source.Memory) (c : core.Memory) (shape : Shape) (s : Spot) (byte : ℕ) → LiesNear w shape byte
-    → Leads w m c shape s byte → FirstPart c (at s) byte
-first_part_of w m c shape s byte lies leads = record {
+pub first_part_of : (w : World) (c : core.Memory) (shape : Shape) (t : core.Spot) (byte : ℕ) → HasCells w.unions w.structs shape
+    → AreMade c t byte (layout_of w shape).cells → FirstPart c t byte
+first_part_of w c shape t byte has there = record {
   width = width_of has.first.shape;
   content = one.content;
   is = one.is ∙ ap (λ o. Some (record { offset = o; width = width_of has.first.shape; content = one.content })) (first_byte has.first.offset has.begins);
 }
   where
-    has : HasCells w.unions w.structs shape
-    has = lies.cells
-
     words : AreWordShapes (has.first.shape ∷ shapes_in has.others)
     words = subst AreWordShapes (sym has.shapes ∙ ap shapes_in has.is) has.words
 
@@ -107,17 +106,21 @@ first_part_of w m c shape s byte lies leads = record {
     pad : List core.PartShape
     pad = padding (has.first.offset + (extent_of w has.first.shape).size) rest
 
-    made : AreMade c (at s) byte (cells_from (has.first ∷ has.others))
-    made = subst (λ z. AreMade c (at s) byte (cells_from z)) has.is leads.1
+    made : AreMade c t byte (cells_from (has.first ∷ has.others))
+    made = subst (λ z. AreMade c t byte (cells_from z)) has.is there
 
-    shaped : AreShaped c (at s) byte 0 (map (part_shape_of has.first) ((record { offset = 0; width = width_of has.first.shape }) ∷ []) ++ pad)
-    shaped = subst (λ z. AreShaped c (at s) byte 0 (map (part_shape_of has.first) z ++ pad)) (word_pieces has.first.shape words.0) made.0
+    shaped : AreShaped c t byte 0 (map (part_shape_of has.first) (piece 0 (width_of has.first.shape) (first_part has.first.shape) ∷ []) ++ pad)
+    shaped = subst (λ z. AreShaped c t byte 0 (map (part_shape_of has.first) z ++ pad)) (word_pieces has.first.shape words.0) made.0
 
-    one : PartIs c (at s) 0 (byte + (has.first.offset + 0)) (width_of has.first.shape)
+    one : PartIs c t 0 (byte + (has.first.offset + 0)) (width_of has.first.shape)
     one = shaped.0
 
     first_byte : (o : ℕ) → o ≡ 0 → byte + (o + 0) ≡ byte
     first_byte o e = omega (arith, e)
+
+-- so a pointer goes there, however far it is
+pub first_reached : (c : core.Memory) (t : core.Spot) (byte : ℕ) → FirstPart c t byte → reaches c t byte ≡ true
+first_reached c t byte first = or_right (nat_lt byte too_far) (lies_at (c.parts t 0) byte) (ap (λ z. lies_at z byte) first.is ∙ eq-eqb byte byte refl)
 
 -- ---- the source's cells
 
@@ -331,48 +334,21 @@ member_made c unions structs bytes so_far (p ∷ ps) f t b h room made = by (byt
         (core_beyond_on t _ (cells_before (cells_in structs) ps f) (length (cells_in structs p.shape) + cells_before (cells_in structs) ps f)
         (ap (λ z. z + cells_before (cells_in structs) ps f) count)) rest)
 
-member_near : (extent : Shape → Extent) (so_far : Extent) (ps : List Part) (f : List ℕ) → (extent VoidShape).size ≡ 0
-    → bytes_before extent so_far.size ps f + (extent (part_shape ps f)).size ≤ (laid_out extent so_far ps).size
-member_near extent so_far [] f none = let more = laid_above extent so_far [] in omega (arith, more, none)
-member_near extent so_far (p ∷ ps) f none = by (bytes_eq p.name f) refl (member_near extent next ps f none)
-  where
-    e : Extent
-    e = extent p.shape
-
-    next : Extent
-    next = record { size = rounded_up so_far.size e.align + e.size; align = max so_far.align e.align }
-
-    by : (z : Bool) → bytes_eq p.name f ≡ z → bytes_before extent next.size ps f + (extent (part_shape ps f)).size ≤ (laid_out extent next ps).size
-        → bytes_before extent so_far.size (p ∷ ps) f + (extent (part_shape (p ∷ ps) f)).size ≤ (laid_out extent so_far (p ∷ ps)).size
-    by true g rest = rw g (laid_above extent next ps)
-    by false g rest = rw g rest
-
 -- ---- members
 
--- an object lies near where it begins
-pub lies_here : (w : World) (shape : Shape) → AreStructs w.unions w.structs → IsObject w.structs shape → LiesNear w shape 0
-lies_here w shape structs object = record {
-  object = object;
-  cells = object_cells w.unions w.structs shape structs object;
-  near = let a = object_small w.unions w.structs shape structs object in omega (arith, a);
-}
+pub lies_here : (w : World) (shape : Shape) → AreStructs w.unions w.structs → IsObject w.structs shape → IsTakenObject w shape
+lies_here w shape structs object = record { object = object; cells = object_cells w.unions w.structs shape structs object }
 
 -- where a member lies
 pub record IsMember (w : World) (m : source.Memory) (c : core.Memory) (shape : Shape) (s : Spot) (byte : ℕ) (f : List ℕ) : Type 0 where
-  pub lies : LiesNear w (member_shape w shape f) (byte + bytes_before (extent_of w) 0 (struct_parts w shape) f)
+  pub lies : IsTakenObject w (member_shape w shape f)
   pub leads : Leads w m c (member_shape w shape f) (source.beyond s (cells_before (cells_of w) (struct_parts w shape) f))
       (byte + bytes_before (extent_of w) 0 (struct_parts w shape) f)
 
 pub member_is : (w : World) (m : source.Memory) (c : core.Memory) (shape : Shape) (s : Spot) (byte : ℕ) (f : List ℕ) → AreStructs w.unions w.structs
-    → IsObject w.structs (member_shape w shape f) → LiesNear w shape byte → Leads w m c shape s byte → IsMember w m c shape s byte f
+    → IsObject w.structs (member_shape w shape f) → IsTakenObject w shape → Leads w m c shape s byte → IsMember w m c shape s byte f
 member_is w m c (StructShape tag) s byte f structs object lies leads = record {
-  lies = record {
-    object = object;
-    cells = object_cells w.unions w.structs (part_shape parts f) structs object;
-    near = let a = member_near (extent_of w) (no_extent tag) parts f refl in
-        let b : byte + (laid_out (extent_of w) (no_extent tag) parts).size ≤ 4096 = subst (λ z. byte + z.size ≤ 4096) made.extent lies.near in
-        omega (arith, a, b);
-  };
+  lies = record { object = object; cells = object_cells w.unions w.structs (part_shape parts f) structs object };
   leads = (
     member_cells m (cells_of w) refl parts f s (subst (λ z. AreCells m s z) made.cells leads.0),
     member_made c w.unions w.structs (extent_of w (StructShape tag)).size (no_extent tag) parts f (at s) byte

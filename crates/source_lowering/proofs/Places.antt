@@ -38,7 +38,7 @@ use Rattle.core_meaning.specs.Meaning as meaning
 use Rattle.core_meaning.specs.Operations.{does, fitting}
 use Rattle.source_lowering.specs.Lowered.{local_named, shape_by, put, width_of, distance, address_by, check_code, load_code, store_code}
 use Rattle.source_lowering.specs.Lowerable.{AreStructs}
-use Rattle.source_lowering.proofs.Relations.{at, LiesNear, Leads, AreLed, Place, Fits, SameAt, Next, AreKept, LaterAt, Given, GivesAs, AreLocals, within}
+use Rattle.source_lowering.proofs.Relations.{at, IsTakenObject, Leads, AreLed, Place, Fits, SameAt, Next, AreKept, LaterAt, Given, GivesAs, AreLocals, within}
 use Rattle.source_lowering.proofs.Keeping.{later_self, later_on, m_written}
 use Rattle.source_lowering.proofs.Runs.{stuck_same, stops_same, put_all}
 use Rattle.source_lowering.proofs.Integers.{IsTaken, IsTarget, IsWordShape, IsNoStruct, object_word, object_target, taken_no_struct, one_same, thin_same}
@@ -55,7 +55,7 @@ use Rattle.source_lowering.proofs.Variables.{Agrees, StoresAs, value_of, written
 pub record PlaceGoesOn (p : Place) (n d : ℕ) (m0 : source.Memory) (c0 : Config) (shape : Shape) (s : Spot → source.Memory → steps.Step)
     (k : Config → core_steps.Step) : Type 0 where
   pub go : (m : source.Memory) (c : Config) (t : Spot) (byte : ℕ) → Fits p m c → LaterAt p m0 c0 m c → AreKept d c0 c → c.temps d ≡ Pointer (at t) byte
-      → LiesNear p.world shape byte → Leads p.world m c.memory shape t byte → SameAt p n (s t m) (k c)
+      → IsTakenObject p.world shape → Leads p.world m c.memory shape t byte → SameAt p n (s t m) (k c)
 
 -- an act gives the place to which its code leaves a pointer in a temporary
 pub record PlacedAs (p : Place) (n d : ℕ) (shape : Shape) (act : steps.Act Spot) (code : List Statement) : Type 0 where
@@ -74,7 +74,7 @@ pub record IsPlaced (p : Place) (n d : ℕ) (e : Sense) (shape : Shape) (code : 
 
 -- a pointer is put into its temporary
 pointer_put : (p : Place) (n d : ℕ) (m : source.Memory) (c : Config) (shape : Shape) (t : Spot) (s : Spot → source.Memory → steps.Step)
-    (k : Config → core_steps.Step) → Fits p m c → LiesNear p.world shape 0 → Leads p.world m c.memory shape t 0 → PlaceGoesOn p n d m c shape s k
+    (k : Config → core_steps.Step) → Fits p m c → IsTakenObject p.world shape → Leads p.world m c.memory shape t 0 → PlaceGoesOn p n d m c shape s k
     → SameAt p n (s t m) (k (with_temp d (Pointer (at t) 0) c))
 pointer_put p n d m c shape t s k fits word leads goes =
     goes.go m (with_temp d (Pointer (at t) 0) c) t 0 (temp_fits p m c d (Pointer (at t) 0) fits) (later_self (within p) m c.memory)
@@ -84,7 +84,7 @@ addressed : (c : Config) (d out index frame : ℕ) (next : Config → core_steps
     → does (LocalAddress d out index) next c ≡ next (with_temp d (Pointer (at (local_spot frame index)) 0) c)
 addressed c d out index frame next block = rw block refl
 
-local_placed : (p : Place) (n d out index frame : ℕ) (shape : Shape) → LiesNear p.world shape 0 → slice_get (p.frame ∷ p.outer) out ≡ Some frame
+local_placed : (p : Place) (n d out index frame : ℕ) (shape : Shape) → IsTakenObject p.world shape → slice_get (p.frame ∷ p.outer) out ≡ Some frame
     → ((m : source.Memory) (c : core.Memory) → AreLed p.world m c p.locals → Leads p.world m c shape (local_spot frame index) 0)
     → PlacedAs p n d shape (give (local_spot frame index)) (Do (LocalAddress d out index) ∷ [])
 local_placed p n d out index frame shape word block led = record {
@@ -94,7 +94,7 @@ local_placed p n d out index frame shape word block led = record {
       (pointer_put p n d m c shape (local_spot frame index) s (meaning.statements rest next) fits word (led m c.memory fits.locals) goes);
 }
 
-global_placed : (p : Place) (n d number : ℕ) (shape : Shape) → LiesNear p.world shape 0 → ((m : source.Memory) (c : core.Memory) → AreLed p.world m c p.world.globals
+global_placed : (p : Place) (n d number : ℕ) (shape : Shape) → IsTakenObject p.world shape → ((m : source.Memory) (c : core.Memory) → AreLed p.world m c p.world.globals
     → Leads p.world m c shape (heap_spot number) 0) → PlacedAs p n d shape (give (heap_spot number)) (Do (DataAddress d number) ∷ [])
 global_placed p n d number shape word led = record {
   same = λ m c s rest next fits goes.

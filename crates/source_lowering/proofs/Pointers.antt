@@ -145,8 +145,8 @@ both_pointers w m c sa sb u v x y agree a b =
       });
     })
     (λ (q : APointer w m c b.to v (y ∷ [])).
-    let one = first_part_of w m c a.to p.spot p.byte p.lies p.leads in
-    let other = first_part_of w m c b.to q.spot q.byte q.lies q.leads in
+    let one = first_part_of w c a.to (at p.spot) p.byte p.lies.cells p.leads.1 in
+    let other = first_part_of w c b.to (at q.spot) q.byte q.lies.cells q.leads.1 in
     record {
       first = Some p.spot;
       second = Some q.spot;

@@ -1,8 +1,6 @@
 -- Places at a distance from a pointer: members, read and stored there, and the pointers to them.
-use Rattle.std.proofs.Common.{◌≡◌, ℕ, zero, suc, ◌+◌, ◌<◌, inl, List, [], ◌∷◌, ◌++◌, length, true, Some, refl, sym, ap, ◌∙◌, subst, arith}
-use Rattle.std.specs.Prelude.{nat_lt}
+use Rattle.std.proofs.Common.{◌≡◌, ℕ, zero, suc, ◌+◌, inl, List, [], ◌∷◌, ◌++◌, length, true, Some, refl, sym, ap, ◌∙◌, subst, arith}
 use Rattle.std.proofs.lemmas.Bool.{eq-eqb}
-use Rattle.std.proofs.lemmas.Bool.Decides.{nat_tests}
 use Rattle.cyc_tree.specs.Tree.{Suffixes, NoSuffixes, Index, Dot, Arrow}
 use Rattle.source_meaning.specs.Shapes.{Shape, part_shape, pointee}
 use Rattle.source_meaning.specs.Sizes.{cells_before}
@@ -10,7 +8,7 @@ use Rattle.source_meaning.specs.Memory as source
 use Rattle.source_meaning.specs.Memory.{Scalar, Spot}
 use Rattle.source_meaning.specs.Steps as steps
 use Rattle.source_meaning.specs.Steps.{Scope, give, ◌>>=◌}
-use Rattle.source_meaning.specs.Conversions.{cells_of, size_of, one}
+use Rattle.source_meaning.specs.Conversions.{cells_of, one}
 use Rattle.source_meaning.specs.Values.{read_cells, take_cells, write_cells}
 use Rattle.source_meaning.specs.Places.{Sense, place_sense, struct_parts, contents, member, given_by}
 use Rattle.source_meaning.specs.Expressions.{suffixed}
@@ -20,7 +18,7 @@ use Rattle.core_meaning.specs.Core.{Statement, Do, Offset, Load, Store, Statemen
 use Rattle.core_meaning.specs.Steps as core_steps
 use Rattle.core_meaning.specs.Steps.{Config, with_temp, with_memory}
 use Rattle.core_meaning.specs.Meaning as meaning
-use Rattle.core_meaning.specs.Operations.{does, too_far, fitting}
+use Rattle.core_meaning.specs.Operations.{does, fitting}
 use Rattle.source_lowering.specs.Layouts.{extent_of, bytes_before}
 use Rattle.source_lowering.specs.Lowered.{
   put,
@@ -36,12 +34,12 @@ use Rattle.source_lowering.specs.Lowered.{
   suffixed_code,
 }
 use Rattle.source_lowering.specs.Lowerable.{IsObject, IsNoStruct, AreStructs, TakesMembers, TakesSuffixes}
-use Rattle.source_lowering.proofs.Relations.{at, LiesNear, Leads, Place, Fits, SameAt, Next, AreKept, LaterAt, Given, GivesAs, within}
+use Rattle.source_lowering.proofs.Relations.{at, IsTakenObject, Leads, Place, Fits, SameAt, Next, AreKept, LaterAt, Given, GivesAs, within}
 use Rattle.source_lowering.proofs.Keeping.{later_on, m_written}
 use Rattle.source_lowering.proofs.Runs.{put_all}
 use Rattle.source_lowering.proofs.Integers.{IsWordShape, word_taken, object_word}
 use Rattle.source_lowering.proofs.Cells.{plain_of, read_same, write_same}
-use Rattle.source_lowering.proofs.Members.{beyond_on, beyond_zero, member_is}
+use Rattle.source_lowering.proofs.Members.{FirstPart, first_part_of, first_reached, beyond_on, beyond_zero, member_is}
 use Rattle.source_lowering.proofs.Values.{put_temp, kept_temp, temp_fits, put_value, given_later}
 use Rattle.source_lowering.proofs.Variables.{Agrees, StoresAs, value_of, written_on, part_at_byte}
 use Rattle.source_lowering.proofs.Places.{PlaceGoesOn, PlacedAs, IsPlaced, contents_placed}
@@ -52,7 +50,7 @@ use Rattle.source_lowering.proofs.Places.{PlaceGoesOn, PlacedAs, IsPlaced, conte
 pub record ReachGoesOn (p : Place) (n d cells bytes : ℕ) (m0 : source.Memory) (c0 : Config) (shape : Shape) (s : Spot → source.Memory → steps.Step)
     (k : Config → core_steps.Step) : Type 0 where
   pub go : (m : source.Memory) (c : Config) (t : Spot) (byte : ℕ) → Fits p m c → LaterAt p m0 c0 m c → AreKept d c0 c → c.temps d ≡ Pointer (at t) byte
-      → LiesNear p.world shape (byte + bytes) → Leads p.world m c.memory shape (source.beyond t cells) (byte + bytes)
+      → IsTakenObject p.world shape → Leads p.world m c.memory shape (source.beyond t cells) (byte + bytes)
       → SameAt p n (s (source.beyond t cells) m) (k c)
 
 -- an act gives the place that lies so far on from where its code leaves a pointer
@@ -71,18 +69,16 @@ placed_reached p n d shape act code placed = record {
       placed.same m c s rest next fits (record {
         go = λ m1 c1 t byte fits1 later1 kept1 temp lies leads.
             subst (λ z. SameAt p n (s z m1) (meaning.statements rest next c1)) (sym (beyond_zero t))
-            (goes.go m1 c1 t byte fits1 later1 kept1 temp (subst (λ z. LiesNear p.world shape z) (no_more byte) lies)
+            (goes.go m1 c1 t byte fits1 later1 kept1 temp lies
             (subst (λ z. Leads p.world m1 c1.memory shape z (byte + 0)) (beyond_zero t)
             (subst (λ z. Leads p.world m1 c1.memory shape t z) (no_more byte) leads)));
       });
 }
 
-offset_does : (c : Config) (d cells bytes byte size : ℕ) (t : core.Spot) (next : Config → core_steps.Step) → c.temps d ≡ Pointer t byte
-    → byte + bytes + size < 4097 → does (Offset d d cells bytes) next c ≡ next (with_temp d (Pointer (core.beyond t cells) (byte + bytes)) c)
-offset_does c d cells bytes byte size t next temp near = rw (temp, within) refl
-  where
-    within : nat_lt (byte + bytes) too_far ≡ true
-    within = grind (arith, nat_tests, near)
+offset_does : (c : Config) (d cells bytes byte : ℕ) (t : core.Spot) (next : Config → core_steps.Step) → c.temps d ≡ Pointer t byte
+    → FirstPart c.memory (core.beyond t cells) (byte + bytes)
+    → does (Offset d d cells bytes) next c ≡ next (with_temp d (Pointer (core.beyond t cells) (byte + bytes)) c)
+offset_does c d cells bytes byte t next temp first = rw (temp, first_reached c.memory (core.beyond t cells) (byte + bytes) first) refl
 
 -- a pointer to a place at a distance
 pub reached_placed : (p : Place) (n d cells bytes : ℕ) (shape : Shape) (act : steps.Act Spot) (code : List Statement)
@@ -97,24 +93,25 @@ reached_placed p n d cells bytes shape act code reached = record {
   where
     further : (i j : ℕ) (m : source.Memory) (c : Config) (s : Spot → source.Memory → steps.Step) (rest : Statements) (next : Next)
         → PlaceGoesOn p n d m c shape s (meaning.statements rest next) → (m1 : source.Memory) (c1 : Config) (t : Spot) (byte : ℕ) → Fits p m1 c1
-        → LaterAt p m c m1 c1 → AreKept d c c1 → c1.temps d ≡ Pointer (at t) byte → LiesNear p.world shape (byte + j)
+        → LaterAt p m c m1 c1 → AreKept d c c1 → c1.temps d ≡ Pointer (at t) byte → IsTakenObject p.world shape
         → Leads p.world m1 c1.memory shape (source.beyond t i) (byte + j)
         → SameAt p n (s (source.beyond t i) m1) (does (Offset d d i j) (meaning.statements rest next) c1)
     further i j m c s rest next goes m1 c1 t byte fits1 later1 kept1 temp lies leads =
         let x : Content = Pointer (core.beyond (at t) i) (byte + j) in
         subst (λ z. SameAt p n (s (source.beyond t i) m1) z)
-        (sym (offset_does c1 d i j byte (size_of p.world shape) (at t) (meaning.statements rest next) temp (let near = lies.near in omega (arith, near))))
+        (sym (offset_does c1 d i j byte (at t) (meaning.statements rest next) temp
+        (first_part_of p.world c1.memory shape (at (source.beyond t i)) (byte + j) lies.cells leads.1)))
         (goes.go m1 (with_temp d x c1) (source.beyond t i) (byte + j) (temp_fits p m1 c1 d x fits1) later1 (kept_temp d d x c c1 (omega arith) kept1)
         (put_temp d x c1) lies leads)
 
     by : (i j : ℕ) (m : source.Memory) (c : Config) (s : Spot → source.Memory → steps.Step) (rest : Statements) (next : Next)
         → PlaceGoesOn p n d m c shape s (meaning.statements rest next) → (m1 : source.Memory) (c1 : Config) (t : Spot) (byte : ℕ) → Fits p m1 c1
-        → LaterAt p m c m1 c1 → AreKept d c c1 → c1.temps d ≡ Pointer (at t) byte → LiesNear p.world shape (byte + j)
+        → LaterAt p m c m1 c1 → AreKept d c c1 → c1.temps d ≡ Pointer (at t) byte → IsTakenObject p.world shape
         → Leads p.world m1 c1.memory shape (source.beyond t i) (byte + j)
         → SameAt p n (s (source.beyond t i) m1) (meaning.statements (put (offset_code d i j) rest) next c1)
     by zero zero m c s rest next goes m1 c1 t byte fits1 later1 kept1 temp lies leads =
         subst (λ z. SameAt p n (s z m1) (meaning.statements rest next c1)) (beyond_zero t)
-        (goes.go m1 c1 t byte fits1 later1 kept1 temp (subst (λ z. LiesNear p.world shape z) (sym (no_more byte)) lies)
+        (goes.go m1 c1 t byte fits1 later1 kept1 temp lies
         (subst (λ z. Leads p.world m1 c1.memory shape z byte) (sym (beyond_zero t))
         (subst (λ z. Leads p.world m1 c1.memory shape (source.beyond t 0) z) (sym (no_more byte)) leads)))
     by zero (suc j) m c s rest next goes m1 c1 t byte fits1 later1 kept1 temp lies leads =
@@ -138,7 +135,7 @@ member_reached p n d cells bytes shape f act code structs object reached = recor
             let here = beyond_on t cells before (cells + before) refl in
             let there = further byte in
             subst (λ z. SameAt p n (s z m1) (meaning.statements rest next c1)) (sym here)
-            (goes.go m1 c1 t byte fits1 later1 kept1 temp (subst (λ z. LiesNear p.world (member_shape p.world shape f) z) there at_member.lies)
+            (goes.go m1 c1 t byte fits1 later1 kept1 temp at_member.lies
             (subst (λ z. Leads p.world m1 c1.memory (member_shape p.world shape f) z (byte + (bytes + more))) here
             (subst (λ z. Leads p.world m1 c1.memory (member_shape p.world shape f) (source.beyond (source.beyond t cells) before) z) there at_member.leads)));
       });

@@ -1,5 +1,5 @@
 -- Regions are born, freed, and give blocks for one object, in the source and in Core.
-use Rattle.std.proofs.Common.{◌≡◌, ℕ, ◌+◌, ◌*◌, ◌^◌, ◌<◌, ◌≤◌, [], ◌∷◌, Bool, true, false, not, nat_eq, nat_lt, Some, None, refl, sym, ap, ◌∙◌, subst, arith}
+use Rattle.std.proofs.Common.{◌≡◌, ℕ, ◌+◌, ◌*◌, ◌^◌, ◌<◌, ◌≤◌, Bool, true, false, not, nat_eq, nat_lt, Some, None, refl, sym, ap, ◌∙◌, subst, arith}
 use Rattle.std.specs.Prelude.{◌&&◌, ◌-◌, if◌then◌else◌, map, slice_get}
 use Rattle.std.proofs.lemmas.Bool.{eqb-true, and_parts}
 use Rattle.std.proofs.lemmas.Bool.Decides.{nat_tests}
@@ -29,7 +29,7 @@ use Rattle.source_lowering.proofs.Relations.{region_at, at, BothVisible, Leads, 
 use Rattle.source_lowering.proofs.Keeping.{shown_later, held_same, ended_later, ended_agree}
 use Rattle.source_lowering.proofs.Runs.{stuck_same, says_same}
 use Rattle.source_lowering.proofs.Values.{put_temp, other_temp}
-use Rattle.source_lowering.proofs.Entering.{held_on, live_in, pending_made}
+use Rattle.source_lowering.proofs.Entering.{held_on, live_in, block_made}
 use Rattle.source_lowering.proofs.Making.{spot_of, is_here, made_cell, still_unmade, here_is, cells_in}
 use Rattle.source_lowering.proofs.Declaring.{blank_holds}
 
@@ -261,7 +261,7 @@ pub granted_leads : (w : World) (m : source.Memory) (c : core.Memory) (d : ℕ) 
     → Leads w (source_granted w m d s) (core_granted w c d s) s (next_spot m (source.Born d)) 0
 granted_leads w m c d s a = (
   cells_in m (source.Born d) (m.objects (source.Born d)) (λ z. source.Blank) (cells_of w s) refl,
-  (pending_made w (s ∷ []) c (core.Born d) (m.objects (source.Born d)) (sym (a.blocks d))).0,
+  block_made c (core.Born d) (m.objects (source.Born d)) (layout_of w s) (sym (a.blocks d)),
 )
 
 -- ---- it is asked for

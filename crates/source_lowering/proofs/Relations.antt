@@ -116,23 +116,25 @@ pub record ANull (may_be_null : Bool) (v : Scalar) (cs : List Content) : Type 0 
   pub value : v ≡ Thin None
   pub shown : cs ≡ Null ∷ []
 
--- an object of a shape that is taken, and no more bytes up to its end than an object has
-pub record LiesNear (w : World) (shape : Shape) (byte : ℕ) : Type 0 where
+-- an object of a shape that is taken
+pub record IsTakenObject (w : World) (shape : Shape) : Type 0 where
   pub object : IsObject w.structs shape
   pub cells : HasCells w.unions w.structs shape
-  pub near : byte + size_of w shape ≤ 4096
 
 pub record APointer (w : World) (m : source.Memory) (c : core.Memory) (to : Shape) (v : Scalar) (cs : List Content) : Type 0 where
   pub spot : Spot
   pub byte : ℕ
   pub value : v ≡ Thin (Some spot)
   pub shown : cs ≡ Pointer (at spot) byte ∷ []
-  pub lies : LiesNear w to byte
+  pub lies : IsTakenObject w to
   pub leads : Leads w m c to spot byte
 
+-- NULL has the count 0, and any index
 pub record AFatNull (v : Scalar) (cs : List Content) : Type 0 where
+  pub word : ℕ
   pub value : v ≡ Wide None
-  pub shown : cs ≡ Null ∷ Word 0 ∷ Word 0 ∷ []
+  pub shown : cs ≡ Null ∷ Word 0 ∷ Word word ∷ []
+  pub small : word < 2 ^ 32
 
 pub record AFat (w : World) (m : source.Memory) (c : core.Memory) (to : Shape) (size : ℕ) (v : Scalar) (cs : List Content) : Type 0 where
   pub span : Span
@@ -140,6 +142,8 @@ pub record AFat (w : World) (m : source.Memory) (c : core.Memory) (to : Shape) (
   pub value : v ≡ Wide (Some span)
   pub shown : cs ≡ Pointer (at span.first) byte ∷ Word span.count ∷ Word span.index ∷ []
   pub small : span.index < 2 ^ 32
+  pub few : span.count < 2 ^ 32
+  pub lies : IsTakenObject w to
   pub leads : (k : ℕ) → k < span.count → Leads w m c to (source.beyond span.first (k * length (cells_of w to))) (byte + k * size)
 
 pub record ABirth (which : ℕ → Scalar) (v : Scalar) (cs : List Content) : Type 0 where

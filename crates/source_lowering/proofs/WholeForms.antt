@@ -1,5 +1,5 @@
 -- Forms of expressions that are structs.
-use Rattle.std.proofs.Common.{◌≡◌, ℕ, suc, ◌+◌, ◌<◌, ◌≤◌, List, ◌++◌, Bool, true, false, Some, refl, sym, ap, ◌∙◌, arith}
+use Rattle.std.proofs.Common.{◌≡◌, ℕ, suc, ◌+◌, ◌<◌, List, ◌++◌, Bool, true, false, Some, refl, sym, ap, ◌∙◌}
 use Rattle.std.specs.Prelude.{slice_get, bytes_eq, codes, if◌then◌else◌}
 use Rattle.std.proofs.lemmas.Bool.{false≢true}
 use Rattle.source_meaning.specs.Shapes.{
@@ -59,19 +59,19 @@ whole_place p n d value e (ArrayShape count of) code structs is numbered one = a
 
 -- a struct's value is an unnamed one, and a word is evaluated while the value around it stays as it is
 pub member_same : (p : Place) (n d value cells byte own : ℕ) (s : Shape) (e : Sense) (from : Shape) (wholes words : List Shape) (whole word : List Statement)
-    (takes_whole takes : Type 0) → AreStructs p.world.unions p.world.structs → IsObject p.world.structs s → 0 + byte ≤ 4096 → value < own
+    (takes_whole takes : Type 0) → AreStructs p.world.unions p.world.structs → IsObject p.world.structs s → value < own
     → TakesMember s takes_whole takes → AreNumbered p.owned own (values_by s wholes words)
     → (takes_whole → AreNumbered p.owned own wholes → IsWhole p n (d + 1) own e whole)
     → (takes → AreNumbered p.owned own words → Agrees (keeping p (suc value)) n (d + 1) e from word)
     → MemberGoes p n d value cells byte s (e.value >>= converted p.world s e.shape) (member_code p.world s from d cells byte whole word)
-member_same p n d value cells byte own s e from wholes words whole word takes_whole takes structs object near less h numbered structs_as words_as =
+member_same p n d value cells byte own s e from wholes words whole word takes_whole takes structs object less h numbered structs_as words_as =
     by s object h numbered
   where
     goal : Shape → Type 0
     goal z = MemberGoes p n d value cells byte z (e.value >>= converted p.world z e.shape) (member_code p.world z from d cells byte whole word)
 
     by : (z : Shape) → IsObject p.world.structs z → TakesMember z takes_whole takes → AreNumbered p.owned own (values_by z wholes words) → goal z
-    by (StructShape tag) o t nums = struct_member p n d value cells byte own tag e whole structs o less (omega (arith, near)) (structs_as t nums)
+    by (StructShape tag) o t nums = struct_member p n d value cells byte own tag e whole structs o less (structs_as t nums)
     by IntShape o t nums = word_member p n d value cells byte IntShape e from word tt (words_as t nums)
     by UnsignedShape o t nums = word_member p n d value cells byte UnsignedShape e from word tt (words_as t nums)
     by CharShape o t nums = word_member p n d value cells byte CharShape e from word tt (words_as t nums)

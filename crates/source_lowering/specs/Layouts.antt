@@ -1,6 +1,6 @@
 -- Where the cells of a shape lie in bytes, and the parts of a cell.
 use Rattle.std.specs.Prelude.{ℕ, zero, suc, ◌+◌, ◌-◌, List, [], ◌∷◌, ◌++◌, map, bytes_eq, if◌then◌else◌}
-use Rattle.source_meaning.specs.Shapes.{Shape, IntShape, UnsignedShape, CharShape, ThinShape, FatShape, Part}
+use Rattle.source_meaning.specs.Shapes.{Shape, IntShape, UnsignedShape, CharShape, ThinShape, FatShape, ArrayShape, Part}
 use Rattle.source_meaning.specs.Placing.{Placed, placed_by, struct_placed}
 use Rattle.source_meaning.specs.Sizes.{Extent, rounded_up, extent_by, struct_extent, union_extent}
 use Rattle.source_meaning.specs.Steps.{World}
@@ -15,28 +15,34 @@ placed_of w s = placed_by (struct_placed w.unions w.structs) s
 abbrev pub extent_of : World → Shape → Extent
 extent_of w s = extent_by (struct_extent w.unions w.structs) (union_extent w.unions) s
 
--- a part of one cell: how many bytes before it, and how many it takes
+-- a part of one cell: how many bytes before it, how many it takes, and what it holds where its type has a beginning: 0 or NULL
 pub record Piece : Type 0 where
   pub offset : ℕ
   pub width : ℕ
+  pub first : core.Content
 
--- a char has one byte, a fat pointer three words, all else one word
+abbrev pub piece : ℕ → ℕ → core.Content → Piece
+piece offset width first = record { offset = offset; width = width; first = first }
+
+-- A char has one byte, a fat pointer three words (its first element, how many it has, and its index), all else one word.
 abbrev pub pieces_of : Shape → List Piece
-pieces_of CharShape = (record { offset = 0; width = 1 }) ∷ []
-pieces_of (FatShape to) = (record { offset = 0; width = 4 }) ∷ (record { offset = 4; width = 4 }) ∷ (record { offset = 8; width = 4 }) ∷ []
-pieces_of s = (record { offset = 0; width = 4 }) ∷ []
+pieces_of IntShape = piece 0 4 (core.Word 0) ∷ []
+pieces_of UnsignedShape = piece 0 4 (core.Word 0) ∷ []
+pieces_of CharShape = piece 0 1 (core.Word 0) ∷ []
+pieces_of (ThinShape may_be_null owner to) = piece 0 4 core.Null ∷ []
+pieces_of (FatShape to) = piece 0 4 core.Null ∷ piece 4 4 (core.Word 0) ∷ piece 8 4 (core.Word 0) ∷ []
+pieces_of s = piece 0 4 core.Blank ∷ []
 
--- what a part holds where its type has a beginning: 0 or NULL
+-- what the first part of a value's cell holds at first
+abbrev pub first_of : List Piece → core.Content
+first_of [] = core.Blank
+first_of (q ∷ qs) = q.first
+
 abbrev pub first_part : Shape → core.Content
-first_part IntShape = core.Word 0
-first_part UnsignedShape = core.Word 0
-first_part CharShape = core.Word 0
-first_part (ThinShape may_be_null owner to) = core.Null
-first_part (FatShape to) = core.Null
-first_part s = core.Blank
+first_part s = first_of (pieces_of s)
 
 abbrev pub part_shape_of : Placed → Piece → core.PartShape
-part_shape_of p q = record { offset = p.offset + q.offset; width = q.width; first = first_part p.shape }
+part_shape_of p q = record { offset = p.offset + q.offset; width = q.width; first = q.first }
 
 abbrev pub cell_parts : Placed → List core.PartShape
 cell_parts p = map (part_shape_of p) (pieces_of p.shape)
@@ -62,8 +68,9 @@ padded extent bytes (p ∷ ps) =
 abbrev pub layout_of : World → Shape → core.Layout
 layout_of w s = record { cells = padded (extent_of w) (extent_of w s).size (placed_of w s); bytes = (extent_of w s).size }
 
--- a local of a shape: one object
+-- a local of a shape: one object, of as many elements as an array has, and else of one
 abbrev pub local_of : World → Shape → Local
+local_of w (ArrayShape count of) = record { layout = layout_of w of; count = count }
 local_of w s = record { layout = layout_of w s; count = 1 }
 
 -- how many bytes lie before a part, where so many are taken already

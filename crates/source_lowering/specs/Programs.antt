@@ -3,7 +3,7 @@ use Rattle.std.specs.Prelude.{ℕ, zero, suc, ◌+◌, ◌%◌, Bool, true, fals
 use Rattle.cyc_tree.specs.Tree as tree
 use Rattle.cyc_tree.specs.Tree.{Expression, Initializer, Declaration, Statement, BlockItems, NoItems, Declare, Execute, Initial, Item, Program}
 use Rattle.cyc_words.specs.Words.{difference_of}
-use Rattle.source_meaning.specs.Shapes.{Shape, CharShape, VoidShape, ThinShape, HandleShape, StructShape, Part, part_shapes, written, settled}
+use Rattle.source_meaning.specs.Shapes.{Shape, CharShape, VoidShape, ThinShape, FatShape, HandleShape, StructShape, ArrayShape, Part, part_shapes, written, settled}
 use Rattle.source_meaning.specs.Steps.{Routine, World}
 use Rattle.source_meaning.specs.Programs.{world_of}
 use Rattle.core_meaning.specs.Memory as memory
@@ -273,6 +273,7 @@ operation_temporaries (LocalAddress t out local) = suc t
 operation_temporaries (OwnAddress t object) = suc t
 operation_temporaries (DataAddress t object) = suc t
 operation_temporaries (Offset t p cells bytes) = max (suc t) (suc p)
+operation_temporaries (Element t p i cells bytes) = max (suc t) (max (suc p) (suc i))
 operation_temporaries (Get t out local width) = suc t
 operation_temporaries (Put out local width x) = suc x
 operation_temporaries (Load t p d) = max (suc t) (suc p)
@@ -362,11 +363,19 @@ abbrev pub first_content : Option memory.PartShape → memory.Content
 first_content None = memory.Blank
 first_content (Some x) = x.first
 
--- a global of a struct begins as its layout does
+-- each element of an object begins as its layout does
+abbrev pub begun_datum : Local → Datum
+begun_datum l = record {
+  layout = l.layout;
+  count = l.count;
+  first = λ cell part. first_content (memory.shape_in (slice_get l.layout.cells (cell % length l.layout.cells)) part);
+}
+
+-- a global of a struct, of a fat pointer or of an array begins as its layout does
 abbrev pub global_datum : World → Initial → Shape → Datum
-global_datum w initial (StructShape tag) =
-    let layout = layout_of w (StructShape tag) in
-    record { layout = layout; count = 1; first = λ cell part. first_content (memory.shape_in (slice_get layout.cells cell) part) }
+global_datum w initial (StructShape tag) = begun_datum (local_of w (StructShape tag))
+global_datum w initial (FatShape to) = begun_datum (local_of w (FatShape to))
+global_datum w initial (ArrayShape count of) = begun_datum (local_of w (ArrayShape count of))
 global_datum w initial s = datum_of w s (initial_content initial s)
 
 -- the globals, in their order

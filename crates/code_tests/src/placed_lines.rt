@@ -4,7 +4,7 @@ use crate::selected_lines::fat;
 use core_frames::Line;
 use cyc_core::{Cell, CellLayout, Datum, Layout, Program};
 use rv32_isa::{Instr, Register, Signed12};
-use rv32_layout::{PlaceFault, data, place};
+use rv32_layout::{Code, PlaceFault, data, place};
 use rv32_select::Labelled;
 use std::alloc::{AllocError, Global};
 use std::rc::Rc;
@@ -13,6 +13,22 @@ use std::test::Fail;
 // addi x0, x0, 0
 fn nothing() -> Instr {
     Instr::Addi(Register::ZERO, Register::ZERO, Signed12::new(0))
+}
+
+// lines whose first jump goes to one of them
+fn labelled(lines: Vec<Line>) -> Result<Labelled, Fail> {
+    match Labelled::new(lines) {
+        Some(labelled) => Ok(labelled),
+        None => Err(Fail::new("the first jump goes to behind all lines")),
+    }
+}
+
+// whether these bytes stand at a place of the code
+fn has_bytes_at(code: &Code, at: usize, bytes: &[u8]) -> bool {
+    match code.bytes.get(at..) {
+        Some(rest) => rest.starts_with(bytes),
+        None => false,
+    }
 }
 
 #[test]
@@ -25,9 +41,7 @@ fn calls_keep_where_they_come_from(rt: HostRuntime) -> Result<(), Fail> {
         Line::Jump(1),
         Line::Label(2),
     ];
-    let labelled = Labelled {
-        lines: lines.to_vec(rt.alloc())?,
-    };
+    let labelled = labelled(lines.to_vec(rt.alloc())?)?;
     let code = place(rt.alloc(), &labelled);
     // jal x1, 8; addi x0, x0, 0; bne x5, x0, 8; jal x0, 8; jal x0, -8
     let want: [u8; 20] = [
@@ -39,17 +53,51 @@ fn calls_keep_where_they_come_from(rt: HostRuntime) -> Result<(), Fail> {
 }
 
 #[test]
-fn a_first_jump_to_behind_the_greatest_code_is_refused(rt: HostRuntime) -> Result<(), Fail> {
-    let too_large = Some(PlaceFault::TooLarge);
-    for (words, fault) in [(262_143, None), (262_144, too_large), (262_145, too_large)] {
-        let mut lines = [Line::CallTo(0)].to_vec(rt.alloc())?;
+fn a_first_jump_to_behind_all_lines_is_refused(rt: HostRuntime) -> Result<(), Fail> {
+    let no_place = [Line::CallTo(0), Line::Plain(nothing())];
+    assert!(rt; Labelled::new(no_place.to_vec(rt.alloc())?).is_none());
+    let placed_last = [
+        Line::Label(1),
+        Line::Jump(0),
+        Line::Plain(nothing()),
+        Line::Label(0),
+    ];
+    assert!(rt; Labelled::new(placed_last.to_vec(rt.alloc())?).is_none());
+    let placed_before = [Line::CallTo(0), Line::Label(0), Line::Plain(nothing())];
+    assert!(rt; Labelled::new(placed_before.to_vec(rt.alloc())?).is_some());
+    let not_first = [Line::Plain(nothing()), Line::Jump(0)];
+    assert!(rt; Labelled::new(not_first.to_vec(rt.alloc())?).is_some());
+    Ok(())
+}
+
+#[test]
+fn the_first_call_goes_to_the_last_instruction_of_the_greatest_code(
+    rt: HostRuntime,
+) -> Result<(), Fail> {
+    let mut lines = [Line::CallTo(0)].to_vec(rt.alloc())?;
+    lines.resize(262_143, Line::Plain(nothing()))?;
+    lines.push(Line::Label(0))?;
+    lines.push(Line::Plain(nothing()))?;
+    let code = place(rt.alloc(), &labelled(lines)?);
+    // jal x1, 1048572
+    let farthest: [u8; 4] = [0xef, 0xf0, 0xdf, 0x7f];
+    assert!(rt; code.is_ok_and(|code| has_bytes_at(&code, 0, &farthest)));
+    Ok(())
+}
+
+#[test]
+fn a_call_behind_an_instruction_goes_to_behind_the_greatest_code(
+    rt: HostRuntime,
+) -> Result<(), Fail> {
+    for (words, fault) in [(262_144, None), (262_145, Some(PlaceFault::TooLarge))] {
+        let mut lines = [Line::Plain(nothing()), Line::CallTo(0)].to_vec(rt.alloc())?;
         lines.resize(words, Line::Plain(nothing()))?;
-        let code = place(rt.alloc(), &Labelled { lines });
+        let code = place(rt.alloc(), &labelled(lines)?);
         assert_eq!(rt; code.as_ref().err().copied(), fault);
         // jal x1, 1048572
         let farthest: [u8; 4] = [0xef, 0xf0, 0xdf, 0x7f];
         if let Ok(code) = code {
-            assert!(rt; code.bytes[..4] == farthest[..]);
+            assert!(rt; has_bytes_at(&code, 4, &farthest));
         }
     }
     Ok(())
@@ -138,9 +186,7 @@ fn the_first_placing_counts_and_none_is_the_end(rt: HostRuntime) -> Result<(), F
         Line::Jump(2),
         Line::Plain(nothing()),
     ];
-    let labelled = Labelled {
-        lines: lines.to_vec(rt.alloc())?,
-    };
+    let labelled = labelled(lines.to_vec(rt.alloc())?)?;
     let code = place(rt.alloc(), &labelled);
     // addi x0, x0, 0, twice; jal x0, -4; jal x0, 8; addi x0, x0, 0
     let want: [u8; 20] = [

@@ -64,7 +64,7 @@ fn lines_of(alloc: Global, functions: Vec<Function>) -> Result<Vec<Line>, AllocE
         main: 0,
         globals: Vec::new(alloc),
     };
-    Ok(select(alloc, &program)?.lines)
+    select(alloc, &program)?.lines().to_vec(alloc)
 }
 
 // whether lines are the instructions that these words say

@@ -1,30 +1,35 @@
--- Why each jump of lines that aren't too large reaches its label: the first one by what too large means, and any behind it since it may go to any place.
-use Rattle.std.proofs.Common.{◌≡◌, ℕ, ◌+◌, ◌<◌, ◌≤◌, List, ◌∷◌, Some, refl, sym, arith, ⊎_elim, inl, inr}
-use Rattle.std.proofs.lemmas.Bool.{cases_lt}
+-- Why each jump of lines that aren't too large reaches its label: the first one since its label stands before the end, and any behind it since it may go to
+-- any place.
+use Rattle.std.proofs.Common.{◌≡◌, ℕ, ◌+◌, ◌<◌, ◌≤◌, true, List, [], ◌∷◌, Some, refl, sym, subst, arith, ⊎_elim}
+use Rattle.std.proofs.lemmas.Bool.{cases_lt, false≢true}
+use Rattle.std.proofs.lemmas.Bool.Decides.{nat_tests}
 use Rattle.core_frames.specs.declared.line.Line.{Line}
 use Rattle.core_frames.specs.declared.line.Line.TheVariants.{Plain, Label, Jump, JumpIfZero, CallTo}
 use Rattle.core_frames.specs.Lines.{code_length, size_of}
 use Rattle.core_frames.proofs.Access.{of_words}
 use Rattle.cyc_image.specs.Format.{code_limit}
+use Rattle.rv32_select.specs.Beginning.{first_target, leads_to_code, leads_if_some, begins_within}
 use Rattle.rv32_layout.specs.Placed.{place_of}
-use Rattle.rv32_layout.specs.Limits.{first_target, AreTooLarge}
-use Rattle.rv32_layout.specs.Placing.{IsInReach, Reaches, StartsNear}
+use Rattle.rv32_layout.specs.Placing.{IsInReach, Reaches}
 use Rattle.rv32_layout.proofs.Lines.{place_is_of_words, place_within_length}
 
--- ---- lines that aren't too large
+-- ---- the first instruction
 
-pub is_within : (lines : List Line) → ¬ AreTooLarge lines → code_length lines ≤ code_limit
-is_within lines not = ⊎_elim (λ over. absurd (not (inl over))) (λ within. within) (cases_lt code_limit (code_length lines))
+-- a label that leads to code stands before the end
+leads_before_end : (lines : List Line) (label : ℕ) → leads_to_code label lines ≡ true → place_of lines label < code_length lines
+leads_before_end [] label leads = absurd (false≢true leads)
+leads_before_end (Plain instr ∷ lines) label leads = omega (arith, leads_before_end lines label leads)
+leads_before_end (Label l ∷ lines) label leads = let rest = leads_before_end lines label in grind (arith, nat_tests)
+leads_before_end (Jump l ∷ lines) label leads = omega (arith, leads_before_end lines label leads)
+leads_before_end (JumpIfZero register l ∷ lines) label leads = omega (arith, leads_before_end lines label leads)
+leads_before_end (CallTo l ∷ lines) label leads = omega (arith, leads_before_end lines label leads)
 
-pub starts_near : (lines : List Line) → ¬ AreTooLarge lines → StartsNear lines
-starts_near lines not label goes =
-    let within = is_within lines not in
-    let place_within = place_within_length lines label in
-    ⊎_elim (λ near. near) (λ above. absurd (not (inr (record { label = label; goes = goes; far = omega arith })))) (cases_lt (place_of lines label) code_limit)
+first_before_end : (lines : List Line) (label : ℕ) → begins_within lines ≡ true → first_target lines ≡ Some label → place_of lines label < code_length lines
+first_before_end lines label begins goes = leads_before_end lines label (subst (λ target. leads_if_some target lines ≡ true) goes begins)
 
--- ---- their jumps
+-- ---- all jumps
 
-module _ (lines rest : List Line) (within : code_length lines ≤ code_limit) (near : StartsNear lines) where
+module _ (lines rest : List Line) (within : code_length lines ≤ code_limit) (begins : begins_within lines ≡ true) where
   in_reach : (label at : ℕ) → at + (4 + code_length rest) ≡ code_length lines → place_of lines label < code_limit + at → IsInReach (place_of lines label) at
   in_reach label at whole forward =
       let all = of_words lines in
@@ -43,7 +48,7 @@ module _ (lines rest : List Line) (within : code_length lines ≤ code_limit) (n
       → IsInReach (place_of lines label) at
   jump_reaches label at whole first =
       let place_within = place_within_length lines label in
-      let from_start : at ≤ 0 → place_of lines label < code_limit = λ start. near label (first (omega arith)) in
+      let from_start : at ≤ 0 → place_of lines label < code_length lines = λ start. first_before_end lines label begins (first (omega arith)) in
       in_reach label at whole (⊎_elim (λ later. omega arith) (λ start. let here = from_start start in omega arith) (cases_lt 0 at))
 
   pub line_reaches : (line : Line) (at : ℕ) → at + (size_of line + code_length rest) ≡ code_length lines

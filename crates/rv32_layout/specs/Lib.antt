@@ -1,5 +1,4 @@
 pub mod Placed
 pub mod Placing
 pub mod Holding
-pub mod Limits
 pub mod Sizes

@@ -1,12 +1,11 @@
 -- What the parts of `place` say: where the table has a label, and what they append.
-use Rattle.std.specs.Prelude.{◌≡◌, ℕ, ◌+◌, ◌%◌, ◌≤◌, ◌<◌, List, ◌++◌, Some, nat_eq, unwrap_or}
+use Rattle.std.specs.Prelude.{◌≡◌, ℕ, ◌+◌, ◌%◌, ◌≤◌, List, ◌++◌, nat_eq, unwrap_or}
 use Rattle.indexmap.specs.IndexMap.{get}
 use Rattle.rv32_isa.specs.declared.instruction.Instr.{Instr}
 use Rattle.core_frames.specs.declared.line.Line.{Line}
 use Rattle.core_frames.specs.declared.line.Line.TheVariants.{Plain, Label, Jump, JumpIfZero, CallTo}
 use Rattle.cyc_image.specs.Format.{code_limit}
-use Rattle.rv32_layout.specs.Placed.{place_of, AreWords}
-use Rattle.rv32_layout.specs.Limits.{first_target}
+use Rattle.rv32_layout.specs.Placed.{AreWords}
 use Rattle.rv32_layout.specs.declared.places.Places.{Places}
 
 -- where the table has a label
@@ -28,10 +27,6 @@ Reaches places at (Label label) = Unit {0}
 Reaches places at (Jump label) = IsInReach (places label) at
 Reaches places at (JumpIfZero register label) = IsInReach (places label) (at + 4)
 Reaches places at (CallTo label) = IsInReach (places label) at
-
--- the first jump, where the first instruction is one, goes less far than the limit
-abbrev pub StartsNear : List Line → Type 0
-StartsNear lines = (label : ℕ) → first_target lines ≡ Some label → place_of lines label < code_limit
 
 -- the instructions' words are appended to the bytes
 pub record Appends (instrs : List Instr) (old new : List ℕ) : Type 0 where

@@ -9,7 +9,7 @@ use thiserror::Error;
 /// Why `place` refuses lines, or `data` globals.
 #[derive(Clone, Copy, PartialEq, Eq, Debug, Error)]
 pub enum PlaceFault {
-    /// There would be over 1,048,576 bytes, or the first jump would go so far.
+    /// There would be over 1,048,576 bytes.
     #[error("the code or the data would be over 1,048,576 bytes")]
     TooLarge,
     /// No host memory is left.

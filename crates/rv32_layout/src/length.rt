@@ -23,12 +23,12 @@ pub(crate) fn size(line: Line) -> u32
 
 /// The length of the lines' code in bytes, or `None` where it is over the limit.
 pub(crate) fn length(labelled: &Labelled) -> Option<u32>
-    ensures length { IfSome result (λ n. n ≡ code_length labelled.now.lines.items) }
+    ensures length { IfSome result (λ n. n ≡ code_length labelled.now) }
     ensures within { IfSome result (λ n. n ≤ code_limit) }
-    ensures over { (result ≡ None) ↔ (code_limit < code_length labelled.now.lines.items) }
+    ensures over { (result ≡ None) ↔ (code_limit < code_length labelled.now) }
 {
     let mut length = 0;
-    'each: for line in &labelled.lines {
+    'each: for line in labelled.lines() {
         length += size(*line);
         if length as usize > CODE_LIMIT {
             return None;

@@ -1,18 +1,16 @@
 //! From the lines of a program of Core to its code, and from its globals to the bytes of its data.
 //!
 //! `place` gives each line its words, and each jump and call its offset from where its label stands:
-//! each machine with the code has the lines. The code is refused as too large where it is over
-//! 1,048,576 bytes, or where its first jump goes just so far, which is one word further than a jump
-//! can go. `data` gives each global its bytes. Stands on `rv32_select`, `cyc_core`, `rv32_isa`,
-//! `byteorder`, `indexmap` and `thiserror`, and its clauses on the definitions of `core_frames`,
-//! `rv32_machine` and `cyc_image`.
+//! each machine with the code has the lines. The code is refused as too large exactly where it is
+//! over 1,048,576 bytes. `data` gives each global its bytes. Stands on `rv32_select`, `cyc_core`,
+//! `rv32_isa`, `byteorder`, `indexmap` and `thiserror`, and its clauses on the definitions of
+//! `core_frames`, `rv32_machine` and `cyc_image`.
 #![tactic(auto)]
 
 mod code;
 mod fault;
 mod globals;
 mod length;
-mod limits;
 mod places;
 mod words;
 

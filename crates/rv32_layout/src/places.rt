@@ -59,12 +59,12 @@ fn note_line(by_label: &mut IndexMap<usize, u32>, line: Line, at: u32) -> Result
 
 /// The places of all labels.
 pub(crate) fn find_places(alloc: Global, labelled: &Labelled) -> Result<Places, AllocError>
-    requires { code_length labelled.now.lines.items ≤ code_limit }
-    ensures { IfOk result (λ places. (label : ℕ) → place_in places label ≡ place_of labelled.now.lines.items label) }
+    requires { code_length labelled.now ≤ code_limit }
+    ensures { IfOk result (λ places. (label : ℕ) → place_in places label ≡ place_of labelled.now label) }
 {
     let mut by_label = IndexMap::new(alloc);
     let mut at = 0;
-    'each: for line in &labelled.lines {
+    'each: for line in labelled.lines() {
         note_line(&mut by_label, *line, at)?;
         at += size(*line);
     }

@@ -5,7 +5,7 @@ ghost use Rattle.rv32_isa.specs.declared.instruction.Instr.TheVariants.{Jal, Bne
 ghost use Rattle.cyc_image.specs.Format.{code_limit, u32_bytes};
 ghost use Rattle.core_frames.specs.Lines.{code_length, offset_to, instructions_of};
 ghost use Rattle.rv32_layout.specs.Placed.{ArePlaced};
-ghost use Rattle.rv32_layout.specs.Placing.{place_in, IsInReach, Reaches, StartsNear, Appends};
+ghost use Rattle.rv32_layout.specs.Placing.{place_in, IsInReach, Reaches, Appends};
 
 use crate::places::{Places, find_places};
 use byteorder::{ByteOrder, LittleEndian};
@@ -70,14 +70,13 @@ fn put_line(bytes: &mut Vec<u8>, line: Line, places: &Places) -> Result<(), Allo
 
 /// The bytes of all lines.
 pub(crate) fn words(alloc: Global, labelled: &Labelled) -> Result<Vec<u8>, AllocError>
-    requires within { code_length labelled.now.lines.items ≤ code_limit }
-    requires near { StartsNear labelled.now.lines.items }
-    ensures placed { IfOk result (λ bytes. ArePlaced labelled.now.lines.items bytes.items) }
-    ensures length { IfOk result (λ bytes. vec_len bytes ≡ code_length labelled.now.lines.items) }
+    requires { code_length labelled.now ≤ code_limit }
+    ensures placed { IfOk result (λ bytes. ArePlaced labelled.now bytes.items) }
+    ensures length { IfOk result (λ bytes. vec_len bytes ≡ code_length labelled.now) }
 {
     let places = find_places(alloc, labelled)?;
     let mut bytes = Vec::new(alloc);
-    'each: for line in &labelled.lines {
+    'each: for line in labelled.lines() {
         put_line(&mut bytes, *line, &places)?;
     }
     Ok(bytes)

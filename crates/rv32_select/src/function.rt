@@ -12,6 +12,7 @@ ghost use Rattle.rv32_select.specs.Places.{surroundings};
 use crate::emit::{
     ADDRESS, OPERAND, RESULT, put, put_environment, put_lines, put_load, put_save, put_word,
 };
+use crate::labelled::Labelled;
 use crate::layout::{end_from, highest_of, slots, statics, sum};
 use crate::place::Place;
 use crate::statement::{Ways, following, put_statements};
@@ -20,12 +21,6 @@ use cyc_core::{Function, Program, Temporary};
 use rv32_isa::{BranchOffset, Instr, Register};
 use rv32_machine::{EXIT, STACK_REFUSED};
 use std::alloc::{AllocError, Global};
-
-/// Code with labels.
-#[derive(Drop)]
-pub struct Labelled {
-    pub lines: Vec<Line>,
-}
 
 /// No stack has so many bytes.
 const TOO_MANY: u64 = 0x0200_0000;
@@ -151,14 +146,18 @@ fn program_lines(alloc: Global, program: &Program) -> Result<Vec<Line>, AllocErr
     Ok(lines)
 }
 
-/// The instructions of a lowered program. Fails only where no host memory is left.
+/// The instructions of a lowered program. Fails only where no host memory is left, and where a program hasn't its `main`: no
+/// lowered program is without.
 pub fn select(alloc: Global, program: &Program) -> Result<Labelled, AllocError>
-    ensures code { IfOk result (λ labelled. labelled.lines.items ≡ program_code (program_tree program.now)) }
+    ensures code { IfOk result (λ labelled. labelled ≡ program_code (program_tree program.now)) }
     // each label is placed once
-    ensures once { IfOk result (λ labelled. AreOnce (labels_placed labelled.lines.items)) }
+    ensures once { IfOk result (λ labelled. AreOnce (labels_placed labelled)) }
     // a machine that begins with the lines does what the program does
-    ensures meaning { IfOk result (λ labelled. IsSelectable (program_tree program.now) → DoesAsCore (program_tree program.now) labelled.lines.items) }
+    ensures meaning { IfOk result (λ labelled. IsSelectable (program_tree program.now) → DoesAsCore (program_tree program.now) labelled) }
 {
+    if program.main as usize >= program.functions.len() {
+        return Err(AllocError);
+    }
     let lines = program_lines(alloc, program)?;
     Ok(Labelled { lines })
 }

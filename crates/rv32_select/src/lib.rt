@@ -10,10 +10,12 @@
 
 mod emit;
 mod function;
+mod labelled;
 mod layout;
 mod operation;
 mod place;
 mod statement;
 mod whole;
 
-pub use function::{Labelled, select};
+pub use function::select;
+pub use labelled::Labelled;

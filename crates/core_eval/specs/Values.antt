@@ -24,7 +24,9 @@ use Rattle.std.specs.Prelude.{
   nat_eq,
   nat_lt,
   not,
+  is_some,
   option_map,
+  unwrap_or,
   if◌then◌else◌,
 }
 use Rattle.core_meaning.specs.Memory as memory
@@ -88,16 +90,20 @@ abbrev pub bound_value : Bound → Value
 bound_value bound.Blank = value.Blank
 bound_value (bound.Word n) = value.Word n
 
+-- the same as a count or an index, if it is one
+abbrev pub kept_of : Value → Option Bound
+kept_of value.Blank = Some bound.Blank
+kept_of (value.Word n) = Some (bound.Word n)
+kept_of value.Null = None
+kept_of (value.Pointer p) = None
+kept_of (value.Birth d) = None
+
+-- what is left of it as one: nothing, where it is none
 abbrev pub bound_of : Value → Bound
-bound_of (value.Word n) = bound.Word n
-bound_of _ = bound.Blank
+bound_of v = unwrap_or (kept_of v) bound.Blank
 
 abbrev pub is_bound : Value → Bool
-is_bound value.Blank = true
-is_bound (value.Word n) = true
-is_bound value.Null = false
-is_bound (value.Pointer p) = false
-is_bound (value.Birth d) = false
+is_bound v = is_some (kept_of v)
 
 -- whether a value is kept of the part j
 abbrev pub keeps : ℕ → Value → Bool

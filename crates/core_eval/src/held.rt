@@ -1,7 +1,7 @@
 // What cells hold.
 
 ghost use Rattle.std.specs.Prelude.{◌≡◌, IfSome, slice_get};
-ghost use Rattle.core_eval.specs.Values.{blanked, bound_of, bound_value, first_held, first_of, keeps, put_part, refilled, values_in, width_of};
+ghost use Rattle.core_eval.specs.Values.{blanked, bound_of, bound_value, first_held, first_of, kept_of, keeps, put_part, refilled, values_in, width_of};
 
 use crate::value::Value;
 use cyc_core::{Cell, Width};
@@ -20,14 +20,12 @@ impl Bound {
     fn of(value: Value) -> Self
         ensures { result ≡ bound_of value }
     {
-        match value {
-            Value::Word(word) => Bound::Word(word),
-            _ => Bound::Blank,
-        }
+        Bound::kept(value).unwrap_or(Bound::Blank)
     }
 
     /// The same as a value, if it is nothing or a word.
     pub fn kept(value: Value) -> Option<Self>
+        ensures kept { result ≡ kept_of value }
         ensures some { IfSome result (λ bound. bound_value bound ≡ value) }
     {
         match value {
@@ -52,11 +50,7 @@ impl Bound {
 pub fn keeps(part: u32, value: Value) -> bool
     ensures { result ≡ keeps part value }
 {
-    part == 0
-        || match value {
-            Value::Blank | Value::Word(_) => true,
-            Value::Null | Value::Pointer(_) | Value::Birth(_) => false,
-        }
+    part == 0 || Bound::kept(value).is_some()
 }
 
 /// What a cell holds, part by part.
